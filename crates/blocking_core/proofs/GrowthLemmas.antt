@@ -1,0 +1,117 @@
+-- A growth, start by start.
+use Rattle.std.proofs.Common.{◌≡◌, ◌≢◌, ◌⊎◌, ℕ, zero, suc, ◌+◌, ◌-◌, ◌*◌, ◌<◌, ◌≤◌, Bool, true, false, cond, eqb, not, ◌&&◌, ltb, Option, Some, None, refl, sym, ap, ◌∙◌, subst, inl, inr, arith, add-zero, max, MatchBool}
+use Rattle.std.proofs.lemmas.Bool.{cases_lt, ne_eqb, false≢true}
+use Rattle.blocking_core.specs.declared.pool.bell.BellKind.{BellKind}
+use Rattle.blocking_core.specs.declared.pool.bell.BellKind.TheVariants.{Silent, One, All}
+use Rattle.blocking_core.specs.Counts.{Counts, limit_of, louder}
+use Rattle.blocking_core.specs.Growth.{Growth, IsGrowth, Grows, StartAnswer, Refusals, was_asked, is_due, grown, ring_of, number_after, limit_after, one_more, none_more, greatest}
+
+-- so many workers started, and none refused
+abbrev pub plain : ℕ → Growth
+plain started = record { started = started; refused = false }
+
+module _ (may_answer may_still : ℕ → Bool → Type 0) (before now ready : ℕ) (old new : Counts) where
+  -- The growth so far: so many starts were due and went well.
+  pub record IsGrowing : Type 0 where
+    pub started : ℕ
+    pub counts : new ≡ grown old (plain started)
+    pub each : (m : ℕ) → m < started → (is_due ready old.idle old.workers (limit_of old) m ≡ true) × StartAnswer may_answer (old.next_worker + m) false
+    pub steady : (n : ℕ) (answer : Bool) → may_still n answer → may_answer n answer
+    pub refusals : now ≡ before
+
+-- whether a start is due after m others
+pub due_after : (ready idle workers limit m : ℕ) → is_due ready (idle + m) (workers + m) limit 0 ≡ is_due ready idle workers limit m
+due_after ready idle workers limit m = rw (add-zero (idle + m), add-zero (workers + m)) refl
+
+-- an answer that may still be given might have been given before
+answer_before : (may_answer may_still : ℕ → Bool → Type 0) (number : ℕ) (refused : Bool) → ((n : ℕ) (answer : Bool) → may_still n answer → may_answer n answer) → StartAnswer may_still number refused → StartAnswer may_answer number refused
+answer_before may_answer may_still number refused steady = by_number (eqb number greatest)
+  where
+    by_number : (b : Bool) → MatchBool b (refused ≡ true) (may_still number refused) → MatchBool b (refused ≡ true) (may_answer number refused)
+    by_number true answered = answered
+    by_number false answered = steady number refused answered
+
+louder_all : (ring : BellKind) → louder All ring ≡ All
+louder_all ring = refl
+
+pub begun : (may_answer : ℕ → Bool → Type 0) (before ready : ℕ) (old : Counts) → IsGrowing may_answer may_answer before before ready old (record old { limit = Some (limit_of old) })
+begun may_answer before ready old =
+    record {
+      started = 0;
+      counts = rw (add-zero old.workers, add-zero old.idle, add-zero old.arriving, add-zero old.next_worker) refl;
+      each = λ m below. absurd (omega arith);
+      steady = λ n answer may. may;
+      refusals = refl;
+    }
+
+more_grown : (old : Counts) (started : ℕ) → one_more (grown old (plain started)) ≡ grown old (plain (started + 1))
+more_grown old started =
+    let workers : old.workers + started + 1 ≡ old.workers + (started + 1) = omega arith in
+    let idle : old.idle + started + 1 ≡ old.idle + (started + 1) = omega arith in
+    let arriving : old.arriving + started + 1 ≡ old.arriving + (started + 1) = omega arith in
+    let next : old.next_worker + started + 1 ≡ old.next_worker + (started + 1) = omega arith in
+    let some : eqb (started + 1) 0 ≡ false = ne_eqb (started + 1) 0 (λ e. omega arith) in
+    let bell : louder (ring_of (plain (started + 1))) old.bell ≡ All = ap (λ b. louder (cond b Silent All) old.bell) some in
+    cc
+
+none_grown : (old : Counts) (started : ℕ) → none_more (grown old (plain started)) ≡ grown old (record { started = started; refused = true })
+none_grown old started = refl
+
+-- one start more
+pub grows_more : (may_answer may_still may_then : ℕ → Bool → Type 0) (before now then ready : ℕ) (old counts new : Counts)
+    → is_due ready counts.idle counts.workers (limit_of old) 0 ≡ true → new ≡ one_more counts
+    → StartAnswer may_still counts.next_worker false → ((n : ℕ) (answer : Bool) → may_then n answer → may_still n answer) → then ≡ now
+    → IsGrowing may_answer may_still before now ready old counts → IsGrowing may_answer may_then before then ready old new
+grows_more may_answer may_still may_then before now then ready old counts new due one answered steady same growing =
+    record {
+      started = growing.started + 1;
+      counts = one ∙ ap one_more growing.counts ∙ more_grown old growing.started;
+      each = λ m below. elim (cases_lt m growing.started) [
+        | inl earlier ↦ growing.each m earlier
+        | inr last ↦ subst (λ k. (is_due ready old.idle old.workers (limit_of old) k ≡ true) × StartAnswer may_answer (old.next_worker + k) false) (let is : growing.started ≡ m = omega arith in is) here
+      ];
+      steady = λ n answer may. growing.steady n answer (steady n answer may);
+      refusals = same ∙ growing.refusals;
+    }
+  where
+    here : (is_due ready old.idle old.workers (limit_of old) growing.started ≡ true) × StartAnswer may_answer (old.next_worker + growing.started) false
+    here = (
+      sym (due_after ready old.idle old.workers (limit_of old) growing.started) ∙ ap (λ c. is_due ready c.idle c.workers (limit_of old) 0) (sym growing.counts) ∙ due,
+      answer_before may_answer may_still (old.next_worker + growing.started) false growing.steady (subst (λ c. StartAnswer may_still c.next_worker false) growing.counts answered),
+    )
+
+-- no further start is due
+pub grows_enough : (may_answer may_still : ℕ → Bool → Type 0) (before now ready : ℕ) (old counts : Counts)
+    → is_due ready counts.idle counts.workers (limit_of old) 0 ≡ false
+    → IsGrowing may_answer may_still before now ready old counts → (growth : Growth) × Grows may_answer before now ready old counts growth
+grows_enough may_answer may_still before now ready old counts due growing = (
+  plain growing.started,
+  record {
+    starts = record {
+      each = growing.each;
+      next = sym (due_after ready old.idle old.workers (limit_of old) growing.started) ∙ ap (λ c. is_due ready c.idle c.workers (limit_of old) 0) (sym growing.counts) ∙ due;
+      cause = λ never. absurd (false≢true never);
+    };
+    counts = growing.counts;
+    refusals = growing.refusals;
+  },
+)
+
+-- the next start is refused
+pub grows_no_more : (may_answer may_still : ℕ → Bool → Type 0) (before now then ready : ℕ) (old counts new : Counts)
+    → is_due ready counts.idle counts.workers (limit_of old) 0 ≡ true → new ≡ none_more counts
+    → StartAnswer may_still counts.next_worker true → Refusals (not (eqb counts.next_worker greatest)) now then
+    → IsGrowing may_answer may_still before now ready old counts → (growth : Growth) × Grows may_answer before then ready old new growth
+grows_no_more may_answer may_still before now then ready old counts new due none answered refusals growing = (
+  record { started = growing.started; refused = true },
+  record {
+    starts = record {
+      each = growing.each;
+      next = sym (due_after ready old.idle old.workers (limit_of old) growing.started) ∙ ap (λ c. is_due ready c.idle c.workers (limit_of old) 0) (sym growing.counts) ∙ due;
+      cause = λ _. answer_before may_answer may_still (old.next_worker + growing.started) true growing.steady (subst (λ c. StartAnswer may_still c.next_worker true) growing.counts answered);
+    };
+    counts = none ∙ ap none_more growing.counts ∙ none_grown old growing.started;
+    refusals = subst (λ n. Refusals (not (eqb (old.next_worker + growing.started) greatest)) n then) growing.refusals
+        (subst (λ c. Refusals (not (eqb c.next_worker greatest)) now then) growing.counts refusals);
+  },
+)

@@ -1,0 +1,5 @@
+pub mod GrowthLemmas
+pub mod Lists
+pub mod PoolLemmas
+pub mod RingLemmas
+pub mod TableLemmas

@@ -1,0 +1,21 @@
+use Rattle.std.proofs.Common.{◌≡◌, ◌+◌, ◌∷◌, ◌++◌, [], sym, subst, ap, ◌∙◌, arith, length}
+use Rattle.std.specs.FinMap.{insert}
+use Rattle.blocking_core.specs.Counts.{rung}
+use Rattle.blocking_core.specs.Growth.{grown}
+use Rattle.blocking_core.specs.Jobs.{new_job}
+use Rattle.blocking_core.specs.declared.pool.bell.BellKind.TheVariants.{One}
+use Rattle.blocking_core.proofs.PoolLemmas.{queue_within, grown_sound, rung_sound, entered_sound, sound_as}
+use Rattle.blocking_core.proofs.pool.Pool.add.Goals as goal
+
+pub overflow_add-queue_len : goal.overflow_add-queue_len
+overflow_add-queue_len g c = omega (arith, c.queue_len.ensures, ap length c.reserve.ensures.queue, queue_within _ c.self.invariant, c.if-self.false)
+
+pub invariant_of-self-2 : goal.invariant_of-self-2
+invariant_of-self-2 g c =
+    sound_as (c.self.inside.table.queue ++ c.self.inside.next_serial ∷ []) c.insert.new.self.queue
+    (insert c.self.inside.table.jobs c.self.inside.next_serial (new_job c.insert.result.place c.args.job)) c.insert.new.self.jobs
+    (rung One (grown c.self.inside.counts c.grow.ensures.0)) c.ring_one.new.self (c.self.inside.next_serial + 1)
+    (c.insert.ensures.queue ∙ ap (λ queue. queue ++ c.self.inside.next_serial ∷ []) c.reserve.ensures.queue)
+    (c.insert.ensures.jobs ∙ ap (λ jobs. insert jobs c.self.inside.next_serial (new_job c.insert.result.place c.args.job)) c.reserve.ensures.jobs)
+    (c.ring_one.ensures ∙ ap (rung One) c.grow.ensures.1.counts)
+    (entered_sound _ c.insert.result.place c.args.job (rung_sound _ (grown_sound _ c.grow.ensures.0 c.self.invariant)))

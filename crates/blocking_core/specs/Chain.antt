@@ -1,0 +1,26 @@
+-- Places in a row.
+use Rattle.std.specs.Prelude.{◌≡◌, ℕ, ◌==◌, not, Bool, false, List, [], ◌∷◌, filter, Option, Some, None}
+use Rattle.std.specs.List.{list_any}
+
+-- what contracts see of a chain: its places from the first to the last, and how many places there are that may stand in it
+pub record Chain : Type 0 where
+  pub places : List ℕ
+  pub room : ℕ
+
+-- whether the number is in the list
+abbrev pub is_in : ℕ → List ℕ → Bool
+is_in number numbers = list_any (λ other. number == other) numbers
+
+-- no number stands twice
+abbrev pub IsOnce : List ℕ → Type 0
+IsOnce [] = Unit {0}
+IsOnce (number ∷ numbers) = (is_in number numbers ≡ false) × IsOnce numbers
+
+-- the list without this number
+abbrev pub without : ℕ → List ℕ → List ℕ
+without number numbers = filter (λ other. not (number == other)) numbers
+
+-- the first number of the list
+abbrev pub first_of : List ℕ → Option ℕ
+first_of [] = None
+first_of (number ∷ numbers) = Some number

@@ -1,0 +1,11 @@
+pub mod Chain
+pub mod Cores
+pub mod Counts
+pub mod Growth
+pub mod Jobs
+pub mod PoolAnswers
+pub mod Pools
+pub mod Rings
+pub mod SlotAnswers
+pub mod Slots
+pub mod Tables

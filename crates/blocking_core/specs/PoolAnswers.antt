@@ -1,0 +1,33 @@
+-- What the calls of a pool answer.
+use Rattle.std.specs.Prelude.{◌≡◌, ◌<◌, ℕ, Bool, true, false, [], Option, Some, None, Result, Ok, Err}
+use Rattle.blocking_core.specs.Jobs.{JobNumber, is_running_as}
+use Rattle.blocking_core.specs.Pools.{Pool, Enters, IsRefused, TakesFront, without_job}
+use Rattle.blocking_core.specs.Counts.{arrived}
+use Rattle.blocking_core.specs.declared.pool.answer.Refused.{Refused}
+use Rattle.blocking_core.specs.declared.pool.answer.Took.{Took}
+use Rattle.blocking_core.specs.declared.pool.answer.Took.TheVariants.{Run, Idle}
+use Rattle.blocking_core.specs.declared.pool.answer.Finish.{Finish}
+use Rattle.blocking_core.specs.declared.pool.answer.Gone.{Gone}
+use Rattle.blocking_core.specs.declared.pool.answer.Gone.TheVariants.{Free, Stranger}
+use Rattle.blocking_core.specs.declared.pool.token.WorkerPass.{WorkerPass}
+
+module _ {J : Type 0} where
+  -- a new job is accepted, or comes back
+  abbrev pub Adds : (ℕ → Bool → Type 0) → ℕ → ℕ → Pool J → J → Result JobNumber (Refused J) → Pool J → Type 0
+  Adds may_answer before after old value (Ok number) new = Enters may_answer before after old value number new
+  Adds may_answer before after old value (Err refused) new = (refused.back ≡ value) × IsRefused may_answer before after old refused.why new
+
+  -- a worker arrives, where one was started and hasn't arrived
+  abbrev pub Arrives : Pool J → Option WorkerPass → Pool J → Type 0
+  Arrives old None new = (old.counts.arriving ≡ 0) × (new ≡ old)
+  Arrives old (Some pass) new = (0 < old.counts.arriving) × (new ≡ record old { counts = arrived old.counts }) × (new.counts.arriving < new.counts.idle)
+
+  -- a worker takes the front job, or finds none
+  abbrev pub Takes : (ℕ → Bool → Type 0) → ℕ → ℕ → Pool J → Took J → Pool J → Type 0
+  Takes may_answer before after old (Run turn value) new = TakesFront may_answer before after old turn value new
+  Takes may_answer before after old (Idle pass) new = (old.queue ≡ []) × (new ≡ old) × (after ≡ before)
+
+  -- a turn ends, or is a stranger's
+  abbrev pub Ends : Pool J → JobNumber → Gone J → Pool J → Type 0
+  Ends old turn (Free pass) new = (is_running_as old.jobs turn ≡ true) × (new ≡ without_job old turn.serial) × (new.counts.arriving < new.counts.idle)
+  Ends old turn (Stranger back job) new = (is_running_as old.jobs turn ≡ false) × (back ≡ turn) × (job ≡ None) × (new ≡ old)

@@ -1,0 +1,85 @@
+//! The decision cores of jobs: what a job does next, and what it makes of the answer.
+ghost use Rattle.std.specs.Prelude.{◌≡◌};
+ghost use Rattle.blocking_core.specs.Cores.{call_after};
+
+/// What a job does next.
+#[derive(Clone, Copy, Debug, PartialEq, Eq)]
+pub enum Action {
+    /// Make the call.
+    Call,
+    /// Put the result into the slot.
+    Finish,
+    /// Call the waker that was taken out of its seat.
+    Deliver,
+    /// Nothing more: the job is over.
+    Done,
+}
+
+/// How an action was answered.
+#[derive(Clone, Copy, Debug, PartialEq, Eq)]
+pub enum Answer {
+    /// The call returned.
+    Returned,
+    /// The result was put, and the owner's waker was taken out of its seat, or none was there.
+    Put { woke: bool },
+    /// The waker was called.
+    Delivered,
+}
+
+/// What the job of a call does: it makes the call, puts the answer into its slot, calls the waker of an owner who
+/// waits, and is done.
+#[derive(Clone, Copy, Debug)]
+pub struct CallCore {
+    next: Action,
+}
+
+impl CallCore {
+    /// The core of a job that hasn't begun.
+    pub fn new() -> Self
+        ensures { result.next ≡ Action.Call }
+    {
+        CallCore { next: Action::Call }
+    }
+
+    /// The next action.
+    pub fn next(&self) -> Action
+        ensures { result ≡ self.now.next }
+    {
+        self.next
+    }
+
+    /// Takes the answer to the next action. An answer of another kind changes nothing.
+    pub fn answer(&mut self, answer: Answer)
+        ensures { self.new.next ≡ call_after self.old.next answer }
+    {
+        let next = match (self.next, answer) {
+            (Action::Call, Answer::Returned) => Action::Finish,
+            (Action::Finish, Answer::Put { woke: true }) => Action::Deliver,
+            (Action::Finish, Answer::Put { woke: false }) => Action::Done,
+            (Action::Deliver, Answer::Delivered) => Action::Done,
+            (same, _) => same,
+        };
+        *self = CallCore { next };
+    }
+}
+
+#[cfg(test)]
+mod tests {
+    use super::*;
+
+    #[test]
+    fn call_wakes_the_owner_who_waits(rt: HostRuntime) {
+        let mut core = CallCore::new();
+        for (action, answer) in [
+            (Action::Call, Answer::Returned),
+            (Action::Finish, Answer::Put { woke: true }),
+            (Action::Deliver, Answer::Delivered),
+        ] {
+            assert_eq!(rt; core.next(), action);
+            core.answer(answer);
+        }
+        assert_eq!(rt; core.next(), Action::Done);
+        core.answer(Answer::Returned);
+        assert_eq!(rt; core.next(), Action::Done);
+    }
+}

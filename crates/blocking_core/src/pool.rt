@@ -1,0 +1,191 @@
+//! A pool of jobs and of the workers that run them, as a value: no thread and no lock.
+//!
+//! docs/RULES.md states the rules that the calls follow, under the names that are cited here.
+ghost use Rattle.std.specs.Prelude.{◌≡◌, ◌<◌, ◌≤◌, length, IsNone};
+ghost use Rattle.blocking_core.specs.Growth.{greatest};
+
+mod answer;
+mod bell;
+mod chain;
+mod counts;
+mod job;
+mod number;
+mod standing;
+mod starter;
+mod table;
+#[cfg(test)]
+mod tests;
+mod token;
+
+use crate::pool::counts::Counts;
+use crate::pool::table::Table;
+pub use answer::{Finish, Gone, Refusal, Refused, Took};
+pub use bell::BellKind;
+pub use job::{Carries, Job, JobStep};
+pub use number::JobNo;
+pub use standing::Standing;
+pub use starter::{StartRefused, Starter};
+use std::alloc::Global;
+use std::marker::Model;
+pub use token::{Turn, WorkerPass};
+
+// The limit of workers where no setting names one.
+const DEFAULT_MAX_THREADS: usize = 500;
+
+/// A pool: the queue of its jobs, a table of the jobs that aren't over, and the counts of its workers.
+#[derive(Drop)]
+pub struct Pool<J: Job> {
+    table: Table<J>,
+    counts: Counts,
+    next_serial: u64,
+}
+
+impl<J: Job> Model for Pool<J> {
+    ghost use Rattle.blocking_core.specs.Pools.{Pool as Seen, pool_code, IsSound};
+
+    ghost Value = { Seen J };
+
+    ghost coded = { pool_code J.code };
+
+    ghost view = { λ p. record { queue = p.table.queue; jobs = p.table.jobs; counts = p.counts; next_serial = p.next_serial } };
+
+    ghost invariant = { λ p. IsSound (record { queue = p.table.queue; jobs = p.table.jobs; counts = p.counts; next_serial = p.next_serial }) };
+}
+
+impl<J: Job> Pool<J> {
+    ghost use Rattle.blocking_core.specs.Pools.{empty_pool, IsSound};
+    ghost use Rattle.blocking_core.specs.PoolAnswers.{Adds, Arrives, Takes, Ends};
+    ghost use Rattle.blocking_core.specs.declared.pool.answer.Finish.{Finish};
+
+    /// An empty pool, whose jobs and workers are numbered from 1. Takes no memory.
+    pub fn new(alloc: Global, setting: Option<&str>) -> Self
+        requires { IsNone setting }
+        ensures { result ≡ empty_pool 500 1 1 }
+    {
+        Self::with_numbers(alloc, setting, 1, 1)
+    }
+
+    /// An empty pool whose next job and next worker have these numbers, each at least 1. Takes no memory.
+    pub fn with_numbers(alloc: Global, setting: Option<&str>, serial: u64, worker: u64) -> Self
+        requires setting { IsNone setting }
+        requires serial { 1 ≤ serial }
+        requires worker { 1 ≤ worker }
+        ensures { result ≡ empty_pool 500 serial worker }
+    {
+        Pool {
+            table: Table::new(alloc),
+            counts: Counts::new(DEFAULT_MAX_THREADS, worker),
+            next_serial: serial,
+        }
+    }
+
+    /// Adds a job at the queue's end, and lets the pool grow.
+    ///
+    /// A refused job is handed back, and the queue, the jobs and the next serial are then as before: `Numbers` where the
+    /// serials are used up, `Memory` where there was no room for one more job, `NoWorker` where no worker is there after
+    /// the growth. This is the one call of the pool that takes memory.
+    pub fn add<S: Starter>(&mut self, job: J, starter: &mut S) -> Result<JobNo, Refused<J>>
+        ensures { Adds (S.may_answer starter.old) (S.refusals starter.old) (S.refusals starter.new) self.old job result self.new }
+    {
+        if self.next_serial == u64::MAX {
+            return refuse(job, Refusal::Numbers);
+        }
+        if self.table.reserve().is_err() {
+            return refuse(job, Refusal::Memory);
+        }
+        self.counts.grow(self.table.queue_len() + 1, starter);
+        if self.counts.workers() == 0 {
+            return refuse(job, Refusal::NoWorker);
+        }
+        let serial = self.next_serial;
+        self.next_serial += 1;
+        self.counts.ring_one();
+        Ok(self.table.insert(serial, job))
+    }
+
+    /// A started worker arrives, and gets its pass; None where every started worker has arrived.
+    pub fn arrive(&mut self) -> Option<WorkerPass>
+        ensures { Arrives self.old result self.new }
+    {
+        if self.counts.arriving() == 0 {
+            return None;
+        }
+        self.counts.arrive();
+        Some(WorkerPass::new())
+    }
+
+    /// A worker takes the front job, and the pool grows by what is left in the queue; or no job is queued.
+    pub fn take<S: Starter>(&mut self, pass: WorkerPass, starter: &mut S) -> Took<J>
+        requires { self.old.counts.arriving < self.old.counts.idle }
+        ensures { Takes (S.may_answer starter.old) (S.refusals starter.old) (S.refusals starter.new) self.old result self.new }
+    {
+        match self.table.take_first() {
+            None => Took::Idle(pass),
+            Some((no, job)) => {
+                self.counts.begin_job();
+                self.counts.grow(self.table.queue_len(), starter);
+                Took::Run(Turn::new(no), job)
+            }
+        }
+    }
+
+    /// A turn ends: its job leaves the pool, and its worker is free. A turn whose job isn't running in this pool comes
+    /// back as a stranger's, and the pool is as before.
+    pub fn end(&mut self, turn: Turn, finish: Finish<J>) -> Gone<J>
+        requires { finish ≡ Finish.Done }
+        ensures { Ends self.old turn result self.new }
+    {
+        if !self.table.is_running(turn.job()) {
+            return Gone::Stranger(turn, None);
+        }
+        self.table.remove(turn.spend());
+        self.counts.end_job();
+        Gone::Free(WorkerPass::new())
+    }
+
+    /// How many workers were started and haven't stopped, arrived or not.
+    pub fn thread_count(&self) -> usize
+        ensures value { result ≡ self.now.counts.workers }
+        ensures sound { IsSound self.now }
+    {
+        self.counts.workers()
+    }
+
+    /// How many of the workers run no job, arrived or not.
+    pub fn idle_count(&self) -> usize
+        ensures value { result ≡ self.now.counts.idle }
+        ensures sound { IsSound self.now }
+    {
+        self.counts.idle()
+    }
+
+    /// How many workers were started and haven't arrived.
+    pub fn arriving_count(&self) -> usize
+        ensures value { result ≡ self.now.counts.arriving }
+        ensures sound { IsSound self.now }
+    {
+        self.counts.arriving()
+    }
+
+    /// How many jobs are queued.
+    pub fn queue_len(&self) -> usize
+        ensures value { result ≡ length self.now.queue }
+        ensures sound { IsSound self.now }
+    {
+        self.table.queue_len()
+    }
+
+    /// The limit of workers; None before the first growth, unless it was set.
+    pub fn limit(&self) -> Option<usize>
+        ensures { result ≡ self.now.counts.limit }
+    {
+        self.counts.limit()
+    }
+}
+
+// Hands a job back.
+fn refuse<J: Drop>(back: J, why: Refusal) -> Result<JobNo, Refused<J>>
+    ensures { result ≡ Err (record { back = back; why = why }) }
+{
+    Err(Refused { back, why })
+}

@@ -1,0 +1,47 @@
+//! What the pool answers.
+use crate::pool::token::{Turn, WorkerPass};
+
+/// Why a job was refused.
+#[derive(Clone, Copy, Debug, PartialEq, Eq)]
+pub enum Refusal {
+    /// There was no memory.
+    Memory,
+    /// No worker is there, and none could be started.
+    NoWorker,
+    /// The serials are used up.
+    Numbers,
+}
+
+/// What was refused, handed back, and why.
+#[derive(Debug, Drop)]
+pub struct Refused<X: Drop> {
+    pub back: X,
+    pub why: Refusal,
+}
+
+/// What a worker takes.
+pub enum Took<J> {
+    /// The front job, to be run.
+    Run(Turn, J),
+    /// No job is queued.
+    Idle(WorkerPass),
+}
+
+/// How a turn ended.
+#[derive(Drop)]
+pub enum Finish<J: Drop> {
+    /// The job ran to its end.
+    Done,
+    /// The job was handed out to be dropped, and was.
+    Dropped,
+    /// The job waits for a wake.
+    Waiting(J),
+}
+
+/// What the end of a turn leaves the worker with.
+pub enum Gone<J> {
+    /// The worker is free.
+    Free(WorkerPass),
+    /// The job of this turn isn't running in this pool: the turn comes back, with the job if there was one.
+    Stranger(Turn, Option<J>),
+}

@@ -1,0 +1,46 @@
+//! What a pool asks of its jobs.
+ghost use Rattle.std.specs.Prelude.{◌≡◌, Bool, Option, Some};
+
+use crate::pool::number::JobNo;
+
+/// How a step of a job ended.
+#[derive(Clone, Copy, Debug, PartialEq, Eq)]
+pub enum JobStep {
+    /// The job goes on with its next step.
+    Again,
+    /// The job waits for a wake, and gives its worker back.
+    Waiting,
+    /// The job is over.
+    Done,
+}
+
+/// A job of a pool: a worker calls `step` until it is done or waits.
+pub trait Job: Drop {
+    /// Which answers `abandoned` may give: its mark itself, or either where another thread may set the mark.
+    ghost may_answer: { Self → Bool → Type 0 };
+
+    /// Does the next action. `me` is the job's number in its pool.
+    fn step(&mut self, me: JobNo) -> JobStep;
+
+    /// Whether the job bears a mark: nobody wants its outcome any more.
+    fn abandoned(&self) -> bool
+        ensures { may_answer self.now result };
+}
+
+/// A job type that can carry a named job.
+pub trait Carries<K> {
+    ghost wrapped: { K → Self };
+
+    ghost opened: { Self → Option K };
+
+    /// The named job as one of this type.
+    fn wrap(named: K) -> Self
+        ensures { result ≡ wrapped named };
+
+    /// The named job, if it is what this one carries.
+    fn unwrap(self) -> Option<K>
+        ensures { result ≡ opened self };
+
+    /// What was wrapped comes out.
+    ghost undoes: { (named : K) → opened (wrapped named) ≡ Some named };
+}

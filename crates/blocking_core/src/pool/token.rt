@@ -1,0 +1,50 @@
+//! The tokens of workers.
+use crate::pool::number::JobNo;
+use std::marker::Model;
+
+/// The turn of a worker to run a job. It has no `Drop`: it has to be spent by [`Pool::end`](crate::pool::Pool::end).
+pub struct Turn {
+    no: JobNo,
+}
+
+impl Model for Turn {
+    ghost use Rattle.blocking_core.specs.Jobs.{JobNumber};
+
+    ghost Value = { JobNumber };
+
+    ghost view = { λ turn. turn.no };
+}
+
+impl Turn {
+    ghost use Rattle.std.specs.Prelude.{◌≡◌};
+
+    pub(crate) fn new(no: JobNo) -> Turn
+        ensures { result ≡ no }
+    {
+        Turn { no }
+    }
+
+    /// The number of the job.
+    pub fn job(&self) -> JobNo
+        ensures { result ≡ self.now }
+    {
+        self.no
+    }
+
+    pub(crate) fn spend(self) -> JobNo
+        ensures { result ≡ self }
+    {
+        let Turn { no } = self;
+        no
+    }
+}
+
+/// A worker that runs no job.
+#[derive(Drop)]
+pub struct WorkerPass(());
+
+impl WorkerPass {
+    pub(crate) fn new() -> WorkerPass {
+        WorkerPass(())
+    }
+}

@@ -1,0 +1,173 @@
+//! Calls, and the slot through which a call's answer reaches its owner.
+ghost use Rattle.std.specs.Prelude.{◌≡◌};
+
+use std::marker::Model;
+use std::mem;
+
+/// A call that a job makes once.
+pub trait Call {
+    /// What the call gives.
+    type Out;
+
+    /// What a call of this type may give: a relation of the type, and not of the one value.
+    ghost may_give: { Self.Out → Type 0 };
+
+    /// Makes the call.
+    fn call(self) -> Self::Out
+        ensures { may_give result };
+}
+
+#[derive(Drop)]
+enum Content<T: Drop> {
+    Empty,
+    Full(T),
+    GivenUp,
+    // The flag says whether the job is over.
+    Abandoned(bool),
+}
+
+/// The place where a job leaves its value for its owner, with a seat for the owner's waker.
+///
+/// The value is put once and polled once. The owner may abandon the slot, and the job may give it up.
+#[derive(Drop)]
+pub struct Slot<T: Drop, W: Drop> {
+    content: Content<T>,
+    seat: Option<W>,
+}
+
+impl<T: Drop, W: Drop> Model for Slot<T, W> {
+    ghost use Rattle.blocking_core.specs.Slots.{Slot as Seen, slot_code, content_of};
+
+    ghost Value = { Seen T W };
+
+    ghost coded = { slot_code T.code W.code };
+
+    ghost view = { λ s. record { content = content_of s.content; seat = s.seat } };
+}
+
+/// The proof that a poll seated its waker. Only the call that waits makes one.
+#[derive(Drop)]
+pub struct Seat(());
+
+/// What a poll of a slot finds.
+#[derive(Drop)]
+pub enum Slotted<T: Drop> {
+    /// The value, which leaves the slot.
+    Value(T),
+    /// No value will come.
+    Gone,
+    /// Nothing yet: the waker is seated.
+    Waits(Seat),
+}
+
+/// The answer of a poll, and the waker that it leaves over: the one that was handed in, where the poll is ready, or the
+/// one that it replaced in the seat. It is handed back so that no lock is held while it is dropped.
+#[derive(Drop)]
+pub struct Polled<T: Drop, W: Drop> {
+    pub answer: Slotted<T>,
+    pub spare: Option<W>,
+}
+
+/// What a put leaves: the value, where the slot takes none, and the waker of an owner who waits.
+#[derive(Drop)]
+pub struct Put<T: Drop, W: Drop> {
+    pub back: Option<T>,
+    pub wake: Option<W>,
+}
+
+impl<T: Drop, W: Drop> Slot<T, W> {
+    ghost use Rattle.blocking_core.specs.Slots.{empty_slot, after_put, put_in};
+    ghost use Rattle.blocking_core.specs.SlotAnswers.{Polls};
+
+    /// An empty slot, in whose seat nobody waits.
+    pub fn new() -> Self
+        ensures { result ≡ empty_slot }
+    {
+        Slot {
+            content: Content::Empty,
+            seat: None,
+        }
+    }
+
+    /// The job leaves its value, and answers the waker of an owner who waits. An abandoned slot hands the value back and
+    /// notes that the job is over. A slot that is full, given up or over changes nothing and hands the value back.
+    pub fn put(&mut self, value: T) -> Put<T, W>
+        ensures slot { self.new ≡ after_put self.old value }
+        ensures answer { result ≡ put_in self.old value }
+    {
+        match self.content {
+            Content::Empty => {
+                self.content = Content::Full(value);
+                Put {
+                    back: None,
+                    wake: self.seat.take(),
+                }
+            }
+            Content::Abandoned(false) => {
+                self.content = Content::Abandoned(true);
+                Put {
+                    back: Some(value),
+                    wake: self.seat.take(),
+                }
+            }
+            Content::Full(_) | Content::GivenUp | Content::Abandoned(true) => Put {
+                back: Some(value),
+                wake: None,
+            },
+        }
+    }
+
+    /// The owner asks for the value, and seats its waker where it has to wait.
+    pub fn poll(&mut self, waker: W) -> Polled<T, W>
+        ensures { Polls self.old waker result self.new }
+    {
+        let answer = match mem::replace(&mut self.content, Content::Empty) {
+            Content::Full(value) => Slotted::Value(value),
+            Content::GivenUp => {
+                self.content = Content::GivenUp;
+                Slotted::Gone
+            }
+            Content::Abandoned(true) => {
+                self.content = Content::Abandoned(true);
+                Slotted::Gone
+            }
+            waiting => {
+                self.content = waiting;
+                return Polled {
+                    answer: Slotted::Waits(Seat(())),
+                    spare: self.seat.replace(waker),
+                };
+            }
+        };
+        Polled {
+            answer,
+            spare: Some(waker),
+        }
+    }
+}
+
+#[cfg(test)]
+mod tests {
+    use super::*;
+
+    #[test]
+    fn value_is_put_and_polled_once(rt: HostRuntime) {
+        let mut slot: Slot<u32, u8> = Slot::new();
+        let first = slot.poll(1);
+        assert!(rt; matches!(first.answer, Slotted::Waits(_)));
+        assert_eq!(rt; first.spare, None);
+        let second = slot.poll(2);
+        assert!(rt; matches!(second.answer, Slotted::Waits(_)));
+        assert_eq!(rt; second.spare, Some(1));
+        let put = slot.put(7);
+        assert_eq!(rt; put.back, None);
+        assert_eq!(rt; put.wake, Some(2));
+        let again = slot.put(8);
+        assert_eq!(rt; again.back, Some(8));
+        assert_eq!(rt; again.wake, None);
+        let third = slot.poll(3);
+        assert!(rt; matches!(third.answer, Slotted::Value(7)));
+        assert_eq!(rt; third.spare, Some(3));
+        assert!(rt; matches!(slot.poll(4).answer, Slotted::Waits(_)));
+    }
+}
