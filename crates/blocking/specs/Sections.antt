@@ -25,7 +25,7 @@ module _ {J : Type 0} where
 
   -- a new pool
   abbrev pub Starts : Option (Bor (List ℕ)) → Pool J → Type 0
-  Starts setting new = pool.IsEmptyPool setting 1 1 new
+  Starts setting new = new ≡ pool.pool_of setting 1 1
 
   -- a job is added
   abbrev pub Adds : (ℕ → Bool → Type 0) → ℕ → ℕ → Pool J → J → Result JobNumber (Refused J) → Pool J → BellKind → Type 0

@@ -1,17 +1,23 @@
 -- What the text of a setting means.
-use Rattle.std.specs.Prelude.{◌≡◌, ℕ, ◌<◌, ◌^◌, List, max, min, Option, Some, None}
-use Rattle.std.specs.Borrow.{Bor}
-use Rattle.std.specs.Str.Parse.{IsNumeral, digits_value, without_leading_plus}
+use Rattle.std.specs.Prelude.{ℕ, ◌^◌, ◌==◌, ◌&&◌, not, nat_lt, max, min, if◌then◌else◌, Bool, List, length, Option, Some, None}
+use Rattle.std.specs.Char.{is_ascii_digit}
+use Rattle.std.specs.List.{list_all}
+use Rattle.std.specs.Str.Parse.{digits_value, without_leading_plus}
 
--- the text names a number: decimal digits, at least one, after one plus or none, of a value below 2 ^ 64
-abbrev pub IsLimitText : List ℕ → Type 0
-IsLimitText text = IsNumeral 10 (without_leading_plus text) × (digits_value 10 (without_leading_plus text) < 2 ^ 64)
+-- whether these bytes are decimal digits alone, at least one, of a value below 2 ^ 64
+abbrev pub is_number : List ℕ → Bool
+is_number digits = not (length digits == 0) && list_all is_ascii_digit digits && nat_lt (digits_value 10 digits) (2 ^ 64)
 
--- that number, brought between 1 and 10000
-abbrev pub limit_of_text : List ℕ → ℕ
-limit_of_text text = min 10000 (max 1 (digits_value 10 (without_leading_plus text)))
+-- the number that a text names: digits, after one plus or none
+abbrev pub number_of : List ℕ → Option ℕ
+number_of text = if is_number (without_leading_plus text) then Some (digits_value 10 (without_leading_plus text)) else None
 
--- the number of a setting: that of its text, and 500 where there is none or it names no number
-abbrev pub IsSettingOf : Option (Bor (List ℕ)) → ℕ → Type 0
-IsSettingOf None number = number ≡ 500
-IsSettingOf (Some text) number = (IsLimitText text.now → number ≡ limit_of_text text.now) × (¬ IsLimitText text.now → number ≡ 500)
+-- a number brought between 1 and 10000, and 500 where there is none
+abbrev pub limit_by : Option ℕ → ℕ
+limit_by None = 500
+limit_by (Some number) = min 10000 (max 1 number)
+
+-- the limit that a setting names
+abbrev pub limit_of_setting : Option (List ℕ) → ℕ
+limit_of_setting None = 500
+limit_of_setting (Some text) = limit_by (number_of text)

@@ -1,10 +1,10 @@
 -- What the calls of a pool answer.
-use Rattle.std.specs.Prelude.{◌≡◌, ◌<◌, ℕ, Bool, true, false, not, ◌&&◌, ◌||◌, nat_lt, List, [], ◌∷◌, Option, Some, None, Result, Ok, Err}
+use Rattle.std.specs.Prelude.{◌≡◌, ◌<◌, ℕ, Bool, true, false, not, ◌&&◌, ◌||◌, nat_lt, option_map, List, [], ◌∷◌, Option, Some, None, Result, Ok, Err}
 use Rattle.blocking_core.specs.Jobs.{JobNumber, is_running_as}
 use Rattle.blocking_core.specs.Pools.{Pool, empty_pool, Enters, IsRefused, TakesFront, without_job}
 use Rattle.blocking_core.specs.Counts.{limit_of, arrived, stopped}
 use Rattle.std.specs.Borrow.{Bor}
-use Rattle.blocking_core.specs.Limits.{IsSettingOf}
+use Rattle.blocking_core.specs.Limits.{limit_of_setting}
 use Rattle.blocking_core.specs.declared.pool.answer.Refused.{Refused}
 use Rattle.blocking_core.specs.declared.pool.answer.Took.{Took}
 use Rattle.blocking_core.specs.declared.pool.answer.Took.TheVariants.{Run, Idle}
@@ -20,8 +20,8 @@ is_empty (serial ∷ serials) = false
 
 module _ {J : Type 0} where
   -- a pool of this setting, with no job and no worker, whose next job and worker have these numbers
-  abbrev pub IsEmptyPool : Option (Bor (List ℕ)) → ℕ → ℕ → Pool J → Type 0
-  IsEmptyPool setting serial worker pool = (number : ℕ) × IsSettingOf setting number × (pool ≡ empty_pool number serial worker)
+  abbrev pub pool_of : Option (Bor (List ℕ)) → ℕ → ℕ → Pool J
+  pool_of setting serial worker = empty_pool (limit_of_setting (option_map (λ text. text.now) setting)) serial worker
 
   -- a new job is accepted, or comes back
   abbrev pub Adds : (ℕ → Bool → Type 0) → ℕ → ℕ → Pool J → J → Result JobNumber (Refused J) → Pool J → Type 0

@@ -1,5 +1,6 @@
 //! How many workers a setting allows.
-ghost use Rattle.blocking_core.specs.Limits.{IsSettingOf};
+ghost use Rattle.std.specs.Prelude.{◌≡◌, option_map};
+ghost use Rattle.blocking_core.specs.Limits.{number_of, limit_of_setting};
 
 /// The limit where no text names one.
 pub const DEFAULT_MAX_THREADS: usize = 500;
@@ -16,12 +17,20 @@ pub const MAX_THREADS_ENV: &str = "BLOCKING_MAX_THREADS";
 /// The limit of workers that a text names: a number of 64 bits in decimal digits, after one `+` or none, brought between
 /// [`MIN_MAX_THREADS`] and [`MAX_MAX_THREADS`]. No text, and any other text, give [`DEFAULT_MAX_THREADS`]. Takes no memory.
 pub fn max_threads(text: Option<&str>) -> usize
-    ensures { IsSettingOf text.entry result }
+    ensures { result ≡ limit_of_setting (option_map (λ t. t.now) text.entry) }
 {
-    match text.map(|t| t.parse::<usize>()) {
-        Some(Ok(number)) => number.clamp(MIN_MAX_THREADS, MAX_MAX_THREADS),
-        _ => DEFAULT_MAX_THREADS,
+    match text.and_then(number) {
+        Some(number) => number.clamp(MIN_MAX_THREADS, MAX_MAX_THREADS),
+        None => DEFAULT_MAX_THREADS,
     }
+}
+
+// The number that a text names. (`parse` takes one leading plus.)
+#[tactic(auto, using(crate::proofs::LimitLemmas::parsed_limit))]
+fn number(text: &str) -> Option<usize>
+    ensures { result ≡ number_of text.now }
+{
+    text.parse().ok()
 }
 
 #[cfg(test)]

@@ -52,7 +52,7 @@ impl<J: Job> Model for Pool<J> {
 
 impl<J: Job> Pool<J> {
     ghost use Rattle.blocking_core.specs.Pools.{IsSound};
-    ghost use Rattle.blocking_core.specs.PoolAnswers.{IsEmptyPool, Adds, Arrives, Takes, Waits, Ends};
+    ghost use Rattle.blocking_core.specs.PoolAnswers.{pool_of, Adds, Arrives, Takes, Waits, Ends};
     ghost use Rattle.blocking_core.specs.Counts.{limited, silenced};
     ghost use Rattle.blocking_core.specs.declared.pool.answer.Finish.{Finish};
 
@@ -60,7 +60,7 @@ impl<J: Job> Pool<J> {
     /// [`max_threads`](crate::limit::max_threads), becomes the limit at the first growth, unless a limit is set before. Takes
     /// no memory.
     pub fn new(alloc: Global, setting: Option<&str>) -> Self
-        ensures { IsEmptyPool setting.entry 1 1 result }
+        ensures { result ≡ pool_of setting.entry 1 1 }
     {
         Self::with_numbers(alloc, setting, 1, 1)
     }
@@ -69,7 +69,7 @@ impl<J: Job> Pool<J> {
     pub fn with_numbers(alloc: Global, setting: Option<&str>, serial: u64, worker: u64) -> Self
         requires serial { 1 ≤ serial }
         requires worker { 1 ≤ worker }
-        ensures { IsEmptyPool setting.entry serial worker result }
+        ensures { result ≡ pool_of setting.entry serial worker }
     {
         Pool {
             table: Table::new(alloc),
