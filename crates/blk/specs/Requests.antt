@@ -5,7 +5,13 @@ use Rattle.std.specs.List.{list_all}
 use Rattle.std.specs.Str.Parse.{digits_value}
 use Rattle.std.specs.Global.{Global}
 use Rattle.blk.specs.declared.request.Request.{Request}
-use Rattle.blk.specs.declared.request.Request.TheVariants.{Call}
+use Rattle.blk.specs.declared.request.Request.TheVariants.{Call, Limit}
+use Rattle.std.specs.Borrow.{Bor}
+use Rattle.blocking_core.specs.Limits.{limit_of_setting}
+
+-- the text of a setting, if there is one
+abbrev pub text_of : Option (Bor (List ℕ)) → Option (List ℕ)
+text_of setting = option_map (λ text. text.now) setting
 
 -- the texts of words, each None where the word isn't UTF-8
 abbrev pub texts_of : List (Option (String Global)) → List (Option (List ℕ))
@@ -19,11 +25,14 @@ is_number word = not (length word == 0) && list_all is_ascii_digit word && nat_l
 abbrev pub number_of : List ℕ → Option ℕ
 number_of word = if is_number word then Some (digits_value 10 word) else None
 
--- what two words ask for
+-- what a command's name and one word ask for
 abbrev pub pair_request : List ℕ → List ℕ → Option Request
-pair_request name number = if bytes_eq name (codes "call") then option_map Call (number_of number) else None
+pair_request name word =
+    if bytes_eq name (codes "call") then option_map Call (number_of word)
+    else (if bytes_eq name (codes "limit") then Some (Limit (limit_of_setting (Some word))) else None)
 
--- what words ask for, where they are right: `call` and a number
-abbrev pub request_of : List (Option (List ℕ)) → Option Request
-request_of (Some name ∷ Some number ∷ []) = pair_request name number
-request_of _ = None
+-- what words ask for under a setting, where they are right: `call` and a number, `limit` and a text, or `limit` alone
+abbrev pub request_of : Option (List ℕ) → List (Option (List ℕ)) → Option Request
+request_of setting (Some name ∷ []) = if bytes_eq name (codes "limit") then Some (Limit (limit_of_setting setting)) else None
+request_of setting (Some name ∷ Some word ∷ []) = pair_request name word
+request_of setting _ = None

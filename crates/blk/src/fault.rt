@@ -14,6 +14,8 @@ use std::fmt;
 pub enum BlkFault {
     /// The pool refused the job, or there was no memory.
     Refused(Refusal),
+    /// The call couldn't be awaited.
+    Running,
     /// The output couldn't be written or flushed.
     Writing,
 }
@@ -26,6 +28,7 @@ impl fmt::Display for BlkFault {
             BlkFault::Refused(Refusal::Memory) => "blk: refused: memory",
             BlkFault::Refused(Refusal::NoWorker) => "blk: refused: no worker",
             BlkFault::Refused(Refusal::Numbers) => "blk: refused: numbers",
+            BlkFault::Running => "blk: running failed",
             BlkFault::Writing => "blk: writing failed",
         })
     }

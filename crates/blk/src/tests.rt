@@ -1,5 +1,6 @@
 //! Whole commands over memory.
 use crate::command::command;
+use crate::host::Host;
 use crate::words::words;
 use std::alloc::AllocError;
 use std::env::{Env, FillError};
@@ -67,9 +68,10 @@ impl Env for Arguments {
 }
 
 // The status of a command with these words.
-fn status<W: Write, F: Write>(
-    rt: &HostRuntime,
+fn status<R: Host, W: Write, F: Write>(
+    rt: R,
     words: &[Option<&str>],
+    setting: Option<&str>,
     output: &mut W,
     faults: &mut F,
 ) -> Result<u8, AllocError> {
@@ -82,7 +84,7 @@ fn status<W: Write, F: Write>(
         owned.push(word)?;
     }
     let mut input = b"".as_slice();
-    Ok(command(rt, owned.as_slice(), None, &mut input, output, faults))
+    Ok(command(rt, owned.as_slice(), setting, &mut input, output, faults))
 }
 
 #[test]
@@ -97,7 +99,7 @@ fn call_answers_the_next_number(rt: HostRuntime) -> Result<(), Fail> {
         let mut faults = Vec::new(rt.alloc());
         let words = [Some("call"), Some(number)];
         assert_eq!(rt;
-            status(&rt, &words, &mut output, &mut faults)?,
+            status(rt, &words, None, &mut output, &mut faults)?,
             0,
             "at {number}"
         );
@@ -109,7 +111,7 @@ fn call_answers_the_next_number(rt: HostRuntime) -> Result<(), Fail> {
 
 #[test]
 fn wrong_words_are_told_the_usage(rt: HostRuntime) -> Result<(), Fail> {
-    let wrong: [&[Option<&str>]; 14] = [
+    let wrong: [&[Option<&str>]; 15] = [
         &[],
         &[Some("call")],
         &[Some("call"), Some("x")],
@@ -122,14 +124,15 @@ fn wrong_words_are_told_the_usage(rt: HostRuntime) -> Result<(), Fail> {
         &[Some("call"), None],
         &[None, Some("41")],
         &[Some("")],
-        &[Some("limit")],
+        &[Some("limit"), Some("1"), Some("2")],
+        &[Some("limit"), None],
         &[Some("help"), Some("41")],
     ];
     for (place, words) in wrong.iter().enumerate() {
         let mut output = Vec::new(rt.alloc());
         let mut faults = Vec::new(rt.alloc());
         assert_eq!(rt;
-            status(&rt, words, &mut output, &mut faults)?,
+            status(rt, words, None, &mut output, &mut faults)?,
             2,
             "at {place}"
         );
@@ -144,16 +147,19 @@ fn failed_writes(rt: HostRuntime) -> Result<(), Fail> {
     let call = [Some("call"), Some("41")];
     let line = b"blk: writing failed\n";
     let mut faults = Vec::new(rt.alloc());
-    assert_eq!(rt; status(&rt, &call, &mut Full, &mut faults)?, 1);
+    assert_eq!(rt; status(rt, &call, None, &mut Full, &mut faults)?, 1);
     assert_eq!(rt; faults.as_slice(), line.as_slice());
     let mut faults = Vec::new(rt.alloc());
-    assert_eq!(rt; status(&rt, &call, &mut Lossy, &mut faults)?, 1);
+    assert_eq!(rt; status(rt, &call, None, &mut Lossy, &mut faults)?, 1);
     assert_eq!(rt; faults.as_slice(), line.as_slice());
     // What can't be told changes nothing else.
     let mut output = Vec::new(rt.alloc());
-    assert_eq!(rt; status(&rt, &[Some("call")], &mut output, &mut Full)?, 2);
-    assert_eq!(rt; status(&rt, &call, &mut Full, &mut Full)?, 1);
-    assert_eq!(rt; status(&rt, &call, &mut output, &mut Full)?, 0);
+    assert_eq!(rt;
+        status(rt, &[Some("call")], None, &mut output, &mut Full)?,
+        2
+    );
+    assert_eq!(rt; status(rt, &call, None, &mut Full, &mut Full)?, 1);
+    assert_eq!(rt; status(rt, &call, None, &mut output, &mut Full)?, 0);
     assert_eq!(rt; output.as_slice(), b"42\n".as_slice());
     Ok(())
 }
@@ -165,5 +171,28 @@ fn words_follow_the_name(rt: HostRuntime) -> Result<(), Fail> {
     assert_eq!(rt; words[0].as_ref().map(|word| word.as_str()), Some("call"));
     assert!(rt; words[1].is_none());
     assert_eq!(rt; words[2].as_ref().map(|word| word.len()), Some(300));
+    Ok(())
+}
+
+#[test]
+fn limit_answers_what_a_text_means(rt: HostRuntime) -> Result<(), Fail> {
+    for (text, line) in [("100", "100\n"), ("", "500\n"), ("50000", "10000\n")] {
+        let mut output = Vec::new(rt.alloc());
+        let mut faults = Vec::new(rt.alloc());
+        let words = [Some("limit"), Some(text)];
+        assert_eq!(rt; status(rt, &words, Some("7"), &mut output, &mut faults)?, 0);
+        assert_eq!(rt; output.as_slice(), line.as_bytes(), "at {text:?}");
+        assert!(rt; faults.is_empty());
+    }
+    for (setting, line) in [(Some("7"), "7\n"), (None, "500\n")] {
+        let mut output = Vec::new(rt.alloc());
+        let mut faults = Vec::new(rt.alloc());
+        assert_eq!(rt;
+            status(rt, &[Some("limit")], setting, &mut output, &mut faults)?,
+            0
+        );
+        assert_eq!(rt; output.as_slice(), line.as_bytes());
+        assert!(rt; faults.is_empty());
+    }
     Ok(())
 }

@@ -1,4 +1,5 @@
 pub mod GrowthLemmas
+pub mod LimitLemmas
 pub mod Lists
 pub mod PoolLemmas
 pub mod RingLemmas

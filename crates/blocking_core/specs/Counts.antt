@@ -1,5 +1,5 @@
 -- The counts of a pool's workers, and the bell.
-use Rattle.std.specs.Prelude.{◌≡◌, ℕ, ◌+◌, ◌-◌, ◌≤◌, ◌==◌, if◌then◌else◌, max, Bool, true, false, Option, Some, None, unwrap_or, refl}
+use Rattle.std.specs.Prelude.{◌≡◌, ℕ, ◌+◌, ◌-◌, ◌≤◌, ◌==◌, if◌then◌else◌, max, Bool, true, false, Option, Some, None, unwrap_or, nat_lt, refl}
 use Rattle.std.specs.Coded.{Coded, code_by, coded×, coded_ℕ, coded_option}
 use Rattle.blocking_core.specs.declared.pool.bell.BellKind.{BellKind}
 use Rattle.blocking_core.specs.declared.pool.bell.BellKind.TheVariants.{Silent, One, All}
@@ -55,6 +55,23 @@ freer counts = record counts { idle = counts.idle + 1 }
 -- a worker arrives
 abbrev pub arrived : Counts → Counts
 arrived counts = record counts { arriving = counts.arriving - 1 }
+
+-- a worker stops, and one is notified where a job is queued
+abbrev pub stopped : Bool → Counts → Counts
+stopped is_queued counts = rung (if is_queued then One else Silent) (record counts { workers = counts.workers - 1; idle = counts.idle - 1 })
+
+-- whom a new limit notifies: all, where a limit stood and was greater
+abbrev pub ring_of_limit : ℕ → Option ℕ → BellKind
+ring_of_limit limit None = Silent
+ring_of_limit limit (Some earlier) = if nat_lt limit earlier then All else Silent
+
+-- the limit is set
+abbrev pub limited : ℕ → Counts → Counts
+limited limit counts = record counts { limit = Some limit; bell = louder (ring_of_limit limit counts.limit) counts.bell }
+
+-- the bell was asked
+abbrev pub silenced : Counts → Counts
+silenced counts = record counts { bell = Silent }
 
 -- those that haven't arrived are idle, and the idle ones are workers
 pub record AreInOrder (counts : Counts) : Type 0 where

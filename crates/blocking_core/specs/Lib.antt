@@ -3,6 +3,7 @@ pub mod Cores
 pub mod Counts
 pub mod Growth
 pub mod Jobs
+pub mod Limits
 pub mod PoolAnswers
 pub mod Pools
 pub mod Rings

@@ -2,6 +2,8 @@
 use Rattle.std.specs.Prelude.{◌≡◌, true, false, Option, Some, None}
 use Rattle.blocking_core.specs.Slots.{Slot, Content, Empty, Full, GivenUp, Abandoned}
 use Rattle.blocking_core.specs.declared.task.Polled.{Polled}
+use Rattle.blocking_core.specs.declared.task.Looked.{Looked}
+use Rattle.blocking_core.specs.declared.task.Looked.TheVariants.{Value as Found, Seat}
 use Rattle.blocking_core.specs.declared.task.Slotted.{Slotted}
 use Rattle.blocking_core.specs.declared.task.Slotted.TheVariants.{Value, Gone, Waits}
 
@@ -11,6 +13,11 @@ module _ {T : Type 0} where
   IsOver GivenUp = Unit {0}
   IsOver (Abandoned true) = Unit {0}
   IsOver _ = ⊥
+
+  -- whether no value is there
+  abbrev pub HasNone : Content T → Type 0
+  HasNone (Full value) = ⊥
+  HasNone _ = Unit {0}
 
   -- whether nothing is there yet
   abbrev pub IsPending : Content T → Type 0
@@ -27,3 +34,8 @@ module _ {T W : Type 0} where
 
   abbrev pub Polls : Slot T W → W → Polled T W → Slot T W → Type 0
   Polls old waker polled new = PollsTo old waker polled.answer polled.spare new
+
+  -- The value leaves the slot; or there is none, and the seat is emptied.
+  abbrev pub Looks : Slot T W → Looked T W → Slot T W → Type 0
+  Looks old (Found value) new = (old.content ≡ Full value) × (new ≡ record old { content = Empty })
+  Looks old (Seat waker) new = HasNone old.content × (waker ≡ old.seat) × (new ≡ record old { seat = None })

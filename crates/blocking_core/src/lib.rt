@@ -2,5 +2,6 @@
 #![tactic(auto)]
 
 pub mod job;
+pub mod limit;
 pub mod pool;
 pub mod task;

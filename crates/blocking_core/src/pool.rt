@@ -1,7 +1,7 @@
 //! A pool of jobs and of the workers that run them, as a value: no thread and no lock.
 //!
 //! docs/RULES.md states the rules that the calls follow, under the names that are cited here.
-ghost use Rattle.std.specs.Prelude.{◌≡◌, ◌<◌, ◌≤◌, length, IsNone};
+ghost use Rattle.std.specs.Prelude.{◌≡◌, ◌<◌, ◌≤◌, ℕ, Bool, length};
 ghost use Rattle.blocking_core.specs.Growth.{greatest};
 
 mod answer;
@@ -17,10 +17,11 @@ mod table;
 mod tests;
 mod token;
 
+use crate::limit::max_threads;
 use crate::pool::counts::Counts;
 use crate::pool::table::Table;
-pub use answer::{Finish, Gone, Refusal, Refused, Took};
-pub use bell::BellKind;
+pub use answer::{Finish, Gone, Refusal, Refused, Took, Waited};
+pub use bell::{Bell, BellKind};
 pub use job::{Carries, Job, JobStep};
 pub use number::JobNo;
 pub use standing::Standing;
@@ -28,9 +29,6 @@ pub use starter::{StartRefused, Starter};
 use std::alloc::Global;
 use std::marker::Model;
 pub use token::{Turn, WorkerPass};
-
-// The limit of workers where no setting names one.
-const DEFAULT_MAX_THREADS: usize = 500;
 
 /// A pool: the queue of its jobs, a table of the jobs that aren't over, and the counts of its workers.
 #[derive(Drop)]
@@ -53,28 +51,29 @@ impl<J: Job> Model for Pool<J> {
 }
 
 impl<J: Job> Pool<J> {
-    ghost use Rattle.blocking_core.specs.Pools.{empty_pool, IsSound};
-    ghost use Rattle.blocking_core.specs.PoolAnswers.{Adds, Arrives, Takes, Ends};
+    ghost use Rattle.blocking_core.specs.Pools.{IsSound};
+    ghost use Rattle.blocking_core.specs.PoolAnswers.{pool_of, Adds, Arrives, Takes, Waits, Ends};
+    ghost use Rattle.blocking_core.specs.Counts.{limited, silenced};
     ghost use Rattle.blocking_core.specs.declared.pool.answer.Finish.{Finish};
 
-    /// An empty pool, whose jobs and workers are numbered from 1. Takes no memory.
+    /// An empty pool, whose jobs and workers are numbered from 1. The setting's number, by
+    /// [`max_threads`](crate::limit::max_threads), becomes the limit at the first growth, unless a limit is set before. Takes
+    /// no memory.
     pub fn new(alloc: Global, setting: Option<&str>) -> Self
-        requires { IsNone setting }
-        ensures { result ≡ empty_pool 500 1 1 }
+        ensures { result ≡ pool_of setting.entry 1 1 }
     {
         Self::with_numbers(alloc, setting, 1, 1)
     }
 
     /// An empty pool whose next job and next worker have these numbers, each at least 1. Takes no memory.
     pub fn with_numbers(alloc: Global, setting: Option<&str>, serial: u64, worker: u64) -> Self
-        requires setting { IsNone setting }
         requires serial { 1 ≤ serial }
         requires worker { 1 ≤ worker }
-        ensures { result ≡ empty_pool 500 serial worker }
+        ensures { result ≡ pool_of setting.entry serial worker }
     {
         Pool {
             table: Table::new(alloc),
-            counts: Counts::new(DEFAULT_MAX_THREADS, worker),
+            counts: Counts::new(max_threads(setting), worker),
             next_serial: serial,
         }
     }
@@ -85,7 +84,8 @@ impl<J: Job> Pool<J> {
     /// serials are used up, `Memory` where there was no room for one more job, `NoWorker` where no worker is there after
     /// the growth. This is the one call of the pool that takes memory.
     pub fn add<S: Starter>(&mut self, job: J, starter: &mut S) -> Result<JobNo, Refused<J>>
-        ensures { Adds (S.may_answer starter.old) (S.refusals starter.old) (S.refusals starter.new) self.old job result self.new }
+        ensures answer { Adds (S.may_answer starter.old) (S.refusals starter.old) (S.refusals starter.new) self.old job result self.new }
+        ensures steady { (n : ℕ) (answer : Bool) → S.may_answer starter.new n answer → S.may_answer starter.old n answer }
     {
         if self.next_serial == u64::MAX {
             return refuse(job, Refusal::Numbers);
@@ -117,11 +117,13 @@ impl<J: Job> Pool<J> {
     /// A worker takes the front job, and the pool grows by what is left in the queue; or no job is queued.
     pub fn take<S: Starter>(&mut self, pass: WorkerPass, starter: &mut S) -> Took<J>
         requires { self.old.counts.arriving < self.old.counts.idle }
-        ensures { Takes (S.may_answer starter.old) (S.refusals starter.old) (S.refusals starter.new) self.old result self.new }
+        ensures answer { Takes (S.may_answer starter.old) (S.refusals starter.old) (S.refusals starter.new) self.old result self.new }
+        ensures steady { (n : ℕ) (answer : Bool) → S.may_answer starter.new n answer → S.may_answer starter.old n answer }
     {
         match self.table.take_first() {
             None => Took::Idle(pass),
             Some((no, job)) => {
+                pass.spend();
                 self.counts.begin_job();
                 self.counts.grow(self.table.queue_len(), starter);
                 Took::Run(Turn::new(no), job)
@@ -141,6 +143,44 @@ impl<J: Job> Pool<J> {
         self.table.remove(turn.spend());
         self.counts.end_job();
         Gone::Free(WorkerPass::new())
+    }
+
+    /// An idle worker has waited, and stays or stops: it stops where there are more workers than the limit, or where its
+    /// wait timed out and no job is queued. Only where it stops no pass comes back.
+    pub fn after_wait<S: Starter>(
+        &mut self,
+        pass: WorkerPass,
+        timed_out: bool,
+        _starter: &mut S,
+    ) -> Waited
+        requires { self.old.counts.arriving < self.old.counts.idle }
+        ensures answer { Waits timed_out self.old result self.new }
+        ensures starter { _starter.new ≡ _starter.old }
+    {
+        let is_queued = self.table.queue_len() > 0;
+        if !self.counts.is_over_limit() && (is_queued || !timed_out) {
+            return Waited::Stay(pass);
+        }
+        pass.spend();
+        self.counts.stop(is_queued);
+        Waited::Stop
+    }
+
+    /// Sets the limit of workers, as it is: it isn't clamped. All waiting workers are notified where a limit stood and was
+    /// greater. The pool doesn't grow.
+    pub fn set_limit(&mut self, limit: usize)
+        requires { 0 < limit }
+        ensures { self.new ≡ record self.old { counts = limited limit self.old.counts } }
+    {
+        self.counts.set_limit(limit);
+    }
+
+    /// Whom to notify for the calls since this was last asked: the greatest of what they rang.
+    pub fn bell(&mut self) -> Bell
+        ensures ring { result ≡ self.old.counts.bell }
+        ensures silent { self.new ≡ record self.old { counts = silenced self.old.counts } }
+    {
+        Bell::new(self.counts.take_ring())
     }
 
     /// How many workers were started and haven't stopped, arrived or not.

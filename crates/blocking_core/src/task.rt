@@ -68,6 +68,15 @@ pub struct Polled<T: Drop, W: Drop> {
     pub spare: Option<W>,
 }
 
+/// What a look into a slot finds.
+#[derive(Drop)]
+pub enum Looked<T: Drop, W: Drop> {
+    /// The value, which leaves the slot.
+    Value(T),
+    /// No value: what stood in the seat, which is empty now.
+    Seat(Option<W>),
+}
+
 /// What a put leaves: the value, where the slot takes none, and the waker of an owner who waits.
 #[derive(Drop)]
 pub struct Put<T: Drop, W: Drop> {
@@ -77,7 +86,7 @@ pub struct Put<T: Drop, W: Drop> {
 
 impl<T: Drop, W: Drop> Slot<T, W> {
     ghost use Rattle.blocking_core.specs.Slots.{empty_slot, after_put, put_in};
-    ghost use Rattle.blocking_core.specs.SlotAnswers.{Polls};
+    ghost use Rattle.blocking_core.specs.SlotAnswers.{Looks, Polls};
 
     /// An empty slot, in whose seat nobody waits.
     pub fn new() -> Self
@@ -114,6 +123,20 @@ impl<T: Drop, W: Drop> Slot<T, W> {
                 back: Some(value),
                 wake: None,
             },
+        }
+    }
+
+    /// The owner looks for the value before it makes a waker: it gets the value, or else the waker of its own earlier poll,
+    /// which leaves the seat. A poll that still has to wait seats one again.
+    pub fn look(&mut self) -> Looked<T, W>
+        ensures { Looks self.old result self.new }
+    {
+        match mem::replace(&mut self.content, Content::Empty) {
+            Content::Full(value) => Looked::Value(value),
+            other => {
+                self.content = other;
+                Looked::Seat(self.seat.take())
+            }
         }
     }
 
@@ -169,5 +192,9 @@ mod tests {
         assert!(rt; matches!(third.answer, Slotted::Value(7)));
         assert_eq!(rt; third.spare, Some(3));
         assert!(rt; matches!(slot.poll(4).answer, Slotted::Waits(_)));
+        assert!(rt; matches!(slot.look(), Looked::Seat(Some(4))));
+        assert!(rt; matches!(slot.look(), Looked::Seat(None)));
+        let _ = slot.put(9);
+        assert!(rt; matches!(slot.look(), Looked::Value(9)));
     }
 }

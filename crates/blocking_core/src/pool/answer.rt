@@ -27,6 +27,14 @@ pub enum Took<J> {
     Idle(WorkerPass),
 }
 
+/// What a worker does after a wait.
+pub enum Waited {
+    /// It goes on.
+    Stay(WorkerPass),
+    /// It stops.
+    Stop,
+}
+
 /// How a turn ended.
 #[derive(Drop)]
 pub enum Finish<J: Drop> {

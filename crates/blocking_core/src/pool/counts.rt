@@ -1,13 +1,14 @@
 //! The counts of a pool's workers, and how they grow.
 ghost use Rattle.std.specs.Prelude.{◌≡◌, ◌<◌, ◌≤◌, ◌+◌, ◌-◌, ◌==◌, not, IsTrue, true, false, Some, None, ℕ, Bool};
-ghost use Rattle.blocking_core.specs.Counts.{limit_of, no_workers, rung, busier, freer, arrived, AreInOrder};
+ghost use Rattle.blocking_core.specs.Counts.{limit_of, no_workers, rung, busier, freer, arrived, stopped, limited, silenced, AreInOrder};
 ghost use Rattle.blocking_core.specs.Growth.{Growth, Grows, StartAnswer, Refusals, is_due, one_more, none_more, greatest};
 ghost use Rattle.std.specs.Bool.{OnTrue, OnFalse};
-ghost use Rattle.std.specs.Prelude.{◌&&◌};
+ghost use Rattle.std.specs.Prelude.{◌&&◌, nat_lt};
 
 use crate::pool::bell::BellKind;
 use crate::pool::starter::Starter;
 use std::marker::Model;
+use std::mem;
 
 /// The workers of a pool.
 #[derive(Drop)]
@@ -116,6 +117,43 @@ impl Counts {
         }
     }
 
+    /// A worker stops. One is notified where a job is queued.
+    pub(crate) fn stop(&mut self, is_queued: bool)
+        requires { self.old.arriving < self.old.idle }
+        ensures { self.new ≡ stopped is_queued self.old }
+    {
+        self.workers -= 1;
+        self.idle -= 1;
+        if is_queued {
+            self.ring_one();
+        }
+    }
+
+    /// Whether there are more workers than the limit.
+    pub(crate) fn is_over_limit(&self) -> bool
+        ensures { result ≡ nat_lt (limit_of self.now) self.now.workers }
+    {
+        self.limit.unwrap_or(self.setting) < self.workers
+    }
+
+    /// Sets the limit. All are notified where a limit stood and was greater.
+    pub(crate) fn set_limit(&mut self, limit: usize)
+        ensures { self.new ≡ limited limit self.old }
+    {
+        if self.limit.is_some_and(|earlier| limit < earlier) {
+            self.bell = BellKind::All;
+        }
+        self.limit = Some(limit);
+    }
+
+    /// Whom to notify, since this was last asked.
+    pub(crate) fn take_ring(&mut self) -> BellKind
+        ensures ring { result ≡ self.old.bell }
+        ensures silent { self.new ≡ silenced self.old }
+    {
+        mem::replace(&mut self.bell, BellKind::Silent)
+    }
+
     fn is_start_due(&self, ready: usize, limit: usize) -> bool
         ensures { result ≡ is_due ready self.now.idle self.now.workers limit 0 }
     {
@@ -154,7 +192,8 @@ impl Counts {
     /// Starts workers while so many ready jobs are more than five times the idle workers, up to the limit that held
     /// when this began, and ends at the first start that is refused.
     pub(crate) fn grow<S: Starter>(&mut self, ready: usize, starter: &mut S)
-        ensures { (growth : Growth) × Grows (S.may_answer starter.old) (S.refusals starter.old) (S.refusals starter.new) ready self.old self.new growth }
+        ensures growth { (growth : Growth) × Grows (S.may_answer starter.old) (S.refusals starter.old) (S.refusals starter.new) ready self.old self.new growth }
+        ensures steady { (n : ℕ) (answer : Bool) → S.may_answer starter.new n answer → S.may_answer starter.old n answer }
     {
         let limit = self.limit.unwrap_or(self.setting);
         self.limit = Some(limit);

@@ -39,12 +39,16 @@ impl Turn {
     }
 }
 
-/// A worker that runs no job.
-#[derive(Drop)]
+/// A worker that runs no job. It has no `Drop`: it has to be spent by [`Pool::take`](crate::pool::Pool::take) or
+/// [`Pool::after_wait`](crate::pool::Pool::after_wait).
 pub struct WorkerPass(());
 
 impl WorkerPass {
     pub(crate) fn new() -> WorkerPass {
         WorkerPass(())
+    }
+
+    pub(crate) fn spend(self) {
+        let WorkerPass(()) = self;
     }
 }

@@ -14,8 +14,8 @@ pub invariant_of-self-2 : goal.invariant_of-self-2
 invariant_of-self-2 g c =
     sound_as (c.self.inside.table.queue ++ c.self.inside.next_serial ∷ []) c.insert.new.self.queue
     (insert c.self.inside.table.jobs c.self.inside.next_serial (new_job c.insert.result.place c.args.job)) c.insert.new.self.jobs
-    (rung One (grown c.self.inside.counts c.grow.ensures.0)) c.ring_one.new.self (c.self.inside.next_serial + 1)
+    (rung One (grown c.self.inside.counts c.grow.ensures.growth.0)) c.ring_one.new.self (c.self.inside.next_serial + 1)
     (c.insert.ensures.queue ∙ ap (λ queue. queue ++ c.self.inside.next_serial ∷ []) c.reserve.ensures.queue)
     (c.insert.ensures.jobs ∙ ap (λ jobs. insert jobs c.self.inside.next_serial (new_job c.insert.result.place c.args.job)) c.reserve.ensures.jobs)
-    (c.ring_one.ensures ∙ ap (rung One) c.grow.ensures.1.counts)
-    (entered_sound _ c.insert.result.place c.args.job (rung_sound _ (grown_sound _ c.grow.ensures.0 c.self.invariant)))
+    (c.ring_one.ensures ∙ ap (rung One) c.grow.ensures.growth.1.counts)
+    (entered_sound _ c.insert.result.place c.args.job (rung_sound _ (grown_sound _ c.grow.ensures.growth.0 c.self.invariant)))

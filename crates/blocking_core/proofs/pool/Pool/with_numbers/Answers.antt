@@ -6,5 +6,5 @@ use Rattle.blocking_core.proofs.pool.Pool.with_numbers.Goals as goal
 
 pub invariant_of-result : goal.invariant_of-result
 invariant_of-result g c =
-    sound_as [] c.new.result.queue empty c.new.result.jobs (no_workers 500 c.args.worker) c.new-2.result c.args.serial
-    c.new.ensures.queue c.new.ensures.jobs c.new-2.ensures (empty_sound 500 c.args.serial c.args.worker)
+    sound_as [] c.new.result.queue empty c.new.result.jobs (no_workers c.max_threads.result c.args.worker) c.new-2.result c.args.serial
+    c.new.ensures.queue c.new.ensures.jobs c.new-2.ensures (empty_sound c.max_threads.result c.args.serial c.args.worker)

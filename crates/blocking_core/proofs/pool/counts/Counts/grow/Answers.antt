@@ -16,15 +16,15 @@ starts-preserved g c =
     (due_by c.args.ready c.unwrap_or-limit.result c.starts.self c.args.self.now (c.unwrap_or-limit.ensures ∙ ap limit_of c.self.view_is) ∙ sym c.starts-test.ensures)
     c.if-not-start.ensures.started c.if-not-start.ensures.answer c.start.ensures.steady c.if-not-start.ensures.refusals c.starts.invariant
 
-pub returns : goal.returns
-returns g c =
+pub returns-clause-growth : goal.returns-clause-growth
+returns-clause-growth g c =
     grows_enough (g.S.Starter.may_answer c.args.starter.now) (g.S.Starter.may_answer c.starts.starter)
     (g.S.Starter.refusals c.args.starter.now) (g.S.Starter.refusals c.starts.starter) c.args.ready c.args.self.now c.starts.self
     (due_by c.args.ready c.unwrap_or-limit.result c.starts.self c.args.self.now (c.unwrap_or-limit.ensures ∙ ap limit_of c.self.view_is) ∙ sym c.starts-test.ensures)
     c.starts.invariant
 
-pub returns-then-not-start : goal.returns-then-not-start
-returns-then-not-start g c =
+pub returns-then-not-start-clause-growth : goal.returns-then-not-start-clause-growth
+returns-then-not-start-clause-growth g c =
     grows_no_more (g.S.Starter.may_answer c.args.starter.now) (g.S.Starter.may_answer c.starts.starter)
     (g.S.Starter.refusals c.args.starter.now) (g.S.Starter.refusals c.starts.starter) (g.S.Starter.refusals c.start.new.starter)
     c.args.ready c.args.self.now c.starts.self c.start.new.self

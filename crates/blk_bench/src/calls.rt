@@ -1,0 +1,228 @@
+//! The benchmarks of calls.
+use crate::figures::{Figures, Request};
+use crate::host::Host;
+use blocking::{CallJob, Executor, Task, unblock};
+use blocking_core::task::Call;
+use futures::executor::{block_on, block_on_queue};
+use futures::task::{Doorbell, Queue};
+use std::time::{Duration, Instant};
+use std::{io, thread};
+
+/// A call of the benchmarks.
+#[derive(Drop)]
+enum Work {
+    Succeed(u64),
+    Sleep(HostRuntime, u64),
+}
+
+impl Call for Work {
+    type Out = u64;
+
+    ghost may_give = { λ _. Unit {0} };
+
+    fn call(self) -> u64 {
+        match self {
+            Work::Succeed(n) => n.wrapping_add(1),
+            Work::Sleep(rt, millis) => {
+                thread::sleep(&rt, Duration::from_millis(millis));
+                millis
+            }
+        }
+    }
+}
+
+type Workers<R> = Executor<CallJob<Work, R>, R>;
+
+/// What is measured.
+#[derive(Clone, Copy)]
+pub(crate) enum Bench {
+    Roundtrip,
+    RoundtripAwait,
+    Burst,
+    BurstLimited,
+    Idle,
+}
+
+impl Bench {
+    pub(crate) const ALL: [Bench; 5] = [
+        Bench::Roundtrip,
+        Bench::RoundtripAwait,
+        Bench::Burst,
+        Bench::BurstLimited,
+        Bench::Idle,
+    ];
+
+    pub(crate) fn name(self) -> &'static str {
+        match self {
+            Bench::Roundtrip => "roundtrip",
+            Bench::RoundtripAwait => "roundtrip_await",
+            Bench::Burst => "burst",
+            Bench::BurstLimited => "burst_limited",
+            Bench::Idle => "idle",
+        }
+    }
+
+    pub(crate) fn by_name(name: &str) -> Option<Bench> {
+        for bench in Bench::ALL {
+            if bench.name() == name {
+                return Some(bench);
+            }
+        }
+        None
+    }
+
+    pub(crate) fn unit(self) -> &'static str {
+        match self {
+            Bench::Idle => "ms",
+            _ => "ns/call",
+        }
+    }
+
+    pub(crate) fn size(self) -> usize {
+        match self {
+            Bench::Roundtrip | Bench::RoundtripAwait => 20_000,
+            Bench::Burst | Bench::BurstLimited => 10_000,
+            Bench::Idle => 1_000,
+        }
+    }
+
+    /// Does the work once cold and then as often as is asked. The limit of `burst_limited` comes with the setting.
+    pub(crate) fn run<R: Host + 'static>(
+        self,
+        rt: HostRuntime,
+        host: R,
+        setting: Option<&str>,
+        request: Request,
+        figures: &mut Figures,
+    ) -> io::Result<()> {
+        let Ok(executor) = Executor::new(host, setting) else {
+            return Err(failed());
+        };
+        for rep in 0..=request.reps {
+            let start = Instant::now(&rt)?;
+            match self {
+                Bench::Roundtrip => roundtrip(&rt, host, &executor, request.size, figures)?,
+                Bench::RoundtripAwait => roundtrip_await(host, &executor, request.size)?,
+                Bench::Burst | Bench::BurstLimited => burst(host, &executor, request.size)?,
+                Bench::Idle => sleepers(rt, host, &executor, request.size)?,
+            }
+            let figure = self.figure(nanos(start.elapsed(&rt)?), request.size);
+            if rep == 0 {
+                figures.set_first(figure);
+            } else {
+                figures.push(figure)?;
+            }
+        }
+        if let Bench::Idle = self {
+            // Whoever watches from outside sees the workers go.
+            thread::sleep(&rt, Duration::from_millis(1500));
+        }
+        Ok(())
+    }
+
+    // In the name's unit.
+    fn figure(self, nanos: u64, size: usize) -> u64 {
+        match self {
+            Bench::Idle => nanos / 1_000_000,
+            _ => nanos / (size as u64).max(1),
+        }
+    }
+}
+
+fn nanos(time: Duration) -> u64 {
+    u64::try_from(time.as_nanos()).unwrap_or(u64::MAX)
+}
+
+fn failed() -> io::Error {
+    io::Error::from(io::ErrorKind::Other)
+}
+
+fn check(answer: u64, wanted: u64) -> io::Result<()> {
+    if answer == wanted {
+        Ok(())
+    } else {
+        Err(failed())
+    }
+}
+
+fn begun<R: Host>(executor: &Workers<R>, work: Work) -> io::Result<Task<Work, R>> {
+    match unblock(executor, work) {
+        Ok(task) => Ok(task),
+        Err(_) => Err(failed()),
+    }
+}
+
+fn answer_by<R: Host>(host: R, queue: &Queue, task: Task<Work, R>) -> io::Result<u64> {
+    if task.is_taken() {
+        return Err(failed());
+    }
+    block_on_queue(&host, queue, task)
+}
+
+// One call after another, each awaited by a `block_on` of its own.
+fn roundtrip<R: Host>(
+    rt: &HostRuntime,
+    host: R,
+    executor: &Workers<R>,
+    size: usize,
+    figures: &mut Figures,
+) -> io::Result<()> {
+    let mut last = Instant::now(rt)?;
+    for _ in 0..size {
+        let task = begun(executor, Work::Succeed(41))?;
+        if task.is_taken() {
+            return Err(failed());
+        }
+        check(block_on(&host, task)?, 42)?;
+        let now = Instant::now(rt)?;
+        figures.note_unit(nanos(now.duration_since(last)));
+        last = now;
+    }
+    Ok(())
+}
+
+// One call after another, all awaited through one queue of tasks, which is what `block_on` makes anew each time.
+fn roundtrip_await<R: Host>(host: R, executor: &Workers<R>, size: usize) -> io::Result<()> {
+    let queue = Queue::new(&host, Doorbell::parking())?;
+    let _hold = queue.hold()?;
+    for _ in 0..size {
+        let task = begun(executor, Work::Succeed(41))?;
+        check(answer_by(host, &queue, task)?, 42)?;
+    }
+    Ok(())
+}
+
+// All calls first, then each answer in order.
+fn burst<R: Host>(host: R, executor: &Workers<R>, size: usize) -> io::Result<()> {
+    let mut tasks = Vec::with_capacity(host.alloc(), size)?;
+    for n in 0..size {
+        tasks.push(begun(executor, Work::Succeed(n as u64))?)?;
+    }
+    let queue = Queue::new(&host, Doorbell::parking())?;
+    let _hold = queue.hold()?;
+    let mut wanted = 0u64;
+    for task in tasks {
+        wanted = wanted.wrapping_add(1);
+        check(answer_by(host, &queue, task)?, wanted)?;
+    }
+    Ok(())
+}
+
+// Calls that sleep, all at once.
+fn sleepers<R: Host>(
+    rt: HostRuntime,
+    host: R,
+    executor: &Workers<R>,
+    size: usize,
+) -> io::Result<()> {
+    let mut tasks = Vec::with_capacity(host.alloc(), size)?;
+    for _ in 0..size {
+        tasks.push(begun(executor, Work::Sleep(rt, 300))?)?;
+    }
+    let queue = Queue::new(&host, Doorbell::parking())?;
+    let _hold = queue.hold()?;
+    for task in tasks {
+        check(answer_by(host, &queue, task)?, 300)?;
+    }
+    Ok(())
+}

@@ -1,0 +1,77 @@
+//! What is asked of a run, and what it measured.
+use std::alloc::{AllocError, Global};
+use std::fmt;
+
+const DEFAULT_REPS: usize = 5;
+
+/// How much work, and how often.
+#[derive(Clone, Copy)]
+pub(crate) struct Request {
+    pub(crate) size: usize,
+    pub(crate) reps: usize,
+}
+
+impl Request {
+    /// By the words of the command line: no word, or 0 for a size, stands for the default.
+    pub(crate) fn new(size: Option<&str>, reps: Option<&str>, default_size: usize) -> Request {
+        let number = |word: Option<&str>| word.map_or(0, |text| text.parse::<usize>().unwrap_or(0));
+        let size = number(size);
+        let reps = number(reps);
+        Request {
+            size: if size == 0 { default_size } else { size },
+            reps: if reps == 0 { DEFAULT_REPS } else { reps },
+        }
+    }
+}
+
+/// Nanoseconds for each unit of work, a figure a repetition, and the greatest that one unit took.
+#[derive(Drop)]
+pub(crate) struct Figures {
+    first: u64,
+    all: Vec<u64>,
+    greatest_unit: u64,
+}
+
+impl Figures {
+    pub(crate) fn new(alloc: Global, reps: usize) -> Result<Figures, AllocError> {
+        Ok(Figures {
+            first: 0,
+            all: Vec::with_capacity(alloc, reps)?,
+            greatest_unit: 0,
+        })
+    }
+
+    /// The repetition that isn't counted: the pool is cold.
+    pub(crate) fn set_first(&mut self, figure: u64) {
+        self.first = figure;
+    }
+
+    pub(crate) fn push(&mut self, figure: u64) -> Result<(), AllocError> {
+        self.all.push(figure)?;
+        self.all.sort_unstable();
+        Ok(())
+    }
+
+    /// Takes note of what one unit of work took.
+    pub(crate) fn note_unit(&mut self, nanos: u64) {
+        self.greatest_unit = self.greatest_unit.max(nanos);
+    }
+
+    pub(crate) fn median(&self) -> u64 {
+        self.all.get(self.all.len() / 2).copied().unwrap_or(0)
+    }
+}
+
+impl fmt::Display for Figures {
+    fn fmt<W: fmt::Write>(&self, f: &mut fmt::Formatter<W>) -> fmt::Result {
+        let min = self.all.first().copied().unwrap_or(0);
+        let max = self.all.last().copied().unwrap_or(0);
+        let reps = self.all.len();
+        let first = self.first;
+        let greatest = self.greatest_unit;
+        write!(
+            f,
+            "min={min} max={max} first={first} greatest={greatest} reps={reps}"
+        )
+    }
+}

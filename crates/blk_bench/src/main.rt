@@ -1,0 +1,48 @@
+//! Measures what the crate `blocking` does, a name at a time: `blk_bench NAME [SIZE [REPS]]`.
+//!
+//! docs/PERFORMANCE.md says what each name measures. Without a name it prints the names that it knows.
+#![tactic(auto)]
+
+mod calls;
+mod figures;
+mod host;
+
+use crate::calls::Bench;
+use crate::figures::{Figures, Request};
+use std::process::ExitCode;
+use std::{env, io};
+
+// The status for a name that isn't known.
+const UNKNOWN: u8 = 3;
+
+fn main(rt: HostRuntime) -> io::Result<ExitCode> {
+    let mut words = env::args(&rt)?.skip(1);
+    let Some(name) = words.next() else {
+        for bench in Bench::ALL {
+            println!(rt; "{}", bench.name())?;
+        }
+        return Ok(ExitCode::SUCCESS);
+    };
+    let size = words.next();
+    let reps = words.next();
+    let Some(bench) = Bench::by_name(name.as_str()) else {
+        return Ok(ExitCode::from(UNKNOWN));
+    };
+    let request = Request::new(
+        size.as_ref().map(|word| word.as_str()),
+        reps.as_ref().map(|word| word.as_str()),
+        bench.size(),
+    );
+    let setting = env::var(&rt, blocking_core::limit::MAX_THREADS_ENV).ok();
+    let setting = setting.as_ref().map(|text| text.as_str());
+    let mut figures = Figures::new(rt.alloc(), request.reps)?;
+    bench.run(rt, rt, setting, request, &mut figures)?;
+    let size = request.size;
+    println!(rt;
+        "{} {} {} {figures} size={size}",
+        bench.name(),
+        figures.median(),
+        bench.unit()
+    )?;
+    Ok(ExitCode::SUCCESS)
+}

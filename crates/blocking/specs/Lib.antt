@@ -1,0 +1,5 @@
+pub mod Calls
+pub mod Lasting
+pub mod Sections
+pub mod SlotAnswers
+pub mod Stages

@@ -1,0 +1,60 @@
+-- What each section under the pool's lock does: one call of the pool, or two where a worker takes right away, and then the
+-- bell is asked.
+use Rattle.std.specs.Prelude.{◌≡◌, ◌<◌, ℕ, Bool, true, false, Option, Some, None, Result, List}
+use Rattle.std.specs.Borrow.{Bor}
+use Rattle.blocking_core.specs.Jobs.{JobNumber}
+use Rattle.blocking_core.specs.Counts.{limited, silenced}
+use Rattle.blocking_core.specs.Pools.{Pool}
+use Rattle.blocking_core.specs.PoolAnswers as pool
+use Rattle.blocking_core.specs.declared.pool.bell.BellKind.{BellKind}
+use Rattle.blocking_core.specs.declared.pool.answer.Refused.{Refused}
+use Rattle.blocking_core.specs.declared.pool.answer.Took.{Took}
+use Rattle.blocking_core.specs.declared.pool.answer.Gone.{Gone}
+use Rattle.blocking_core.specs.declared.pool.answer.Gone.TheVariants.{Free, Stranger}
+use Rattle.blocking_core.specs.declared.pool.answer.Waited.{Waited}
+use Rattle.blocking_core.specs.declared.pool.answer.Waited.TheVariants.{Stay, Stop}
+use Rattle.blocking_core.specs.declared.pool.token.WorkerPass.{WorkerPass}
+use Rattle.blocking.specs.declared.held.Ended.{Ended}
+use Rattle.blocking.specs.declared.held.Ended.TheVariants as ended
+
+module _ {J : Type 0} where
+  -- the bell tells what the calls of the section rang, and leaves the pool silent
+  pub record Rings (before : Pool J) (bell : BellKind) (after : Pool J) : Type 0 where
+    pub told : bell ≡ before.counts.bell
+    pub silent : after ≡ record before { counts = silenced before.counts }
+
+  -- a new pool
+  abbrev pub Starts : Option (Bor (List ℕ)) → Pool J → Type 0
+  Starts setting new = new ≡ pool.pool_of setting 1 1
+
+  -- a job is added
+  abbrev pub Adds : (ℕ → Bool → Type 0) → ℕ → ℕ → Pool J → J → Result JobNumber (Refused J) → Pool J → BellKind → Type 0
+  Adds may_answer before after old job answer new bell =
+      (added : Pool J) × pool.Adds may_answer before after old job answer added × Rings added bell new
+
+  -- a worker arrives, and takes
+  abbrev pub ArrivesAndTakes : (ℕ → Bool → Type 0) → ℕ → ℕ → Pool J → Option (Took J) → Pool J → BellKind → Type 0
+  ArrivesAndTakes may_answer before after old None new bell = pool.Arrives old None old × Rings old bell new × (after ≡ before)
+  ArrivesAndTakes may_answer before after old (Some took) new bell =
+      (pass : WorkerPass) × (arrived : Pool J) × (taken : Pool J)
+      × pool.Arrives old (Some pass) arrived × pool.Takes may_answer before after arrived took taken × Rings taken bell new
+
+  -- a turn ends, and its worker takes; or it is a stranger's
+  abbrev pub EndsAndTakes : (ℕ → Bool → Type 0) → ℕ → ℕ → Pool J → JobNumber → Ended J → Pool J → BellKind → Type 0
+  EndsAndTakes may_answer before after old turn (ended.Took took) new bell =
+      (pass : WorkerPass) × (free : Pool J) × (taken : Pool J)
+      × pool.Ends old turn (Free pass) free × pool.Takes may_answer before after free took taken × Rings taken bell new
+  EndsAndTakes may_answer before after old turn (ended.Stranger back job) new bell =
+      pool.Ends old turn (Stranger back job) old × Rings old bell new × (after ≡ before)
+
+  -- a worker has waited, and takes or stops
+  abbrev pub WaitsAndTakes : (ℕ → Bool → Type 0) → ℕ → ℕ → Bool → Pool J → Option (Took J) → Pool J → BellKind → Type 0
+  WaitsAndTakes may_answer before after timed_out old None new bell =
+      (stopped : Pool J) × pool.Waits timed_out old Stop stopped × Rings stopped bell new
+  WaitsAndTakes may_answer before after timed_out old (Some took) new bell =
+      (pass : WorkerPass) × (stayed : Pool J) × (taken : Pool J)
+      × pool.Waits timed_out old (Stay pass) stayed × pool.Takes may_answer before after stayed took taken × Rings taken bell new
+
+  -- the limit is set
+  abbrev pub SetsLimit : ℕ → Pool J → Pool J → BellKind → Type 0
+  SetsLimit limit old new bell = Rings (record old { counts = limited limit old.counts }) bell new

@@ -1,0 +1,212 @@
+//! The executor: a pool that threads share, the workers that serve it, and the spawner that starts them.
+ghost use Rattle.std.specs.Prelude.{◌≡◌, ◌<◌, IfErr};
+
+use crate::desk::{Desk, ThreadStarter};
+use crate::held::{Ended, Held};
+use crate::runtime::Runtime;
+use blocking_core::pool::{
+    Finish, Job, JobNo, JobStep, Refusal, Refused, Starter, Took, Turn, WorkerPass,
+};
+use std::alloc::AllocError;
+use std::io;
+use std::sync::{Arc, Condvar, Mutex, Wait};
+use std::thread::{Builder, Threads};
+use std::time::Duration;
+
+// How long an idle worker waits before it may stop.
+const IDLE_MILLIS: u64 = 500;
+
+#[derive(Drop)]
+struct Shared<J: Job> {
+    held: Mutex<Held<J>>,
+    // Where idle workers wait.
+    condvar: Condvar,
+    desk: Desk,
+}
+
+/// A pool of worker threads, shared by whoever has a share of it. Its spawner lives as long as the process.
+#[derive(Drop)]
+pub struct Executor<J: Job, H: Runtime> {
+    shared: Arc<Shared<J>>,
+    rt: H,
+}
+
+// What starts threads is here alone, with the bounds that it takes.
+impl<J: Job + Send + 'static, H: Runtime + Threads + Send + Sync + 'static> Executor<J, H> {
+    ghost use Rattle.blocking.specs.Lasting.{Lasts};
+
+    /// A pool with no worker yet, and its spawner. The setting is the text of a limit, as of the environment's variable
+    /// [`MAX_THREADS_ENV`](blocking_core::limit::MAX_THREADS_ENV); any text will do.
+    ///
+    /// `Memory` where there was none for the shared state, and `NoWorker` where the spawner's thread couldn't be had.
+    pub fn new(rt: H, setting: Option<&str>) -> Result<Executor<J, H>, Refusal> {
+        let alloc = rt.alloc();
+        let shared = Shared {
+            held: Mutex::new(Held::new(alloc, setting)),
+            condvar: Condvar::new(),
+            desk: Desk::new(),
+        };
+        let Ok(shared) = Arc::new(alloc, shared) else {
+            return Err(Refusal::Memory);
+        };
+        let executor = Executor { shared, rt };
+        let Ok(theirs) = executor.try_clone() else {
+            return Err(Refusal::Memory);
+        };
+        let Ok(name) = "blocking-spawner".to_string(alloc) else {
+            return Err(Refusal::Memory);
+        };
+        let spawned = Builder::new().name(name).spawn(
+            &rt,
+            move || -> ()
+                requires { Lasts J.row × Lasts H.row }
+            { theirs.start_all() },
+        );
+        match spawned {
+            Ok(_) => Ok(executor),
+            Err(_) => Err(Refusal::NoWorker),
+        }
+    }
+
+    // What the spawner does: it starts the workers that are asked for, and never takes the pool's lock.
+    fn start_all(&self) {
+        let rt = self.rt;
+        for _ in rt.forever() {
+            let number = self.shared.desk.asked(&rt);
+            let started = self.start(number).is_ok();
+            self.shared.desk.answer(&rt, started);
+        }
+    }
+
+    // A name, a share of the executor or a thread that can't be had is a refused start.
+    fn start(&self, number: u64) -> io::Result<()> {
+        let theirs = self.try_clone()?;
+        let name = format!(in self.rt.alloc(); "blocking-{number}")?;
+        let _worker = Builder::new().name(name).spawn(
+            &self.rt,
+            move || -> ()
+                requires { Lasts J.row × Lasts H.row }
+            { theirs.serve() },
+        )?;
+        Ok(())
+    }
+
+    // What a worker does.
+    fn serve(&self) {
+        let mut starter = self.starter();
+        self.work(&mut starter);
+    }
+}
+
+impl<J: Job, H: Runtime> Executor<J, H> {
+    /// One more share of the same pool.
+    pub fn try_clone(&self) -> Result<Executor<J, H>, AllocError> {
+        Ok(Executor {
+            shared: Arc::try_clone(&self.shared)?,
+            rt: self.rt,
+        })
+    }
+
+    pub(crate) fn runtime(&self) -> H {
+        self.rt
+    }
+
+    fn starter(&self) -> ThreadStarter<'_, H> {
+        ThreadStarter::new(&self.shared.desk, self.rt)
+    }
+
+    /// Adds a job, as [`Pool::add`](blocking_core::pool::Pool::add): a refused job is handed back.
+    pub fn add(&self, job: J) -> Result<JobNo, Refused<J>>
+        ensures { IfErr result (λ refused. refused.back ≡ job) }
+    {
+        let mut starter = self.starter();
+        let mut held = self.shared.held.lock(&self.rt);
+        let (answer, bell) = held.add(job, &mut starter);
+        drop(held);
+        bell.ring(&self.shared.condvar);
+        answer
+    }
+
+    /// What a worker does from its arrival until it stops. No lock is held while a job runs or is dropped.
+    pub fn work<S: Starter>(&self, starter: &mut S) {
+        let rt = self.rt;
+        let mut held = self.shared.held.lock(&rt);
+        let (took, bell) = held.arrive(starter);
+        drop(held);
+        bell.ring(&self.shared.condvar);
+        let mut next = took;
+        for _ in rt.forever() {
+            let Some(took) = next else {
+                return;
+            };
+            next = match took {
+                Took::Run(turn, job) => {
+                    run(&turn, job, &rt);
+                    Some(self.end(turn, starter))
+                }
+                Took::Idle(pass) => self.wait(pass, starter),
+            };
+        }
+        unreachable!()
+    }
+
+    // Ends a turn and takes. A turn that isn't running in this pool is tried again under a later lock.
+    fn end<S: Starter>(&self, turn: Turn, starter: &mut S) -> Took<J> {
+        let rt = self.rt;
+        let mut turn = turn;
+        for _ in rt.forever() {
+            let mut held = self.shared.held.lock(&rt);
+            let (ended, bell) = held.end(turn, Finish::Done, starter);
+            drop(held);
+            bell.ring(&self.shared.condvar);
+            match ended {
+                Ended::Took(took) => return took,
+                Ended::Stranger(back, _) => turn = back,
+            }
+        }
+        unreachable!()
+    }
+
+    // Waits for a job or a timeout, and takes or stops. A worker sleeps only where it saw the queue empty under the same
+    // lock: a job that entered before would have rung nobody.
+    fn wait<S: Starter>(&self, pass: WorkerPass, starter: &mut S) -> Option<Took<J>> {
+        let rt = self.rt;
+        for _ in rt.forever() {
+            let mut held = self.shared.held.lock(&rt);
+            let mut timed_out = false;
+            if !held.is_queued() {
+                let idle = Duration::from_millis(IDLE_MILLIS);
+                let (woken, waited) = self.shared.condvar.wait_timeout(&rt, held, idle);
+                held = woken;
+                timed_out = waited.timed_out();
+            }
+            if held.has_idle() {
+                let (took, bell) = held.after_wait(pass, timed_out, starter);
+                drop(held);
+                bell.ring(&self.shared.condvar);
+                return took;
+            }
+        }
+        unreachable!()
+    }
+}
+
+// Runs a job to its end, and drops it.
+fn run<J: Job, R: Wait>(turn: &Turn, mut job: J, rt: &R) {
+    for _ in rt.forever() {
+        if let JobStep::Done = job.step(turn.job()) {
+            return;
+        }
+    }
+    unreachable!()
+}
+
+/// Sets the limit of an executor's workers, as it is. Idle workers over a lowered limit stop; running jobs go on.
+pub fn set_max_blocking_threads<J: Job, H: Runtime>(executor: &Executor<J, H>, threads: usize)
+    requires { 0 < threads }
+{
+    let mut held = executor.shared.held.lock(&executor.rt);
+    let bell = held.set_limit(threads);
+    drop(held);
+    bell.ring(&executor.shared.condvar);
+}

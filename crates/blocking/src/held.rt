@@ -1,0 +1,114 @@
+//! The pool as its lock holds it: each section is one call, which answers whom to notify.
+ghost use Rattle.std.specs.Prelude.{◌≡◌, ◌<◌, true};
+ghost use Rattle.blocking_core.specs.declared.pool.bell.BellKind.TheVariants.{Silent};
+
+use blocking_core::pool::{
+    Bell, Finish, Gone, Job, JobNo, Pool, Refused, Starter, Took, Turn, Waited, WorkerPass,
+};
+use std::alloc::Global;
+
+/// A pool whose bell is silent: whatever its calls rang was answered to the caller.
+#[derive(Drop)]
+pub struct Held<J: Job> {
+    pool: Pool<J>,
+    ghost silent: { pool.counts.bell ≡ Silent },
+}
+
+/// What a worker has after the end of a turn.
+pub enum Ended<J> {
+    /// What it took next.
+    Took(Took<J>),
+    /// The turn of a job that isn't running in this pool, and the job if there was one.
+    Stranger(Turn, Option<J>),
+}
+
+impl<J: Job> Held<J> {
+    ghost use Rattle.blocking.specs.Sections.{Adds, Starts, ArrivesAndTakes, EndsAndTakes, WaitsAndTakes, SetsLimit};
+    ghost use Rattle.blocking_core.specs.declared.pool.answer.Finish.{Finish};
+
+    pub fn new(alloc: Global, setting: Option<&str>) -> Held<J>
+        ensures { Starts setting.entry result.pool }
+    {
+        Held {
+            pool: Pool::new(alloc, setting),
+        }
+    }
+
+    /// Adds a job.
+    pub fn add<S: Starter>(&mut self, job: J, starter: &mut S) -> (Result<JobNo, Refused<J>>, Bell)
+        ensures { Adds (S.may_answer starter.old) (S.refusals starter.old) (S.refusals starter.new) self.old.pool job result.0 self.new.pool result.1 }
+    {
+        let answer = self.pool.add(job, starter);
+        (answer, self.pool.bell())
+    }
+
+    /// A started worker arrives and takes; None where every started worker has arrived.
+    pub fn arrive<S: Starter>(&mut self, starter: &mut S) -> (Option<Took<J>>, Bell)
+        ensures { ArrivesAndTakes (S.may_answer starter.old) (S.refusals starter.old) (S.refusals starter.new) self.old.pool result.0 self.new.pool result.1 }
+    {
+        let Some(pass) = self.pool.arrive() else {
+            return (None, self.pool.bell());
+        };
+        let took = self.pool.take(pass, starter);
+        (Some(took), self.pool.bell())
+    }
+
+    /// A turn ends, and its worker takes.
+    pub fn end<S: Starter>(
+        &mut self,
+        turn: Turn,
+        finish: Finish<J>,
+        starter: &mut S,
+    ) -> (Ended<J>, Bell)
+        requires { finish ≡ Finish.Done }
+        ensures { EndsAndTakes (S.may_answer starter.old) (S.refusals starter.old) (S.refusals starter.new) self.old.pool turn result.0 self.new.pool result.1 }
+    {
+        match self.pool.end(turn, finish) {
+            Gone::Free(pass) => {
+                let took = self.pool.take(pass, starter);
+                (Ended::Took(took), self.pool.bell())
+            }
+            Gone::Stranger(turn, job) => (Ended::Stranger(turn, job), self.pool.bell()),
+        }
+    }
+
+    /// Whether there is an idle worker that has arrived, so that a pass may be used.
+    pub fn has_idle(&self) -> bool
+        ensures { result ≡ true → self.now.pool.counts.arriving < self.now.pool.counts.idle }
+    {
+        self.pool.arriving_count() < self.pool.idle_count()
+    }
+
+    /// Whether a job is queued.
+    pub fn is_queued(&self) -> bool {
+        self.pool.queue_len() > 0
+    }
+
+    /// An idle worker has waited: it takes, or it stops.
+    pub fn after_wait<S: Starter>(
+        &mut self,
+        pass: WorkerPass,
+        timed_out: bool,
+        starter: &mut S,
+    ) -> (Option<Took<J>>, Bell)
+        requires { self.old.pool.counts.arriving < self.old.pool.counts.idle }
+        ensures { WaitsAndTakes (S.may_answer starter.old) (S.refusals starter.old) (S.refusals starter.new) timed_out self.old.pool result.0 self.new.pool result.1 }
+    {
+        match self.pool.after_wait(pass, timed_out, starter) {
+            Waited::Stay(pass) => {
+                let took = self.pool.take(pass, starter);
+                (Some(took), self.pool.bell())
+            }
+            Waited::Stop => (None, self.pool.bell()),
+        }
+    }
+
+    /// Sets the limit of workers.
+    pub fn set_limit(&mut self, limit: usize) -> Bell
+        requires { 0 < limit }
+        ensures { SetsLimit limit self.old.pool self.new.pool result }
+    {
+        self.pool.set_limit(limit);
+        self.pool.bell()
+    }
+}

@@ -1,0 +1,17 @@
+//! Threads that run blocking calls: the pure core of `blocking_core` under locks.
+#![tactic(auto)]
+
+mod desk;
+pub mod executor;
+mod held;
+pub mod job;
+mod runtime;
+mod slot;
+pub mod task;
+#[cfg(test)]
+mod tests;
+
+pub use executor::{Executor, set_max_blocking_threads};
+pub use job::CallJob;
+pub use runtime::Runtime;
+pub use task::{Task, unblock};
