@@ -37,9 +37,9 @@ impl<F: Call<Out: Drop> + Drop, H: Wait + Copy> Model for CallJob<F, H> {
 
     ghost use Rattle.blocking.specs.Stages.{call_of, Fits};
 
-    ghost view = { λ j. record { next = j.core.next; call = call_of j.stage } };
+    ghost view = { λ j. record { next = j.core; call = call_of j.stage } };
 
-    ghost invariant = { λ j. Fits F.may_give j.core.next j.stage };
+    ghost invariant = { λ j. Fits F.may_give j.core j.stage };
 }
 
 impl<F: Call<Out: Drop> + Drop, H: Wait + Copy> CallJob<F, H> {

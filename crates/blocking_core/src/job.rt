@@ -1,6 +1,5 @@
 //! The decision cores of jobs: what a job does next, and what it makes of the answer.
-ghost use Rattle.std.specs.Prelude.{◌≡◌};
-ghost use Rattle.blocking_core.specs.Cores.{call_after};
+use std::marker::Model;
 
 /// What a job does next.
 #[derive(Clone, Copy, Debug, PartialEq, Eq)]
@@ -33,24 +32,38 @@ pub struct CallCore {
     next: Action,
 }
 
+// Contracts see the next action.
+impl Model for CallCore {
+    ghost use Rattle.blocking_core.specs.declared.job.Action.{Action};
+
+    ghost Value = { Action };
+
+    ghost view = { λ core. core.next };
+
+    ghost inverse = { λ action. record { next = action } };
+}
+
 impl CallCore {
+    ghost use Rattle.std.specs.Prelude.{◌≡◌};
+    ghost use Rattle.blocking_core.specs.Cores.{call_after};
+
     /// The core of a job that hasn't begun.
     pub fn new() -> Self
-        ensures { result.next ≡ Action.Call }
+        ensures { result ≡ Action.Call }
     {
         CallCore { next: Action::Call }
     }
 
     /// The next action.
     pub fn next(&self) -> Action
-        ensures { result ≡ self.now.next }
+        ensures { result ≡ self.now }
     {
         self.next
     }
 
     /// Takes the answer to the next action. An answer of another kind changes nothing.
     pub fn answer(&mut self, answer: Answer)
-        ensures { self.new.next ≡ call_after self.old.next answer }
+        ensures { self.new ≡ call_after self.old answer }
     {
         let next = match (self.next, answer) {
             (Action::Call, Answer::Returned) => Action::Finish,
