@@ -1,6 +1,6 @@
 -- What each section under the pool's lock does: one call of the pool, or two where a worker takes right away, and then the
 -- bell is asked.
-use Rattle.std.specs.Prelude.{◌≡◌, ◌<◌, ℕ, Bool, true, false, Option, Some, None, Result, List}
+use Rattle.std.specs.Prelude.{◌≡◌, ℕ, Bool, Option, Some, None, Result, List}
 use Rattle.std.specs.Borrow.{Bor}
 use Rattle.blocking_core.specs.Jobs.{JobNumber}
 use Rattle.blocking_core.specs.Counts.{limited, silenced}
@@ -9,9 +9,7 @@ use Rattle.blocking_core.specs.PoolAnswers as pool
 use Rattle.blocking_core.specs.declared.pool.bell.BellKind.{BellKind}
 use Rattle.blocking_core.specs.declared.pool.answer.Refused.{Refused}
 use Rattle.blocking_core.specs.declared.pool.answer.Took.{Took}
-use Rattle.blocking_core.specs.declared.pool.answer.Gone.{Gone}
 use Rattle.blocking_core.specs.declared.pool.answer.Gone.TheVariants.{Free, Stranger}
-use Rattle.blocking_core.specs.declared.pool.answer.Waited.{Waited}
 use Rattle.blocking_core.specs.declared.pool.answer.Waited.TheVariants.{Stay, Stop}
 use Rattle.blocking_core.specs.declared.pool.token.WorkerPass.{WorkerPass}
 use Rattle.blocking.specs.declared.held.Ended.{Ended}

@@ -117,19 +117,20 @@ fn call_that_sleeps(rt: HostRuntime) -> io::Result<()> {
     Ok(())
 }
 
+// Whether two calls that wait for each other both end well: each is run by a worker of its own, and no lock is held.
+fn meet_on<R: Host>(rt: R, executor: &Workers<R>) -> io::Result<bool> {
+    let left = Arc::new(rt.alloc(), AtomicBool::new(false))?;
+    let right = Arc::new(rt.alloc(), AtomicBool::new(false))?;
+    let first = Errand::Meet(Arc::try_clone(&left)?, Arc::try_clone(&right)?);
+    let first = begun(&rt, executor, first);
+    let second = begun(&rt, executor, Errand::Meet(right, left));
+    Ok(block_on(&rt, first)? == 1 && block_on(&rt, second)? == 1)
+}
+
 #[test]
 fn two_calls_meet(rt: HostRuntime) -> io::Result<()> {
     let executor = workers(rt, Some("2"));
-    let left = Arc::new(rt.alloc(), AtomicBool::new(false))?;
-    let right = Arc::new(rt.alloc(), AtomicBool::new(false))?;
-    let first = begun(
-        &rt,
-        &executor,
-        Errand::Meet(Arc::try_clone(&left)?, Arc::try_clone(&right)?),
-    );
-    let second = begun(&rt, &executor, Errand::Meet(right, left));
-    assert_eq!(rt; block_on(&rt, first)?, 1);
-    assert_eq!(rt; block_on(&rt, second)?, 1);
+    assert!(rt; meet_on(rt, &executor)?);
     Ok(())
 }
 
@@ -192,15 +193,6 @@ fn idle_workers_go(rt: HostRuntime) -> io::Result<()> {
 fn limit_is_set_by_call(rt: HostRuntime) -> io::Result<()> {
     let executor = workers(rt, Some("1"));
     set_max_blocking_threads(&executor, 2);
-    let left = Arc::new(rt.alloc(), AtomicBool::new(false))?;
-    let right = Arc::new(rt.alloc(), AtomicBool::new(false))?;
-    let first = begun(
-        &rt,
-        &executor,
-        Errand::Meet(Arc::try_clone(&left)?, Arc::try_clone(&right)?),
-    );
-    let second = begun(&rt, &executor, Errand::Meet(right, left));
-    assert_eq!(rt; block_on(&rt, first)?, 1);
-    assert_eq!(rt; block_on(&rt, second)?, 1);
+    assert!(rt; meet_on(rt, &executor)?);
     Ok(())
 }

@@ -1,10 +1,9 @@
 -- A growth, start by start.
-use Rattle.std.proofs.Common.{◌≡◌, ◌≢◌, ◌⊎◌, ℕ, zero, suc, ◌+◌, ◌-◌, ◌*◌, ◌<◌, ◌≤◌, Bool, true, false, cond, eqb, not, ◌&&◌, ltb, Option, Some, None, refl, sym, ap, ◌∙◌, subst, inl, inr, arith, add-zero, max, MatchBool}
+use Rattle.std.proofs.Common.{◌≡◌, ℕ, ◌+◌, ◌<◌, Bool, true, false, cond, eqb, not, refl, sym, ap, ◌∙◌, subst, inl, inr, arith, add-zero, MatchBool}
 use Rattle.std.proofs.lemmas.Bool.{cases_lt, ne_eqb, false≢true}
-use Rattle.blocking_core.specs.declared.pool.bell.BellKind.{BellKind}
-use Rattle.blocking_core.specs.declared.pool.bell.BellKind.TheVariants.{Silent, One, All}
+use Rattle.blocking_core.specs.declared.pool.bell.BellKind.TheVariants.{Silent, All}
 use Rattle.blocking_core.specs.Counts.{Counts, limit_of, louder}
-use Rattle.blocking_core.specs.Growth.{Growth, IsGrowth, Grows, StartAnswer, Refusals, was_asked, is_due, grown, ring_of, number_after, limit_after, one_more, none_more, greatest}
+use Rattle.blocking_core.specs.Growth.{Growth, Grows, StartAnswer, Refusals, is_due, grown, ring_of, one_more, none_more, greatest}
 
 -- so many workers started, and none refused
 abbrev pub plain : ℕ → Growth
@@ -30,19 +29,6 @@ answer_before may_answer may_still number refused steady = by_number (eqb number
     by_number : (b : Bool) → MatchBool b (refused ≡ true) (may_still number refused) → MatchBool b (refused ≡ true) (may_answer number refused)
     by_number true answered = answered
     by_number false answered = steady number refused answered
-
-louder_all : (ring : BellKind) → louder All ring ≡ All
-louder_all ring = refl
-
-pub begun : (may_answer : ℕ → Bool → Type 0) (before ready : ℕ) (old : Counts) → IsGrowing may_answer may_answer before before ready old (record old { limit = Some (limit_of old) })
-begun may_answer before ready old =
-    record {
-      started = 0;
-      counts = rw (add-zero old.workers, add-zero old.idle, add-zero old.arriving, add-zero old.next_worker) refl;
-      each = λ m below. absurd (omega arith);
-      steady = λ n answer may. may;
-      refusals = refl;
-    }
 
 more_grown : (old : Counts) (started : ℕ) → one_more (grown old (plain started)) ≡ grown old (plain (started + 1))
 more_grown old started =

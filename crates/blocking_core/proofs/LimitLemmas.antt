@@ -1,12 +1,12 @@
 -- What `parse` makes of the text of a setting.
-use Rattle.std.proofs.Common.{◌≡◌, ℕ, ◌^◌, ◌<◌, true, false, cond, eqb, List, length, drop, get_or, Result, Ok, Err, Some, None, Option, sym, subst, ap, inl, inr, arith, rules, refl}
+use Rattle.std.proofs.Common.{◌≡◌, ℕ, ◌^◌, ◌<◌, true, false, cond, List, length, drop, get_or, Result, Ok, Err, Some, None, sym, subst, ap, inl, inr, arith, rules}
 use Rattle.std.proofs.lemmas.Str.Parse.{IsNumeralModel, numerals_by_value, parse_plain, parse_plus}
 use Rattle.std.proofs.lemmas.Grind.{common_steps}
 use Rattle.std.proofs.lemmas.Bool.{cases_eq, eq-eqb, ne_eqb}
 use Rattle.std.specs.Char.{is_ascii_digit}
 use Rattle.std.specs.List.{list_all}
 use Rattle.std.specs.Result.{OkIff, result_ok}
-use Rattle.std.specs.Str.Parse.{ParsesUnsigned, digits_value, without_leading_plus}
+use Rattle.std.specs.Str.Parse.{ParsesUnsigned, digits_value}
 use Rattle.blocking_core.specs.Limits.{is_number, number_of}
 
 -- the bytes of digits, and their numbers, as std's lemmas on parsing want them

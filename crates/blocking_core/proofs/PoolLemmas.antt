@@ -1,14 +1,13 @@
 -- What each call of a pool keeps.
-use Rattle.std.proofs.Common.{◌≡◌, ◌≢◌, ◌⊎◌, ℕ, zero, suc, ◌+◌, ◌-◌, ◌<◌, ◌≤◌, Bool, true, false, cond, eqb, not, ◌||◌, ◌&&◌, List, [], ◌∷◌, ◌++◌, length, Option, Some, None, refl, sym, ap, ◌∙◌, subst, inl, inr, arith, add-one}
-use Rattle.std.proofs.lemmas.Bool.{eqb-true, eq-eqb, ne_eqb, cases_eq, cases_lt, or_parts, or_left, or_right, and_parts, false≢true, true≢false}
-use Rattle.std.proofs.lemmas.List.{length_push}
+use Rattle.std.proofs.Common.{◌≡◌, ◌≢◌, ℕ, zero, suc, ◌+◌, ◌<◌, ◌≤◌, Bool, true, false, eqb, ◌||◌, List, [], ◌∷◌, ◌++◌, length, Option, Some, None, refl, sym, ap, ◌∙◌, subst, inl, inr, arith, add-one}
+use Rattle.std.proofs.lemmas.Bool.{eq-eqb, ne_eqb, cases_eq, cases_lt, or_left, or_right, and_parts, false≢true}
 use Rattle.std.specs.FinMap.{get, insert, remove, empty, get-empty}
 use Rattle.std.specs.Ordering.{nat_cmp}
 use Rattle.blocking_core.specs.Chain.{is_in, IsOnce}
 use Rattle.blocking_core.specs.Jobs.{Job, Jobs, JobNumber, is_queued, is_running, new_job, running, is_running_job, one_if, running_below, runs_as, is_running_as}
-use Rattle.blocking_core.specs.Counts.{Counts, no_workers, busier, freer, rung, AreInOrder}
-use Rattle.blocking_core.specs.Growth.{Growth, Grows, grown}
-use Rattle.blocking_core.specs.Pools.{Pool, is_queued_job, IsQueueOf, IsSound, empty_pool}
+use Rattle.blocking_core.specs.Counts.{Counts, busier, freer, rung, AreInOrder}
+use Rattle.blocking_core.specs.Growth.{Growth, grown}
+use Rattle.blocking_core.specs.Pools.{Pool, is_queued_job, IsSound, empty_pool}
 use Rattle.blocking_core.specs.declared.pool.standing.Standing.{Standing}
 use Rattle.blocking_core.specs.declared.pool.standing.Standing.TheVariants.{Queued, Running, Parked, Done, Dropped}
 use Rattle.blocking_core.specs.declared.pool.bell.BellKind.TheVariants.{One}
@@ -54,10 +53,6 @@ module _ {J : Type 0} where
             omega (arith, one)
         | inr far ↦ omega (arith, some_below jobs serial next (omega arith) runs)
       ]
-
-  -- a serial that isn't used yet is no job's
-  unused_fresh : (pool : Pool J) → IsSound pool → get pool.jobs pool.next_serial ≡ None
-  unused_fresh pool sound = sound.unused pool.next_serial (omega arith)
 
   -- a queued job's serial was used
   pub queued_below : (pool : Pool J) → IsSound pool → (serial : ℕ) → is_in serial pool.queue ≡ true → serial < pool.next_serial

@@ -1,11 +1,11 @@
 -- How joining two nodes changes a ring.
-use Rattle.std.proofs.Common.{◌≡◌, ◌≢◌, ℕ, zero, suc, ◌+◌, ◌-◌, ◌<◌, ◌≤◌, Bool, true, false, cond, eqb, ◌||◌, List, [], ◌∷◌, ◌++◌, length, refl, sym, ap, ◌∙◌, subst, arith, not, add-one, Some, get_or, replicate}
-use Rattle.std.proofs.lemmas.Bool.{eqb-true, eqb-false, eq-eqb, ne_eqb, or_parts, false≢true}
+use Rattle.std.proofs.Common.{◌≡◌, ◌≢◌, ℕ, zero, suc, ◌+◌, ◌-◌, ◌<◌, ◌≤◌, Bool, true, false, cond, eqb, ◌||◌, List, [], ◌∷◌, ◌++◌, length, refl, sym, ap, ◌∙◌, subst, arith, not, Some, get_or, replicate}
+use Rattle.std.proofs.lemmas.Bool.{eqb-false, eq-eqb, ne_eqb, or_parts, false≢true}
 use Rattle.std.proofs.lemmas.List.{length_push}
 use Rattle.blocking_core.specs.Chain.{Chain, is_in, IsOnce, without, first_of}
 use Rattle.blocking_core.specs.Rings.{loose, node_after, node_before, walk, LeadsOn, LeadsBack, AreWithin, IsRing, Joins, IsInserted}
 use Rattle.blocking_core.specs.declared.pool.chain.Link.{Link}
-use Rattle.blocking_core.proofs.Lists.{by_eq, is_in-append, without-fresh, IsOnce-without, IsOnce-push, length-without, length-le_below}
+use Rattle.blocking_core.proofs.Lists.{by_eq, without-fresh, IsOnce-without, IsOnce-push, length-without, length-le_below}
 
 -- the places are those that the links lead through
 pub walk_is : (links : List Link) (node : ℕ) (places : List ℕ) → LeadsOn (node_after links) node places → walk links (length places) node ≡ places

@@ -1,19 +1,19 @@
 -- How a change of one place of the table changes the jobs and the queue.
-use Rattle.std.proofs.Common.{◌≡◌, ◌≢◌, ◌⊎◌, ℕ, zero, suc, ◌+◌, ◌<◌, ◌≤◌, Bool, true, false, cond, eqb, not, ◌||◌, ◌&&◌, List, [], ◌∷◌, ◌++◌, map, get_or, Option, Some, None, is_some, IsSome, refl, sym, ap, ◌∙◌, subst, inl, inr, arith, add-zero, nat_cmp}
-use Rattle.std.proofs.lemmas.Bool.{eqb-true, eq-eqb, ne_eqb, cases_eq, or_parts, or_left, or_right, and_parts, false≢true, true≢false}
+use Rattle.std.proofs.Common.{◌≡◌, ◌≢◌, ◌⊎◌, ℕ, zero, suc, ◌+◌, ◌<◌, Bool, true, false, cond, eqb, not, ◌||◌, ◌&&◌, List, [], ◌∷◌, ◌++◌, map, get_or, Option, Some, None, is_some, IsSome, refl, sym, ap, ◌∙◌, subst, inl, inr, arith, add-zero, nat_cmp}
+use Rattle.std.proofs.lemmas.Bool.{eqb-true, eq-eqb, ne_eqb, cases_eq, or_left, or_right, and_parts, false≢true}
 use Rattle.std.proofs.lemmas.List.{map_push}
 use Rattle.std.specs.Cmp.{nat_cmp_total}
 use Rattle.std.specs.Ordering.{eq_by_cmp}
-use Rattle.std.specs.FinMap.{FinMap, find, get as at, insert, remove, from_entries, get-from_entries, get-insert, get-remove, same_map, nat_cmp-IsAntisymmetric}
+use Rattle.std.specs.FinMap.{find, get as at, insert, remove, from_entries, get-from_entries, get-insert, get-remove, same_map, nat_cmp-IsAntisymmetric}
 use Rattle.slab.specs.Slab.{Slab, get, Updates, with_value}
 use Rattle.slab.proofs.SlabLemmas.{Updates-with_value}
 use Rattle.blocking_core.specs.Chain.{Chain, is_in, IsOnce, without, first_of}
-use Rattle.blocking_core.specs.Jobs.{Job, Jobs, JobNumber, is_queued, is_running, new_job, running, runs_as, is_running_as}
+use Rattle.blocking_core.specs.Jobs.{Job, Jobs, JobNumber, is_queued, is_running, new_job, runs_as, is_running_as}
 use Rattle.blocking_core.specs.Tables.{Table, job_at, listed, serial_or_zero, table_of, IsTable, TakesFirst}
 use Rattle.blocking_core.specs.declared.pool.standing.Standing.{Standing}
 use Rattle.blocking_core.specs.declared.pool.standing.Standing.TheVariants.{Queued, Running, Parked, Done, Dropped}
 use Rattle.blocking_core.specs.declared.pool.table.Entry.{Entry}
-use Rattle.blocking_core.proofs.Lists.{by_eq, is_in-append, without-fresh, without-first, is_in-without, is_in-without_itself, IsOnce-without, IsOnce-push}
+use Rattle.blocking_core.proofs.Lists.{by_eq, is_in-append, without-first, is_in-without, is_in-without_itself, IsOnce-without, IsOnce-push}
 
 -- the order of numbers ties just where they are equal
 pub eq_by_nat_cmp : (x y : ℕ) → eq_by_cmp nat_cmp x y ≡ eqb x y
@@ -362,9 +362,6 @@ module _ {J : Type 0} where
       by_places : (places : List ℕ) → first_of places ≡ Some place → is_in place places ≡ true
       by_places [] f = absurd (cc)
       by_places (p ∷ places) f = or_left (eqb place p) (is_in place places) (eq-eqb place p (let e : p ≡ place = cc in sym e))
-
-  pub queued_there : (slab : Slab (Entry J)) (chain : Chain) (place : ℕ) → IsTable slab chain → is_in place chain.places ≡ true → get slab place ≡ None → ⊥
-  queued_there slab chain place table queued none = false≢true (subst IsSome none (table.occupied place queued))
 
   -- a queued entry has its value
   pub queued_held : (slab : Slab (Entry J)) (chain : Chain) (place : ℕ) (entry : Entry J) → IsTable slab chain → is_in place chain.places ≡ true → get slab place ≡ Some entry → entry.value ≡ None → ⊥

@@ -1,5 +1,5 @@
 -- What a job does after an answer.
-use Rattle.std.specs.Prelude.{Bool, true, false}
+use Rattle.std.specs.Prelude.{true, false}
 use Rattle.blocking_core.specs.declared.job.Action.{Action}
 use Rattle.blocking_core.specs.declared.job.Action.TheVariants.{Call, Finish, Deliver, Done}
 use Rattle.blocking_core.specs.declared.job.Answer.{Answer}

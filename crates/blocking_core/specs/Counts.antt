@@ -1,5 +1,5 @@
 -- The counts of a pool's workers, and the bell.
-use Rattle.std.specs.Prelude.{◌≡◌, ℕ, ◌+◌, ◌-◌, ◌≤◌, ◌==◌, if◌then◌else◌, max, Bool, true, false, Option, Some, None, unwrap_or, nat_lt, refl}
+use Rattle.std.specs.Prelude.{ℕ, ◌+◌, ◌-◌, ◌≤◌, if◌then◌else◌, Bool, Option, Some, None, unwrap_or, nat_lt, refl}
 use Rattle.std.specs.Coded.{Coded, code_by, coded×, coded_ℕ, coded_option}
 use Rattle.blocking_core.specs.declared.pool.bell.BellKind.{BellKind}
 use Rattle.blocking_core.specs.declared.pool.bell.BellKind.TheVariants.{Silent, One, All}

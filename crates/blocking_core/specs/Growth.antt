@@ -1,7 +1,7 @@
 -- Growth: which starts are due, which are refused, and what a growth leaves.
-use Rattle.std.specs.Prelude.{◌≡◌, ℕ, ◌+◌, ◌-◌, ◌*◌, ◌^◌, ◌<◌, ◌==◌, ◌&&◌, nat_lt, max, if◌then◌else◌, Bool, true, false, not, Some, MatchBool}
+use Rattle.std.specs.Prelude.{◌≡◌, ℕ, ◌+◌, ◌*◌, ◌<◌, ◌==◌, ◌&&◌, nat_lt, max, if◌then◌else◌, Bool, true, false, not, Some, MatchBool}
 use Rattle.blocking_core.specs.declared.pool.bell.BellKind.{BellKind}
-use Rattle.blocking_core.specs.declared.pool.bell.BellKind.TheVariants.{Silent, One, All}
+use Rattle.blocking_core.specs.declared.pool.bell.BellKind.TheVariants.{Silent, All}
 use Rattle.blocking_core.specs.Counts.{Counts, limit_of, louder}
 
 -- the greatest number of 64 bits, which is given to nothing

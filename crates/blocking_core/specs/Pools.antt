@@ -1,10 +1,10 @@
 -- What contracts see of a pool, and what its calls do.
-use Rattle.std.specs.Prelude.{◌≡◌, ℕ, ◌+◌, ◌<◌, ◌≤◌, Bool, true, false, List, [], ◌∷◌, ◌++◌, length, Option, Some, None, Result, Ok, Err, refl}
+use Rattle.std.specs.Prelude.{◌≡◌, ℕ, ◌+◌, ◌<◌, ◌≤◌, Bool, false, List, [], ◌∷◌, ◌++◌, length, Option, Some, None, refl}
 use Rattle.std.specs.FinMap as map
 use Rattle.std.specs.Coded.{Coded, code_by, coded×, coded_ℕ, coded_list}
 use Rattle.blocking_core.specs.Chain.{is_in, IsOnce}
-use Rattle.blocking_core.specs.Jobs.{Job, Jobs, JobNumber, jobs_code, is_queued, new_job, running, running_below, is_running_as}
-use Rattle.blocking_core.specs.Counts.{Counts, counts_code, no_workers, busier, freer, arrived, rung, AreInOrder}
+use Rattle.blocking_core.specs.Jobs.{Job, Jobs, JobNumber, jobs_code, is_queued, new_job, running, running_below}
+use Rattle.blocking_core.specs.Counts.{Counts, counts_code, no_workers, busier, freer, rung, AreInOrder}
 use Rattle.blocking_core.specs.Growth.{Growth, Grows, greatest}
 use Rattle.blocking_core.specs.declared.pool.answer.Refusal.{Refusal}
 use Rattle.blocking_core.specs.declared.pool.answer.Refusal.TheVariants.{Memory, NoWorker, Numbers}

@@ -1,4 +1,4 @@
-use Rattle.std.proofs.Common.{◌≡◌, ◌+◌, ◌∷◌, ◌++◌, [], sym, subst, ap, ◌∙◌, arith, length}
+use Rattle.std.proofs.Common.{◌+◌, ◌∷◌, ◌++◌, [], ap, ◌∙◌, arith, length}
 use Rattle.std.specs.FinMap.{insert}
 use Rattle.blocking_core.specs.Counts.{rung}
 use Rattle.blocking_core.specs.Growth.{grown}

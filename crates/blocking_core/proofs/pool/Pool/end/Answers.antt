@@ -1,4 +1,4 @@
-use Rattle.std.proofs.Common.{◌≡◌, sym, subst, ap, ◌∙◌, true}
+use Rattle.std.proofs.Common.{sym, ap, ◌∙◌}
 use Rattle.std.specs.FinMap.{remove}
 use Rattle.blocking_core.specs.Counts.{freer}
 use Rattle.blocking_core.specs.Jobs.{is_running_as}

@@ -1,4 +1,4 @@
-use Rattle.std.proofs.Common.{◌≡◌, ◌<◌, refl, sym, subst, ap, ◌∙◌}
+use Rattle.std.proofs.Common.{◌<◌, refl, sym, subst, ap, ◌∙◌}
 use Rattle.std.specs.FinMap.{insert}
 use Rattle.blocking_core.specs.Counts.{busier}
 use Rattle.blocking_core.specs.Growth.{grown}

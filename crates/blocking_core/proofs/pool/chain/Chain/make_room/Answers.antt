@@ -1,7 +1,6 @@
-use Rattle.std.proofs.Common.{◌≡◌, ◌≤◌, ◌-◌, ◌++◌, ℕ, List, sym, subst, ap, ◌∙◌, arith, length, take, replicate, get_or}
+use Rattle.std.proofs.Common.{◌≡◌, ◌≤◌, ◌-◌, ℕ, ap, ◌∙◌, arith, length, get_or}
 use Rattle.std.proofs.lemmas.List.{take_all}
-use Rattle.blocking_core.specs.Rings.{loose, walk}
-use Rattle.blocking_core.specs.declared.pool.chain.Link.{Link}
+use Rattle.blocking_core.specs.Rings.{loose}
 use Rattle.blocking_core.proofs.RingLemmas.{ring_longer, walk_longer, added_loose}
 use Rattle.blocking_core.proofs.pool.chain.Chain.make_room.Goals as goal
 

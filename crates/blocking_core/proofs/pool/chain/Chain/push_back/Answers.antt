@@ -1,9 +1,7 @@
-use Rattle.std.proofs.Common.{◌≡◌, ◌<◌, ◌-◌, ◌+◌, ◌++◌, ◌∷◌, [], ℕ, List, suc, false, sym, subst, ap, ◌∙◌, arith, length, add-one, refl}
-use Rattle.std.specs.Vec.{with_items}
+use Rattle.std.proofs.Common.{◌≡◌, ◌<◌, ◌-◌, ◌+◌, ◌++◌, ◌∷◌, [], false, sym, subst, ap, ◌∙◌, arith, length, add-one}
 use Rattle.std.proofs.lemmas.List.{with_items_is}
 use Rattle.blocking_core.specs.Chain.{is_in}
 use Rattle.blocking_core.specs.Rings.{node_before, walk, IsRing, IsInserted}
-use Rattle.blocking_core.specs.declared.pool.chain.Link.{Link}
 use Rattle.blocking_core.proofs.RingLemmas.{IsPushed, pushed, count_within, last_within, same_chain}
 use Rattle.blocking_core.proofs.pool.chain.Chain.push_back.Goals as goal
 

@@ -1,6 +1,6 @@
-use Rattle.std.proofs.Common.{◌≡◌, ℕ, sym, subst, ap, ◌∙◌, true, false, eqb, not}
+use Rattle.std.proofs.Common.{◌≡◌, ℕ, sym, ap, ◌∙◌}
 use Rattle.blocking_core.specs.Counts.{Counts, limit_of}
-use Rattle.blocking_core.specs.Growth.{StartAnswer, Refusals, is_due, greatest}
+use Rattle.blocking_core.specs.Growth.{is_due}
 use Rattle.blocking_core.proofs.GrowthLemmas.{grows_more, grows_enough, grows_no_more}
 use Rattle.blocking_core.proofs.pool.counts.Counts.grow.Goals as goal
 

@@ -2,7 +2,6 @@ use Rattle.std.proofs.Common.{◌≡◌, ◌<◌, ◌∷◌, ◌++◌, [], None,
 use Rattle.std.proofs.lemmas.Bool.{and_parts, ltb-true}
 use Rattle.std.specs.FinMap.{get, insert}
 use Rattle.blocking_core.specs.Jobs.{new_job}
-use Rattle.blocking_core.specs.Tables.{table_of}
 use Rattle.blocking_core.proofs.TableLemmas.{Inserts, inserts}
 use Rattle.blocking_core.proofs.pool.table.Table.insert.Goals as goal
 

@@ -1,4 +1,4 @@
-use Rattle.std.proofs.Common.{◌≡◌, ◌≢◌, sym, subst, ap, ◌∙◌, true, false, Some, refl}
+use Rattle.std.proofs.Common.{◌≡◌, ◌≢◌, sym, ap, ◌∙◌, false, refl}
 use Rattle.slab.specs.Slab.{get}
 use Rattle.std.proofs.lemmas.Bool.{ne_eqb}
 use Rattle.blocking_core.specs.Jobs.{is_running_as, is_running}
