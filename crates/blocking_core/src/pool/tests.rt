@@ -228,6 +228,23 @@ fn first_in_is_first_out(rt: HostRuntime) {
     }
 }
 
+// The table has as many places as jobs stood at once.
+#[test]
+fn jobs_one_by_one_share_a_place(rt: HostRuntime) {
+    let mut pool = Pool::new(rt.alloc(), None);
+    let mut starter = refuses_at(&rt, &[]);
+    let first = busy(&rt, &mut pool, &mut starter);
+    let mut pass = ended(&rt, &mut pool, first);
+    for job in 1..1000 {
+        accepted(&rt, &mut pool, &mut starter, job);
+        let (turn, _) = taken_by(&rt, &mut pool, &mut starter, pass);
+        let place = turn.job().place();
+        pass = ended(&rt, &mut pool, turn);
+        assert_eq!(rt; place, 0);
+    }
+    pass.spend();
+}
+
 #[test]
 fn strangers_turn_comes_back(rt: HostRuntime) {
     let mut starter = refuses_at(&rt, &[]);
