@@ -1,5 +1,5 @@
 //! The pool as its lock holds it: each section is one call, which answers whom to notify.
-ghost use Rattle.std.specs.Prelude.{◌≡◌, ◌<◌, true};
+ghost use Rattle.std.specs.Prelude.{◌≡◌, ◌<◌, ◌↔◌, true, length};
 ghost use Rattle.blocking_core.specs.declared.pool.bell.BellKind.TheVariants.{Silent};
 
 use blocking_core::pool::{
@@ -74,13 +74,15 @@ impl<J: Job> Held<J> {
 
     /// Whether there is an idle worker that has arrived, so that a pass may be used.
     pub fn has_idle(&self) -> bool
-        ensures { result ≡ true → self.now.pool.counts.arriving < self.now.pool.counts.idle }
+        ensures { (result ≡ true) ↔ (self.now.pool.counts.arriving < self.now.pool.counts.idle) }
     {
         self.pool.arriving_count() < self.pool.idle_count()
     }
 
     /// Whether a job is queued.
-    pub fn is_queued(&self) -> bool {
+    pub fn is_queued(&self) -> bool
+        ensures { (result ≡ true) ↔ (0 < length self.now.pool.queue) }
+    {
         self.pool.queue_len() > 0
     }
 

@@ -136,9 +136,10 @@ impl<F: Call<Out: Drop> + Drop, H: Wait + Copy> Carries<CallJob<F, H>> for CallJ
 }
 
 impl<F: Call<Out: Drop> + Drop, H: Wait + Copy> Job for CallJob<F, H> {
+    ghost use Rattle.std.specs.Prelude.{◌≡◌, false};
     ghost use Rattle.blocking.specs.Calls.{IsAnswered};
 
-    ghost may_answer = { λ _ _. Unit {0} };
+    ghost may_answer = { λ _ answer. answer ≡ false };
 
     fn step(&mut self, _me: JobNo) -> JobStep
         ensures answered { IsAnswered self.old.next self.new.next }
