@@ -10,3 +10,4 @@ pub mod Rings
 pub mod SlotAnswers
 pub mod Slots
 pub mod Tables
+pub mod Wakes

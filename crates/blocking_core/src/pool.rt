@@ -20,7 +20,7 @@ mod token;
 use crate::limit::max_threads;
 use crate::pool::counts::Counts;
 use crate::pool::table::Table;
-pub use answer::{Finish, Gone, Refusal, Refused, Took, Waited};
+pub use answer::{Finish, Gone, Refusal, Refused, Took, Waited, Woke};
 pub use bell::{Bell, BellKind};
 pub use job::{Carries, Job, JobStep};
 pub use number::JobNo;

@@ -19,6 +19,17 @@ pub struct Refused<X: Drop> {
     pub why: Refusal,
 }
 
+/// What a wake or a cancel did to its job.
+#[derive(Clone, Copy, Debug, PartialEq, Eq)]
+pub enum Woke {
+    /// It was parked, and stands at the queue's end.
+    Entered,
+    /// It was marked, and stands as it did.
+    Marked,
+    /// It is as it was.
+    Nothing,
+}
+
 /// What a worker takes.
 pub enum Took<J> {
     /// The front job, to be run.
