@@ -1,8 +1,8 @@
 -- How joining two nodes changes a ring.
-use Rattle.std.proofs.Common.{◌≡◌, ◌≢◌, ℕ, zero, suc, ◌+◌, ◌-◌, ◌<◌, ◌≤◌, Bool, true, false, cond, eqb, ◌||◌, List, [], ◌∷◌, ◌++◌, length, refl, sym, ap, ◌∙◌, subst, arith, not, Some, get_or, replicate}
+use Rattle.std.proofs.Common.{◌≡◌, ◌≢◌, ℕ, zero, suc, ◌+◌, ◌-◌, ◌<◌, ◌≤◌, Bool, true, false, cond, eqb, ◌||◌, List, [], ◌∷◌, ◌++◌, length, refl, sym, ap, ◌∙◌, subst, arith, add-one, not, Option, Some, None, get_or, replicate}
 use Rattle.std.proofs.lemmas.Bool.{eqb-false, eq-eqb, ne_eqb, or_parts, false≢true}
-use Rattle.std.proofs.lemmas.List.{length_push}
-use Rattle.blocking_core.specs.Chain.{Chain, is_in, IsOnce, without, first_of}
+use Rattle.std.proofs.lemmas.List.{length_push, get_or_read}
+use Rattle.blocking_core.specs.Chain.{Chain, is_in, IsOnce, without, first_of, rest_after}
 use Rattle.blocking_core.specs.Rings.{loose, node_after, node_before, walk, LeadsOn, LeadsBack, AreWithin, IsRing, Joins, IsInserted}
 use Rattle.blocking_core.specs.declared.pool.chain.Link.{Link}
 use Rattle.blocking_core.proofs.Lists.{by_eq, without-fresh, IsOnce-without, IsOnce-push, length-without, length-le_below}
@@ -400,3 +400,41 @@ added_loose (link ∷ old) more (suc node) = added_loose old more node
 -- two chains are one where they have the same places and the same room
 pub same_chain : (places others : List ℕ) (room space : ℕ) → places ≡ others → room ≡ space → ◌≡◌ {A = Chain} (record { places = places; room = room }) (record { places = others; room = space })
 same_chain places others room space same as_wide = cc
+
+-- the place of a node; the end is none
+abbrev pub place_of : ℕ → Option ℕ
+place_of zero = None
+place_of (suc place) = Some place
+
+head_place : (places : List ℕ) → place_of (head_node places) ≡ first_of places
+head_place [] = refl
+head_place (place ∷ places) = refl
+
+-- the place that comes after one, by the nodes
+next_place : (x : ℕ) (places : List ℕ) → place_of (next x places) ≡ first_of (rest_after x places)
+next_place x [] = refl
+next_place x (place ∷ places) =
+    by_eq x place (λ b. place_of (cond b (head_node places) (next x places)) ≡ first_of (cond b places (rest_after x places)))
+    (λ same. head_place places) (λ differs. next_place x places)
+
+pub ring_after : (links : List Link) (count place : ℕ) (ring : IsRing links count) → is_in place (walk links count 0) ≡ true → place_of (node_after links (suc place)) ≡ first_of (rest_after place (walk links count 0))
+ring_after links count place ring found =
+    subst (λ places. is_in place places ≡ true → place_of (node_after links (suc place)) ≡ first_of (rest_after place places)) (sym (ring_walk links count ring))
+    (λ f. ap place_of (next_is (node_after links) place 0 ring.places f ring.on) ∙ next_place place ring.places) found
+
+pub node_place : (node : ℕ) → node ≢ 0 → Some (node - 1) ≡ place_of node
+node_place zero differs = absurd (differs refl)
+node_place (suc place) differs = ap Some (omega arith)
+
+-- the link of a place, as it is read, tells the place that comes after
+pub read_after : (links : List Link) (count place : ℕ) (link : Link) (row : Chain) → IsRing links count → walk links count 0 ≡ row.places → is_in place row.places ≡ true
+    → link ≡ get_or links (place + 1) link → place_of link.after ≡ first_of (rest_after place row.places)
+read_after links count place link row ring seen found is =
+    ap place_of (ap (λ l. l.after) (get_or_read links (place + 1) link within is loose) ∙ ap (node_after links) (add-one place))
+    ∙ ring_after links count place ring here ∙ ap (λ places. first_of (rest_after place places)) seen
+  where
+    here : is_in place (walk links count 0) ≡ true
+    here = ap (is_in place) seen ∙ found
+
+    within : place + 1 < length links
+    within = (neighbours_within links count place (place + 1) (add-one place) ring here).0

@@ -8,8 +8,8 @@ use Rattle.std.specs.FinMap.{find, get as at, insert, remove, from_entries, get-
 use Rattle.slab.specs.Slab.{Slab, get, Updates, with_value}
 use Rattle.slab.proofs.SlabLemmas.{Updates-with_value}
 use Rattle.blocking_core.specs.Chain.{Chain, is_in, IsOnce, without, first_of}
-use Rattle.blocking_core.specs.Jobs.{Job, Jobs, JobNumber, is_queued, is_running, new_job, runs_as, is_running_as}
-use Rattle.blocking_core.specs.Tables.{Table, job_at, listed, serial_or_zero, table_of, IsTable, TakesFirst}
+use Rattle.blocking_core.specs.Jobs.{Job, Jobs, JobNumber, is_queued, is_running, is_running_job, new_job, if_at, job_of, is_running_as, changed, amend}
+use Rattle.blocking_core.specs.Tables.{job_at, listed, serial_or_zero, serials_at, IsTable}
 use Rattle.blocking_core.specs.declared.pool.standing.Standing.{Standing}
 use Rattle.blocking_core.specs.declared.pool.standing.Standing.TheVariants.{Queued, Running, Parked, Done, Dropped}
 use Rattle.blocking_core.specs.declared.pool.table.Entry.{Entry}
@@ -296,7 +296,7 @@ module _ {J : Type 0} where
   -- a new entry at the queue's end
   pub record Inserts (old new : Slab (Entry J)) (chain next : Chain) (place serial : ℕ) (value : J) : Type 0 where
     pub table : IsTable new next
-    pub queue : (table_of new next).queue ≡ (table_of old chain).queue ++ serial ∷ []
+    pub queue : serials_at new next.places ≡ serials_at old chain.places ++ serial ∷ []
     pub jobs : jobs_of new ≡ insert (jobs_of old) serial (new_job place value)
 
   pub inserts : (old new : Slab (Entry J)) (chain next : Chain) (place serial : ℕ) (value : J) → IsTable old chain
@@ -351,10 +351,15 @@ module _ {J : Type 0} where
           or_false true = refl
           or_false false = refl
 
+  -- the entry of a job in the hands of a worker
+  abbrev pub taken_by : Entry J → Entry J
+  taken_by entry = record entry { standing = Running; woken = false; value = None }
+
   -- the front entry is taken
-  pub record Takes (old new : Slab (Entry J)) (chain next : Chain) (place : ℕ) (entry : Entry J) (value : J) : Type 0 where
+  pub record Takes (old new : Slab (Entry J)) (chain next : Chain) (place : ℕ) (entry : Entry J) : Type 0 where
     pub table : IsTable new next
-    pub taken : TakesFirst (table_of old chain) (Some (record { place = place; serial = entry.serial }, value)) (table_of new next)
+    pub front : serials_at old chain.places ≡ entry.serial ∷ serials_at new next.places
+    pub jobs : jobs_of new ≡ insert (jobs_of old) entry.serial (job_at place (taken_by entry))
 
   pub front_queued : (slab : Slab (Entry J)) (chain : Chain) (place : ℕ) → first_of chain.places ≡ Some place → is_in place chain.places ≡ true
   front_queued slab chain place front = by_places chain.places front
@@ -375,21 +380,15 @@ module _ {J : Type 0} where
       by_standing Done q h = false≢true q
       by_standing Dropped q h = false≢true q
 
-  pub takes : (old : Slab (Entry J)) (chain next : Chain) (place : ℕ) (entry : Entry J) (value : J) → IsTable old chain → first_of chain.places ≡ Some place
-      → get old place ≡ Some entry → entry.value ≡ Some value → next ≡ record chain { places = without place chain.places }
-      → Takes old (with_value old place (record entry { standing = Running; woken = false; value = None })) chain next place entry value
-  takes old chain next place entry value table front found held unlinked =
+  pub takes : (old : Slab (Entry J)) (chain next : Chain) (place : ℕ) (entry : Entry J) → IsTable old chain → first_of chain.places ≡ Some place
+      → get old place ≡ Some entry → next ≡ record chain { places = without place chain.places }
+      → Takes old (with_value old place (taken_by entry)) chain next place entry
+  takes old chain next place entry table front found unlinked =
       record {
         table = subst (IsTable new) (sym unlinked) (changed_table old new chain shorter place taken changes follows table);
-        taken = (
-          subst (λ places. map (λ q. serial_or_zero (get old q)) places ≡ entry.serial ∷ map (λ q. serial_or_zero (get new q)) next.places) (sym split.1)
-              (heads (ap serial_or_zero found) (sym rest_same) (ap (λ row. map (λ q. serial_or_zero (get new q)) row.places) (sym (unlinked ∙ ap (λ ps. record chain { places = ps }) shorter_is)))),
-          job_at place entry,
-          (tabled old table.apart).here place entry found,
-          refl,
-          held,
-          changed_jobs old new place taken changes table.apart,
-        );
+        front = subst (λ places. serials_at old places ≡ entry.serial ∷ serials_at new next.places) (sym split.1)
+            (heads (ap serial_or_zero found) (sym rest_same) (ap (λ row. serials_at new row.places) (sym (unlinked ∙ ap (λ ps. record chain { places = ps }) shorter_is))));
+        jobs = changed_jobs old new place taken changes table.apart;
       }
     where
       taken : Entry J
@@ -445,53 +444,62 @@ module _ {J : Type 0} where
       heads : {x y : ℕ} {xs ys zs : List ℕ} → x ≡ y → xs ≡ ys → ys ≡ zs → x ∷ xs ≡ y ∷ zs
       heads e f h = cc
 
-  -- the entry after a take, and what the worker was handed: its number, as the code made it, and the value
-  abbrev pub left_by : Entry J → Option J → Entry J
-  left_by entry left = record entry { standing = Running; woken = false; value = left }
+  -- the job of a number, by the entry at its place
+  pub job_here : (slab : Slab (Entry J)) (number : JobNumber) (entry : Entry J) → AreApart slab → get slab number.place ≡ Some entry → entry.serial ≡ number.serial → job_of (jobs_of slab) number ≡ Some (job_at number.place entry)
+  job_here slab number entry apart found same =
+      ap (if_at number.place) (ap (at (jobs_of slab)) (sym same) ∙ (tabled slab apart).here number.place entry found)
+      ∙ ap (λ b. cond b (Some (job_at number.place entry)) None) (eq-eqb number.place number.place refl)
 
-  pub takes_so : (old : Slab (Entry J)) (chain next : Chain) (place : ℕ) (entry : Entry J) (value : J) (left : Option J) (number : JobNumber) (before : Table J) → IsTable old chain → first_of chain.places ≡ Some place
-      → get old place ≡ Some entry → entry.value ≡ Some value → next ≡ record chain { places = without place chain.places }
-      → left ≡ None → number ≡ record { place = place; serial = entry.serial } → table_of old chain ≡ before
-      → IsTable (with_value old place (left_by entry left)) next × TakesFirst before (Some (number, value)) (table_of (with_value old place (left_by entry left)) next)
-  takes_so old chain next place entry value left number before table front found held unlinked none is seen =
-      let done = takes old chain next place entry value table front found held unlinked in
-      subst (λ l. IsTable (with_value old place (left_by entry l)) next × TakesFirst before (Some (number, value)) (table_of (with_value old place (left_by entry l)) next)) (sym none) (
-        done.table,
-        subst (λ t. TakesFirst t (Some (number, value)) (table_of (with_value old place (left_by entry None)) next)) seen
-            (subst (λ n. TakesFirst (table_of old chain) (Some (n, value)) (table_of (with_value old place (left_by entry None)) next)) (sym is) done.taken),
-      )
-
-  -- the number of a job, by the slab and by the map
-  pub running_at : (slab : Slab (Entry J)) (number : JobNumber) (entry : Entry J) → AreApart slab → get slab number.place ≡ Some entry → entry.serial ≡ number.serial → is_running_as (jobs_of slab) number ≡ is_running entry.standing
-  running_at slab number entry apart found same =
-      ap (runs_as number) (ap (at (jobs_of slab)) (sym same) ∙ (tabled slab apart).here number.place entry found)
-      ∙ ap (λ b. b && is_running entry.standing) (eq-eqb number.place number.place refl)
-
-  pub running_nowhere : (slab : Slab (Entry J)) (number : JobNumber) → AreApart slab → ((entry : Entry J) → get slab number.place ≡ Some entry → entry.serial ≢ number.serial) → is_running_as (jobs_of slab) number ≡ false
-  running_nowhere slab number apart never = by_job (at (jobs_of slab) number.serial) refl
+  pub job_nowhere : (slab : Slab (Entry J)) (number : JobNumber) → AreApart slab → ((entry : Entry J) → get slab number.place ≡ Some entry → entry.serial ≢ number.serial) → job_of (jobs_of slab) number ≡ None
+  job_nowhere slab number apart never = by_job (at (jobs_of slab) number.serial) refl
     where
-      by_job : (found : Option (Job J)) → at (jobs_of slab) number.serial ≡ found → runs_as number found ≡ false
+      by_job : (found : Option (Job J)) → at (jobs_of slab) number.serial ≡ found → if_at number.place found ≡ None
       by_job None is = refl
       by_job (Some job) is =
-          by_eq job.place number.place (λ b. (b && is_running job.standing) ≡ false)
+          by_eq job.place number.place (λ b. cond b (Some job) None ≡ None)
           (λ same. let from = from_there slab (jobs_of slab) number.serial job (tabled slab apart) is in absurd (never from.0 (ap (get slab) (sym same) ∙ from.1) from.2))
           (λ differs. refl)
 
-  -- the entry of a running job
-  pub running_entry : (slab : Slab (Entry J)) (number : JobNumber) → AreApart slab → is_running_as (jobs_of slab) number ≡ true → (entry : Entry J) × (get slab number.place ≡ Some entry) × (entry.serial ≡ number.serial) × (is_running entry.standing ≡ true)
-  running_entry slab number apart runs = by_job (at (jobs_of slab) number.serial) refl runs
+  -- the entry of a job
+  pub record IsEntryOf (slab : Slab (Entry J)) (number : JobNumber) (job : Job J) : Type 0 where
+    pub entry : Entry J
+    pub is_at : get slab number.place ≡ Some entry
+    pub serial_is : entry.serial ≡ number.serial
+    pub job_is : job ≡ job_at number.place entry
+
+  pub entry_of : (slab : Slab (Entry J)) (number : JobNumber) (job : Job J) → AreApart slab → job_of (jobs_of slab) number ≡ Some job → IsEntryOf slab number job
+  entry_of slab number job apart is = by_job (at (jobs_of slab) number.serial) refl is
     where
-      by_job : (found : Option (Job J)) → at (jobs_of slab) number.serial ≡ found → runs_as number found ≡ true → (entry : Entry J) × (get slab number.place ≡ Some entry) × (entry.serial ≡ number.serial) × (is_running entry.standing ≡ true)
+      by_job : (found : Option (Job J)) → at (jobs_of slab) number.serial ≡ found → if_at number.place found ≡ Some job → IsEntryOf slab number job
+      by_job None there none = absurd (let e : None ≡ Some job = none in cc)
+      by_job (Some other) there here =
+          by_eq other.place number.place (λ b. cond b (Some other) None ≡ Some job → IsEntryOf slab number job)
+          (λ same some.
+            let from = from_there slab (jobs_of slab) number.serial other (tabled slab apart) there in
+            let one : other ≡ job = let e : Some other ≡ Some job = some in cc in
+            record {
+              entry = from.0;
+              is_at = ap (get slab) (sym same) ∙ from.1;
+              serial_is = from.2;
+              job_is = sym one ∙ from.3 ∙ ap (λ n. job_at n from.0) same;
+            })
+          (λ differs none. absurd (let e : None ≡ Some job = none in cc)) here
+
+  -- a running job has an entry
+  pub running_entry : (slab : Slab (Entry J)) (number : JobNumber) → AreApart slab → is_running_as (jobs_of slab) number ≡ true → (job : Job J) × (job_of (jobs_of slab) number ≡ Some job) × (is_running job.standing ≡ true)
+  running_entry slab number apart runs = by_job (job_of (jobs_of slab) number) refl runs
+    where
+      by_job : (found : Option (Job J)) → job_of (jobs_of slab) number ≡ found → is_running_job found ≡ true → (job : Job J) × (job_of (jobs_of slab) number ≡ Some job) × (is_running job.standing ≡ true)
       by_job None is r = absurd (false≢true r)
-      by_job (Some job) is r =
-          let parts = and_parts (eqb job.place number.place) (is_running job.standing) r in
-          let from = from_there slab (jobs_of slab) number.serial job (tabled slab apart) is in
-          (from.0, ap (get slab) (sym (eqb-true job.place number.place parts.0)) ∙ from.1, from.2, ap (λ j. is_running j.standing) (sym from.3) ∙ parts.1)
+      by_job (Some job) is r = (job, is, r)
+
+  pub amend_found : (jobs : Jobs J) (serial : ℕ) (change : Job J → Job J) (job : Job J) → at jobs serial ≡ Some job → amend jobs serial change ≡ insert jobs serial (change job)
+  amend_found jobs serial change job found = ap (changed jobs serial change) found
 
   -- a running job leaves
   pub record Removes (old new : Slab (Entry J)) (chain : Chain) (serial : ℕ) : Type 0 where
     pub table : IsTable new chain
-    pub queue : (table_of new chain).queue ≡ (table_of old chain).queue
+    pub queue : serials_at new chain.places ≡ serials_at old chain.places
     pub jobs : jobs_of new ≡ remove (jobs_of old) serial
 
   pub removes : (old new : Slab (Entry J)) (chain : Chain) (number : JobNumber) → IsTable old chain → is_running_as (jobs_of old) number ≡ true → Updates old new number.place None → Removes old new chain number.serial
@@ -499,14 +507,17 @@ module _ {J : Type 0} where
       record {
         table = removed_table old new chain number.place updates unqueued table;
         queue = same_serials old new chain.places (λ q found. ap serial_or_zero (updates.others q (λ same. false≢true (sym unqueued ∙ ap (λ n. is_in n chain.places) (sym same) ∙ found))));
-        jobs = removed_jobs old new number.place here.0 here.1 updates table.apart ∙ ap (remove (jobs_of old)) here.2;
+        jobs = removed_jobs old new number.place here.entry here.is_at updates table.apart ∙ ap (remove (jobs_of old)) here.serial_is;
       }
     where
-      here : (entry : Entry J) × (get old number.place ≡ Some entry) × (entry.serial ≡ number.serial) × (is_running entry.standing ≡ true)
-      here = running_entry old number table.apart runs
+      job : (job : Job J) × (job_of (jobs_of old) number ≡ Some job) × (is_running job.standing ≡ true)
+      job = running_entry old number table.apart runs
+
+      here : IsEntryOf old number job.0
+      here = entry_of old number job.0 table.apart job.1
 
       unqueued : is_in number.place chain.places ≡ false
-      unqueued = table.queued number.place here.0 here.1 ∙ not_queued here.0.standing here.3
+      unqueued = table.queued number.place here.entry here.is_at ∙ not_queued here.entry.standing (ap (λ j. is_running j.standing) (sym here.job_is) ∙ job.2)
         where
           not_queued : (s : Standing) → is_running s ≡ true → is_queued s ≡ false
           not_queued Running r = refl

@@ -1,5 +1,5 @@
 -- Places in a row.
-use Rattle.std.specs.Prelude.{◌≡◌, ℕ, ◌==◌, not, Bool, false, List, [], ◌∷◌, filter, Option, Some, None}
+use Rattle.std.specs.Prelude.{◌≡◌, ℕ, ◌==◌, not, if◌then◌else◌, Bool, false, List, [], ◌∷◌, filter, Option, Some, None}
 use Rattle.std.specs.List.{list_any}
 
 -- what contracts see of a chain: its places from the first to the last, and how many places there are that may stand in it
@@ -24,3 +24,8 @@ without number numbers = filter (λ other. not (number == other)) numbers
 abbrev pub first_of : List ℕ → Option ℕ
 first_of [] = None
 first_of (number ∷ numbers) = Some number
+
+-- what comes after this number in the list
+abbrev pub rest_after : ℕ → List ℕ → List ℕ
+rest_after number [] = []
+rest_after number (first ∷ rest) = if number == first then rest else rest_after number rest

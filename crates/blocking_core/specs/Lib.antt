@@ -9,5 +9,6 @@ pub mod Pools
 pub mod Rings
 pub mod SlotAnswers
 pub mod Slots
+pub mod Sweeps
 pub mod Tables
 pub mod Wakes

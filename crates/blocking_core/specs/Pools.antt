@@ -1,9 +1,9 @@
 -- What contracts see of a pool, and what its calls do.
-use Rattle.std.specs.Prelude.{◌≡◌, ℕ, ◌+◌, ◌<◌, ◌≤◌, Bool, false, List, [], ◌∷◌, ◌++◌, length, Option, Some, None, refl}
+use Rattle.std.specs.Prelude.{◌≡◌, ℕ, ◌+◌, ◌<◌, ◌≤◌, ◌||◌, Bool, false, List, [], ◌∷◌, ◌++◌, length, Option, Some, None, refl}
 use Rattle.std.specs.FinMap as map
 use Rattle.std.specs.Coded.{Coded, code_by, coded×, coded_ℕ, coded_list}
 use Rattle.blocking_core.specs.Chain.{is_in, IsOnce}
-use Rattle.blocking_core.specs.Jobs.{Job, Jobs, JobNumber, jobs_code, is_queued, new_job, running, running_below}
+use Rattle.blocking_core.specs.Jobs.{Job, Jobs, JobNumber, jobs_code, is_queued, new_job, running, running_below, parked_with, queued_again, amend, all_queued_again}
 use Rattle.blocking_core.specs.Counts.{Counts, counts_code, no_workers, busier, freer, rung, AreInOrder}
 use Rattle.blocking_core.specs.Growth.{Growth, Grows, greatest}
 use Rattle.blocking_core.specs.declared.pool.answer.Refusal.{Refusal}
@@ -82,19 +82,60 @@ module _ {J : Type 0} where
   IsRefused may_answer before after old Memory new = (old.next_serial < greatest) × (new ≡ old) × (after ≡ before)
   IsRefused may_answer before after old NoWorker new = FindsNobody may_answer before after old new
 
-  -- The front job is taken: it is the value's, and the pool grows by the jobs that are left in the queue.
-  pub record TakesFront (may_answer : ℕ → Bool → Type 0) (before after : ℕ) (old : Pool J) (number : JobNumber) (value : J) (new : Pool J) : Type 0 where
+  -- Whether a job is to be dropped: it was cancelled, or bears a mark. It was asked for its mark, and may answer so.
+  abbrev pub IsToDrop : (J → Bool → Type 0) → Bool → J → Bool → Type 0
+  IsToDrop may_answer was_cancelled value to_drop = (marked : Bool) × may_answer value marked × (to_drop ≡ (was_cancelled || marked))
+
+  -- The front job is taken, to be run or to be dropped: its value comes out, and the pool grows by the jobs that are left
+  -- in the queue.
+  pub record TakesFront (may_mark : J → Bool → Type 0) (may_answer : ℕ → Bool → Type 0) (before after : ℕ) (old : Pool J) (number : JobNumber) (value : J) (to_drop : Bool) (new : Pool J) : Type 0 where
     pub rest : List ℕ
     pub front : old.queue ≡ number.serial ∷ rest
     pub job : Job J
     pub found : map.get old.jobs number.serial ≡ Some job
     pub place : job.place ≡ number.place
     pub value_is : job.value ≡ Some value
+    pub wanted : IsToDrop may_mark job.cancelled value to_drop
     pub growth : Growth
     pub counts : Counts
     pub grows : Grows may_answer before after (length rest) (busier old.counts) counts growth
     pub after_is : new ≡ record { queue = rest; jobs = map.insert old.jobs number.serial (running job); counts = counts; next_serial = old.next_serial }
 
+  -- jobs stand at the queue's end again, in this order, and one worker is notified
+  abbrev pub requeued : Pool J → List ℕ → Counts → Pool J
+  requeued pool serials counts =
+      record {
+        queue = pool.queue ++ serials;
+        jobs = all_queued_again pool.jobs serials;
+        counts = rung One counts;
+        next_serial = pool.next_serial;
+      }
+
+  -- Jobs that were parked enter again, and the pool grows once, by all jobs that are queued then.
+  pub record EnterAgain (may_answer : ℕ → Bool → Type 0) (before after : ℕ) (old : Pool J) (serials : List ℕ) (new : Pool J) : Type 0 where
+    pub growth : Growth
+    pub counts : Counts
+    pub grows : Grows may_answer before after (length (old.queue ++ serials)) old.counts counts growth
+    pub after_is : new ≡ requeued old serials counts
+
+  -- the pool, in which the job of this serial has changed so
+  abbrev pub with_job : Pool J → ℕ → (Job J → Job J) → Pool J
+  with_job pool serial change = record pool { jobs = amend pool.jobs serial change }
+
   -- a running job is over: it leaves, and its worker is free
   abbrev pub without_job : Pool J → ℕ → Pool J
   without_job pool serial = record pool { jobs = map.remove pool.jobs serial; counts = freer pool.counts }
+
+  -- a running job waits for a wake, and its worker is free
+  abbrev pub parked_in : Pool J → ℕ → J → Pool J
+  parked_in pool serial value = record pool { jobs = amend pool.jobs serial (parked_with value); counts = freer pool.counts }
+
+  -- a running job goes back to the queue's end, since a wake met it; its worker is free, and one is notified
+  abbrev pub returned_in : Pool J → ℕ → J → Pool J
+  returned_in pool serial value =
+      record {
+        queue = pool.queue ++ serial ∷ [];
+        jobs = amend (amend pool.jobs serial (parked_with value)) serial queued_again;
+        counts = rung One (freer pool.counts);
+        next_serial = pool.next_serial;
+      }

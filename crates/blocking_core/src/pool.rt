@@ -1,7 +1,7 @@
 //! A pool of jobs and of the workers that run them, as a value: no thread and no lock.
 //!
 //! docs/RULES.md states the rules that the calls follow, under the names that are cited here.
-ghost use Rattle.std.specs.Prelude.{◌≡◌, ◌<◌, ◌≤◌, ℕ, Bool, length};
+ghost use Rattle.std.specs.Prelude.{◌≡◌, ◌<◌, ◌≤◌, ◌∷◌, [], ℕ, Bool, true, length, Some};
 ghost use Rattle.blocking_core.specs.Growth.{greatest};
 
 mod answer;
@@ -19,7 +19,7 @@ mod token;
 
 use crate::limit::max_threads;
 use crate::pool::counts::Counts;
-use crate::pool::table::Table;
+use crate::pool::table::{Front, Table};
 pub use answer::{Finish, Gone, Refusal, Refused, Took, Waited, Woke};
 pub use bell::{Bell, BellKind};
 pub use job::{Carries, Job, JobStep};
@@ -28,7 +28,7 @@ pub use standing::Standing;
 pub use starter::{StartRefused, Starter};
 use std::alloc::Global;
 use std::marker::Model;
-pub use token::{Turn, WorkerPass};
+pub use token::{Turn, WakeNote, WorkerPass};
 
 /// A pool: the queue of its jobs, a table of the jobs that aren't over, and the counts of its workers.
 #[derive(Drop)]
@@ -39,7 +39,8 @@ pub struct Pool<J: Job> {
 }
 
 impl<J: Job> Model for Pool<J> {
-    ghost use Rattle.blocking_core.specs.Pools.{Pool as Seen, pool_code, IsSound};
+    ghost use Rattle.blocking_core.specs.Pools.{Pool as Seen, pool_code};
+    ghost use Rattle.blocking_core.specs.Tables.{IsWhole};
 
     ghost Value = { Seen J };
 
@@ -47,14 +48,17 @@ impl<J: Job> Model for Pool<J> {
 
     ghost view = { λ p. record { queue = p.table.queue; jobs = p.table.jobs; counts = p.counts; next_serial = p.next_serial } };
 
-    ghost invariant = { λ p. IsSound (record { queue = p.table.queue; jobs = p.table.jobs; counts = p.counts; next_serial = p.next_serial }) };
+    ghost invariant = { λ p. IsWhole p.table p.counts p.next_serial };
 }
 
 impl<J: Job> Pool<J> {
     ghost use Rattle.blocking_core.specs.Pools.{IsSound};
-    ghost use Rattle.blocking_core.specs.PoolAnswers.{pool_of, Adds, Arrives, Takes, Waits, Ends};
+    ghost use Rattle.blocking_core.specs.PoolAnswers.{pool_of, Adds, Arrives, Takes, Wakes, Cancels, Sweeps, Waits, StaysOrStops, Ends};
+    ghost use Rattle.blocking_core.specs.Pools.{EnterAgain};
+    ghost use Rattle.blocking_core.specs.Jobs.{standing_of, is_running_as};
     ghost use Rattle.blocking_core.specs.Counts.{limited, silenced};
     ghost use Rattle.blocking_core.specs.declared.pool.answer.Finish.{Finish};
+    ghost use Rattle.blocking_core.specs.declared.pool.standing.Standing.TheVariants.{Parked};
 
     /// An empty pool, whose jobs and workers are numbered from 1. The setting's number, by
     /// [`max_threads`](crate::limit::max_threads), becomes the limit at the first growth, unless a limit is set before. Takes
@@ -114,48 +118,166 @@ impl<J: Job> Pool<J> {
         Some(WorkerPass::new())
     }
 
-    /// A worker takes the front job, and the pool grows by what is left in the queue; or no job is queued.
+    /// A worker takes the front job, and the pool grows by what is left in the queue; or no job is queued. A job that was
+    /// cancelled, or that bears a mark, is handed out to be dropped, and counts as running until its turn ends.
     pub fn take<S: Starter>(&mut self, pass: WorkerPass, starter: &mut S) -> Took<J>
         requires { self.old.counts.arriving < self.old.counts.idle }
-        ensures answer { Takes (S.may_answer starter.old) (S.refusals starter.old) (S.refusals starter.new) self.old result self.new }
+        ensures answer { Takes J.may_answer (S.may_answer starter.old) (S.refusals starter.old) (S.refusals starter.new) self.old result self.new }
         ensures steady { (n : ℕ) (answer : Bool) → S.may_answer starter.new n answer → S.may_answer starter.old n answer }
     {
-        match self.table.take_first() {
-            None => Took::Idle(pass),
-            Some((no, job)) => {
-                pass.spend();
-                self.counts.begin_job();
-                self.counts.grow(self.table.queue_len(), starter);
-                Took::Run(Turn::new(no), job)
+        let Some(front) = self.table.take_first() else {
+            return Took::Idle(pass);
+        };
+        let Front {
+            no,
+            value,
+            cancelled,
+        } = front;
+        pass.spend();
+        self.counts.begin_job();
+        self.counts.grow(self.table.queue_len(), starter);
+        let marked = value.abandoned();
+        if cancelled || marked {
+            return Took::Drop(Turn::new(no), value);
+        }
+        Took::Run(Turn::new(no), value)
+    }
+
+    /// A wake reaches its job. A parked job stands at the queue's end again, and the pool grows; a running one is marked,
+    /// so that it goes back to the queue where its run ends waiting. Any other job is as it was, and so is the pool where
+    /// the number is no job's.
+    pub fn wake<S: Starter>(&mut self, note: WakeNote, starter: &mut S) -> Woke
+        ensures answer { Wakes (S.may_answer starter.old) (S.refusals starter.old) (S.refusals starter.new) self.old note result self.new }
+        ensures steady { (n : ℕ) (answer : Bool) → S.may_answer starter.new n answer → S.may_answer starter.old n answer }
+    {
+        let no = note.spend();
+        match self.table.standing(no) {
+            Some(Standing::Parked) => {
+                self.enter_again(no, starter);
+                Woke::Entered
             }
+            Some(Standing::Running) => {
+                self.table.mark_woken(no);
+                Woke::Marked
+            }
+            _ => Woke::Nothing,
         }
     }
 
-    /// A turn ends: its job leaves the pool, and its worker is free. A turn whose job isn't running in this pool comes
-    /// back as a stranger's, and the pool is as before.
+    /// Cancels a job: nobody wants it to be run any more. A parked job stands at the queue's end again, and the pool grows; a
+    /// queued or running one is flagged. It is handed out to be dropped when it is taken next, or when its run ends waiting.
+    pub fn cancel<S: Starter>(&mut self, no: JobNo, starter: &mut S) -> Woke
+        ensures answer { Cancels (S.may_answer starter.old) (S.refusals starter.old) (S.refusals starter.new) self.old no result self.new }
+        ensures steady { (n : ℕ) (answer : Bool) → S.may_answer starter.new n answer → S.may_answer starter.old n answer }
+    {
+        match self.table.standing(no) {
+            Some(Standing::Parked) => {
+                self.table.mark_cancelled(no);
+                self.enter_again(no, starter);
+                Woke::Entered
+            }
+            Some(Standing::Queued | Standing::Running) => {
+                self.table.mark_cancelled(no);
+                Woke::Marked
+            }
+            _ => Woke::Nothing,
+        }
+    }
+
+    // Lets a parked job enter again, and the pool grow.
+    fn enter_again<S: Starter>(&mut self, no: JobNo, starter: &mut S)
+        requires { standing_of self.old.jobs no ≡ Some Parked }
+        ensures again { EnterAgain (S.may_answer starter.old) (S.refusals starter.old) (S.refusals starter.new) self.old (no.serial ∷ []) self.new }
+        ensures steady { (n : ℕ) (answer : Bool) → S.may_answer starter.new n answer → S.may_answer starter.old n answer }
+    {
+        self.table.enter_again(no);
+        self.counts.grow(self.table.queue_len(), starter);
+        self.counts.ring_one();
+    }
+
+    /// Puts the parked jobs that bear a mark back at the queue's end, in the order in which they were accepted, and answers
+    /// how many they were. Where there were any, the pool grows once. This is the one call that goes through all jobs.
+    pub fn sweep<S: Starter>(&mut self, starter: &mut S) -> usize
+        ensures answer { Sweeps J.may_answer (S.may_answer starter.old) (S.refusals starter.old) (S.refusals starter.new) self.old result self.new }
+        ensures steady { (n : ℕ) (answer : Bool) → S.may_answer starter.new n answer → S.may_answer starter.old n answer }
+    {
+        let before = self.table.queue_len();
+        self.table.sweep();
+        let count = self.table.queue_len() - before;
+        if count == 0 {
+            return 0;
+        }
+        self.counts.grow(self.table.queue_len(), starter);
+        self.counts.ring_one();
+        count
+    }
+
+    /// A turn ends. A job that is over leaves the pool, and a job that waits is parked, or goes back to the queue's end
+    /// where a wake met it since it was taken; the worker is free. A job that waits and was cancelled, or bears a mark, is
+    /// handed out to be dropped, and its turn goes on until then. A turn whose job isn't running in this pool comes back as
+    /// a stranger's, with the job that came with it, and the pool is as before.
     pub fn end(&mut self, turn: Turn, finish: Finish<J>) -> Gone<J>
-        requires { finish ≡ Finish.Done }
-        ensures { Ends self.old turn result self.new }
+        ensures { Ends J.may_answer self.old turn finish result self.new }
     {
         if !self.table.is_running(turn.job()) {
-            return Gone::Stranger(turn, None);
+            return Gone::Stranger(turn, finish.into_value());
         }
-        self.table.remove(turn.spend());
+        match finish {
+            Finish::Done | Finish::Dropped => {
+                self.table.remove(turn.spend());
+                self.counts.end_job();
+                Gone::Free(WorkerPass::new())
+            }
+            Finish::Waiting(value) => self.end_waiting(turn, value),
+        }
+    }
+
+    // Ends the turn of a running job that waits.
+    fn end_waiting(&mut self, turn: Turn, value: J) -> Gone<J>
+        requires { is_running_as self.old.jobs turn ≡ true }
+        ensures { Ends J.may_answer self.old turn (Finish.Waiting value) result self.new }
+    {
+        let Some(found) = self.table.find(turn.job()) else {
+            unreachable!()
+        };
+        let marked = value.abandoned();
+        if found.cancelled || marked {
+            return Gone::Drop(turn, value);
+        }
+        let no = turn.spend();
+        self.table.park(no, value);
         self.counts.end_job();
+        if !found.woken {
+            return Gone::Free(WorkerPass::new());
+        }
+        self.table.enter_again(no);
+        self.counts.ring_one();
         Gone::Free(WorkerPass::new())
     }
 
-    /// An idle worker has waited, and stays or stops: it stops where there are more workers than the limit, or where its
-    /// wait timed out and no job is queued. Only where it stops no pass comes back.
+    /// An idle worker has waited, and stays or stops. Where its wait timed out, it sweeps first. It stops where there are then
+    /// more workers than the limit, or where its wait timed out and no job is queued. Only where it stops no pass comes back.
     pub fn after_wait<S: Starter>(
         &mut self,
         pass: WorkerPass,
         timed_out: bool,
-        _starter: &mut S,
+        starter: &mut S,
     ) -> Waited
         requires { self.old.counts.arriving < self.old.counts.idle }
-        ensures answer { Waits timed_out self.old result self.new }
-        ensures starter { _starter.new ≡ _starter.old }
+        ensures answer { Waits J.may_answer (S.may_answer starter.old) (S.refusals starter.old) (S.refusals starter.new) timed_out self.old result self.new }
+        ensures steady { (n : ℕ) (answer : Bool) → S.may_answer starter.new n answer → S.may_answer starter.old n answer }
+    {
+        if !timed_out {
+            return self.stay_or_stop(pass, false);
+        }
+        self.sweep(starter);
+        self.stay_or_stop(pass, true)
+    }
+
+    // Lets a worker that has waited stay or stop.
+    fn stay_or_stop(&mut self, pass: WorkerPass, timed_out: bool) -> Waited
+        requires { self.old.counts.arriving < self.old.counts.idle }
+        ensures { StaysOrStops timed_out self.old result self.new }
     {
         let is_queued = self.table.queue_len() > 0;
         if !self.counts.is_over_limit() && (is_queued || !timed_out) {

@@ -34,6 +34,8 @@ pub enum Woke {
 pub enum Took<J> {
     /// The front job, to be run.
     Run(Turn, J),
+    /// The front job, to be dropped: it was cancelled, or bears a mark.
+    Drop(Turn, J),
     /// No job is queued.
     Idle(WorkerPass),
 }
@@ -57,10 +59,27 @@ pub enum Finish<J: Drop> {
     Waiting(J),
 }
 
+impl<J: Drop> Finish<J> {
+    ghost use Rattle.std.specs.Prelude.{◌≡◌};
+    ghost use Rattle.blocking_core.specs.PoolAnswers.{value_of};
+
+    // The job that waits.
+    pub(crate) fn into_value(self) -> Option<J>
+        ensures { result ≡ value_of self }
+    {
+        match self {
+            Finish::Waiting(value) => Some(value),
+            Finish::Done | Finish::Dropped => None,
+        }
+    }
+}
+
 /// What the end of a turn leaves the worker with.
 pub enum Gone<J> {
     /// The worker is free.
     Free(WorkerPass),
+    /// The job that waits was cancelled, or bears a mark: it is to be dropped, and runs until then.
+    Drop(Turn, J),
     /// The job of this turn isn't running in this pool: the turn comes back, with the job if there was one.
     Stranger(Turn, Option<J>),
 }

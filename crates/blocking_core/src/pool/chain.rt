@@ -1,6 +1,6 @@
 //! A list of places in which a place is added at the end and taken out anywhere, each at the same cost.
 ghost use Rattle.std.specs.Prelude.{◌≡◌, ◌+◌, ◌-◌, ◌<◌, ◌≤◌, ◌++◌, ◌∷◌, [], true, false, length, vec_len, is_some, IfSome, OnOk, OnErr, slice_index_or};
-ghost use Rattle.blocking_core.specs.Chain.{is_in, without, first_of, IsOnce};
+ghost use Rattle.blocking_core.specs.Chain.{is_in, without, first_of, rest_after, IsOnce};
 ghost use Rattle.blocking_core.specs.Rings.{node_after, node_before, Joins, IsInserted};
 
 use std::alloc::{AllocError, Global};
@@ -132,5 +132,17 @@ impl Chain {
             return None;
         }
         Some(self.links[ENDS].after - 1)
+    }
+
+    /// The place after this one.
+    pub(crate) fn after(&self, place: usize) -> Option<usize>
+        requires { is_in place self.now.places ≡ true }
+        ensures { result ≡ first_of (rest_after place self.now.places) }
+    {
+        let node = self.links[place + 1].after;
+        if node == ENDS {
+            return None;
+        }
+        Some(node - 1)
     }
 }

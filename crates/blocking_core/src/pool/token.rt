@@ -52,3 +52,41 @@ impl WorkerPass {
         let WorkerPass(()) = self;
     }
 }
+
+/// A wake that is due to a job. It has no `Drop`: it has to be spent by [`Pool::wake`](crate::pool::Pool::wake).
+pub struct WakeNote {
+    no: JobNo,
+}
+
+impl Model for WakeNote {
+    ghost use Rattle.blocking_core.specs.Jobs.{JobNumber};
+
+    ghost Value = { JobNumber };
+
+    ghost view = { λ note. note.no };
+}
+
+impl WakeNote {
+    ghost use Rattle.std.specs.Prelude.{◌≡◌};
+
+    /// A wake of the job of this number.
+    pub fn new(no: JobNo) -> WakeNote
+        ensures { result ≡ no }
+    {
+        WakeNote { no }
+    }
+
+    /// The number of the job.
+    pub fn job(&self) -> JobNo
+        ensures { result ≡ self.now }
+    {
+        self.no
+    }
+
+    pub(crate) fn spend(self) -> JobNo
+        ensures { result ≡ self }
+    {
+        let WakeNote { no } = self;
+        no
+    }
+}

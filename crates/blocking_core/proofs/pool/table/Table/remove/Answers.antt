@@ -1,21 +1,24 @@
-use Rattle.std.proofs.Common.{◌≡◌, sym, subst, ap, ◌∙◌, true, None}
-use Rattle.std.specs.FinMap.{remove}
-use Rattle.slab.specs.Slab.{Updates}
-use Rattle.blocking_core.specs.Jobs.{is_running_as}
-use Rattle.blocking_core.proofs.TableLemmas.{Removes, removes}
+use Rattle.blocking_core.proofs.RollLemmas.{running_job, is_accepted, Leaves, leaves}
 use Rattle.blocking_core.proofs.pool.table.Table.remove.Goals as goal
 
-done : (g : _) (c : goal.Joined-try_remove g) → Removes c.self.inside.entries c.try_remove.new.self c.self.inside.queue c.args.no.serial
+pub unlink-requires : goal.unlink-requires
+unlink-requires g c =
+    let job = running_job _ c.requires in
+    is_accepted c.self.inside.entries c.self.inside.queue c.self.inside.accepted c.args.self.now c.args.no job.0 c.place-place.result c.self.invariant c.self.view_is job.1 c.place-place.ensures
+
+done : (g : _) (c : goal.After-unlink g) → Leaves c.args.self.now c.try_remove.new.self c.self.inside.queue c.unlink.new.self c.args.no.serial
 done g c =
-    removes c.self.inside.entries c.try_remove.new.self c.self.inside.queue c.args.no c.self.invariant
-    (subst (λ t. is_running_as t.jobs c.args.no ≡ true) (sym c.self.view_is) c.requires)
-    (subst (λ place. Updates c.self.inside.entries c.try_remove.new.self place None) c.place.ensures c.try_remove.ensures.updates)
+    leaves c.self.inside.entries c.try_remove.new.self c.self.inside.queue c.self.inside.accepted c.unlink.new.self c.args.self.now c.args.no c.place-place.result
+    c.self.invariant c.self.view_is c.requires c.place-place.ensures c.try_remove.ensures.updates c.unlink.ensures
 
 pub invariant_of-self : goal.invariant_of-self
-invariant_of-self g c = (done g c).table
+invariant_of-self g c = (done g c).kept
 
 pub returns-clause-queue : goal.returns-clause-queue
-returns-clause-queue g c = (done g c).queue ∙ ap (λ t. t.queue) c.self.view_is
+returns-clause-queue g c = (done g c).queue_is
+
+pub returns-clause-accepted : goal.returns-clause-accepted
+returns-clause-accepted g c = (done g c).accepted_is
 
 pub returns-clause-jobs : goal.returns-clause-jobs
-returns-clause-jobs g c = (done g c).jobs ∙ ap (λ t. remove t.jobs c.args.no.serial) c.self.view_is
+returns-clause-jobs g c = (done g c).jobs_are

@@ -1,0 +1,19 @@
+use Rattle.std.proofs.Common.{refl, sym, true}
+use Rattle.blocking_core.specs.Jobs.{woken}
+use Rattle.blocking_core.proofs.RollLemmas.{some_job, not_vacant, marks}
+use Rattle.blocking_core.proofs.pool.table.Table.mark_woken.Goals as goal
+
+pub unreachable-requires : goal.unreachable-requires
+unreachable-requires g c =
+    let job = some_job _ c.requires in
+    not_vacant c.self.inside.entries c.self.inside.queue c.self.inside.accepted c.args.self.now c.args.no job.0 c.place.result c.self.invariant c.self.view_is job.1 c.place.ensures (sym c.in_default.ensures.value)
+
+pub invariant_of-self : goal.invariant_of-self
+invariant_of-self g c =
+    (marks c.self.inside.entries c.self.inside.queue c.self.inside.accepted c.args.self.now c.args.no c.place.result c.in-Some.entry.now (record c.in-Some.entry.now { woken = true }) woken
+    c.self.invariant c.self.view_is c.requires c.place.ensures (sym c.in-Some.ensures.value) refl refl refl refl).0
+
+pub returns : goal.returns
+returns g c =
+    (marks c.self.inside.entries c.self.inside.queue c.self.inside.accepted c.args.self.now c.args.no c.place.result c.in-Some.entry.now (record c.in-Some.entry.now { woken = true }) woken
+    c.self.invariant c.self.view_is c.requires c.place.ensures (sym c.in-Some.ensures.value) refl refl refl refl).1
