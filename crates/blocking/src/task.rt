@@ -99,6 +99,7 @@ impl<F: Call<Out: Drop>, H: Wait + Copy> Future for Task<F, H> {
     ghost gives = { λ task out. F.may_give out };
 
     fn poll(&mut self, cx: &mut Context<'_>) -> Poll<F::Out>
+        requires { self.old.is_taken ≡ false }
         ensures value { IfReady result F.may_give }
         ensures taken { IfReady result (λ _. self.new.is_taken ≡ true) }
         ensures again { OnPending result (self.new.is_taken ≡ false) }
@@ -176,19 +177,16 @@ impl<F: Call<Out: Drop>, H: Wait + Copy> Cancel<F, H> {
     }
 
     // Gives what was found, unless the slot still waits for its job.
-    fn settle(
-        &mut self,
-        answer: Slotted<F::Out>,
-        pending: Poll<Option<F::Out>>,
-    ) -> Poll<Option<F::Out>>
-        requires { pending ≡ Poll.Pending }
+    fn settle(&mut self, answer: Slotted<F::Out>) -> Poll<Option<F::Out>>
+        requires { self.old.is_taken ≡ false }
         ensures settled { result ≡ settled answer self.old.found }
         ensures taken { IfReady result (λ _. self.new.is_taken ≡ true) }
+        ensures again { OnPending result ((self.new.is_taken ≡ false) × (self.new.found ≡ self.old.found)) }
         ensures waits { OnPending result (self.new ≡ self.old) }
         ensures allowed { IfReady result (λ out. IfSome out F.may_give) }
     {
         match answer {
-            Slotted::Waits(_) => pending,
+            Slotted::Waits(_) => Poll::Pending,
             // (an abandoned slot takes no value)
             Slotted::Value(_) | Slotted::Gone => self.give(),
         }
@@ -209,6 +207,7 @@ impl<F: Call<Out: Drop>, H: Wait + Copy> Future for Cancel<F, H> {
     ghost gives = { λ cancel out. (out ≡ cancel.found) × IfSome out F.may_give };
 
     fn poll(&mut self, cx: &mut Context<'_>) -> Poll<Option<F::Out>>
+        requires { self.old.is_taken ≡ false }
         ensures value { IfReady result (λ out. (out ≡ self.old.found) × IfSome out F.may_give) }
         ensures taken { IfReady result (λ _. self.new.is_taken ≡ true) }
         ensures at_once { OnPending result (self.old.found ≡ None) }
@@ -221,13 +220,13 @@ impl<F: Call<Out: Drop>, H: Wait + Copy> Future for Cancel<F, H> {
         }
         // (the waker of an earlier poll is used again, as by a task)
         let mut waker: Option<Waker> = match self.link.look(&self.rt) {
-            Looked::Value(late) => return self.settle(Slotted::Value(late), cx.yield_now()),
+            Looked::Value(late) => return self.settle(Slotted::Value(late)),
             Looked::Seat(seat) => seat.flatten(),
         };
-        let pending = cx.register(&self.source, &mut waker);
+        let _pending: Poll<Self::Output> = cx.register(&self.source, &mut waker);
         let (answer, spare) = self.link.poll(&self.rt, waker);
         drop(spare);
-        self.settle(answer, pending)
+        self.settle(answer)
     }
 }
 
