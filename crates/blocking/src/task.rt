@@ -19,6 +19,8 @@ use std::sync::{Arc, Wait};
 pub struct Task<F: Call<Out: Drop>, H: Wait + Copy> {
     link: Arc<Link<F>>,
     source: Source,
+    // The waker of a task whose job is gone. It is kept, since one that is dropped wakes.
+    unseated: Option<Waker>,
     is_taken: bool,
     rt: H,
 }
@@ -30,6 +32,7 @@ impl<F: Call<Out: Drop>, H: Wait + Copy> Task<F, H> {
         Task {
             link,
             source: Source::new(),
+            unseated: None,
             is_taken: false,
             rt,
         }
@@ -47,6 +50,7 @@ impl<F: Call<Out: Drop>, H: Wait + Copy> Task<F, H> {
         let Task {
             link,
             source: _,
+            unseated: _,
             is_taken: _,
             rt,
         } = self;
@@ -62,6 +66,7 @@ impl<F: Call<Out: Drop>, H: Wait + Copy> Task<F, H> {
         let Task {
             link,
             source,
+            unseated: _,
             is_taken: _,
             rt,
         } = self;
@@ -76,6 +81,7 @@ impl<F: Call<Out: Drop>, H: Wait + Copy> Drop for Task<F, H> {
         let Task {
             link,
             source: _,
+            unseated: _,
             is_taken,
             rt,
         } = self;
@@ -115,16 +121,19 @@ impl<F: Call<Out: Drop>, H: Wait + Copy> Future for Task<F, H> {
             }
             Looked::Seat(seat) => seat,
         };
-        let mut waker: Option<Waker> = seat.flatten();
+        let mut waker: Option<Waker> = seat.flatten().or(self.unseated.take());
         let pending = cx.register(&self.source, &mut waker);
         let (answer, spare) = self.link.poll(&self.rt, waker);
-        drop(spare);
         match answer {
             Slotted::Value(out) => {
                 self.is_taken = true;
                 Poll::Ready(out)
             }
-            Slotted::Gone | Slotted::Waits(_) => pending,
+            Slotted::Gone => {
+                self.unseated = spare.flatten();
+                pending
+            }
+            Slotted::Waits(_) => pending,
         }
     }
 }
@@ -149,6 +158,7 @@ impl<F: Call<Out: Drop>, H: Wait + Copy> Cancel<F, H> {
     fn new(rt: H, link: Arc<Link<F>>, source: Source, found: Found<F>) -> Cancel<F, H>
         ensures fresh { result.is_taken ≡ false }
         ensures found { result.found ≡ found }
+        ensures source_is { result.source ≡ source }
     {
         Cancel {
             link,

@@ -192,7 +192,11 @@ fn dropped_job_wakes_its_owner(rt: HostRuntime) -> io::Result<()> {
     assert!(rt; !task.is_taken());
     drop(job);
     assert!(rt; mock.is_woken());
-    assert!(rt; matches!(mock.poll(&mut task), Poll::Pending));
+    for _ in 0..3 {
+        assert!(rt; !task.is_taken());
+        assert!(rt; matches!(mock.poll(&mut task), Poll::Pending));
+        assert!(rt; !mock.is_woken());
+    }
     assert!(rt; !task.is_taken());
     assert_eq!(rt; block_on(&rt, task.cancel())?, None);
     Ok(())
