@@ -216,6 +216,16 @@ fn dropped_job_ends_a_cancel(rt: HostRuntime) -> io::Result<()> {
     Ok(())
 }
 
+#[test]
+fn job_that_is_taken_apart_wakes_nobody(rt: HostRuntime) -> io::Result<()> {
+    let (mut task, job) = parted(rt)?;
+    let mock = MockTask::new(&rt)?;
+    assert!(rt; matches!(mock.poll(&mut task), Poll::Pending));
+    assert!(rt; matches!(job.into_call(), Some(Errand::Succeed(1))));
+    assert!(rt; !mock.is_woken());
+    Ok(())
+}
+
 // A job that was accepted.
 fn number<R: Host + 'static>(rt: R) -> io::Result<JobNo> {
     let (task, job) = parted(rt)?;
