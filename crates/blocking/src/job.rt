@@ -2,13 +2,13 @@
 ghost use Rattle.std.specs.Prelude.{◌≡◌, ◌↔◌, Some, None};
 ghost use Rattle.blocking_core.specs.declared.job.Action.{Action};
 
-use crate::slot::{LockedSlot, OwnerWaker};
+use crate::slot::{Link, OwnerWaker};
 use blocking_core::job::{Action, Answer, CallCore};
 use blocking_core::pool::{Carries, Job, JobNo, JobStep};
 use blocking_core::task::{Call, Put};
 use std::marker::Model;
 use std::mem;
-use std::sync::{Arc, Mutex, Wait};
+use std::sync::{Arc, Wait};
 
 // What the job holds for its next action.
 #[derive(Drop)]
@@ -20,11 +20,12 @@ enum Stage<F: Drop, T: Drop> {
 }
 
 /// The job of a call: it makes the call, puts the answer into its slot, wakes the owner, and is done.
-#[derive(Drop)]
+///
+/// One that is dropped before it is done gives its slot up and calls the owner's waker, with no lock held.
 pub struct CallJob<F: Call<Out: Drop> + Drop, H: Wait + Copy> {
     core: CallCore,
     stage: Stage<F, F::Out>,
-    slot: Arc<Mutex<LockedSlot<F>>>,
+    link: Arc<Link<F>>,
     rt: H,
 }
 
@@ -45,25 +46,25 @@ impl<F: Call<Out: Drop> + Drop, H: Wait + Copy> Model for CallJob<F, H> {
 impl<F: Call<Out: Drop> + Drop, H: Wait + Copy> CallJob<F, H> {
     ghost use Rattle.blocking.specs.Calls.{CallSeen, IsAnswered};
 
-    pub(crate) fn new(rt: H, call: F, slot: Arc<Mutex<LockedSlot<F>>>) -> CallJob<F, H>
+    pub(crate) fn new(rt: H, call: F, link: Arc<Link<F>>) -> CallJob<F, H>
         ensures { result ≡ record { next = Action.Call; call = Some call } }
     {
         CallJob {
             core: CallCore::new(),
             stage: Stage::Call(call),
-            slot,
+            link,
             rt,
         }
     }
 
-    /// The call, if it wasn't made yet.
+    /// The call, if it wasn't made yet. The slot stays as it is.
     pub(crate) fn into_call(self) -> Option<F>
         ensures { result ≡ self.call }
     {
         let CallJob {
             core: _,
             stage,
-            slot: _,
+            link: _,
             rt: _,
         } = self;
         match stage {
@@ -90,10 +91,7 @@ impl<F: Call<Out: Drop> + Drop, H: Wait + Copy> CallJob<F, H> {
         let Stage::Finish(value) = mem::replace(&mut self.stage, Stage::Done) else {
             unreachable!()
         };
-        let mut slot = self.slot.lock(&self.rt);
-        let put = slot.put(value);
-        drop(slot);
-        let Put { back, wake } = put;
+        let Put { back, wake } = self.link.put(&self.rt, value);
         // (a value that nobody wants is dropped under no lock)
         drop(back);
         match wake {
@@ -113,6 +111,25 @@ impl<F: Call<Out: Drop> + Drop, H: Wait + Copy> CallJob<F, H> {
             waker.wake();
         }
         self.core.answer(Answer::Delivered);
+    }
+}
+
+impl<F: Call<Out: Drop> + Drop, H: Wait + Copy> Drop for CallJob<F, H> {
+    fn drop(self) {
+        let CallJob {
+            core,
+            stage,
+            link,
+            rt,
+        } = self;
+        // The call, or a value that nobody got, is gone before the owner is told. (a waker that is dropped wakes)
+        drop(stage);
+        if let Action::Done = core.next() {
+            return;
+        }
+        if let Some(Some(waker)) = link.give_up(&rt) {
+            waker.wake();
+        }
     }
 }
 
@@ -136,10 +153,10 @@ impl<F: Call<Out: Drop> + Drop, H: Wait + Copy> Carries<CallJob<F, H>> for CallJ
 }
 
 impl<F: Call<Out: Drop> + Drop, H: Wait + Copy> Job for CallJob<F, H> {
-    ghost use Rattle.std.specs.Prelude.{◌≡◌, false};
     ghost use Rattle.blocking.specs.Calls.{IsAnswered};
 
-    ghost may_answer = { λ _ answer. answer ≡ false };
+    // (another thread may set the mark at any time)
+    ghost may_answer = { λ _ _. Unit {0} };
 
     fn step(&mut self, _me: JobNo) -> JobStep
         ensures answered { IsAnswered self.old.next self.new.next }
@@ -158,6 +175,6 @@ impl<F: Call<Out: Drop> + Drop, H: Wait + Copy> Job for CallJob<F, H> {
     }
 
     fn abandoned(&self) -> bool {
-        false
+        self.link.is_marked()
     }
 }

@@ -14,4 +14,4 @@ mod tests;
 pub use executor::{Executor, set_max_blocking_threads};
 pub use job::CallJob;
 pub use runtime::Runtime;
-pub use task::{Task, unblock};
+pub use task::{Cancel, Task, unblock};

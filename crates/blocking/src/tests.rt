@@ -1,6 +1,9 @@
 //! Calls on real threads.
 ghost use Rattle.std.specs.Prelude.{◌≡◌, false};
 
+mod leaving;
+mod locks;
+
 use super::*;
 use blocking_core::task::Call;
 use futures::executor::block_on;
@@ -31,13 +34,22 @@ const TURNS: u32 = 1_000_000;
 
 fn meet(own: &AtomicBool, other: &AtomicBool) -> bool {
     own.store(true, Ordering::SeqCst);
+    comes(other)
+}
+
+// Whether the flag is set before long.
+fn comes(flag: &AtomicBool) -> bool {
     for _ in 0..TURNS {
-        if other.load(Ordering::SeqCst) {
+        if flag.load(Ordering::SeqCst) {
             return true;
         }
         thread::yield_now();
     }
     false
+}
+
+fn flag<R: Host>(rt: &R) -> io::Result<Arc<AtomicBool>> {
+    Ok(Arc::new(rt.alloc(), AtomicBool::new(false))?)
 }
 
 fn is_worker(rt: &HostRuntime) -> io::Result<bool> {
@@ -119,8 +131,8 @@ fn call_that_sleeps(rt: HostRuntime) -> io::Result<()> {
 
 // Whether two calls that wait for each other both end well: each is run by a worker of its own, and no lock is held.
 fn meet_on<R: Host>(rt: R, executor: &Workers<R>) -> io::Result<bool> {
-    let left = Arc::new(rt.alloc(), AtomicBool::new(false))?;
-    let right = Arc::new(rt.alloc(), AtomicBool::new(false))?;
+    let left = flag(&rt)?;
+    let right = flag(&rt)?;
     let first = Errand::Meet(Arc::try_clone(&left)?, Arc::try_clone(&right)?);
     let first = begun(&rt, executor, first);
     let second = begun(&rt, executor, Errand::Meet(right, left));

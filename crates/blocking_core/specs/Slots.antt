@@ -54,6 +54,19 @@ slot_code {T} {W} value waker =
     code_by (Content T × Option W) (coded× (content_code value) (coded_option waker))
     (λ slot. (slot.content, slot.seat)) (λ parts. record { content = parts.0; seat = parts.1 }) (λ _. refl)
 
+module _ {T : Type 0} where
+  -- what stands in a slot after its owner left: the job of a full or given up one is over
+  abbrev pub without_owner : Content T → Content T
+  without_owner Empty = Abandoned false
+  without_owner (Full value) = Abandoned true
+  without_owner GivenUp = Abandoned true
+  without_owner (Abandoned is_over) = Abandoned is_over
+
+  -- the value that is there, if one is
+  abbrev pub full_with : Content T → Option T
+  full_with (Full value) = Some value
+  full_with other = None
+
 module _ {T W : Type 0} where
   -- nothing yet, and nobody waits
   abbrev pub empty_slot : Slot T W
@@ -76,3 +89,29 @@ module _ {T W : Type 0} where
 
   abbrev pub put_in : Slot T W → T → Put T W
   put_in slot value = answer_of slot.content slot.seat value
+
+  -- the slot after its job was dropped: no value will come any more, and an abandoned one takes note of it
+  abbrev pub slot_without_job : Content T → Option W → Slot T W
+  slot_without_job Empty seat = record { content = GivenUp; seat = None }
+  slot_without_job (Abandoned false) seat = record { content = Abandoned true; seat = None }
+  slot_without_job other seat = record { content = other; seat = seat }
+
+  abbrev pub after_give_up : Slot T W → Slot T W
+  after_give_up slot = slot_without_job slot.content slot.seat
+
+  -- the waker that leaves its seat when the job was dropped: that of an owner to whom nothing came yet
+  abbrev pub waker_out_of : Content T → Option W → Option W
+  waker_out_of Empty seat = seat
+  waker_out_of (Abandoned false) seat = seat
+  waker_out_of other seat = None
+
+  abbrev pub waker_of_give_up : Slot T W → Option W
+  waker_of_give_up slot = waker_out_of slot.content slot.seat
+
+  -- the slot after its owner left: the seat stays as it is
+  abbrev pub after_abandon : Slot T W → Slot T W
+  after_abandon slot = record slot { content = without_owner slot.content }
+
+  -- the value in a slot, which comes back to the owner who leaves
+  abbrev pub value_in : Slot T W → Option T
+  value_in slot = full_with slot.content

@@ -85,7 +85,7 @@ pub struct Put<T: Drop, W: Drop> {
 }
 
 impl<T: Drop, W: Drop> Slot<T, W> {
-    ghost use Rattle.blocking_core.specs.Slots.{empty_slot, after_put, put_in};
+    ghost use Rattle.blocking_core.specs.Slots.{empty_slot, after_put, put_in, after_give_up, waker_of_give_up, after_abandon, value_in};
     ghost use Rattle.blocking_core.specs.SlotAnswers.{Looks, Polls};
 
     /// An empty slot, in whose seat nobody waits.
@@ -167,6 +167,41 @@ impl<T: Drop, W: Drop> Slot<T, W> {
             spare: Some(waker),
         }
     }
+
+    /// The job was dropped: no value will come any more. Answers the waker of an owner who waits, which leaves its seat. An
+    /// abandoned slot notes that its job is over. A slot that is full, given up or over changes nothing and answers None.
+    pub fn give_up(&mut self) -> Option<W>
+        ensures slot { self.new ≡ after_give_up self.old }
+        ensures waker { result ≡ waker_of_give_up self.old }
+    {
+        let content = match self.content {
+            Content::Empty => Content::GivenUp,
+            Content::Abandoned(false) => Content::Abandoned(true),
+            Content::Full(_) | Content::GivenUp | Content::Abandoned(true) => return None,
+        };
+        self.content = content;
+        self.seat.take()
+    }
+
+    /// The owner is gone, and a value that is there comes back. The job of a slot that was full or given up is over. The
+    /// seat stays as it is, and so does a slot that was abandoned before.
+    pub fn abandon(&mut self) -> Option<T>
+        ensures slot { self.new ≡ after_abandon self.old }
+        ensures value { result ≡ value_in self.old }
+    {
+        match mem::replace(&mut self.content, Content::Abandoned(true)) {
+            Content::Full(value) => Some(value),
+            Content::GivenUp => None,
+            Content::Empty => {
+                self.content = Content::Abandoned(false);
+                None
+            }
+            Content::Abandoned(is_over) => {
+                self.content = Content::Abandoned(is_over);
+                None
+            }
+        }
+    }
 }
 
 #[cfg(test)]
@@ -196,5 +231,172 @@ mod tests {
         assert!(rt; matches!(slot.look(), Looked::Seat(None)));
         let _ = slot.put(9);
         assert!(rt; matches!(slot.look(), Looked::Value(9)));
+    }
+
+    #[test]
+    fn dropped_job_wakes_its_owner_once(rt: HostRuntime) {
+        let mut slot: Slot<u32, u8> = Slot::new();
+        let _ = slot.poll(1);
+        assert_eq!(rt; slot.give_up(), Some(1));
+        assert_eq!(rt; slot.give_up(), None);
+        assert_eq!(rt; slot.put(7).back, Some(7));
+        let polled = slot.poll(2);
+        assert!(rt; matches!(polled.answer, Slotted::Gone));
+        assert_eq!(rt; polled.spare, Some(2));
+    }
+
+    #[test]
+    fn value_for_an_owner_who_left_comes_back(rt: HostRuntime) {
+        let mut slot: Slot<u32, u8> = Slot::new();
+        let _ = slot.poll(1);
+        assert_eq!(rt; slot.abandon(), None);
+        assert_eq!(rt; slot.abandon(), None);
+        assert_eq!(rt; slot.poll(2).spare, Some(1));
+        let put = slot.put(7);
+        assert_eq!(rt; put.back, Some(7));
+        assert_eq!(rt; put.wake, Some(2));
+        let again = slot.put(8);
+        assert_eq!(rt; again.back, Some(8));
+        assert_eq!(rt; again.wake, None);
+        assert!(rt; matches!(slot.poll(3).answer, Slotted::Gone));
+    }
+
+    // What stands in a slot. (over: abandoned, and its job is over)
+    #[derive(Clone, Copy, Debug, PartialEq, Eq)]
+    enum Standing {
+        Empty,
+        Full,
+        GivenUp,
+        Abandoned,
+        Over,
+    }
+
+    fn standing_of(slot: &Slot<u32, u8>) -> Standing {
+        match slot.content {
+            Content::Empty => Standing::Empty,
+            Content::Full(_) => Standing::Full,
+            Content::GivenUp => Standing::GivenUp,
+            Content::Abandoned(false) => Standing::Abandoned,
+            Content::Abandoned(true) => Standing::Over,
+        }
+    }
+
+    // A slot that stands so. The waker 1 was seated before, and the value is 7.
+    fn slot_in(standing: Standing) -> Slot<u32, u8> {
+        let mut slot = Slot::new();
+        let _ = slot.poll(1);
+        match standing {
+            Standing::Empty => {}
+            Standing::Full => {
+                let _ = slot.put(7);
+            }
+            Standing::GivenUp => {
+                let _ = slot.give_up();
+            }
+            Standing::Abandoned => {
+                let _ = slot.abandon();
+            }
+            Standing::Over => {
+                let _ = slot.abandon();
+                let _ = slot.give_up();
+            }
+        }
+        slot
+    }
+
+    #[test]
+    fn put_by_standing(rt: HostRuntime) {
+        for (from, back, wake, to) in [
+            (Standing::Empty, None, Some(1), Standing::Full),
+            (Standing::Full, Some(8), None, Standing::Full),
+            (Standing::GivenUp, Some(8), None, Standing::GivenUp),
+            (Standing::Abandoned, Some(8), Some(1), Standing::Over),
+            (Standing::Over, Some(8), None, Standing::Over),
+        ] {
+            let mut slot = slot_in(from);
+            assert_eq!(rt; standing_of(&slot), from);
+            let put = slot.put(8);
+            assert_eq!(rt; put.back, back, "{from:?}");
+            assert_eq!(rt; put.wake, wake, "{from:?}");
+            assert_eq!(rt; standing_of(&slot), to, "{from:?}");
+        }
+    }
+
+    #[test]
+    fn give_up_by_standing(rt: HostRuntime) {
+        for (from, wake, to) in [
+            (Standing::Empty, Some(1), Standing::GivenUp),
+            (Standing::Full, None, Standing::Full),
+            (Standing::GivenUp, None, Standing::GivenUp),
+            (Standing::Abandoned, Some(1), Standing::Over),
+            (Standing::Over, None, Standing::Over),
+        ] {
+            let mut slot = slot_in(from);
+            assert_eq!(rt; slot.give_up(), wake, "{from:?}");
+            assert_eq!(rt; standing_of(&slot), to, "{from:?}");
+            assert_eq!(rt; slot.give_up(), None, "{from:?}");
+            assert_eq!(rt; standing_of(&slot), to, "{from:?}");
+        }
+    }
+
+    #[test]
+    fn abandon_by_standing(rt: HostRuntime) {
+        for (from, value, seat, to) in [
+            (Standing::Empty, None, Some(1), Standing::Abandoned),
+            (Standing::Full, Some(7), None, Standing::Over),
+            (Standing::GivenUp, None, None, Standing::Over),
+            (Standing::Abandoned, None, Some(1), Standing::Abandoned),
+            (Standing::Over, None, None, Standing::Over),
+        ] {
+            let mut slot = slot_in(from);
+            assert_eq!(rt; slot.abandon(), value, "{from:?}");
+            assert_eq!(rt; standing_of(&slot), to, "{from:?}");
+            assert_eq!(rt; slot.abandon(), None, "{from:?}");
+            assert_eq!(rt; standing_of(&slot), to, "{from:?}");
+            assert_eq!(rt; slot.seat, seat, "{from:?}");
+        }
+    }
+
+    #[test]
+    fn poll_by_standing(rt: HostRuntime) {
+        for (from, spare, seat, to) in [
+            (Standing::Empty, Some(1), Some(2), Standing::Empty),
+            (Standing::Full, Some(2), None, Standing::Empty),
+            (Standing::GivenUp, Some(2), None, Standing::GivenUp),
+            (Standing::Abandoned, Some(1), Some(2), Standing::Abandoned),
+            (Standing::Over, Some(2), None, Standing::Over),
+        ] {
+            let mut slot = slot_in(from);
+            let polled = slot.poll(2);
+            let is_as_said = match polled.answer {
+                Slotted::Value(value) => from == Standing::Full && value == 7,
+                Slotted::Gone => from == Standing::GivenUp || from == Standing::Over,
+                Slotted::Waits(_) => from == Standing::Empty || from == Standing::Abandoned,
+            };
+            assert!(rt; is_as_said, "{from:?}");
+            assert_eq!(rt; polled.spare, spare, "{from:?}");
+            assert_eq!(rt; slot.seat, seat, "{from:?}");
+            assert_eq!(rt; standing_of(&slot), to, "{from:?}");
+        }
+    }
+
+    #[test]
+    fn look_by_standing(rt: HostRuntime) {
+        for (from, seat, to) in [
+            (Standing::Empty, Some(1), Standing::Empty),
+            (Standing::Full, None, Standing::Empty),
+            (Standing::GivenUp, None, Standing::GivenUp),
+            (Standing::Abandoned, Some(1), Standing::Abandoned),
+            (Standing::Over, None, Standing::Over),
+        ] {
+            let mut slot = slot_in(from);
+            let is_as_said = match slot.look() {
+                Looked::Value(value) => from == Standing::Full && value == 7,
+                Looked::Seat(waker) => from != Standing::Full && waker == seat,
+            };
+            assert!(rt; is_as_said, "{from:?}");
+            assert_eq!(rt; slot.seat, None, "{from:?}");
+            assert_eq!(rt; standing_of(&slot), to, "{from:?}");
+        }
     }
 }
