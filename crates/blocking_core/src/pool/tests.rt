@@ -2,6 +2,7 @@
 mod waiting;
 
 use super::*;
+use std::alloc::AllocGlobal;
 use std::process::Abort;
 use std::sync::Condvar;
 
@@ -46,7 +47,7 @@ impl Starter for RefusesAt {
     }
 }
 
-fn refuses_at(rt: &HostRuntime, numbers: &'static [u64]) -> RefusesAt {
+fn refuses_at<R: AllocGlobal>(rt: &R, numbers: &'static [u64]) -> RefusesAt {
     RefusesAt {
         numbers,
         refusals: 0,

@@ -1,11 +1,10 @@
 //! Jobs that wait, and jobs that are given up.
 use super::refuses_at;
 use crate::pool::*;
-use std::alloc::AllocError;
+use std::alloc::{AllocError, AllocGlobal};
 use std::process::Abort;
-use std::sync::Arc;
-use std::sync::Condvar;
 use std::sync::atomic::{AtomicBool, Ordering};
+use std::sync::{Arc, Condvar};
 
 // A job with a mark that the test shares.
 #[derive(Drop)]
@@ -34,7 +33,7 @@ struct Bench {
     mark: Arc<AtomicBool>,
 }
 
-fn bench(rt: &HostRuntime, setting: &str) -> Result<Bench, AllocError> {
+fn fresh<R: AllocGlobal + Abort>(rt: &R, setting: &str) -> Result<Bench, AllocError> {
     Ok(Bench {
         pool: Pool::new(rt.alloc(), Some(setting)),
         starter: refuses_at(rt, &[]),
@@ -44,19 +43,19 @@ fn bench(rt: &HostRuntime, setting: &str) -> Result<Bench, AllocError> {
 
 impl Bench {
     // A job whose mark is the shared one, or its own, which nobody sets.
-    fn job(&self, rt: &HostRuntime, number: u32, shared: bool) -> Marked {
+    fn job<R: AllocGlobal + Abort>(&self, rt: &R, number: u32, shared: bool) -> Marked {
         let mark = if shared {
-            Arc::try_clone(&self.mark)
+            Arc::try_clone(&self.mark).ok()
         } else {
-            Arc::new(rt.alloc(), AtomicBool::new(false))
+            Arc::new(rt.alloc(), AtomicBool::new(false)).ok()
         };
         match mark {
-            Ok(mark) => Marked { number, mark },
-            Err(_) => panic!(rt; "no memory for a mark"),
+            Some(mark) => Marked { number, mark },
+            None => panic!(rt; "no memory for a mark"),
         }
     }
 
-    fn add(&mut self, rt: &HostRuntime, number: u32, shared: bool) -> JobNo {
+    fn add<R: AllocGlobal + Abort>(&mut self, rt: &R, number: u32, shared: bool) -> JobNo {
         let job = self.job(rt, number, shared);
         match self.pool.add(job, &mut self.starter) {
             Ok(no) => no,
@@ -120,9 +119,13 @@ impl Bench {
     fn end(&mut self, rt: &impl Abort, turn: Turn, finish: Finish<Marked>) -> WorkerPass {
         match self.pool.end(turn, finish) {
             Gone::Free(pass) => pass,
-            Gone::Drop(turn, _) | Gone::Stranger(turn, _) => {
+            Gone::Drop(turn, _) => {
                 turn.spend();
-                panic!(rt; "the turn goes on")
+                panic!(rt; "the job is to be dropped")
+            }
+            Gone::Stranger(turn, _) => {
+                turn.spend();
+                panic!(rt; "a stranger")
             }
         }
     }
@@ -146,8 +149,27 @@ impl Bench {
         kind
     }
 
+    // Lets a wait time out, and answers the worker's pass where it stays.
+    fn time_out(&mut self, rt: &impl Abort, pass: WorkerPass) -> Option<WorkerPass> {
+        let is_free = self.pool.arriving_count() < self.pool.idle_count();
+        if !is_free {
+            pass.spend();
+            panic!(rt; "no worker is idle")
+        }
+        match self.pool.after_wait(pass, true, &mut self.starter) {
+            Waited::Stay(pass) => Some(pass),
+            Waited::Stop => None,
+        }
+    }
+
     // Adds a job and parks it.
-    fn park(&mut self, rt: &HostRuntime, pass: WorkerPass, number: u32, shared: bool) -> (JobNo, WorkerPass) {
+    fn park<R: AllocGlobal + Abort>(
+        &mut self,
+        rt: &R,
+        pass: WorkerPass,
+        number: u32,
+        shared: bool,
+    ) -> (JobNo, WorkerPass) {
         let no = self.add(rt, number, shared);
         let (turn, job) = self.run(rt, pass, number);
         let pass = self.end(rt, turn, Finish::Waiting(job));
@@ -156,8 +178,8 @@ impl Bench {
 }
 
 // A pool of limit 1 whose one worker has arrived and run a first job to its end.
-fn ready(rt: &HostRuntime) -> Result<(Bench, WorkerPass), AllocError> {
-    let mut bench = bench(rt, "1")?;
+fn ready<R: AllocGlobal + Abort>(rt: &R) -> Result<(Bench, WorkerPass), AllocError> {
+    let mut bench = fresh(rt, "1")?;
     bench.add(rt, 0, false);
     let pass = bench.arrive(rt);
     let (turn, job) = bench.run(rt, pass, 0);
@@ -169,7 +191,7 @@ fn ready(rt: &HostRuntime) -> Result<(Bench, WorkerPass), AllocError> {
 
 #[test]
 fn job_woken_while_it_runs_goes_back(rt: HostRuntime) -> Result<(), AllocError> {
-    let mut bench = bench(&rt, "1")?;
+    let mut bench = fresh(&rt, "1")?;
     let a = bench.add(&rt, 1, false);
     let pass = bench.arrive(&rt);
     let (turn, job) = bench.run(&rt, pass, 1);
@@ -202,7 +224,10 @@ fn wake_of_a_queued_or_finished_job_does_nothing(rt: HostRuntime) -> Result<(), 
     bench.end(&rt, turn, Finish::Done).spend();
     bench.rung();
     assert_eq!(rt; bench.wake(a), Woke::Nothing);
-    assert_eq!(rt; (bench.pool.queue_len(), bench.rung()), (0, BellKind::Silent));
+    assert_eq!(rt;
+        (bench.pool.queue_len(), bench.rung()),
+        (0, BellKind::Silent)
+    );
     Ok(())
 }
 
@@ -277,7 +302,10 @@ fn sweep_puts_marked_jobs_back(rt: HostRuntime) -> Result<(), AllocError> {
     assert_eq!(rt; bench.sweep(), 1);
     assert_eq!(rt; bench.rung(), BellKind::One);
     assert_eq!(rt; bench.sweep(), 0);
-    assert_eq!(rt; (bench.pool.queue_len(), bench.rung()), (1, BellKind::Silent));
+    assert_eq!(rt;
+        (bench.pool.queue_len(), bench.rung()),
+        (1, BellKind::Silent)
+    );
     bench.discard(&rt, pass, 2).spend();
     Ok(())
 }
@@ -310,17 +338,12 @@ fn timeout_sweeps_first(rt: HostRuntime) -> Result<(), AllocError> {
     let (mut bench, pass) = ready(&rt)?;
     let (_, pass) = bench.park(&rt, pass, 1, true);
     bench.mark.store(true, Ordering::SeqCst);
-    let is_free = bench.pool.arriving_count() < bench.pool.idle_count();
-    if !is_free {
-        pass.spend();
-        panic!(&rt; "no worker is idle")
-    }
-    match bench.pool.after_wait(pass, true, &mut bench.starter) {
-        Waited::Stay(pass) => {
+    match bench.time_out(&rt, pass) {
+        Some(pass) => {
             bench.discard(&rt, pass, 1).spend();
             Ok(())
         }
-        Waited::Stop => panic!(&rt; "the worker stops beside a marked job"),
+        None => panic!(&rt; "the worker stops beside a marked job"),
     }
 }
 
@@ -333,8 +356,14 @@ fn stale_note_changes_nothing(rt: HostRuntime) -> Result<(), AllocError> {
     drop(job);
     let pass = bench.end(&rt, turn, Finish::Done);
     let (new, pass) = bench.park(&rt, pass, 2, false);
-    assert_eq!(rt; (old.place(), old.serial()), (new.place(), new.serial() - 1));
-    assert_eq!(rt; (bench.wake(old), bench.cancel(old)), (Woke::Nothing, Woke::Nothing));
+    assert_eq!(rt;
+        (old.place(), old.serial()),
+        (new.place(), new.serial() - 1)
+    );
+    assert_eq!(rt;
+        (bench.wake(old), bench.cancel(old)),
+        (Woke::Nothing, Woke::Nothing)
+    );
     assert_eq!(rt; bench.pool.queue_len(), 0);
     assert_eq!(rt; bench.wake(new), Woke::Entered);
     let (turn, _) = bench.run(&rt, pass, 2);
