@@ -5,10 +5,9 @@ use Rattle.blocking_core.specs.declared.pool.standing.Standing.TheVariants.{Queu
 use Rattle.blocking_core.specs.Growth.{greatest}
 use Rattle.blocking_core.specs.Wakes.{wake_of, cancel_of}
 use Rattle.blocking_world.specs.Jobs.{accepted_jobs, standing, is_to_drop, is_woken}
-use Rattle.blocking_world.specs.Queue.{to_sweep, ready, queue, InOrder}
+use Rattle.blocking_world.specs.Queue.{to_sweep, ready, queue}
 use Rattle.blocking_world.specs.Counts.{starts, arrivals, workers, limit}
-use Rattle.blocking_world.specs.Growth.{GrowthLaw}
-use Rattle.blocking_world.specs.Turns.{Turn, GoesOn, IsWaiting, MustGiveUp, HasGivenUp, turn, HoldsOne, is_job_act, ActsInTurn}
+use Rattle.blocking_world.specs.Turns.{Turn, GoesOn, IsWaiting, MustGiveUp, HasGivenUp, turn}
 use Rattle.blocking_world.specs.declared.event.Act.{Act}
 use Rattle.blocking_world.specs.declared.event.Act.TheVariants.{Accepted, Refused, JobWoken, JobCancelled, Swept, Arrived, Took, TookDropped, TookNone, Stays, Stopped, Ended, HandedOut}
 use Rattle.blocking_world.specs.declared.event.Moment.{Moment}
@@ -61,10 +60,6 @@ PoolAnswers setting past now (Refused NoWorker) = 1 + length (accepted_jobs past
 PoolAnswers setting past now (Refused Numbers) = 1 + length (accepted_jobs past) ≡ greatest
 PoolAnswers setting past now _ = Unit {0}
 
--- The law of the pool, over all that was seen.
-pub record PoolLaw (setting : ℕ) (marks : List Bool) (past : List Moment) (now : Moment) : Type 0 where
-  pub growth : GrowthLaw setting marks past now
-  pub answers : PoolAnswers setting past now now.event.act
-  pub one : HoldsOne past now.event now.event.act
-  pub turns : ActsInTurn (is_job_act now.event) past now.event
-  pub order : InOrder (now ∷ past)
+-- The law of answers.
+abbrev pub AnswerLaw : ℕ → List Moment → Moment → Type 0
+AnswerLaw setting past now = PoolAnswers setting past now now.event.act

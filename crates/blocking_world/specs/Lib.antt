@@ -13,3 +13,4 @@ pub mod TaskLaws
 pub mod Wakes
 pub mod Steps
 pub mod Legal
+pub mod Traces

@@ -87,3 +87,8 @@ is_job_act now = has_job now.job && not (is_of_pool now.act)
 abbrev pub ActsInTurn : Bool → List Moment → Event → Type 0
 ActsInTurn false past now = Unit {0}
 ActsInTurn true past now = (hand_of past now.party ≡ now.job) × FitsTurnOf now.job past now.act
+
+-- The law of turns.
+pub record TurnLaw (past : List Moment) (now : Moment) : Type 0 where
+  pub one : HoldsOne past now.event now.event.act
+  pub acts : ActsInTurn (is_job_act now.event) past now.event

@@ -6,6 +6,7 @@
 #![tactic(auto)]
 
 pub mod event;
+pub mod laws;
 pub mod step;
 mod text;
 
