@@ -50,9 +50,13 @@ Keeps Holds past now = Holds (past ▸ now)
 abbrev pub IsPooled : ℕ → List Bool → List Moment → Type 0
 IsPooled setting marks past = EachMayFollow (PoolLaw setting marks) past
 
+-- the law of this task, whose job is the second number
+abbrev pub LawOfTask : ℕ → ℕ → List Moment → Moment → Type 0
+LawOfTask k s past now = TaskLaw s (task_cut k s (events past)) now.event
+
 -- the law of the first task, whose job is the first
 abbrev pub FirstTaskLaw : List Moment → Moment → Type 0
-FirstTaskLaw past now = TaskLaw 1 (task_cut 0 1 (events past)) now.event
+FirstTaskLaw past now = LawOfTask 0 1 past now
 
 -- ---- a call
 

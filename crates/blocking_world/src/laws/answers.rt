@@ -47,6 +47,10 @@ pub fn takes()
     // accepted 1 +1 / arrived 1 / took 1 dropped
     ensures refuses_drop_unasked { Refuses (AnswerLaw 1) one_arrived
         (moment (Take 1) (Worker 1) (Some 1) (TookDropped 1) 2) }
+    // accepted 1 +1 / arrived 1 / accepted 2 / dropped (of job 2) / took 1 dropped
+    ensures refuses_drop_of_other { Refuses (AnswerLaw 1) (two_queued
+        ▸ moment (OfTask 1 Drop) (Task 1) None HolderDropped 2)
+        (moment (Take 1) (Worker 1) (Some 1) (TookDropped 1) 2) }
 {}
 
 /// Jobs are taken in the order in which they entered: the headline's own sentence, apart from what each take answers.

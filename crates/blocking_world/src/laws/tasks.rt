@@ -3,13 +3,13 @@ ghost use Rattle.std.specs.Prelude.{[], Some, None, true, false};
 ghost use Rattle.blocking_core.specs.declared.pool.standing.Standing.TheVariants.{Parked, Done, Dropped};
 ghost use Rattle.blocking_world.specs.Wakes.{NoLostWake};
 ghost use Rattle.blocking_world.specs.Legal.{Legal};
-ghost use Rattle.blocking_world.specs.Traces.{◌▸◌, moment, Refuses, Keeps, FirstTaskLaw};
+ghost use Rattle.blocking_world.specs.Traces.{◌▸◌, moment, Refuses, Keeps, FirstTaskLaw, LawOfTask};
 ghost use Rattle.blocking_world.specs.Traces.{one_queued, one_taken, one_answered, one_finished, one_done, one_got};
 ghost use Rattle.blocking_world.specs.Traces.{awaited, awaited_finished, untold_finished};
 ghost use Rattle.blocking_world.specs.Traces.{dropped_taken, dropped_running, cancelled_finished, cancelled_given_up};
-ghost use Rattle.blocking_world.specs.declared.event.Act.TheVariants.{Waits, TaskGot, TaskGotNone, TaskCancelled, TaskDetached, HolderDropped, Ended, JobParked, Finished, GaveUp, HolderWoken};
-ghost use Rattle.blocking_world.specs.declared.event.Party.TheVariants.{Task, Worker};
-ghost use Rattle.blocking_world.specs.declared.step.Step.TheVariants.{OfTask, Job, End};
+ghost use Rattle.blocking_world.specs.declared.event.Act.TheVariants.{Accepted, Waits, TaskGot, TaskGotNone, TaskCancelled, TaskDetached, HolderDropped, Ended, JobParked, Finished, GaveUp, HolderWoken};
+ghost use Rattle.blocking_world.specs.declared.event.Party.TheVariants.{Task, Worker, Pool};
+ghost use Rattle.blocking_world.specs.declared.step.Step.TheVariants.{Spawn, OfTask, Job, End};
 ghost use Rattle.blocking_world.specs.declared.step.TaskCall.TheVariants.{Poll, Cancel, Detach, Drop};
 
 /// The job of a call is answered, finishes, calls the waker that it took, and is over; or it gives up, where its task let it
@@ -80,6 +80,10 @@ pub fn places()
     // .. / answered 5 / finished / got 6
     ensures refuses_other_answer { Refuses FirstTaskLaw one_finished
         (moment (OfTask 0 Poll) (Task 0) None (TaskGot 6) 2) }
+    // .. / answered 5 / finished / accepted 2 / got 5, by the task of job 2
+    ensures refuses_answer_of_other_task { Refuses (LawOfTask 1 2) (one_finished
+        ▸ moment Spawn Pool None (Accepted 2) 2)
+        (moment (OfTask 1 Poll) (Task 1) None (TaskGot 5) 2) }
     // .. / answered 5 / finished / got none
     ensures refuses_lost_answer { Refuses FirstTaskLaw one_finished
         (moment (OfTask 0 Poll) (Task 0) None TaskGotNone 2) }
