@@ -36,6 +36,10 @@ starting count now = record now { event = record now.event { started = count } }
 abbrev pub refusing : Moment → Moment
 refusing now = record now { event = record now.event { start_refused = true } }
 
+-- the same, told of this owner
+abbrev pub of_owner : ℕ → Moment → Moment
+of_owner h now = record now { event = record now.event { owner = Some h } }
+
 -- ---- what is said of them
 
 -- A law refuses this moment after this past.

@@ -29,6 +29,10 @@ pub fn takes()
     // .. / accepted 2 / delivered 1 marked / parked / ended 1 queued / took 2
     ensures accepts_front_before_woken { IsPooled 1 [] (queued_again
         ▸ moment (Take 1) (Worker 1) (Some 2) (Took 2) 2) }
+    // accepted 1 +1 / arrived 1 / accepted 2 / dropped (of job 2) / took 1
+    ensures accepts_front_beside_dropped { Legal 1 [] (two_queued
+        ▸ moment (OfTask 1 Drop) (Task 1) None HolderDropped 2
+        ▸ moment (Take 1) (Worker 1) (Some 1) (Took 1) 2) }
     // accepted 1 +1 / arrived 1 / accepted 2 / took 2
     ensures refuses_queue_jumper { Refuses (AnswerLaw 1) two_queued
         (moment (Take 1) (Worker 1) (Some 2) (Took 2) 2) }
@@ -58,6 +62,9 @@ pub fn order()
     // accepted 1 +1 / arrived 1 / accepted 2 / took 1
     ensures accepts_front { InOrder (two_queued
         ▸ moment (Take 1) (Worker 1) (Some 1) (Took 1) 2) }
+    // .. / accepted 2 / delivered 1 marked / parked / ended 1 queued / took 2
+    ensures accepts_front_before_woken { InOrder (queued_again
+        ▸ moment (Take 1) (Worker 1) (Some 2) (Took 2) 2) }
     // accepted 1 +1 / arrived 1 / accepted 2 / took 2
     ensures refuses_queue_jumper { Refuses (Keeps InOrder) two_queued
         (moment (Take 1) (Worker 1) (Some 2) (Took 2) 2) }
@@ -134,6 +141,11 @@ pub fn sweeps()
     ensures accepts_unmarked_left { IsPooled 1 [] (one_parked ▸ moment Sweep Pool None (Swept 0) 2) }
     // .. / ended 1 parked / dropped / swept 1 / took 1 dropped
     ensures accepts_marked { IsPooled 1 [] (dropped_parked
+        ▸ moment Sweep Pool None (Swept 1) 2
+        ▸ moment (Take 1) (Worker 1) (Some 1) (TookDropped 1) 2) }
+    // .. / ended 2 parked / dropped (of job 1) / swept 1 / took 1 dropped
+    ensures accepts_marked_beside_unmarked { IsPooled 1 [] (two_parked
+        ▸ moment (OfTask 0 Drop) (Task 0) None HolderDropped 2
         ▸ moment Sweep Pool None (Swept 1) 2
         ▸ moment (Take 1) (Worker 1) (Some 1) (TookDropped 1) 2) }
     // .. / ended 2 parked / dropped (of job 2) / dropped (of job 1) / swept 2 / took 1 dropped

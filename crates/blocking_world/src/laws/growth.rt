@@ -7,9 +7,9 @@ ghost use Rattle.blocking_world.specs.Legal.{Legal};
 ghost use Rattle.blocking_world.specs.Traces.{◌▸◌, moment, starting, refusing, Refuses, IsPooled};
 ghost use Rattle.blocking_world.specs.Traces.{one_queued, two_queued, five_queued, start_refused};
 ghost use Rattle.blocking_world.specs.Traces.{second_refused, raised_limit};
-ghost use Rattle.blocking_world.specs.declared.event.Act.TheVariants.{Accepted, Refused, Took, Ended};
+ghost use Rattle.blocking_world.specs.declared.event.Act.TheVariants.{Accepted, Refused, Arrived, Took, Ended};
 ghost use Rattle.blocking_world.specs.declared.event.Party.TheVariants.{Worker, Pool};
-ghost use Rattle.blocking_world.specs.declared.step.Step.TheVariants.{Spawn, Take, End};
+ghost use Rattle.blocking_world.specs.declared.step.Step.TheVariants.{Spawn, Arrive, Take, End};
 
 /// What is due is started, once, and no more.
 pub fn due_starts()
@@ -36,6 +36,9 @@ pub fn due_starts()
     // accepted 1 +1 / arrived 1 / accepted 2 / took 1 +1, at limit 1
     ensures refuses_start_past_limit { Refuses (GrowthLaw 1 []) two_queued
         (starting 1 (moment (Take 1) (Worker 1) (Some 1) (Took 1) 2)) }
+    // accepted 1 +1 / arrived 1, told with the number that was started as the next one
+    ensures refuses_number_of_started { Refuses (GrowthLaw 1 []) one_queued
+        (moment Arrive (Worker 1) None (Arrived 1) 1) }
     // .. / delivered 1 marked / parked / ended 1 queued +1
     ensures refuses_growth_by_queuing_again { Refuses (GrowthLaw 1 []) raised_limit
         (starting 1 (moment (End 1) (Worker 1) (Some 1) (Ended 1 Queued) 2)) }

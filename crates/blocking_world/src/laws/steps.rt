@@ -3,7 +3,7 @@ ghost use Rattle.std.specs.Prelude.{[], Some, None, true, false};
 ghost use Rattle.blocking_core.specs.declared.pool.answer.Woke.TheVariants.{Marked, Nothing};
 ghost use Rattle.blocking_world.specs.Steps.{StepLaw};
 ghost use Rattle.blocking_world.specs.Legal.{Legal};
-ghost use Rattle.blocking_world.specs.Traces.{◌▸◌, moment, Refuses};
+ghost use Rattle.blocking_world.specs.Traces.{◌▸◌, moment, of_owner, Refuses};
 ghost use Rattle.blocking_world.specs.Traces.{one_queued, one_arrived, one_taken, one_answered, one_finished, one_done};
 ghost use Rattle.blocking_world.specs.Traces.{one_got, dropped, cancelled_given_up};
 ghost use Rattle.blocking_world.specs.declared.event.Act.TheVariants.{JobWoken, JobCancelled, LimitSet, Swept, Waits, TaskCancelled, TaskDetached, Arrived, Took, TookNone, Stays, Answered, Finished, NoAction};
@@ -100,6 +100,9 @@ pub fn events()
     // .. / answered 5 / finished, said to be of job 2
     ensures refuses_job_of_other { Refuses StepLaw one_answered
         (moment (Job 1) (Worker 1) (Some 2) (Finished false) 2) }
+    // .. / answered 5 / finished, said to be of owner 0
+    ensures refuses_owner_of_call { Refuses StepLaw one_answered
+        (of_owner 0 (moment (Job 1) (Worker 1) (Some 1) (Finished false) 2)) }
     // accepted 1 +1 / arrived 1 / took 1, said to be of no job
     ensures refuses_take_of_no_job { Refuses StepLaw one_arrived
         (moment (Take 1) (Worker 1) None (Took 1) 2) }

@@ -64,6 +64,10 @@ pub fn places()
     // .. / answered 5 / finished / got 5: it need not be ended
     ensures accepts_answer_at_once { Legal 1 [] (one_finished
         ▸ moment (OfTask 0 Poll) (Task 0) None (TaskGot 5) 2) }
+    // .. / finished / accepted 2 / waits, by the task of job 2
+    ensures accepts_wait_of_other_task { Legal 1 [] (one_finished
+        ▸ moment Spawn Pool None (Accepted 2) 2
+        ▸ moment (OfTask 1 Poll) (Task 1) None Waits 2) }
     // .. / finished / ended 1 done / cancelled / got 5: it was there before the cancel
     ensures accepts_answer_before_cancel { Legal 1 [] (one_done
         ▸ moment (OfTask 0 Cancel) (Task 0) None TaskCancelled 2
@@ -137,6 +141,8 @@ pub fn wakes()
         ▸ moment (End 1) (Worker 1) (Some 1) (Ended 1 Done) 2) }
     // accepted 1 +1 / waits / arrived 1 / took 1 / answered 5: the job still runs
     ensures accepts_wait_for_running { NoLostWake awaited }
+    // .. / waits / .. / answered 5 / finished: the job still runs
+    ensures accepts_wait_until_end { NoLostWake untold_finished }
     // .. / waits / .. / answered 5 / finished / ended 1 done
     ensures refuses_wait_for_done { Refuses (Keeps NoLostWake) untold_finished
         (moment (End 1) (Worker 1) (Some 1) (Ended 1 Done) 2) }
