@@ -1,11 +1,11 @@
 -- A legal past is legal at each beginning, and only a legal past is.
-use Rattle.std.proofs.Common.{◌≡◌, refl, ℕ, ◌+◌, ◌<◌, ◌≤◌, ◌↔◌, ◌||◌, ◌==◌, if◌then◌else◌, Bool, true, false, cond, List, [], ◌∷◌, ◌++◌, length, Option, Some, None, arith, length-append}
+use Rattle.std.proofs.Common.{◌≡◌, refl, ℕ, ◌+◌, ◌≤◌, ◌||◌, ◌==◌, if◌then◌else◌, Bool, true, false, cond, List, [], ◌∷◌, ◌++◌, length, Option, Some, arith, length-append}
 use Rattle.std.proofs.lemmas.Bool.Decides.{nat_tests}
-use mathlib.Core.Path.{subst, sym}
+use mathlib.Core.Path.{subst}
 use Rattle.blocking_world.specs.Seen.{EachMayFollow, AtEveryBeginning, joined, events, task_cut, is_by_task, is_of_job}
 use Rattle.blocking_world.specs.Jobs.{accepts, accepted_by, accepted_jobs, newcomer, holder}
 use Rattle.blocking_world.specs.Answers.{PoolAnswers}
-use Rattle.blocking_world.specs.TaskLaws.{TaskLaw, TaskLaws}
+use Rattle.blocking_world.specs.TaskLaws.{TaskLaw}
 use Rattle.blocking_world.specs.Wakes.{NoLostWake}
 use Rattle.blocking_world.specs.Steps.{StepLaw}
 use Rattle.blocking_world.specs.Legal.{Legal, PoolLaw, LastFollows, HoldsNow, IsLegalThroughout}

@@ -38,7 +38,8 @@ end_answer past s = end_of (turn past s) (is_to_drop past s) (is_woken past s) s
 -- Whether a worker stops after a wait, its sweep and its growth: there are more workers than the limit, or the wait timed
 -- out and no job is queued.
 abbrev pub must_stop : ℕ → List Moment → Moment → Bool → Bool
-must_stop setting past now late = nat_lt (limit setting (now ∷ past)) (workers past + now.event.started) || late && length (queue (now ∷ past)) == 0
+must_stop setting past now late =
+    nat_lt (limit setting (now ∷ past)) (workers past + now.event.started) || late && length (queue (now ∷ past)) == 0
 
 -- What the pool answers, act by act. A wake and a cancel do what the job's standing says; a sweep tells how many jobs it put
 -- back; workers are numbered in the order of their arrival; a new job's serial is one more than the number of jobs that

@@ -55,4 +55,5 @@ limit_by _ before = before
 -- that the setting's.
 abbrev pub limit : ℕ → List Moment → ℕ
 limit setting [] = setting
-limit setting (now ∷ past) = limit_after (limit_by now.event.act (limit setting past)) (workers past + now.event.started) now.event.start_refused
+limit setting (now ∷ past) =
+    limit_after (limit_by now.event.act (limit setting past)) (workers past + now.event.started) now.event.start_refused

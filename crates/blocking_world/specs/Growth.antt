@@ -34,8 +34,11 @@ IsMarked marks n refused = get_or marks (n - 1) false ≡ refused
 abbrev pub StartsRightly : Bool → ℕ → List Bool → List Moment → Moment → Type 0
 StartsRightly false setting marks past now = (now.event.started ≡ 0) × (now.event.start_refused ≡ false)
 StartsRightly true setting marks past now =
-    IsGrowth (StartAnswer (IsMarked marks)) (length (ready (now ∷ past)) + turned_away now.event.act) (workers past - length (running (now ∷ past)))
-    (workers past) (limit setting past) now.event.first (record { started = now.event.started; refused = now.event.start_refused })
+    IsGrowth (StartAnswer (IsMarked marks))
+    (length (ready (now ∷ past)) + turned_away now.event.act)
+    (workers past - length (running (now ∷ past)))
+    (workers past) (limit setting past) now.event.first
+    (record { started = now.event.started; refused = now.event.start_refused })
 
 -- A new job is accepted only where a worker is counted after its growth, and refused for want of one only where none is.
 abbrev pub HasWorker : Act → ℕ → Type 0

@@ -105,7 +105,8 @@ lets_go _ = false
 -- Marked: its holder let it go while it wasn't over.
 abbrev pub is_marked : List Moment → ℕ → Bool
 is_marked [] s = false
-is_marked (now ∷ past) s = lets_go now.event.act && is_holder (holder past s) now.event.party && not (has_ended past s) || is_marked past s
+is_marked (now ∷ past) s =
+    lets_go now.event.act && is_holder (holder past s) now.event.party && not (has_ended past s) || is_marked past s
 
 -- whether the job is to be dropped where it is met next
 abbrev pub is_to_drop : List Moment → ℕ → Bool
@@ -139,4 +140,6 @@ is_parked _ = false
 -- that was never accepted stands nowhere.
 abbrev pub standing : List Moment → ℕ → Option Standing
 standing [] s = None
-standing (now ∷ past) s = if sweeps now.event.act && is_parked (standing past s) && is_marked past s then Some Queued else stands_by now.event.act s (standing past s)
+standing (now ∷ past) s =
+    if sweeps now.event.act && is_parked (standing past s) && is_marked past s then Some Queued
+    else stands_by now.event.act s (standing past s)

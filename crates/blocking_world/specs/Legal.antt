@@ -43,4 +43,5 @@ pub record HoldsNow (setting : ℕ) (marks : List Bool) (past : List Moment) : T
 -- The same as `Legal`, said of every beginning of the trace: however the past is split into a beginning and what came later,
 -- the laws hold at that beginning.
 abbrev pub IsLegalThroughout : ℕ → List Bool → List Moment → Type 0
-IsLegalThroughout setting marks past = (later beginning : List Moment) → past ≡ later ++ beginning → HoldsNow setting marks beginning
+IsLegalThroughout setting marks past =
+    (later beginning : List Moment) → past ≡ later ++ beginning → HoldsNow setting marks beginning

@@ -50,7 +50,8 @@ is_in_time (now ∷ cut) = in_time_by now.act (was_cancelled (own cut)) (is_in_t
 
 -- what a poll of the task is answered
 abbrev pub poll_answer : ℕ → List Event → Act
-poll_answer s cut = poll_task (is_in_time cut) (has_finished (acts_of s cut) || has_given_up (acts_of s cut)) (number (acts_of s cut))
+poll_answer s cut =
+    poll_task (is_in_time cut) (has_finished (acts_of s cut) || has_given_up (acts_of s cut)) (number (acts_of s cut))
 
 -- What a task may do: be cancelled or detached where it wasn't cancelled before, be dropped, or be polled, and then it is
 -- answered what its place answers.
@@ -71,7 +72,8 @@ Calls cut _ act = ⊥
 -- What a call's job may do: what its table says; or give up, where its task let it go and it isn't over, and then too it
 -- takes the waker of its holder where one is seated.
 abbrev pub CallActs : ℕ → List Event → Act → Type 0
-CallActs s cut (GaveUp wake) = (is_let_go (own cut) ≡ true) × (is_over (action_after Calling (acts_of s cut)) ≡ false) × (wake ≡ task_seat cut)
+CallActs s cut (GaveUp wake) =
+    (is_let_go (own cut) ≡ true) × (is_over (action_after Calling (acts_of s cut)) ≡ false) × (wake ≡ task_seat cut)
 CallActs s cut act = Calls cut (next_of_job Calling (acts_of s cut)) act
 
 -- an act of a worker is its job's; any other is the task's, which isn't gone

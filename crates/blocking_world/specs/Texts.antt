@@ -77,4 +77,5 @@ refused_text false number = []
 
 -- the text of an event: its act, the starts, and the start that was refused
 abbrev pub event_text : Event → List ℕ
-event_text event = act_text event.act ++ starts_text event.first event.started ++ refused_text event.start_refused (event.first + event.started)
+event_text event =
+    act_text event.act ++ starts_text event.first event.started ++ refused_text event.start_refused (event.first + event.started)

@@ -8,13 +8,13 @@ use Rattle.blocking_world.specs.Seen.{EachMayFollow, events, task_cut}
 use Rattle.blocking_world.specs.TaskLaws.{TaskLaw}
 use Rattle.blocking_world.specs.Legal.{PoolLaw}
 use Rattle.blocking_world.specs.declared.event.Act.{Act}
-use Rattle.blocking_world.specs.declared.event.Act.TheVariants.{Accepted, Refused, JobWoken, LimitSet, Waits, TaskGot, TaskCancelled, HolderDropped, Arrived, Took, TookDropped, Stopped, Ended, Answered, JobParked, Finished, GaveUp, HolderWoken}
+use Rattle.blocking_world.specs.declared.event.Act.TheVariants.{Accepted, Refused, JobWoken, LimitSet, Waits, TaskGot, TaskCancelled, HolderDropped, Arrived, Took, TookDropped, Ended, Answered, JobParked, Finished, GaveUp}
 use Rattle.blocking_world.specs.declared.event.Moment.{Moment}
 use Rattle.blocking_world.specs.declared.event.Party.{Party}
 use Rattle.blocking_world.specs.declared.event.Party.TheVariants.{Task, Worker, Pool}
 use Rattle.blocking_world.specs.declared.step.Answer.TheVariants.{Number}
 use Rattle.blocking_world.specs.declared.step.Step.{Step}
-use Rattle.blocking_world.specs.declared.step.Step.TheVariants.{Spawn, OfTask, Arrive, Take, Job, Io, End, Late, SetLimit, Stray}
+use Rattle.blocking_world.specs.declared.step.Step.TheVariants.{Spawn, OfTask, Arrive, Take, Job, Io, End, SetLimit, Stray}
 use Rattle.blocking_world.specs.declared.step.TaskCall.TheVariants.{Poll, Cancel, Drop}
 
 -- ---- how they are written
@@ -26,7 +26,8 @@ past ▸ now = now ∷ past
 
 -- a moment with no start: the step, who took it, of which job it is, what was done, and the number of the next start
 abbrev pub moment : Step → Party → Option ℕ → Act → ℕ → Moment
-moment step party job act next = record { step = step; event = record { party = party; owner = None; job = job; act = act; first = next; started = 0; start_refused = false } }
+moment step party job act next =
+    record { step = step; event = record { party = party; owner = None; job = job; act = act; first = next; started = 0; start_refused = false } }
 
 -- the same with so many starts
 abbrev pub starting : ℕ → Moment → Moment

@@ -1,16 +1,15 @@
 //! Legality as a whole.
 ghost use Rattle.std.specs.Prelude.{◌≡◌, ◌↔◌, ◌||◌, ℕ, List, Bool, [], ◌∷◌, Some, None, true, false};
-ghost use Rattle.blocking_world.specs.Seen.{events, task_cut, is_by_task, is_of_job};
+ghost use Rattle.blocking_world.specs.Seen.{is_by_task, is_of_job};
 ghost use Rattle.blocking_world.specs.Jobs.{holder};
 ghost use Rattle.blocking_world.specs.Queue.{InOrder};
 ghost use Rattle.blocking_world.specs.Growth.{GrowthLaw};
 ghost use Rattle.blocking_world.specs.Turns.{TurnLaw};
 ghost use Rattle.blocking_world.specs.Answers.{AnswerLaw};
-ghost use Rattle.blocking_world.specs.TaskLaws.{TaskLaw};
 ghost use Rattle.blocking_world.specs.Wakes.{NoLostWake};
 ghost use Rattle.blocking_world.specs.Steps.{StepLaw};
 ghost use Rattle.blocking_world.specs.Legal.{Legal, IsLegalThroughout};
-ghost use Rattle.blocking_world.specs.Traces.{◌▸◌, moment, starting, Refuses, Keeps, start_refused};
+ghost use Rattle.blocking_world.specs.Traces.{◌▸◌, moment, starting, Refuses, Keeps, LawOfTask, start_refused};
 ghost use Rattle.blocking_world.specs.declared.event.Moment.{Moment};
 ghost use Rattle.blocking_world.specs.declared.event.Act.TheVariants.{Accepted, TaskGot, Arrived, Took, Stopped, Ended, Answered, Finished, NoAction};
 ghost use Rattle.blocking_world.specs.declared.event.Party.TheVariants.{Task, Worker, Pool};
@@ -42,8 +41,9 @@ pub fn refusals()
         Refuses (Keeps NoLostWake) past now → Legal setting marks (past ▸ now) → ⊥ }
     // an event of this task or of its job
     ensures by_task { (setting : ℕ) (marks : List Bool) (past : List Moment) (now : Moment) →
-        (k s : ℕ) → holder (past ▸ now) s ≡ Some (Task k) → (is_by_task k now.event || is_of_job s now.event) ≡ true →
-        (TaskLaw s (task_cut k s (events past)) now.event → ⊥) → Legal setting marks (past ▸ now) → ⊥ }
+        (k s : ℕ) → holder (past ▸ now) s ≡ Some (Task k) →
+        (is_by_task k now.event || is_of_job s now.event) ≡ true →
+        Refuses (LawOfTask k s) past now → Legal setting marks (past ▸ now) → ⊥ }
 {}
 
 /// Whole calls, from the first step to the last.
