@@ -1,5 +1,5 @@
 //! Growth: which starts there are.
-ghost use Rattle.std.specs.Prelude.{[], ◌∷◌, Some, None, true, false};
+ghost use Rattle.std.specs.Prelude.{◌≡◌, ℕ, Bool, List, [], ◌∷◌, Some, None, true, false};
 ghost use Rattle.blocking_core.specs.declared.pool.answer.Refusal.TheVariants.{NoWorker};
 ghost use Rattle.blocking_core.specs.declared.pool.standing.Standing.TheVariants.{Queued};
 ghost use Rattle.blocking_world.specs.Growth.{GrowthLaw};
@@ -7,6 +7,7 @@ ghost use Rattle.blocking_world.specs.Legal.{Legal};
 ghost use Rattle.blocking_world.specs.Traces.{◌▸◌, moment, starting, refusing, Refuses, IsPooled};
 ghost use Rattle.blocking_world.specs.Traces.{one_queued, two_queued, five_queued, start_refused};
 ghost use Rattle.blocking_world.specs.Traces.{second_refused, raised_limit};
+ghost use Rattle.blocking_world.specs.declared.event.Moment.{Moment};
 ghost use Rattle.blocking_world.specs.declared.event.Act.TheVariants.{Accepted, Refused, Arrived, Took, Ended};
 ghost use Rattle.blocking_world.specs.declared.event.Party.TheVariants.{Worker, Pool};
 ghost use Rattle.blocking_world.specs.declared.step.Step.TheVariants.{Spawn, Arrive, Take, End};
@@ -42,6 +43,15 @@ pub fn due_starts()
     // .. / delivered 1 marked / parked / ended 1 queued +1
     ensures refuses_growth_by_queuing_again { Refuses (GrowthLaw 1 []) raised_limit
         (starting 1 (moment (End 1) (Worker 1) (Some 1) (Ended 1 Queued) 2)) }
+{}
+
+/// The law of growth leaves one answer alone: by what was seen before and what was done, the starts are known.
+pub fn one_growth()
+    ensures { (setting : ℕ) (marks : List Bool) (past : List Moment) (now other : Moment) →
+        now.event.act ≡ other.event.act →
+        GrowthLaw setting marks past now → GrowthLaw setting marks past other →
+        (now.event.first ≡ other.event.first) × (now.event.started ≡ other.event.started)
+        × (now.event.start_refused ≡ other.event.start_refused) }
 {}
 
 /// A refused start is told where one is due and refused, is no worker, uses its number up and lowers the limit.
