@@ -8,7 +8,7 @@ use Rattle.blocking_world.specs.Seen.{EachMayFollow, events, task_cut}
 use Rattle.blocking_world.specs.TaskLaws.{TaskLaw}
 use Rattle.blocking_world.specs.Legal.{PoolLaw}
 use Rattle.blocking_world.specs.declared.event.Act.{Act}
-use Rattle.blocking_world.specs.declared.event.Act.TheVariants.{Accepted, Refused, JobWoken, LimitSet, Waits, TaskGot, TaskCancelled, HolderDropped, Arrived, Took, TookDropped, Ended, Answered, JobParked, Finished, GaveUp}
+use Rattle.blocking_world.specs.declared.event.Act.TheVariants.{Accepted, Refused, JobWoken, LimitSet, Waits, TaskGot, TaskCancelled, HolderDropped, Arrived, Took, TookDropped, Ended, Answered, JobParked, Finished, GaveUp, NoAction}
 use Rattle.blocking_world.specs.declared.event.Moment.{Moment}
 use Rattle.blocking_world.specs.declared.event.Party.{Party}
 use Rattle.blocking_world.specs.declared.event.Party.TheVariants.{Task, Worker, Pool}
@@ -152,7 +152,7 @@ cancelled_given_up = one_queued
 abbrev pub two_queued : List Moment
 two_queued = one_arrived ▸ moment Spawn Pool None (Accepted 2) 2
 
--- accepted 1 +1 / arrived 1 / accepted 2 / took 1 +1 / arrived 2, at limit 2
+-- accepted 1 +1 / arrived 1 / accepted 2 / took 1 +2 / arrived 2, at limit 2
 abbrev pub two_workers : List Moment
 two_workers = two_queued
     ▸ starting 1 (moment (Take 1) (Worker 1) (Some 1) (Took 1) 2)
@@ -171,6 +171,10 @@ five_queued = one_queued
 -- refused worker -1
 abbrev pub start_refused : List Moment
 start_refused = [] ▸ refusing (moment Spawn Pool None (Refused NoWorker) 1)
+
+-- refused worker -1 / nothing
+abbrev pub still_unstaffed : List Moment
+still_unstaffed = start_refused ▸ moment Arrive Pool None NoAction 2
 
 -- accepted 1 +1 / accepted 2 / accepted 3 / accepted 4 / accepted 5 / accepted 6 -2
 abbrev pub second_refused : List Moment

@@ -219,7 +219,7 @@ pub fn stops()
     // .. / ended 1 done / stopped 1, timed out
     ensures accepts_stop_by_time { Legal 1 [] (one_done
         ▸ moment (Late 1) (Worker 1) None (Stopped 1 true) 2) }
-    // accepted 1 +1 / arrived 1 / accepted 2 / took 1 +1 / arrived 2 / limit 1 / stopped 2
+    // accepted 1 +1 / arrived 1 / accepted 2 / took 1 +2 / arrived 2 / limit 1 / stopped 2
     ensures accepts_stop_over_limit { Legal 2 [] (two_workers
         ▸ moment (SetLimit 1) Pool None (LimitSet 1) 3
         ▸ moment (Wait 2) (Worker 2) None (Stopped 2 false) 3) }

@@ -5,8 +5,8 @@ ghost use Rattle.blocking_core.specs.declared.pool.standing.Standing.TheVariants
 ghost use Rattle.blocking_world.specs.Growth.{GrowthLaw};
 ghost use Rattle.blocking_world.specs.Legal.{Legal};
 ghost use Rattle.blocking_world.specs.Traces.{◌▸◌, moment, starting, refusing, Refuses, IsPooled};
-ghost use Rattle.blocking_world.specs.Traces.{one_queued, two_queued, five_queued, start_refused};
-ghost use Rattle.blocking_world.specs.Traces.{second_refused, raised_limit};
+ghost use Rattle.blocking_world.specs.Traces.{one_queued, one_arrived, two_queued, five_queued, start_refused};
+ghost use Rattle.blocking_world.specs.Traces.{still_unstaffed, second_refused, raised_limit};
 ghost use Rattle.blocking_world.specs.declared.event.Moment.{Moment};
 ghost use Rattle.blocking_world.specs.declared.event.Act.TheVariants.{Accepted, Refused, Arrived, Took, Ended};
 ghost use Rattle.blocking_world.specs.declared.event.Party.TheVariants.{Worker, Pool};
@@ -16,17 +16,17 @@ ghost use Rattle.blocking_world.specs.declared.step.Step.TheVariants.{Spawn, Arr
 pub fn due_starts()
     // accepted 1 +1
     ensures accepts_first_job { Legal 1 [] one_queued }
-    // accepted 1 +1 / .. / accepted 5 / accepted 6 +1: six jobs beside one idle worker
+    // accepted 1 +1 / .. / accepted 5 / accepted 6 +2: six jobs beside one idle worker
     ensures accepts_sixth_job { Legal 2 [] (five_queued
         ▸ starting 1 (moment Spawn Pool None (Accepted 6) 2)) }
-    // accepted 1 +1 / arrived 1 / accepted 2 / took 1 +1: one job beside no idle worker
+    // accepted 1 +1 / arrived 1 / accepted 2 / took 1 +2: one job beside no idle worker
     ensures accepts_start_at_take { Legal 2 [] (two_queued
         ▸ starting 1 (moment (Take 1) (Worker 1) (Some 1) (Took 1) 2)) }
     // .. / delivered 1 marked / parked / ended 1 queued: six jobs beside one idle worker, below the limit
     ensures accepts_queuing_again_without_growth { IsPooled 1 [] (raised_limit
         ▸ moment (End 1) (Worker 1) (Some 1) (Ended 1 Queued) 2) }
-    // accepted 1 +1 / accepted 2 +1: two jobs beside one idle worker
-    ensures refuses_start_not_due { Refuses (GrowthLaw 2 []) one_queued
+    // accepted 1 +1 / arrived 1 / accepted 2 +2: two jobs beside one idle worker
+    ensures refuses_start_not_due { Refuses (GrowthLaw 2 []) one_arrived
         (starting 1 (moment Spawn Pool None (Accepted 2) 2)) }
     // accepted 1 +1 +2: one job beside one idle worker, once that is started
     ensures refuses_start_twice { Refuses (GrowthLaw 2 []) []
@@ -34,13 +34,13 @@ pub fn due_starts()
     // accepted 1 +1 / arrived 1 / accepted 2 / took 1, at limit 2
     ensures refuses_start_left_out { Refuses (GrowthLaw 2 []) two_queued
         (moment (Take 1) (Worker 1) (Some 1) (Took 1) 2) }
-    // accepted 1 +1 / arrived 1 / accepted 2 / took 1 +1, at limit 1
+    // accepted 1 +1 / arrived 1 / accepted 2 / took 1 +2, at limit 1
     ensures refuses_start_past_limit { Refuses (GrowthLaw 1 []) two_queued
         (starting 1 (moment (Take 1) (Worker 1) (Some 1) (Took 1) 2)) }
     // accepted 1 +1 / arrived 1, told with the number that was started as the next one
     ensures refuses_number_of_started { Refuses (GrowthLaw 1 []) one_queued
         (moment Arrive (Worker 1) None (Arrived 1) 1) }
-    // .. / delivered 1 marked / parked / ended 1 queued +1
+    // .. / delivered 1 marked / parked / ended 1 queued +2
     ensures refuses_growth_by_queuing_again { Refuses (GrowthLaw 1 []) raised_limit
         (starting 1 (moment (End 1) (Worker 1) (Some 1) (Ended 1 Queued) 2)) }
 {}
@@ -56,17 +56,17 @@ pub fn one_growth()
 
 /// A refused start is told where one is due and refused, is no worker, uses its number up and lowers the limit.
 pub fn refused_starts()
-    // refused worker -1 / accepted 1 +2
-    ensures accepts_next_try { Legal 1 (true ∷ []) (start_refused
+    // refused worker -1 / nothing / accepted 1 +2
+    ensures accepts_next_try { Legal 1 (true ∷ []) (still_unstaffed
         ▸ starting 1 (moment Spawn Pool None (Accepted 1) 2)) }
     // accepted 1 +1 / .. / accepted 6 -2 / accepted 7: the limit is 1 now
     ensures accepts_lowered_limit { Legal 3 (false ∷ true ∷ []) (second_refused
         ▸ moment Spawn Pool None (Accepted 7) 3) }
-    // refused worker -1 / accepted 1: the refused start stays counted as a worker
-    ensures refuses_refused_worker { Refuses (GrowthLaw 1 (true ∷ [])) start_refused
+    // refused worker -1 / nothing / accepted 1: the refused start stays counted as a worker
+    ensures refuses_refused_worker { Refuses (GrowthLaw 1 (true ∷ [])) still_unstaffed
         (moment Spawn Pool None (Accepted 1) 2) }
-    // refused worker -1 / accepted 1 +1: the refused start's number is given again
-    ensures refuses_number_again { Refuses (GrowthLaw 1 (true ∷ [])) start_refused
+    // refused worker -1 / nothing / accepted 1 +1: the refused start's number is given again
+    ensures refuses_number_again { Refuses (GrowthLaw 1 (true ∷ [])) still_unstaffed
         (starting 1 (moment Spawn Pool None (Accepted 1) 1)) }
     // accepted 1 +1 / .. / accepted 6 -2 / accepted 7 +3: the limit is forgotten that the refused start left
     ensures refuses_forgotten_limit { Refuses (GrowthLaw 3 (false ∷ true ∷ [])) second_refused

@@ -53,7 +53,9 @@ pub fn nothing()
     ensures refuses_no_end { Refuses StepLaw one_finished
         (moment (End 1) (Worker 1) None NoAction 2) }
     // where there is none
-    ensures refuses_take_by_nobody { Refuses StepLaw one_queued
+    // accepted 1 +1 / waits / idle (nobody has arrived)
+    ensures refuses_take_by_nobody { Refuses StepLaw (one_queued
+        ▸ moment (OfTask 0 Poll) (Task 0) None Waits 2)
         (moment (Take 1) (Worker 1) None TookNone 2) }
     ensures refuses_take_by_busy_worker { Refuses StepLaw one_taken
         (moment (Take 1) (Worker 1) None TookNone 2) }

@@ -14,13 +14,13 @@ ghost use Rattle.blocking_world.specs.declared.step.Step.TheVariants.{Take, Job,
 
 /// One worker at a time runs a job, and a worker one job.
 pub fn hands()
-    // .. / accepted 2 / took 1 +1 / arrived 2 / took 2: two workers, each with its job
+    // .. / accepted 2 / took 1 +2 / arrived 2 / took 2: two workers, each with its job
     ensures accepts_one_each { Legal 2 [] (two_workers
         ▸ moment (Take 2) (Worker 2) (Some 2) (Took 2) 3) }
-    // .. / took 1 +1 / arrived 2 / took 1: a second worker runs the job
+    // .. / took 1 +2 / arrived 2 / took 1: a second worker runs the job
     ensures refuses_second_worker { Refuses TurnLaw two_workers
         (moment (Take 2) (Worker 2) (Some 1) (Took 1) 3) }
-    // .. / took 1 +1 / arrived 2 / took 2 by worker 1, which has job 1
+    // .. / took 1 +2 / arrived 2 / took 2 by worker 1, which has job 1
     ensures refuses_second_job { Refuses TurnLaw two_workers
         (moment (Take 1) (Worker 1) (Some 2) (Took 2) 3) }
     // .. / took 1 / answered 5 / finished / ended 1 done by worker 2
