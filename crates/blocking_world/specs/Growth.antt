@@ -1,11 +1,11 @@
 -- Growth: when the pool grows, which starts are due and which are refused.
-use Rattle.std.specs.Prelude.{◌≡◌, ℕ, ◌+◌, ◌-◌, ◌<◌, min, ◌==◌, not, Bool, true, false, List, ◌∷◌, length, get_or}
+use Rattle.std.specs.Prelude.{◌≡◌, ℕ, ◌+◌, ◌-◌, ◌<◌, min, ◌==◌, not, Bool, true, false, List, [], ◌∷◌, length, get_or, ◌||◌, if◌then◌else◌, Option, Some, None}
 use Rattle.blocking_core.specs.declared.pool.answer.Refusal.TheVariants.{NoWorker}
 use Rattle.blocking_core.specs.Growth.{greatest, StartAnswer, IsGrowth}
 use Rattle.blocking_world.specs.Queue.{entered_by, ready, running}
 use Rattle.blocking_world.specs.Counts.{starts, refused_starts, workers, limit}
 use Rattle.blocking_world.specs.declared.event.Act.{Act}
-use Rattle.blocking_world.specs.declared.event.Act.TheVariants.{Accepted, Refused, Took, TookDropped, Ended}
+use Rattle.blocking_world.specs.declared.event.Act.TheVariants.{Accepted, Refused, LimitSet, Took, TookDropped, Ended}
 use Rattle.blocking_world.specs.declared.event.Moment.{Moment}
 
 -- Whether the pool grows at an act: at a new job, also one that is refused for want of a worker; at a take; and where a
@@ -54,3 +54,19 @@ pub record GrowthLaw (setting : ℕ) (marks : List Bool) (past : List Moment) (n
   pub starting : StartsRightly (grows past now.event.act) setting marks past now
   -- no job is accepted that nobody could run
   pub worker : HasWorker now.event.act (workers past + now.event.started)
+
+-- ---- the limit as it is told
+
+-- whether an act sets the limit
+abbrev pub is_limit_set : Act → Bool
+is_limit_set (LimitSet n) = true
+is_limit_set _ = false
+
+-- whether the limit stands: it was set, or the pool has grown, whatever became of that growth's job
+abbrev pub has_limit : List Moment → Bool
+has_limit [] = false
+has_limit (now ∷ past) = is_limit_set now.event.act || grows past now.event.act || has_limit past
+
+-- the limit as it is told: none, before it stands
+abbrev pub known_limit : ℕ → List Moment → Option ℕ
+known_limit setting past = if has_limit past then Some (limit setting past) else None

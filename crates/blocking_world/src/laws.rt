@@ -6,6 +6,7 @@
 //! are in `specs/Traces.antt`. [`whole::refusals`] says that what one law refuses is in no legal trace.
 
 pub mod answers;
+pub mod definitions;
 pub mod growth;
 pub mod steps;
 pub mod tasks;
