@@ -68,7 +68,7 @@ without_last : {X : Type 0} (MayFollow : List X → X → Type 0) (b : Bool) (x 
 without_last MayFollow true x xs laws = laws.1
 without_last MayFollow false x xs laws = laws
 
-before : (setting : ℕ) (marks : List Bool) (past : List Moment) (now : Moment) → Legal setting marks (now ∷ past) → Legal setting marks past
+pub before : (setting : ℕ) (marks : List Bool) (past : List Moment) (now : Moment) → Legal setting marks (now ∷ past) → Legal setting marks past
 before setting marks past now legal = record {
   steps = legal.steps.1;
   pool = legal.pool.1;

@@ -14,3 +14,4 @@ pub mod Wakes
 pub mod Steps
 pub mod Legal
 pub mod Traces
+pub mod Served

@@ -8,13 +8,13 @@ use Rattle.blocking_world.specs.Seen.{EachMayFollow, events, task_cut}
 use Rattle.blocking_world.specs.TaskLaws.{TaskLaw}
 use Rattle.blocking_world.specs.Legal.{PoolLaw}
 use Rattle.blocking_world.specs.declared.event.Act.{Act}
-use Rattle.blocking_world.specs.declared.event.Act.TheVariants.{Accepted, Refused, JobWoken, LimitSet, Waits, TaskGot, TaskCancelled, HolderDropped, Arrived, Took, TookDropped, Ended, Answered, JobParked, Finished, GaveUp, NoAction}
+use Rattle.blocking_world.specs.declared.event.Act.TheVariants.{Accepted, Refused, JobWoken, LimitSet, Stopped, Waits, TaskGot, TaskCancelled, HolderDropped, Arrived, Took, TookDropped, Ended, Answered, JobParked, Finished, GaveUp, NoAction}
 use Rattle.blocking_world.specs.declared.event.Moment.{Moment}
 use Rattle.blocking_world.specs.declared.event.Party.{Party}
 use Rattle.blocking_world.specs.declared.event.Party.TheVariants.{Task, Worker, Pool}
 use Rattle.blocking_world.specs.declared.step.Answer.TheVariants.{Number}
 use Rattle.blocking_world.specs.declared.step.Step.{Step}
-use Rattle.blocking_world.specs.declared.step.Step.TheVariants.{Spawn, OfTask, Arrive, Take, Job, Io, End, SetLimit, Stray}
+use Rattle.blocking_world.specs.declared.step.Step.TheVariants.{Spawn, OfTask, Arrive, Take, Job, Io, End, Late, SetLimit, Stray}
 use Rattle.blocking_world.specs.declared.step.TaskCall.TheVariants.{Poll, Cancel, Drop}
 
 -- ---- how they are written
@@ -189,6 +189,10 @@ one_waits = one_taken ▸ moment (Job 1) (Worker 1) (Some 1) JobParked 2
 -- accepted 1 +1 / arrived 1 / took 1 / parked / ended 1 parked
 abbrev pub one_parked : List Moment
 one_parked = one_waits ▸ moment (End 1) (Worker 1) (Some 1) (Ended 1 Parked) 2
+
+-- accepted 1 +1 / arrived 1 / took 1 / parked / ended 1 parked / stopped 1
+abbrev pub unstaffed_parked : List Moment
+unstaffed_parked = one_parked ▸ moment (Late 1) (Worker 1) None (Stopped 1 true) 2
 
 -- accepted 1 +1 / arrived 1 / took 1 / delivered 1 marked / parked
 abbrev pub woken_waits : List Moment

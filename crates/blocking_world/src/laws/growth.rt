@@ -2,15 +2,17 @@
 ghost use Rattle.std.specs.Prelude.{◌≡◌, ℕ, Bool, List, [], ◌∷◌, Some, None, true, false};
 ghost use Rattle.blocking_core.specs.declared.pool.answer.Refusal.TheVariants.{NoWorker};
 ghost use Rattle.blocking_core.specs.declared.pool.standing.Standing.TheVariants.{Queued};
+ghost use Rattle.blocking_core.specs.declared.pool.answer.Woke.TheVariants.{Entered};
 ghost use Rattle.blocking_world.specs.Growth.{GrowthLaw};
+ghost use Rattle.blocking_world.specs.Served.{IsServed};
 ghost use Rattle.blocking_world.specs.Legal.{Legal};
-ghost use Rattle.blocking_world.specs.Traces.{◌▸◌, moment, starting, refusing, Refuses, IsPooled};
+ghost use Rattle.blocking_world.specs.Traces.{◌▸◌, moment, starting, refusing, Refuses, Keeps, IsPooled};
 ghost use Rattle.blocking_world.specs.Traces.{one_queued, one_arrived, two_queued, five_queued, start_refused};
-ghost use Rattle.blocking_world.specs.Traces.{still_unstaffed, second_refused, raised_limit};
+ghost use Rattle.blocking_world.specs.Traces.{still_unstaffed, second_refused, raised_limit, unstaffed_parked};
 ghost use Rattle.blocking_world.specs.declared.event.Moment.{Moment};
-ghost use Rattle.blocking_world.specs.declared.event.Act.TheVariants.{Accepted, Refused, Arrived, Took, Ended};
+ghost use Rattle.blocking_world.specs.declared.event.Act.TheVariants.{Accepted, Refused, JobWoken, Arrived, Took, Ended};
 ghost use Rattle.blocking_world.specs.declared.event.Party.TheVariants.{Worker, Pool};
-ghost use Rattle.blocking_world.specs.declared.step.Step.TheVariants.{Spawn, Arrive, Take, End};
+ghost use Rattle.blocking_world.specs.declared.step.Step.TheVariants.{Spawn, Arrive, Take, End, Stray};
 
 /// What is due is started, once, and no more.
 pub fn due_starts()
@@ -89,4 +91,22 @@ pub fn staffed_jobs()
     // accepted 1 +1 / refused worker
     ensures refuses_refusal_beside_worker { Refuses (GrowthLaw 1 []) one_queued
         (moment Spawn Pool None (Refused NoWorker) 2) }
+{}
+
+/// Where jobs are queued and no worker is left, the last start that was tried was refused.
+pub fn service()
+    // .. / ended 1 parked / stopped 1 / delivered 1 entered -2
+    ensures accepts_refused_start { IsServed (unstaffed_parked
+        ▸ refusing (moment (Stray 1) Pool None (JobWoken 1 Entered) 2)) }
+    ensures accepts_refused_start_in_pool { IsPooled 1 (false ∷ true ∷ []) (unstaffed_parked
+        ▸ refusing (moment (Stray 1) Pool None (JobWoken 1 Entered) 2)) }
+    // .. / ended 1 parked / stopped 1 / delivered 1 entered +2
+    ensures accepts_start { IsPooled 1 [] (unstaffed_parked
+        ▸ starting 1 (moment (Stray 1) Pool None (JobWoken 1 Entered) 2)) }
+    // .. / ended 1 parked / stopped 1 / delivered 1 entered: nobody is left to take the job
+    ensures refuses_nobody { Refuses (Keeps IsServed) unstaffed_parked
+        (moment (Stray 1) Pool None (JobWoken 1 Entered) 2) }
+    // the law of growth refuses it too
+    ensures refuses_start_left_out { Refuses (GrowthLaw 1 []) unstaffed_parked
+        (moment (Stray 1) Pool None (JobWoken 1 Entered) 2) }
 {}

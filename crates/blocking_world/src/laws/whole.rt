@@ -21,8 +21,10 @@ ghost use Rattle.blocking_core.specs.declared.pool.standing.Standing.TheVariants
 /// A past is legal exactly where the laws hold at every beginning of it. `Legal` says so step by step: each moment may follow
 /// those before it.
 pub fn beginnings()
-    ensures { (setting : ℕ) (marks : List Bool) (past : List Moment) →
+    ensures both_forms { (setting : ℕ) (marks : List Bool) (past : List Moment) →
         Legal setting marks past ↔ IsLegalThroughout setting marks past }
+    ensures each_beginning { (setting : ℕ) (marks : List Bool) (past : List Moment) (now : Moment) →
+        Legal setting marks (past ▸ now) → Legal setting marks past }
 {}
 
 /// What one law refuses is in no legal trace.
