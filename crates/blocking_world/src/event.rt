@@ -83,15 +83,15 @@ pub enum Act {
 pub struct Event {
     /// Who took the step; where nothing was done, whom it names.
     pub party: Party,
-    /// The owner of the job.
+    /// The number of the job's owner, from 0; a task is no owner, so an event of a call's job has none.
     pub owner: Option<usize>,
-    /// The serial of the job that a worker's act is of.
+    /// The serial of the job that a worker's event is of, from 1.
     pub job: Option<u64>,
     /// What was done.
     pub act: Act,
-    /// The number of the next start, also where nothing was started.
+    /// The number of the next start, from 1, also where nothing was started.
     pub first: u64,
-    /// How many workers were started.
+    /// How many workers were started: those of the numbers from `first` on.
     pub started: u64,
     /// Whether one more start was due, and was refused.
     pub start_refused: bool,
@@ -100,6 +100,8 @@ pub struct Event {
 /// A step with its event.
 #[derive(Clone, Copy, Debug)]
 pub struct Moment {
+    /// What was asked for.
     pub step: Step,
+    /// What was seen of it.
     pub event: Event,
 }

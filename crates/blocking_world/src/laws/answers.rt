@@ -1,5 +1,5 @@
 //! What the pool answers.
-ghost use Rattle.std.specs.Prelude.{[], ◌∷◌, Some, None, true, false};
+ghost use Rattle.std.specs.Prelude.{[], Some, None, true, false};
 ghost use Rattle.blocking_core.specs.declared.pool.answer.Refusal.TheVariants.{Numbers};
 ghost use Rattle.blocking_core.specs.declared.pool.answer.Woke.TheVariants.{Entered, Marked, Nothing};
 ghost use Rattle.blocking_core.specs.declared.pool.standing.Standing.TheVariants.{Queued, Parked, Done, Dropped};

@@ -6,7 +6,7 @@ ghost use Rattle.blocking_world.specs.Legal.{Legal};
 ghost use Rattle.blocking_world.specs.Traces.{◌▸◌, moment, Refuses, Keeps, FirstTaskLaw, LawOfTask};
 ghost use Rattle.blocking_world.specs.Traces.{one_queued, one_taken, one_answered, one_finished, one_done, one_got};
 ghost use Rattle.blocking_world.specs.Traces.{awaited, awaited_finished, untold_finished};
-ghost use Rattle.blocking_world.specs.Traces.{dropped_taken, dropped_running, cancelled_finished, cancelled_given_up};
+ghost use Rattle.blocking_world.specs.Traces.{dropped_taken, cancelled_finished, cancelled_given_up};
 ghost use Rattle.blocking_world.specs.declared.event.Act.TheVariants.{Accepted, Waits, TaskGot, TaskGotNone, TaskCancelled, TaskDetached, HolderDropped, Ended, JobParked, Finished, GaveUp, HolderWoken};
 ghost use Rattle.blocking_world.specs.declared.event.Party.TheVariants.{Task, Worker, Pool};
 ghost use Rattle.blocking_world.specs.declared.step.Step.TheVariants.{Spawn, OfTask, Job, End};

@@ -1,5 +1,5 @@
 //! Turns: which worker has which job in hand, and what the job may do there.
-ghost use Rattle.std.specs.Prelude.{[], Some, None, true, false};
+ghost use Rattle.std.specs.Prelude.{[], Some, None, false};
 ghost use Rattle.blocking_core.specs.declared.pool.standing.Standing.TheVariants.{Done};
 ghost use Rattle.blocking_core.specs.declared.pool.answer.Woke.TheVariants.{Entered};
 ghost use Rattle.blocking_world.specs.Turns.{TurnLaw};
