@@ -27,7 +27,7 @@ as_far marks ready idle workers limit first g h of_g of_h less =
     apart marks (first + g.started) there.1 (of_g.cause refused)
 
 -- two growths by the same counts are the same
-same_starts : (marks : List Bool) (ready idle workers limit first : ℕ) (g h : Growth) → IsGrowth (StartAnswer (IsMarked marks)) ready idle workers limit first g
+pub same_starts : (marks : List Bool) (ready idle workers limit first : ℕ) (g h : Growth) → IsGrowth (StartAnswer (IsMarked marks)) ready idle workers limit first g
     → IsGrowth (StartAnswer (IsMarked marks)) ready idle workers limit first h → g.started ≡ h.started
 same_starts marks ready idle workers limit first g h of_g of_h =
     let no_less = as_far marks ready idle workers limit first g h of_g of_h in
@@ -40,17 +40,17 @@ same_refusal marks ready idle workers limit first g h of_g of_h same =
     sym of_g.next ∙ ap (is_due ready idle workers limit) same ∙ of_h.next
 
 -- the starts of an act, told by the act
-abbrev GrowsAt : ℕ → List Bool → List Moment → Act → ℕ → Growth → Type 0
+abbrev pub GrowsAt : ℕ → List Bool → List Moment → Act → ℕ → Growth → Type 0
 GrowsAt setting marks past act first growth =
     IsGrowth (StartAnswer (IsMarked marks))
     (length (joined (without (taken_by act) (queue past)) (entered_by past act)) + turned_away act)
     (workers past - length (joined (without (ended_by act) (running past)) (taken_by act)))
     (workers past) (limit setting past) first growth
 
-abbrev growth_of : Moment → Growth
+abbrev pub growth_of : Moment → Growth
 growth_of now = record { started = now.event.started; refused = now.event.start_refused }
 
-abbrev Same : Moment → Moment → Type 0
+abbrev pub Same : Moment → Moment → Type 0
 Same now other = (now.event.started ≡ other.event.started) × (now.event.start_refused ≡ other.event.start_refused)
 
 same_growth : (setting : ℕ) (marks : List Bool) (past : List Moment) (act : Act) (first : ℕ) (now other : Moment)
@@ -61,7 +61,7 @@ same_growth setting marks past act first now other of_now of_other =
     let same = same_starts marks waiting free (workers past) (limit setting past) first (growth_of now) (growth_of other) of_now of_other in
     (same, same_refusal marks waiting free (workers past) (limit setting past) first (growth_of now) (growth_of other) of_now of_other same)
 
-same_by : (b : Bool) (setting : ℕ) (marks : List Bool) (past : List Moment) (now other : Moment) → other.event.act ≡ now.event.act → other.event.first ≡ now.event.first
+pub same_by : (b : Bool) (setting : ℕ) (marks : List Bool) (past : List Moment) (now other : Moment) → other.event.act ≡ now.event.act → other.event.first ≡ now.event.first
     → StartsRightly b setting marks past now → StartsRightly b setting marks past other → Same now other
 same_by false setting marks past now other act first of_now of_other = (of_now.0 ∙ sym of_other.0, of_now.1 ∙ sym of_other.1)
 same_by true setting marks past now other act first of_now of_other =

@@ -1,5 +1,6 @@
 -- Steps and their events: which steps have an action, and what is seen of them.
 use Rattle.std.specs.Prelude.{◌≡◌, ℕ, ◌+◌, nat_lt, ◌&&◌, ◌||◌, ◌==◌, not, if◌then◌else◌, Bool, true, false, List, [], ◌∷◌, Option, Some, None, is_some, is_none}
+use Rattle.blocking_core.specs.declared.pool.answer.Refusal.TheVariants.{Memory}
 use Rattle.blocking_world.specs.Seen.{events, acts_of, acts_of_task, is_of_pool, is_nothing}
 use Rattle.blocking_world.specs.Jobs.{tasks, holder, as_owner}
 use Rattle.blocking_world.specs.Counts.{starts, arrivals}
@@ -234,3 +235,14 @@ pub record StepLaw (past : List Moment) (now : Moment) : Type 0 where
   pub by : now.event.party ≡ (if is_nothing now.event.act then named now.step else party past now.step)
   pub of : now.event.job ≡ (if is_nothing now.event.act then None else job_of past now.step now.event.act)
   pub owned : now.event.owner ≡ owner_of now.event.job past
+
+-- whether a step is one that the pool answers: all but what tasks are asked and what jobs do
+abbrev pub is_pool_step : Step → Bool
+is_pool_step (OfTask k c) = false
+is_pool_step (Job w) = false
+is_pool_step step = true
+
+-- whether a job was refused for want of memory
+abbrev pub is_out_of_memory : Act → Bool
+is_out_of_memory (Refused Memory) = true
+is_out_of_memory _ = false

@@ -7,8 +7,8 @@ ghost use Rattle.blocking_world.specs.Growth.{GrowthLaw};
 ghost use Rattle.blocking_world.specs.Turns.{TurnLaw};
 ghost use Rattle.blocking_world.specs.Answers.{AnswerLaw};
 ghost use Rattle.blocking_world.specs.Wakes.{NoLostWake};
-ghost use Rattle.blocking_world.specs.Steps.{StepLaw};
-ghost use Rattle.blocking_world.specs.Legal.{Legal, IsLegalThroughout};
+ghost use Rattle.blocking_world.specs.Steps.{StepLaw, is_pool_step, is_out_of_memory};
+ghost use Rattle.blocking_world.specs.Legal.{Legal, PoolLaw, IsLegalThroughout};
 ghost use Rattle.blocking_world.specs.Traces.{◌▸◌, moment, starting, Refuses, Keeps, LawOfTask, start_refused};
 ghost use Rattle.blocking_world.specs.declared.event.Moment.{Moment};
 ghost use Rattle.blocking_world.specs.declared.event.Act.TheVariants.{Accepted, TaskGot, Arrived, Took, Stopped, Ended, Answered, Finished, NoAction};
@@ -25,6 +25,17 @@ pub fn beginnings()
         Legal setting marks past ↔ IsLegalThroughout setting marks past }
     ensures each_beginning { (setting : ℕ) (marks : List Bool) (past : List Moment) (now : Moment) →
         Legal setting marks (past ▸ now) → Legal setting marks past }
+{}
+
+/// A step that the pool answers has one event: whatever differs from it in anything is refused. The laws leave one thing
+/// open, whether there is memory for a new job.
+pub fn one_event()
+    ensures { (setting : ℕ) (marks : List Bool) (past : List Moment) (now other : Moment) →
+        now.step ≡ other.step → is_pool_step now.step ≡ true →
+        is_out_of_memory now.event.act ≡ false → is_out_of_memory other.event.act ≡ false →
+        StepLaw past now → StepLaw past other →
+        PoolLaw setting marks past now → PoolLaw setting marks past other →
+        now.event ≡ other.event }
 {}
 
 /// What one law refuses is in no legal trace.
