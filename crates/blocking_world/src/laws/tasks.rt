@@ -1,12 +1,17 @@
 //! Tasks and the jobs of their calls.
-ghost use Rattle.std.specs.Prelude.{[], Some, None, true, false};
+ghost use Rattle.std.specs.Prelude.{◌≡◌, ℕ, List, [], Some, None, true, false};
 ghost use Rattle.blocking_core.specs.declared.pool.standing.Standing.TheVariants.{Parked, Done, Dropped};
+ghost use Rattle.blocking_world.specs.Seen.{is_some_worker};
+ghost use Rattle.blocking_world.specs.Turns.{is_giving_up};
+ghost use Rattle.blocking_world.specs.TaskLaws.{TaskLaw};
 ghost use Rattle.blocking_world.specs.Wakes.{NoLostWake};
+ghost use Rattle.blocking_world.specs.Steps.{IsPolled, is_answered};
 ghost use Rattle.blocking_world.specs.Legal.{Legal};
 ghost use Rattle.blocking_world.specs.Traces.{◌▸◌, moment, Refuses, Keeps, FirstTaskLaw, LawOfTask};
 ghost use Rattle.blocking_world.specs.Traces.{one_queued, one_taken, one_answered, one_finished, one_done, one_got};
 ghost use Rattle.blocking_world.specs.Traces.{awaited, awaited_finished, untold_finished};
 ghost use Rattle.blocking_world.specs.Traces.{dropped_taken, cancelled_finished, cancelled_given_up};
+ghost use Rattle.blocking_world.specs.declared.event.Event.{Event};
 ghost use Rattle.blocking_world.specs.declared.event.Act.TheVariants.{Accepted, Waits, TaskGot, TaskGotNone, TaskCancelled, TaskDetached, HolderDropped, Ended, JobParked, Finished, GaveUp, HolderWoken};
 ghost use Rattle.blocking_world.specs.declared.event.Party.TheVariants.{Task, Worker, Pool};
 ghost use Rattle.blocking_world.specs.declared.step.Step.TheVariants.{Spawn, OfTask, Job, End};
@@ -103,6 +108,19 @@ pub fn places()
     // .. / cancelled / .. / gave up wake owner / waits
     ensures refuses_wait_for_nothing { Refuses FirstTaskLaw cancelled_given_up
         (moment (OfTask 0 Poll) (Task 0) None Waits 2) }
+{}
+
+/// The laws of a task leave no choice: a poll has one answer, and an action of the job's own is one act.
+pub fn one_act()
+    ensures poll { (s : ℕ) (cut : List Event) (now other : Event) →
+        is_some_worker now.party ≡ false → is_some_worker other.party ≡ false →
+        IsPolled now.act → IsPolled other.act →
+        TaskLaw s cut now → TaskLaw s cut other → now.act ≡ other.act }
+    // where a job has to give up its turn says
+    ensures action { (s : ℕ) (cut : List Event) (now other : Event) →
+        is_some_worker now.party ≡ true → is_some_worker other.party ≡ true →
+        is_giving_up now.act ≡ is_giving_up other.act → is_answered now.act ≡ false →
+        TaskLaw s cut now → TaskLaw s cut other → now.act ≡ other.act }
 {}
 
 /// A wake is borne exactly where a waker is seated: a poll that waits seats it, and the act that answers takes it out.
