@@ -152,6 +152,10 @@ cancelled_given_up = one_queued
 abbrev pub two_queued : List Moment
 two_queued = one_arrived ▸ moment Spawn Pool None (Accepted 2) 2
 
+-- accepted 1 +1 / arrived 1 / accepted 2 / dropped (of job 1)
+abbrev pub front_dropped : List Moment
+front_dropped = two_queued ▸ moment (OfTask 0 Drop) (Task 0) None HolderDropped 2
+
 -- accepted 1 +1 / arrived 1 / accepted 2 / took 1 +2 / arrived 2, at limit 2
 abbrev pub two_workers : List Moment
 two_workers = two_queued
@@ -193,6 +197,10 @@ one_parked = one_waits ▸ moment (End 1) (Worker 1) (Some 1) (Ended 1 Parked) 2
 -- accepted 1 +1 / arrived 1 / took 1 / parked / ended 1 parked / stopped 1
 abbrev pub unstaffed_parked : List Moment
 unstaffed_parked = one_parked ▸ moment (Late 1) (Worker 1) None (Stopped 1 true) 2
+
+-- accepted 1 +1 / arrived 1 / took 1 / parked / ended 1 parked / stopped 1 / dropped
+abbrev pub unstaffed_dropped : List Moment
+unstaffed_dropped = unstaffed_parked ▸ moment (OfTask 0 Drop) (Task 0) None HolderDropped 2
 
 -- accepted 1 +1 / arrived 1 / took 1 / delivered 1 marked / parked
 abbrev pub woken_waits : List Moment

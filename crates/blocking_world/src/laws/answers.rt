@@ -11,10 +11,10 @@ ghost use Rattle.blocking_world.specs.Traces.{one_queued, one_arrived, one_taken
 ghost use Rattle.blocking_world.specs.Traces.{dropped, dropped_running, dropped_given_up, two_queued, two_workers};
 ghost use Rattle.blocking_world.specs.Traces.{one_waits, one_parked, woken_waits, dropped_waits, dropped_parked};
 ghost use Rattle.blocking_world.specs.Traces.{two_parked, two_dropped, queued_again};
-ghost use Rattle.blocking_world.specs.declared.event.Act.TheVariants.{Accepted, Refused, JobWoken, JobCancelled, LimitSet, Swept, HolderDropped, Arrived, Took, TookDropped, TookNone, Stays, Stopped, Ended, HandedOut};
+ghost use Rattle.blocking_world.specs.declared.event.Act.TheVariants.{Accepted, Refused, JobWoken, JobCancelled, LimitSet, Swept, TaskCancelled, HolderDropped, Arrived, Took, TookDropped, TookNone, Stays, Stopped, Ended, HandedOut};
 ghost use Rattle.blocking_world.specs.declared.event.Party.TheVariants.{Task, Worker, Pool};
 ghost use Rattle.blocking_world.specs.declared.step.Step.TheVariants.{Spawn, OfTask, Arrive, Take, End, Wait, Late, SetLimit, Sweep, Stray, Strike};
-ghost use Rattle.blocking_world.specs.declared.step.TaskCall.TheVariants.{Drop};
+ghost use Rattle.blocking_world.specs.declared.step.TaskCall.TheVariants.{Cancel, Drop};
 
 /// A take gives the job at the front, to be dropped where it was let go; it finds none only where none is queued.
 pub fn takes()
@@ -113,6 +113,10 @@ pub fn cancels()
         ▸ moment (Take 1) (Worker 1) (Some 1) (TookDropped 1) 2) }
     // accepted 1 +1 / arrived 1 / took 1 / dropped / cancelled 1 marked
     ensures accepts_running { Legal 1 [] (dropped_running
+        ▸ moment (Strike 1) Pool None (JobCancelled 1 Marked) 2) }
+    // .. / took 1 / cancelled / cancelled 1 marked: by its task, and then in the pool
+    ensures accepts_cancelled_task { Legal 1 [] (one_taken
+        ▸ moment (OfTask 0 Cancel) (Task 0) None TaskCancelled 2
         ▸ moment (Strike 1) Pool None (JobCancelled 1 Marked) 2) }
     // .. / ended 1 parked / dropped / cancelled 1 entered / took 1 dropped
     ensures accepts_parked { IsPooled 1 [] (dropped_parked

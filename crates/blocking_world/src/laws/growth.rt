@@ -8,11 +8,11 @@ ghost use Rattle.blocking_world.specs.Served.{IsServed};
 ghost use Rattle.blocking_world.specs.Legal.{Legal};
 ghost use Rattle.blocking_world.specs.Traces.{◌▸◌, moment, starting, refusing, Refuses, Keeps, IsPooled};
 ghost use Rattle.blocking_world.specs.Traces.{one_queued, one_arrived, two_queued, five_queued, start_refused};
-ghost use Rattle.blocking_world.specs.Traces.{still_unstaffed, second_refused, raised_limit, unstaffed_parked};
+ghost use Rattle.blocking_world.specs.Traces.{still_unstaffed, second_refused, raised_limit, unstaffed_parked, unstaffed_dropped, front_dropped};
 ghost use Rattle.blocking_world.specs.declared.event.Moment.{Moment};
-ghost use Rattle.blocking_world.specs.declared.event.Act.TheVariants.{Accepted, Refused, JobWoken, Arrived, Took, Ended};
+ghost use Rattle.blocking_world.specs.declared.event.Act.TheVariants.{Accepted, Refused, JobWoken, JobCancelled, Swept, Arrived, Took, TookDropped, Ended};
 ghost use Rattle.blocking_world.specs.declared.event.Party.TheVariants.{Worker, Pool};
-ghost use Rattle.blocking_world.specs.declared.step.Step.TheVariants.{Spawn, Arrive, Take, End, Stray};
+ghost use Rattle.blocking_world.specs.declared.step.Step.TheVariants.{Spawn, Arrive, Take, End, Sweep, Stray, Strike};
 
 /// What is due is started, once, and no more.
 pub fn due_starts()
@@ -24,6 +24,15 @@ pub fn due_starts()
     // accepted 1 +1 / arrived 1 / accepted 2 / took 1 +2: one job beside no idle worker
     ensures accepts_start_at_take { Legal 2 [] (two_queued
         ▸ starting 1 (moment (Take 1) (Worker 1) (Some 1) (Took 1) 2)) }
+    // accepted 1 +1 / arrived 1 / accepted 2 / dropped (of job 1) / took 1 dropped +2
+    ensures accepts_start_at_drop { Legal 2 [] (front_dropped
+        ▸ starting 1 (moment (Take 1) (Worker 1) (Some 1) (TookDropped 1) 2)) }
+    // .. / ended 1 parked / stopped 1 / dropped / swept 1 +2
+    ensures accepts_start_at_sweep { IsPooled 1 [] (unstaffed_dropped
+        ▸ starting 1 (moment Sweep Pool None (Swept 1) 2)) }
+    // .. / ended 1 parked / stopped 1 / dropped / cancelled 1 entered +2
+    ensures accepts_start_at_cancel { IsPooled 1 [] (unstaffed_dropped
+        ▸ starting 1 (moment (Strike 1) Pool None (JobCancelled 1 Entered) 2)) }
     // .. / delivered 1 marked / parked / ended 1 queued: six jobs beside one idle worker, below the limit
     ensures accepts_queuing_again_without_growth { IsPooled 1 [] (raised_limit
         ▸ moment (End 1) (Worker 1) (Some 1) (Ended 1 Queued) 2) }
@@ -36,6 +45,15 @@ pub fn due_starts()
     // accepted 1 +1 / arrived 1 / accepted 2 / took 1, at limit 2
     ensures refuses_start_left_out { Refuses (GrowthLaw 2 []) two_queued
         (moment (Take 1) (Worker 1) (Some 1) (Took 1) 2) }
+    // accepted 1 +1 / arrived 1 / accepted 2 / dropped (of job 1) / took 1 dropped, at limit 2
+    ensures refuses_start_left_out_at_drop { Refuses (GrowthLaw 2 []) front_dropped
+        (moment (Take 1) (Worker 1) (Some 1) (TookDropped 1) 2) }
+    // .. / ended 1 parked / stopped 1 / dropped / swept 1
+    ensures refuses_start_left_out_at_sweep { Refuses (GrowthLaw 1 []) unstaffed_dropped
+        (moment Sweep Pool None (Swept 1) 2) }
+    // .. / ended 1 parked / stopped 1 / dropped / cancelled 1 entered
+    ensures refuses_start_left_out_at_cancel { Refuses (GrowthLaw 1 []) unstaffed_dropped
+        (moment (Strike 1) Pool None (JobCancelled 1 Entered) 2) }
     // accepted 1 +1 / arrived 1 / accepted 2 / took 1 +2, at limit 1
     ensures refuses_start_past_limit { Refuses (GrowthLaw 1 []) two_queued
         (starting 1 (moment (Take 1) (Worker 1) (Some 1) (Took 1) 2)) }

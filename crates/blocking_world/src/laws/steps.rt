@@ -5,12 +5,12 @@ ghost use Rattle.blocking_world.specs.Steps.{StepLaw};
 ghost use Rattle.blocking_world.specs.Legal.{Legal};
 ghost use Rattle.blocking_world.specs.Traces.{◌▸◌, moment, of_owner, Refuses};
 ghost use Rattle.blocking_world.specs.Traces.{one_queued, one_arrived, one_taken, one_answered, one_finished, one_done};
-ghost use Rattle.blocking_world.specs.Traces.{one_got, dropped, cancelled_given_up};
-ghost use Rattle.blocking_world.specs.declared.event.Act.TheVariants.{JobWoken, JobCancelled, LimitSet, Swept, Waits, TaskCancelled, TaskDetached, Arrived, Took, TookNone, Stays, Answered, Finished, NoAction};
+ghost use Rattle.blocking_world.specs.Traces.{one_got, dropped, cancelled_finished, cancelled_given_up};
+ghost use Rattle.blocking_world.specs.declared.event.Act.TheVariants.{JobWoken, JobCancelled, LimitSet, Swept, Waits, TaskGotNone, TaskCancelled, TaskDetached, Arrived, Took, TookNone, Stays, Stopped, Answered, Finished, NoAction};
 ghost use Rattle.blocking_world.specs.declared.event.Party.TheVariants.{Task, Worker, Pool};
 ghost use Rattle.blocking_world.specs.declared.step.Answer.TheVariants.{Number};
-ghost use Rattle.blocking_world.specs.declared.step.Step.TheVariants.{Spawn, OfTask, Arrive, Take, Job, Io, End, Wait, SetLimit, Sweep, Stray, Strike};
-ghost use Rattle.blocking_world.specs.declared.step.TaskCall.TheVariants.{Poll, Cancel, Detach};
+ghost use Rattle.blocking_world.specs.declared.step.Step.TheVariants.{Spawn, OfTask, Arrive, Take, Job, Io, End, Wait, Late, SetLimit, Sweep, Stray, Strike};
+ghost use Rattle.blocking_world.specs.declared.step.TaskCall.TheVariants.{Poll, Cancel, Detach, Drop};
 
 /// Nothing is done exactly where a step names a party that isn't there, or that has no such action.
 pub fn nothing()
@@ -32,6 +32,30 @@ pub fn nothing()
     // .. / got 5 / nothing (the task is gone)
     ensures accepts_gone_task { Legal 1 [] (one_got
         ▸ moment (OfTask 0 Poll) (Task 0) None NoAction 2) }
+    // .. / ended 1 done / stopped 1 / nothing (the worker is gone)
+    ensures accepts_stopped_worker { Legal 1 [] (one_done
+        ▸ moment (Late 1) (Worker 1) None (Stopped 1 true) 2
+        ▸ moment (Take 1) (Worker 1) None NoAction 2) }
+    // accepted 1 +1 / arrived 1 / took 1 / nothing (the worker has a job)
+    ensures accepts_busy_worker { Legal 1 [] (one_taken
+        ▸ moment (Take 1) (Worker 1) None NoAction 2
+        ▸ moment (Wait 1) (Worker 1) None NoAction 2
+        ▸ moment (Late 1) (Worker 1) None NoAction 2) }
+    // .. / answered 5 / detached / nothing
+    ensures accepts_detached_task { Legal 1 [] (one_answered
+        ▸ moment (OfTask 0 Detach) (Task 0) None TaskDetached 2
+        ▸ moment (OfTask 0 Poll) (Task 0) None NoAction 2) }
+    // accepted 1 +1 / dropped / arrived 1 / nothing
+    ensures accepts_dropped_task { Legal 1 [] (dropped
+        ▸ moment (OfTask 0 Poll) (Task 0) None NoAction 2) }
+    // .. / cancelled / finished / got none / nothing (a cancelled task is gone too, once it was answered)
+    ensures accepts_answered_cancel { Legal 1 [] (cancelled_finished
+        ▸ moment (OfTask 0 Poll) (Task 0) None TaskGotNone 2
+        ▸ moment (OfTask 0 Drop) (Task 0) None NoAction 2) }
+    // .. / cancelled / finished / nothing (a cancelled task is only polled and dropped)
+    ensures accepts_no_detaching_after_cancel { Legal 1 [] (cancelled_finished
+        ▸ moment (OfTask 0 Detach) (Task 0) None NoAction 2
+        ▸ moment (OfTask 0 Cancel) (Task 0) None NoAction 2) }
     // where there is an action
     ensures refuses_no_new_job { Refuses StepLaw [] (moment Spawn Pool None NoAction 1) }
     ensures refuses_no_sweep { Refuses StepLaw [] (moment Sweep Pool None NoAction 1) }

@@ -35,6 +35,9 @@ pub fn tables()
         ▸ moment (OfTask 0 Detach) (Task 0) None TaskDetached 2
         ▸ moment (Job 1) (Worker 1) (Some 1) (Finished false) 2
         ▸ moment (End 1) (Worker 1) (Some 1) (Ended 1 Done) 2) }
+    // .. / answered 5 / cancelled / finished / dropped
+    ensures accepts_drop_after_cancel { Legal 1 [] (cancelled_finished
+        ▸ moment (OfTask 0 Drop) (Task 0) None HolderDropped 2) }
     // accepted 1 +1 / arrived 1 / took 1 / finished
     ensures refuses_finish_before_answer { Refuses FirstTaskLaw one_taken
         (moment (Job 1) (Worker 1) (Some 1) (Finished false) 2) }
