@@ -2,18 +2,20 @@
 ghost use Rattle.std.specs.Prelude.{◌≡◌, [], ◌∷◌, Some, None, true, false};
 ghost use Rattle.blocking_core.specs.declared.pool.answer.Woke.TheVariants.{Entered, Marked};
 ghost use Rattle.blocking_core.specs.declared.pool.standing.Standing.TheVariants.{Queued, Running, Parked, Done, Dropped};
+ghost use Rattle.blocking_world.specs.Seen.{events, task_cut};
+ghost use Rattle.blocking_world.specs.Seats.{task_seat};
 ghost use Rattle.blocking_world.specs.Jobs.{standing, holder, is_woken, is_cancelled, is_marked};
 ghost use Rattle.blocking_world.specs.Queue.{entries, takes, queue, running};
 ghost use Rattle.blocking_world.specs.Counts.{workers, idle, limit};
 ghost use Rattle.blocking_world.specs.Growth.{known_limit};
 ghost use Rattle.blocking_world.specs.Traces.{◌▸◌, moment};
-ghost use Rattle.blocking_world.specs.Traces.{one_queued, one_taken, one_done, two_workers, two_queued};
-ghost use Rattle.blocking_world.specs.Traces.{dropped, dropped_given_up, start_refused, second_refused};
+ghost use Rattle.blocking_world.specs.Traces.{one_queued, one_taken, one_answered, one_done, two_workers, two_queued};
+ghost use Rattle.blocking_world.specs.Traces.{awaited, awaited_finished, cancelled_given_up, dropped, dropped_given_up, start_refused, second_refused};
 ghost use Rattle.blocking_world.specs.Traces.{one_parked, woken_waits, dropped_parked, two_dropped, queued_again};
-ghost use Rattle.blocking_world.specs.declared.event.Act.TheVariants.{JobWoken, JobCancelled, LimitSet, Swept, HolderDropped, Took, Stopped, Ended};
+ghost use Rattle.blocking_world.specs.declared.event.Act.TheVariants.{JobWoken, JobCancelled, LimitSet, Swept, TaskCancelled, HolderDropped, Took, TookDropped, Stopped, Ended};
 ghost use Rattle.blocking_world.specs.declared.event.Party.TheVariants.{Task, Worker, Pool};
 ghost use Rattle.blocking_world.specs.declared.step.Step.TheVariants.{OfTask, Take, End, Late, SetLimit, Sweep, Stray, Strike};
-ghost use Rattle.blocking_world.specs.declared.step.TaskCall.TheVariants.{Drop};
+ghost use Rattle.blocking_world.specs.declared.step.TaskCall.TheVariants.{Cancel, Drop};
 
 /// How a job stands.
 pub fn standings()
@@ -55,6 +57,11 @@ pub fn flags()
     ensures woken_before { is_woken (woken_waits
         ▸ moment (End 1) (Worker 1) (Some 1) (Ended 1 Queued) 2
         ▸ moment (Take 1) (Worker 1) (Some 1) (Took 1) 2) 1 ≡ false }
+    // .. / ended 1 queued / dropped / took 1 dropped
+    ensures woken_before_drop { is_woken (woken_waits
+        ▸ moment (End 1) (Worker 1) (Some 1) (Ended 1 Queued) 2
+        ▸ moment (OfTask 0 Drop) (Task 0) None HolderDropped 2
+        ▸ moment (Take 1) (Worker 1) (Some 1) (TookDropped 1) 2) 1 ≡ false }
     // accepted 1 +1 / dropped / arrived 1
     ensures marked { is_marked dropped 1 ≡ true }
     // .. / ended 1 done / dropped: it was over
@@ -65,6 +72,21 @@ pub fn flags()
     // accepted 1 +1 / dropped / arrived 1 / cancelled 1 marked
     ensures cancelled { is_cancelled (dropped
         ▸ moment (Strike 1) Pool None (JobCancelled 1 Marked) 2) 1 ≡ true }
+{}
+
+/// Whether a task's waker is seated.
+pub fn seats()
+    // accepted 1 +1 / arrived 1 / took 1 / answered 5
+    ensures nobody { task_seat (task_cut 0 1 (events one_answered)) ≡ false }
+    // accepted 1 +1 / waits / arrived 1 / took 1 / answered 5
+    ensures seated { task_seat (task_cut 0 1 (events awaited)) ≡ true }
+    // .. / waits / .. / answered 5 / cancelled
+    ensures kept { task_seat (task_cut 0 1 (events (awaited
+        ▸ moment (OfTask 0 Cancel) (Task 0) None TaskCancelled 2))) ≡ true }
+    // .. / waits / .. / answered 5 / finished wake owner
+    ensures taken { task_seat (task_cut 0 1 (events awaited_finished)) ≡ false }
+    // .. / waits / cancelled / .. / gave up wake owner
+    ensures taken_in_giving_up { task_seat (task_cut 0 1 (events cancelled_given_up)) ≡ false }
 {}
 
 /// What entered the queue, what was taken, and what stands in it.

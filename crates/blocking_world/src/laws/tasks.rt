@@ -167,6 +167,10 @@ pub fn wakes()
     // .. / waits / .. / answered 5 / finished / ended 1 done
     ensures refuses_wait_for_done { Refuses (Keeps NoLostWake) untold_finished
         (moment (End 1) (Worker 1) (Some 1) (Ended 1 Done) 2) }
+    // .. / finished wake owner / waits / ended 1 done: the wake came before the wait
+    ensures refuses_earlier_wake { Refuses (Keeps NoLostWake) (awaited_finished
+        ▸ moment (OfTask 0 Poll) (Task 0) None Waits 2)
+        (moment (End 1) (Worker 1) (Some 1) (Ended 1 Done) 2) }
     // .. / waits / .. / answered 5 / parked / ended 1 parked
     ensures refuses_wait_for_parked { Refuses (Keeps NoLostWake) (awaited
         ▸ moment (Job 1) (Worker 1) (Some 1) JobParked 2)

@@ -10,3 +10,6 @@ returns-clause-refuses_wait_for_done c = λ law. never (law.tasks 0 1 refl refl 
 
 pub returns-clause-refuses_wait_for_parked : goal.returns-clause-refuses_wait_for_parked
 returns-clause-refuses_wait_for_parked c = λ law. never (law.tasks 0 1 refl refl refl)
+
+pub returns-clause-refuses_earlier_wake : goal.returns-clause-refuses_earlier_wake
+returns-clause-refuses_earlier_wake c = λ law. never (law.tasks 0 1 refl refl refl)
