@@ -7,7 +7,7 @@ ghost use Rattle.blocking_world.specs.Legal.{Legal};
 ghost use Rattle.blocking_world.specs.Traces.{◌▸◌, moment, Refuses, IsPooled};
 ghost use Rattle.blocking_world.specs.Traces.{one_queued, one_taken, one_finished, two_workers};
 ghost use Rattle.blocking_world.specs.Traces.{dropped_taken, dropped_given_up, one_waits, one_parked, dropped_waits};
-ghost use Rattle.blocking_world.specs.declared.event.Act.TheVariants.{JobWoken, Took, Ended, HandedOut, Answered, Finished, GaveUp};
+ghost use Rattle.blocking_world.specs.declared.event.Act.TheVariants.{JobWoken, Took, TookDropped, Ended, HandedOut, Answered, Finished, GaveUp};
 ghost use Rattle.blocking_world.specs.declared.event.Party.TheVariants.{Worker, Pool};
 ghost use Rattle.blocking_world.specs.declared.step.Answer.TheVariants.{Number};
 ghost use Rattle.blocking_world.specs.declared.step.Step.TheVariants.{Take, Job, Io, End, Stray};
@@ -23,6 +23,15 @@ pub fn hands()
     // .. / took 1 +2 / arrived 2 / took 2 by worker 1, which has job 1
     ensures refuses_second_job { Refuses TurnLaw two_workers
         (moment (Take 1) (Worker 1) (Some 2) (Took 2) 3) }
+    // .. / took 1 +2 / arrived 2 / took 1 dropped: no second worker takes it to drop it
+    ensures refuses_second_worker_to_drop { Refuses TurnLaw two_workers
+        (moment (Take 2) (Worker 2) (Some 1) (TookDropped 1) 3) }
+    // .. / took 1 +2 / arrived 2 / took 2 dropped by worker 1, which has job 1
+    ensures refuses_second_job_to_drop { Refuses TurnLaw two_workers
+        (moment (Take 1) (Worker 1) (Some 2) (TookDropped 2) 3) }
+    // .. / took 1 / dropped / parked / drop 1 by worker 2
+    ensures refuses_handing_out_by_other { Refuses TurnLaw dropped_waits
+        (moment (End 2) (Worker 2) (Some 1) (HandedOut 1) 2) }
     // .. / took 1 / answered 5 / finished / ended 1 done by worker 2
     ensures refuses_end_by_other { Refuses TurnLaw one_finished
         (moment (End 2) (Worker 2) (Some 1) (Ended 1 Done) 2) }
