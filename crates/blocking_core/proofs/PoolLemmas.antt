@@ -1,5 +1,5 @@
 -- What each call of a pool keeps.
-use Rattle.std.proofs.Common.{◌≡◌, ◌≢◌, ℕ, zero, suc, ◌+◌, ◌-◌, ◌<◌, ◌≤◌, Bool, true, false, cond, not, eqb, ◌||◌, ◌&&◌, List, [], ◌∷◌, ◌++◌, length, filter, Option, Some, None, is_some, option_map, refl, sym, ap, ◌∙◌, subst, inl, inr, arith, add-one}
+use Rattle.std.proofs.Common.{◌≡◌, ◌≢◌, ℕ, zero, suc, ◌+◌, ◌-◌, ◌<◌, ◌≤◌, Bool, true, false, cond, not, eqb, ◌||◌, ◌&&◌, List, [], ◌∷◌, ◌++◌, length, filter, Option, Some, None, is_some, option_map, OnSome, refl, sym, ap, ◌∙◌, subst, inl, inr, arith, add-one}
 use Rattle.std.proofs.lemmas.Bool.{eqb-true, eq-eqb, ne_eqb, cases_eq, cases_lt, or_left, or_right, and_parts, false≢true}
 use Rattle.std.proofs.lemmas.List.{append-nil, append_assoc, length-append}
 use Rattle.std.proofs.lemmas.List.Elements.{filter_agree, filter-append}
@@ -11,10 +11,11 @@ use Rattle.blocking_core.specs.Tables.{Table, Becomes, TakesFirst, SweepsAll, Is
 use Rattle.blocking_core.specs.PoolAnswers.{Sweeps, SweepsTo, StaysOrStops, Waits}
 use Rattle.blocking_core.specs.declared.pool.answer.Waited.{Waited}
 use Rattle.blocking_core.specs.declared.pool.table.Front.{Front}
-use Rattle.blocking_core.specs.Jobs.{Job, Jobs, JobNumber, is_queued, is_running, is_parked, new_job, running, is_running_job, is_parked_job, one_if, running_below, is_running_as, job_of, standing_of, changed, amend, queued_again, parked_with, cancelled, all_queued_again}
+use Rattle.blocking_core.specs.Jobs.{Job, Jobs, JobNumber, is_queued, is_running, is_parked, new_job, running, is_running_job, is_parked_job, one_if, running_below, is_running_as, job_of, standing_of, changed, amend, queued_again, parked_with, cancelled, valued, all_queued_again}
 use Rattle.blocking_core.specs.Counts.{Counts, busier, freer, rung, AreInOrder}
 use Rattle.blocking_core.specs.Growth.{Growth, Grows, grown}
-use Rattle.blocking_core.specs.Pools.{Pool, is_queued_job, IsSound, EnterAgain, empty_pool}
+use Rattle.blocking_core.specs.Pools.{Pool, is_queued_job, IsSound, EnterAgain, with_job, empty_pool}
+use Rattle.blocking_core.specs.TableLends.{IfLent}
 use Rattle.blocking_core.specs.declared.pool.standing.Standing.{Standing}
 use Rattle.blocking_core.specs.declared.pool.standing.Standing.TheVariants.{Queued, Running, Parked, Done, Dropped}
 use Rattle.blocking_core.specs.declared.pool.bell.BellKind.TheVariants.{One}
@@ -756,6 +757,32 @@ module _ {J : Type 0} where
       → Sweeps may_mark may_answer refused after old count between → StaysOrStops true between waited new → Waits may_mark may_answer refused after timed_out old waited new
   waits_out may_mark may_answer refused after timed_out old between new count waited is sweeps answer =
       subst (λ b. Waits may_mark may_answer refused after b old waited new) (sym is) (record { between = between; sweep = (count, sweeps); answer = answer })
+
+  -- a table that is as it was
+  pub same_whole : (old new : Table J) (counts : Counts) (next : ℕ) → IsWhole old counts next → Becomes old new old.queue old.jobs → IsWhole new counts next
+  same_whole old new counts next whole becomes =
+      whole_as new old.queue old.accepted old.jobs counts counts next becomes.queue_is becomes.accepted_is becomes.jobs_are refl whole.sound whole.roll
+
+  -- a value that may have been lent, whatever was left there
+  pub lent_whole : {X : Type 0} (lent : Option X) (old new : Table J) (counts : Counts) (next serial : ℕ) (value : J) → IsWhole old counts next
+      → IfLent lent (Becomes old new old.queue (amend old.jobs serial (valued value))) (Becomes old new old.queue old.jobs) → IsWhole new counts next
+  lent_whole None old new counts next serial value whole becomes = same_whole old new counts next whole becomes
+  lent_whole (Some x) old new counts next serial value whole becomes = marked_whole old new counts next serial (valued value) (λ j. refl) whole becomes
+
+  -- the pool, as its table is told
+  pub pool_as : (old new : Table J) (counts : Counts) (next : ℕ) (jobs : Jobs J) → Becomes old new old.queue jobs
+      → ◌≡◌ {A = Pool J} (record { queue = new.queue; jobs = new.jobs; counts = counts; next_serial = next }) (record { queue = old.queue; jobs = jobs; counts = counts; next_serial = next })
+  pool_as old new counts next jobs becomes =
+      ap (λ q. record { queue = q; jobs = new.jobs; counts = counts; next_serial = next }) becomes.queue_is
+      ∙ ap (λ js. record { queue = old.queue; jobs = js; counts = counts; next_serial = next }) becomes.jobs_are
+
+  -- the pool with another value of a job
+  pub lent_pool : {X : Type 0} (lent : Option X) (old new : Table J) (counts : Counts) (next serial : ℕ) (value : J) (before : Pool J) → record { queue = old.queue; jobs = old.jobs; counts = counts; next_serial = next } ≡ before
+      → IfLent lent (Becomes old new old.queue (amend old.jobs serial (valued value))) (Becomes old new old.queue old.jobs)
+      → OnSome lent (record { queue = new.queue; jobs = new.jobs; counts = counts; next_serial = next } ≡ with_job before serial (valued value))
+  lent_pool None old new counts next serial value before seen becomes = tt
+  lent_pool (Some x) old new counts next serial value before seen becomes =
+      pool_as old new counts next (amend old.jobs serial (valued value)) becomes ∙ ap (λ p. with_job p serial (valued value)) seen
 
 pub roll_empty : (J : Type 0) (next : ℕ) → IsRollOf {J = J} [] empty next
 roll_empty J zero = refl

@@ -2,17 +2,19 @@
 use Rattle.std.proofs.Common.{◌≡◌, ◌≢◌, ℕ, ◌<◌, Bool, true, false, cond, eqb, ltb, not, ◌||◌, ◌&&◌, List, [], ◌∷◌, ◌++◌, Option, Some, None, is_some, IsSome, option_map, refl, sym, ap, ◌∙◌, subst, inl, inr, arith}
 use Rattle.std.proofs.lemmas.Bool.{eq-eqb, ne_eqb, cases_eq, or_left, or_right, and_parts, ltb-true, false≢true}
 use Rattle.std.proofs.lemmas.List.{map_push}
-use Rattle.std.specs.FinMap.{get as at, insert, remove}
+use Rattle.std.specs.Cmp.{nat_cmp_total}
+use Rattle.std.specs.FinMap.{get as at, insert, remove, same_map, nat_cmp-IsAntisymmetric}
 use Rattle.slab.specs.Slab.{Slab, get, slab_len, Updates, with_value}
 use Rattle.slab.proofs.SlabLemmas.{Updates-with_value}
 use Rattle.blocking_core.specs.Chain.{Chain, is_in, IsOnce, without, first_of, rest_after}
-use Rattle.blocking_core.specs.Jobs.{Job, Jobs, JobNumber, new_job, is_queued, is_running, is_parked, is_running_job, is_parked_job, is_running_as, standing_of, queued_again, parked_with, job_of, amend}
+use Rattle.blocking_core.specs.Jobs.{Job, Jobs, JobNumber, new_job, is_queued, is_running, is_parked, is_running_job, is_parked_job, is_running_as, standing_of, queued_again, parked_with, has_value, value_at, valued, job_of, amend}
 use Rattle.blocking_core.specs.declared.pool.standing.Standing.{Standing}
 use Rattle.blocking_core.specs.declared.pool.standing.Standing.TheVariants.{Queued, Running, Parked, Done, Dropped}
 use Rattle.blocking_core.specs.Tables.{Table, job_at, serial_or_zero, serials_at, table_of, IsTable, IsRoll, IsKept, Becomes, TakesFirst, IsNumberOf, IsAsked, found_of}
+use Rattle.blocking_core.specs.TableLends.{IfLent}
 use Rattle.blocking_core.specs.declared.pool.table.Entry.{Entry}
 use Rattle.blocking_core.proofs.Lists.{by_eq, is_in-append, is_in-without, is_in-without_itself, IsOnce-without, IsOnce-push}
-use Rattle.blocking_core.proofs.TableLemmas.{jobs_of, AreApart, tabled, Changes, changed_jobs, changed_table, Follows, same_serials, taken_by, Takes, takes, Inserts, inserts, Removes, removes, IsEntryOf, entry_of, job_here, job_nowhere, amend_found}
+use Rattle.blocking_core.proofs.TableLemmas.{jobs_of, AreApart, tabled, Changes, changed_jobs, changed_table, Follows, same_serials, taken_by, Takes, takes, Inserts, inserts, Removes, removes, IsEntryOf, entry_of, job_here, job_nowhere, at_insert_same, at_insert_other, amend_found}
 
 some_of : {X : Type 0} (x : Option X) → is_some x ≡ true → (y : X) × (x ≡ Some y)
 some_of None is = absurd (false≢true is)
@@ -20,6 +22,15 @@ some_of (Some y) is = (y, refl)
 
 is_some_of : {X : Type 0} (x : Option X) (y : X) → x ≡ Some y → is_some x ≡ true
 is_some_of x y is = ap is_some is
+
+-- what holds where something was lent
+pub if_lent : {X : Type 0} (x : Option X) (lent kept : Type 0) → (x ≡ None → ⊥) → lent → IfLent x lent kept
+if_lent None lent kept some l = absurd (some refl)
+if_lent (Some y) lent kept some l = l
+
+-- a copy of something is of something
+pub is_lent : {X Y : Type 0} (f : X → Y) (x : Option X) (y : Option Y) → option_map f x ≡ y → is_some y ≡ true → x ≡ None → ⊥
+is_lent f x y copied some none = false≢true (sym (ap (λ o. is_some (option_map f o)) none) ∙ ap is_some copied ∙ some)
 
 or_nothing : (b : Bool) → (b || (false || false)) ≡ b
 or_nothing true = refl
@@ -512,3 +523,85 @@ module _ {J : Type 0} where
   pub parked_held : (slab : Slab (Entry J)) (queue : Chain) (place : ℕ) (entry : Entry J) → IsTable slab queue → get slab place ≡ Some entry → entry.standing ≡ Parked → entry.value ≡ None → ⊥
   parked_held slab queue place entry table found parked none =
       false≢true (sym (ap is_some none) ∙ table.held place entry found ∙ ap (λ s. not (is_running s)) parked)
+
+  pub valued_job : (found : Option (Job J)) → has_value found ≡ true → (job : Job J) × (found ≡ Some job) × (is_running job.standing ≡ false)
+  valued_job None is = absurd (false≢true is)
+  valued_job (Some job) is = (job, refl, not_so (is_running job.standing) is)
+    where
+      not_so : (b : Bool) → not b ≡ true → b ≡ false
+      not_so true n = absurd (false≢true n)
+      not_so false n = refl
+
+  -- a job that doesn't run has another value
+  pub revalues : (old : Slab (Entry J)) (queue accepted : Chain) (before : Table J) (number : JobNumber) (place : ℕ) (was : Entry J) (value : J) → IsKept old queue accepted → table_of old queue accepted ≡ before
+      → has_value (job_of before.jobs number) ≡ true → place ≡ number.place → get old place ≡ Some was
+      → IsKept (with_value old place (record was { value = Some value })) queue accepted
+      × Becomes before (table_of (with_value old place (record was { value = Some value })) queue accepted) before.queue (amend before.jobs number.serial (valued value))
+  revalues old queue accepted before number place was value kept seen idle here found =
+      let job = valued_job (job_of before.jobs number) idle in
+      let own = leads_to old queue accepted before number job.0 place was kept seen job.1 here found in
+      becomes_kept old queue accepted place was (record was { value = Some value }) number (valued value) before kept found here own.0
+      refl refl (sym (ap not (ap (λ j. is_running j.standing) (sym own.1) ∙ job.2))) refl seen
+
+  -- an entry that is written back as it was
+  pub rewrites : (old : Slab (Entry J)) (queue accepted : Chain) (place : ℕ) (was : Entry J) → IsKept old queue accepted → get old place ≡ Some was → IsKept (with_value old place was) queue accepted
+  rewrites old queue accepted place was kept found =
+      (amends old queue queue accepted place was was kept found refl (stays queue old place was was kept.table found refl (kept.table.held place was found))).kept
+
+  -- a job that runs has no value here
+  pub no_value : (slab : Slab (Entry J)) (queue accepted : Chain) (before : Table J) (number : JobNumber) → IsKept slab queue accepted → table_of slab queue accepted ≡ before
+      → has_value (job_of before.jobs number) ≡ false → None ≡ value_at (job_of before.jobs number)
+  no_value slab queue accepted before number kept seen runs = by_job (job_of before.jobs number) refl runs
+    where
+      empty_of : (value : Option J) → is_some value ≡ false → None ≡ value
+      empty_of None is = refl
+      empty_of (Some value) is = absurd (false≢true (sym is))
+
+      not_so : (b : Bool) → not b ≡ false → b ≡ true
+      not_so true n = refl
+      not_so false n = absurd (false≢true (sym n))
+
+      by_job : (found : Option (Job J)) → job_of before.jobs number ≡ found → has_value found ≡ false → None ≡ value_at found
+      by_job None is runs = refl
+      by_job (Some job) is runs =
+          let own = entry_of slab number job kept.table.apart (ap (λ t. job_of t.jobs number) seen ∙ is) in
+          empty_of job.value
+          (ap (λ j. is_some j.value) own.job_is ∙ kept.table.held number.place own.entry own.is_at
+          ∙ ap not (ap (λ j. is_running j.standing) (sym own.job_is) ∙ not_so (is_running job.standing) runs))
+
+  -- the value that is found
+  pub value_found : (slab : Slab (Entry J)) (queue accepted : Chain) (before : Table J) (number : JobNumber) (place : ℕ) (entry : Entry J) → IsKept slab queue accepted → table_of slab queue accepted ≡ before
+      → has_value (job_of before.jobs number) ≡ true → place ≡ number.place → get slab place ≡ Some entry → entry.value ≡ value_at (job_of before.jobs number)
+  value_found slab queue accepted before number place entry kept seen idle here found =
+      let job = valued_job (job_of before.jobs number) idle in
+      sym (ap value_at job.1 ∙ ap (λ j. j.value) (leads_to slab queue accepted before number job.0 place entry kept seen job.1 here found).1)
+
+  -- a table that is written back as it was
+  pub rewrites_as : (old : Slab (Entry J)) (queue accepted : Chain) (before : Table J) (place : ℕ) (was : Entry J) → IsKept old queue accepted → table_of old queue accepted ≡ before → get old place ≡ Some was
+      → Becomes before (table_of (with_value old place was) queue accepted) before.queue before.jobs
+  rewrites_as old queue accepted before place was kept seen found =
+      let done = amends old queue queue accepted place was was kept found refl (stays queue old place was was kept.table found refl (kept.table.held place was found)) in
+      subst (λ t. Becomes t (table_of (with_value old place was) queue accepted) t.queue t.jobs) seen
+      (record {
+        queue_is = same_serials old (with_value old place was) queue.places done.same_queue;
+        accepted_is = done.same_order;
+        jobs_are = done.jobs ∙ insert_again (jobs_of old) was.serial (job_at place was) ((tabled old kept.table.apart).here place was found);
+      })
+    where
+      insert_again : (jobs : Jobs J) (serial : ℕ) (job : Job J) → at jobs serial ≡ Some job → insert jobs serial job ≡ jobs
+      insert_again jobs serial job there = same_map nat_cmp_total nat_cmp-IsAntisymmetric (insert jobs serial job) jobs (λ s. elim (cases_eq s serial) [
+        | inl same ↦ ap (at (insert jobs serial job)) same ∙ at_insert_same jobs serial job ∙ sym (ap (at jobs) same ∙ there)
+        | inr far ↦ at_insert_other jobs serial job s far
+      ])
+
+  -- a table that is as it was
+  pub same_table : (now before : Table J) → now ≡ before → Becomes before now before.queue before.jobs
+  same_table now before is = record { queue_is = ap (λ t. t.queue) is; accepted_is = ap (λ t. t.accepted) is; jobs_are = ap (λ t. t.jobs) is }
+
+  -- the entry of a job that doesn't run has its value
+  pub idle_held : (slab : Slab (Entry J)) (queue accepted : Chain) (before : Table J) (number : JobNumber) (place : ℕ) (entry : Entry J) → IsKept slab queue accepted → table_of slab queue accepted ≡ before
+      → has_value (job_of before.jobs number) ≡ true → place ≡ number.place → get slab place ≡ Some entry → is_some entry.value ≡ true
+  idle_held slab queue accepted before number place entry kept seen idle here found =
+      let job = valued_job (job_of before.jobs number) idle in
+      let own = leads_to slab queue accepted before number job.0 place entry kept seen job.1 here found in
+      kept.table.held place entry found ∙ ap not (ap (λ j. is_running j.standing) (sym own.1) ∙ job.2)

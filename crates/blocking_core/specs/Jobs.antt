@@ -1,5 +1,5 @@
 -- Jobs as a pool has them.
-use Rattle.std.specs.Prelude.{ℕ, zero, suc, ◌+◌, if◌then◌else◌, Bool, true, false, ◌==◌, List, [], ◌∷◌, Option, Some, None, option_map, refl}
+use Rattle.std.specs.Prelude.{ℕ, zero, suc, ◌+◌, if◌then◌else◌, Bool, true, false, not, ◌==◌, List, [], ◌∷◌, Option, Some, None, option_map, refl}
 use Rattle.std.specs.Ordering.{nat_cmp}
 use Rattle.std.specs.FinMap.{FinMap, get}
 use Rattle.std.specs.FinMap as map
@@ -103,6 +103,20 @@ module _ {J : Type 0} where
   -- whether this number is that of a running job
   abbrev pub is_running_as : Jobs J → JobNumber → Bool
   is_running_as jobs number = is_running_job (job_of jobs number)
+
+  -- whether a job has its value: its worker has it while it runs
+  abbrev pub has_value : Option (Job J) → Bool
+  has_value None = false
+  has_value (Some job) = not (is_running job.standing)
+
+  -- the value of a job, where it is
+  abbrev pub value_at : Option (Job J) → Option J
+  value_at None = None
+  value_at (Some job) = job.value
+
+  -- a job with another value
+  abbrev pub valued : J → Job J → Job J
+  valued value job = record job { value = Some value }
 
   abbrev pub changed : Jobs J → ℕ → (Job J → Job J) → Option (Job J) → Jobs J
   changed jobs serial change None = jobs

@@ -5,10 +5,12 @@ pub mod Growth
 pub mod Jobs
 pub mod Limits
 pub mod PoolAnswers
+pub mod PoolLends
 pub mod Pools
 pub mod Rings
 pub mod SlotAnswers
 pub mod Slots
 pub mod Sweeps
+pub mod TableLends
 pub mod Tables
 pub mod Wakes

@@ -55,7 +55,10 @@ impl<J: Job> Pool<J> {
     ghost use Rattle.blocking_core.specs.Pools.{IsSound};
     ghost use Rattle.blocking_core.specs.PoolAnswers.{pool_of, Adds, Arrives, Takes, Wakes, Cancels, Sweeps, Waits, StaysOrStops, Ends};
     ghost use Rattle.blocking_core.specs.Pools.{EnterAgain};
-    ghost use Rattle.blocking_core.specs.Jobs.{standing_of, is_running_as};
+    ghost use Rattle.blocking_core.specs.Jobs.{job_of, standing_of, is_running_as, value_at};
+    ghost use Rattle.blocking_core.specs.PoolLends.{lends_job};
+    ghost use Rattle.std.specs.Borrow.{sem};
+    ghost use Rattle.std.specs.Option.{option_copied_mut};
     ghost use Rattle.blocking_core.specs.Counts.{limited, silenced};
     ghost use Rattle.blocking_core.specs.declared.pool.answer.Finish.{Finish};
     ghost use Rattle.blocking_core.specs.declared.pool.standing.Standing.TheVariants.{Parked};
@@ -288,6 +291,14 @@ impl<J: Job> Pool<J> {
         pass.spend();
         self.counts.stop(is_queued);
         Waited::Stop
+    }
+
+    /// The value of a job that is queued or parked; None where the number is that of a running job, or of none here.
+    pub fn job_mut(&mut self, no: JobNo) -> Option<&mut J>
+        ensures* lends { sem 𝓛 (lends_job J.row J.Job self.entry no result) }
+        ensures value { option_copied_mut result ≡ value_at (job_of self.old.jobs no) }
+    {
+        self.table.value_mut(no)
     }
 
     /// Sets the limit of workers, as it is: it isn't clamped. All waiting workers are notified where a limit stood and was

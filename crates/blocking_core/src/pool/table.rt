@@ -3,7 +3,8 @@ ghost use Rattle.std.specs.Prelude.{◌≡◌, ◌+◌, ◌<◌, ◌++◌, ◌�
 ghost use Rattle.std.specs.FinMap as map;
 ghost use Rattle.blocking_core.specs.Chain.{first_of, rest_after, is_in, without, IsOnce};
 ghost use Rattle.slab.specs.Slab.{get};
-ghost use Rattle.blocking_core.specs.Jobs.{JobNumber, new_job, job_of, standing_of, is_running_as, amend, queued_again, parked_with, woken, cancelled};
+ghost use Rattle.blocking_core.specs.Jobs.{JobNumber, new_job, job_of, standing_of, is_running_as, amend, queued_again, parked_with, woken, cancelled, has_value, value_at};
+ghost use Rattle.std.specs.Option.{option_copied_mut};
 ghost use Rattle.blocking_core.specs.declared.pool.standing.Standing.TheVariants.{Parked};
 
 use crate::pool::chain::Chain;
@@ -64,6 +65,8 @@ impl<J: Drop> Model for Table<J> {
 
 impl<J: Drop> Table<J> {
     ghost use Rattle.blocking_core.specs.Tables.{TakesFirst, Becomes, IsNumberOf, found_of};
+    ghost use Rattle.std.specs.Borrow.{sem};
+    ghost use Rattle.blocking_core.specs.TableLends.{lends_value};
 
     /// No job. Takes no memory.
     pub(crate) fn new(alloc: Global) -> Self
@@ -204,6 +207,28 @@ impl<J: Drop> Table<J> {
         };
         entry.standing = Standing::Parked;
         entry.value = Some(value);
+    }
+
+    // Whether the job of this number has its value here.
+    fn has_value(&self, no: JobNo) -> bool
+        ensures { result ≡ has_value (job_of self.now.jobs no) }
+    {
+        match self.standing(no) {
+            None | Some(Standing::Running) => false,
+            Some(_) => true,
+        }
+    }
+
+    /// The value of a job that doesn't run.
+    pub(crate) fn value_mut(&mut self, no: JobNo) -> Option<&mut J>
+        ensures* lends { sem 𝓛 (lends_value J.row self.entry no result) }
+        ensures value { option_copied_mut result ≡ value_at (job_of self.old.jobs no) }
+    {
+        if !self.has_value(no) {
+            return None;
+        }
+        let entry = self.entries.get_mut(no.place())?;
+        entry.value.as_mut()
     }
 
     /// Lets a parked job stand at the queue's end again.

@@ -149,6 +149,17 @@ impl Bench {
         kind
     }
 
+    // Gives a job another number, and answers whether it could.
+    fn renumber(&mut self, no: JobNo, number: u32) -> bool {
+        match self.pool.job_mut(no) {
+            Some(job) => {
+                job.number = number;
+                true
+            }
+            None => false,
+        }
+    }
+
     // Lets a wait time out, and answers the worker's pass where it stays.
     fn time_out(&mut self, rt: &impl Abort, pass: WorkerPass) -> Option<WorkerPass> {
         let is_free = self.pool.arriving_count() < self.pool.idle_count();
@@ -264,6 +275,23 @@ fn queued_job_is_cancelled(rt: HostRuntime) -> Result<(), AllocError> {
     let no = bench.add(&rt, 1, false);
     assert_eq!(rt; bench.cancel(no), Woke::Marked);
     bench.discard(&rt, pass, 1).spend();
+    Ok(())
+}
+
+#[test]
+fn value_is_lent_but_while_its_job_runs(rt: HostRuntime) -> Result<(), AllocError> {
+    let (mut bench, pass) = ready(&rt)?;
+    let no = bench.add(&rt, 1, false);
+    assert!(rt; bench.renumber(no, 2));
+    let (turn, job) = bench.run(&rt, pass, 2);
+    assert!(rt; !bench.renumber(no, 3));
+    let pass = bench.end(&rt, turn, Finish::Waiting(job));
+    assert!(rt; bench.renumber(no, 4));
+    assert_eq!(rt; bench.wake(no), Woke::Entered);
+    let (turn, job) = bench.run(&rt, pass, 4);
+    drop(job);
+    bench.end(&rt, turn, Finish::Done).spend();
+    assert!(rt; !bench.renumber(no, 5));
     Ok(())
 }
 
