@@ -23,13 +23,13 @@ pipe_code {X} {W} item waker =
     (coded× (coded_list item) (coded× coded_ℕ (coded× coded_bool (coded× coded_bool (coded× (coded_option waker) (coded_option job_number_code))))))
     (λ pipe. (pipe.items, (pipe.capacity, (pipe.is_owner_open, (pipe.is_job_open, (pipe.owner_seat, pipe.job_seat))))))
     (λ parts. record {
-        items = parts.0;
-        capacity = parts.1.0;
-        is_owner_open = parts.1.1.0;
-        is_job_open = parts.1.1.1.0;
-        owner_seat = parts.1.1.1.1.0;
-        job_seat = parts.1.1.1.1.1;
-      })
+      items = parts.0;
+      capacity = parts.1.0;
+      is_owner_open = parts.1.1.0;
+      is_job_open = parts.1.1.1.0;
+      owner_seat = parts.1.1.1.1.0;
+      job_seat = parts.1.1.1.1.1;
+    })
     (λ _. refl)
 
 module _ {X W : Type 0} where

@@ -1,6 +1,8 @@
 //! The bounded pipe through which bytes or items cross between a job and its owner.
 ghost use Rattle.std.specs.Prelude.{◌≡◌, ◌<◌, ◌≤◌, ◌++◌, false, length, min, take, drop, IfOk, Some, None};
 
+#[cfg(test)]
+mod tests;
 
 use crate::pool::{JobNo, WakeNote};
 use crate::task::Seat;
@@ -124,16 +126,6 @@ pub struct Answered<A, W> {
     pub spare: Option<W>,
 }
 
-// The note of a job that left its seat.
-fn note_of(seat: Option<JobNo>) -> Option<WakeNote>
-    ensures { result ≡ seat }
-{
-    match seat {
-        Some(no) => Some(WakeNote::new(no)),
-        None => None,
-    }
-}
-
 // Copies the front of the ring, as much as there is room for, and tells how many items that were.
 fn copy_front<X: Copy>(ring: &HeapCircularBuffer<X>, out: &mut [X]) -> usize
     ensures count { result ≡ min (length out.old) (length ring.now.items) }
@@ -181,7 +173,7 @@ impl<X: Drop, W: Drop> Pipe<X, W> {
     pub fn room(&self) -> usize
         ensures { result ≡ room self.now }
     {
-        self.ring.capacity() - self.ring.len()
+        self.ring.capacity() - self.len()
     }
 
     /// The job looks for room, and is seated where there is none.
@@ -191,7 +183,7 @@ impl<X: Drop, W: Drop> Pipe<X, W> {
         if !self.is_owner_open {
             return Room::Shut;
         }
-        let free = self.ring.capacity() - self.ring.len();
+        let free = self.room();
         if free == 0 {
             self.job_seat = Some(me);
             return Room::Parked;
@@ -207,7 +199,7 @@ impl<X: Drop, W: Drop> Pipe<X, W> {
             return Sending::Shut(item);
         }
         match self.ring.try_push_back(item) {
-            Ok(()) => Sending::Sent(self.owner_seat.take()),
+            Ok(()) => Sending::Sent(self.unseat_owner()),
             Err(item) => {
                 self.job_seat = Some(me);
                 Sending::Parked(item)
@@ -221,9 +213,9 @@ impl<X: Drop, W: Drop> Pipe<X, W> {
         ensures pipe { self.new ≡ record self.old { items = drop count self.old.items; owner_seat = None } }
         ensures waker { result ≡ self.old.owner_seat }
     {
-        let rest = self.ring.len() - count;
+        let rest = self.len() - count;
         self.ring.truncate_front(rest);
-        self.owner_seat.take()
+        self.unseat_owner()
     }
 
     /// The job closes its end. Answers the waker of an owner who waited. What is inside stays.
@@ -232,7 +224,7 @@ impl<X: Drop, W: Drop> Pipe<X, W> {
         ensures waker { result ≡ self.old.owner_seat }
     {
         self.is_job_open = false;
-        self.owner_seat.take()
+        self.unseat_owner()
     }
 
     /// The owner takes the first item. Where the pipe is empty and the job's end is open the owner is seated.
@@ -241,7 +233,7 @@ impl<X: Drop, W: Drop> Pipe<X, W> {
     {
         match self.ring.pop_front() {
             Some(item) => Answered {
-                answer: Received::Got(item, note_of(self.job_seat.take())),
+                answer: Received::Got(item, self.unseat_job()),
                 spare: Some(waker),
             },
             None if self.is_job_open => Answered {
@@ -261,7 +253,7 @@ impl<X: Drop, W: Drop> Pipe<X, W> {
         ensures note { result ≡ self.old.job_seat }
     {
         self.is_owner_open = false;
-        note_of(self.job_seat.take())
+        self.unseat_job()
     }
 
     /// The owner leaves its seat. Answers the waker that stood there, so that a poll can hand its own earlier waker to the
@@ -271,6 +263,17 @@ impl<X: Drop, W: Drop> Pipe<X, W> {
         ensures waker { result ≡ self.old.owner_seat }
     {
         self.owner_seat.take()
+    }
+
+    // The job leaves its seat, and is to be woken.
+    fn unseat_job(&mut self) -> Option<WakeNote>
+        ensures pipe { self.new ≡ record self.old { job_seat = None } }
+        ensures note { result ≡ self.old.job_seat }
+    {
+        match self.job_seat.take() {
+            Some(no) => Some(WakeNote::new(no)),
+            None => None,
+        }
     }
 }
 
@@ -286,8 +289,8 @@ impl<X: Copy, W: Drop> Pipe<X, W> {
         if !self.is_owner_open {
             return Put::Lost;
         }
-        self.ring.fill_from_slice(items);
-        Put::In(self.owner_seat.take())
+        let _count = self.ring.fill_from_slice(items);
+        Put::In(self.unseat_owner())
     }
 
     /// The job copies the front of what is inside, as many items as `out` holds. Where the pipe is empty and the owner's end
@@ -315,7 +318,7 @@ impl<X: Copy, W: Drop> Pipe<X, W> {
         if !self.ring.is_empty() {
             let count = self.ring.read_into(out);
             return Answered {
-                answer: Drained::Got(count, note_of(self.job_seat.take())),
+                answer: Drained::Got(count, self.unseat_job()),
                 spare: Some(waker),
             };
         }
@@ -351,7 +354,7 @@ impl<X: Copy, W: Drop> Pipe<X, W> {
         }
         let count = self.ring.fill_from_slice(items);
         Answered {
-            answer: Filled::Took(count, note_of(self.job_seat.take())),
+            answer: Filled::Took(count, self.unseat_job()),
             spare: Some(waker),
         }
     }
