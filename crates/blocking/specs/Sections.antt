@@ -9,7 +9,9 @@ use Rattle.blocking_core.specs.PoolAnswers as pool
 use Rattle.blocking_core.specs.declared.pool.bell.BellKind.{BellKind}
 use Rattle.blocking_core.specs.declared.pool.answer.Refused.{Refused}
 use Rattle.blocking_core.specs.declared.pool.answer.Took.{Took}
-use Rattle.blocking_core.specs.declared.pool.answer.Gone.TheVariants.{Free, Stranger}
+use Rattle.blocking_core.specs.declared.pool.answer.Woke.{Woke}
+use Rattle.blocking_core.specs.declared.pool.answer.Finish.{Finish}
+use Rattle.blocking_core.specs.declared.pool.answer.Gone.TheVariants.{Free, Stranger, Drop as HandOut}
 use Rattle.blocking_core.specs.declared.pool.answer.Waited.TheVariants.{Stay, Stop}
 use Rattle.blocking_core.specs.declared.pool.token.WorkerPass.{WorkerPass}
 use Rattle.blocking.specs.declared.held.Ended.{Ended}
@@ -30,28 +32,38 @@ module _ {J : Type 0} where
   Adds may_answer before after old job answer new bell =
       (added : Pool J) × pool.Adds may_answer before after old job answer added × Rings added bell new
 
+  -- a wake reaches its job
+  abbrev pub Wakes : (ℕ → Bool → Type 0) → ℕ → ℕ → Pool J → JobNumber → Woke → Pool J → BellKind → Type 0
+  Wakes may_answer before after old number woke new bell = (woken : Pool J) × pool.Wakes may_answer before after old number woke woken × Rings woken bell new
+
+  -- the parked jobs that bear a mark are put back
+  abbrev pub Sweeps : (J → Bool → Type 0) → (ℕ → Bool → Type 0) → ℕ → ℕ → Pool J → ℕ → Pool J → BellKind → Type 0
+  Sweeps may_mark may_answer before after old count new bell = (swept : Pool J) × pool.Sweeps may_mark may_answer before after old count swept × Rings swept bell new
+
   -- a worker arrives, and takes
-  abbrev pub ArrivesAndTakes : (ℕ → Bool → Type 0) → ℕ → ℕ → Pool J → Option (Took J) → Pool J → BellKind → Type 0
-  ArrivesAndTakes may_answer before after old None new bell = pool.Arrives old None old × Rings old bell new × (after ≡ before)
-  ArrivesAndTakes may_answer before after old (Some took) new bell =
+  abbrev pub ArrivesAndTakes : (J → Bool → Type 0) → (ℕ → Bool → Type 0) → ℕ → ℕ → Pool J → Option (Took J) → Pool J → BellKind → Type 0
+  ArrivesAndTakes may_mark may_answer before after old None new bell = pool.Arrives old None old × Rings old bell new × (after ≡ before)
+  ArrivesAndTakes may_mark may_answer before after old (Some took) new bell =
       (pass : WorkerPass) × (arrived : Pool J) × (taken : Pool J)
-      × pool.Arrives old (Some pass) arrived × pool.Takes may_answer before after arrived took taken × Rings taken bell new
+      × pool.Arrives old (Some pass) arrived × pool.Takes may_mark may_answer before after arrived took taken × Rings taken bell new
 
-  -- a turn ends, and its worker takes; or it is a stranger's
-  abbrev pub EndsAndTakes : (ℕ → Bool → Type 0) → ℕ → ℕ → Pool J → JobNumber → Ended J → Pool J → BellKind → Type 0
-  EndsAndTakes may_answer before after old turn (ended.Took took) new bell =
+  -- a turn ends, and its worker takes; or its job is handed out to be dropped; or it is a stranger's
+  abbrev pub EndsAndTakes : (J → Bool → Type 0) → (ℕ → Bool → Type 0) → ℕ → ℕ → Pool J → JobNumber → Finish J → Ended J → Pool J → BellKind → Type 0
+  EndsAndTakes may_mark may_answer before after old turn finish (ended.Took took) new bell =
       (pass : WorkerPass) × (free : Pool J) × (taken : Pool J)
-      × pool.Ends old turn (Free pass) free × pool.Takes may_answer before after free took taken × Rings taken bell new
-  EndsAndTakes may_answer before after old turn (ended.Stranger back job) new bell =
-      pool.Ends old turn (Stranger back job) old × Rings old bell new × (after ≡ before)
+      × pool.Ends may_mark old turn finish (Free pass) free × pool.Takes may_mark may_answer before after free took taken × Rings taken bell new
+  EndsAndTakes may_mark may_answer before after old turn finish (ended.Drop back job) new bell =
+      pool.Ends may_mark old turn finish (HandOut back job) old × Rings old bell new × (after ≡ before)
+  EndsAndTakes may_mark may_answer before after old turn finish (ended.Stranger back job) new bell =
+      pool.Ends may_mark old turn finish (Stranger back job) old × Rings old bell new × (after ≡ before)
 
-  -- a worker has waited, and takes or stops
-  abbrev pub WaitsAndTakes : (ℕ → Bool → Type 0) → ℕ → ℕ → Bool → Pool J → Option (Took J) → Pool J → BellKind → Type 0
-  WaitsAndTakes may_answer before after timed_out old None new bell =
-      (stopped : Pool J) × pool.Waits timed_out old Stop stopped × Rings stopped bell new
-  WaitsAndTakes may_answer before after timed_out old (Some took) new bell =
-      (pass : WorkerPass) × (stayed : Pool J) × (taken : Pool J)
-      × pool.Waits timed_out old (Stay pass) stayed × pool.Takes may_answer before after stayed took taken × Rings taken bell new
+  -- a worker has waited, and takes or stops; where the wait timed out it sweeps first
+  abbrev pub WaitsAndTakes : (J → Bool → Type 0) → (ℕ → Bool → Type 0) → ℕ → ℕ → Bool → Pool J → Option (Took J) → Pool J → BellKind → Type 0
+  WaitsAndTakes may_mark may_answer before after timed_out old None new bell =
+      (stopped : Pool J) × pool.Waits may_mark may_answer before after timed_out old Stop stopped × Rings stopped bell new
+  WaitsAndTakes may_mark may_answer before after timed_out old (Some took) new bell =
+      (pass : WorkerPass) × (stayed : Pool J) × (taken : Pool J) × (between : ℕ)
+      × pool.Waits may_mark may_answer before between timed_out old (Stay pass) stayed × pool.Takes may_mark may_answer between after stayed took taken × Rings taken bell new
 
   -- the limit is set
   abbrev pub SetsLimit : ℕ → Pool J → Pool J → BellKind → Type 0

@@ -5,7 +5,7 @@ use crate::desk::{Desk, ThreadStarter};
 use crate::held::{Ended, Held};
 use crate::runtime::Runtime;
 use blocking_core::pool::{
-    Finish, Job, JobNo, JobStep, Refusal, Refused, Starter, Took, Turn, WorkerPass,
+    Finish, Job, JobNo, JobStep, Refusal, Refused, Starter, Took, Turn, WakeNote, Woke, WorkerPass,
 };
 use std::alloc::AllocError;
 use std::io;
@@ -127,6 +127,27 @@ impl<J: Job, H: Runtime> Executor<J, H> {
         answer
     }
 
+    /// Wakes a job, as [`Pool::wake`](blocking_core::pool::Pool::wake).
+    pub fn wake(&self, note: WakeNote) -> Woke {
+        let mut starter = self.starter();
+        let mut held = self.shared.held.lock(&self.rt);
+        let (woke, bell) = held.wake(note, &mut starter);
+        drop(held);
+        bell.ring(&self.shared.condvar);
+        woke
+    }
+
+    /// Puts the parked jobs that bear a mark back into the queue, where they are handed out to be dropped, and answers how
+    /// many they were. An idle worker does so too after each wait that timed out.
+    pub fn sweep(&self) -> usize {
+        let mut starter = self.starter();
+        let mut held = self.shared.held.lock(&self.rt);
+        let (count, bell) = held.sweep(&mut starter);
+        drop(held);
+        bell.ring(&self.shared.condvar);
+        count
+    }
+
     /// What a worker does from its arrival until it stops. No lock is held while a job runs or is dropped.
     pub fn work<S: Starter>(&self, starter: &mut S) {
         let rt = self.rt;
@@ -141,8 +162,12 @@ impl<J: Job, H: Runtime> Executor<J, H> {
             };
             next = match took {
                 Took::Run(turn, job) => {
-                    run(&turn, job, &rt);
-                    Some(self.end(turn, starter))
+                    let finish = run(&turn, job, &rt);
+                    Some(self.end(turn, finish, starter))
+                }
+                Took::Drop(turn, job) => {
+                    drop(job);
+                    Some(self.end(turn, Finish::Dropped, starter))
                 }
                 Took::Idle(pass) => self.wait(pass, starter),
             };
@@ -150,18 +175,27 @@ impl<J: Job, H: Runtime> Executor<J, H> {
         unreachable!()
     }
 
-    // Ends a turn and takes. A turn that isn't running in this pool is tried again under a later lock.
-    fn end<S: Starter>(&self, turn: Turn, starter: &mut S) -> Took<J> {
+    // Ends a turn and takes. A turn that isn't running in this pool is tried again under a later lock, with what came back.
+    fn end<S: Starter>(&self, turn: Turn, finish: Finish<J>, starter: &mut S) -> Took<J> {
         let rt = self.rt;
         let mut turn = turn;
+        let mut finish = finish;
         for _ in rt.forever() {
             let mut held = self.shared.held.lock(&rt);
-            let (ended, bell) = held.end(turn, Finish::Done, starter);
+            let (ended, bell) = held.end(turn, finish, starter);
             drop(held);
             bell.ring(&self.shared.condvar);
             match ended {
                 Ended::Took(took) => return took,
-                Ended::Stranger(back, _) => turn = back,
+                Ended::Drop(turn, job) => return Took::Drop(turn, job),
+                Ended::Stranger(back, job) => {
+                    turn = back;
+                    finish = match job {
+                        Some(job) => Finish::Waiting(job),
+                        // (a job that was dropped is over as one that is done)
+                        None => Finish::Done,
+                    };
+                }
             }
         }
         unreachable!()
@@ -191,11 +225,13 @@ impl<J: Job, H: Runtime> Executor<J, H> {
     }
 }
 
-// Runs a job to its end, and drops it.
-fn run<J: Job, R: Wait>(turn: &Turn, mut job: J, rt: &R) {
+// Runs a job until it waits or is done. One that is done is dropped.
+fn run<J: Job, R: Wait>(turn: &Turn, mut job: J, rt: &R) -> Finish<J> {
     for _ in rt.forever() {
-        if let JobStep::Done = job.step(turn.job()) {
-            return;
+        match job.step(turn.job()) {
+            JobStep::Again => {}
+            JobStep::Waiting => return Finish::Waiting(job),
+            JobStep::Done => return Finish::Done,
         }
     }
     unreachable!()

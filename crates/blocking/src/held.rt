@@ -3,7 +3,8 @@ ghost use Rattle.std.specs.Prelude.{◌≡◌, ◌<◌, ◌↔◌, true, length}
 ghost use Rattle.blocking_core.specs.declared.pool.bell.BellKind.TheVariants.{Silent};
 
 use blocking_core::pool::{
-    Bell, Finish, Gone, Job, JobNo, Pool, Refused, Starter, Took, Turn, Waited, WorkerPass,
+    Bell, Finish, Gone, Job, JobNo, Pool, Refused, Starter, Took, Turn, Waited, WakeNote, Woke,
+    WorkerPass,
 };
 use std::alloc::Global;
 
@@ -18,13 +19,14 @@ pub struct Held<J: Job> {
 pub enum Ended<J> {
     /// What it took next.
     Took(Took<J>),
+    /// The job that waits, which is to be dropped: its turn goes on until then.
+    Drop(Turn, J),
     /// The turn of a job that isn't running in this pool, and the job if there was one.
     Stranger(Turn, Option<J>),
 }
 
 impl<J: Job> Held<J> {
-    ghost use Rattle.blocking.specs.Sections.{Adds, Starts, ArrivesAndTakes, EndsAndTakes, WaitsAndTakes, SetsLimit};
-    ghost use Rattle.blocking_core.specs.declared.pool.answer.Finish.{Finish};
+    ghost use Rattle.blocking.specs.Sections.{Adds, Starts, Wakes, Sweeps, ArrivesAndTakes, EndsAndTakes, WaitsAndTakes, SetsLimit};
 
     pub fn new(alloc: Global, setting: Option<&str>) -> Held<J>
         ensures { Starts setting.entry result.pool }
@@ -42,9 +44,25 @@ impl<J: Job> Held<J> {
         (answer, self.pool.bell())
     }
 
+    /// A wake reaches its job.
+    pub fn wake<S: Starter>(&mut self, note: WakeNote, starter: &mut S) -> (Woke, Bell)
+        ensures { Wakes (S.may_answer starter.old) (S.refusals starter.old) (S.refusals starter.new) self.old.pool note result.0 self.new.pool result.1 }
+    {
+        let woke = self.pool.wake(note, starter);
+        (woke, self.pool.bell())
+    }
+
+    /// Puts the parked jobs that bear a mark back, and answers how many they were.
+    pub fn sweep<S: Starter>(&mut self, starter: &mut S) -> (usize, Bell)
+        ensures { Sweeps J.may_answer (S.may_answer starter.old) (S.refusals starter.old) (S.refusals starter.new) self.old.pool result.0 self.new.pool result.1 }
+    {
+        let count = self.pool.sweep(starter);
+        (count, self.pool.bell())
+    }
+
     /// A started worker arrives and takes; None where every started worker has arrived.
     pub fn arrive<S: Starter>(&mut self, starter: &mut S) -> (Option<Took<J>>, Bell)
-        ensures { ArrivesAndTakes (S.may_answer starter.old) (S.refusals starter.old) (S.refusals starter.new) self.old.pool result.0 self.new.pool result.1 }
+        ensures { ArrivesAndTakes J.may_answer (S.may_answer starter.old) (S.refusals starter.old) (S.refusals starter.new) self.old.pool result.0 self.new.pool result.1 }
     {
         let Some(pass) = self.pool.arrive() else {
             return (None, self.pool.bell());
@@ -60,14 +78,14 @@ impl<J: Job> Held<J> {
         finish: Finish<J>,
         starter: &mut S,
     ) -> (Ended<J>, Bell)
-        requires { finish ≡ Finish.Done }
-        ensures { EndsAndTakes (S.may_answer starter.old) (S.refusals starter.old) (S.refusals starter.new) self.old.pool turn result.0 self.new.pool result.1 }
+        ensures { EndsAndTakes J.may_answer (S.may_answer starter.old) (S.refusals starter.old) (S.refusals starter.new) self.old.pool turn finish result.0 self.new.pool result.1 }
     {
         match self.pool.end(turn, finish) {
             Gone::Free(pass) => {
                 let took = self.pool.take(pass, starter);
                 (Ended::Took(took), self.pool.bell())
             }
+            Gone::Drop(turn, job) => (Ended::Drop(turn, job), self.pool.bell()),
             Gone::Stranger(turn, job) => (Ended::Stranger(turn, job), self.pool.bell()),
         }
     }
@@ -86,7 +104,7 @@ impl<J: Job> Held<J> {
         self.pool.queue_len() > 0
     }
 
-    /// An idle worker has waited: it takes, or it stops.
+    /// An idle worker has waited: it takes, or it stops. Where the wait timed out it sweeps first.
     pub fn after_wait<S: Starter>(
         &mut self,
         pass: WorkerPass,
@@ -94,7 +112,7 @@ impl<J: Job> Held<J> {
         starter: &mut S,
     ) -> (Option<Took<J>>, Bell)
         requires { self.old.pool.counts.arriving < self.old.pool.counts.idle }
-        ensures { WaitsAndTakes (S.may_answer starter.old) (S.refusals starter.old) (S.refusals starter.new) timed_out self.old.pool result.0 self.new.pool result.1 }
+        ensures { WaitsAndTakes J.may_answer (S.may_answer starter.old) (S.refusals starter.old) (S.refusals starter.new) timed_out self.old.pool result.0 self.new.pool result.1 }
     {
         match self.pool.after_wait(pass, timed_out, starter) {
             Waited::Stay(pass) => {

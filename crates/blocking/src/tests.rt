@@ -3,6 +3,7 @@ ghost use Rattle.std.specs.Prelude.{◌≡◌, false};
 
 mod leaving;
 mod locks;
+mod waiting;
 
 use super::*;
 use blocking_core::task::Call;

@@ -430,8 +430,8 @@ module _ {J : Type 0} where
       subst (λ queue. IsSound (record pool { queue = queue; jobs = all_queued_again (amend pool.jobs serial queued_again) serials })) (append_assoc pool.queue (serial ∷ []) serials)
       (requeued_sound (record pool { queue = pool.queue ++ serial ∷ []; jobs = amend pool.jobs serial queued_again }) serials once.1
       (λ s found.
-        let far : s ≢ serial = λ e. false≢true (sym once.0 ∙ ap (λ n. is_in n serials) (sym e) ∙ found) in
-        ap is_parked_job (amend_other pool.jobs serial queued_again s far) ∙ parked s (or_right (eqb s serial) (is_in s serials) found))
+      let far : s ≢ serial = λ e. false≢true (sym once.0 ∙ ap (λ n. is_in n serials) (sym e) ∙ found) in
+      ap is_parked_job (amend_other pool.jobs serial queued_again s far) ∙ parked s (or_right (eqb s serial) (is_in s serials) found))
       (again_sound pool serial job.0 job.1 job.2 sound))
     where
       parked_at : (found : Option (Job J)) → is_parked_job found ≡ true → (job : Job J) × (found ≡ Some job) × (job.standing ≡ Parked)
@@ -500,7 +500,7 @@ module _ {J : Type 0} where
   pub roll_entered : (accepted : List ℕ) (jobs : Jobs J) (next : ℕ) (job : Job J) → IsRollOf accepted jobs next → IsRollOf (accepted ++ next ∷ []) (insert jobs next job) (next + 1)
   roll_entered accepted jobs next job roll =
       ap (λ ss. ss ++ next ∷ []) (roll ∙ filter_same (λ s. is_some (get jobs s)) there (serials_below next)
-          (λ s found. sym (ap is_some (at_insert_other jobs next job s (λ e. omega (arith, below s next found))))))
+      (λ s found. sym (ap is_some (at_insert_other jobs next job s (λ e. omega (arith, below s next found))))))
       ∙ ap (λ ss. filter there (serials_below next) ++ ss) (sym (ap (λ j. cond (is_some j) (next ∷ []) []) (at_insert_same jobs next job)))
       ∙ sym (filter-append there (serials_below next) (next ∷ []))
       ∙ ap (λ n. filter there (serials_below n)) (sym (add-one next))

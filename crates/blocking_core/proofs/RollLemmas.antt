@@ -502,9 +502,9 @@ module _ {J : Type 0} where
       record {
         marked = marked;
         asked = λ found other there stands has.
-          let one : job_at place entry ≡ found = let e : Some (job_at place entry) ≡ Some found = sym is ∙ there in cc in
-          let same : value ≡ other = let e = sym held ∙ ap (λ j. j.value) one ∙ has in cc in
-          subst (λ v. may_answer v marked) same may;
+            let one : job_at place entry ≡ found = let e : Some (job_at place entry) ≡ Some found = sym is ∙ there in cc in
+            let same : value ≡ other = let e = sym held ∙ ap (λ j. j.value) one ∙ has in cc in
+            subst (λ v. may_answer v marked) same may;
         put_back_is = sym (ap (λ j. is_parked_job j && marked) is ∙ ap (λ s. is_parked s && marked) parked);
       }
 

@@ -27,11 +27,11 @@ rest_again x y [] ys once is = absurd (cc)
 rest_again x y (z ∷ xs) ys once is =
     by_eq x z (λ b. cond b xs (rest_after x xs) ≡ y ∷ ys → cond (eqb y z) xs (rest_after y xs) ≡ ys)
     (λ same here.
-      let far : eqb y z ≡ false = apart z y xs once.0 (ap (is_in y) here ∙ or_left (eqb y y) (is_in y ys) (eq-eqb y y refl)) in
-      ap (λ b. cond b xs (rest_after y xs)) far ∙ ap (rest_after y) here ∙ ap (λ b. cond b ys (rest_after y ys)) (eq-eqb y y refl))
+    let far : eqb y z ≡ false = apart z y xs once.0 (ap (is_in y) here ∙ or_left (eqb y y) (is_in y ys) (eq-eqb y y refl)) in
+    ap (λ b. cond b xs (rest_after y xs)) far ∙ ap (rest_after y) here ∙ ap (λ b. cond b ys (rest_after y ys)) (eq-eqb y y refl))
     (λ differs there.
-      let far : eqb y z ≡ false = apart z y xs once.0 (among_rest x y xs (ap (is_in y) there ∙ or_left (eqb y y) (is_in y ys) (eq-eqb y y refl))) in
-      ap (λ b. cond b xs (rest_after y xs)) far ∙ rest_again x y xs ys once.1 there) is
+    let far : eqb y z ≡ false = apart z y xs once.0 (among_rest x y xs (ap (is_in y) there ∙ or_left (eqb y y) (is_in y ys) (eq-eqb y y refl))) in
+    ap (λ b. cond b xs (rest_after y xs)) far ∙ rest_again x y xs ys once.1 there) is
   where
     apart : (z y : ℕ) (xs : List ℕ) → is_in z xs ≡ false → is_in y xs ≡ true → eqb y z ≡ false
     apart z y xs fresh found = ne_eqb y z (λ e. false≢true (sym fresh ∙ ap (λ n. is_in n xs) (sym e) ∙ found))
@@ -213,8 +213,8 @@ module _ {J : Type 0} where
           -- the rest is swept as if it were swept first
           agree : swept old.jobs marked serials ≡ swept mid.jobs rest.marked serials
           agree = filter_same (is_due old.jobs marked) (is_due mid.jobs rest.marked) serials (λ s found.
-            let differs : s ≢ serial = λ e. false≢true (sym once.0 ∙ ap (λ n. is_in n serials) (sym e) ∙ found) in
-            ap (λ j. is_parked_job j && marked s) (sym (others s differs)) ∙ ap (λ b. is_parked_job (at mid.jobs s) && cond b one.asked.marked (rest.marked s)) (ne_eqb s serial differs))
+              let differs : s ≢ serial = λ e. false≢true (sym once.0 ∙ ap (λ n. is_in n serials) (sym e) ∙ found) in
+              ap (λ j. is_parked_job j && marked s) (sym (others s differs)) ∙ ap (λ b. is_parked_job (at mid.jobs s) && cond b one.asked.marked (rest.marked s)) (ne_eqb s serial differs))
 
           by_test : (b : Bool) → is_due old.jobs marked serial ≡ b
               → Becomes old mid (cond b (old.queue ++ number.serial ∷ []) old.queue) (cond b (amend old.jobs number.serial queued_again) old.jobs)

@@ -475,14 +475,14 @@ module _ {J : Type 0} where
       by_job (Some other) there here =
           by_eq other.place number.place (λ b. cond b (Some other) None ≡ Some job → IsEntryOf slab number job)
           (λ same some.
-            let from = from_there slab (jobs_of slab) number.serial other (tabled slab apart) there in
-            let one : other ≡ job = let e : Some other ≡ Some job = some in cc in
-            record {
-              entry = from.0;
-              is_at = ap (get slab) (sym same) ∙ from.1;
-              serial_is = from.2;
-              job_is = sym one ∙ from.3 ∙ ap (λ n. job_at n from.0) same;
-            })
+          let from = from_there slab (jobs_of slab) number.serial other (tabled slab apart) there in
+          let one : other ≡ job = let e : Some other ≡ Some job = some in cc in
+          record {
+            entry = from.0;
+            is_at = ap (get slab) (sym same) ∙ from.1;
+            serial_is = from.2;
+            job_is = sym one ∙ from.3 ∙ ap (λ n. job_at n from.0) same;
+          })
           (λ differs none. absurd (let e : None ≡ Some job = none in cc)) here
 
   -- a running job has an entry

@@ -135,7 +135,8 @@ impl<J: Job> Pool<J> {
         } = front;
         pass.spend();
         self.counts.begin_job();
-        self.counts.grow(self.table.queue_len(), starter);
+        let left = self.table.queue_len();
+        self.counts.grow(left, starter);
         let marked = value.abandoned();
         if cancelled || marked {
             return Took::Drop(Turn::new(no), value);
@@ -203,11 +204,12 @@ impl<J: Job> Pool<J> {
     {
         let before = self.table.queue_len();
         self.table.sweep();
-        let count = self.table.queue_len() - before;
+        let after = self.table.queue_len();
+        let count = after - before;
         if count == 0 {
             return 0;
         }
-        self.counts.grow(self.table.queue_len(), starter);
+        self.counts.grow(after, starter);
         self.counts.ring_one();
         count
     }

@@ -114,12 +114,15 @@ fn cancel_gives_none_once_the_run_is_over(rt: HostRuntime) -> io::Result<()> {
 }
 
 #[test]
-fn cancel_of_a_queued_call_gives_none(rt: HostRuntime) -> io::Result<()> {
+fn cancelled_call_that_is_queued_is_not_made(rt: HostRuntime) -> io::Result<()> {
     let executor = workers(rt, Some("1"));
     let (task, go) = start_one(&rt, &executor)?;
-    let cancel = begun(&rt, &executor, Errand::Succeed(1)).cancel();
+    let (is_made, never) = (flag(&rt)?, flag(&rt)?);
+    let errand = Errand::Meet(Arc::try_clone(&is_made)?, never);
+    let cancel = begun(&rt, &executor, errand).cancel();
     go.store(true, Ordering::SeqCst);
     assert_eq!(rt; block_on(&rt, cancel)?, None);
+    assert!(rt; !is_made.load(Ordering::SeqCst));
     assert_eq!(rt; block_on(&rt, task)?, 1);
     Ok(())
 }

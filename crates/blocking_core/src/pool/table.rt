@@ -211,9 +211,8 @@ impl<J: Drop> Table<J> {
         requires { standing_of self.old.jobs no ≡ Some Parked }
         ensures { Becomes self.old self.new (self.old.queue ++ no.serial ∷ []) (amend self.old.jobs no.serial queued_again) }
     {
-        let place = no.place();
-        self.queue.push_back(place);
-        let Some(entry) = self.entries.get_mut(place) else {
+        self.queue.push_back(no.place());
+        let Some(entry) = self.entries.get_mut(no.place()) else {
             unreachable!()
         };
         entry.standing = Standing::Queued;

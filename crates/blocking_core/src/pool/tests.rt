@@ -1,5 +1,8 @@
 //! The worked rows of the pool.
+mod waiting;
+
 use super::*;
+use std::alloc::AllocGlobal;
 use std::process::Abort;
 use std::sync::Condvar;
 
@@ -44,7 +47,7 @@ impl Starter for RefusesAt {
     }
 }
 
-fn refuses_at(rt: &HostRuntime, numbers: &'static [u64]) -> RefusesAt {
+fn refuses_at<R: AllocGlobal>(rt: &R, numbers: &'static [u64]) -> RefusesAt {
     RefusesAt {
         numbers,
         refusals: 0,
@@ -147,6 +150,10 @@ fn taken_by(
     }
     match pool.take(pass, starter) {
         Took::Run(turn, job) => (turn, job),
+        Took::Drop(turn, _) => {
+            turn.spend();
+            panic!(rt; "the job is to be dropped")
+        }
         Took::Idle(pass) => {
             pass.spend();
             panic!(rt; "no job is queued")
@@ -165,9 +172,9 @@ fn busy(rt: &impl Abort, pool: &mut Pool<Numbered>, starter: &mut RefusesAt) -> 
 fn ended(rt: &impl Abort, pool: &mut Pool<Numbered>, turn: Turn) -> WorkerPass {
     match pool.end(turn, Finish::Done) {
         Gone::Free(pass) => pass,
-        Gone::Stranger(turn, _) => {
+        Gone::Drop(turn, _) | Gone::Stranger(turn, _) => {
             turn.spend();
-            panic!(rt; "a stranger")
+            panic!(rt; "the turn goes on")
         }
     }
 }
@@ -264,6 +271,10 @@ fn strangers_turn_comes_back(rt: HostRuntime) {
         }
         Gone::Free(pass) => {
             pass.spend();
+            panic!(rt; "a stranger's turn was taken")
+        }
+        Gone::Drop(turn, _) => {
+            turn.spend();
             panic!(rt; "a stranger's turn was taken")
         }
     }

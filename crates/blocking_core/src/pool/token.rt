@@ -55,7 +55,7 @@ impl WorkerPass {
 
 /// A wake that is due to a job. It has no `Drop`: it has to be spent by [`Pool::wake`](crate::pool::Pool::wake).
 pub struct WakeNote {
-    no: JobNo,
+    job: JobNo,
 }
 
 impl Model for WakeNote {
@@ -63,30 +63,30 @@ impl Model for WakeNote {
 
     ghost Value = { JobNumber };
 
-    ghost view = { λ note. note.no };
+    ghost view = { λ note. note.job };
 }
 
 impl WakeNote {
     ghost use Rattle.std.specs.Prelude.{◌≡◌};
 
     /// A wake of the job of this number.
-    pub fn new(no: JobNo) -> WakeNote
-        ensures { result ≡ no }
+    pub fn new(job: JobNo) -> WakeNote
+        ensures { result ≡ job }
     {
-        WakeNote { no }
+        WakeNote { job }
     }
 
     /// The number of the job.
     pub fn job(&self) -> JobNo
         ensures { result ≡ self.now }
     {
-        self.no
+        self.job
     }
 
     pub(crate) fn spend(self) -> JobNo
         ensures { result ≡ self }
     {
-        let WakeNote { no } = self;
-        no
+        let WakeNote { job } = self;
+        job
     }
 }

@@ -25,6 +25,6 @@ returns g c =
     (rest_is c.self.inside.entries c.self.inside.queue c.self.inside.accepted c.args.self.now c.args.no job.0 c.place.result c.self.invariant c.self.view_is job.1 c.place.ensures)
     (λ q found. among_rest c.place.result q c.self.inside.accepted.places found)
     (λ place is.
-      let one : c.in_ok-after.field-0 ≡ place = let e = c.in_ok-after.ensures ∙ is in cc in
-      c.number_at.ensures ∙ ap (λ p. option_map (λ entry. record { place = p; serial = entry.serial }) (get c.self.inside.entries p)) one)
+    let one : c.in_ok-after.field-0 ≡ place = let e = c.in_ok-after.ensures ∙ is in cc in
+    c.number_at.ensures ∙ ap (λ p. option_map (λ entry. record { place = p; serial = entry.serial }) (get c.self.inside.entries p)) one)
     (λ none. absurd (let e = c.in_ok-after.ensures ∙ none in cc))

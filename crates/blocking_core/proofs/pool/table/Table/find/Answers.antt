@@ -13,8 +13,8 @@ pub returns-then-entry-serial : goal.returns-then-entry-serial
 returns-then-entry-serial g c =
     ap found_of (finds_none c.self.inside.entries c.self.inside.queue c.self.inside.accepted c.args.self.now c.args.no c.place.result c.self.invariant c.self.view_is c.place.ensures
     (λ entry found same.
-      let one : entry ≡ c.in_ok-entry.entry.now = let e = sym found ∙ sym c.in_ok-entry.ensures in cc in
-      c.if-entry-serial.true (ap (λ e. e.serial) (sym one) ∙ same ∙ sym c.serial.ensures)))
+    let one : entry ≡ c.in_ok-entry.entry.now = let e = sym found ∙ sym c.in_ok-entry.ensures in cc in
+    c.if-entry-serial.true (ap (λ e. e.serial) (sym one) ∙ same ∙ sym c.serial.ensures)))
 
 pub returns : goal.returns
 returns g c =

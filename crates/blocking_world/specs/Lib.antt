@@ -1,0 +1,17 @@
+pub mod Texts
+pub mod Seen
+pub mod Jobs
+pub mod Queue
+pub mod Counts
+pub mod Growth
+pub mod Turns
+pub mod Answers
+pub mod JobTable
+pub mod Places
+pub mod Seats
+pub mod TaskLaws
+pub mod Wakes
+pub mod Steps
+pub mod Legal
+pub mod Traces
+pub mod Served
