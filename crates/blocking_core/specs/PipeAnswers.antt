@@ -1,5 +1,5 @@
 -- What the calls of a pipe answer, and what each leaves.
-use Rattle.std.specs.Prelude.{◌≡◌, ℕ, min, List, [], ◌∷◌, ◌++◌, length, take, drop, Option, Some, None}
+use Rattle.std.specs.Prelude.{◌≡◌, ℕ, ◌<◌, min, List, [], ◌∷◌, ◌++◌, length, take, drop, Option, Some, None}
 use Rattle.blocking_core.specs.Jobs.{JobNumber}
 use Rattle.blocking_core.specs.Pipes.{Pipe, room}
 use Rattle.blocking_core.specs.Places.{Served, Waiting, Closed, drain, receive, fill, find_room, hand_in, peek}
@@ -33,7 +33,7 @@ module _ {X W : Type 0} where
 
   -- The job looks for room. Where there is none it is seated.
   abbrev pub FindsRoom : Pipe X W → JobNumber → Room → Pipe X W → Type 0
-  FindsRoom old me (found.Free n) new = (find_room (room old) old.is_owner_open ≡ Served n) × (new ≡ old)
+  FindsRoom old me (found.Free n) new = (find_room (room old) old.is_owner_open ≡ Served n) × (0 < n) × (new ≡ old)
   FindsRoom old me found.Parked new = (find_room (room old) old.is_owner_open ≡ Waiting) × (new ≡ job_seated old me)
   FindsRoom old me found.Shut new = (find_room (room old) old.is_owner_open ≡ Closed) × (new ≡ old)
 
@@ -59,6 +59,7 @@ module _ {X W : Type 0} where
   abbrev pub Peeks : Pipe X W → JobNumber → List X → Peeked → Pipe X W → List X → Type 0
   Peeks old me out (peeked.Some n) new shown =
       (peek (length out) old.items old.is_owner_open ≡ Served (take n old.items))
+      × (0 < n)
       × (n ≡ min (length out) (length old.items))
       × (new ≡ old)
       × (shown ≡ take n old.items ++ drop n out)
@@ -72,6 +73,7 @@ module _ {X W : Type 0} where
   abbrev pub Drains : Pipe X W → W → List X → Drained → Option W → Pipe X W → List X → Type 0
   Drains old waker out (drained.Got n note) spare new got =
       (drain (length out) old.items old.is_job_open old.job_seat ≡ Served (take n old.items, note))
+      × (0 < n)
       × (n ≡ min (length out) (length old.items))
       × (new ≡ without_front old n)
       × (got ≡ take n old.items ++ drop n out)
@@ -99,6 +101,7 @@ module _ {X W : Type 0} where
   abbrev pub Fills : Pipe X W → W → List X → Filled → Option W → Pipe X W → Type 0
   Fills old waker given (filled.Took n note) spare new =
       (fill (length given) (room old) old.is_job_open old.job_seat ≡ Served (n, note))
+      × (0 < n)
       × (new ≡ record old { items = old.items ++ take n given; job_seat = None })
       × (spare ≡ Some waker)
   Fills old waker given filled.Shut spare new =

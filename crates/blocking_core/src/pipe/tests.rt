@@ -103,6 +103,15 @@ fn receive(pipe: &mut ItemPipe<u32, u8>, waker: u8) -> (Answer, Spare) {
     (answer, spare)
 }
 
+// The byte so many places on.
+fn after(byte: u8, count: usize) -> u8 {
+    let mut next = byte;
+    for _ in 0..count {
+        next = next.wrapping_add(1);
+    }
+    next
+}
+
 #[test]
 fn four_bytes_are_drained_by_two(rt: HostRuntime) {
     let mut pipe = bytes(&rt, rt.alloc(), 4);
@@ -142,28 +151,31 @@ fn three_bytes_are_filled_into_two(rt: HostRuntime) {
 }
 
 #[test]
-fn closed_pipe_is_emptied_from_either_end(rt: HostRuntime) {
-    let mut given = bytes(&rt, rt.alloc(), 2);
+fn pipe_closed_by_its_owner_is_peeked_empty(rt: HostRuntime) {
+    let mut pipe = bytes(&rt, rt.alloc(), 2);
     let mut one = [0u8; 1];
-    assert_eq!(rt; put(&rt, &mut given, b"pq"), Put::In(None));
-    assert_eq!(rt; serial_of(given.close_owner()), None);
-    assert_eq!(rt; peek(&rt, &mut given, job(1), &mut one), Peeked::Some(1));
+    assert_eq!(rt; put(&rt, &mut pipe, b"pq"), Put::In(None));
+    assert_eq!(rt; serial_of(pipe.close_owner()), None);
+    assert_eq!(rt; peek(&rt, &mut pipe, job(1), &mut one), Peeked::Some(1));
     assert_eq!(rt; &one, b"p");
-    assert_eq!(rt; consume(&rt, &mut given, 1), None);
-    assert_eq!(rt; consume(&rt, &mut given, 1), None);
-    assert_eq!(rt; peek(&rt, &mut given, job(1), &mut one), Peeked::Drained);
+    assert_eq!(rt; consume(&rt, &mut pipe, 1), None);
+    assert_eq!(rt; consume(&rt, &mut pipe, 1), None);
+    assert_eq!(rt; peek(&rt, &mut pipe, job(1), &mut one), Peeked::Drained);
+}
 
-    let mut taken = bytes(&rt, rt.alloc(), 2);
+#[test]
+fn pipe_closed_by_its_job_is_drained_empty(rt: HostRuntime) {
+    let mut pipe = bytes(&rt, rt.alloc(), 2);
     let mut four = *b"....";
-    assert_eq!(rt; put(&rt, &mut taken, b"pq"), Put::In(None));
-    assert_eq!(rt; taken.close_job(), None);
+    assert_eq!(rt; put(&rt, &mut pipe, b"pq"), Put::In(None));
+    assert_eq!(rt; pipe.close_job(), None);
     assert_eq!(rt;
-        drain(&rt, &mut taken, 7, &mut four),
+        drain(&rt, &mut pipe, 7, &mut four),
         (Answer::Count(2, None), Some(7))
     );
     assert_eq!(rt; &four, b"pq..");
     assert_eq!(rt;
-        drain(&rt, &mut taken, 7, &mut four),
+        drain(&rt, &mut pipe, 7, &mut four),
         (Answer::Over, Some(7))
     );
 }
@@ -208,13 +220,13 @@ fn bytes_come_out_in_order_round_the_ring(rt: HostRuntime) {
     for _ in 0..40 {
         let given = [
             next_in,
-            next_in.wrapping_add(1),
-            next_in.wrapping_add(2),
-            next_in.wrapping_add(3),
-            next_in.wrapping_add(4),
+            after(next_in, 1),
+            after(next_in, 2),
+            after(next_in, 3),
+            after(next_in, 4),
         ];
         if let (Answer::Count(count, _), _) = fill(&rt, &mut pipe, 1, &given) {
-            next_in = next_in.wrapping_add(count as u8);
+            next_in = after(next_in, count);
         }
         assert_eq!(rt;
             peek(&rt, &mut pipe, job(1), &mut shown),
@@ -233,17 +245,58 @@ fn bytes_come_out_in_order_round_the_ring(rt: HostRuntime) {
 }
 
 #[test]
-fn default_capacities_are_full_at_their_counts(rt: HostRuntime) {
-    let mut stream = bytes(&rt, rt.alloc(), DEFAULT_BYTES);
-    assert_eq!(rt; stream.room_or_seat(job(1)), Room::Free(8_388_608));
-    assert_eq!(rt; put(&rt, &mut stream, b"abc"), Put::In(None));
-    assert_eq!(rt; stream.room_or_seat(job(1)), Room::Free(8_388_605));
-    let mut items = numbers(&rt, rt.alloc(), DEFAULT_ITEMS);
+fn default_pipe_of_bytes_has_room_for_eight_mebibytes(rt: HostRuntime) {
+    let mut pipe = bytes(&rt, rt.alloc(), DEFAULT_BYTES);
+    assert_eq!(rt; pipe.room_or_seat(job(1)), Room::Free(8_388_608));
+    assert_eq!(rt; put(&rt, &mut pipe, b"abc"), Put::In(None));
+    assert_eq!(rt; pipe.room_or_seat(job(1)), Room::Free(8_388_605));
+}
+
+#[test]
+fn default_pipe_of_items_is_full_at_8192(rt: HostRuntime) {
+    let mut pipe = numbers(&rt, rt.alloc(), DEFAULT_ITEMS);
     for n in 0..8192u32 {
-        assert_eq!(rt; items.send(job(1), n), Sending::Sent(None));
+        assert_eq!(rt; pipe.send(job(1), n), Sending::Sent(None));
     }
-    assert_eq!(rt; items.send(job(1), 8192), Sending::Parked(8192));
-    assert_eq!(rt; receive(&mut items, 1), (Answer::Item(0, Some(1)), Some(1)));
+    assert_eq!(rt; pipe.send(job(1), 8192), Sending::Parked(8192));
+    assert_eq!(rt; receive(&mut pipe, 1), (Answer::Item(0, Some(1)), Some(1)));
+}
+
+// All calls that take no memory. `rt try --test --fail-alloc 2` refuses the second piece that is asked for, and this ends as
+// without: there is none.
+#[test]
+fn pipe_takes_one_piece_of_memory(rt: HostRuntime) {
+    let mut pipe = bytes(&rt, rt.alloc(), 2);
+    let mut two = [0u8; 2];
+    assert_eq!(rt; pipe.room_or_seat(job(1)), Room::Free(2));
+    assert_eq!(rt; put(&rt, &mut pipe, b"a"), Put::In(None));
+    assert_eq!(rt; pipe.send(job(1), b'b'), Sending::Sent(None));
+    assert_eq!(rt; pipe.send(job(1), b'c'), Sending::Parked(b'c'));
+    assert_eq!(rt; peek(&rt, &mut pipe, job(1), &mut two), Peeked::Some(2));
+    assert_eq!(rt; consume(&rt, &mut pipe, 1), None);
+    assert_eq!(rt;
+        drain(&rt, &mut pipe, 7, &mut two),
+        (Answer::Count(1, Some(1)), Some(7))
+    );
+    assert_eq!(rt;
+        fill(&rt, &mut pipe, 7, b"def"),
+        (Answer::Count(2, None), Some(7))
+    );
+    assert_eq!(rt; pipe.len(), 2);
+    assert_eq!(rt; pipe.room(), 0);
+    assert_eq!(rt; fill(&rt, &mut pipe, 7, b"f"), (Answer::Waits, None));
+    assert_eq!(rt; pipe.unseat_owner(), Some(7));
+    let Answered { answer, spare } = pipe.receive_or_seat(7);
+    match answer {
+        Received::Got(byte, note) => {
+            assert_eq!(rt; byte, b'd');
+            assert_eq!(rt; serial_of(note), None);
+        }
+        Received::Ended | Received::Waits(_) => panic!(rt; "the pipe was empty"),
+    }
+    assert_eq!(rt; spare, Some(7));
+    assert_eq!(rt; serial_of(pipe.close_owner()), None);
+    assert_eq!(rt; pipe.close_job(), None);
 }
 
 #[test]
