@@ -1,5 +1,5 @@
 -- What contracts see of a pipe.
-use Rattle.std.specs.Prelude.{◌≡◌, ℕ, ◌-◌, ◌<◌, ◌≤◌, Bool, true, List, [], length, Option, None, refl}
+use Rattle.std.specs.Prelude.{ℕ, ◌-◌, ◌<◌, ◌≤◌, Bool, true, List, [], length, Option, None, refl}
 use Rattle.std.specs.Coded.{Coded, code_by, coded×, coded_ℕ, coded_bool, coded_list, coded_option}
 use Rattle.circular_buffer.specs.Buffer.{Buffer}
 use Rattle.blocking_core.specs.Jobs.{JobNumber}
