@@ -33,9 +33,9 @@ impl Call for Work {
 
 type Workers<R> = Executor<CallJob<Work, R>, R>;
 
-/// What is measured.
+/// A way to make calls.
 #[derive(Clone, Copy)]
-pub(crate) enum Bench {
+pub(crate) enum Calls {
     Roundtrip,
     RoundtripAwait,
     Burst,
@@ -43,46 +43,29 @@ pub(crate) enum Bench {
     Idle,
 }
 
-impl Bench {
-    pub(crate) const ALL: [Bench; 5] = [
-        Bench::Roundtrip,
-        Bench::RoundtripAwait,
-        Bench::Burst,
-        Bench::BurstLimited,
-        Bench::Idle,
-    ];
-
+impl Calls {
     pub(crate) fn name(self) -> &'static str {
         match self {
-            Bench::Roundtrip => "roundtrip",
-            Bench::RoundtripAwait => "roundtrip_await",
-            Bench::Burst => "burst",
-            Bench::BurstLimited => "burst_limited",
-            Bench::Idle => "idle",
+            Calls::Roundtrip => "roundtrip",
+            Calls::RoundtripAwait => "roundtrip_await",
+            Calls::Burst => "burst",
+            Calls::BurstLimited => "burst_limited",
+            Calls::Idle => "idle",
         }
-    }
-
-    pub(crate) fn by_name(name: &str) -> Option<Bench> {
-        for bench in Bench::ALL {
-            if bench.name() == name {
-                return Some(bench);
-            }
-        }
-        None
     }
 
     pub(crate) fn unit(self) -> &'static str {
         match self {
-            Bench::Idle => "ms",
+            Calls::Idle => "ms",
             _ => "ns/call",
         }
     }
 
     pub(crate) fn size(self) -> usize {
         match self {
-            Bench::Roundtrip | Bench::RoundtripAwait => 20_000,
-            Bench::Burst | Bench::BurstLimited => 10_000,
-            Bench::Idle => 1_000,
+            Calls::Roundtrip | Calls::RoundtripAwait => 20_000,
+            Calls::Burst | Calls::BurstLimited => 10_000,
+            Calls::Idle => 1_000,
         }
     }
 
@@ -101,19 +84,14 @@ impl Bench {
         for rep in 0..=request.reps {
             let start = Instant::now(&rt)?;
             match self {
-                Bench::Roundtrip => roundtrip(&rt, host, &executor, request.size, figures)?,
-                Bench::RoundtripAwait => roundtrip_await(host, &executor, request.size)?,
-                Bench::Burst | Bench::BurstLimited => burst(host, &executor, request.size)?,
-                Bench::Idle => sleepers(rt, host, &executor, request.size)?,
+                Calls::Roundtrip => roundtrip(&rt, host, &executor, request.size, figures)?,
+                Calls::RoundtripAwait => roundtrip_await(host, &executor, request.size)?,
+                Calls::Burst | Calls::BurstLimited => burst(host, &executor, request.size)?,
+                Calls::Idle => sleepers(rt, host, &executor, request.size)?,
             }
-            let figure = self.figure(nanos(start.elapsed(&rt)?), request.size);
-            if rep == 0 {
-                figures.set_first(figure);
-            } else {
-                figures.push(figure)?;
-            }
+            figures.note(rep, self.figure(nanos(start.elapsed(&rt)?), request.size))?;
         }
-        if let Bench::Idle = self {
+        if let Calls::Idle = self {
             // Whoever watches from outside sees the workers go.
             thread::sleep(&rt, Duration::from_millis(1500));
         }
@@ -123,7 +101,7 @@ impl Bench {
     // In the name's unit.
     fn figure(self, nanos: u64, size: usize) -> u64 {
         match self {
-            Bench::Idle => nanos / 1_000_000,
+            Calls::Idle => nanos / 1_000_000,
             _ => nanos / (size as u64).max(1),
         }
     }

@@ -24,7 +24,7 @@ impl Request {
     }
 }
 
-/// Nanoseconds for each unit of work, a figure a repetition, and the greatest that one unit took.
+/// A figure a repetition, in the name's unit, and the nanoseconds that the longest unit of work took.
 #[derive(Drop)]
 pub(crate) struct Figures {
     first: u64,
@@ -41,12 +41,12 @@ impl Figures {
         })
     }
 
-    /// The repetition that isn't counted: the pool is cold.
-    pub(crate) fn set_first(&mut self, figure: u64) {
-        self.first = figure;
-    }
-
-    pub(crate) fn push(&mut self, figure: u64) -> Result<(), AllocError> {
+    /// Takes note of what a repetition took. Repetition 0 is cold, and isn't counted.
+    pub(crate) fn note(&mut self, rep: usize, figure: u64) -> Result<(), AllocError> {
+        if rep == 0 {
+            self.first = figure;
+            return Ok(());
+        }
         self.all.push(figure)?;
         self.all.sort_unstable();
         Ok(())

@@ -3,11 +3,13 @@
 //! docs/PERFORMANCE.md says what each name measures. Without a name it prints the names that it knows.
 #![tactic(auto)]
 
+mod bench;
 mod calls;
 mod figures;
 mod host;
+mod pipe;
 
-use crate::calls::Bench;
+use crate::bench::Bench;
 use crate::figures::{Figures, Request};
 use std::process::ExitCode;
 use std::{env, io};

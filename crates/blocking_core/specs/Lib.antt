@@ -4,6 +4,9 @@ pub mod Counts
 pub mod Growth
 pub mod Jobs
 pub mod Limits
+pub mod PipeAnswers
+pub mod Pipes
+pub mod Places
 pub mod PoolAnswers
 pub mod PoolLends
 pub mod Pools

@@ -3,5 +3,6 @@
 
 pub mod job;
 pub mod limit;
+pub mod pipe;
 pub mod pool;
 pub mod task;

@@ -47,7 +47,7 @@ impl<T: Drop, W: Drop> Model for Slot<T, W> {
 
 /// The proof that a poll seated its waker. Only the call that waits makes one.
 #[derive(Drop)]
-pub struct Seat(());
+pub struct Seat(pub(crate) ());
 
 /// What a poll of a slot finds.
 #[derive(Drop)]

@@ -1,0 +1,69 @@
+//! The benchmarks by their names.
+use crate::calls::Calls;
+use crate::figures::{Figures, Request};
+use crate::host::Host;
+use crate::pipe;
+use std::io;
+
+/// What is measured.
+#[derive(Clone, Copy)]
+pub(crate) enum Bench {
+    Calls(Calls),
+    Pipe,
+}
+
+impl Bench {
+    pub(crate) const ALL: [Bench; 6] = [
+        Bench::Calls(Calls::Roundtrip),
+        Bench::Calls(Calls::RoundtripAwait),
+        Bench::Calls(Calls::Burst),
+        Bench::Calls(Calls::BurstLimited),
+        Bench::Calls(Calls::Idle),
+        Bench::Pipe,
+    ];
+
+    pub(crate) fn name(self) -> &'static str {
+        match self {
+            Bench::Calls(calls) => calls.name(),
+            Bench::Pipe => "pipe",
+        }
+    }
+
+    pub(crate) fn by_name(name: &str) -> Option<Bench> {
+        for bench in Bench::ALL {
+            if bench.name() == name {
+                return Some(bench);
+            }
+        }
+        None
+    }
+
+    pub(crate) fn unit(self) -> &'static str {
+        match self {
+            Bench::Calls(calls) => calls.unit(),
+            Bench::Pipe => "MB/s",
+        }
+    }
+
+    pub(crate) fn size(self) -> usize {
+        match self {
+            Bench::Calls(calls) => calls.size(),
+            Bench::Pipe => 200_000_000,
+        }
+    }
+
+    /// Does the work once cold and then as often as is asked. The limit of `burst_limited` comes with the setting.
+    pub(crate) fn run<R: Host + 'static>(
+        self,
+        rt: HostRuntime,
+        host: R,
+        setting: Option<&str>,
+        request: Request,
+        figures: &mut Figures,
+    ) -> io::Result<()> {
+        match self {
+            Bench::Calls(calls) => calls.run(rt, host, setting, request, figures),
+            Bench::Pipe => pipe::run(rt, request, figures),
+        }
+    }
+}
