@@ -21,7 +21,7 @@ use Rattle.blocking_core.specs.declared.pool.standing.Standing.TheVariants.{Queu
 use Rattle.blocking_core.specs.declared.pool.bell.BellKind.TheVariants.{One}
 use Rattle.blocking_core.proofs.Lists.{by_eq, is_in-append, IsOnce-push, length-le_below}
 use Rattle.blocking_core.proofs.RollLemmas.{running_job, standing_job}
-use Rattle.blocking_core.proofs.SweepLemmas.{filter_same, job_of_found, job_of_amend, at_changed}
+use Rattle.blocking_core.proofs.SweepLemmas.{filter_same, parked_is, job_of_found, job_of_amend, at_changed}
 use Rattle.blocking_core.proofs.TableLemmas.{at_insert_same, at_insert_other, at_remove_same, at_remove_other, amend_found}
 
 -- a growth keeps the order of the counts, and the number of those that run a job
@@ -437,14 +437,7 @@ module _ {J : Type 0} where
     where
       parked_at : (found : Option (Job J)) → is_parked_job found ≡ true → (job : Job J) × (found ≡ Some job) × (job.standing ≡ Parked)
       parked_at None is = absurd (false≢true is)
-      parked_at (Some job) is = (job, refl, by_standing job.standing is)
-        where
-          by_standing : (s : Standing) → is_parked s ≡ true → s ≡ Parked
-          by_standing Queued p = absurd (false≢true p)
-          by_standing Running p = absurd (false≢true p)
-          by_standing Parked p = refl
-          by_standing Done p = absurd (false≢true p)
-          by_standing Dropped p = absurd (false≢true p)
+      parked_at (Some job) is = (job, refl, parked_is job.standing is)
 
   -- a running job waits, and its worker is free
   pub parked_sound : (pool : Pool J) (number : JobNumber) (value : J) → is_running_as pool.jobs number ≡ true → IsSound pool

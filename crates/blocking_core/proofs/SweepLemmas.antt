@@ -41,6 +41,14 @@ abbrev pub rest_of : Option JobNumber → List ℕ → List ℕ
 rest_of None serials = []
 rest_of (Some number) serials = number.serial ∷ rest_after number.serial serials
 
+-- what the test finds parked is parked
+pub parked_is : (s : Standing) → is_parked s ≡ true → s ≡ Parked
+parked_is Queued never = absurd (false≢true never)
+parked_is Running never = absurd (false≢true never)
+parked_is Parked is_so = refl
+parked_is Done never = absurd (false≢true never)
+parked_is Dropped never = absurd (false≢true never)
+
 module _ {J : Type 0} where
   -- what a number finds stands under its serial, at its place
   pub job_of_found : (jobs : Jobs J) (number : JobNumber) (job : Job J) → job_of jobs number ≡ Some job → (at jobs number.serial ≡ Some job) × (job.place ≡ number.place)
@@ -73,14 +81,7 @@ module _ {J : Type 0} where
     where
       by_job : (found : Option (Job J)) → is_parked_job found ≡ true → option_map (λ j. j.standing) found ≡ Some Parked
       by_job None never = absurd (false≢true never)
-      by_job (Some found) parked = ap Some (by_standing found.standing parked)
-        where
-          by_standing : (s : Standing) → is_parked s ≡ true → s ≡ Parked
-          by_standing Queued never = absurd (false≢true never)
-          by_standing Running never = absurd (false≢true never)
-          by_standing Parked is_so = refl
-          by_standing Done never = absurd (false≢true never)
-          by_standing Dropped never = absurd (false≢true never)
+      by_job (Some found) parked = ap Some (parked_is found.standing parked)
 
   -- one job stays, or is put back
   pub sweeps_none : (may_answer : J → Bool → Type 0) (old : Table J) (number : JobNumber) (put_back : Bool) → put_back ≡ false → IsAsked may_answer (job_of old.jobs number) put_back → SweepsOne may_answer old number old
