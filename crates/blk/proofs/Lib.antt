@@ -1,1 +1,4 @@
 pub mod Numbers
+pub mod OutcomeLemmas
+pub mod PlayLemmas
+pub mod ScriptLemmas

@@ -1,51 +1,98 @@
 -- What a command line does.
-use Rattle.std.specs.Prelude.{◌≡◌, ℕ, ◌+◌, ◌⊎◌, List, [], ◌∷◌, ◌++◌, Option, Some, None, Result, Ok, Err, codes, decimal}
-use Rattle.std.specs.Io.KnownBytes.{Appends}
+use Rattle.std.specs.Prelude.{◌≡◌, ℕ, ◌+◌, ◌⊎◌, List, [], Option, Some, None, Result, Ok, Err, String, codes, decimal, length, string_bytes}
+use Rattle.std.specs.Global.{Global}
+use Rattle.std.specs.Io.KnownBytes.{Appends, Consumes, IsAtEnd}
+use Rattle.std.specs.Str.{IsUtf8}
+use Rattle.blk.specs.Faults.{fault_status, fault_text}
+use Rattle.blk.specs.Plays.{ShowsScript, line_of}
+use Rattle.blk.specs.Scripts.{AllMayStand, IsFirstStray, deeds_in, lines_of, marks_in, setting_in}
 use Rattle.blk.specs.declared.fault.BlkFault.{BlkFault}
-use Rattle.blk.specs.declared.fault.BlkFault.TheVariants.{Refused, Running, Writing}
+use Rattle.blk.specs.declared.fault.BlkFault.TheVariants.{Writing, NotText, NotAStep}
 use Rattle.blk.specs.declared.request.Request.{Request}
-use Rattle.blk.specs.declared.request.Request.TheVariants.{Call, Limit}
-use Rattle.blk.specs.Requests.{request_of}
-
--- a text with a line feed
-abbrev pub line_of : List ℕ → List ℕ
-line_of text = text ++ 10 ∷ []
+use Rattle.blk.specs.declared.request.Request.TheVariants.{Call, Limit, Steps}
 
 -- what is said of a wrong command line
 abbrev pub usage : List ℕ
 usage = codes "usage: blk call N | blk limit [TEXT] | blk steps | blk copy"
 
--- what a request is answered: a call with the number that follows, a limit with itself
-abbrev pub answer_to : Request → List ℕ
-answer_to (Call number) = line_of (decimal (number + 1))
-answer_to (Limit limit) = line_of (decimal limit)
+-- ---- what a script is answered
 
--- what a command does where nothing fails: the status that it answers, and what it adds to its two writers
-pub record Outcome : Type 0 where
-  pub status : ℕ
-  pub output : List ℕ
-  pub faults : List ℕ
+-- a script of these bytes shows this text: it is one, and the text is what its steps show in a new world of its setting and
+-- its starts
+pub record ShowsText (bytes text : List ℕ) : Type 0 where
+  pub utf8 : IsUtf8 bytes
+  pub stand : AllMayStand (lines_of bytes) (length (lines_of bytes))
+  pub shown : ShowsScript (setting_in (lines_of bytes)) (marks_in (lines_of bytes)) (deeds_in (lines_of bytes)) text
 
--- the outcome of a request, or of a wrong command line
-abbrev pub outcome_for : Option Request → Outcome
-outcome_for (Some request) = record { status = 0; output = answer_to request; faults = [] }
-outcome_for None = record { status = 2; output = []; faults = line_of usage }
+-- these bytes are no script, and this is why
+abbrev pub IsNoScript : List ℕ → BlkFault → Type 0
+IsNoScript bytes NotText = ¬ (IsUtf8 bytes)
+IsNoScript bytes (NotAStep number) = IsUtf8 bytes × IsFirstStray (lines_of bytes) number
+IsNoScript bytes _ = ⊥
 
--- the outcome of a command line's words under a setting
-abbrev pub outcome_of : Option (List ℕ) → List (Option (List ℕ)) → Outcome
-outcome_of setting words = outcome_for (request_of setting words)
+-- all of the input was read, and it was these bytes
+abbrev pub ReadsAll : Option (List ℕ) → Option (List ℕ) → List ℕ → Type 0
+ReadsAll old new bytes = Consumes old new bytes × IsAtEnd new
 
--- the status is the one that was to be answered, or it is 1 in the place of 0
-abbrev pub Ends : ℕ → ℕ → Type 0
-Ends expected status = (status ≡ expected) ⊎ ((expected ≡ 0) × (status ≡ 1))
+-- what is known of a fault: whether the input is to blame, and why
+abbrev pub Blames : Option (List ℕ) → Option (List ℕ) → BlkFault → Type 0
+Blames old new NotText = (bytes : List ℕ) × ReadsAll old new bytes × IsNoScript bytes NotText
+Blames old new (NotAStep number) = (bytes : List ℕ) × ReadsAll old new bytes × IsNoScript bytes (NotAStep number)
+Blames old new _ = Unit {0}
+
+-- the text of an input that was read, by what was left of it before and after
+abbrev pub ReadsText : Option (List ℕ) → Option (List ℕ) → Result (String Global) BlkFault → Type 0
+ReadsText old new (Ok text) = ReadsAll old new (string_bytes text) × IsUtf8 (string_bytes text)
+ReadsText old new (Err fault) = Blames old new fault
+
+-- what a script that was read is answered
+abbrev pub Shows : Option (List ℕ) → Option (List ℕ) → Result (String Global) BlkFault → Type 0
+Shows old new (Ok text) = (bytes : List ℕ) × ReadsAll old new bytes × ShowsText bytes (string_bytes text)
+Shows old new (Err fault) = Blames old new fault
+
+-- ---- what a request is answered
+
+-- a request may be answered with this text: a call with the number that follows, a limit with itself, and a script with what
+-- it shows
+abbrev pub IsAnswer : Request → Option (List ℕ) → Option (List ℕ) → List ℕ → Type 0
+IsAnswer (Call number) old new text = text ≡ line_of (decimal (number + 1))
+IsAnswer (Limit limit) old new text = text ≡ line_of (decimal limit)
+IsAnswer Steps old new text = (bytes : List ℕ) × ReadsAll old new bytes × ShowsText bytes text
 
 -- what a fault leaves of the output's bytes: all as it was, where nothing was to be written yet
 abbrev pub FailsBy : BlkFault → Option (List ℕ) → Option (List ℕ) → Type 0
-FailsBy (Refused why) old new = new ≡ old
-FailsBy Running old new = new ≡ old
 FailsBy Writing old new = Unit {0}
+FailsBy _ old new = new ≡ old
+
+-- what is known of the fault of a request: only a script can be to blame
+abbrev pub BlamesFor : Request → Option (List ℕ) → Option (List ℕ) → BlkFault → Type 0
+BlamesFor Steps old new fault = Blames old new fault
+BlamesFor _ old new fault = fault_status fault ≡ 1
 
 -- the answer was written, or there is a fault
-abbrev pub Answers : List ℕ → Option (List ℕ) → Result (Unit {0}) BlkFault → Option (List ℕ) → Type 0
-Answers text old (Ok _) new = Appends old new text
-Answers text old (Err fault) new = FailsBy fault old new
+abbrev pub Answers : Request → Option (List ℕ) → Option (List ℕ) → Option (List ℕ) → Result (Unit {0}) BlkFault → Option (List ℕ) → Type 0
+Answers request unread_old unread_new old (Ok _) new =
+    (text : List ℕ) × IsAnswer request unread_old unread_new text × Appends old new text
+Answers request unread_old unread_new old (Err fault) new = FailsBy fault old new × BlamesFor request unread_old unread_new fault
+
+-- ---- what a command line does
+
+-- the input is only read where a script is asked for
+abbrev pub LeavesInput : Option Request → Type 0 → Type 0
+LeavesInput (Some Steps) same = Unit {0}
+LeavesInput _ same = same
+
+-- what is added to the two writers, by the status that is answered: the answer and nothing, or nothing and why not
+abbrev pub Does : Option Request → Option (List ℕ) → Option (List ℕ) → ℕ → List ℕ → List ℕ → Type 0
+Does None old new status output faults = (status ≡ 2) × (output ≡ []) × (faults ≡ line_of usage)
+Does (Some request) old new status output faults =
+    ((status ≡ 0) × IsAnswer request old new output × (faults ≡ []))
+    ⊎ ((fault : BlkFault) × (status ≡ 2) × (output ≡ []) × (fault_status fault ≡ 2) × BlamesFor request old new fault × (faults ≡ line_of (fault_text fault)))
+
+-- A command either failed with status 1, or did what its line asks for: this was added to the output, and this is to be said of
+-- faults.
+pub record Done (request : Option Request) (unread_old unread_new old new : Option (List ℕ)) (status : ℕ) : Type 0 where
+  pub output : List ℕ
+  pub faults : List ℕ
+  pub does : Does request unread_old unread_new status output faults
+  pub written : Appends old new output

@@ -5,7 +5,11 @@ mod call;
 mod command;
 mod fault;
 mod host;
+mod line;
+mod number;
 mod request;
+mod script;
+mod steps;
 #[cfg(test)]
 mod tests;
 mod words;

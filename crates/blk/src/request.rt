@@ -1,9 +1,8 @@
 //! What a command line asks for.
 ghost use Rattle.std.specs.Prelude.{◌≡◌};
-ghost use Rattle.std.specs.Char.{is_ascii_digit};
-ghost use Rattle.std.specs.List.{list_all};
-ghost use Rattle.blk.specs.Requests.{number_of, pair_request, request_of, text_of, texts_of};
+ghost use Rattle.blk.specs.Requests.{pair_request, request_of, text_of, texts_of};
 
+use crate::number::small_number;
 use blocking_core::limit::max_threads;
 
 /// What a right command line asks for.
@@ -13,6 +12,8 @@ pub(crate) enum Request {
     Call(u32),
     /// This limit, which a text named.
     Limit(usize),
+    /// What the steps of a script show.
+    Steps,
 }
 
 /// What the words ask for, under this setting; None where they are a wrong command line. A word is None where it isn't
@@ -22,6 +23,7 @@ pub(crate) fn asked(words: &[Option<String>], setting: Option<&str>) -> Option<R
 {
     match words {
         [Some(name)] if name.as_str() == "limit" => Some(Request::Limit(max_threads(setting))),
+        [Some(name)] if name.as_str() == "steps" => Some(Request::Steps),
         [Some(name), Some(word)] => asked_of(name.as_str(), word.as_str()),
         _ => None,
     }
@@ -32,29 +34,10 @@ fn asked_of(name: &str, word: &str) -> Option<Request>
     ensures { result ≡ pair_request name.now word.now }
 {
     if name == "call" {
-        number(word).map(Request::Call)
+        small_number(word).map(Request::Call)
     } else if name == "limit" {
         Some(Request::Limit(max_threads(Some(word))))
     } else {
         None
     }
-}
-
-// The number that a word says in digits alone, if it has 32 bits.
-#[tactic(auto, using(crate::proofs::Numbers::parsed_number))]
-fn number(word: &str) -> Option<u32>
-    ensures { result ≡ number_of word.now }
-{
-    // (`parse` alone takes a leading plus)
-    if !is_digits(word) {
-        return None;
-    }
-    word.parse().ok()
-}
-
-// Whether a word is digits alone.
-fn is_digits(word: &str) -> bool
-    ensures { result ≡ list_all is_ascii_digit word.now }
-{
-    word.bytes().all(|byte| byte.is_ascii_digit())
 }

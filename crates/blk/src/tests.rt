@@ -1,11 +1,15 @@
 //! Whole commands over memory.
+mod scripts;
+
 use crate::command::command;
 use crate::host::Host;
+use crate::script::{ScriptFault, read_script};
+use crate::tests::scripts::{FIFTH, FIRST, FOURTH, SECOND, SEVENTH, SIXTH, THIRD};
 use crate::words::words;
 use std::alloc::AllocError;
 use std::env::{Env, FillError};
 use std::io;
-use std::io::{ErrorKind, Write};
+use std::io::{ErrorKind, Read, Write};
 use std::test::Fail;
 
 const USAGE: &str = "usage: blk call N | blk limit [TEXT] | blk steps | blk copy\n";
@@ -35,6 +39,23 @@ impl Write for Lossy {
 
     fn flush(&mut self) -> io::Result<()> {
         Err(io::Error::from(ErrorKind::StorageFull))
+    }
+}
+
+// A reader that gives a line, and then fails.
+#[derive(Drop)]
+struct Broken {
+    is_read: bool,
+}
+
+impl Read for Broken {
+    fn read(&mut self, buf: &mut [u8]) -> io::Result<usize> {
+        if self.is_read || buf.len() < 8 {
+            return Err(io::Error::from(ErrorKind::UnexpectedEof));
+        }
+        self.is_read = true;
+        buf[..8].copy_from_slice(b"limit 3\n");
+        Ok(8)
     }
 }
 
@@ -87,6 +108,17 @@ fn status<R: Host, W: Write, F: Write>(
     Ok(command(rt, owned.as_slice(), setting, &mut input, output, faults))
 }
 
+// The status of `blk steps` on this input.
+fn steps_status<H: Host, R: Read, W: Write, F: Write>(
+    rt: H,
+    input: &mut R,
+    output: &mut W,
+    faults: &mut F,
+) -> Result<u8, AllocError> {
+    let word = Some(String::from_str(rt.alloc(), "steps")?);
+    Ok(command(rt, &[word], None, input, output, faults))
+}
+
 #[test]
 fn call_answers_the_next_number(rt: HostRuntime) -> Result<(), Fail> {
     for (number, line) in [
@@ -111,7 +143,7 @@ fn call_answers_the_next_number(rt: HostRuntime) -> Result<(), Fail> {
 
 #[test]
 fn wrong_words_are_told_the_usage(rt: HostRuntime) -> Result<(), Fail> {
-    let wrong: [&[Option<&str>]; 15] = [
+    let wrong: [&[Option<&str>]; 17] = [
         &[],
         &[Some("call")],
         &[Some("call"), Some("x")],
@@ -127,6 +159,8 @@ fn wrong_words_are_told_the_usage(rt: HostRuntime) -> Result<(), Fail> {
         &[Some("limit"), Some("1"), Some("2")],
         &[Some("limit"), None],
         &[Some("help"), Some("41")],
+        &[Some("steps"), Some("1")],
+        &[Some("steps"), None],
     ];
     for (place, words) in wrong.iter().enumerate() {
         let mut output = Vec::new(rt.alloc());
@@ -194,5 +228,168 @@ fn limit_answers_what_a_text_means(rt: HostRuntime) -> Result<(), Fail> {
         assert_eq!(rt; output.as_slice(), line.as_bytes());
         assert!(rt; faults.is_empty());
     }
+    Ok(())
+}
+
+#[test]
+fn steps_show_what_is_seen(rt: HostRuntime) -> Result<(), Fail> {
+    for (script, shown) in [
+        ("", "end workers 0 idle 0 queued 0 limit none\n"),
+        (
+            "limit 3",
+            "limit 3\nend workers 0 idle 0 queued 0 limit 3\n",
+        ),
+        (
+            "# a comment\n\ntake 1\n",
+            "nothing\nend workers 0 idle 0 queued 0 limit none\n",
+        ),
+        (
+            "take 007\nlimit 0\n",
+            "nothing\nnothing\nend workers 0 idle 0 queued 0 limit none\n",
+        ),
+        (
+            "starts -\nspawn\nspawn\narrive\ntake 1\nio 1 n 5\njob 1 *\nend 1\ntask 0 poll\ntake 2\nlate 1\n",
+            "refused worker -1\naccepted 1 +2\narrived 1\ntook 1\nanswered 5\nfinished\nended 1 done\ngot 5\n\
+            nothing\nstopped 1\nend workers 0 idle 0 queued 0 limit 1\n",
+        ),
+    ] {
+        let mut output = Vec::new(rt.alloc());
+        let mut faults = Vec::new(rt.alloc());
+        let mut input = script.as_bytes();
+        assert_eq!(rt;
+            steps_status(rt, &mut input, &mut output, &mut faults)?,
+            0,
+            "of {script:?}"
+        );
+        assert_eq!(rt; output.as_slice(), shown.as_bytes(), "of {script:?}");
+        assert!(rt; faults.is_empty(), "of {script:?}");
+    }
+    Ok(())
+}
+
+#[test]
+fn lines_that_are_no_steps(rt: HostRuntime) -> Result<(), Fail> {
+    for (script, line) in [
+        ("foo", "line 1: not a step\n"),
+        ("spawn\n\n# take\ntake\nfoo\n", "line 4: not a step\n"),
+        ("take 1 2\n", "line 1: not a step\n"),
+        ("limit +3\n", "line 1: not a step\n"),
+        ("limit 18446744073709551616\n", "line 1: not a step\n"),
+        ("take  1\n", "line 1: not a step\n"),
+        ("take 1 \n", "line 1: not a step\n"),
+        ("spawn\r\n", "line 1: not a step\n"),
+        (" \n", "line 1: not a step\n"),
+        ("setting\n", "line 1: not a step\n"),
+        ("starts \n", "line 1: not a step\n"),
+        ("starts +x\n", "line 1: not a step\n"),
+        ("setting 1\nsetting 2\n", "line 2: not a step\n"),
+        ("starts +\n#\nstarts +\n", "line 3: not a step\n"),
+        ("spawn\nsetting 1\n", "line 2: not a step\n"),
+        ("\u{feff}spawn\n", "line 1: not a step\n"),
+    ] {
+        let mut output = Vec::new(rt.alloc());
+        let mut faults = Vec::new(rt.alloc());
+        let mut input = script.as_bytes();
+        assert_eq!(rt;
+            steps_status(rt, &mut input, &mut output, &mut faults)?,
+            2,
+            "of {script:?}"
+        );
+        assert!(rt; output.is_empty(), "of {script:?}");
+        assert_eq!(rt; faults.as_slice(), line.as_bytes(), "of {script:?}");
+    }
+    Ok(())
+}
+
+#[test]
+fn failed_scripts(rt: HostRuntime) -> Result<(), Fail> {
+    // What isn't UTF-8 is no text, whatever its lines are.
+    let mut output = Vec::new(rt.alloc());
+    let mut faults = Vec::new(rt.alloc());
+    let mut input = b"foo\n\xff".as_slice();
+    assert_eq!(rt; steps_status(rt, &mut input, &mut output, &mut faults)?, 2);
+    assert!(rt; output.is_empty());
+    assert_eq!(rt; faults.as_slice(), b"blk: not a text\n".as_slice());
+    // A read that fails in the midst.
+    let mut faults = Vec::new(rt.alloc());
+    let mut input = Broken { is_read: false };
+    assert_eq!(rt; steps_status(rt, &mut input, &mut output, &mut faults)?, 1);
+    assert!(rt; output.is_empty());
+    assert_eq!(rt; faults.as_slice(), b"blk: reading failed\n".as_slice());
+    // Writes that fail, at once and in the end.
+    let mut faults = Vec::new(rt.alloc());
+    let mut input = b"limit 3".as_slice();
+    assert_eq!(rt; steps_status(rt, &mut input, &mut Full, &mut faults)?, 1);
+    assert_eq!(rt; faults.as_slice(), b"blk: writing failed\n".as_slice());
+    let mut faults = Vec::new(rt.alloc());
+    let mut input = b"limit 3".as_slice();
+    assert_eq!(rt; steps_status(rt, &mut input, &mut Lossy, &mut faults)?, 1);
+    assert_eq!(rt; faults.as_slice(), b"blk: writing failed\n".as_slice());
+    Ok(())
+}
+
+#[test]
+fn scripts_are_read(rt: HostRuntime) -> Result<(), Fail> {
+    for (text, setting, starts, lines) in [
+        ("", None, b"".as_slice(), 0),
+        (
+            "setting 7\nstarts +-\nspawn\njob 1 *\n",
+            Some("7"),
+            b"+-".as_slice(),
+            2,
+        ),
+        (
+            "# one\nstarts -\n\nsetting a  b \n# two\nsweep",
+            Some("a  b "),
+            b"-".as_slice(),
+            1,
+        ),
+        ("setting \n", Some(""), b"".as_slice(), 0),
+    ] {
+        match read_script(rt.alloc(), text) {
+            Ok(script) => {
+                assert_eq!(rt;
+                    script.setting.as_ref().map(|text| text.as_str()),
+                    setting,
+                    "of {text:?}"
+                );
+                assert_eq!(rt; script.starts.len(), starts.len(), "of {text:?}");
+                for (refused, mark) in script.starts.iter().zip(starts) {
+                    assert_eq!(rt; *refused, *mark == b'-', "of {text:?}");
+                }
+                assert_eq!(rt; script.lines.len(), lines, "of {text:?}");
+            }
+            Err(_) => assert!(rt; false, "of {text:?}"),
+        }
+    }
+    assert_eq!(rt;
+        read_script(rt.alloc(), "spawn\nspawn 1\n").err(),
+        Some(ScriptFault::NotAStep(2))
+    );
+    Ok(())
+}
+
+#[test]
+fn stored_scripts(rt: HostRuntime) -> Result<(), Fail> {
+    let mut count = 0u32;
+    for bundle in [FIRST, SECOND, THIRD, FOURTH, FIFTH, SIXTH, SEVENTH] {
+        for case in bundle.split("====\n").skip(1) {
+            let Some((script, answer)) = case.split_once("---- ") else {
+                continue;
+            };
+            let Some((status, told)) = answer.split_once('\n') else {
+                continue;
+            };
+            let mut output = Vec::new(rt.alloc());
+            let mut faults = Vec::new(rt.alloc());
+            let mut input = script.as_bytes();
+            let answered = steps_status(rt, &mut input, &mut output, &mut faults)?;
+            let shown = if answered == 0 { output } else { faults };
+            assert_eq!(rt; status.parse(), Ok(answered), "of {script}");
+            assert_eq!(rt; shown.as_slice(), told.as_bytes(), "of {script}");
+            count = count.saturating_add(1);
+        }
+    }
+    assert_eq!(rt; count, 42);
     Ok(())
 }

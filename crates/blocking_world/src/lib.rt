@@ -1,16 +1,17 @@
-//! What is seen when owners, tasks and workers take steps over one pool, one step at a time: the steps, their events, and
-//! the laws that a trace of them keeps.
+//! A world: a pool of calls with its tasks and workers, which takes any list of steps, one at a time, and keeps what was seen.
 //!
-//! The laws are definitions over what was seen, in `specs`. docs/LAWS.md reads them aloud. [`laws`] has, for each law,
-//! short traces that it accepts and short traces that it refuses, as theorems.
+//! That what was seen is legal, by the laws of `blocking_laws`, is the invariant of the type [`World`].
 #![tactic(auto)]
 
-pub mod event;
-pub mod laws;
-pub mod step;
+mod call;
+mod crew;
+mod hand;
+mod parts;
+mod starts;
+mod task;
 #[cfg(test)]
 mod tests;
-mod text;
+mod world;
 
-pub use event::{Act, Event, Moment, Party};
-pub use step::{Answer, Step, TaskCall};
+pub use blocking_laws::{Act, Answer, Event, Moment, Party, Step, TaskCall};
+pub use world::{World, run};

@@ -1,0 +1,122 @@
+-- A legal past is legal at each beginning, and only a legal past is.
+use Rattle.std.proofs.Common.{◌≡◌, refl, ℕ, ◌+◌, ◌≤◌, ◌||◌, ◌==◌, if◌then◌else◌, Bool, true, false, cond, List, [], ◌∷◌, ◌++◌, length, Option, Some, arith, length-append}
+use Rattle.std.proofs.lemmas.Bool.Decides.{nat_tests}
+use mathlib.Core.Path.{subst}
+use Rattle.blocking_laws.specs.Seen.{EachMayFollow, AtEveryBeginning, joined, events, task_cut, is_by_task, is_of_job}
+use Rattle.blocking_laws.specs.Jobs.{accepts, accepted_by, accepted_jobs, newcomer, holder}
+use Rattle.blocking_laws.specs.Answers.{PoolAnswers}
+use Rattle.blocking_laws.specs.TaskLaws.{TaskLaw}
+use Rattle.blocking_laws.specs.Wakes.{NoLostWake}
+use Rattle.blocking_laws.specs.Steps.{StepLaw}
+use Rattle.blocking_laws.specs.Legal.{Legal, PoolLaw, LastFollows, HoldsNow, IsLegalThroughout}
+use Rattle.blocking_laws.specs.declared.event.Act.{Act}
+use Rattle.blocking_laws.specs.declared.event.Act.TheVariants.{Accepted}
+use Rattle.blocking_laws.specs.declared.event.Moment.{Moment}
+use Rattle.blocking_laws.specs.declared.event.Party.{Party}
+use Rattle.blocking_laws.specs.declared.event.Party.TheVariants.{Task}
+
+-- ---- a job keeps its holder
+
+-- an act that accepts a job accepts the next one
+abbrev AcceptsNext : List ℕ → Act → Type 0
+AcceptsNext jobs (Accepted t) = t ≡ 1 + length jobs
+AcceptsNext jobs _ = Unit {0}
+
+accepts_next : (setting : ℕ) (past : List Moment) (now : Moment) (act : Act) → PoolAnswers setting past now act → AcceptsNext (accepted_jobs past) act
+accepts_next setting past now (Accepted t) answers = answers.0
+accepts_next setting past now _ answers = tt
+
+-- what has a holder was accepted
+abbrev IsKnown : Option Party → ℕ → ℕ → Type 0
+IsKnown held s count = (p : Party) → held ≡ Some p → s ≤ count
+
+known_new : (b : Bool) (t s : ℕ) (jobs : List ℕ) (new : Party) (held : Option Party) → (t == s) ≡ b → t ≡ 1 + length jobs
+    → IsKnown held s (length jobs) → IsKnown (if b then Some new else held) s (length (jobs ++ t ∷ []))
+known_new true t s jobs new held e next earlier p h = rw length-append (grind (arith, nat_tests))
+known_new false t s jobs new held e next earlier p h = let within : s ≤ length jobs = earlier p h in rw length-append (omega arith)
+
+known_by : (act : Act) (s : ℕ) (jobs : List ℕ) (new : Party) (held : Option Party) → AcceptsNext jobs act
+    → IsKnown held s (length jobs) → IsKnown (if accepts s act then Some new else held) s (length (joined jobs (accepted_by act)))
+known_by (Accepted t) s jobs new held next earlier = known_new (t == s) t s jobs new held refl next earlier
+known_by _ s jobs new held next earlier = earlier
+
+known : (setting : ℕ) (marks : List Bool) (past : List Moment) → EachMayFollow (PoolLaw setting marks) past → (s : ℕ) → IsKnown (holder past s) s (length (accepted_jobs past))
+known setting marks [] laws s = λ p h. cc
+known setting marks (now ∷ past) laws s =
+    known_by now.event.act s (accepted_jobs past) (newcomer past now.event.party) (holder past s)
+    (accepts_next setting past now now.event.act laws.0.answers) (known setting marks past laws.1 s)
+
+keeps_new : (b : Bool) (t s : ℕ) (count : ℕ) (new p : Party) (held : Option Party) → (t == s) ≡ b → t ≡ 1 + count
+    → s ≤ count → held ≡ Some p → (if b then Some new else held) ≡ Some p
+keeps_new true t s count new p held e next within h = absurd (grind (arith, nat_tests))
+keeps_new false t s count new p held e next within h = h
+
+keeps_by : (act : Act) (s : ℕ) (jobs : List ℕ) (new p : Party) (held : Option Party) → AcceptsNext jobs act
+    → s ≤ length jobs → held ≡ Some p → (if accepts s act then Some new else held) ≡ Some p
+keeps_by (Accepted t) s jobs new p held next within h = keeps_new (t == s) t s (length jobs) new p held refl next within h
+keeps_by _ s jobs new p held next within h = h
+
+-- a holder stays
+keeps : (setting : ℕ) (marks : List Bool) (past : List Moment) (now : Moment) → EachMayFollow (PoolLaw setting marks) (now ∷ past) → (s : ℕ) (p : Party) → holder past s ≡ Some p → holder (now ∷ past) s ≡ Some p
+keeps setting marks past now laws s p h =
+    keeps_by now.event.act s (accepted_jobs past) (newcomer past now.event.party) p (holder past s)
+    (accepts_next setting past now now.event.act laws.0.answers) (known setting marks past laws.1 s p h) h
+
+-- ---- a legal past is legal without its last moment
+
+without_last : {X : Type 0} (MayFollow : List X → X → Type 0) (b : Bool) (x : X) (xs : List X) → EachMayFollow MayFollow (cond b (x ∷ xs) xs) → EachMayFollow MayFollow xs
+without_last MayFollow true x xs laws = laws.1
+without_last MayFollow false x xs laws = laws
+
+pub before : (setting : ℕ) (marks : List Bool) (past : List Moment) (now : Moment) → Legal setting marks (now ∷ past) → Legal setting marks past
+before setting marks past now legal = record {
+  steps = legal.steps.1;
+  pool = legal.pool.1;
+  tasks = λ k s h. without_last (TaskLaw s) (is_by_task k now.event || is_of_job s now.event) now.event (task_cut k s (events past))
+      (legal.tasks k s (keeps setting marks past now legal.pool s (Task k) h));
+  wakes = legal.wakes.1;
+}
+
+-- ---- both forms
+
+now_of : (setting : ℕ) (marks : List Bool) (past : List Moment) → Legal setting marks past → HoldsNow setting marks past
+now_of setting marks [] legal = record { step = tt; pool = tt; tasks = legal.tasks; wakes = legal.wakes }
+now_of setting marks (now ∷ past) legal = record { step = legal.steps.0; pool = legal.pool.0; tasks = legal.tasks; wakes = legal.wakes.0 }
+
+at_beginning : (setting : ℕ) (marks : List Bool) (later beginning : List Moment) → Legal setting marks (later ++ beginning) → HoldsNow setting marks beginning
+at_beginning setting marks [] beginning legal = now_of setting marks beginning legal
+at_beginning setting marks (now ∷ later) beginning legal = at_beginning setting marks later beginning (before setting marks (later ++ beginning) now legal)
+
+pub throughout : (setting : ℕ) (marks : List Bool) (past : List Moment) → Legal setting marks past → IsLegalThroughout setting marks past
+throughout setting marks past legal later beginning split = at_beginning setting marks later beginning (subst (Legal setting marks) split legal)
+
+each_follows : (MayFollow : List Moment → Moment → Type 0) (past : List Moment)
+    → ((later beginning : List Moment) → past ≡ later ++ beginning → LastFollows MayFollow beginning) → EachMayFollow MayFollow past
+each_follows MayFollow [] laws = tt
+each_follows MayFollow (now ∷ past) laws =
+    (laws [] (now ∷ past) refl, each_follows MayFollow past (λ later beginning split. laws (now ∷ later) beginning (rw split refl)))
+
+at_each : (Holds : List Moment → Type 0) (past : List Moment)
+    → ((later beginning : List Moment) → past ≡ later ++ beginning → Holds beginning) → AtEveryBeginning Holds past
+at_each Holds [] laws = laws [] [] refl
+at_each Holds (now ∷ past) laws =
+    (laws [] (now ∷ past) refl, at_each Holds past (λ later beginning split. laws (now ∷ later) beginning (rw split refl)))
+
+pub whole : (setting : ℕ) (marks : List Bool) (past : List Moment) → IsLegalThroughout setting marks past → Legal setting marks past
+whole setting marks past laws = record {
+  steps = each_follows StepLaw past (λ later beginning split. (laws later beginning split).step);
+  pool = each_follows (PoolLaw setting marks) past (λ later beginning split. (laws later beginning split).pool);
+  tasks = (laws [] past refl).tasks;
+  wakes = at_each NoLostWake past (λ later beginning split. (laws later beginning split).wakes);
+}
+
+-- ---- what one task's law refuses
+
+with_last : {X : Type 0} (MayFollow : List X → X → Type 0) (b : Bool) (x : X) (xs : List X) → b ≡ true → EachMayFollow MayFollow (cond b (x ∷ xs) xs) → MayFollow xs x
+with_last MayFollow true x xs e laws = laws.0
+with_last MayFollow false x xs e laws = absurd cc
+
+pub task_keeps : (setting : ℕ) (marks : List Bool) (past : List Moment) (now : Moment) (k s : ℕ) → holder (now ∷ past) s ≡ Some (Task k)
+    → (is_by_task k now.event || is_of_job s now.event) ≡ true → Legal setting marks (now ∷ past) → TaskLaw s (task_cut k s (events past)) now.event
+task_keeps setting marks past now k s h e legal =
+    with_last (TaskLaw s) (is_by_task k now.event || is_of_job s now.event) now.event (task_cut k s (events past)) e (legal.tasks k s h)

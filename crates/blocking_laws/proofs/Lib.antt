@@ -1,0 +1,4 @@
+pub mod Beginnings
+pub mod Growths
+pub mod OneAnswer
+pub mod OneAct

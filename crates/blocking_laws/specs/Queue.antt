@@ -1,0 +1,61 @@
+-- The queue: what entered it, and what was taken out of it.
+use Rattle.std.specs.Prelude.{ℕ, ◌&&◌, if◌then◌else◌, List, [], ◌∷◌, filter}
+use Rattle.blocking_core.specs.declared.pool.answer.Woke.TheVariants.{Entered}
+use Rattle.blocking_core.specs.declared.pool.standing.Standing.TheVariants.{Queued}
+use Rattle.blocking_laws.specs.Seen.{IsBeginning, without, joined}
+use Rattle.blocking_laws.specs.Jobs.{accepted_jobs, standing, is_parked, is_marked, sweeps}
+use Rattle.blocking_laws.specs.declared.event.Act.{Act}
+use Rattle.blocking_laws.specs.declared.event.Act.TheVariants.{Accepted, JobWoken, JobCancelled, Took, TookDropped, Ended}
+use Rattle.blocking_laws.specs.declared.event.Moment.{Moment}
+
+-- What a sweep puts back: the jobs that are parked and bear a mark, in the order in which they were accepted.
+abbrev pub to_sweep : List Moment → List ℕ
+to_sweep past = filter (λ s. is_parked (standing past s) && is_marked past s) (accepted_jobs past)
+
+-- The jobs that an act enters into the queue: a new job; one that a wake or a cancel puts back; one whose turn ended and
+-- that goes on; and what a sweep puts back.
+abbrev pub entered_by : List Moment → Act → List ℕ
+entered_by past (Accepted s) = s ∷ []
+entered_by past (JobWoken s Entered) = s ∷ []
+entered_by past (JobCancelled s Entered) = s ∷ []
+entered_by past (Ended s Queued) = s ∷ []
+entered_by past act = if sweeps act then to_sweep past else []
+
+-- the order of entry
+abbrev pub entries : List Moment → List ℕ
+entries [] = []
+entries (now ∷ past) = joined (entries past) (entered_by past now.event.act)
+
+-- the job that an act takes
+abbrev pub taken_by : Act → List ℕ
+taken_by (Took s) = s ∷ []
+taken_by (TookDropped s) = s ∷ []
+taken_by _ = []
+
+-- the takes, in order
+abbrev pub takes : List Moment → List ℕ
+takes [] = []
+takes (now ∷ past) = joined (takes past) (taken_by now.event.act)
+
+-- the queue: the entries that no take has removed, in order
+abbrev pub queue : List Moment → List ℕ
+queue [] = []
+queue (now ∷ past) = joined (without (taken_by now.event.act) (queue past)) (entered_by past now.event.act)
+
+-- the queued jobs that may run, in order: all of them
+abbrev pub ready : List Moment → List ℕ
+ready past = queue past
+
+-- the job whose turn an act ends
+abbrev pub ended_by : Act → List ℕ
+ended_by (Ended s how) = s ∷ []
+ended_by _ = []
+
+-- the running jobs: those that were taken and whose turn has not ended
+abbrev pub running : List Moment → List ℕ
+running [] = []
+running (now ∷ past) = joined (without (ended_by now.event.act) (running past)) (taken_by now.event.act)
+
+-- Jobs are taken in the order in which they entered.
+abbrev pub InOrder : List Moment → Type 0
+InOrder past = IsBeginning (takes past) (entries past)

@@ -1,0 +1,248 @@
+-- Steps and their events: which steps have an action, and what is seen of them.
+use Rattle.std.specs.Prelude.{◌≡◌, ℕ, ◌+◌, nat_lt, ◌&&◌, ◌||◌, ◌==◌, not, if◌then◌else◌, Bool, true, false, List, [], ◌∷◌, Option, Some, None, is_some, is_none}
+use Rattle.blocking_core.specs.declared.pool.answer.Refusal.TheVariants.{Memory}
+use Rattle.blocking_laws.specs.Seen.{events, acts_of, acts_of_task, is_of_pool, is_nothing}
+use Rattle.blocking_laws.specs.Jobs.{tasks, holder, as_owner}
+use Rattle.blocking_laws.specs.Counts.{starts, arrivals}
+use Rattle.blocking_laws.specs.Turns.{Turn, GoesOn, IsWaiting, MustGiveUp, HasGivenUp, turn, hand}
+use Rattle.blocking_laws.specs.JobTable.{Kind, Calling, JobAction, next_of_job, is_answer, is_asking, is_over}
+use Rattle.blocking_laws.specs.TaskLaws.{is_gone, was_cancelled, is_let_go}
+use Rattle.blocking_laws.specs.declared.event.Act.{Act}
+use Rattle.blocking_laws.specs.declared.event.Act.TheVariants.{Accepted, Refused, JobWoken, JobCancelled, LimitSet, Swept, Waits, TaskGot, TaskGotNone, TaskCancelled, TaskDetached, HolderDropped, Arrived, Took, TookDropped, TookNone, Stays, Stopped, Ended, HandedOut, Answered, NoAction}
+use Rattle.blocking_laws.specs.declared.event.Moment.{Moment}
+use Rattle.blocking_laws.specs.declared.event.Party.{Party}
+use Rattle.blocking_laws.specs.declared.event.Party.TheVariants.{Task, Worker, Pool}
+use Rattle.blocking_laws.specs.declared.step.Answer.{Answer}
+use Rattle.blocking_laws.specs.declared.step.Step.{Step}
+use Rattle.blocking_laws.specs.declared.step.Step.TheVariants.{Spawn, OfTask, Arrive, Take, Job, Io, End, Wait, Late, SetLimit, Sweep, Stray, Strike}
+use Rattle.blocking_laws.specs.declared.step.TaskCall.{TaskCall}
+use Rattle.blocking_laws.specs.declared.step.TaskCall.TheVariants.{Poll, Cancel, Detach, Drop}
+
+-- ---- workers
+
+-- whether worker w is there after an act
+abbrev pub is_there_by : Act → ℕ → Bool → Bool
+is_there_by (Arrived v) w before = v == w || before
+is_there_by (Stopped v late) w before = not (v == w) && before
+is_there_by _ w before = before
+
+-- whether the worker is there: it arrived and hasn't stopped
+abbrev pub is_there : List Moment → ℕ → Bool
+is_there [] w = false
+is_there (now ∷ past) w = is_there_by now.event.act w (is_there past w)
+
+-- whether the worker is there and has no job in hand
+abbrev pub is_free : List Moment → ℕ → Bool
+is_free past w = is_there past w && is_none (hand past w)
+
+-- the kind of a job, by its holder
+abbrev pub kind_by : Option Party → Kind
+kind_by _ = Calling
+
+-- What a worker has to do: nothing, an action of its job, to give the job up, or to end the turn.
+pub data Work : Type 0 where
+  NoWork : Work
+  Does : JobAction → Work
+  GivesUp : Work
+  EndsTurn : Work
+
+-- what a worker has to do, by where its job is in its turn and by the job's next action
+abbrev pub work_in : Turn → JobAction → Work
+work_in IsWaiting action = EndsTurn
+work_in MustGiveUp action = GivesUp
+work_in GoesOn action = if is_over action then EndsTurn else Does action
+work_in HasGivenUp action = if is_over action then EndsTurn else Does action
+
+-- what a worker has to do with the job in its hand
+abbrev pub work_with : Option ℕ → List Moment → Work
+work_with None past = NoWork
+work_with (Some s) past = work_in (turn past s) (next_of_job (kind_by (holder past s)) (acts_of s (events past)))
+
+-- what a worker has to do
+abbrev pub work : List Moment → ℕ → Work
+work past w = work_with (hand past w) past
+
+-- whether that is an action of the job's own
+abbrev pub is_job_work : Work → Bool
+is_job_work (Does action) = not (is_asking action)
+is_job_work GivesUp = true
+is_job_work _ = false
+
+-- whether it is to be answered so
+abbrev pub is_answered_work : Work → Answer → Bool
+is_answered_work (Does action) answer = is_asking action && is_answer action answer
+is_answered_work _ answer = false
+
+-- whether it is to end the turn
+abbrev pub is_turn_end : Work → Bool
+is_turn_end EndsTurn = true
+is_turn_end _ = false
+
+-- ---- tasks
+
+-- what may be asked of a task that was cancelled
+abbrev pub is_for_cancelled : TaskCall → Bool
+is_for_cancelled Poll = true
+is_for_cancelled Drop = true
+is_for_cancelled _ = false
+
+-- whether a task with these own acts may be called so: it isn't gone, and after its cancel it is only polled and dropped
+abbrev pub may_call : List Act → TaskCall → Bool
+may_call acts c = not (is_gone acts) && (not (was_cancelled acts) || is_for_cancelled c)
+
+-- whether the holder of a job let it go, so that it may be cancelled in the pool
+abbrev pub may_cancel : Option Party → List Moment → Bool
+may_cancel (Some (Task k)) past = is_let_go (acts_of_task k (events past))
+may_cancel _ past = false
+
+-- ---- steps
+
+-- Whether a step names a party that is there and has an action of that kind.
+abbrev pub has_action : List Moment → Step → Bool
+has_action past Spawn = true
+has_action past (OfTask k c) = nat_lt k (tasks past) && may_call (acts_of_task k (events past)) c
+has_action past Arrive = nat_lt (arrivals past) (starts past)
+has_action past (Take w) = is_free past w
+has_action past (Job w) = is_job_work (work past w)
+has_action past (Io w answer) = is_answered_work (work past w) answer
+has_action past (End w) = is_turn_end (work past w)
+has_action past (Wait w) = is_free past w
+has_action past (Late w) = is_free past w
+has_action past (SetLimit n) = nat_lt 0 n
+has_action past Sweep = true
+has_action past (Stray s) = is_some (holder past s)
+has_action past (Strike s) = may_cancel (holder past s) past
+
+-- the party that a step names
+abbrev pub named : Step → Party
+named (OfTask k c) = Task k
+named (Take w) = Worker w
+named (Job w) = Worker w
+named (Io w answer) = Worker w
+named (End w) = Worker w
+named (Wait w) = Worker w
+named (Late w) = Worker w
+named step = Pool
+
+-- who takes a step: the party that it names, and the next worker where one arrives
+abbrev pub party : List Moment → Step → Party
+party past Arrive = Worker (1 + arrivals past)
+party past step = named step
+
+-- the job that a take gives
+abbrev pub job_taken : Act → Option ℕ
+job_taken (Took s) = Some s
+job_taken (TookDropped s) = Some s
+job_taken _ = None
+
+-- the job that a step's event is of: the one that a worker takes, or has in hand
+abbrev pub job_of : List Moment → Step → Act → Option ℕ
+job_of past (Take w) act = job_taken act
+job_of past (Job w) act = hand past w
+job_of past (Io w answer) act = hand past w
+job_of past (End w) act = hand past w
+job_of past step act = None
+
+-- the owner of that job
+abbrev pub owner_of : Option ℕ → List Moment → Option ℕ
+owner_of None past = None
+owner_of (Some s) past = as_owner (holder past s)
+
+-- a new job is accepted or refused
+abbrev pub IsBegun : Act → Type 0
+IsBegun (Accepted s) = Unit {0}
+IsBegun (Refused why) = Unit {0}
+IsBegun _ = ⊥
+
+-- an answer to a poll of a task
+abbrev pub IsPolled : Act → Type 0
+IsPolled (TaskGot n) = Unit {0}
+IsPolled TaskGotNone = Unit {0}
+IsPolled Waits = Unit {0}
+IsPolled _ = ⊥
+
+-- what is seen of a call of a task
+abbrev pub IsOfTask : TaskCall → Act → Type 0
+IsOfTask Poll act = IsPolled act
+IsOfTask Cancel act = act ≡ TaskCancelled
+IsOfTask Detach act = act ≡ TaskDetached
+IsOfTask Drop act = act ≡ HolderDropped
+
+-- an answer to a take
+abbrev pub is_take : Act → Bool
+is_take (Took s) = true
+is_take (TookDropped s) = true
+is_take TookNone = true
+is_take _ = false
+
+-- whether a job was answered from outside
+abbrev pub is_answered : Act → Bool
+is_answered (Answered answer) = true
+is_answered _ = false
+
+-- the end of a turn of this job
+abbrev pub IsEndOf : Option ℕ → Act → Type 0
+IsEndOf s (Ended t how) = s ≡ Some t
+IsEndOf s (HandedOut t) = s ≡ Some t
+IsEndOf s _ = ⊥
+
+-- an answer to a wait of this worker
+abbrev pub IsWaitOf : ℕ → Bool → Act → Type 0
+IsWaitOf w late (Stays v timed_out) = (v ≡ w) × (timed_out ≡ late)
+IsWaitOf w late (Stopped v timed_out) = (v ≡ w) × (timed_out ≡ late)
+IsWaitOf w late _ = ⊥
+
+-- a sweep
+abbrev pub IsSweep : Act → Type 0
+IsSweep (Swept n) = Unit {0}
+IsSweep _ = ⊥
+
+-- a wake of this job
+abbrev pub IsWakeOf : ℕ → Act → Type 0
+IsWakeOf s (JobWoken t woke) = t ≡ s
+IsWakeOf s _ = ⊥
+
+-- a cancel of this job
+abbrev pub IsCancelOf : ℕ → Act → Type 0
+IsCancelOf s (JobCancelled t woke) = t ≡ s
+IsCancelOf s _ = ⊥
+
+-- What is seen of a step is of its kind and has its numbers. What tasks and jobs may do is the matter of their own laws.
+abbrev pub Fits : List Moment → Step → Act → Type 0
+Fits past Spawn act = IsBegun act
+Fits past (OfTask k c) act = IsOfTask c act
+Fits past Arrive act = act ≡ Arrived (1 + arrivals past)
+Fits past (Take w) act = is_take act ≡ true
+Fits past (Job w) act = (is_of_pool act ≡ false) × (is_answered act ≡ false)
+Fits past (Io w answer) act = act ≡ Answered answer
+Fits past (End w) act = IsEndOf (hand past w) act
+Fits past (Wait w) act = IsWaitOf w false act
+Fits past (Late w) act = IsWaitOf w true act
+Fits past (SetLimit n) act = act ≡ LimitSet n
+Fits past Sweep act = IsSweep act
+Fits past (Stray s) act = IsWakeOf s act
+Fits past (Strike s) act = IsCancelOf s act
+
+-- where a step has an action something of its kind is done, and elsewhere nothing
+abbrev pub Happens : Bool → List Moment → Step → Act → Type 0
+Happens true past step act = (is_nothing act ≡ false) × Fits past step act
+Happens false past step act = act ≡ NoAction
+
+-- The law of steps: nothing is done exactly where the step has no action; else the event is of the step's kind, by its
+-- party, of its job and of that job's owner.
+pub record StepLaw (past : List Moment) (now : Moment) : Type 0 where
+  pub act : Happens (has_action past now.step) past now.step now.event.act
+  pub by : now.event.party ≡ (if is_nothing now.event.act then named now.step else party past now.step)
+  pub of : now.event.job ≡ (if is_nothing now.event.act then None else job_of past now.step now.event.act)
+  pub owned : now.event.owner ≡ owner_of now.event.job past
+
+-- whether a step is one that the pool answers: all but what tasks are asked and what jobs do
+abbrev pub is_pool_step : Step → Bool
+is_pool_step (OfTask k c) = false
+is_pool_step (Job w) = false
+is_pool_step step = true
+
+-- whether a job was refused for want of memory
+abbrev pub is_out_of_memory : Act → Bool
+is_out_of_memory (Refused Memory) = true
+is_out_of_memory _ = false

@@ -1,0 +1,128 @@
+//! What the definitions say of short traces.
+ghost use Rattle.std.specs.Prelude.{◌≡◌, [], ◌∷◌, Some, None, true, false};
+ghost use Rattle.blocking_core.specs.declared.pool.answer.Woke.TheVariants.{Entered, Marked};
+ghost use Rattle.blocking_core.specs.declared.pool.standing.Standing.TheVariants.{Queued, Running, Parked, Done, Dropped};
+ghost use Rattle.blocking_laws.specs.Seen.{events, task_cut};
+ghost use Rattle.blocking_laws.specs.Seats.{task_seat};
+ghost use Rattle.blocking_laws.specs.Jobs.{standing, holder, is_woken, is_cancelled, is_marked};
+ghost use Rattle.blocking_laws.specs.Queue.{entries, takes, queue, running};
+ghost use Rattle.blocking_laws.specs.Counts.{workers, idle, limit};
+ghost use Rattle.blocking_laws.specs.Growth.{known_limit};
+ghost use Rattle.blocking_laws.specs.Traces.{◌▸◌, moment};
+ghost use Rattle.blocking_laws.specs.Traces.{one_queued, one_taken, one_answered, one_done, two_workers, two_queued};
+ghost use Rattle.blocking_laws.specs.Traces.{awaited, awaited_finished, cancelled_given_up, dropped, dropped_given_up, start_refused, second_refused};
+ghost use Rattle.blocking_laws.specs.Traces.{one_parked, woken_waits, dropped_parked, two_dropped, queued_again};
+ghost use Rattle.blocking_laws.specs.declared.event.Act.TheVariants.{JobWoken, JobCancelled, LimitSet, Swept, TaskCancelled, HolderDropped, Took, TookDropped, Stopped, Ended};
+ghost use Rattle.blocking_laws.specs.declared.event.Party.TheVariants.{Task, Worker, Pool};
+ghost use Rattle.blocking_laws.specs.declared.step.Step.TheVariants.{OfTask, Take, End, Late, SetLimit, Sweep, Stray, Strike};
+ghost use Rattle.blocking_laws.specs.declared.step.TaskCall.TheVariants.{Cancel, Drop};
+
+/// How a job stands.
+pub fn standings()
+    // before it is accepted
+    ensures nowhere { standing [] 1 ≡ None }
+    // accepted 1 +1
+    ensures queued { standing one_queued 1 ≡ Some Queued }
+    // .. / took 1
+    ensures running { standing one_taken 1 ≡ Some Running }
+    // .. / parked / ended 1 parked
+    ensures parked { standing one_parked 1 ≡ Some Parked }
+    // .. / ended 1 parked / delivered 1 entered
+    ensures woken { standing (one_parked
+        ▸ moment (Stray 1) Pool None (JobWoken 1 Entered) 2) 1 ≡ Some Queued }
+    // .. / ended 1 parked / dropped / cancelled 1 entered
+    ensures cancelled { standing (dropped_parked
+        ▸ moment (Strike 1) Pool None (JobCancelled 1 Entered) 2) 1 ≡ Some Queued }
+    // .. / ended 1 parked / dropped / swept 1
+    ensures swept { standing (dropped_parked ▸ moment Sweep Pool None (Swept 1) 2) 1 ≡ Some Queued }
+    // .. / ended 1 parked / swept 0: it bears no mark
+    ensures not_swept { standing (one_parked ▸ moment Sweep Pool None (Swept 0) 2) 1 ≡ Some Parked }
+    // .. / delivered 1 marked / parked / ended 1 queued
+    ensures queued_again { standing queued_again 1 ≡ Some Queued }
+    // .. / finished / ended 1 done
+    ensures done { standing one_done 1 ≡ Some Done }
+    // .. / gave up / ended 1 dropped
+    ensures dropped { standing (dropped_given_up
+        ▸ moment (End 1) (Worker 1) (Some 1) (Ended 1 Dropped) 2) 1 ≡ Some Dropped }
+{}
+
+/// Who holds a job, and what was done to it.
+pub fn flags()
+    // accepted 1 +1 / arrived 1 / accepted 2
+    ensures holder { holder two_queued 2 ≡ Some (Task 1) }
+    ensures no_holder { holder two_queued 3 ≡ None }
+    // .. / took 1 / delivered 1 marked / parked
+    ensures woken { is_woken woken_waits 1 ≡ true }
+    // .. / took 1 / delivered 1 marked / parked / ended 1 queued / took 1: a wake counts for one run
+    ensures woken_before { is_woken (woken_waits
+        ▸ moment (End 1) (Worker 1) (Some 1) (Ended 1 Queued) 2
+        ▸ moment (Take 1) (Worker 1) (Some 1) (Took 1) 2) 1 ≡ false }
+    // .. / ended 1 queued / dropped / took 1 dropped
+    ensures woken_before_drop { is_woken (woken_waits
+        ▸ moment (End 1) (Worker 1) (Some 1) (Ended 1 Queued) 2
+        ▸ moment (OfTask 0 Drop) (Task 0) None HolderDropped 2
+        ▸ moment (Take 1) (Worker 1) (Some 1) (TookDropped 1) 2) 1 ≡ false }
+    // accepted 1 +1 / dropped / arrived 1
+    ensures marked { is_marked dropped 1 ≡ true }
+    // .. / ended 1 done / dropped: it was over
+    ensures marked_late { is_marked (one_done
+        ▸ moment (OfTask 0 Drop) (Task 0) None HolderDropped 2) 1 ≡ false }
+    // accepted 1 +1 / dropped / arrived 1: a mark is no cancel
+    ensures uncancelled { is_cancelled dropped 1 ≡ false }
+    // accepted 1 +1 / dropped / arrived 1 / cancelled 1 marked
+    ensures cancelled { is_cancelled (dropped
+        ▸ moment (Strike 1) Pool None (JobCancelled 1 Marked) 2) 1 ≡ true }
+{}
+
+/// Whether a task's waker is seated.
+pub fn seats()
+    // accepted 1 +1 / arrived 1 / took 1 / answered 5
+    ensures nobody { task_seat (task_cut 0 1 (events one_answered)) ≡ false }
+    // accepted 1 +1 / waits / arrived 1 / took 1 / answered 5
+    ensures seated { task_seat (task_cut 0 1 (events awaited)) ≡ true }
+    // .. / waits / .. / answered 5 / cancelled
+    ensures kept { task_seat (task_cut 0 1 (events (awaited
+        ▸ moment (OfTask 0 Cancel) (Task 0) None TaskCancelled 2))) ≡ true }
+    // .. / waits / .. / answered 5 / finished wake owner
+    ensures taken { task_seat (task_cut 0 1 (events awaited_finished)) ≡ false }
+    // .. / waits / cancelled / .. / gave up wake owner
+    ensures taken_in_giving_up { task_seat (task_cut 0 1 (events cancelled_given_up)) ≡ false }
+{}
+
+/// What entered the queue, what was taken, and what stands in it.
+pub fn queues()
+    // .. / accepted 2 / delivered 1 marked / parked / ended 1 queued
+    ensures entries { entries queued_again ≡ 1 ∷ 2 ∷ 1 ∷ [] }
+    ensures takes { takes queued_again ≡ 1 ∷ [] }
+    ensures queue { queue queued_again ≡ 2 ∷ 1 ∷ [] }
+    // .. / dropped (of job 2) / dropped (of job 1) / swept 2: in the order of acceptance
+    ensures swept { queue (two_dropped ▸ moment Sweep Pool None (Swept 2) 2) ≡ 1 ∷ 2 ∷ [] }
+    // .. / ended 1 parked / dropped / stopped 1, timed out: such a wait sweeps
+    ensures swept_late { queue (dropped_parked
+        ▸ moment (Late 1) (Worker 1) None (Stopped 1 true) 2) ≡ 1 ∷ [] }
+{}
+
+/// The counts of workers, and the limit.
+pub fn counts()
+    // accepted 1 +1 / arrived 1 / accepted 2 / took 1 +2 / arrived 2
+    ensures workers { workers two_workers ≡ 2 }
+    ensures running { running two_workers ≡ 1 ∷ [] }
+    ensures idle { idle two_workers ≡ 1 }
+    // accepted 1 +1: a worker that hasn't arrived counts
+    ensures unarrived { idle one_queued ≡ 1 }
+    // .. / ended 1 done / stopped 1
+    ensures stopped { workers (one_done
+        ▸ moment (Late 1) (Worker 1) None (Stopped 1 true) 2) ≡ 0 }
+    // the setting's number, which isn't told before the first growth
+    ensures setting { limit 4 [] ≡ 4 }
+    ensures untold { known_limit 4 [] ≡ None }
+    // accepted 1 +1
+    ensures told { known_limit 4 one_queued ≡ Some 4 }
+    // limit 7
+    ensures set { known_limit 4 ([] ▸ moment (SetLimit 7) Pool None (LimitSet 7) 1) ≡ Some 7 }
+    // refused worker -1
+    ensures left { known_limit 4 start_refused ≡ Some 1 }
+    // accepted 1 +1 / .. / accepted 6 -2
+    ensures lowered { known_limit 4 second_refused ≡ Some 1 }
+    ensures unrefused { workers second_refused ≡ 1 }
+{}

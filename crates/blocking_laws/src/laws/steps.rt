@@ -1,0 +1,135 @@
+//! Steps and their events.
+ghost use Rattle.std.specs.Prelude.{[], Some, None, true, false};
+ghost use Rattle.blocking_core.specs.declared.pool.answer.Woke.TheVariants.{Marked, Nothing};
+ghost use Rattle.blocking_laws.specs.Steps.{StepLaw};
+ghost use Rattle.blocking_laws.specs.Legal.{Legal};
+ghost use Rattle.blocking_laws.specs.Traces.{◌▸◌, moment, of_owner, Refuses};
+ghost use Rattle.blocking_laws.specs.Traces.{one_queued, one_arrived, one_taken, one_answered, one_finished, one_done};
+ghost use Rattle.blocking_laws.specs.Traces.{one_got, dropped, cancelled_finished, cancelled_given_up};
+ghost use Rattle.blocking_laws.specs.declared.event.Act.TheVariants.{JobWoken, JobCancelled, LimitSet, Swept, Waits, TaskGotNone, TaskCancelled, TaskDetached, Arrived, Took, TookNone, Stays, Stopped, Answered, Finished, NoAction};
+ghost use Rattle.blocking_laws.specs.declared.event.Party.TheVariants.{Task, Worker, Pool};
+ghost use Rattle.blocking_laws.specs.declared.step.Answer.TheVariants.{Number};
+ghost use Rattle.blocking_laws.specs.declared.step.Step.TheVariants.{Spawn, OfTask, Arrive, Take, Job, Io, End, Wait, Late, SetLimit, Sweep, Stray, Strike};
+ghost use Rattle.blocking_laws.specs.declared.step.TaskCall.TheVariants.{Poll, Cancel, Detach, Drop};
+
+/// Nothing is done exactly where a step names a party that isn't there, or that has no such action.
+pub fn nothing()
+    // nothing (nobody arrived, nothing was started)
+    ensures accepts_no_worker { Legal 1 [] ([] ▸ moment (Take 1) (Worker 1) None NoAction 1) }
+    ensures accepts_no_start { Legal 1 [] ([] ▸ moment Arrive Pool None NoAction 1) }
+    ensures accepts_no_task { Legal 1 [] ([] ▸ moment (OfTask 0 Poll) (Task 0) None NoAction 1) }
+    ensures accepts_no_job { Legal 1 [] ([] ▸ moment (Stray 1) Pool None NoAction 1) }
+    ensures accepts_no_limit { Legal 1 [] ([] ▸ moment (SetLimit 0) Pool None NoAction 1) }
+    // accepted 1 +1 / arrived 1 / nothing (the worker has no job)
+    ensures accepts_no_turn { Legal 1 [] (one_arrived ▸ moment (End 1) (Worker 1) None NoAction 2) }
+    // accepted 1 +1 / arrived 1 / took 1 / nothing (the job asks for an answer first)
+    ensures accepts_no_end_yet { Legal 1 [] (one_taken
+        ▸ moment (End 1) (Worker 1) None NoAction 2) }
+    ensures accepts_no_answer_to_finish { Legal 1 [] (one_answered
+        ▸ moment (Io 1 (Number 6)) (Worker 1) None NoAction 2) }
+    // accepted 1 +1 / arrived 1 / nothing (nobody let the job go)
+    ensures accepts_no_cancel { Legal 1 [] (one_arrived ▸ moment (Strike 1) Pool None NoAction 2) }
+    // .. / got 5 / nothing (the task is gone)
+    ensures accepts_gone_task { Legal 1 [] (one_got
+        ▸ moment (OfTask 0 Poll) (Task 0) None NoAction 2) }
+    // .. / ended 1 done / stopped 1 / nothing (the worker is gone)
+    ensures accepts_stopped_worker { Legal 1 [] (one_done
+        ▸ moment (Late 1) (Worker 1) None (Stopped 1 true) 2
+        ▸ moment (Take 1) (Worker 1) None NoAction 2) }
+    // accepted 1 +1 / arrived 1 / took 1 / nothing (the worker has a job)
+    ensures accepts_busy_worker { Legal 1 [] (one_taken
+        ▸ moment (Take 1) (Worker 1) None NoAction 2
+        ▸ moment (Wait 1) (Worker 1) None NoAction 2
+        ▸ moment (Late 1) (Worker 1) None NoAction 2) }
+    // .. / answered 5 / detached / nothing
+    ensures accepts_detached_task { Legal 1 [] (one_answered
+        ▸ moment (OfTask 0 Detach) (Task 0) None TaskDetached 2
+        ▸ moment (OfTask 0 Poll) (Task 0) None NoAction 2) }
+    // accepted 1 +1 / dropped / arrived 1 / nothing
+    ensures accepts_dropped_task { Legal 1 [] (dropped
+        ▸ moment (OfTask 0 Poll) (Task 0) None NoAction 2) }
+    // .. / cancelled / finished / got none / nothing (a cancelled task is gone too, once it was answered)
+    ensures accepts_answered_cancel { Legal 1 [] (cancelled_finished
+        ▸ moment (OfTask 0 Poll) (Task 0) None TaskGotNone 2
+        ▸ moment (OfTask 0 Drop) (Task 0) None NoAction 2) }
+    // .. / cancelled / finished / nothing (a cancelled task is only polled and dropped)
+    ensures accepts_no_detaching_after_cancel { Legal 1 [] (cancelled_finished
+        ▸ moment (OfTask 0 Detach) (Task 0) None NoAction 2
+        ▸ moment (OfTask 0 Cancel) (Task 0) None NoAction 2) }
+    // where there is an action
+    ensures refuses_no_new_job { Refuses StepLaw [] (moment Spawn Pool None NoAction 1) }
+    ensures refuses_no_sweep { Refuses StepLaw [] (moment Sweep Pool None NoAction 1) }
+    ensures refuses_no_limit { Refuses StepLaw [] (moment (SetLimit 1) Pool None NoAction 1) }
+    ensures refuses_no_arrival { Refuses StepLaw one_queued (moment Arrive Pool None NoAction 2) }
+    ensures refuses_no_poll { Refuses StepLaw one_queued
+        (moment (OfTask 0 Poll) (Task 0) None NoAction 2) }
+    ensures refuses_no_take { Refuses StepLaw one_arrived
+        (moment (Take 1) (Worker 1) None NoAction 2) }
+    ensures refuses_no_wait { Refuses StepLaw one_arrived
+        (moment (Wait 1) (Worker 1) None NoAction 2) }
+    ensures refuses_no_wake { Refuses StepLaw one_arrived
+        (moment (Stray 1) Pool None NoAction 2) }
+    ensures refuses_no_cancel { Refuses StepLaw dropped (moment (Strike 1) Pool None NoAction 2) }
+    ensures refuses_no_answer { Refuses StepLaw one_taken
+        (moment (Io 1 (Number 5)) (Worker 1) None NoAction 2) }
+    ensures refuses_no_finish { Refuses StepLaw one_answered
+        (moment (Job 1) (Worker 1) None NoAction 2) }
+    ensures refuses_no_end { Refuses StepLaw one_finished
+        (moment (End 1) (Worker 1) None NoAction 2) }
+    // where there is none
+    // accepted 1 +1 / waits / idle (nobody has arrived)
+    ensures refuses_take_by_nobody { Refuses StepLaw (one_queued
+        ▸ moment (OfTask 0 Poll) (Task 0) None Waits 2)
+        (moment (Take 1) (Worker 1) None TookNone 2) }
+    ensures refuses_take_by_busy_worker { Refuses StepLaw one_taken
+        (moment (Take 1) (Worker 1) None TookNone 2) }
+    ensures refuses_arrival_of_nobody { Refuses StepLaw [] (moment Arrive (Worker 1) None (Arrived 1) 1) }
+    ensures refuses_limit_of_zero { Refuses StepLaw [] (moment (SetLimit 0) Pool None (LimitSet 0) 1) }
+    ensures refuses_wake_of_no_job { Refuses StepLaw []
+        (moment (Stray 1) Pool None (JobWoken 1 Nothing) 1) }
+    ensures refuses_cancel_of_held_job { Refuses StepLaw one_arrived
+        (moment (Strike 1) Pool None (JobCancelled 1 Marked) 2) }
+    ensures refuses_poll_of_gone_task { Refuses StepLaw one_got
+        (moment (OfTask 0 Poll) (Task 0) None Waits 2) }
+    ensures refuses_detaching_after_cancel { Refuses StepLaw cancelled_given_up
+        (moment (OfTask 0 Detach) (Task 0) None TaskDetached 2) }
+    ensures refuses_answer_unasked { Refuses StepLaw one_answered
+        (moment (Io 1 (Number 6)) (Worker 1) (Some 1) (Answered (Number 6)) 2) }
+{}
+
+/// What is seen of a step is of its kind and has its numbers, is taken by its party, and is of its job.
+pub fn events()
+    // accepted 1 +1 / arrived 1 / took 1 / answered 5
+    ensures accepts_answer { Legal 1 [] one_answered }
+    // accepted 1 +1 / arrived 1 / took 1 / answered 5, where 6 was answered
+    ensures refuses_other_answer { Refuses StepLaw one_taken
+        (moment (Io 1 (Number 6)) (Worker 1) (Some 1) (Answered (Number 5)) 2) }
+    // accepted 1 +1 / arrived 1 / stays 1, of a take
+    ensures refuses_other_kind { Refuses StepLaw one_arrived
+        (moment (Take 1) (Worker 1) None (Stays 1 false) 2) }
+    // accepted 1 +1 / arrived 1 / stays 1, timed out, of a wait that wasn't
+    ensures refuses_other_wait { Refuses StepLaw one_arrived
+        (moment (Wait 1) (Worker 1) None (Stays 1 true) 2) }
+    // limit 3, of a limit 2
+    ensures refuses_other_limit { Refuses StepLaw [] (moment (SetLimit 2) Pool None (LimitSet 3) 1) }
+    // accepted 1 +1 / cancelled, of a poll
+    ensures refuses_other_call { Refuses StepLaw one_queued
+        (moment (OfTask 0 Poll) (Task 0) None TaskCancelled 2) }
+    // .. / delivered 2 nothing, of a wake of job 1
+    ensures refuses_other_job { Refuses StepLaw one_done
+        (moment (Stray 1) Pool None (JobWoken 2 Nothing) 2) }
+    // swept 0 by worker 1
+    ensures refuses_other_party { Refuses StepLaw [] (moment Sweep (Worker 1) None (Swept 0) 1) }
+    // accepted 1 +1 / nothing by the pool, where task 1 isn't there
+    ensures refuses_nothing_of_other { Refuses StepLaw one_queued
+        (moment (OfTask 1 Cancel) Pool None NoAction 2) }
+    // .. / answered 5 / finished, said to be of job 2
+    ensures refuses_job_of_other { Refuses StepLaw one_answered
+        (moment (Job 1) (Worker 1) (Some 2) (Finished false) 2) }
+    // .. / answered 5 / finished, said to be of owner 0
+    ensures refuses_owner_of_call { Refuses StepLaw one_answered
+        (of_owner 0 (moment (Job 1) (Worker 1) (Some 1) (Finished false) 2)) }
+    // accepted 1 +1 / arrived 1 / took 1, said to be of no job
+    ensures refuses_take_of_no_job { Refuses StepLaw one_arrived
+        (moment (Take 1) (Worker 1) None (Took 1) 2) }
+{}

@@ -1,0 +1,16 @@
+//! What is seen when owners, tasks and workers take steps over one pool, one step at a time: the steps, their events, and
+//! the laws that a trace of them keeps.
+//!
+//! The laws are definitions over what was seen, in `specs`. docs/LAWS.md reads them aloud. [`laws`] has, for each law,
+//! short traces that it accepts and short traces that it refuses, as theorems.
+#![tactic(auto)]
+
+pub mod event;
+pub mod laws;
+pub mod step;
+#[cfg(test)]
+mod tests;
+mod text;
+
+pub use event::{Act, Event, Moment, Party};
+pub use step::{Answer, Step, TaskCall};

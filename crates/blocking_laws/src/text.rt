@@ -1,0 +1,108 @@
+//! The texts of events.
+ghost use Rattle.std.specs.Prelude.{◌≡◌, Some};
+ghost use Rattle.std.specs.Fmt.{WritesOnOk};
+ghost use Rattle.blocking_laws.specs.Texts.{act_text, event_text, starts_text, wake_text, refusal_text, woke_text, standing_text};
+
+use crate::event::{Act, Event};
+use crate::step::Answer;
+use blocking_core::pool::{Refusal, Standing, Woke};
+use std::fmt;
+
+impl fmt::Display for Event {
+    ghost output = { λ event. Some (event_text event) };
+
+    fn fmt<W: fmt::Write>(&self, f: &mut fmt::Formatter<W>) -> fmt::Result {
+        let act = self.act;
+        write!(f, "{act}")?;
+        write_starts(f, self.first, self.started)?;
+        if self.start_refused {
+            let number = u128::from(self.first) + u128::from(self.started);
+            write!(f, " -{number}")?;
+        }
+        Ok(())
+    }
+}
+
+// Writes the numbers of so many starts, numbered on from the first.
+fn write_starts<W: fmt::Write>(f: &mut fmt::Formatter<W>, first: u64, started: u64) -> fmt::Result
+    ensures { WritesOnOk W.write_str_gives f.old result (starts_text first started) f.new }
+{
+    for count in 0..started {
+        let number = u128::from(first) + u128::from(count);
+        write!(f, " +{number}")?;
+    }
+    Ok(())
+}
+
+impl fmt::Display for Act {
+    ghost output = { λ act. Some (act_text act) };
+
+    fn fmt<W: fmt::Write>(&self, f: &mut fmt::Formatter<W>) -> fmt::Result {
+        match *self {
+            Act::Accepted(serial) => write!(f, "accepted {serial}"),
+            Act::Refused(why) => write!(f, "refused {}", refusal_word(why)),
+            Act::JobWoken(serial, woke) => write!(f, "delivered {serial} {}", woke_word(woke)),
+            Act::JobCancelled(serial, woke) => write!(f, "cancelled {serial} {}", woke_word(woke)),
+            Act::LimitSet(limit) => write!(f, "limit {limit}"),
+            Act::Swept(count) => write!(f, "swept {count}"),
+            Act::Waits => f.write_str("waits"),
+            Act::TaskGot(number) => write!(f, "got {number}"),
+            Act::TaskGotNone => f.write_str("got none"),
+            Act::TaskCancelled => f.write_str("cancelled"),
+            Act::TaskDetached => f.write_str("detached"),
+            Act::HolderDropped => f.write_str("dropped"),
+            Act::Arrived(worker) => write!(f, "arrived {worker}"),
+            Act::Took(serial) => write!(f, "took {serial}"),
+            Act::TookDropped(serial) => write!(f, "took {serial} dropped"),
+            Act::TookNone => f.write_str("idle"),
+            Act::Stays(worker, _) => write!(f, "stays {worker}"),
+            Act::Stopped(worker, _) => write!(f, "stopped {worker}"),
+            Act::Ended(serial, how) => write!(f, "ended {serial} {}", standing_word(how)),
+            Act::HandedOut(serial) => write!(f, "drop {serial}"),
+            Act::Answered(Answer::Number(number)) => write!(f, "answered {number}"),
+            Act::JobParked => f.write_str("parked"),
+            Act::Finished(wake) => write!(f, "finished{}", wake_word(wake)),
+            Act::GaveUp(wake) => write!(f, "gave up{}", wake_word(wake)),
+            Act::HolderWoken => f.write_str("delivered owner"),
+            Act::NoAction => f.write_str("nothing"),
+        }
+    }
+}
+
+fn refusal_word(why: Refusal) -> &'static str
+    ensures { result.now ≡ refusal_text why }
+{
+    match why {
+        Refusal::Memory => "memory",
+        Refusal::NoWorker => "worker",
+        Refusal::Numbers => "numbers",
+    }
+}
+
+fn woke_word(woke: Woke) -> &'static str
+    ensures { result.now ≡ woke_text woke }
+{
+    match woke {
+        Woke::Entered => "entered",
+        Woke::Marked => "marked",
+        Woke::Nothing => "nothing",
+    }
+}
+
+fn standing_word(standing: Standing) -> &'static str
+    ensures { result.now ≡ standing_text standing }
+{
+    match standing {
+        Standing::Queued => "queued",
+        Standing::Running => "running",
+        Standing::Parked => "parked",
+        Standing::Done => "done",
+        Standing::Dropped => "dropped",
+    }
+}
+
+fn wake_word(wake: bool) -> &'static str
+    ensures { result.now ≡ wake_text wake }
+{
+    if wake { " wake owner" } else { "" }
+}

@@ -1,0 +1,123 @@
+-- A new world is lawful.
+use Rattle.std.proofs.Common.{◌≡◌, ◌<◌, ◌==◌, ◌-◌, ◌&&◌, nat_lt, ℕ, Bool, true, false, List, [], Option, Some, None, if◌then◌else◌, ap, sym, subst, refl, arith}
+use Rattle.std.proofs.lemmas.Bool.Decides.{nat_tests}
+use Rattle.std.specs.FinMap as map
+use Rattle.std.specs.Ordering.{nat_cmp}
+use Rattle.blocking_core.specs.Jobs.{is_parked_job}
+use Rattle.blocking_core.specs.Limits.{limit_of_setting, limit_by, number_of}
+use Rattle.blocking_core.specs.Pools.{empty_pool}
+use Rattle.blocking_world.specs.Worlds.{Worlded, hand_at, hand_in}
+use Rattle.blocking_world.specs.Machine.{IsReady}
+use Rattle.blocking_world.specs.Ties.{Numbered, FiledAs, Counted, Handed, HandAs, Tied, IsLawful, holder_of}
+use Rattle.blocking_laws.specs.Legal.{Legal}
+use Rattle.blocking_laws.specs.declared.event.Party.TheVariants.{Task}
+use Rattle.blocking_world.specs.declared.hand.Hand.{Hand}
+use Rattle.blocking_world.specs.declared.hand.Hand.TheVariants.{Out, Holds}
+
+-- a world with no job, no task and no worker
+abbrev pub first_world : ℕ → Worlded
+first_world setting = record { pool = empty_pool setting 1 1; tasks = []; hands = [] }
+
+-- where no task is there, nobody holds a job
+nobody_holds : (s : ℕ) (b : Bool) → nat_lt (s - 1) 0 ≡ b → b ≡ false → None ≡ holder_of 0 s
+nobody_holds s b is none =
+    let never : (nat_lt 0 s && nat_lt (s - 1) 0) ≡ false = grind (arith, nat_tests) in
+    sym (ap (λ (x : Bool). if x then Some (Task (s - 1)) else None) never)
+
+-- where no worker is there, nobody has a hand
+pub no_hand : (v : ℕ) → hand_at [] v ≡ Out
+no_hand v = hand_or (v == 0)
+  where
+    hand_or : (b : Bool) → (if b then Out else hand_in None) ≡ Out
+    hand_or true = refl
+    hand_or false = refl
+
+numbered : (setting : ℕ) → Numbered (first_world setting) []
+numbered setting =
+    record {
+      owners = refl;
+      accepted = refl;
+      next = refl;
+      holders = λ s. nobody_holds s (nat_lt (s - 1) 0) refl (grind (arith, nat_tests));
+      numbers = λ k owner there. cc;
+      places = λ k owner entry there found. cc;
+      stands = λ s. refl;
+    }
+
+counted : (setting : ℕ) → 0 < setting → Counted setting (first_world setting) []
+counted setting positive =
+    record {
+      workers_are = refl;
+      idle_are = refl;
+      arriving_are = refl;
+      hands_are = refl;
+      setting_is = refl;
+      limit_is = refl;
+      known_is = refl;
+      positive = positive;
+      next_is = refl;
+      once = tt;
+      each = λ s. refl;
+      served = λ none. refl;
+    }
+
+out_hand : (v : ℕ) (hand : Hand) → hand ≡ Out → HandAs hand false None
+out_hand v hand is = subst (λ h. HandAs h false None) (sym is) (refl, refl)
+
+no_job : (setting s : ℕ) → map.get (first_world setting).pool.jobs s ≡ None
+no_job setting s = map.get-empty nat_cmp s
+
+ready : (setting : ℕ) → IsReady (first_world setting)
+ready setting =
+    record {
+      parked = λ s. ap is_parked_job (no_job setting s);
+      idle = refl;
+      held = λ n held there. cc;
+      apart = λ m n one other here there same. cc;
+    }
+
+handed : (setting : ℕ) → Handed (first_world setting) []
+handed setting =
+    record {
+      each = λ v. out_hand v (hand_at [] v) (no_hand v);
+      held = λ v held there. let out : Out ≡ Holds held = cc (no_hand v, there) in cc;
+      ready = ready setting;
+      marks = λ s marked. cc;
+    }
+
+tied : (setting : ℕ) → 0 < setting → Tied setting (first_world setting) []
+tied setting positive =
+    record {
+      numbered = numbered setting;
+      filed = λ s. subst (λ entry. FiledAs entry None false false false false []) (sym (no_job setting s)) (refl, refl, refl, refl, refl);
+      lined = record { same = refl; once = tt; each = λ s. refl; order = refl };
+      counted = counted setting positive;
+      handed = handed setting;
+      tasked = record { each = λ k owner there. cc; unborn = λ k beyond. refl };
+    }
+
+legal : (setting : ℕ) (marks : List Bool) → Legal setting marks []
+legal setting marks =
+    record {
+      steps = tt;
+      pool = tt;
+      tasks = λ k s held. tt;
+      wakes = record { tasks = λ k s held. cc };
+    }
+
+-- a new world is lawful
+pub begins_lawful : (setting : ℕ) (marks : List Bool) → 0 < setting → IsLawful setting marks (first_world setting) []
+begins_lawful setting marks positive = record { tied = tied setting positive; legal = legal setting marks; turns_are = refl }
+
+-- the same, of parts that are those of a new world
+pub begun : (setting : ℕ) (marks : List Bool) (w : Worlded) → w ≡ first_world setting → 0 < setting → IsLawful w.pool.counts.setting marks w []
+begun setting marks w is positive = subst (λ v. IsLawful v.pool.counts.setting marks v []) (sym is) (begins_lawful setting marks positive)
+
+some_limit : (number : Option ℕ) → 0 < limit_by number
+some_limit None = omega arith
+some_limit (Some number) = omega arith
+
+-- a setting's limit is at least 1
+pub positive_limit : (text : Option (List ℕ)) → 0 < limit_of_setting text
+positive_limit None = omega arith
+positive_limit (Some text) = some_limit (number_of text)

@@ -1,0 +1,88 @@
+-- Each move keeps the ties and the laws: so every world is lawful.
+use Rattle.std.proofs.Common.{◌≡◌, ℕ, Bool, List, ◌∷◌, sym, subst}
+use Rattle.blocking_laws.specs.Growth.{IsMarked}
+use Rattle.blocking_laws.specs.Legal.{PoolLaw}
+use Rattle.blocking_world.specs.Machine.{StepDoes}
+use Rattle.blocking_world.specs.Moves.{Move, Moves, May, after, moment_of, event_of}
+use Rattle.blocking_world.specs.Ties.{Tied, IsLawful}
+use Rattle.blocking_world.specs.Worlds.{Worlded}
+use Rattle.blocking_laws.specs.declared.event.Event.{Event}
+use Rattle.blocking_laws.specs.declared.event.Moment.{Moment}
+use Rattle.blocking_laws.specs.declared.step.Step.{Step}
+use Rattle.blocking_world.proofs.Numbering.{numbered_after}
+use Rattle.blocking_world.proofs.Filing.{filed_after}
+use Rattle.blocking_world.proofs.Lining.{lined_after, in_order}
+use Rattle.blocking_world.proofs.Answering.{answers_after}
+use Rattle.blocking_world.proofs.Counting.{counted_after}
+use Rattle.blocking_world.proofs.Grown.{growth_after}
+use Rattle.blocking_world.proofs.Handing.{handed_after, turn_after}
+use Rattle.blocking_world.proofs.Tasking.{tasked_after}
+use Rattle.blocking_world.proofs.TaskLawful.{tasks_after, no_lost_wake}
+use Rattle.blocking_world.proofs.Staffing.{turns_after, staffed}
+use Rattle.blocking_laws.specs.Staffed.{AreStaffed}
+use Rattle.blocking_world.proofs.Moving.{moved}
+use Rattle.blocking_world.proofs.Stepping.{step_after}
+
+-- the ties after a move
+tied_after : (setting : ℕ) (marks : List Bool) (w : Worlded) (past : List Moment) (move : Move) → IsLawful setting marks w past → May (IsMarked marks) w move
+    → Tied setting (after w move) (moment_of w move ∷ past)
+tied_after setting marks w past move lawful may =
+    record {
+      numbered = numbered_after setting marks w past move lawful.tied may;
+      filed = filed_after setting marks w past move lawful.tied may;
+      lined = lined_after setting marks w past move lawful.tied may;
+      counted = counted_after setting marks w past move lawful.tied may;
+      handed = handed_after setting marks w past move lawful.tied may;
+      tasked = tasked_after setting marks w past move lawful.tied lawful.legal.tasks may;
+    }
+
+-- the law of the pool at a move
+pool_after : (setting : ℕ) (marks : List Bool) (w : Worlded) (past : List Moment) (move : Move) → Tied setting w past → May (IsMarked marks) w move
+    → PoolLaw setting marks past (moment_of w move)
+pool_after setting marks w past move tied may =
+    record {
+      growth = growth_after setting marks w past move tied may;
+      answers = answers_after setting marks w past move tied may;
+      turns = turn_after setting marks w past move tied may;
+      order = in_order setting marks w past move tied may;
+    }
+
+-- a move keeps a world lawful
+pub lawful_after : (setting : ℕ) (marks : List Bool) (w : Worlded) (past : List Moment) (move : Move) → IsLawful setting marks w past → May (IsMarked marks) w move
+    → IsLawful setting marks (after w move) (moment_of w move ∷ past)
+lawful_after setting marks w past move lawful may =
+    let tied : Tied setting (after w move) (moment_of w move ∷ past) = tied_after setting marks w past move lawful may in
+    record {
+      tied = tied;
+      legal =
+          record {
+            steps = (step_after setting marks w past move lawful.tied may, lawful.legal.steps);
+            pool = (pool_after setting marks w past move lawful.tied may, lawful.legal.pool);
+            tasks = tasks_after setting marks w past move lawful.tied may lawful.legal.tasks;
+            wakes = (no_lost_wake setting (after w move) (moment_of w move ∷ past) tied, lawful.legal.wakes);
+          };
+      turns_are = turns_after setting marks w past move lawful.tied tied may lawful.turns_are;
+    }
+
+-- the same, of a step as it was seen
+by_moves : (setting : ℕ) (marks : List Bool) (w w' : Worlded) (past : List Moment) (step : Step) (e : Event) → IsLawful setting marks w past
+    → Moves (IsMarked marks) step w e w' → IsLawful setting marks w' (record { step = step; event = e } ∷ past)
+by_moves setting marks w w' past step e lawful moves =
+    subst (λ left. IsLawful setting marks left (record { step = step; event = e } ∷ past)) (sym moves.after_is)
+    (subst (λ event. IsLawful setting marks (after w moves.move) (record { step = step; event = event } ∷ past)) (sym moves.event_is)
+    (subst (λ taken. IsLawful setting marks (after w moves.move) (record { step = taken; event = event_of w moves.move } ∷ past)) (sym moves.step_is)
+    (lawful_after setting marks w past moves.move lawful moves.may)))
+
+-- a step keeps a world lawful
+pub stays_lawful : (setting : ℕ) (marks : List Bool) (w w' : Worlded) (past : List Moment) (step : Step) (e : Event) → IsLawful setting marks w past
+    → StepDoes (IsMarked marks) step w e w' → IsLawful setting marks w' (record { step = step; event = e } ∷ past)
+stays_lawful setting marks w w' past step e lawful does = by_moves setting marks w w' past step e lawful (moved (IsMarked marks) step w e w' does)
+
+-- and keeps its setting
+pub same_setting : (setting : ℕ) (marks : List Bool) (w w' : Worlded) (past : List Moment) (step : Step) (e : Event) → IsLawful setting marks w past
+    → StepDoes (IsMarked marks) step w e w' → w'.pool.counts.setting ≡ setting
+same_setting setting marks w w' past step e lawful does = (stays_lawful setting marks w w' past step e lawful does).tied.counted.setting_is
+
+-- the workers of a lawful world are where they can be
+pub staffed_now : (setting : ℕ) (marks : List Bool) (w : Worlded) (past : List Moment) → IsLawful setting marks w past → AreStaffed past
+staffed_now setting marks w past lawful = staffed setting w past lawful.tied lawful.turns_are

@@ -1,0 +1,30 @@
+-- A mark on the job of a pool of calls.
+use Rattle.std.proofs.Common.{◌≡◌, Option, Some, None, ap, ◌∙◌, subst, refl}
+use Rattle.std.specs.Prelude.{OnSome}
+use Rattle.std.specs.Borrow.{MutBor}
+use Rattle.blocking_core.specs.Jobs.{JobNumber, job_of, value_at, valued}
+use Rattle.blocking_core.specs.Pools.{with_job}
+use Rattle.blocking_world.specs.Crews.{marked, mark_value, marked_in}
+use Rattle.blocking_world.specs.Worlds.{CallPool}
+use Rattle.blocking_world.specs.declared.call.CallJob.{CallJob}
+
+value_counts : (pool : CallPool) (number : JobNumber) (value : Option CallJob) → (mark_value pool number value).counts ≡ pool.counts
+value_counts pool number None = refl
+value_counts pool number (Some value) = refl
+
+-- a mark leaves the counts
+pub marked_counts : (pool : CallPool) (number : JobNumber) → (marked_in pool number).counts ≡ pool.counts
+marked_counts pool number = value_counts pool number (value_at (job_of pool.jobs number))
+
+-- a value that was lent and marked
+pub lent_marked : (inside old last : CallPool) (number : JobNumber) (lent : Option (MutBor CallJob)) (job : MutBor CallJob) → inside ≡ old → lent ≡ Some job
+    → OnSome lent (last ≡ with_job inside number.serial (valued (marked job.now)))
+    → Some job.now ≡ value_at (job_of inside.jobs number) → last ≡ marked_in old number
+lent_marked inside old last number lent job same is holds value =
+    let left = subst (λ (r : Option (MutBor CallJob)). OnSome r (last ≡ with_job inside number.serial (valued (marked job.now)))) is holds in
+    left ∙ ap (mark_value inside number) value ∙ ap (λ (p : CallPool). marked_in p number) same
+
+-- no value was there
+pub none_marked : (inside old last : CallPool) (number : JobNumber) → inside ≡ old → last ≡ inside → None ≡ value_at (job_of inside.jobs number) → last ≡ marked_in old number
+none_marked inside old last number same left value =
+    left ∙ ap (mark_value inside number) value ∙ ap (λ (p : CallPool). marked_in p number) same

@@ -1,0 +1,386 @@
+-- A step has an action in a world exactly where it has one by what was seen; and what is seen of a move is of its step.
+use Rattle.std.proofs.Common.{◌≡◌, ℕ, ◌+◌, ◌-◌, inl, inr, List, length, Bool, true, false, refl, sym, ap, ◌∙◌, subst, arith, Option, Some, None, Result, Ok, Err, get_or}
+use Rattle.std.proofs.lemmas.Bool.Decides.{nat_tests}
+use Rattle.std.proofs.lemmas.Option.{slice_get-get_or, slice_get_within}
+use Rattle.std.specs.Prelude.{◌&&◌, ◌||◌, nat_lt, not, ◌==◌, slice_get, is_some, is_none, if◌then◌else◌}
+use Rattle.blocking_core.specs.Growth.{Growth}
+use Rattle.blocking_core.specs.PoolAnswers.{must_stop}
+use Rattle.blocking_core.specs.Slots.{Content, Empty, Full, GivenUp as NoneComes, Abandoned}
+use Rattle.blocking_core.specs.declared.job.Action.{Action}
+use Rattle.blocking_core.specs.declared.job.Action.TheVariants as action
+use Rattle.blocking_core.specs.declared.pool.answer.Refusal.{Refusal}
+use Rattle.blocking_core.specs.declared.pool.token.WorkerPass.{WorkerPass}
+use Rattle.blocking_world.specs.Crews.{no_growth}
+use Rattle.blocking_world.specs.declared.call.CallJob.{CallJob}
+use Rattle.blocking_core.specs.Jobs.{JobNumber}
+use Rattle.blocking_laws.specs.Seen.{events, acts_of, acts_of_task, own, task_cut, is_nothing}
+use Rattle.blocking_laws.specs.Jobs.{tasks, holder}
+use Rattle.blocking_laws.specs.Counts.{starts, arrivals}
+use Rattle.blocking_laws.specs.Growth.{IsMarked}
+use Rattle.blocking_laws.specs.Turns.{Turn, GoesOn, turn, hand}
+use Rattle.blocking_laws.specs.JobTable.{Calling, AskCall, Finish, WakeHolder, next_of_job}
+use Rattle.blocking_laws.specs.TaskLaws.{is_gone, was_cancelled, is_let_go}
+use Rattle.blocking_laws.specs.Steps.{is_there, Work, NoWork, Does, GivesUp as MustGive, EndsTurn as MustEnd, work_in, work_with, work, is_job_work, is_answered_work, is_turn_end, is_for_cancelled, may_call, may_cancel, has_action, named, party, job_of, IsPolled, IsOfTask, IsBegun, Fits, Happens, StepLaw}
+use Rattle.blocking_world.specs.Worlds.{Worlded, CallPool, outcome_of, duty_of, duty_at, hand_at, may_be, has_let_go, poll_in, poll_at, poll_of, owner_in, owner_at, is_free_hand}
+use Rattle.blocking_world.specs.Machine.{seen, next_start, was_accepted, added_act, task_act, wait_act}
+use Rattle.blocking_world.specs.Moves.{Move, Idles, Begins, Calls, Arrives, TakesJob, TakesNone, IsAnswered, Finishes, GivesUp, CallsWaker, EndsTurn, HasWaited, SetsLimit, Sweeps, IsWoken, IsStruck, May, has_act, duty_in, is_own, is_awaiting, is_ending, may_call_in, wait_step, finish_wakes, giving_up_wakes, wakes_as, cancels_as, moment_of}
+use Rattle.blocking_world.specs.Ties.{Tied, Numbered, Handed, Tasked, TaskAs, HandAs, HeldAs, ActedAs, turn_of, is_gone_as, CancelAs}
+use Rattle.blocking_laws.specs.declared.event.Act.{Act}
+use Rattle.blocking_laws.specs.declared.event.Act.TheVariants.{JobWoken, JobCancelled, LimitSet, Waits, TaskGot, TaskGotNone, Arrived, Took, TookDropped, TookNone, Stays, Stopped, Ended, Answered, Finished, GaveUp, HolderWoken, NoAction}
+use Rattle.blocking_laws.specs.declared.event.Event.{Event}
+use Rattle.blocking_laws.specs.declared.event.Moment.{Moment}
+use Rattle.blocking_laws.specs.declared.event.Party.{Party}
+use Rattle.blocking_laws.specs.declared.event.Party.TheVariants.{Task, Worker}
+use Rattle.blocking_world.specs.declared.hand.Duty.{Duty}
+use Rattle.blocking_world.specs.declared.hand.Duty.TheVariants as duty
+use Rattle.blocking_world.specs.declared.hand.Hand.{Hand}
+use Rattle.blocking_world.specs.declared.hand.Hand.TheVariants.{Out, Free, Holds}
+use Rattle.blocking_world.specs.declared.hand.Held.{Held}
+use Rattle.blocking_world.specs.declared.hand.Stage.{Stage}
+use Rattle.blocking_world.specs.declared.hand.Stage.TheVariants as stage
+use Rattle.blocking_laws.specs.declared.step.Answer.{Answer}
+use Rattle.blocking_laws.specs.declared.step.Answer.TheVariants.{Number}
+use Rattle.blocking_laws.specs.declared.step.Step.{Step}
+use Rattle.blocking_laws.specs.declared.step.Step.TheVariants.{Spawn, OfTask, Arrive, Take, Job, Io, End, Wait, Late, SetLimit, Sweep, Stray, Strike}
+use Rattle.blocking_laws.specs.declared.step.TaskCall.{TaskCall}
+use Rattle.blocking_laws.specs.declared.step.TaskCall.TheVariants.{Poll, Cancel, Detach, Drop}
+use Rattle.blocking_world.specs.declared.task.Owner.{Owner}
+use Rattle.blocking_world.specs.declared.task.TaskStage.{TaskStage}
+use Rattle.blocking_world.specs.declared.task.TaskStage.TheVariants as task
+use Rattle.blocking_world.proofs.Cutting.{own_cut}
+
+-- ---- workers
+
+-- an idle worker is there and has no job in hand
+free_by : (h : Hand) (there : Bool) (job : Option ℕ) → HandAs h there job → is_free_hand h ≡ (there && is_none job)
+free_by Out there job holds = sym (ap (λ b. b && is_none job) holds.0)
+free_by (Free pass) there job holds = sym (ap (λ b. b && is_none job) holds.0 ∙ ap is_none holds.1)
+free_by (Holds held) there job holds = sym (ap (λ b. b && is_none job) holds.0 ∙ ap is_none holds.1)
+
+-- what a worker has to do, by the duty of the job in its hand
+abbrev duty_work : Option Duty → Work
+duty_work None = NoWork
+duty_work (Some duty.Await) = Does AskCall
+duty_work (Some duty.Finish) = Does Finish
+duty_work (Some duty.GiveUp) = MustGive
+duty_work (Some duty.Wake) = Does WakeHolder
+duty_work (Some duty.End) = MustEnd
+
+stage_work : (at : Stage) (next : Action) (n : ℕ) (acts : List Act) → ActedAs at next n acts → work_in (turn_of at) (next_of_job Calling acts) ≡ duty_work (Some (duty_at at next))
+stage_work stage.Runs action.Call n acts acted = ap (λ a. work_in GoesOn (next_of_job Calling a)) acted
+stage_work stage.Runs action.Finish n acts acted = ap (λ a. work_in GoesOn (next_of_job Calling a)) acted
+stage_work stage.Runs action.Deliver n acts acted = ap (λ a. work_in GoesOn (next_of_job Calling a)) acted
+stage_work stage.Runs action.Done n acts (inl acted) = ap (λ a. work_in GoesOn (next_of_job Calling a)) acted
+stage_work stage.Runs action.Done n acts (inr acted) = ap (λ a. work_in GoesOn (next_of_job Calling a)) acted
+stage_work stage.MustGiveUp next n acts acted = refl
+stage_work stage.MustWake next n acts acted = ap (λ a. work_in (turn_of stage.MustWake) (next_of_job Calling a)) acted
+stage_work stage.GaveUp next n acts (inl acted) = ap (λ a. work_in (turn_of stage.GaveUp) (next_of_job Calling a)) acted
+stage_work stage.GaveUp next n acts (inr acted) = ap (λ a. work_in (turn_of stage.GaveUp) (next_of_job Calling a)) acted
+
+held_work : (held : Held) (turns : Turn) (acts : List Act) (let_go : Bool) → HeldAs held turns acts let_go → work_in turns (next_of_job Calling acts) ≡ duty_work (Some (duty_of held))
+held_work held turns acts let_go h = ap (λ t. work_in t (next_of_job Calling acts)) h.turn_is ∙ stage_work held.stage held.job.core held.job.number acts h.acts_are
+
+-- whose job a hand holds, and what is to be done with it
+work_by : (w : Worlded) (past : List Moment) (v : ℕ) → Handed w past → (h : Hand) → hand_at w.hands v ≡ h → HandAs h (is_there past v) (hand past v) → work past v ≡ duty_work (duty_in h)
+work_by w past v handed Out holds tie = ap (λ j. work_with j past) tie.1
+work_by w past v handed (Free pass) holds tie = ap (λ j. work_with j past) tie.1
+work_by w past v handed (Holds held) holds tie =
+    ap (λ j. work_with j past) tie.1 ∙ held_work held (turn past held.turn.serial) (acts_of held.turn.serial (events past)) _ (handed.held v held holds)
+
+work_is : (w : Worlded) (past : List Moment) (v : ℕ) → Handed w past → work past v ≡ duty_work (duty_in (hand_at w.hands v))
+work_is w past v handed = work_by w past v handed (hand_at w.hands v) refl (handed.each v)
+
+own_work : (d : Option Duty) → is_own d ≡ is_job_work (duty_work d)
+own_work None = refl
+own_work (Some duty.Await) = refl
+own_work (Some duty.Finish) = refl
+own_work (Some duty.GiveUp) = refl
+own_work (Some duty.Wake) = refl
+own_work (Some duty.End) = refl
+
+awaited_work : (d : Option Duty) (answer : Answer) → is_awaiting d ≡ is_answered_work (duty_work d) answer
+awaited_work None answer = refl
+awaited_work (Some duty.Await) (Number n) = refl
+awaited_work (Some duty.Finish) answer = refl
+awaited_work (Some duty.GiveUp) answer = refl
+awaited_work (Some duty.Wake) answer = refl
+awaited_work (Some duty.End) answer = refl
+
+ending_work : (d : Option Duty) → is_ending d ≡ is_turn_end (duty_work d)
+ending_work None = refl
+ending_work (Some duty.Await) = refl
+ending_work (Some duty.Finish) = refl
+ending_work (Some duty.GiveUp) = refl
+ending_work (Some duty.Wake) = refl
+ending_work (Some duty.End) = refl
+
+-- a worker has still to arrive exactly where one was started that hasn't
+arrive_by : (m n s : ℕ) → s ≡ m + n → (x y : Bool) → nat_lt 0 m ≡ x → nat_lt n s ≡ y → x ≡ y
+arrive_by m n s sum true true left right = refl
+arrive_by m n s sum true false left right = absurd (grind (arith, nat_tests))
+arrive_by m n s sum false true left right = absurd (grind (arith, nat_tests))
+arrive_by m n s sum false false left right = refl
+
+-- ---- tasks
+
+stage_may : (at : TaskStage) (call : TaskCall) (gone was : Bool) → gone ≡ is_gone_as at → CancelAs at was → may_be at call ≡ (not gone && (not was || is_for_cancelled call))
+stage_may task.Held call gone was is_gone is_cancelled = rw (is_gone, is_cancelled) refl
+stage_may task.Cancelled Poll gone was is_gone is_cancelled = rw (is_gone, is_cancelled) refl
+stage_may task.Cancelled Cancel gone was is_gone is_cancelled = rw (is_gone, is_cancelled) refl
+stage_may task.Cancelled Detach gone was is_gone is_cancelled = rw (is_gone, is_cancelled) refl
+stage_may task.Cancelled Drop gone was is_gone is_cancelled = rw (is_gone, is_cancelled) refl
+stage_may task.Gone call gone was is_gone is_cancelled = rw is_gone refl
+stage_may task.LetGo call gone was is_gone is_cancelled = rw is_gone refl
+
+-- a task may be called so exactly where its own acts allow it
+task_may : (k : ℕ) (owner : Owner) (seen : List Event) (call : TaskCall) → TaskAs owner (k + 1) (task_cut k (k + 1) seen) → may_be owner.stage call ≡ may_call (acts_of_task k seen) call
+task_may k owner seen call tie =
+    stage_may owner.stage call (is_gone (own (task_cut k (k + 1) seen))) (was_cancelled (own (task_cut k (k + 1) seen))) tie.gone tie.cancel
+    ∙ ap (λ acts. may_call acts call) (own_cut k (k + 1) seen)
+
+-- a task that isn't found isn't there
+none_there : (row : List Owner) (k : ℕ) → slice_get row k ≡ None → (b : Bool) → nat_lt k (length row) ≡ b → b ≡ false
+none_there row k none true test =
+    let some = slice_get-get_or row k (owner_in None) (grind (arith, nat_tests)) in
+    absurd (cc)
+none_there row k none false test = refl
+
+some_there : (row : List Owner) (k : ℕ) (owner : Owner) → slice_get row k ≡ Some owner → (b : Bool) → nat_lt k (length row) ≡ b → b ≡ true
+some_there row k owner some true test = refl
+some_there row k owner some false test =
+    let within = slice_get_within row k owner some in
+    absurd (grind (arith, nat_tests))
+
+calls_by : (w : Worlded) (past : List Moment) (k : ℕ) (call : TaskCall) → Numbered w past → Tasked w past → (found : Option Owner) → slice_get w.tasks k ≡ found
+    → may_call_in found call ≡ (nat_lt k (tasks past) && may_call (acts_of_task k (events past)) call)
+calls_by w past k call numbered tasked None found =
+    sym (ap (λ n. nat_lt k n && may_call (acts_of_task k (events past)) call) (sym numbered.owners)
+    ∙ ap (λ b. b && may_call (acts_of_task k (events past)) call) (none_there w.tasks k found (nat_lt k (length w.tasks)) refl))
+calls_by w past k call numbered tasked (Some owner) found =
+    task_may k owner (events past) call (tasked.each k owner found)
+    ∙ sym (ap (λ n. nat_lt k n && may_call (acts_of_task k (events past)) call) (sym numbered.owners)
+    ∙ ap (λ b. b && may_call (acts_of_task k (events past)) call) (some_there w.tasks k owner found (nat_lt k (length w.tasks)) refl))
+
+-- ---- jobs
+
+some_if : (b : Bool) (who : Party) → b ≡ is_some (if b then Some who else None)
+some_if true who = refl
+some_if false who = refl
+
+-- by the number of tasks
+accepted_is : (w : Worlded) (past : List Moment) (s : ℕ) → Numbered w past → was_accepted w s ≡ (nat_lt 0 s && nat_lt (s - 1) (tasks past))
+accepted_is w past s numbered = ap (λ n. nat_lt 0 s && nat_lt (s - 1) n) numbered.owners
+
+stray_is : (w : Worlded) (past : List Moment) (s : ℕ) → Numbered w past → was_accepted w s ≡ is_some (holder past s)
+stray_is w past s numbered =
+    accepted_is w past s numbered ∙ some_if (nat_lt 0 s && nat_lt (s - 1) (tasks past)) (Task (s - 1)) ∙ ap is_some (sym (numbered.holders s))
+
+both_second : (a b : Bool) → (a && b) ≡ true → b ≡ true
+both_second true b test = test
+both_second false b test = absurd (cc)
+
+-- the task of a job that was accepted is there
+owner_there : (row : List Owner) (k : ℕ) → nat_lt k (length row) ≡ true → slice_get row k ≡ Some (get_or row k (owner_in None))
+owner_there row k test = slice_get-get_or row k (owner_in None) (grind (arith, nat_tests))
+
+strike_if : (w : Worlded) (past : List Moment) (s : ℕ) → Tasked w past → (b : Bool) → (nat_lt 0 s && nat_lt (s - 1) (length w.tasks)) ≡ b
+    → (b && has_let_go (owner_at w.tasks s).stage) ≡ may_cancel (if b then Some (Task (s - 1)) else None) past
+strike_if w past s tasked false test = refl
+strike_if w past s tasked true test =
+    let there = owner_there w.tasks (s - 1) (both_second (nat_lt 0 s) (nat_lt (s - 1) (length w.tasks)) test) in
+    let owner = get_or w.tasks (s - 1) (owner_in None) in
+    let tie = tasked.each (s - 1) owner there in
+    ap (λ o. has_let_go (owner_in o).stage) there ∙ sym tie.let_go ∙ ap is_let_go (own_cut (s - 1) (s - 1 + 1) (events past))
+
+strike_is : (w : Worlded) (past : List Moment) (s : ℕ) → Numbered w past → Tasked w past → (was_accepted w s && has_let_go (owner_at w.tasks s).stage) ≡ may_cancel (holder past s) past
+strike_is w past s numbered tasked =
+    strike_if w past s tasked (was_accepted w s) refl
+    ∙ ap (λ b. may_cancel (if b then Some (Task (s - 1)) else None) past) (accepted_is w past s numbered)
+    ∙ ap (λ h. may_cancel h past) (sym (numbered.holders s))
+
+limit_by : (n : ℕ) (x y : Bool) → (n == 0) ≡ x → nat_lt 0 n ≡ y → not x ≡ y
+limit_by n true true zeroed above = absurd (grind (arith, nat_tests))
+limit_by n true false zeroed above = refl
+limit_by n false true zeroed above = refl
+limit_by n false false zeroed above = absurd (grind (arith, nat_tests))
+
+-- ---- each step
+
+-- a step has an action in the world exactly where it has one by what was seen
+pub has_is : (setting : ℕ) (w : Worlded) (past : List Moment) → Tied setting w past → (step : Step) → has_act w step ≡ has_action past step
+has_is setting w past tied Spawn = refl
+has_is setting w past tied (OfTask k call) = calls_by w past k call tied.numbered tied.tasked (slice_get w.tasks k) refl
+has_is setting w past tied Arrive = arrive_by w.pool.counts.arriving (arrivals past) (starts past) tied.counted.arriving_are (nat_lt 0 w.pool.counts.arriving) (nat_lt (arrivals past) (starts past)) refl refl
+has_is setting w past tied (Take v) = free_by (hand_at w.hands v) (is_there past v) (hand past v) (tied.handed.each v)
+has_is setting w past tied (Job v) = own_work (duty_in (hand_at w.hands v)) ∙ ap is_job_work (sym (work_is w past v tied.handed))
+has_is setting w past tied (Io v answer) = awaited_work (duty_in (hand_at w.hands v)) answer ∙ ap (λ work. is_answered_work work answer) (sym (work_is w past v tied.handed))
+has_is setting w past tied (End v) = ending_work (duty_in (hand_at w.hands v)) ∙ ap is_turn_end (sym (work_is w past v tied.handed))
+has_is setting w past tied (Wait v) = free_by (hand_at w.hands v) (is_there past v) (hand past v) (tied.handed.each v)
+has_is setting w past tied (Late v) = free_by (hand_at w.hands v) (is_there past v) (hand past v) (tied.handed.each v)
+has_is setting w past tied (SetLimit n) = limit_by n (n == 0) (nat_lt 0 n) refl refl
+has_is setting w past tied Sweep = refl
+has_is setting w past tied (Stray s) = stray_is w past s tied.numbered
+has_is setting w past tied (Strike s) = strike_is w past s tied.numbered tied.tasked
+
+-- ---- what is seen of a move
+
+-- an act of a step that has an action
+happened : (past : List Moment) (step : Step) (act : Act) → has_action past step ≡ true → is_nothing act ≡ false → Fits past step act → Happens (has_action past step) past step act
+happened past step act has something fits = subst (λ b. Happens b past step act) (sym has) (something, fits)
+
+-- where a step has no action, nothing is seen
+idled : (past : List Moment) (step : Step) → has_action past step ≡ false → Happens (has_action past step) past step NoAction
+idled past step has = subst (λ b. Happens b past step NoAction) (sym has) refl
+
+-- what a hand holds is what was seen in it
+in_hand : (w : Worlded) (past : List Moment) (v : ℕ) (held : Held) → Handed w past → hand_at w.hands v ≡ Holds held → hand past v ≡ Some held.turn.serial
+in_hand w past v held handed holds =
+    let tie = subst (λ h. HandAs h (is_there past v) (hand past v)) holds (handed.each v) in
+    tie.1
+
+begun_fits : (added : Result JobNumber Refusal) → IsBegun (added_act added)
+begun_fits (Ok number) = tt
+begun_fits (Err why) = tt
+
+begun_is : (added : Result JobNumber Refusal) → is_nothing (added_act added) ≡ false
+begun_is (Ok number) = refl
+begun_is (Err why) = refl
+
+poll_in_fits : (content : Content ℕ) → IsPolled (poll_in content)
+poll_in_fits Empty = tt
+poll_in_fits (Full number) = tt
+poll_in_fits NoneComes = tt
+poll_in_fits (Abandoned true) = tt
+poll_in_fits (Abandoned false) = tt
+
+poll_fits : (at : TaskStage) (found : Option ℕ) (content : Content ℕ) → IsPolled (poll_at at found content)
+poll_fits task.Held found content = poll_in_fits content
+poll_fits task.Cancelled None content = poll_in_fits content
+poll_fits task.Cancelled (Some number) content = tt
+poll_fits task.Gone found content = poll_in_fits content
+poll_fits task.LetGo found content = poll_in_fits content
+
+call_fits : (call : TaskCall) (owner : Owner) → IsOfTask call (task_act call owner)
+call_fits Poll owner = poll_fits owner.stage owner.found owner.slot.content
+call_fits Cancel owner = refl
+call_fits Detach owner = refl
+call_fits Drop owner = refl
+
+polled_is : (act : Act) → IsPolled act → is_nothing act ≡ false
+polled_is (TaskGot n) polled = refl
+polled_is TaskGotNone polled = refl
+polled_is Waits polled = refl
+polled_is _ polled = absurd polled
+
+called_is : (call : TaskCall) (owner : Owner) → is_nothing (task_act call owner) ≡ false
+called_is Poll owner = polled_is (poll_of owner) (poll_fits owner.stage owner.found owner.slot.content)
+called_is Cancel owner = refl
+called_is Detach owner = refl
+called_is Drop owner = refl
+
+-- where something is done, it is done by the step's party, and of its job
+party_of : (past : List Moment) (step : Step) (act : Act) → is_nothing act ≡ false → party past step ≡ (if is_nothing act then named step else party past step)
+party_of past step act something = rw something refl
+
+what_of : (past : List Moment) (step : Step) (act : Act) → is_nothing act ≡ false → job_of past step act ≡ (if is_nothing act then None else job_of past step act)
+what_of past step act something = rw something refl
+
+step_begins : (w : Worlded) (past : List Moment) (added : Result JobNumber Refusal) (growth : Growth) (pool : CallPool) → StepLaw past (moment_of w (Begins added growth pool))
+step_begins w past added growth pool =
+    record { act = (begun_is added, begun_fits added); by = party_of past Spawn (added_act added) (begun_is added); of = what_of past Spawn (added_act added) (begun_is added); owned = refl }
+
+step_calls : (w : Worlded) (past : List Moment) (k : ℕ) (call : TaskCall) (owner : Owner) → has_action past (OfTask k call) ≡ true → StepLaw past (moment_of w (Calls k call owner))
+step_calls w past k call owner has =
+    record {
+      act = happened past (OfTask k call) (task_act call owner) has (called_is call owner) (call_fits call owner);
+      by = party_of past (OfTask k call) (task_act call owner) (called_is call owner);
+      of = what_of past (OfTask k call) (task_act call owner) (called_is call owner);
+      owned = refl;
+    }
+
+step_arrives : (w : Worlded) (past : List Moment) (pass : WorkerPass) → length w.hands ≡ arrivals past → has_action past Arrive ≡ true → StepLaw past (moment_of w (Arrives pass))
+step_arrives w past pass many has =
+    let next : length w.hands + 1 ≡ 1 + arrivals past = omega (arith, many) in
+    record { act = happened past Arrive (Arrived (length w.hands + 1)) has refl (ap Arrived next); by = ap Worker next; of = refl; owned = refl }
+
+step_takes : (w : Worlded) (past : List Moment) (v : ℕ) (old : WorkerPass) (to_drop : Bool) (turn : JobNumber) (job : CallJob) (growth : Growth) (pool : CallPool) → has_action past (Take v) ≡ true
+    → StepLaw past (moment_of w (TakesJob v old to_drop turn job growth pool))
+step_takes w past v old false turn job growth pool has = record { act = happened past (Take v) (Took turn.serial) has refl refl; by = refl; of = refl; owned = refl }
+step_takes w past v old true turn job growth pool has = record { act = happened past (Take v) (TookDropped turn.serial) has refl refl; by = refl; of = refl; owned = refl }
+
+step_takes_none : (w : Worlded) (past : List Moment) (v : ℕ) (old pass : WorkerPass) → has_action past (Take v) ≡ true → StepLaw past (moment_of w (TakesNone v old pass))
+step_takes_none w past v old pass has = record { act = happened past (Take v) TookNone has refl refl; by = refl; of = refl; owned = refl }
+
+step_waits : (w : Worlded) (past : List Moment) (v : ℕ) (late stops : Bool) → has_action past (wait_step late v) ≡ true
+    → StepLaw past (record { step = wait_step late v; event = seen (Worker v) None (wait_act v late stops) (next_start w) no_growth })
+step_waits w past v false false has = record { act = happened past (Wait v) (Stays v false) has refl (refl, refl); by = refl; of = refl; owned = refl }
+step_waits w past v false true has = record { act = happened past (Wait v) (Stopped v false) has refl (refl, refl); by = refl; of = refl; owned = refl }
+step_waits w past v true false has = record { act = happened past (Late v) (Stays v true) has refl (refl, refl); by = refl; of = refl; owned = refl }
+step_waits w past v true true has = record { act = happened past (Late v) (Stopped v true) has refl (refl, refl); by = refl; of = refl; owned = refl }
+
+late_free : (w : Worlded) (v : ℕ) (late : Bool) → is_free_hand (hand_at w.hands v) ≡ true → has_act w (wait_step late v) ≡ true
+late_free w v false free = free
+late_free w v true free = free
+
+-- what is seen of a move is of its step
+pub step_after : (setting : ℕ) (marks : List Bool) (w : Worlded) (past : List Moment) (move : Move) → Tied setting w past → May (IsMarked marks) w move → StepLaw past (moment_of w move)
+step_after setting marks w past (Idles step) tied may = record { act = idled past step (sym (has_is setting w past tied step) ∙ may); by = refl; of = refl; owned = refl }
+step_after setting marks w past (Begins added growth pool) tied may = step_begins w past added growth pool
+step_after setting marks w past (Calls k call owner) tied may =
+    step_calls w past k call owner (sym (has_is setting w past tied (OfTask k call)) ∙ ap (λ o. may_call_in o call) may.0 ∙ may.1)
+step_after setting marks w past (Arrives pass) tied may =
+    let has : nat_lt 0 w.pool.counts.arriving ≡ true = grind (arith, nat_tests) in
+    step_arrives w past pass tied.counted.hands_are (sym (has_is setting w past tied Arrive) ∙ has)
+step_after setting marks w past (TakesJob v old to_drop turn job growth pool) tied may =
+    step_takes w past v old to_drop turn job growth pool (sym (has_is setting w past tied (Take v)) ∙ ap is_free_hand may.0)
+step_after setting marks w past (TakesNone v old pass) tied may = step_takes_none w past v old pass (sym (has_is setting w past tied (Take v)) ∙ ap is_free_hand may.0)
+step_after setting marks w past (IsAnswered v held n) tied may =
+    record {
+      act = happened past (Io v (Number n)) (Answered (Number n)) (sym (has_is setting w past tied (Io v (Number n))) ∙ ap (λ h. is_awaiting (duty_in h)) may.0 ∙ ap (λ d. is_awaiting (Some d)) may.1) refl refl;
+      by = refl;
+      of = sym (in_hand w past v held tied.handed may.0);
+      owned = refl;
+    }
+step_after setting marks w past (Finishes v held) tied may =
+    record {
+      act = happened past (Job v) (Finished (finish_wakes w held)) (sym (has_is setting w past tied (Job v)) ∙ ap (λ h. is_own (duty_in h)) may.0 ∙ ap (λ d. is_own (Some d)) may.1) refl (refl, refl);
+      by = refl;
+      of = sym (in_hand w past v held tied.handed may.0);
+      owned = refl;
+    }
+step_after setting marks w past (GivesUp v held) tied may =
+    record {
+      act = happened past (Job v) (GaveUp (giving_up_wakes w held)) (sym (has_is setting w past tied (Job v)) ∙ ap (λ h. is_own (duty_in h)) may.0 ∙ ap (λ d. is_own (Some d)) may.1) refl (refl, refl);
+      by = refl;
+      of = sym (in_hand w past v held tied.handed may.0);
+      owned = refl;
+    }
+step_after setting marks w past (CallsWaker v held) tied may =
+    record {
+      act = happened past (Job v) HolderWoken (sym (has_is setting w past tied (Job v)) ∙ ap (λ h. is_own (duty_in h)) may.0 ∙ ap (λ d. is_own (Some d)) may.1) refl (refl, refl);
+      by = refl;
+      of = sym (in_hand w past v held tied.handed may.0);
+      owned = refl;
+    }
+step_after setting marks w past (EndsTurn v held pass) tied may =
+    record {
+      act = happened past (End v) (Ended held.turn.serial (outcome_of held.stage)) (sym (has_is setting w past tied (End v)) ∙ ap (λ h. is_ending (duty_in h)) may.0 ∙ ap (λ d. is_ending (Some d)) may.1) refl (in_hand w past v held tied.handed may.0);
+      by = refl;
+      of = sym (in_hand w past v held tied.handed may.0);
+      owned = refl;
+    }
+step_after setting marks w past (HasWaited v pass late) tied may =
+    step_waits w past v late (must_stop late w.pool) (sym (has_is setting w past tied (wait_step late v)) ∙ late_free w v late (ap is_free_hand may))
+step_after setting marks w past (SetsLimit n) tied may =
+    let has : nat_lt 0 n ≡ true = grind (arith, nat_tests) in
+    record { act = happened past (SetLimit n) (LimitSet n) has refl refl; by = refl; of = refl; owned = refl }
+step_after setting marks w past Sweeps tied may = record { act = (refl, tt); by = refl; of = refl; owned = refl }
+step_after setting marks w past (IsWoken s) tied may =
+    record { act = happened past (Stray s) (JobWoken s (wakes_as w s)) (sym (has_is setting w past tied (Stray s)) ∙ may) refl refl; by = refl; of = refl; owned = refl }
+step_after setting marks w past (IsStruck s) tied may =
+    record {
+      act = happened past (Strike s) (JobCancelled s (cancels_as w s)) (sym (has_is setting w past tied (Strike s)) ∙ ap (λ b. b && has_let_go (owner_at w.tasks s).stage) may.0 ∙ may.1) refl refl;
+      by = refl;
+      of = refl;
+      owned = refl;
+    }

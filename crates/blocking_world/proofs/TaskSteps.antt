@@ -1,0 +1,454 @@
+-- One event of a task or of its job: it keeps the laws of the task, and the tie of the task to its cut.
+use Rattle.std.proofs.Common.{◌≡◌, ℕ, ◌==◌, List, [], ◌∷◌, Bool, true, false, refl, sym, ap, ◌∙◌, subst, arith, Option, Some, None, inl, inr}
+use Rattle.std.specs.Prelude.{◌⊎◌, ◌||◌, not, is_some}
+use Rattle.std.proofs.lemmas.Bool.Decides.{nat_tests}
+use Rattle.blocking_core.specs.Jobs.{JobNumber}
+use Rattle.blocking_core.specs.Slots.{Content, Empty, Full, GivenUp, Abandoned, without_owner, full_with, slot_after, answer_of, slot_without_job, waker_out_of, after_put, put_in, after_give_up, waker_of_give_up}
+use Rattle.blocking_laws.specs.Seen.{own, acts_of, is_of_pool, is_nothing}
+use Rattle.blocking_laws.specs.JobTable.{Calling, WakeHolder, next_of_job, action_after, is_over, number, has_finished, has_given_up}
+use Rattle.blocking_laws.specs.Places.{poll_task}
+use Rattle.blocking_laws.specs.Seats.{task_seat}
+use Rattle.blocking_laws.specs.TaskLaws.{is_in_time, poll_answer, was_cancelled, TaskLaw, Calls}
+use Rattle.blocking_laws.specs.Wakes.{was_woken, is_waiting}
+use Rattle.blocking_world.specs.Crews.{no_growth}
+use Rattle.blocking_world.specs.Worlds.{may_be, has_let_go, poll_of, polled, cancelled, detached, dropped}
+use Rattle.blocking_world.specs.Machine.{seen, task_act, called}
+use Rattle.blocking_world.specs.Ties.{TaskAs, SlotAs, CancelAs, IsPending}
+use Rattle.blocking_laws.specs.declared.event.Act.{Act}
+use Rattle.blocking_laws.specs.declared.event.Act.TheVariants.{Waits, TaskGot, TaskGotNone, TaskCancelled, TaskDetached, HolderDropped, Answered, Finished, GaveUp, HolderWoken}
+use Rattle.blocking_laws.specs.declared.event.Event.{Event}
+use Rattle.blocking_laws.specs.declared.event.Party.TheVariants.{Task, Worker}
+use Rattle.blocking_laws.specs.declared.step.Answer.TheVariants.{Number}
+use Rattle.blocking_laws.specs.declared.step.TaskCall.{TaskCall}
+use Rattle.blocking_laws.specs.declared.step.TaskCall.TheVariants.{Poll, Cancel, Detach, Drop}
+use Rattle.blocking_world.specs.declared.task.Owner.{Owner}
+use Rattle.blocking_world.specs.declared.task.TaskStage.{TaskStage}
+use Rattle.blocking_world.specs.declared.task.TaskStage.TheVariants as task
+
+-- an owner by its parts
+abbrev pub owner_by : JobNumber → TaskStage → Content ℕ → Option (Unit {0}) → Option ℕ → Owner
+owner_by place how content seat found = record { number = place; slot = record { content = content; seat = seat }; found = found; stage = how }
+
+-- what is seen of a task
+abbrev pub by_task : ℕ → Act → ℕ → Event
+by_task k act first = seen (Task k) None act first no_growth
+
+-- and of a job
+abbrev pub by_job : ℕ → ℕ → Act → ℕ → Event
+by_job v s act first = seen (Worker v) (Some s) act first no_growth
+
+-- an event keeps the law of its task, and leaves the task tied
+pub record Goes (new : Owner) (s : ℕ) (cut : List Event) (e : Event) : Type 0 where
+  pub law : TaskLaw s cut e
+  pub tie : TaskAs new s (e ∷ cut)
+
+-- ---- polls
+
+waits_is : (in_time finished gave : Bool) (n : ℕ) → finished ≡ false → gave ≡ false → in_time ≡ false → Waits ≡ poll_task in_time (finished || gave) n
+waits_is in_time finished gave n a b c = rw (a, b, c) refl
+
+got_is : (in_time over : Bool) (m n : ℕ) → in_time ≡ true → m ≡ n → TaskGot m ≡ poll_task in_time over n
+got_is in_time over m n a b = rw (a, b) refl
+
+none_is : (in_time over : Bool) (n : ℕ) → over ≡ true → in_time ≡ false → TaskGotNone ≡ poll_task in_time over n
+none_is in_time over n a b = rw (a, b) refl
+
+still_is : (in_time over : Bool) (n : ℕ) → over ≡ false → in_time ≡ false → Waits ≡ poll_task in_time over n
+still_is in_time over n a b = rw (a, b) refl
+
+-- a poll finds nothing yet, and seats the waker
+poll_waits : (place : JobNumber) (how : TaskStage) (content : Content ℕ) (seat : Option (Unit {0})) (found : Option ℕ) (s k first : ℕ) (cut : List Event)
+    → may_be how Poll ≡ true → Waits ≡ poll_answer s cut → has_finished (acts_of s cut) || has_given_up (acts_of s cut) ≡ false
+    → TaskAs (owner_by place how content seat found) s cut → Goes (owner_by place how content (Some tt) found) s cut (by_task k Waits first)
+poll_waits place task.Held content seat found s k first cut may law idle t =
+    record { law = (t.gone, law); tie = record { gone = t.gone; cancel = t.cancel; let_go = t.let_go; seat = refl; slot = t.slot; told = λ w. inr (refl, idle) } }
+poll_waits place task.Cancelled content seat found s k first cut may law idle t =
+    record { law = (t.gone, law); tie = record { gone = t.gone; cancel = t.cancel; let_go = t.let_go; seat = refl; slot = t.slot; told = λ w. inr (refl, idle) } }
+poll_waits place task.Gone content seat found s k first cut may law idle t = absurd (cc)
+poll_waits place task.LetGo content seat found s k first cut may law idle t = absurd (cc)
+
+-- whether it is an answer, and which
+abbrev poll_with : Option ℕ → Act
+poll_with (Some n) = TaskGot n
+poll_with None = TaskGotNone
+
+-- a task that is awaited has its answer
+held_got : (place : JobNumber) (content left : Content ℕ) (seat : Option (Unit {0})) (found answer : Option ℕ) (s k first : ℕ) (cut : List Event)
+    → poll_with answer ≡ poll_answer s cut → has_finished (acts_of s cut) || has_given_up (acts_of s cut) ≡ true
+    → TaskAs (owner_by place task.Held content seat found) s cut → Goes (owner_by place task.Gone left seat found) s cut (by_task k (poll_with answer) first)
+held_got place content left seat found (Some n) s k first cut law over t =
+    record { law = (t.gone, law); tie = record { gone = refl; cancel = tt; let_go = t.let_go; seat = t.seat; slot = λ idle. absurd (cc); told = λ w. absurd (cc) } }
+held_got place content left seat found None s k first cut law over t =
+    record { law = (t.gone, law); tie = record { gone = refl; cancel = tt; let_go = t.let_go; seat = t.seat; slot = λ idle. absurd (cc); told = λ w. absurd (cc) } }
+
+-- an abandoned slot is pending while its job goes on
+pending : (over done : Bool) → done ≡ over → done ≡ false → IsPending (Abandoned over)
+pending true done is idle = absurd (cc)
+pending false done is idle = tt
+
+-- a task that was cancelled has its answer
+cancelled_got : (place : JobNumber) (over : Bool) (seat : Option (Unit {0})) (found answer : Option ℕ) (s k first : ℕ) (cut : List Event)
+    → poll_with answer ≡ poll_answer s cut
+    → TaskAs (owner_by place task.Cancelled (Abandoned over) seat found) s cut → Goes (owner_by place task.LetGo (Abandoned over) seat found) s cut (by_task k (poll_with answer) first)
+cancelled_got place over seat found (Some n) s k first cut law t =
+    record { law = (t.gone, law); tie = record { gone = refl; cancel = tt; let_go = t.let_go; seat = t.seat; slot = pending over (has_finished (acts_of s cut) || has_given_up (acts_of s cut)) t.slot.0; told = λ w. absurd (cc) } }
+cancelled_got place over seat found None s k first cut law t =
+    record { law = (t.gone, law); tie = record { gone = refl; cancel = tt; let_go = t.let_go; seat = t.seat; slot = pending over (has_finished (acts_of s cut) || has_given_up (acts_of s cut)) t.slot.0; told = λ w. absurd (cc) } }
+
+either : (a b : Bool) → a ≡ false → b ≡ false → a || b ≡ false
+either a b x y = rw (x, y) refl
+
+first_true : (a b : Bool) → a ≡ true → a || b ≡ true
+first_true a b x = rw x refl
+
+second_true : (a b : Bool) → a ≡ false → b ≡ true → a || b ≡ true
+second_true a b x y = rw (x, y) refl
+
+-- a poll of a task that may be polled
+pub poll_goes : (place : JobNumber) (how : TaskStage) (found : Option ℕ) (content : Content ℕ) (seat : Option (Unit {0})) (s k first : ℕ) (cut : List Event)
+    → may_be how Poll ≡ true → TaskAs (owner_by place how content seat found) s cut
+    → Goes (polled (owner_by place how content seat found)) s cut (by_task k (poll_of (owner_by place how content seat found)) first)
+poll_goes place task.Held found Empty seat s k first cut may t =
+    poll_waits place task.Held Empty seat found s k first cut may
+    (waits_is (is_in_time cut) (has_finished (acts_of s cut)) (has_given_up (acts_of s cut)) (number (acts_of s cut)) t.slot.0 t.slot.1 t.slot.2)
+    (either (has_finished (acts_of s cut)) (has_given_up (acts_of s cut)) t.slot.0 t.slot.1) t
+poll_goes place task.Held found (Full m) seat s k first cut may t =
+    held_got place (Full m) Empty seat found (Some m) s k first cut
+    (got_is (is_in_time cut) (has_finished (acts_of s cut) || has_given_up (acts_of s cut)) m (number (acts_of s cut)) t.slot.1 t.slot.2)
+    (first_true (has_finished (acts_of s cut)) (has_given_up (acts_of s cut)) t.slot.0) t
+poll_goes place task.Held found GivenUp seat s k first cut may t =
+    let over = second_true (has_finished (acts_of s cut)) (has_given_up (acts_of s cut)) t.slot.0 t.slot.1 in
+    held_got place GivenUp GivenUp seat found None s k first cut
+    (none_is (is_in_time cut) (has_finished (acts_of s cut) || has_given_up (acts_of s cut)) (number (acts_of s cut)) over t.slot.2) over t
+poll_goes place task.Held found (Abandoned over) seat s k first cut may t = absurd t.slot
+poll_goes place task.Cancelled (Some m) (Abandoned over) seat s k first cut may t =
+    cancelled_got place over seat (Some m) (Some m) s k first cut
+    (got_is (is_in_time cut) (has_finished (acts_of s cut) || has_given_up (acts_of s cut)) m (number (acts_of s cut)) t.slot.1.0 t.slot.1.1) t
+poll_goes place task.Cancelled (Some m) Empty seat s k first cut may t = absurd t.slot
+poll_goes place task.Cancelled (Some m) (Full n) seat s k first cut may t = absurd t.slot
+poll_goes place task.Cancelled (Some m) GivenUp seat s k first cut may t = absurd t.slot
+poll_goes place task.Cancelled None (Abandoned true) seat s k first cut may t =
+    cancelled_got place true seat None None s k first cut
+    (none_is (is_in_time cut) (has_finished (acts_of s cut) || has_given_up (acts_of s cut)) (number (acts_of s cut)) t.slot.0 t.slot.1) t
+poll_goes place task.Cancelled None (Abandoned false) seat s k first cut may t =
+    poll_waits place task.Cancelled (Abandoned false) seat None s k first cut may
+    (still_is (is_in_time cut) (has_finished (acts_of s cut) || has_given_up (acts_of s cut)) (number (acts_of s cut)) t.slot.0 t.slot.1) t.slot.0 t
+poll_goes place task.Cancelled None Empty seat s k first cut may t = absurd t.slot
+poll_goes place task.Cancelled None (Full n) seat s k first cut may t = absurd t.slot
+poll_goes place task.Cancelled None GivenUp seat s k first cut may t = absurd t.slot
+poll_goes place task.Gone found content seat s k first cut may t = absurd (cc)
+poll_goes place task.LetGo found content seat s k first cut may t = absurd (cc)
+
+-- ---- cancels, detaching and drops
+
+not_over : (content : Content ℕ) (finished gave in_time : Bool) (n : ℕ) → SlotAs task.Held content None finished gave in_time n → finished || gave ≡ false → IsPending (without_owner content)
+not_over Empty finished gave in_time n slot idle = tt
+not_over (Full m) finished gave in_time n slot idle = absurd (let f = first_true finished gave slot.0 in cc)
+not_over GivenUp finished gave in_time n slot idle = absurd (let f = second_true finished gave slot.0 slot.1 in cc)
+not_over (Abandoned over) finished gave in_time n slot idle = absurd slot
+
+-- what a cancel finds
+keeps_found : (content : Content ℕ) (finished gave in_time : Bool) (n : ℕ) → SlotAs task.Held content None finished gave in_time n
+    → SlotAs task.Cancelled (without_owner content) (full_with content) finished gave in_time n
+keeps_found Empty finished gave in_time n slot = (either finished gave slot.0 slot.1, slot.2)
+keeps_found (Full m) finished gave in_time n slot = (first_true finished gave slot.0, (slot.1, slot.2))
+keeps_found GivenUp finished gave in_time n slot = (second_true finished gave slot.0 slot.1, slot.2)
+keeps_found (Abandoned over) finished gave in_time n slot = absurd slot
+
+cancel_goes : (place : JobNumber) (how : TaskStage) (found : Option ℕ) (content : Content ℕ) (seat : Option (Unit {0})) (s k first : ℕ) (cut : List Event)
+    → may_be how Cancel ≡ true → TaskAs (owner_by place how content seat found) s cut
+    → Goes (cancelled (owner_by place how content seat found)) s cut (by_task k TaskCancelled first)
+cancel_goes place task.Held found content seat s k first cut may t =
+    record {
+      law = (t.gone, t.cancel);
+      tie = record {
+        gone = t.gone;
+        cancel = refl;
+        let_go = refl;
+        seat = t.seat;
+        slot = keeps_found content (has_finished (acts_of s cut)) (has_given_up (acts_of s cut)) (is_in_time cut) (number (acts_of s cut)) t.slot;
+        told = λ w. absurd (cc);
+      };
+    }
+cancel_goes place task.Cancelled found content seat s k first cut may t = absurd (cc)
+cancel_goes place task.Gone found content seat s k first cut may t = absurd (cc)
+cancel_goes place task.LetGo found content seat s k first cut may t = absurd (cc)
+
+detach_goes : (place : JobNumber) (how : TaskStage) (found : Option ℕ) (content : Content ℕ) (seat : Option (Unit {0})) (s k first : ℕ) (cut : List Event)
+    → may_be how Detach ≡ true → TaskAs (owner_by place how content seat found) s cut
+    → Goes (detached (owner_by place how content seat found)) s cut (by_task k TaskDetached first)
+detach_goes place task.Held found content seat s k first cut may t =
+    record {
+      law = (t.gone, t.cancel);
+      tie = record {
+        gone = refl;
+        cancel = tt;
+        let_go = t.let_go;
+        seat = t.seat;
+        slot = not_over content (has_finished (acts_of s cut)) (has_given_up (acts_of s cut)) (is_in_time cut) (number (acts_of s cut)) t.slot;
+        told = λ w. absurd (cc);
+      };
+    }
+detach_goes place task.Cancelled found content seat s k first cut may t = absurd (cc)
+detach_goes place task.Gone found content seat s k first cut may t = absurd (cc)
+detach_goes place task.LetGo found content seat s k first cut may t = absurd (cc)
+
+drop_goes : (place : JobNumber) (how : TaskStage) (found : Option ℕ) (content : Content ℕ) (seat : Option (Unit {0})) (s k first : ℕ) (cut : List Event)
+    → may_be how Drop ≡ true → TaskAs (owner_by place how content seat found) s cut
+    → Goes (dropped (owner_by place how content seat found)) s cut (by_task k HolderDropped first)
+drop_goes place task.Held found content seat s k first cut may t =
+    record {
+      law = (t.gone, tt);
+      tie = record {
+        gone = refl;
+        cancel = tt;
+        let_go = refl;
+        seat = t.seat;
+        slot = not_over content (has_finished (acts_of s cut)) (has_given_up (acts_of s cut)) (is_in_time cut) (number (acts_of s cut)) t.slot;
+        told = λ w. absurd (cc);
+      };
+    }
+drop_goes place task.Cancelled found (Abandoned over) seat s k first cut may t =
+    record {
+      law = (t.gone, tt);
+      tie = record {
+        gone = refl;
+        cancel = tt;
+        let_go = refl;
+        seat = t.seat;
+        slot = pending over (has_finished (acts_of s cut) || has_given_up (acts_of s cut)) t.slot.0;
+        told = λ w. absurd (cc);
+      };
+    }
+drop_goes place task.Cancelled found Empty seat s k first cut may t = absurd t.slot
+drop_goes place task.Cancelled found (Full m) seat s k first cut may t = absurd t.slot
+drop_goes place task.Cancelled found GivenUp seat s k first cut may t = absurd t.slot
+drop_goes place task.Gone found content seat s k first cut may t = absurd (cc)
+drop_goes place task.LetGo found content seat s k first cut may t = absurd (cc)
+
+-- each call of a task that may be called so
+pub call_goes : (call : TaskCall) (owner : Owner) (s k first : ℕ) (cut : List Event) → may_be owner.stage call ≡ true → TaskAs owner s cut
+    → Goes (called call owner) s cut (by_task k (task_act call owner) first)
+call_goes Poll owner s k first cut may t = poll_goes owner.number owner.stage owner.found owner.slot.content owner.slot.seat s k first cut may t
+call_goes Cancel owner s k first cut may t = cancel_goes owner.number owner.stage owner.found owner.slot.content owner.slot.seat s k first cut may t
+call_goes Detach owner s k first cut may t = detach_goes owner.number owner.stage owner.found owner.slot.content owner.slot.seat s k first cut may t
+call_goes Drop owner s k first cut may t = drop_goes owner.number owner.stage owner.found owner.slot.content owner.slot.seat s k first cut may t
+
+-- ---- acts of the job
+
+acts_more : (v s : ℕ) (act : Act) (first : ℕ) (cut : List Event) → is_of_pool act ≡ false → is_nothing act ≡ false → acts_of s (by_job v s act first ∷ cut) ≡ act ∷ acts_of s cut
+acts_more v s act first cut pool nothing = let same : (s == s) ≡ true = grind (arith, nat_tests) in rw (pool, nothing, same) refl
+
+-- the parts of a tie that the job's acts are in
+abbrev SlotBy : Owner → Bool → List Act → Type 0
+SlotBy owner in_time acts = SlotAs owner.stage owner.slot.content owner.found (has_finished acts) (has_given_up acts) in_time (number acts)
+
+abbrev ToldBy : List Event → List Act → Type 0
+ToldBy cut acts = is_waiting (own cut) ≡ true → (was_woken cut ≡ true) ⊎ ((task_seat cut ≡ true) × (has_finished acts || has_given_up acts ≡ false))
+
+-- no number came yet, where no answer did
+none_in_time : (how : TaskStage) (content : Content ℕ) (found : Option ℕ) (in_time : Bool) (n m : ℕ) → (in_time ≡ true → false ≡ true)
+    → SlotAs how content found false false in_time n → SlotAs how content found false false in_time m
+none_in_time task.Held Empty found in_time n m timely slot = slot
+none_in_time task.Held (Full x) found in_time n m timely slot = absurd (let f = slot.0 in cc)
+none_in_time task.Held GivenUp found in_time n m timely slot = absurd (let f = slot.1 in cc)
+none_in_time task.Held (Abandoned over) found in_time n m timely slot = absurd slot
+none_in_time task.Cancelled (Abandoned over) None in_time n m timely slot = slot
+none_in_time task.Cancelled (Abandoned over) (Some x) in_time n m timely slot = absurd (let f = timely slot.1.0 in cc)
+none_in_time task.Cancelled Empty found in_time n m timely slot = absurd slot
+none_in_time task.Cancelled (Full x) found in_time n m timely slot = absurd slot
+none_in_time task.Cancelled GivenUp found in_time n m timely slot = absurd slot
+none_in_time task.Gone content found in_time n m timely slot = slot
+none_in_time task.LetGo content found in_time n m timely slot = slot
+
+-- the call is answered
+pub answer_goes : (owner : Owner) (v s n first : ℕ) (cut : List Event) → acts_of s cut ≡ [] → (is_in_time cut ≡ true → has_finished (acts_of s cut) ≡ true) → TaskAs owner s cut
+    → Goes owner s cut (by_job v s (Answered (Number n)) first)
+answer_goes owner v s n first cut acts timely t =
+    let e = by_job v s (Answered (Number n)) first in
+    let more : acts_of s (e ∷ cut) ≡ Answered (Number n) ∷ [] = acts_more v s (Answered (Number n)) first cut refl refl ∙ ap (λ (l : List Act). Answered (Number n) ∷ l) acts in
+    let timely_now : is_in_time cut ≡ true → false ≡ true = subst (λ (l : List Act). is_in_time cut ≡ true → has_finished l ≡ true) acts timely in
+    let slot : SlotBy owner (is_in_time cut) [] = subst (SlotBy owner (is_in_time cut)) acts t.slot in
+    let told : ToldBy cut [] = subst (ToldBy cut) acts t.told in
+    record {
+      law = subst (λ (l : List Act). Calls cut (next_of_job Calling l) (Answered (Number n))) (sym acts) refl;
+      tie = record {
+        gone = t.gone;
+        cancel = t.cancel;
+        let_go = t.let_go;
+        seat = t.seat;
+        slot = subst (SlotBy owner (is_in_time cut)) (sym more) (none_in_time owner.stage owner.slot.content owner.found (is_in_time cut) 0 n timely_now slot);
+        told = subst (ToldBy cut) (sym more) told;
+      };
+    }
+
+-- the job calls the waker that it took
+pub wake_goes : (owner : Owner) (v s first : ℕ) (cut : List Event) → next_of_job Calling (acts_of s cut) ≡ WakeHolder → TaskAs owner s cut
+    → Goes owner s cut (by_job v s HolderWoken first)
+wake_goes owner v s first cut next t =
+    let e = by_job v s HolderWoken first in
+    let more : acts_of s (e ∷ cut) ≡ HolderWoken ∷ acts_of s cut = acts_more v s HolderWoken first cut refl refl in
+    record {
+      law = subst (λ action. Calls cut action HolderWoken) (sym next) refl;
+      tie = record {
+        gone = t.gone;
+        cancel = t.cancel;
+        let_go = t.let_go;
+        seat = t.seat;
+        slot = subst (SlotBy owner (is_in_time cut)) (sym more) t.slot;
+        told = subst (ToldBy cut) (sym more) t.told;
+      };
+    }
+
+or_true : (b : Bool) → b || true ≡ true
+or_true true = refl
+or_true false = refl
+
+-- a task that waits is woken by the act that takes its waker
+woken_by : (wake woken seated over : Bool) → wake ≡ seated → (woken ≡ true) ⊎ ((seated ≡ true) × (over ≡ false)) → wake || woken ≡ true
+woken_by wake woken seated over same (inl is) = rw is (or_true wake)
+woken_by wake woken seated over same (inr is) = let now : wake ≡ true = same ∙ is.0 in rw now refl
+
+-- ---- finishing
+
+-- a slot to which nothing came yet
+abbrev Pends : TaskStage → Content ℕ → Option ℕ → Bool → Type 0
+Pends task.Held Empty found cancel = cancel ≡ false
+Pends task.Cancelled (Abandoned false) None cancel = cancel ≡ true
+Pends task.Gone Empty found cancel = Unit {0}
+Pends task.Gone (Abandoned false) found cancel = Unit {0}
+Pends task.LetGo Empty found cancel = Unit {0}
+Pends task.LetGo (Abandoned false) found cancel = Unit {0}
+Pends how content found cancel = ⊥
+
+none_came : (how : TaskStage) (content : Content ℕ) (found : Option ℕ) (cancel in_time : Bool) (n : ℕ) → (in_time ≡ true → false ≡ true) → CancelAs how cancel
+    → SlotAs how content found false false in_time n → Pends how content found cancel
+none_came task.Held Empty found cancel in_time n timely was slot = was
+none_came task.Held (Full x) found cancel in_time n timely was slot = absurd (let f = slot.0 in cc)
+none_came task.Held GivenUp found cancel in_time n timely was slot = absurd (let f = slot.1 in cc)
+none_came task.Held (Abandoned over) found cancel in_time n timely was slot = absurd slot
+none_came task.Cancelled (Abandoned false) None cancel in_time n timely was slot = was
+none_came task.Cancelled (Abandoned true) None cancel in_time n timely was slot = absurd (let f = slot.0 in cc)
+none_came task.Cancelled (Abandoned over) (Some x) cancel in_time n timely was slot = absurd (let f = timely slot.1.0 in cc)
+none_came task.Cancelled Empty found cancel in_time n timely was slot = absurd slot
+none_came task.Cancelled (Full x) found cancel in_time n timely was slot = absurd slot
+none_came task.Cancelled GivenUp found cancel in_time n timely was slot = absurd slot
+none_came task.Gone Empty found cancel in_time n timely was slot = tt
+none_came task.Gone (Abandoned false) found cancel in_time n timely was slot = tt
+none_came task.Gone (Full x) found cancel in_time n timely was slot = absurd (slot refl)
+none_came task.Gone GivenUp found cancel in_time n timely was slot = absurd (slot refl)
+none_came task.Gone (Abandoned true) found cancel in_time n timely was slot = absurd (slot refl)
+none_came task.LetGo Empty found cancel in_time n timely was slot = tt
+none_came task.LetGo (Abandoned false) found cancel in_time n timely was slot = tt
+none_came task.LetGo (Full x) found cancel in_time n timely was slot = absurd (slot refl)
+none_came task.LetGo GivenUp found cancel in_time n timely was slot = absurd (slot refl)
+none_came task.LetGo (Abandoned true) found cancel in_time n timely was slot = absurd (slot refl)
+
+-- such a slot takes a number, and its waker leaves the seat
+pub record Puts (how : TaskStage) (content : Content ℕ) (seat : Option (Unit {0})) (found : Option ℕ) (cancel : Bool) (n : ℕ) : Type 0 where
+  pub slot : SlotAs how (slot_after content seat n).content found true false (not cancel) n
+  pub empty : (slot_after content seat n).seat ≡ None
+  pub wake : (answer_of content seat n).wake ≡ seat
+
+puts : (how : TaskStage) (content : Content ℕ) (seat : Option (Unit {0})) (found : Option ℕ) (cancel : Bool) (n : ℕ) → Pends how content found cancel → Puts how content seat found cancel n
+puts task.Held Empty seat found cancel n p = record { slot = (refl, ap not p, refl); empty = refl; wake = refl }
+puts task.Held (Full x) seat found cancel n p = absurd p
+puts task.Held GivenUp seat found cancel n p = absurd p
+puts task.Held (Abandoned over) seat found cancel n p = absurd p
+puts task.Cancelled (Abandoned false) seat None cancel n p = record { slot = (refl, ap not p); empty = refl; wake = refl }
+puts task.Cancelled (Abandoned false) seat (Some x) cancel n p = absurd p
+puts task.Cancelled (Abandoned true) seat found cancel n p = absurd p
+puts task.Cancelled Empty seat found cancel n p = absurd p
+puts task.Cancelled (Full x) seat found cancel n p = absurd p
+puts task.Cancelled GivenUp seat found cancel n p = absurd p
+puts task.Gone Empty seat found cancel n p = record { slot = λ idle. absurd (cc); empty = refl; wake = refl }
+puts task.Gone (Abandoned false) seat found cancel n p = record { slot = λ idle. absurd (cc); empty = refl; wake = refl }
+puts task.Gone (Full x) seat found cancel n p = absurd p
+puts task.Gone GivenUp seat found cancel n p = absurd p
+puts task.Gone (Abandoned true) seat found cancel n p = absurd p
+puts task.LetGo Empty seat found cancel n p = record { slot = λ idle. absurd (cc); empty = refl; wake = refl }
+puts task.LetGo (Abandoned false) seat found cancel n p = record { slot = λ idle. absurd (cc); empty = refl; wake = refl }
+puts task.LetGo (Full x) seat found cancel n p = absurd p
+puts task.LetGo GivenUp seat found cancel n p = absurd p
+puts task.LetGo (Abandoned true) seat found cancel n p = absurd p
+
+-- the job puts its number
+pub finish_goes : (owner : Owner) (v s n first : ℕ) (cut : List Event) → acts_of s cut ≡ Answered (Number n) ∷ [] → (is_in_time cut ≡ true → has_finished (acts_of s cut) ≡ true) → TaskAs owner s cut
+    → Goes (record owner { slot = after_put owner.slot n }) s cut (by_job v s (Finished (is_some (put_in owner.slot n).wake)) first)
+finish_goes owner v s n first cut acts timely t =
+    let wake = is_some (put_in owner.slot n).wake in
+    let e = by_job v s (Finished wake) first in
+    let more : acts_of s (e ∷ cut) ≡ Finished wake ∷ Answered (Number n) ∷ [] = acts_more v s (Finished wake) first cut refl refl ∙ ap (λ (l : List Act). Finished wake ∷ l) acts in
+    let timely_now : is_in_time cut ≡ true → false ≡ true = subst (λ (l : List Act). is_in_time cut ≡ true → has_finished l ≡ true) acts timely in
+    let slot : SlotBy owner (is_in_time cut) (Answered (Number n) ∷ []) = subst (SlotBy owner (is_in_time cut)) acts t.slot in
+    let came = none_came owner.stage owner.slot.content owner.found (was_cancelled (own cut)) (is_in_time cut) n timely_now t.cancel slot in
+    let put = puts owner.stage owner.slot.content owner.slot.seat owner.found (was_cancelled (own cut)) n came in
+    let new = record owner { slot = after_put owner.slot n } in
+    let seated : wake ≡ task_seat cut = ap is_some put.wake ∙ sym t.seat in
+    record {
+      law = subst (λ (l : List Act). Calls cut (next_of_job Calling l) (Finished wake)) (sym acts) (ap Finished seated);
+      tie = record {
+        gone = t.gone;
+        cancel = t.cancel;
+        let_go = t.let_go;
+        seat = sym (ap is_some put.empty);
+        slot = subst (SlotBy new (not (was_cancelled (own cut)))) (sym more) put.slot;
+        told = λ w. inl (woken_by wake (was_woken cut) (task_seat cut) (has_finished (acts_of s cut) || has_given_up (acts_of s cut)) seated (t.told w));
+      };
+    }
+
+-- ---- giving up
+
+-- a slot to which nothing came yet takes note that nothing will come
+pub record Ceases (how : TaskStage) (content : Content ℕ) (seat : Option (Unit {0})) (found : Option ℕ) (in_time : Bool) (n : ℕ) : Type 0 where
+  pub slot : SlotAs how (slot_without_job content seat).content found false true in_time n
+  pub empty : (slot_without_job content seat).seat ≡ None
+  pub wake : waker_out_of content seat ≡ seat
+
+ceases : (how : TaskStage) (content : Content ℕ) (seat : Option (Unit {0})) (found : Option ℕ) (cancel in_time : Bool) (n : ℕ) → SlotAs how content found false false in_time n → Pends how content found cancel
+    → Ceases how content seat found in_time n
+ceases task.Held Empty seat found cancel in_time n slot p = record { slot = (refl, refl, slot.2); empty = refl; wake = refl }
+ceases task.Held (Full x) seat found cancel in_time n slot p = absurd p
+ceases task.Held GivenUp seat found cancel in_time n slot p = absurd p
+ceases task.Held (Abandoned over) seat found cancel in_time n slot p = absurd p
+ceases task.Cancelled (Abandoned false) seat None cancel in_time n slot p = record { slot = (refl, slot.1); empty = refl; wake = refl }
+ceases task.Cancelled (Abandoned false) seat (Some x) cancel in_time n slot p = absurd p
+ceases task.Cancelled (Abandoned true) seat found cancel in_time n slot p = absurd p
+ceases task.Cancelled Empty seat found cancel in_time n slot p = absurd p
+ceases task.Cancelled (Full x) seat found cancel in_time n slot p = absurd p
+ceases task.Cancelled GivenUp seat found cancel in_time n slot p = absurd p
+ceases task.Gone Empty seat found cancel in_time n slot p = record { slot = λ idle. absurd (cc); empty = refl; wake = refl }
+ceases task.Gone (Abandoned false) seat found cancel in_time n slot p = record { slot = λ idle. absurd (cc); empty = refl; wake = refl }
+ceases task.Gone (Full x) seat found cancel in_time n slot p = absurd p
+ceases task.Gone GivenUp seat found cancel in_time n slot p = absurd p
+ceases task.Gone (Abandoned true) seat found cancel in_time n slot p = absurd p
+ceases task.LetGo Empty seat found cancel in_time n slot p = record { slot = λ idle. absurd (cc); empty = refl; wake = refl }
+ceases task.LetGo (Abandoned false) seat found cancel in_time n slot p = record { slot = λ idle. absurd (cc); empty = refl; wake = refl }
+ceases task.LetGo (Full x) seat found cancel in_time n slot p = absurd p
+ceases task.LetGo GivenUp seat found cancel in_time n slot p = absurd p
+ceases task.LetGo (Abandoned true) seat found cancel in_time n slot p = absurd p
+
+-- the job gives up
+pub give_up_goes : (owner : Owner) (v s first : ℕ) (cut : List Event) → acts_of s cut ≡ [] → (is_in_time cut ≡ true → has_finished (acts_of s cut) ≡ true) → has_let_go owner.stage ≡ true → TaskAs owner s cut
+    → Goes (record owner { slot = after_give_up owner.slot }) s cut (by_job v s (GaveUp (is_some (waker_of_give_up owner.slot))) first)
+give_up_goes owner v s first cut acts timely gone t =
+    let wake = is_some (waker_of_give_up owner.slot) in
+    let e = by_job v s (GaveUp wake) first in
+    let more : acts_of s (e ∷ cut) ≡ GaveUp wake ∷ [] = acts_more v s (GaveUp wake) first cut refl refl ∙ ap (λ (l : List Act). GaveUp wake ∷ l) acts in
+    let timely_now : is_in_time cut ≡ true → false ≡ true = subst (λ (l : List Act). is_in_time cut ≡ true → has_finished l ≡ true) acts timely in
+    let slot : SlotBy owner (is_in_time cut) [] = subst (SlotBy owner (is_in_time cut)) acts t.slot in
+    let came = none_came owner.stage owner.slot.content owner.found (was_cancelled (own cut)) (is_in_time cut) 0 timely_now t.cancel slot in
+    let cease = ceases owner.stage owner.slot.content owner.slot.seat owner.found (was_cancelled (own cut)) (is_in_time cut) 0 slot came in
+    let new = record owner { slot = after_give_up owner.slot } in
+    let seated : wake ≡ task_seat cut = ap is_some cease.wake ∙ sym t.seat in
+    record {
+      law = (t.let_go ∙ gone, subst (λ (l : List Act). is_over (action_after Calling l) ≡ false) (sym acts) refl, seated);
+      tie = record {
+        gone = t.gone;
+        cancel = t.cancel;
+        let_go = t.let_go;
+        seat = sym (ap is_some cease.empty);
+        slot = subst (SlotBy new (is_in_time cut)) (sym more) cease.slot;
+        told = λ w. inl (woken_by wake (was_woken cut) (task_seat cut) (has_finished (acts_of s cut) || has_given_up (acts_of s cut)) seated (t.told w));
+      };
+    }

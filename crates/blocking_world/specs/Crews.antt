@@ -1,0 +1,110 @@
+-- What the calls of a pool of calls answer, with the growth that each has: no call ever parks.
+use Rattle.std.specs.Prelude.{◌≡◌, ◌<◌, ℕ, ◌+◌, Bool, true, false, ◌||◌, List, [], ◌∷◌, length, Option, Some, None, Result, Ok, Err}
+use Rattle.std.specs.FinMap as map
+use Rattle.blocking_core.specs.Counts.{Counts, limit_of, busier}
+use Rattle.blocking_core.specs.Growth.{Growth, IsGrowth, StartAnswer, grown, greatest}
+use Rattle.blocking_core.specs.Jobs.{Job, Jobs, JobNumber, is_parked_job, is_running_as, running, woken, cancelled, valued, job_of, value_at}
+use Rattle.blocking_core.specs.Pools.{entered, with_job}
+use Rattle.blocking_core.specs.declared.pool.answer.Refusal.{Refusal}
+use Rattle.blocking_core.specs.declared.pool.answer.Refusal.TheVariants.{Memory, NoWorker, Numbers}
+use Rattle.blocking_core.specs.declared.pool.answer.Took.{Took}
+use Rattle.blocking_core.specs.declared.pool.answer.Took.TheVariants.{Run, Drop, Idle}
+use Rattle.blocking_core.specs.declared.pool.answer.Woke.{Woke}
+use Rattle.blocking_core.specs.declared.pool.answer.Woke.TheVariants.{Marked}
+use Rattle.blocking_world.specs.declared.call.CallJob.{CallJob}
+use Rattle.blocking_world.specs.Worlds.{CallPool, new_call}
+
+-- no start at all
+abbrev pub no_growth : Growth
+no_growth = record { started = 0; refused = false }
+
+-- no job is parked
+abbrev pub NoneParked : Jobs CallJob → Type 0
+NoneParked jobs = (serial : ℕ) → is_parked_job (map.get jobs serial) ≡ false
+
+-- The growth of counts for so many ready jobs: the starts are due, and are answered so.
+abbrev pub GrowsBy : (ℕ → Bool → Type 0) → ℕ → Counts → Growth → Type 0
+GrowsBy may_answer ready counts growth =
+    IsGrowth (StartAnswer may_answer) ready counts.idle counts.workers (limit_of counts) counts.next_worker growth
+
+-- a new call stands at the queue's end under the next serial, after a growth that leaves a worker
+pub record Accepts (may_answer : ℕ → Bool → Type 0) (old : CallPool) (number : JobNumber) (growth : Growth) (new : CallPool) : Type 0 where
+  pub serial : number.serial ≡ old.next_serial
+  pub left : old.next_serial < greatest
+  pub starts : GrowsBy may_answer (length old.queue + 1) old.counts growth
+  pub staffed : 0 < old.counts.workers + growth.started
+  pub after_is : new ≡ entered old number.place new_call (grown old.counts growth)
+
+-- a new call finds no worker, and nothing stays of it but the counts of its growth
+pub record FindsNoWorker (may_answer : ℕ → Bool → Type 0) (old : CallPool) (growth : Growth) (new : CallPool) : Type 0 where
+  pub left : old.next_serial < greatest
+  pub starts : GrowsBy may_answer (length old.queue + 1) old.counts growth
+  pub unstaffed : old.counts.workers + growth.started ≡ 0
+  pub after_is : new ≡ record old { counts = grown old.counts growth }
+
+-- a new call is refused, and why
+abbrev pub Refuses : (ℕ → Bool → Type 0) → CallPool → Refusal → Growth → CallPool → Type 0
+Refuses may_answer old Numbers growth new = (old.next_serial ≡ greatest) × (growth ≡ no_growth) × (new ≡ old)
+Refuses may_answer old Memory growth new = (growth ≡ no_growth) × (new ≡ old)
+Refuses may_answer old NoWorker growth new = FindsNoWorker may_answer old growth new
+
+-- a new call is accepted or refused
+abbrev pub AddsTo : (ℕ → Bool → Type 0) → CallPool → Result JobNumber Refusal → Growth → CallPool → Type 0
+AddsTo may_answer old (Ok number) growth new = Accepts may_answer old number growth new
+AddsTo may_answer old (Err why) growth new = Refuses may_answer old why growth new
+
+-- The front job is taken, to be dropped where it was cancelled or is marked, and else to be run. The pool grows by the
+-- jobs that are left in the queue.
+pub record TakesFront (may_answer : ℕ → Bool → Type 0) (old : CallPool) (number : JobNumber) (value : CallJob) (to_drop : Bool) (growth : Growth) (new : CallPool) : Type 0 where
+  pub rest : List ℕ
+  pub front : old.queue ≡ number.serial ∷ rest
+  pub job : Job CallJob
+  pub found : map.get old.jobs number.serial ≡ Some job
+  pub place : job.place ≡ number.place
+  pub value_is : job.value ≡ Some value
+  pub wanted : to_drop ≡ (job.cancelled || value.is_marked)
+  pub starts : GrowsBy may_answer (length rest) (busier old.counts) growth
+  pub after_is :
+      new ≡ record {
+        queue = rest;
+        jobs = map.insert old.jobs number.serial (running job);
+        counts = grown (busier old.counts) growth;
+        next_serial = old.next_serial;
+      }
+
+-- a worker takes the front job, or finds none
+abbrev pub TakesTo : (ℕ → Bool → Type 0) → CallPool → Took CallJob → Growth → CallPool → Type 0
+TakesTo may_answer old (Run turn value) growth new = TakesFront may_answer old turn value false growth new
+TakesTo may_answer old (Drop turn value) growth new = TakesFront may_answer old turn value true growth new
+TakesTo may_answer old (Idle pass) growth new = (old.queue ≡ []) × (growth ≡ no_growth) × (new ≡ old)
+
+-- what a wake leaves: a running job is marked as woken
+abbrev pub after_wake : Woke → CallPool → JobNumber → CallPool
+after_wake Marked pool number = with_job pool number.serial woken
+after_wake _ pool number = pool
+
+-- what a cancel leaves: the job is flagged
+abbrev pub after_cancel : Woke → CallPool → JobNumber → CallPool
+after_cancel Marked pool number = with_job pool number.serial cancelled
+after_cancel _ pool number = pool
+
+-- a marked call
+abbrev pub marked : CallJob → CallJob
+marked job = record job { is_marked = true }
+
+-- the pool, in which the value of a job was marked, where it was there
+abbrev pub mark_value : CallPool → JobNumber → Option CallJob → CallPool
+mark_value pool number None = pool
+mark_value pool number (Some value) = with_job pool number.serial (valued (marked value))
+
+-- the pool, in which the job of this number was marked, where its value is there
+abbrev pub marked_in : CallPool → JobNumber → CallPool
+marked_in pool number = mark_value pool number (value_at (job_of pool.jobs number))
+
+-- A free worker has passed over jobs: none is parked still, a worker is free, as many idle workers have arrived as
+-- before, and what ran still runs.
+pub record PassesOver (old new : CallPool) : Type 0 where
+  pub parked : NoneParked new.jobs
+  pub free : new.counts.arriving < new.counts.idle
+  pub level : new.counts.idle + old.counts.arriving ≡ old.counts.idle + new.counts.arriving
+  pub runs : (number : JobNumber) → is_running_as old.jobs number ≡ true → is_running_as new.jobs number ≡ true

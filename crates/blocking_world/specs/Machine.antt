@@ -1,0 +1,299 @@
+-- What each step does to the parts of a world, and what is seen of it.
+use Rattle.std.specs.Prelude.{◌≡◌, ◌<◌, ◌==◌, ◌+◌, ◌-◌, nat_lt, ℕ, Bool, true, false, ◌&&◌, if◌then◌else◌, List, [], ◌∷◌, ◌++◌, length, slice_get, slice_set, Option, Some, None, is_some, Result, Ok, Err}
+use Rattle.blocking_core.specs.Counts.{arrived, limited}
+use Rattle.blocking_core.specs.Growth.{Growth}
+use Rattle.blocking_core.specs.Jobs.{JobNumber, standing_of, is_running_as}
+use Rattle.blocking_core.specs.PoolAnswers.{must_stop, is_empty}
+use Rattle.blocking_core.specs.Counts.{stopped}
+use Rattle.blocking_core.specs.Pools.{without_job}
+use Rattle.blocking_core.specs.Slots.{after_put, put_in, after_give_up, waker_of_give_up}
+use Rattle.blocking_core.specs.Wakes.{wake_of, cancel_of}
+use Rattle.blocking_core.specs.declared.pool.answer.Refusal.{Refusal}
+use Rattle.blocking_core.specs.declared.pool.answer.Took.{Took}
+use Rattle.blocking_core.specs.declared.pool.answer.Took.TheVariants.{Run, Drop as TakeToDrop, Idle}
+use Rattle.blocking_core.specs.declared.pool.token.WorkerPass.{WorkerPass}
+use Rattle.blocking_world.specs.Crews.{AddsTo, TakesTo, NoneParked, no_growth, marked_in, after_wake, after_cancel}
+use Rattle.blocking_world.specs.Worlds.{Worlded, CallPool, duty_of, outcome_of, answered, finished, given_up, woke, hand_at, with_hand, new_owner, may_be, has_let_go, poll_of, polled, cancelled, detached, dropped, owner_at, with_owner}
+use Rattle.blocking_world.specs.declared.call.CallJob.{CallJob}
+use Rattle.blocking_laws.specs.declared.event.Act.{Act}
+use Rattle.blocking_laws.specs.declared.event.Act.TheVariants.{Accepted, Refused, JobWoken, JobCancelled, LimitSet, Swept, TaskCancelled, TaskDetached, HolderDropped, Arrived, Took as TookToRun, TookDropped, TookNone, Stays, Stopped, Ended, Answered, Finished, GaveUp, HolderWoken, NoAction}
+use Rattle.blocking_laws.specs.declared.event.Event.{Event}
+use Rattle.blocking_laws.specs.declared.event.Party.{Party}
+use Rattle.blocking_laws.specs.declared.event.Party.TheVariants.{Task, Worker, Pool}
+use Rattle.blocking_world.specs.declared.hand.Duty.{Duty}
+use Rattle.blocking_world.specs.declared.hand.Duty.TheVariants as duty
+use Rattle.blocking_world.specs.declared.hand.Hand.{Hand}
+use Rattle.blocking_world.specs.declared.hand.Hand.TheVariants.{Out, Free, Holds}
+use Rattle.blocking_world.specs.declared.hand.Held.{Held}
+use Rattle.blocking_world.specs.declared.hand.Stage.TheVariants as stage
+use Rattle.blocking_laws.specs.declared.step.Answer.{Answer}
+use Rattle.blocking_laws.specs.declared.step.Answer.TheVariants.{Number}
+use Rattle.blocking_laws.specs.declared.step.Step.{Step}
+use Rattle.blocking_laws.specs.declared.step.Step.TheVariants.{Spawn, OfTask, Arrive, Take, Job, Io, End, Wait, Late, SetLimit, Sweep, Stray, Strike}
+use Rattle.blocking_laws.specs.declared.step.TaskCall.{TaskCall}
+use Rattle.blocking_laws.specs.declared.step.TaskCall.TheVariants.{Poll, Cancel, Detach, Drop}
+use Rattle.blocking_world.specs.declared.task.Owner.{Owner}
+
+-- ---- what is seen
+
+-- the number of the next start
+abbrev pub next_start : Worlded → ℕ
+next_start w = w.pool.counts.next_worker
+
+-- what is seen where something was done
+abbrev pub seen : Party → Option ℕ → Act → ℕ → Growth → Event
+seen who job act first growth =
+    record { party = who; owner = None; job = job; act = act; first = first; started = growth.started; start_refused = growth.refused }
+
+-- what is seen where nothing was done
+abbrev pub nothing : Party → ℕ → Event
+nothing who first = seen who None NoAction first no_growth
+
+-- this is seen and this is left
+abbrev pub Does : Event → Worlded → Event → Worlded → Type 0
+Does event after e w' = (e ≡ event) × (w' ≡ after)
+
+-- nothing is done
+abbrev pub DoesNothing : Party → Worlded → Event → Worlded → Type 0
+DoesNothing who w e w' = Does (nothing who (next_start w)) w e w'
+
+-- ---- a call is handed to the pool
+
+-- what is seen of a new call
+abbrev pub added_act : Result JobNumber Refusal → Act
+added_act (Ok number) = Accepted number.serial
+added_act (Err why) = Refused why
+
+-- the tasks after it
+abbrev pub added_tasks : List Owner → Result JobNumber Refusal → List Owner
+added_tasks tasks (Ok number) = tasks ++ new_owner number ∷ []
+added_tasks tasks (Err why) = tasks
+
+-- a new call, by what the pool answers
+pub record Spawns (may_answer : ℕ → Bool → Type 0) (w : Worlded) (e : Event) (w' : Worlded) : Type 0 where
+  pub added : Result JobNumber Refusal
+  pub growth : Growth
+  pub pool : CallPool
+  pub adds : AddsTo may_answer w.pool added growth pool
+  pub does : Does (seen Pool None (added_act added) (next_start w) growth) (record w { pool = pool; tasks = added_tasks w.tasks added }) e w'
+
+-- ---- a task is called
+
+-- what is seen of a call of a task
+abbrev pub task_act : TaskCall → Owner → Act
+task_act Poll owner = poll_of owner
+task_act Cancel owner = TaskCancelled
+task_act Detach owner = TaskDetached
+task_act Drop owner = HolderDropped
+
+-- the task after it
+abbrev pub called : TaskCall → Owner → Owner
+called Poll owner = polled owner
+called Cancel owner = cancelled owner
+called Detach owner = detached owner
+called Drop owner = dropped owner
+
+-- the pool after it: a task that lets its call go marks it
+abbrev pub pool_called : TaskCall → CallPool → JobNumber → CallPool
+pool_called Poll pool number = pool
+pool_called Cancel pool number = marked_in pool number
+pool_called Detach pool number = pool
+pool_called Drop pool number = marked_in pool number
+
+abbrev pub CallsIf : Bool → Worlded → ℕ → TaskCall → Owner → Event → Worlded → Type 0
+CallsIf false w k call owner e w' = DoesNothing (Task k) w e w'
+CallsIf true w k call owner e w' =
+    Does (seen (Task k) None (task_act call owner) (next_start w) no_growth)
+    (record w { pool = pool_called call w.pool owner.number; tasks = slice_set w.tasks k (called call owner) }) e w'
+
+-- a call of a task, if it is there
+abbrev pub CallsOf : Option Owner → Worlded → ℕ → TaskCall → Event → Worlded → Type 0
+CallsOf None w k call e w' = DoesNothing (Task k) w e w'
+CallsOf (Some owner) w k call e w' = CallsIf (may_be owner.stage call) w k call owner e w'
+
+-- ---- workers
+
+-- a worker arrives, if one was started that hasn't
+abbrev pub ArrivesIf : Bool → Worlded → Event → Worlded → Type 0
+ArrivesIf false w e w' = DoesNothing Pool w e w'
+ArrivesIf true w e w' =
+    (pass : WorkerPass) ×
+    Does (seen (Worker (length w.hands + 1)) None (Arrived (length w.hands + 1)) (next_start w) no_growth)
+    (record w { pool = record w.pool { counts = arrived w.pool.counts }; hands = w.hands ++ Free pass ∷ [] }) e w'
+
+-- what is seen of a take
+abbrev pub took_act : Took CallJob → Act
+took_act (Run turn job) = TookToRun turn.serial
+took_act (TakeToDrop turn job) = TookDropped turn.serial
+took_act (Idle pass) = TookNone
+
+-- the job that it gives
+abbrev pub took_job : Took CallJob → Option ℕ
+took_job (Run turn job) = Some turn.serial
+took_job (TakeToDrop turn job) = Some turn.serial
+took_job (Idle pass) = None
+
+-- the hand after it
+abbrev pub took_hand : Took CallJob → Hand
+took_hand (Run turn job) = Holds (record { turn = turn; job = job; stage = stage.Runs })
+took_hand (TakeToDrop turn job) = Holds (record { turn = turn; job = job; stage = stage.MustGiveUp })
+took_hand (Idle pass) = Free pass
+
+-- a take of an idle worker, by what the pool answers
+pub record Takes (may_answer : ℕ → Bool → Type 0) (w : Worlded) (v : ℕ) (e : Event) (w' : Worlded) : Type 0 where
+  pub took : Took CallJob
+  pub growth : Growth
+  pub pool : CallPool
+  pub takes : TakesTo may_answer w.pool took growth pool
+  pub does :
+      Does (seen (Worker v) (took_job took) (took_act took) (next_start w) growth)
+      (record w { pool = pool; hands = with_hand w.hands v (took_hand took) }) e w'
+
+-- a take of a worker with this hand
+abbrev pub TakesWith : Hand → (ℕ → Bool → Type 0) → Worlded → ℕ → Event → Worlded → Type 0
+TakesWith (Free pass) may_answer w v e w' = Takes may_answer w v e w'
+TakesWith _ may_answer w v e w' = DoesNothing (Worker v) w e w'
+
+-- what is seen of a wait
+abbrev pub wait_act : ℕ → Bool → Bool → Act
+wait_act v late true = Stopped v late
+wait_act v late false = Stays v late
+
+-- the parts after a wait: a worker that stops leaves
+abbrev pub after_wait : Worlded → ℕ → WorkerPass → Bool → Worlded
+after_wait w v pass false = record w { hands = with_hand w.hands v (Free pass) }
+after_wait w v pass true =
+    record w { pool = record w.pool { counts = stopped (if is_empty w.pool.queue then false else true) w.pool.counts }; hands = with_hand w.hands v Out }
+
+-- an idle worker has waited: nothing is parked, so that it sweeps nothing
+abbrev pub WaitsWith : Hand → Worlded → ℕ → Bool → Event → Worlded → Type 0
+WaitsWith (Free pass) w v late e w' =
+    Does (seen (Worker v) None (wait_act v late (must_stop late w.pool)) (next_start w) no_growth) (after_wait w v pass (must_stop late w.pool)) e w'
+WaitsWith _ w v late e w' = DoesNothing (Worker v) w e w'
+
+-- ---- a job in hand
+
+-- the hands after the job of this worker did something
+abbrev pub with_held : Worlded → ℕ → Held → List Hand
+with_held w v held = with_hand w.hands v (Holds held)
+
+-- the next action of a job, where it is its own to take
+abbrev pub Works : Duty → Worlded → ℕ → Held → Event → Worlded → Type 0
+Works duty.Await w v held e w' = DoesNothing (Worker v) w e w'
+Works duty.End w v held e w' = DoesNothing (Worker v) w e w'
+Works duty.Finish w v held e w' =
+    (let owner = owner_at w.tasks held.turn.serial in
+    let wake = is_some (put_in owner.slot held.job.number).wake in
+    Does (seen (Worker v) (Some held.turn.serial) (Finished wake) (next_start w) no_growth)
+    (record w {
+      tasks = with_owner w.tasks held.turn.serial (record owner { slot = after_put owner.slot held.job.number });
+      hands = with_held w v (finished held wake);
+    }) e w')
+Works duty.GiveUp w v held e w' =
+    (let owner = owner_at w.tasks held.turn.serial in
+    let wake = is_some (waker_of_give_up owner.slot) in
+    Does (seen (Worker v) (Some held.turn.serial) (GaveUp wake) (next_start w) no_growth)
+    (record w {
+      tasks = with_owner w.tasks held.turn.serial (record owner { slot = after_give_up owner.slot });
+      hands = with_held w v (given_up held wake);
+    }) e w')
+Works duty.Wake w v held e w' =
+    Does (seen (Worker v) (Some held.turn.serial) HolderWoken (next_start w) no_growth) (record w { hands = with_held w v (woke held) }) e w'
+
+abbrev pub WorksWith : Hand → Worlded → ℕ → Event → Worlded → Type 0
+WorksWith (Holds held) w v e w' = Works (duty_of held) w v held e w'
+WorksWith _ w v e w' = DoesNothing (Worker v) w e w'
+
+-- the call of a job is answered
+abbrev pub Answers : Duty → Worlded → ℕ → Held → ℕ → Event → Worlded → Type 0
+Answers duty.Await w v held number e w' =
+    Does (seen (Worker v) (Some held.turn.serial) (Answered (Number number)) (next_start w) no_growth)
+    (record w { hands = with_held w v (answered held number) }) e w'
+Answers _ w v held number e w' = DoesNothing (Worker v) w e w'
+
+abbrev pub AnswersWith : Hand → Worlded → ℕ → Answer → Event → Worlded → Type 0
+AnswersWith (Holds held) w v (Number number) e w' = Answers (duty_of held) w v held number e w'
+AnswersWith _ w v answer e w' = DoesNothing (Worker v) w e w'
+
+-- the turn of a job that is over ends
+abbrev pub Ends : Duty → Worlded → ℕ → Held → Event → Worlded → Type 0
+Ends duty.End w v held e w' =
+    (pass : WorkerPass) ×
+    Does (seen (Worker v) (Some held.turn.serial) (Ended held.turn.serial (outcome_of held.stage)) (next_start w) no_growth)
+    (record w { pool = without_job w.pool held.turn.serial; hands = with_hand w.hands v (Free pass) }) e w'
+Ends _ w v held e w' = DoesNothing (Worker v) w e w'
+
+abbrev pub EndsWith : Hand → Worlded → ℕ → Event → Worlded → Type 0
+EndsWith (Holds held) w v e w' = Ends (duty_of held) w v held e w'
+EndsWith _ w v e w' = DoesNothing (Worker v) w e w'
+
+-- ---- the pool
+
+-- the limit is set, unless it is 0
+abbrev pub LimitsIf : Bool → Worlded → ℕ → Event → Worlded → Type 0
+LimitsIf true w n e w' = DoesNothing Pool w e w'
+LimitsIf false w n e w' =
+    Does (seen Pool None (LimitSet n) (next_start w) no_growth) (record w { pool = record w.pool { counts = limited n w.pool.counts } }) e w'
+
+-- whether a job of this serial was ever accepted
+abbrev pub was_accepted : Worlded → ℕ → Bool
+was_accepted w s = nat_lt 0 s && nat_lt (s - 1) (length w.tasks)
+
+-- a job is woken by nobody in particular
+abbrev pub StraysIf : Bool → Worlded → ℕ → Event → Worlded → Type 0
+StraysIf false w s e w' = DoesNothing Pool w e w'
+StraysIf true w s e w' =
+    (let number = (owner_at w.tasks s).number in
+    let how = wake_of (standing_of w.pool.jobs number) in
+    Does (seen Pool None (JobWoken s how) (next_start w) no_growth) (record w { pool = after_wake how w.pool number }) e w')
+
+-- a job is cancelled in the pool, where its task let it go
+abbrev pub StrikesIf : Bool → Worlded → ℕ → Event → Worlded → Type 0
+StrikesIf false w s e w' = DoesNothing Pool w e w'
+StrikesIf true w s e w' =
+    (let number = (owner_at w.tasks s).number in
+    let how = cancel_of (standing_of w.pool.jobs number) in
+    Does (seen Pool None (JobCancelled s how) (next_start w) no_growth) (record w { pool = after_cancel how w.pool number }) e w')
+
+-- ---- each step
+
+abbrev pub StepDoes : (ℕ → Bool → Type 0) → Step → Worlded → Event → Worlded → Type 0
+StepDoes may_answer Spawn w e w' = Spawns may_answer w e w'
+StepDoes may_answer (OfTask k call) w e w' = CallsOf (slice_get w.tasks k) w k call e w'
+StepDoes may_answer Arrive w e w' = ArrivesIf (nat_lt 0 w.pool.counts.arriving) w e w'
+StepDoes may_answer (Take v) w e w' = TakesWith (hand_at w.hands v) may_answer w v e w'
+StepDoes may_answer (Job v) w e w' = WorksWith (hand_at w.hands v) w v e w'
+StepDoes may_answer (Io v answer) w e w' = AnswersWith (hand_at w.hands v) w v answer e w'
+StepDoes may_answer (End v) w e w' = EndsWith (hand_at w.hands v) w v e w'
+StepDoes may_answer (Wait v) w e w' = WaitsWith (hand_at w.hands v) w v false e w'
+StepDoes may_answer (Late v) w e w' = WaitsWith (hand_at w.hands v) w v true e w'
+StepDoes may_answer (SetLimit n) w e w' = LimitsIf (n == 0) w n e w'
+StepDoes may_answer Sweep w e w' = Does (seen Pool None (Swept 0) (next_start w) no_growth) w e w'
+StepDoes may_answer (Stray s) w e w' = StraysIf (was_accepted w s) w s e w'
+StepDoes may_answer (Strike s) w e w' = StrikesIf (was_accepted w s && has_let_go (owner_at w.tasks s).stage) w s e w'
+
+-- ---- what the parts keep, so that each step is safe
+
+-- how many workers are idle, of those that arrived
+abbrev pub one_if_free : Hand → ℕ
+one_if_free (Free pass) = 1
+one_if_free _ = 0
+
+abbrev pub free_hands : List Hand → ℕ
+free_hands [] = 0
+free_hands (hand ∷ row) = one_if_free hand + free_hands row
+
+-- what is in a hand is a running job, of a task that is there
+pub record IsHeld (w : Worlded) (held : Held) : Type 0 where
+  pub runs : is_running_as w.pool.jobs held.turn ≡ true
+  pub positive : 0 < held.turn.serial
+  pub owned : held.turn.serial - 1 < length w.tasks
+
+pub record IsReady (w : Worlded) : Type 0 where
+  pub parked : NoneParked w.pool.jobs
+  pub idle : w.pool.counts.idle ≡ w.pool.counts.arriving + free_hands w.hands
+  pub held : (n : ℕ) (held : Held) → slice_get w.hands n ≡ Some (Holds held) → IsHeld w held
+  -- no job is in two hands
+  pub apart :
+      (m n : ℕ) (one other : Held) → slice_get w.hands m ≡ Some (Holds one) → slice_get w.hands n ≡ Some (Holds other)
+      → one.turn.serial ≡ other.turn.serial → m ≡ n

@@ -1,0 +1,249 @@
+-- The moves of a world: each step that has an action is one of them, and each is seen as one event. A move bears what its
+-- event doesn't tell.
+use Rattle.std.specs.Prelude.{◌≡◌, ◌<◌, ◌==◌, ◌+◌, nat_lt, not, ℕ, Bool, true, false, ◌&&◌, [], ◌∷◌, ◌++◌, length, slice_get, slice_set, Option, Some, None, is_some, Result}
+use Rattle.blocking_core.specs.Counts.{arrived, limited}
+use Rattle.blocking_core.specs.Growth.{Growth}
+use Rattle.blocking_core.specs.Jobs.{JobNumber, standing_of}
+use Rattle.blocking_core.specs.PoolAnswers.{must_stop}
+use Rattle.blocking_core.specs.Pools.{without_job}
+use Rattle.blocking_core.specs.Slots.{after_put, put_in, after_give_up, waker_of_give_up}
+use Rattle.blocking_core.specs.Wakes.{wake_of, cancel_of}
+use Rattle.blocking_core.specs.declared.pool.answer.Refusal.{Refusal}
+use Rattle.blocking_core.specs.declared.pool.answer.Woke.{Woke}
+use Rattle.blocking_core.specs.declared.pool.token.WorkerPass.{WorkerPass}
+use Rattle.blocking_world.specs.Crews.{AddsTo, TakesFront, no_growth, after_wake, after_cancel}
+use Rattle.blocking_world.specs.Worlds.{Worlded, CallPool, duty_of, outcome_of, answered, finished, given_up, woke, hand_at, with_hand, is_free_hand, may_be, has_let_go, owner_at, with_owner}
+use Rattle.blocking_world.specs.Machine.{next_start, seen, nothing, added_act, added_tasks, task_act, called, pool_called, wait_act, after_wait, with_held, was_accepted}
+use Rattle.blocking_laws.specs.Steps.{named}
+use Rattle.blocking_world.specs.declared.call.CallJob.{CallJob}
+use Rattle.blocking_laws.specs.declared.event.Act.{Act}
+use Rattle.blocking_laws.specs.declared.event.Act.TheVariants.{JobWoken, JobCancelled, LimitSet, Swept, Arrived, Took, TookDropped, TookNone, Ended, Answered, Finished, GaveUp, HolderWoken}
+use Rattle.blocking_laws.specs.declared.event.Event.{Event}
+use Rattle.blocking_laws.specs.declared.event.Moment.{Moment}
+use Rattle.blocking_laws.specs.declared.event.Party.TheVariants.{Task, Worker, Pool}
+use Rattle.blocking_world.specs.declared.hand.Duty.{Duty}
+use Rattle.blocking_world.specs.declared.hand.Duty.TheVariants as duty
+use Rattle.blocking_world.specs.declared.hand.Hand.{Hand}
+use Rattle.blocking_world.specs.declared.hand.Hand.TheVariants.{Free, Holds}
+use Rattle.blocking_world.specs.declared.hand.Held.{Held}
+use Rattle.blocking_world.specs.declared.hand.Stage.{Stage}
+use Rattle.blocking_world.specs.declared.hand.Stage.TheVariants as stage
+use Rattle.blocking_laws.specs.declared.step.Answer.TheVariants.{Number}
+use Rattle.blocking_laws.specs.declared.step.Step.{Step}
+use Rattle.blocking_laws.specs.declared.step.Step.TheVariants.{Spawn, OfTask, Arrive, Take, Job, Io, End, Wait, Late, SetLimit, Sweep, Stray, Strike}
+use Rattle.blocking_laws.specs.declared.step.TaskCall.{TaskCall}
+use Rattle.blocking_world.specs.declared.task.Owner.{Owner}
+
+pub data Move : Type 0 where
+  -- the step has no action
+  Idles : Step → Move
+  -- a new call, by what the pool answers
+  Begins : Result JobNumber Refusal → Growth → CallPool → Move
+  -- task k is called
+  Calls : ℕ → TaskCall → Owner → Move
+  -- a worker arrives
+  Arrives : WorkerPass → Move
+  -- worker v takes a job, to be dropped (true) or to be run
+  TakesJob : ℕ → WorkerPass → Bool → JobNumber → CallJob → Growth → CallPool → Move
+  -- worker v finds no job
+  TakesNone : ℕ → WorkerPass → WorkerPass → Move
+  -- the call of worker v's job is answered
+  IsAnswered : ℕ → Held → ℕ → Move
+  -- the job of worker v puts its result
+  Finishes : ℕ → Held → Move
+  -- the job of worker v gives up
+  GivesUp : ℕ → Held → Move
+  -- the job of worker v calls the waker that it took
+  CallsWaker : ℕ → Held → Move
+  -- the turn of worker v's job ends
+  EndsTurn : ℕ → Held → WorkerPass → Move
+  -- worker v has waited, until its time was up (true) or not
+  HasWaited : ℕ → WorkerPass → Bool → Move
+  -- the limit is set
+  SetsLimit : ℕ → Move
+  -- a sweep finds no parked job
+  Sweeps : Move
+  -- job s is woken by nobody
+  IsWoken : ℕ → Move
+  -- job s is cancelled in the pool
+  IsStruck : ℕ → Move
+
+-- ---- which step it is, what is seen of it, and what it leaves
+
+-- a wait, by whether its time was up
+abbrev pub wait_step : Bool → ℕ → Step
+wait_step false v = Wait v
+wait_step true v = Late v
+
+-- the step of a move
+abbrev pub step_of : Move → Step
+step_of (Idles step) = step
+step_of (Begins added growth pool) = Spawn
+step_of (Calls k call owner) = OfTask k call
+step_of (Arrives pass) = Arrive
+step_of (TakesJob v old to_drop turn job growth pool) = Take v
+step_of (TakesNone v old pass) = Take v
+step_of (IsAnswered v held number) = Io v (Number number)
+step_of (Finishes v held) = Job v
+step_of (GivesUp v held) = Job v
+step_of (CallsWaker v held) = Job v
+step_of (EndsTurn v held pass) = End v
+step_of (HasWaited v pass late) = wait_step late v
+step_of (SetsLimit n) = SetLimit n
+step_of Sweeps = Sweep
+step_of (IsWoken s) = Stray s
+step_of (IsStruck s) = Strike s
+
+-- what is seen of a job that is taken
+abbrev pub took : Bool → ℕ → Act
+took false s = Took s
+took true s = TookDropped s
+
+-- where a job that is taken begins its turn
+abbrev pub first_stage : Bool → Stage
+first_stage false = stage.Runs
+first_stage true = stage.MustGiveUp
+
+-- whether the finish of this job takes the waker of its task
+abbrev pub finish_wakes : Worlded → Held → Bool
+finish_wakes w held = is_some (put_in (owner_at w.tasks held.turn.serial).slot held.job.number).wake
+
+-- whether the job takes the waker of its task where it gives up
+abbrev pub giving_up_wakes : Worlded → Held → Bool
+giving_up_wakes w held = is_some (waker_of_give_up (owner_at w.tasks held.turn.serial).slot)
+
+-- what a wake does to job s
+abbrev pub wakes_as : Worlded → ℕ → Woke
+wakes_as w s = wake_of (standing_of w.pool.jobs (owner_at w.tasks s).number)
+
+-- what a cancel does to job s
+abbrev pub cancels_as : Worlded → ℕ → Woke
+cancels_as w s = cancel_of (standing_of w.pool.jobs (owner_at w.tasks s).number)
+
+-- the event of a move
+abbrev pub event_of : Worlded → Move → Event
+event_of w (Idles step) = nothing (named step) (next_start w)
+event_of w (Begins added growth pool) = seen Pool None (added_act added) (next_start w) growth
+event_of w (Calls k call owner) = seen (Task k) None (task_act call owner) (next_start w) no_growth
+event_of w (Arrives pass) = seen (Worker (length w.hands + 1)) None (Arrived (length w.hands + 1)) (next_start w) no_growth
+event_of w (TakesJob v old to_drop turn job growth pool) = seen (Worker v) (Some turn.serial) (took to_drop turn.serial) (next_start w) growth
+event_of w (TakesNone v old pass) = seen (Worker v) None TookNone (next_start w) no_growth
+event_of w (IsAnswered v held number) = seen (Worker v) (Some held.turn.serial) (Answered (Number number)) (next_start w) no_growth
+event_of w (Finishes v held) = seen (Worker v) (Some held.turn.serial) (Finished (finish_wakes w held)) (next_start w) no_growth
+event_of w (GivesUp v held) = seen (Worker v) (Some held.turn.serial) (GaveUp (giving_up_wakes w held)) (next_start w) no_growth
+event_of w (CallsWaker v held) = seen (Worker v) (Some held.turn.serial) HolderWoken (next_start w) no_growth
+event_of w (EndsTurn v held pass) = seen (Worker v) (Some held.turn.serial) (Ended held.turn.serial (outcome_of held.stage)) (next_start w) no_growth
+event_of w (HasWaited v pass late) = seen (Worker v) None (wait_act v late (must_stop late w.pool)) (next_start w) no_growth
+event_of w (SetsLimit n) = seen Pool None (LimitSet n) (next_start w) no_growth
+event_of w Sweeps = seen Pool None (Swept 0) (next_start w) no_growth
+event_of w (IsWoken s) = seen Pool None (JobWoken s (wakes_as w s)) (next_start w) no_growth
+event_of w (IsStruck s) = seen Pool None (JobCancelled s (cancels_as w s)) (next_start w) no_growth
+
+-- the moment of a move
+abbrev pub moment_of : Worlded → Move → Moment
+moment_of w move = record { step = step_of move; event = event_of w move }
+
+-- the parts after a move
+abbrev pub after : Worlded → Move → Worlded
+after w (Idles step) = w
+after w (Begins added growth pool) = record w { pool = pool; tasks = added_tasks w.tasks added }
+after w (Calls k call owner) = record w { pool = pool_called call w.pool owner.number; tasks = slice_set w.tasks k (called call owner) }
+after w (Arrives pass) = record w { pool = record w.pool { counts = arrived w.pool.counts }; hands = w.hands ++ Free pass ∷ [] }
+after w (TakesJob v old to_drop turn job growth pool) =
+    record w { pool = pool; hands = with_held w v (record { turn = turn; job = job; stage = first_stage to_drop }) }
+after w (TakesNone v old pass) = record w { hands = with_hand w.hands v (Free pass) }
+after w (IsAnswered v held number) = record w { hands = with_held w v (answered held number) }
+after w (Finishes v held) =
+    record w {
+      tasks = with_owner w.tasks held.turn.serial (record (owner_at w.tasks held.turn.serial) { slot = after_put (owner_at w.tasks held.turn.serial).slot held.job.number });
+      hands = with_held w v (finished held (finish_wakes w held));
+    }
+after w (GivesUp v held) =
+    record w {
+      tasks = with_owner w.tasks held.turn.serial (record (owner_at w.tasks held.turn.serial) { slot = after_give_up (owner_at w.tasks held.turn.serial).slot });
+      hands = with_held w v (given_up held (giving_up_wakes w held));
+    }
+after w (CallsWaker v held) = record w { hands = with_held w v (woke held) }
+after w (EndsTurn v held pass) = record w { pool = without_job w.pool held.turn.serial; hands = with_hand w.hands v (Free pass) }
+after w (HasWaited v pass late) = after_wait w v pass (must_stop late w.pool)
+after w (SetsLimit n) = record w { pool = record w.pool { counts = limited n w.pool.counts } }
+after w Sweeps = w
+after w (IsWoken s) = record w { pool = after_wake (wakes_as w s) w.pool (owner_at w.tasks s).number }
+after w (IsStruck s) = record w { pool = after_cancel (cancels_as w s) w.pool (owner_at w.tasks s).number }
+
+-- ---- which steps have an action
+
+-- what the job in a hand has to do
+abbrev pub duty_in : Hand → Option Duty
+duty_in (Holds held) = Some (duty_of held)
+duty_in _ = None
+
+-- whether that is an action of the job's own
+abbrev pub is_own : Option Duty → Bool
+is_own (Some duty.Finish) = true
+is_own (Some duty.GiveUp) = true
+is_own (Some duty.Wake) = true
+is_own _ = false
+
+-- whether the job's call is to be answered
+abbrev pub is_awaiting : Option Duty → Bool
+is_awaiting (Some duty.Await) = true
+is_awaiting _ = false
+
+-- whether the turn is to end
+abbrev pub is_ending : Option Duty → Bool
+is_ending (Some duty.End) = true
+is_ending _ = false
+
+-- whether a task is there and may be called so
+abbrev pub may_call_in : Option Owner → TaskCall → Bool
+may_call_in None call = false
+may_call_in (Some owner) call = may_be owner.stage call
+
+-- whether a step has an action
+abbrev pub has_act : Worlded → Step → Bool
+has_act w Spawn = true
+has_act w (OfTask k call) = may_call_in (slice_get w.tasks k) call
+has_act w Arrive = nat_lt 0 w.pool.counts.arriving
+has_act w (Take v) = is_free_hand (hand_at w.hands v)
+has_act w (Job v) = is_own (duty_in (hand_at w.hands v))
+has_act w (Io v answer) = is_awaiting (duty_in (hand_at w.hands v))
+has_act w (End v) = is_ending (duty_in (hand_at w.hands v))
+has_act w (Wait v) = is_free_hand (hand_at w.hands v)
+has_act w (Late v) = is_free_hand (hand_at w.hands v)
+has_act w (SetLimit n) = not (n == 0)
+has_act w Sweep = true
+has_act w (Stray s) = was_accepted w s
+has_act w (Strike s) = was_accepted w s && has_let_go (owner_at w.tasks s).stage
+
+-- ---- which moves there may be
+
+-- job s was accepted at some time
+abbrev pub WasAccepted : Worlded → ℕ → Type 0
+WasAccepted w s = was_accepted w s ≡ true
+
+abbrev pub May : (ℕ → Bool → Type 0) → Worlded → Move → Type 0
+May may_answer w (Idles step) = has_act w step ≡ false
+May may_answer w (Begins added growth pool) = AddsTo may_answer w.pool added growth pool
+May may_answer w (Calls k call owner) = (slice_get w.tasks k ≡ Some owner) × (may_be owner.stage call ≡ true)
+May may_answer w (Arrives pass) = 0 < w.pool.counts.arriving
+May may_answer w (TakesJob v old to_drop turn job growth pool) = (hand_at w.hands v ≡ Free old) × TakesFront may_answer w.pool turn job to_drop growth pool
+May may_answer w (TakesNone v old pass) = (hand_at w.hands v ≡ Free old) × (w.pool.queue ≡ [])
+May may_answer w (IsAnswered v held number) = (hand_at w.hands v ≡ Holds held) × (duty_of held ≡ duty.Await)
+May may_answer w (Finishes v held) = (hand_at w.hands v ≡ Holds held) × (duty_of held ≡ duty.Finish)
+May may_answer w (GivesUp v held) = (hand_at w.hands v ≡ Holds held) × (duty_of held ≡ duty.GiveUp)
+May may_answer w (CallsWaker v held) = (hand_at w.hands v ≡ Holds held) × (duty_of held ≡ duty.Wake)
+May may_answer w (EndsTurn v held pass) = (hand_at w.hands v ≡ Holds held) × (duty_of held ≡ duty.End)
+May may_answer w (HasWaited v pass late) = hand_at w.hands v ≡ Free pass
+May may_answer w (SetsLimit n) = 0 < n
+May may_answer w Sweeps = Unit {0}
+May may_answer w (IsWoken s) = WasAccepted w s
+May may_answer w (IsStruck s) = WasAccepted w s × (has_let_go (owner_at w.tasks s).stage ≡ true)
+
+-- A step is a move that there may be.
+pub record Moves (may_answer : ℕ → Bool → Type 0) (step : Step) (w : Worlded) (e : Event) (w' : Worlded) : Type 0 where
+  pub move : Move
+  pub may : May may_answer w move
+  pub step_is : step ≡ step_of move
+  pub event_is : e ≡ event_of w move
+  pub after_is : w' ≡ after w move

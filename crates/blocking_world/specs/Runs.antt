@@ -1,0 +1,30 @@
+-- What contracts see of a world, and what a run adds to it.
+use Rattle.std.specs.Prelude.{◌≡◌, ◌<◌, ℕ, Bool, List, ◌++◌, length, map, reverse}
+use Rattle.blocking_laws.specs.declared.event.Event.{Event}
+use Rattle.blocking_laws.specs.declared.event.Moment.{Moment}
+use Rattle.blocking_laws.specs.declared.step.Step.{Step}
+
+-- a world: the number of its setting, which of its starts are refused, and what was seen so far, the newest first
+pub record History : Type 0 where
+  pub setting : ℕ
+  pub starts : List Bool
+  pub past : List Moment
+
+-- these moments came after what was seen before
+abbrev pub Follow : List Moment → History → History → Type 0
+Follow moments old new = new ≡ record old { past = reverse moments ++ old.past }
+
+-- All steps were taken: the moments that were added have these steps and these events.
+pub record Adds (steps : List Step) (events : List Event) (old new : History) : Type 0 where
+  pub moments : List Moment
+  pub steps_are : map (λ moment. moment.step) moments ≡ steps
+  pub events_are : map (λ moment. moment.event) moments ≡ events
+  pub follow : Follow moments old new
+
+-- Fewer steps were taken than there are: the moments that were added have the first of them.
+pub record StopsShort (steps : List Step) (old new : History) : Type 0 where
+  pub moments : List Moment
+  pub rest : List Step
+  pub steps_are : map (λ moment. moment.step) moments ++ rest ≡ steps
+  pub fewer : length moments < length steps
+  pub follow : Follow moments old new

@@ -1,0 +1,254 @@
+-- How the parts of a world hang together with what was seen.
+use Rattle.std.specs.Prelude.{◌≡◌, ◌<◌, ◌≤◌, ◌+◌, ◌-◌, nat_lt, min, ℕ, Bool, true, false, ◌&&◌, ◌||◌, ◌⊎◌, if◌then◌else◌, List, [], ◌∷◌, ◌++◌, length, slice_get, Option, Some, None, is_some}
+use Rattle.std.specs.FinMap.{get}
+use Rattle.blocking_core.specs.Counts.{limit_of}
+use Rattle.blocking_core.specs.Growth.{greatest}
+use Rattle.blocking_core.specs.Jobs.{Job as Entry}
+use Rattle.blocking_core.specs.Slots.{Content, Empty, Full, GivenUp, Abandoned}
+use Rattle.blocking_core.specs.declared.job.Action.{Action}
+use Rattle.blocking_core.specs.declared.job.Action.TheVariants as action
+use Rattle.blocking_core.specs.declared.pool.standing.Standing.{Standing}
+use Rattle.blocking_core.specs.declared.pool.standing.Standing.TheVariants.{Queued, Running, Parked, Done, Dropped}
+use Rattle.blocking_laws.specs.Seen.{events, acts_of, own, task_cut, among}
+use Rattle.blocking_laws.specs.Jobs.{accepted_jobs, tasks, holder, standing, is_woken, is_cancelled, is_marked, has_ended}
+use Rattle.blocking_laws.specs.Queue.{queue, entries, takes, running}
+use Rattle.blocking_laws.specs.Counts.{starts, stops, refused_starts, arrivals, limit}
+use Rattle.blocking_laws.specs.Growth.{known_limit}
+use Rattle.blocking_laws.specs.Turns.{Turn, GoesOn, MustGiveUp, HasGivenUp, turn, hand}
+use Rattle.blocking_laws.specs.JobTable.{number, has_finished, has_given_up}
+use Rattle.blocking_laws.specs.Seats.{task_seat}
+use Rattle.blocking_laws.specs.TaskLaws.{is_gone, was_cancelled, is_let_go, is_in_time}
+use Rattle.blocking_laws.specs.Wakes.{is_waiting, was_woken}
+use Rattle.blocking_laws.specs.Staffed.{turns}
+use Rattle.blocking_laws.specs.Steps.{is_there}
+use Rattle.blocking_world.specs.Worlds.{Worlded, new_call, hand_at, has_let_go}
+use Rattle.blocking_laws.specs.Legal.{Legal}
+use Rattle.blocking_world.specs.Machine.{IsReady}
+use Rattle.blocking_world.specs.declared.call.CallJob.{CallJob}
+use Rattle.blocking_laws.specs.declared.event.Act.{Act}
+use Rattle.blocking_laws.specs.declared.event.Act.TheVariants.{Answered, Finished, GaveUp, HolderWoken}
+use Rattle.blocking_laws.specs.declared.event.Event.{Event}
+use Rattle.blocking_laws.specs.declared.event.Moment.{Moment}
+use Rattle.blocking_laws.specs.declared.event.Party.{Party}
+use Rattle.blocking_laws.specs.declared.event.Party.TheVariants.{Task}
+use Rattle.blocking_world.specs.declared.hand.Hand.{Hand}
+use Rattle.blocking_world.specs.declared.hand.Hand.TheVariants.{Out, Free, Holds}
+use Rattle.blocking_world.specs.declared.hand.Held.{Held}
+use Rattle.blocking_world.specs.declared.hand.Stage.{Stage}
+use Rattle.blocking_world.specs.declared.hand.Stage.TheVariants as stage
+use Rattle.blocking_laws.specs.declared.step.Answer.TheVariants.{Number}
+use Rattle.blocking_world.specs.declared.task.Owner.{Owner}
+use Rattle.blocking_world.specs.declared.task.TaskStage.{TaskStage}
+use Rattle.blocking_world.specs.declared.task.TaskStage.TheVariants as task
+
+-- ---- jobs and tasks are numbered together
+
+-- of so many tasks, the one that holds job s
+abbrev pub holder_of : ℕ → ℕ → Option Party
+holder_of n s = if nat_lt 0 s && nat_lt (s - 1) n then Some (Task (s - 1)) else None
+
+pub record Numbered (w : Worlded) (past : List Moment) : Type 0 where
+  pub owners : length w.tasks ≡ tasks past
+  pub accepted : length (accepted_jobs past) ≡ tasks past
+  pub next : w.pool.next_serial ≡ tasks past + 1
+  pub holders : (s : ℕ) → holder past s ≡ holder_of (tasks past) s
+  -- the job of task k has the serial k + 1, and its number's place is that of the pool
+  pub numbers : (k : ℕ) (owner : Owner) → slice_get w.tasks k ≡ Some owner → owner.number.serial ≡ k + 1
+  pub places :
+      (k : ℕ) (owner : Owner) (entry : Entry CallJob) → slice_get w.tasks k ≡ Some owner → get w.pool.jobs (k + 1) ≡ Some entry
+      → entry.place ≡ owner.number.place
+  -- a job stands somewhere exactly if it was accepted
+  pub stands : (s : ℕ) → is_some (standing past s) ≡ is_some (holder past s)
+
+-- ---- the pool's jobs
+
+-- a queued call hasn't acted, and its value bears its mark; a running one's is in a hand; a call never parks
+abbrev pub ValueAs : Standing → Option CallJob → Bool → List Act → Type 0
+ValueAs Queued value mark acts = (value ≡ Some (record new_call { is_marked = mark })) × (acts ≡ [])
+ValueAs Running value mark acts = value ≡ None
+ValueAs Parked value mark acts = ⊥
+ValueAs Done value mark acts = ⊥
+ValueAs Dropped value mark acts = ⊥
+
+-- a job that isn't in the pool was never accepted, or is over
+abbrev pub AbsentAs : Option Standing → Bool → Bool → Bool → Bool → List Act → Type 0
+AbsentAs None wake cancel mark ended acts = (wake ≡ false) × (cancel ≡ false) × (mark ≡ false) × (ended ≡ false) × (acts ≡ [])
+AbsentAs (Some Done) wake cancel mark ended acts = (ended ≡ true) × (has_finished acts || has_given_up acts ≡ true)
+AbsentAs (Some Dropped) wake cancel mark ended acts = (ended ≡ true) × (has_finished acts || has_given_up acts ≡ true)
+AbsentAs _ wake cancel mark ended acts = ⊥
+
+-- an entry of the pool, by what was seen of its job: how it stands, whether it was woken, cancelled, marked, whether it is
+-- over, and its own acts
+abbrev pub FiledAs : Option (Entry CallJob) → Option Standing → Bool → Bool → Bool → Bool → List Act → Type 0
+FiledAs None stand wake cancel mark ended acts = AbsentAs stand wake cancel mark ended acts
+FiledAs (Some entry) stand wake cancel mark ended acts =
+    (stand ≡ Some entry.standing) × (wake ≡ entry.woken) × (cancel ≡ entry.cancelled) × (ended ≡ false) × ValueAs entry.standing entry.value mark acts
+
+abbrev pub Filed : Worlded → List Moment → Type 0
+Filed w past =
+    (s : ℕ) →
+    FiledAs (get w.pool.jobs s) (standing past s) (is_woken past s) (is_cancelled past s) (is_marked past s) (has_ended past s) (acts_of s (events past))
+
+-- ---- the queue
+
+-- no number stands twice
+abbrev pub IsOnce : List ℕ → Type 0
+IsOnce [] = Unit {0}
+IsOnce (number ∷ numbers) = (among numbers number ≡ false) × IsOnce numbers
+
+abbrev pub is_queued_as : Option Standing → Bool
+is_queued_as (Some Queued) = true
+is_queued_as _ = false
+
+pub record Lined (w : Worlded) (past : List Moment) : Type 0 where
+  pub same : w.pool.queue ≡ queue past
+  pub once : IsOnce (queue past)
+  pub each : (s : ℕ) → among (queue past) s ≡ is_queued_as (standing past s)
+  pub order : entries past ≡ takes past ++ queue past
+
+-- ---- the counts
+
+abbrev pub is_running_as : Option Standing → Bool
+is_running_as (Some Running) = true
+is_running_as _ = false
+
+pub record Counted (setting : ℕ) (w : Worlded) (past : List Moment) : Type 0 where
+  pub workers_are : starts past ≡ w.pool.counts.workers + stops past
+  pub idle_are : w.pool.counts.workers ≡ w.pool.counts.idle + length (running past)
+  pub arriving_are : starts past ≡ w.pool.counts.arriving + arrivals past
+  pub hands_are : length w.hands ≡ arrivals past
+  pub setting_is : w.pool.counts.setting ≡ setting
+  pub limit_is : limit_of w.pool.counts ≡ limit setting past
+  pub known_is : w.pool.counts.limit ≡ known_limit setting past
+  pub positive : 0 < limit setting past
+  pub next_is : w.pool.counts.next_worker ≡ min (1 + starts past + refused_starts past) greatest
+  pub once : IsOnce (running past)
+  pub each : (s : ℕ) → among (running past) s ≡ is_running_as (standing past s)
+  -- a job is queued only where somebody is there for it
+  pub served : w.pool.counts.workers ≡ 0 → w.pool.queue ≡ []
+
+-- ---- the hands
+
+-- whether the worker is there, and which job it has
+abbrev pub HandAs : Hand → Bool → Option ℕ → Type 0
+HandAs Out there job = (there ≡ false) × (job ≡ None)
+HandAs (Free pass) there job = (there ≡ true) × (job ≡ None)
+HandAs (Holds held) there job = (there ≡ true) × (job ≡ Some held.turn.serial)
+
+-- where a job is in its turn, in the words of the laws
+abbrev pub turn_of : Stage → Turn
+turn_of stage.Runs = GoesOn
+turn_of stage.MustGiveUp = MustGiveUp
+turn_of stage.MustWake = HasGivenUp
+turn_of stage.GaveUp = HasGivenUp
+
+-- what a job that runs has done so far, by its next action
+abbrev pub RanAs : Action → ℕ → List Act → Type 0
+RanAs action.Call n acts = acts ≡ []
+RanAs action.Finish n acts = acts ≡ Answered (Number n) ∷ []
+RanAs action.Deliver n acts = acts ≡ Finished true ∷ Answered (Number n) ∷ []
+RanAs action.Done n acts = (acts ≡ Finished false ∷ Answered (Number n) ∷ []) ⊎ (acts ≡ HolderWoken ∷ Finished true ∷ Answered (Number n) ∷ [])
+
+-- what a job in a hand has done so far
+abbrev pub ActedAs : Stage → Action → ℕ → List Act → Type 0
+ActedAs stage.Runs next n acts = RanAs next n acts
+ActedAs stage.MustGiveUp next n acts = acts ≡ []
+ActedAs stage.MustWake next n acts = acts ≡ GaveUp true ∷ []
+ActedAs stage.GaveUp next n acts = (acts ≡ GaveUp false ∷ []) ⊎ (acts ≡ HolderWoken ∷ GaveUp true ∷ [])
+
+-- A job in a hand, by what was seen of it. One that is to be dropped was let go.
+pub record HeldAs (held : Held) (turns : Turn) (acts : List Act) (let_go : Bool) : Type 0 where
+  pub turn_is : turns ≡ turn_of held.stage
+  pub acts_are : ActedAs held.stage held.job.core held.job.number acts
+  pub wanted : held.stage ≡ stage.MustGiveUp → let_go ≡ true
+
+abbrev pub let_go_in : Option Owner → Bool
+let_go_in None = false
+let_go_in (Some owner) = has_let_go owner.stage
+
+pub record Handed (w : Worlded) (past : List Moment) : Type 0 where
+  pub each : (v : ℕ) → HandAs (hand_at w.hands v) (is_there past v) (hand past v)
+  pub held :
+      (v : ℕ) (held : Held) → hand_at w.hands v ≡ Holds held
+      → HeldAs held (turn past held.turn.serial) (acts_of held.turn.serial (events past)) (let_go_in (slice_get w.tasks (held.turn.serial - 1)))
+  pub ready : IsReady w
+  -- only the job of a task that let it go is marked or cancelled
+  pub marks : (s : ℕ) → is_marked past s || is_cancelled past s ≡ true → let_go_in (slice_get w.tasks (s - 1)) ≡ true
+
+-- ---- the tasks
+
+-- nothing came of the call yet
+abbrev pub IsPending : Content ℕ → Type 0
+IsPending Empty = Unit {0}
+IsPending (Abandoned false) = Unit {0}
+IsPending _ = ⊥
+
+-- what a task that is awaited finds in its slot, by whether its job finished or gave up, whether that was in time, and the number
+abbrev pub AwaitedAs : Content ℕ → Bool → Bool → Bool → ℕ → Type 0
+AwaitedAs Empty finished given_up in_time n = (finished ≡ false) × (given_up ≡ false) × (in_time ≡ false)
+AwaitedAs (Full m) finished given_up in_time n = (finished ≡ true) × (in_time ≡ true) × (m ≡ n)
+AwaitedAs GivenUp finished given_up in_time n = (finished ≡ false) × (given_up ≡ true) × (in_time ≡ false)
+AwaitedAs (Abandoned over) finished given_up in_time n = ⊥
+
+-- what the cancel found
+abbrev pub FoundAs : Option ℕ → Bool → ℕ → Type 0
+FoundAs None in_time n = in_time ≡ false
+FoundAs (Some m) in_time n = (in_time ≡ true) × (m ≡ n)
+
+-- what a cancelled task finds in its slot
+abbrev pub CancelledAs : Content ℕ → Option ℕ → Bool → Bool → Bool → ℕ → Type 0
+CancelledAs (Abandoned over) found finished given_up in_time n = (finished || given_up ≡ over) × FoundAs found in_time n
+CancelledAs _ found finished given_up in_time n = ⊥
+
+abbrev pub SlotAs : TaskStage → Content ℕ → Option ℕ → Bool → Bool → Bool → ℕ → Type 0
+SlotAs task.Held content found finished given_up in_time n = AwaitedAs content finished given_up in_time n
+SlotAs task.Cancelled content found finished given_up in_time n = CancelledAs content found finished given_up in_time n
+SlotAs task.Gone content found finished given_up in_time n = finished || given_up ≡ false → IsPending content
+SlotAs task.LetGo content found finished given_up in_time n = finished || given_up ≡ false → IsPending content
+
+-- whether a task is gone
+abbrev pub is_gone_as : TaskStage → Bool
+is_gone_as task.Gone = true
+is_gone_as task.LetGo = true
+is_gone_as _ = false
+
+-- whether a task that isn't gone was cancelled
+abbrev pub CancelAs : TaskStage → Bool → Type 0
+CancelAs task.Held was = was ≡ false
+CancelAs task.Cancelled was = was ≡ true
+CancelAs _ was = Unit {0}
+
+-- A task by its cut: what it did itself, and what its job did.
+pub record TaskAs (owner : Owner) (s : ℕ) (cut : List Event) : Type 0 where
+  pub gone : is_gone (own cut) ≡ is_gone_as owner.stage
+  pub cancel : CancelAs owner.stage (was_cancelled (own cut))
+  pub let_go : is_let_go (own cut) ≡ has_let_go owner.stage
+  pub seat : task_seat cut ≡ is_some owner.slot.seat
+  pub slot :
+      SlotAs owner.stage owner.slot.content owner.found (has_finished (acts_of s cut)) (has_given_up (acts_of s cut)) (is_in_time cut) (number (acts_of s cut))
+  -- a task that waits was woken, or sits in its seat and its job goes on
+  pub told :
+      is_waiting (own cut) ≡ true
+      → (was_woken cut ≡ true) ⊎ ((task_seat cut ≡ true) × (has_finished (acts_of s cut) || has_given_up (acts_of s cut) ≡ false))
+
+pub record Tasked (w : Worlded) (past : List Moment) : Type 0 where
+  pub each : (k : ℕ) (owner : Owner) → slice_get w.tasks k ≡ Some owner → TaskAs owner (k + 1) (task_cut k (k + 1) (events past))
+  -- nothing was seen yet of a task that isn't there
+  pub unborn : (k : ℕ) → length w.tasks ≤ k → task_cut k (k + 1) (events past) ≡ []
+
+-- ---- all of it
+
+pub record Tied (setting : ℕ) (w : Worlded) (past : List Moment) : Type 0 where
+  pub numbered : Numbered w past
+  pub filed : Filed w past
+  pub lined : Lined w past
+  pub counted : Counted setting w past
+  pub handed : Handed w past
+  pub tasked : Tasked w past
+
+-- what every world keeps: its parts hang together with what was seen, and what was seen is legal
+pub record IsLawful (setting : ℕ) (marks : List Bool) (w : Worlded) (past : List Moment) : Type 0 where
+  pub tied : Tied setting w past
+  pub legal : Legal setting marks past
+  -- as many workers have a turn as jobs run
+  pub turns_are : turns past ≡ length (running past)

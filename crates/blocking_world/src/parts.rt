@@ -1,0 +1,470 @@
+//! The parts of a world, and the steps on them.
+ghost use Rattle.std.specs.Prelude.{◌≡◌, ◌<◌, ◌≤◌, ◌+◌, ℕ, [], length, IfOk, OnErr, Some, None, true, false, slice_set};
+ghost use Rattle.blocking_core.specs.Jobs.{JobNumber, is_running_as};
+ghost use Rattle.blocking_world.specs.Crews.{NoneParked};
+ghost use Rattle.blocking_world.specs.Machine.{one_if_free};
+ghost use Rattle.blocking_world.specs.Closing.{RunsIn, IsOther};
+ghost use Rattle.blocking_world.specs.Machine.{seen as what_is_seen, nothing as what_is_not};
+
+use crate::crew::{Crew, Grown, NO_GROWTH};
+use crate::hand::{Duty, Hand, Held, Stage};
+use crate::task::Owner;
+use blocking_core::pool::{Standing, Starter, Took, Waited, WorkerPass};
+use blocking_laws::event::{Act, Event, Party};
+use blocking_laws::step::{Answer, Step, TaskCall};
+use std::alloc::{AllocError, Global};
+use std::marker::Model;
+use std::mem;
+
+/// A pool of calls, the tasks that own them, in order, and the workers that arrived, in order.
+pub(crate) struct Parts {
+    pub(crate) crew: Crew,
+    tasks: Vec<Owner>,
+    pub(crate) hands: Vec<Hand>,
+}
+
+impl Model for Parts {
+    ghost use Rattle.blocking_world.specs.Worlds.{Worlded, worlded_code};
+
+    ghost Value = { Worlded };
+
+    ghost coded = { worlded_code };
+
+    ghost view = { λ p. record { pool = p.crew; tasks = p.tasks.items; hands = p.hands.items } };
+}
+
+impl Parts {
+    ghost use Rattle.std.specs.Prelude.{nat_lt, ◌==◌, ◌-◌, ◌+◌, ◌&&◌, if◌then◌else◌, slice_get};
+    ghost use Rattle.blocking_core.specs.PoolAnswers.{pool_of};
+    ghost use Rattle.blocking_world.specs.Worlds.{hand_at, is_free_hand, has_let_go, owner_at};
+    ghost use Rattle.blocking_world.specs.Machine.{IsReady, StepDoes, Spawns, CallsOf, ArrivesIf, TakesWith, WorksWith, AnswersWith, EndsWith, WaitsWith, LimitsIf, StraysIf, StrikesIf, Does, DoesNothing, was_accepted};
+    ghost use Rattle.blocking_world.specs.Moves.{duty_in, is_own};
+    ghost use Rattle.blocking_laws.specs.declared.step.Step.TheVariants as step;
+
+    /// The parts of a new world. Takes no memory.
+    pub(crate) fn new(alloc: Global, setting: Option<&str>) -> Parts
+        ensures { result ≡ record { pool = pool_of setting.entry 1 1; tasks = []; hands = [] } }
+    {
+        Parts {
+            crew: Crew::new(alloc, setting),
+            tasks: Vec::new(alloc),
+            hands: Vec::new(alloc),
+        }
+    }
+
+    /// Takes a step, and answers what is seen of it. Where there is no room for what it makes, nothing is done.
+    pub(crate) fn step<S: Starter>(
+        &mut self,
+        step: Step,
+        starter: &mut S,
+    ) -> Result<Event, AllocError>
+        requires { IsReady self.old }
+        ensures ok { IfOk result (λ e. StepDoes (S.may_answer starter.old) step self.old e self.new) }
+        ensures err { OnErr result (self.new ≡ self.old) }
+    {
+        match step {
+            Step::Spawn => self.spawn(starter),
+            Step::OfTask(task, call) => Ok(self.of_task(task, call)),
+            Step::Arrive => self.arrive(),
+            Step::Take(worker) => Ok(self.take(worker, starter)),
+            Step::Job(worker) => Ok(self.job(worker)),
+            Step::Io(worker, answer) => Ok(self.io(worker, answer)),
+            Step::End(worker) => Ok(self.end(worker)),
+            Step::Wait(worker) => Ok(self.wait(worker, false, starter)),
+            Step::Late(worker) => Ok(self.wait(worker, true, starter)),
+            Step::SetLimit(limit) => Ok(self.set_limit(limit)),
+            Step::Sweep => Ok(self.sweep(starter)),
+            Step::Stray(serial) => Ok(self.stray(serial, starter)),
+            Step::Strike(serial) => Ok(self.strike(serial, starter)),
+        }
+    }
+
+    /// A call is handed to the pool.
+    pub(crate) fn spawn<S: Starter>(&mut self, starter: &mut S) -> Result<Event, AllocError>
+        requires { IsReady self.old }
+        ensures ok { IfOk result (λ e. Spawns (S.may_answer starter.old) self.old e self.new) }
+        ensures err { OnErr result (self.new ≡ self.old) }
+    {
+        self.tasks.reserve(1)?;
+        let first = self.crew.next_start();
+        let (added, growth) = self.crew.add(starter);
+        let act = match added {
+            Ok(number) => {
+                let _ = self.tasks.push(Owner::new(number));
+                Act::Accepted(number.serial())
+            }
+            Err(why) => Act::Refused(why),
+        };
+        Ok(seen(Party::Pool, None, act, first, growth))
+    }
+
+    /// A call of a task.
+    pub(crate) fn of_task(&mut self, task: usize, call: TaskCall) -> Event
+        ensures { CallsOf (slice_get self.old.tasks task) self.old task call result self.new }
+    {
+        let first = self.crew.next_start();
+        let party = Party::Task(task);
+        let Some(owner) = self.tasks.get(task) else {
+            return nothing(party, first);
+        };
+        if !owner.may(call) {
+            return nothing(party, first);
+        }
+        let owner = &mut self.tasks[task];
+        let act = match call {
+            TaskCall::Poll => owner.poll(),
+            TaskCall::Cancel => {
+                owner.cancel();
+                self.crew.mark(owner.number);
+                Act::TaskCancelled
+            }
+            TaskCall::Detach => {
+                owner.detach();
+                Act::TaskDetached
+            }
+            TaskCall::Drop => {
+                owner.release();
+                self.crew.mark(owner.number);
+                Act::HolderDropped
+            }
+        };
+        seen(party, None, act, first, NO_GROWTH)
+    }
+
+    /// A started worker arrives.
+    pub(crate) fn arrive(&mut self) -> Result<Event, AllocError>
+        ensures ok { IfOk result (λ e. ArrivesIf (nat_lt 0 self.old.pool.counts.arriving) self.old e self.new) }
+        ensures err { OnErr result (self.new ≡ self.old) }
+    {
+        self.hands.reserve(1)?;
+        let first = self.crew.next_start();
+        let Some(pass) = self.crew.arrive() else {
+            return Ok(nothing(Party::Pool, first));
+        };
+        match self.hands.push(Hand::Free(pass)) {
+            Ok(()) => {}
+            Err(_failed) => unreachable!(),
+        }
+        let worker = self.hands.len();
+        let party = Party::Worker(worker);
+        Ok(seen(party, None, Act::Arrived(worker), first, NO_GROWTH))
+    }
+
+    /// A worker takes a job.
+    pub(crate) fn take<S: Starter>(&mut self, worker: usize, starter: &mut S) -> Event
+        requires { IsReady self.old }
+        ensures { TakesWith (hand_at self.old.hands worker) (S.may_answer starter.old) self.old worker result self.new }
+    {
+        let first = self.crew.next_start();
+        let party = Party::Worker(worker);
+        let Some(place) = worker.checked_sub(1) else {
+            return nothing(party, first);
+        };
+        let Some(hand) = self.hands.get_mut(place) else {
+            return nothing(party, first);
+        };
+        let Some(pass) = hand.pass() else {
+            return nothing(party, first);
+        };
+        let (took, growth) = self.crew.take(pass, starter);
+        let (hand, job, act) = match took {
+            Took::Idle(pass) => (Hand::Free(pass), None, Act::TookNone),
+            Took::Run(turn, job) => {
+                let serial = turn.job().serial();
+                (
+                    Hand::Holds(Held::new(turn, job, Stage::Runs)),
+                    Some(serial),
+                    Act::Took(serial),
+                )
+            }
+            Took::Drop(turn, job) => {
+                let serial = turn.job().serial();
+                (
+                    Hand::Holds(Held::new(turn, job, Stage::MustGiveUp)),
+                    Some(serial),
+                    Act::TookDropped(serial),
+                )
+            }
+        };
+        self.hands[place].put(hand);
+        seen(party, job, act, first, growth)
+    }
+
+    /// The job of a worker takes its next action, where that is its own to take.
+    pub(crate) fn job(&mut self, worker: usize) -> Event
+        requires { IsReady self.old }
+        ensures { WorksWith (hand_at self.old.hands worker) self.old worker result self.new }
+    {
+        let first = self.crew.next_start();
+        let party = Party::Worker(worker);
+        let Some(place) = worker.checked_sub(1) else {
+            return nothing(party, first);
+        };
+        let Some(hand) = self.hands.get_mut(place) else {
+            return nothing(party, first);
+        };
+        let Hand::Holds(held) = hand else {
+            return nothing(party, first);
+        };
+        let serial = held.serial();
+        let task = (serial - 1) as usize;
+        let act = match held.duty() {
+            Duty::Await | Duty::End => return nothing(party, first),
+            Duty::Finish => {
+                let wake = self.tasks[task].finish(held.number());
+                held.finish(wake);
+                Act::Finished(wake)
+            }
+            Duty::GiveUp => {
+                let wake = self.tasks[task].give_up();
+                held.give_up(wake);
+                Act::GaveUp(wake)
+            }
+            Duty::Wake => {
+                held.wake();
+                Act::HolderWoken
+            }
+        };
+        seen(party, Some(serial), act, first, NO_GROWTH)
+    }
+
+    /// The call of a worker's job is answered.
+    pub(crate) fn io(&mut self, worker: usize, answer: Answer) -> Event
+        ensures { AnswersWith (hand_at self.old.hands worker) self.old worker answer result self.new }
+    {
+        let first = self.crew.next_start();
+        let party = Party::Worker(worker);
+        let Some(place) = worker.checked_sub(1) else {
+            return nothing(party, first);
+        };
+        let Some(hand) = self.hands.get_mut(place) else {
+            return nothing(party, first);
+        };
+        let Hand::Holds(held) = hand else {
+            return nothing(party, first);
+        };
+        let Duty::Await = held.duty() else {
+            return nothing(party, first);
+        };
+        let Answer::Number(number) = answer;
+        held.answer(number);
+        let serial = held.serial();
+        seen(party, Some(serial), Act::Answered(answer), first, NO_GROWTH)
+    }
+
+    /// The turn of a worker's job ends, where nothing is left to do.
+    pub(crate) fn end(&mut self, worker: usize) -> Event
+        requires { IsReady self.old }
+        ensures { EndsWith (hand_at self.old.hands worker) self.old worker result self.new }
+    {
+        let first = self.crew.next_start();
+        let party = Party::Worker(worker);
+        let Some(place) = worker.checked_sub(1) else {
+            return nothing(party, first);
+        };
+        let Some(hand) = self.hands.get_mut(place) else {
+            return nothing(party, first);
+        };
+        let Some(held) = hand.over() else {
+            return nothing(party, first);
+        };
+        let how = held.outcome();
+        let Held {
+            turn,
+            job: _,
+            stage: _,
+        } = held;
+        let serial = turn.job().serial();
+        let pass = self.crew.end(turn, how);
+        self.hands[place].put(Hand::Free(pass));
+        seen(
+            party,
+            Some(serial),
+            Act::Ended(serial, how),
+            first,
+            NO_GROWTH,
+        )
+    }
+
+    /// An idle worker has waited.
+    pub(crate) fn wait<S: Starter>(&mut self, worker: usize, late: bool, starter: &mut S) -> Event
+        requires { IsReady self.old }
+        ensures { WaitsWith (hand_at self.old.hands worker) self.old worker late result self.new }
+    {
+        let first = self.crew.next_start();
+        let party = Party::Worker(worker);
+        let Some(place) = worker.checked_sub(1) else {
+            return nothing(party, first);
+        };
+        let Some(hand) = self.hands.get_mut(place) else {
+            return nothing(party, first);
+        };
+        let Some(pass) = hand.pass() else {
+            return nothing(party, first);
+        };
+        let act = match self.crew.after_wait(pass, late, starter) {
+            Waited::Stay(pass) => {
+                self.hands[place].put(Hand::Free(pass));
+                Act::Stays(worker, late)
+            }
+            Waited::Stop => Act::Stopped(worker, late),
+        };
+        seen(party, None, act, first, NO_GROWTH)
+    }
+
+    /// The limit of workers is set, unless it is 0.
+    pub(crate) fn set_limit(&mut self, limit: usize) -> Event
+        ensures { LimitsIf (limit == 0) self.old limit result self.new }
+    {
+        let first = self.crew.next_start();
+        if limit == 0 {
+            return nothing(Party::Pool, first);
+        }
+        self.crew.set_limit(limit);
+        seen(Party::Pool, None, Act::LimitSet(limit), first, NO_GROWTH)
+    }
+
+    /// The parked jobs that bear a mark are put back.
+    pub(crate) fn sweep<S: Starter>(&mut self, starter: &mut S) -> Event
+        requires { IsReady self.old }
+        ensures { StepDoes (S.may_answer starter.old) step.Sweep self.old result self.new }
+    {
+        let first = self.crew.next_start();
+        let count = self.crew.sweep(starter);
+        seen(Party::Pool, None, Act::Swept(count), first, NO_GROWTH)
+    }
+
+    // The task of the job of this serial.
+    fn task_of(&self, serial: u64) -> Option<usize>
+        ensures { result ≡ (if was_accepted self.now serial then Some (serial - 1) else None) }
+    {
+        let task = serial.checked_sub(1)? as usize;
+        if task < self.tasks.len() {
+            Some(task)
+        } else {
+            None
+        }
+    }
+
+    /// A job is woken by nobody in particular.
+    pub(crate) fn stray<S: Starter>(&mut self, serial: u64, starter: &mut S) -> Event
+        requires { IsReady self.old }
+        ensures { StraysIf (was_accepted self.old serial) self.old serial result self.new }
+    {
+        let first = self.crew.next_start();
+        let Some(task) = self.task_of(serial) else {
+            return nothing(Party::Pool, first);
+        };
+        let woke = self.crew.wake(self.tasks[task].number, starter);
+        seen(
+            Party::Pool,
+            None,
+            Act::JobWoken(serial, woke),
+            first,
+            NO_GROWTH,
+        )
+    }
+
+    /// A job whose task let it go is cancelled in the pool.
+    pub(crate) fn strike<S: Starter>(&mut self, serial: u64, starter: &mut S) -> Event
+        requires { IsReady self.old }
+        ensures { StrikesIf (was_accepted self.old serial && has_let_go (owner_at self.old.tasks serial).stage) self.old serial result self.new }
+    {
+        let first = self.crew.next_start();
+        let Some(task) = self.task_of(serial) else {
+            return nothing(Party::Pool, first);
+        };
+        if !self.tasks[task].let_go() {
+            return nothing(Party::Pool, first);
+        }
+        let woke = self.crew.cancel(self.tasks[task].number, starter);
+        seen(
+            Party::Pool,
+            None,
+            Act::JobCancelled(serial, woke),
+            first,
+            NO_GROWTH,
+        )
+    }
+
+    /// Whether the job of this worker has a next action that is its own to take.
+    pub(crate) fn has_job_action(&self, worker: usize) -> bool
+        ensures { result ≡ is_own (duty_in (hand_at self.now.hands worker)) }
+    {
+        let Some(place) = worker.checked_sub(1) else {
+            return false;
+        };
+        let Some(hand) = self.hands.get(place) else {
+            return false;
+        };
+        let Hand::Holds(held) = hand else {
+            return false;
+        };
+        match held.duty() {
+            Duty::Finish | Duty::GiveUp | Duty::Wake => true,
+            Duty::Await | Duty::End => false,
+        }
+    }
+
+    /// Lets every worker go, which ends the jobs that are left. Takes no memory.
+    pub(crate) fn close<S: Starter>(self, starter: &mut S)
+        requires { IsReady self }
+    {
+        let Parts {
+            mut crew,
+            tasks: _tasks,
+            hands,
+        } = self;
+        let mut hands = hands;
+        while let Some(hand) = hands.pop() {
+            let_go(&mut crew, hand, starter);
+        }
+        hands.destroy_empty();
+    }
+}
+
+// Lets a worker go: its job ends as done, and it stops with an empty queue.
+fn let_go<S: Starter>(crew: &mut Crew, hand: Hand, starter: &mut S)
+    requires parked { NoneParked crew.old.jobs }
+    requires free { crew.old.counts.arriving + one_if_free hand ≤ crew.old.counts.idle }
+    requires runs { RunsIn crew.old.jobs hand }
+    ensures parked { NoneParked crew.new.jobs }
+    ensures left { (rest : ℕ) → crew.old.counts.idle ≡ crew.old.counts.arriving + (one_if_free hand + rest) → crew.new.counts.idle ≡ crew.new.counts.arriving + rest }
+    ensures others { (number : JobNumber) → IsOther hand number.serial → is_running_as crew.old.jobs number ≡ true → is_running_as crew.new.jobs number ≡ true }
+{
+    match hand {
+        Hand::Out => {}
+        Hand::Free(pass) => crew.dismiss(pass, starter),
+        Hand::Holds(held) => {
+            let Held {
+                turn,
+                job: _job,
+                stage: _stage,
+            } = held;
+            let pass = crew.end(turn, Standing::Done);
+            crew.dismiss(pass, starter);
+        }
+    }
+}
+
+// What is seen of a step that did something.
+fn seen(party: Party, job: Option<u64>, act: Act, first: u64, growth: Grown) -> Event
+    ensures { result ≡ what_is_seen party job act first growth }
+{
+    Event {
+        party,
+        owner: None,
+        job,
+        act,
+        first,
+        started: growth.started,
+        start_refused: growth.refused,
+    }
+}
+
+// What is seen of a step that has no action.
+fn nothing(party: Party, first: u64) -> Event
+    ensures { result ≡ what_is_not party first }
+{
+    seen(party, None, Act::NoAction, first, NO_GROWTH)
+}

@@ -1,0 +1,178 @@
+//! A world that keeps what was seen of it.
+ghost use Rattle.std.specs.Prelude.{◌≡◌, ◌<◌, ◌∷◌, [], length, IfOk, OnErr};
+ghost use Rattle.blocking_core.specs.Limits.{limit_of_setting};
+ghost use Rattle.blocking_laws.specs.Counts.{workers, idle};
+ghost use Rattle.blocking_laws.specs.Growth.{IsMarked, known_limit};
+ghost use Rattle.blocking_laws.specs.Legal.{Legal};
+ghost use Rattle.blocking_world.specs.Machine.{IsReady, StepDoes};
+ghost use Rattle.blocking_laws.specs.Queue.{queue};
+ghost use Rattle.blocking_world.specs.Runs.{Adds, StopsShort};
+ghost use Rattle.blocking_laws.specs.Served.{IsServed};
+ghost use Rattle.blocking_laws.specs.Staffed.{AreStaffed};
+
+use crate::parts::Parts;
+use crate::starts::{MarkedStarts, NoStarts};
+use blocking_laws::event::{Event, Moment};
+use blocking_laws::step::Step;
+use std::alloc::{AllocError, Global};
+use std::marker::{Brand, Model};
+use std::sync::ledger::{Blank, Ledger};
+
+/// A pool of calls with its tasks and workers, and what was seen of them.
+///
+/// What was seen is legal at every moment: the type itself keeps it. A world has no `Drop`, since its workers hold what has to
+/// be spent: it ends by [`World::close`].
+pub struct World {
+    parts: Parts,
+    starts: Vec<bool>,
+    trace: Vec<Moment>,
+}
+
+impl Model for World {
+    ghost use Rattle.std.specs.Prelude.{reverse};
+    ghost use Rattle.blocking_world.specs.Runs.{History};
+    ghost use Rattle.blocking_world.specs.Ties.{IsLawful};
+
+    ghost Value = { History };
+
+    ghost view = { λ w. record { setting = w.parts.pool.counts.setting; starts = w.starts.items; past = reverse w.trace.items } };
+
+    ghost invariant = { λ w. IsLawful w.parts.pool.counts.setting w.starts.items w.parts (reverse w.trace.items) };
+}
+
+impl World {
+    ghost use Rattle.std.specs.Prelude.{option_map};
+    ghost use Rattle.blocking_laws.specs.Steps.{has_action};
+    ghost use Rattle.blocking_laws.specs.declared.step.Step.TheVariants as step;
+
+    /// A world in which nothing has happened. The setting is the text of a limit, and the starts say which starts of workers
+    /// are refused: the first mark is that of start 1, and after the marks none is. Takes no memory.
+    pub fn new(alloc: Global, setting: Option<&str>, starts: Vec<bool>) -> World
+        ensures { result ≡ record { setting = limit_of_setting (option_map (λ text. text.now) setting.entry); starts = starts.items; past = [] } }
+    {
+        World {
+            parts: Parts::new(alloc, setting),
+            starts,
+            trace: Vec::new(alloc),
+        }
+    }
+
+    // Takes one step.
+    fn step(&mut self, step: Step) -> Result<Event, AllocError>
+        ensures ok { IfOk result (λ e. self.new ≡ record self.old { past = record { step = step; event = e } ∷ self.old.past }) }
+        ensures err { OnErr result (self.new ≡ self.old) }
+    {
+        self.trace.reserve(1)?;
+        let event = step_with::<Brand>(&mut self.parts, &self.starts, Blank::new(1), step)?;
+        let _ = self.trace.push(Moment { step, event });
+        Ok(event)
+    }
+
+    /// Ends the world: the jobs that are left end as done, and every worker that arrived stops. Takes no memory.
+    pub fn close(self) {
+        let World {
+            parts,
+            starts: _starts,
+            trace: _trace,
+        } = self;
+        close_with::<Brand>(parts, Blank::new(1));
+    }
+
+    /// How many workers were started and haven't stopped, arrived or not.
+    pub fn thread_count(&self) -> usize
+        ensures { result ≡ workers self.now.past }
+    {
+        self.parts.crew.pool().thread_count()
+    }
+
+    /// How many of the workers run no job, arrived or not.
+    pub fn idle_count(&self) -> usize
+        ensures { result ≡ idle self.now.past }
+    {
+        self.parts.crew.pool().idle_count()
+    }
+
+    /// How many jobs are queued.
+    pub fn queue_len(&self) -> usize
+        ensures { result ≡ length (queue self.now.past) }
+    {
+        self.parts.crew.pool().queue_len()
+    }
+
+    /// The limit of workers; None before the first growth, unless it was set.
+    pub fn limit(&self) -> Option<usize>
+        ensures { result ≡ known_limit self.now.setting self.now.past }
+    {
+        self.parts.crew.pool().limit()
+    }
+
+    /// Whether the worker of this number has a job whose next action is that job's own to take: the step `Job` has an action.
+    pub fn has_job_action(&self, worker: usize) -> bool
+        ensures { result ≡ has_action self.now.past (step.Job worker) }
+    {
+        self.parts.has_job_action(worker)
+    }
+}
+
+// Takes a step, by the starts that the marks say.
+fn step_with<L: Ledger>(
+    parts: &mut Parts,
+    marks: &[bool],
+    blank: Blank,
+    step: Step,
+) -> Result<Event, AllocError>
+    requires name { blank.name ≡ L.name }
+    requires parts { blank.parts ≡ L.parts }
+    requires some { 0 < L.parts }
+    requires ready { IsReady parts.old }
+    ensures ok { IfOk result (λ e. StepDoes (IsMarked marks.now) step parts.old e parts.new) }
+    ensures err { OnErr result (parts.new ≡ parts.old) }
+{
+    let mut starter = MarkedStarts::<L>::new(marks, blank);
+    parts.step(step, &mut starter)
+}
+
+// Ends the parts, by starts that are all refused.
+fn close_with<L: Ledger>(parts: Parts, blank: Blank)
+    requires ready { IsReady parts }
+    requires name { blank.name ≡ L.name }
+    requires parts { blank.parts ≡ L.parts }
+    requires some { 0 < L.parts }
+{
+    let mut starter = NoStarts::<L>::new(blank);
+    parts.close(&mut starter);
+}
+
+/// Takes the steps, one after the other, and answers one event for each.
+///
+/// Err where there was no room for the world's own lists: the world is then where the steps so far left it. The room for a
+/// step and its event is had before the step acts.
+#[tactic(auto, using(crate::proofs::Grown::served, crate::proofs::Lawful::staffed_now))]
+pub fn run(world: &mut World, alloc: Global, steps: &[Step]) -> Result<Vec<Event>, AllocError>
+    ensures ok { IfOk result (λ events. Adds steps.now events.items world.old world.new) }
+    ensures err { OnErr result (StopsShort steps.now world.old world.new) }
+    ensures legal { Legal world.new.setting world.new.starts world.new.past }
+    ensures served { IsServed world.new.past }
+    ensures staffed { AreStaffed world.new.past }
+{
+    let outcome = take_all(world, alloc, steps);
+    // Opens the value, so that what it keeps is known.
+    let _ = &world.trace;
+    outcome
+}
+
+// Takes all steps.
+fn take_all(world: &mut World, alloc: Global, steps: &[Step]) -> Result<Vec<Event>, AllocError>
+    ensures ok { IfOk result (λ events. Adds steps.now events.items world.old world.new) }
+    ensures err { OnErr result (StopsShort steps.now world.old world.new) }
+{
+    if steps.is_empty() {
+        return Ok(Vec::new(alloc));
+    }
+    let mut events = Vec::with_capacity(alloc, steps.len())?;
+    for step in steps {
+        let event = world.step(*step)?;
+        let _ = events.push(event);
+    }
+    Ok(events)
+}
