@@ -76,7 +76,7 @@ ending_of history = record {
   workers = workers history.past;
   idle = idle history.past;
   queued = length (queue history.past);
-  limit = known_limit history.setting history.past
+  limit = known_limit history.setting history.past;
 }
 
 -- the events, each on a line, and the ending

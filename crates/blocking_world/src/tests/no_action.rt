@@ -1,11 +1,11 @@
 //! Steps that have no action.
 use super::world::{answer, counts, sees, world};
+use crate::world::World;
 use blocking_laws::step::Step::{
     Arrive, End, Io, Job, Late, OfTask, SetLimit, Spawn, Stray, Strike, Take, Wait,
 };
 use blocking_laws::step::TaskCall::{Cancel, Detach, Drop as Release, Poll};
 use blocking_laws::step::{Step, TaskCall};
-use crate::world::World;
 use std::alloc::AllocGlobal;
 use std::process::Abort;
 

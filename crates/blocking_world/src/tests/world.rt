@@ -1,10 +1,10 @@
 //! Worlds, step by step.
+use crate::world::{World, run};
 use blocking_laws::step::Step::{
     Arrive, End, Io, Job, Late, OfTask, SetLimit, Spawn, Stray, Sweep, Take, Wait,
 };
 use blocking_laws::step::TaskCall::{Cancel, Poll};
 use blocking_laws::step::{Answer, Step};
-use crate::world::{World, run};
 use std::alloc::AllocGlobal;
 use std::process::Abort;
 

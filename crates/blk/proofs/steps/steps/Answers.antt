@@ -11,6 +11,8 @@ returns g c =
     let lines = lines_of (string_bytes c.in_ok-text.text) in
     let text = string_bytes c.in_ok-played.field-0 in
     let shown = subst (λ setting. ShowsScript setting c.in_ok-script.script.starts.items c.in_ok-script.script.lines.items text) reads.1.setting c.in_ok-played.ensures in
-    let marked = subst (λ starts. ShowsScript (setting_in lines) starts c.in_ok-script.script.lines.items text) reads.1.starts shown in
-    (string_bytes c.in_ok-text.text, c.in_ok-text.ensures.0,
-    record { utf8 = c.in_ok-text.ensures.1; stand = reads.0; shown = subst (λ deeds. ShowsScript (setting_in lines) (marks_in lines) deeds text) reads.1.lines marked })
+    let marked = subst (λ starts. ShowsScript (setting_in lines) starts c.in_ok-script.script.lines.items text) reads.1.starts shown in (
+      string_bytes c.in_ok-text.text,
+      c.in_ok-text.ensures.0,
+      record { utf8 = c.in_ok-text.ensures.1; stand = reads.0; shown = subst (λ deeds. ShowsScript (setting_in lines) (marks_in lines) deeds text) reads.1.lines marked },
+    )
