@@ -107,7 +107,7 @@ legal setting marks =
 
 -- a new world is lawful
 pub begins_lawful : (setting : ℕ) (marks : List Bool) → 0 < setting → IsLawful setting marks (first_world setting) []
-begins_lawful setting marks positive = record { tied = tied setting positive; legal = legal setting marks; turns_are = refl }
+begins_lawful setting marks positive = record { tied = tied setting positive; legal = legal setting marks; holding = record { passes_are = refl; turns_are = refl; jobs_are = refl } }
 
 -- the same, of parts that are those of a new world
 pub begun : (setting : ℕ) (marks : List Bool) (w : Worlded) → w ≡ first_world setting → 0 < setting → IsLawful w.pool.counts.setting marks w []

@@ -18,7 +18,7 @@ use Rattle.blocking_world.proofs.Grown.{growth_after}
 use Rattle.blocking_world.proofs.Handing.{handed_after, turn_after}
 use Rattle.blocking_world.proofs.Tasking.{tasked_after}
 use Rattle.blocking_world.proofs.TaskLawful.{tasks_after, no_lost_wake}
-use Rattle.blocking_world.proofs.Staffing.{turns_after, staffed}
+use Rattle.blocking_world.proofs.Staffing.{holding_after, staffed}
 use Rattle.blocking_laws.specs.Staffed.{AreStaffed}
 use Rattle.blocking_world.proofs.Moving.{moved}
 use Rattle.blocking_world.proofs.Stepping.{step_after}
@@ -61,7 +61,7 @@ lawful_after setting marks w past move lawful may =
             tasks = tasks_after setting marks w past move lawful.tied may lawful.legal.tasks;
             wakes = (no_lost_wake setting (after w move) (moment_of w move ∷ past) tied, lawful.legal.wakes);
           };
-      turns_are = turns_after setting marks w past move lawful.tied tied may lawful.turns_are;
+      holding = holding_after setting marks w past move lawful.tied tied may lawful.holding;
     }
 
 -- the same, of a step as it was seen
@@ -85,4 +85,4 @@ same_setting setting marks w w' past step e lawful does = (stays_lawful setting 
 
 -- the workers of a lawful world are where they can be
 pub staffed_now : (setting : ℕ) (marks : List Bool) (w : Worlded) (past : List Moment) → IsLawful setting marks w past → AreStaffed past
-staffed_now setting marks w past lawful = staffed setting w past lawful.tied lawful.turns_are
+staffed_now setting marks w past lawful = staffed setting w past lawful.tied lawful.holding

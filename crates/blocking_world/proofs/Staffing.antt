@@ -12,9 +12,9 @@ use Rattle.blocking_laws.specs.Steps.{is_there, is_free}
 use Rattle.blocking_laws.specs.Turns.{hand}
 use Rattle.blocking_laws.specs.Staffed.{one_where, count_to, passes, turns, AreStaffed}
 use Rattle.blocking_world.specs.Worlds.{Worlded, CallPool, hand_at, with_hand, poll_of, answered, finished, given_up, woke}
-use Rattle.blocking_world.specs.Machine.{next_start, one_if_free, free_hands, wait_act, after_wait}
+use Rattle.blocking_world.specs.Machine.{next_start, one_if_free, free_hands, one_if_held, held_hands, wait_act, after_wait}
 use Rattle.blocking_world.specs.Moves.{Move, Idles, Begins, Calls, Arrives, TakesJob, TakesNone, IsAnswered, Finishes, GivesUp, CallsWaker, EndsTurn, HasWaited, SetsLimit, Sweeps, IsWoken, IsStruck, May, moment_of, after, finish_wakes, giving_up_wakes, first_stage, wait_step}
-use Rattle.blocking_world.specs.Ties.{HandAs, Handed, Tied}
+use Rattle.blocking_world.specs.Ties.{HandAs, Handed, Tied, Holding}
 use Rattle.blocking_world.specs.declared.call.CallJob.{CallJob}
 use Rattle.blocking_laws.specs.declared.event.Moment.{Moment}
 use Rattle.blocking_laws.specs.declared.event.Party.{Party}
@@ -33,10 +33,6 @@ use Rattle.blocking_world.proofs.Grown.{counts_are}
 
 -- ---- sums over a row of hands
 
-abbrev one_if_held : Hand → ℕ
-one_if_held (Holds held) = 1
-one_if_held _ = 0
-
 abbrev sum_of : (Hand → ℕ) → List Hand → ℕ
 sum_of one [] = 0
 sum_of one (h ∷ row) = one h + sum_of one row
@@ -45,6 +41,11 @@ sum_of one (h ∷ row) = one h + sum_of one row
 sum_free : (row : List Hand) → sum_of one_if_free row ≡ free_hands row
 sum_free [] = refl
 sum_free (h ∷ row) = ap (λ n. one_if_free h + n) (sum_free row)
+
+-- the sum of the turns is the count of the hands that hold jobs
+sum_held : (row : List Hand) → sum_of one_if_held row ≡ held_hands row
+sum_held [] = refl
+sum_held (h ∷ row) = ap (λ n. one_if_held h + n) (sum_held row)
 
 -- a sum after one hand has changed
 sum_set : (one : Hand → ℕ) (row : List Hand) (i : ℕ) (old new : Hand) → slice_get row i ≡ Some old → sum_of one (slice_set row i new) + one old ≡ sum_of one row + one new
@@ -97,8 +98,8 @@ held_tells (Holds held) there job tied = ap (λ j. one_where (is_some j)) tied.1
 seen_hand : (w : Worlded) (past : List Moment) (n : ℕ) (h : Hand) → Handed w past → slice_get w.hands n ≡ Some h → HandAs h (is_there past (n + 1)) (hand past (n + 1))
 seen_hand w past n h handed e = subst (λ g. HandAs g (is_there past (n + 1)) (hand past (n + 1))) (hand_from_place w.hands n h e) (handed.each (n + 1))
 
--- The passes are the free hands.
-pub passes_are : (setting : ℕ) (w : Worlded) (past : List Moment) → Tied setting w past → passes past ≡ free_hands w.hands
+-- the passes are the free hands
+passes_are : (setting : ℕ) (w : Worlded) (past : List Moment) → Tied setting w past → passes past ≡ free_hands w.hands
 passes_are setting w past t =
     ap (count_to (is_free past)) (sym t.counted.hands_are)
     ∙ count_is one_if_free (is_free past) w.hands (λ n h e. free_tells h (is_there past (n + 1)) (hand past (n + 1)) (seen_hand w past n h t.handed e))
@@ -110,12 +111,22 @@ turns_are setting w past t =
     ap (count_to (λ v. is_some (hand past v))) (sym t.counted.hands_are)
     ∙ count_is one_if_held (λ v. is_some (hand past v)) w.hands (λ n h e. held_tells h (is_there past (n + 1)) (hand past (n + 1)) (seen_hand w past n h t.handed e))
 
--- Where there are as many turns as running jobs, the workers are where they belong.
-pub staffed : (setting : ℕ) (w : Worlded) (past : List Moment) → Tied setting w past → turns past ≡ length (running past) → AreStaffed past
-staffed setting w past t same =
+-- What the workers hold is what was seen, where there is a turn for each running job.
+holding : (setting : ℕ) (w : Worlded) (past : List Moment) → Tied setting w past → turns past ≡ length (running past) → Holding w past
+holding setting w past t same =
+    record {
+      passes_are = sym (passes_are setting w past t);
+      turns_are = sym (turns_are setting w past t ∙ sum_held w.hands);
+      jobs_are = same;
+    }
+
+-- So the workers are where they belong.
+pub staffed : (setting : ℕ) (w : Worlded) (past : List Moment) → Tied setting w past → Holding w past → AreStaffed past
+staffed setting w past t held =
     let all_now = (counts_are setting w past t).0 in
     let idle_now = (counts_are setting w past t).1 in
-    let free = passes_are setting w past t in
+    let free = held.passes_are in
+    let same = held.jobs_are in
     let idle_free = t.handed.ready.idle in
     let idle_are = t.counted.idle_are in
     let arriving_are = t.counted.arriving_are in
@@ -203,17 +214,10 @@ held_after setting marks w past Sweeps t m same = same
 held_after setting marks w past (IsWoken s) t m same = same
 held_after setting marks w past (IsStruck s) t m same = same
 
--- Each move keeps as many turns as running jobs.
-pub turns_after : (setting : ℕ) (marks : List Bool) (w : Worlded) (past : List Moment) (move : Move) → Tied setting w past → Tied setting (after w move) (moment_of w move ∷ past)
-    → May (IsMarked marks) w move → turns past ≡ length (running past) → turns (moment_of w move ∷ past) ≡ length (running (moment_of w move ∷ past))
-turns_after setting marks w past move t later m same =
-    turns_are setting (after w move) (moment_of w move ∷ past) later
-    ∙ held_after setting marks w past move t m (sym (turns_are setting w past t) ∙ same)
-
--- In the beginning there are no turns.
-pub turns_first : turns [] ≡ length (running [])
-turns_first = refl
-
--- In the beginning there are no workers.
-pub staffed_first : AreStaffed []
-staffed_first = record { all_are = refl; idle_are = refl }
+-- Each move leaves the workers with what was seen.
+pub holding_after : (setting : ℕ) (marks : List Bool) (w : Worlded) (past : List Moment) (move : Move) → Tied setting w past → Tied setting (after w move) (moment_of w move ∷ past)
+    → May (IsMarked marks) w move → Holding w past → Holding (after w move) (moment_of w move ∷ past)
+holding_after setting marks w past move t later m held =
+    holding setting (after w move) (moment_of w move ∷ past) later
+    (turns_are setting (after w move) (moment_of w move ∷ past) later
+    ∙ held_after setting marks w past move t m (sym (turns_are setting w past t) ∙ held.jobs_are))

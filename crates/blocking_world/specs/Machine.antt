@@ -283,6 +283,15 @@ abbrev pub free_hands : List Hand → ℕ
 free_hands [] = 0
 free_hands (hand ∷ row) = one_if_free hand + free_hands row
 
+-- how many workers hold a job
+abbrev pub one_if_held : Hand → ℕ
+one_if_held (Holds held) = 1
+one_if_held _ = 0
+
+abbrev pub held_hands : List Hand → ℕ
+held_hands [] = 0
+held_hands (hand ∷ row) = one_if_held hand + held_hands row
+
 -- what is in a hand is a running job, of a task that is there
 pub record IsHeld (w : Worlded) (held : Held) : Type 0 where
   pub runs : is_running_as w.pool.jobs held.turn ≡ true

@@ -19,11 +19,11 @@ use Rattle.blocking_laws.specs.JobTable.{number, has_finished, has_given_up}
 use Rattle.blocking_laws.specs.Seats.{task_seat}
 use Rattle.blocking_laws.specs.TaskLaws.{is_gone, was_cancelled, is_let_go, is_in_time}
 use Rattle.blocking_laws.specs.Wakes.{is_waiting, was_woken}
-use Rattle.blocking_laws.specs.Staffed.{turns}
+use Rattle.blocking_laws.specs.Staffed.{passes, turns}
 use Rattle.blocking_laws.specs.Steps.{is_there}
 use Rattle.blocking_world.specs.Worlds.{Worlded, new_call, hand_at, has_let_go}
 use Rattle.blocking_laws.specs.Legal.{Legal}
-use Rattle.blocking_world.specs.Machine.{IsReady}
+use Rattle.blocking_world.specs.Machine.{IsReady, free_hands, held_hands}
 use Rattle.blocking_world.specs.declared.call.CallJob.{CallJob}
 use Rattle.blocking_laws.specs.declared.event.Act.{Act}
 use Rattle.blocking_laws.specs.declared.event.Act.TheVariants.{Answered, Finished, GaveUp, HolderWoken}
@@ -246,9 +246,14 @@ pub record Tied (setting : ℕ) (w : Worlded) (past : List Moment) : Type 0 wher
   pub handed : Handed w past
   pub tasked : Tasked w past
 
+-- What the workers hold: as many passes and as many turns as were seen to be held, and one turn for each running job.
+pub record Holding (w : Worlded) (past : List Moment) : Type 0 where
+  pub passes_are : free_hands w.hands ≡ passes past
+  pub turns_are : held_hands w.hands ≡ turns past
+  pub jobs_are : turns past ≡ length (running past)
+
 -- what every world keeps: its parts hang together with what was seen, and what was seen is legal
 pub record IsLawful (setting : ℕ) (marks : List Bool) (w : Worlded) (past : List Moment) : Type 0 where
   pub tied : Tied setting w past
   pub legal : Legal setting marks past
-  -- as many workers have a turn as jobs run
-  pub turns_are : turns past ≡ length (running past)
+  pub holding : Holding w past

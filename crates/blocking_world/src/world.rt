@@ -48,7 +48,8 @@ impl World {
     /// A world in which nothing has happened. The setting is the text of a limit, and the starts say which starts of workers
     /// are refused: the first mark is that of start 1, and after the marks none is. Takes no memory.
     pub fn new(alloc: Global, setting: Option<&str>, starts: Vec<bool>) -> World
-        ensures { result ≡ record { setting = limit_of_setting (option_map (λ text. text.now) setting.entry); starts = starts.items; past = [] } }
+        ensures begins { result ≡ record { setting = limit_of_setting (option_map (λ text. text.now) setting.entry); starts = starts.items; past = [] } }
+        ensures legal { Legal result.setting result.starts result.past }
     {
         World {
             parts: Parts::new(alloc, setting),
