@@ -1,10 +1,10 @@
 -- Sweeps: jobs that are swept one after the other, and what they come to together.
-use Rattle.std.proofs.Common.{◌≡◌, ◌≢◌, ◌<◌, ℕ, arith, Bool, true, false, cond, eqb, not, ◌||◌, ◌&&◌, List, [], ◌∷◌, ◌++◌, length, filter, Option, Some, None, is_some, IsSome, option_map, refl, sym, ap, ◌∙◌, subst, inl, inr}
-use Rattle.std.proofs.lemmas.Bool.{eq-eqb, ne_eqb, eqb-true, eqb-false, cases_eq, or_left, or_right, or_parts, and_parts, false≢true}
+use Rattle.std.proofs.Common.{◌≡◌, ◌≢◌, ◌<◌, ℕ, arith, Bool, true, false, cond, eqb, ◌||◌, ◌&&◌, List, [], ◌∷◌, ◌++◌, length, filter, Option, Some, None, is_some, IsSome, option_map, refl, sym, ap, ◌∙◌, subst, inl, inr}
+use Rattle.std.proofs.lemmas.Bool.{eq-eqb, ne_eqb, cases_eq, or_left, or_right, and_parts, false≢true}
 use Rattle.std.proofs.lemmas.List.{append-nil, append_assoc}
 use Rattle.std.specs.FinMap.{get as at, insert}
 use Rattle.blocking_core.specs.Chain.{is_in, IsOnce, first_of, rest_after}
-use Rattle.blocking_core.specs.Jobs.{Job, Jobs, JobNumber, is_parked, is_parked_job, if_at, job_of, standing_of, queued_again, amend, all_queued_again}
+use Rattle.blocking_core.specs.Jobs.{Job, Jobs, JobNumber, is_parked, is_parked_job, if_at, job_of, queued_again, amend, all_queued_again}
 use Rattle.blocking_core.specs.Sweeps.{is_due, swept}
 use Rattle.blocking_core.specs.Tables.{Table, Becomes, IsNumberOf, IsAsked, SweepsOne, SweepsAll}
 use Rattle.blocking_core.specs.declared.pool.standing.Standing.{Standing}

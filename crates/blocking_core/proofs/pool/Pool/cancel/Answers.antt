@@ -1,4 +1,4 @@
-use Rattle.std.proofs.Common.{◌≡◌, refl, sym, ap, ◌∙◌, Some}
+use Rattle.std.proofs.Common.{refl, sym, ap, ◌∙◌, Some}
 use Rattle.blocking_core.specs.Jobs.{standing_of, cancelled}
 use Rattle.blocking_core.specs.declared.pool.standing.Standing.TheVariants.{Parked}
 use Rattle.blocking_core.proofs.PoolLemmas.{marked_whole, cancelled_stands}

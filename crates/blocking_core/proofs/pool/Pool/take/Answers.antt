@@ -1,5 +1,4 @@
 use Rattle.std.proofs.Common.{◌<◌, sym, subst, ap, ◌∙◌}
-use Rattle.blocking_core.specs.Counts.{busier}
 use Rattle.blocking_core.specs.Growth.{grown}
 use Rattle.blocking_core.proofs.PoolLemmas.{taken_whole}
 use Rattle.blocking_core.proofs.pool.Pool.take.Goals as goal

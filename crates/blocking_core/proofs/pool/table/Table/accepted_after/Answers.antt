@@ -1,4 +1,4 @@
-use Rattle.std.proofs.Common.{◌≡◌, sym, ap, ◌∙◌, option_map}
+use Rattle.std.proofs.Common.{◌≡◌, ap, ◌∙◌, option_map}
 use Rattle.slab.specs.Slab.{get}
 use Rattle.blocking_core.specs.Chain.{rest_after}
 use Rattle.blocking_core.proofs.RollLemmas.{numbered, some_job, is_accepted, among_rest, rest_is}

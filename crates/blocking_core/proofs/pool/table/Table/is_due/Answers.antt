@@ -1,4 +1,4 @@
-use Rattle.std.proofs.Common.{sym, ◌∙◌}
+use Rattle.std.proofs.Common.{sym}
 use Rattle.blocking_core.proofs.RollLemmas.{some_job, not_vacant, found_there, unasked, asked, parked_held}
 use Rattle.blocking_core.proofs.pool.table.Table.is_due.Goals as goal
 

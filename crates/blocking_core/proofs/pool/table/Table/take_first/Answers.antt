@@ -1,4 +1,4 @@
-use Rattle.std.proofs.Common.{◌≡◌, sym, ◌∙◌, Some}
+use Rattle.std.proofs.Common.{sym, ◌∙◌, Some}
 use Rattle.slab.specs.Slab.{with_value}
 use Rattle.blocking_core.specs.Tables.{IsKept, TakesFirst, table_of}
 use Rattle.blocking_core.proofs.TableLemmas.{front_queued, queued_held}
