@@ -346,7 +346,7 @@ fn new_world_ends(rt: HostRuntime) {
 }
 
 #[test]
-fn world_with_a_running_an_idle_and_a_queued_ends(rt: HostRuntime) {
+fn world_ends_with_jobs_running_and_queued(rt: HostRuntime) {
     let mut ends = world(&rt, Some("3"), &[]);
     sees(
         &rt,

@@ -19,7 +19,7 @@ fn sees_nothing<R: AllocGlobal + Abort>(rt: &R, world: &mut World, steps: &[Step
     }
 }
 
-// Steps of whom nobody knows, and a limit that is none.
+// Steps of those whom nobody knows, and a limit that is none.
 const STRANGERS: [Step; 23] = [
     OfTask(9, Poll),
     OfTask(9, Cancel),
@@ -44,6 +44,17 @@ const STRANGERS: [Step; 23] = [
     Strike(0),
     Strike(5),
     Strike(u64::MAX),
+];
+
+// Steps of the first worker, which has no action before it arrives and after it stops.
+const ABSENT_WORKER: [Step; 7] = [
+    Take(1),
+    Job(1),
+    Io(1, Number(1)),
+    End(1),
+    Wait(1),
+    Late(1),
+    Arrive,
 ];
 
 // A step in the life of a call, and steps that have no action after it.
@@ -120,19 +131,8 @@ const LIFE: [Stage; 8] = [
     Stage {
         step: Late(1),
         text: "stopped 1",
-        futile: &GONE_WORKER,
+        futile: &ABSENT_WORKER,
     },
-];
-
-// Steps of a worker that isn't there, though no stranger.
-const GONE_WORKER: [Step; 7] = [
-    Take(1),
-    Job(1),
-    Io(1, Number(1)),
-    End(1),
-    Wait(1),
-    Late(1),
-    Arrive,
 ];
 
 #[test]
@@ -151,7 +151,7 @@ fn strangers_have_no_action(rt: HostRuntime) {
 #[test]
 fn steps_out_of_turn_have_no_action(rt: HostRuntime) {
     let mut world = world(&rt, None, &[]);
-    sees_nothing(&rt, &mut world, &GONE_WORKER);
+    sees_nothing(&rt, &mut world, &ABSENT_WORKER);
     assert_eq!(rt; counts(&world), (0, 0, 0, None));
     for stage in LIFE {
         sees(&rt, &mut world, &[(stage.step, stage.text)]);

@@ -55,7 +55,7 @@ fn works<R: AllocGlobal + Abort>(rt: &R, world: &mut World, worker: usize, texts
 }
 
 #[test]
-fn refused_start(rt: HostRuntime) {
+fn first_start_is_refused(rt: HostRuntime) {
     let mut world = world(&rt, None, &[true]);
     sees(&rt, &mut world, &[(Spawn, "refused worker -1")]);
     assert_eq!(rt; counts(&world), (0, 0, 0, Some(1)));
@@ -189,7 +189,7 @@ fn counts_of_a_call(rt: HostRuntime) {
 }
 
 #[test]
-fn settings_and_limits(rt: HostRuntime) {
+fn limit_follows_from_the_setting(rt: HostRuntime) {
     for (setting, limit) in [
         (None, 500),
         (Some("3"), 3),
@@ -202,6 +202,10 @@ fn settings_and_limits(rt: HostRuntime) {
         assert_eq!(rt; counts(&world), (1, 1, 1, Some(limit)), "{setting:?}");
         world.close();
     }
+}
+
+#[test]
+fn limit_by_step_may_exceed_every_setting(rt: HostRuntime) {
     let mut world = world(&rt, Some("4"), &[]);
     sees(&rt, &mut world, &[(SetLimit(20000), "limit 20000")]);
     assert_eq!(rt; counts(&world), (0, 0, 0, Some(20000)));
