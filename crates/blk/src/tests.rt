@@ -10,9 +10,15 @@ use std::alloc::AllocError;
 use std::env::{Env, FillError};
 use std::io;
 use std::io::{ErrorKind, Read, Write};
+use std::process::Abort;
 use std::test::Fail;
 
 const USAGE: &str = "usage: blk call N | blk limit [TEXT] | blk steps | blk copy\n";
+
+// The words of a call whose answer is 42, and of a script.
+const CALL: [Option<&str>; 2] = [Some("call"), Some("41")];
+
+const STEPS: [Option<&str>; 1] = [Some("steps")];
 
 // A writer that takes no byte.
 #[derive(Drop)]
@@ -89,10 +95,11 @@ impl Env for Arguments {
 }
 
 // The status of a command with these words.
-fn status<R: Host, W: Write, F: Write>(
-    rt: R,
+fn status<H: Host, R: Read, W: Write, F: Write>(
+    rt: H,
     words: &[Option<&str>],
     setting: Option<&str>,
+    input: &mut R,
     output: &mut W,
     faults: &mut F,
 ) -> Result<u8, AllocError> {
@@ -104,19 +111,66 @@ fn status<R: Host, W: Write, F: Write>(
         };
         owned.push(word)?;
     }
-    let mut input = b"".as_slice();
-    Ok(command(rt, owned.as_slice(), setting, &mut input, output, faults))
+    Ok(command(rt, owned.as_slice(), setting, input, output, faults))
 }
 
-// The status of `blk steps` on this input.
-fn steps_status<H: Host, R: Read, W: Write, F: Write>(
+// What came of a command: its status, what it wrote, and what it told of faults.
+#[derive(Drop)]
+struct Outcome {
+    status: u8,
+    output: Vec<u8>,
+    faults: Vec<u8>,
+}
+
+impl Outcome {
+    fn parts(&self) -> (u8, &[u8], &[u8]) {
+        (self.status, self.output.as_slice(), self.faults.as_slice())
+    }
+}
+
+fn outcome_of<H: Host, R: Read>(
     rt: H,
+    words: &[Option<&str>],
+    setting: Option<&str>,
     input: &mut R,
+) -> Result<Outcome, AllocError> {
+    let mut output = Vec::new(rt.alloc());
+    let mut faults = Vec::new(rt.alloc());
+    let status = status(rt, words, setting, input, &mut output, &mut faults)?;
+    Ok(Outcome {
+        status,
+        output,
+        faults,
+    })
+}
+
+// The parts of an outcome that is this text, with no fault to tell.
+fn answer(text: &str) -> (u8, &[u8], &[u8]) {
+    (0, text.as_bytes(), b"".as_slice())
+}
+
+// The parts of an outcome with nothing written, where this text is told of the fault.
+fn fault(status: u8, text: &str) -> (u8, &[u8], &[u8]) {
+    (status, b"".as_slice(), text.as_bytes())
+}
+
+// A command with these words can't write to this output, and tells that.
+fn fails_to_write<H: Host + Abort, W: Write>(
+    rt: H,
+    words: &[Option<&str>],
+    input: &str,
     output: &mut W,
-    faults: &mut F,
-) -> Result<u8, AllocError> {
-    let word = Some(String::from_str(rt.alloc(), "steps")?);
-    Ok(command(rt, &[word], None, input, output, faults))
+) -> Result<(), Fail> {
+    let mut faults = Vec::new(rt.alloc());
+    let mut bytes = input.as_bytes();
+    let status = status(rt, words, None, &mut bytes, output, &mut faults)?;
+    assert_eq!(rt; status, 1, "at {words:?}");
+    assert_eq!(rt;
+        faults.as_slice(),
+        b"blk: writing failed\n".as_slice(),
+        "at {words:?}"
+    );
+    Ok(())
 }
 
 #[test]
@@ -127,16 +181,9 @@ fn call_answers_the_next_number(rt: HostRuntime) -> Result<(), Fail> {
         ("007", "8\n"),
         ("4294967295", "4294967296\n"),
     ] {
-        let mut output = Vec::new(rt.alloc());
-        let mut faults = Vec::new(rt.alloc());
         let words = [Some("call"), Some(number)];
-        assert_eq!(rt;
-            status(rt, &words, None, &mut output, &mut faults)?,
-            0,
-            "at {number}"
-        );
-        assert_eq!(rt; output.as_slice(), line.as_bytes(), "at {number}");
-        assert!(rt; faults.is_empty(), "at {number}");
+        let outcome = outcome_of(rt, &words, None, &mut b"".as_slice())?;
+        assert_eq!(rt; outcome.parts(), answer(line), "at {number}");
     }
     Ok(())
 }
@@ -162,38 +209,38 @@ fn wrong_words_are_told_the_usage(rt: HostRuntime) -> Result<(), Fail> {
         &[Some("steps"), Some("1")],
         &[Some("steps"), None],
     ];
-    for (place, words) in wrong.iter().enumerate() {
-        let mut output = Vec::new(rt.alloc());
-        let mut faults = Vec::new(rt.alloc());
-        assert_eq!(rt;
-            status(rt, words, None, &mut output, &mut faults)?,
-            2,
-            "at {place}"
-        );
-        assert!(rt; output.is_empty(), "at {place}");
-        assert_eq!(rt; faults.as_slice(), USAGE.as_bytes(), "at {place}");
+    for words in wrong {
+        let outcome = outcome_of(rt, words, None, &mut b"".as_slice())?;
+        assert_eq!(rt; outcome.parts(), fault(2, USAGE), "at {words:?}");
     }
     Ok(())
 }
 
 #[test]
-fn failed_writes(rt: HostRuntime) -> Result<(), Fail> {
-    let call = [Some("call"), Some("41")];
-    let line = b"blk: writing failed\n";
-    let mut faults = Vec::new(rt.alloc());
-    assert_eq!(rt; status(rt, &call, None, &mut Full, &mut faults)?, 1);
-    assert_eq!(rt; faults.as_slice(), line.as_slice());
-    let mut faults = Vec::new(rt.alloc());
-    assert_eq!(rt; status(rt, &call, None, &mut Lossy, &mut faults)?, 1);
-    assert_eq!(rt; faults.as_slice(), line.as_slice());
-    // What can't be told changes nothing else.
+fn failed_writes_are_told(rt: HostRuntime) -> Result<(), Fail> {
+    fails_to_write(rt, &CALL, "", &mut Full)?;
+    fails_to_write(rt, &CALL, "", &mut Lossy)?;
+    fails_to_write(rt, &STEPS, "limit 3", &mut Full)?;
+    fails_to_write(rt, &STEPS, "limit 3", &mut Lossy)
+}
+
+#[test]
+fn untold_faults_change_nothing_else(rt: HostRuntime) -> Result<(), Fail> {
+    let mut input = b"".as_slice();
     let mut output = Vec::new(rt.alloc());
+    let wrong = [Some("call")];
     assert_eq!(rt;
-        status(rt, &[Some("call")], None, &mut output, &mut Full)?,
+        status(rt, &wrong, None, &mut input, &mut output, &mut Full)?,
         2
     );
-    assert_eq!(rt; status(rt, &call, None, &mut Full, &mut Full)?, 1);
-    assert_eq!(rt; status(rt, &call, None, &mut output, &mut Full)?, 0);
+    assert_eq!(rt;
+        status(rt, &CALL, None, &mut input, &mut Full, &mut Full)?,
+        1
+    );
+    assert_eq!(rt;
+        status(rt, &CALL, None, &mut input, &mut output, &mut Full)?,
+        0
+    );
     assert_eq!(rt; output.as_slice(), b"42\n".as_slice());
     Ok(())
 }
@@ -211,22 +258,18 @@ fn words_follow_the_name(rt: HostRuntime) -> Result<(), Fail> {
 #[test]
 fn limit_answers_what_a_text_means(rt: HostRuntime) -> Result<(), Fail> {
     for (text, line) in [("100", "100\n"), ("", "500\n"), ("50000", "10000\n")] {
-        let mut output = Vec::new(rt.alloc());
-        let mut faults = Vec::new(rt.alloc());
         let words = [Some("limit"), Some(text)];
-        assert_eq!(rt; status(rt, &words, Some("7"), &mut output, &mut faults)?, 0);
-        assert_eq!(rt; output.as_slice(), line.as_bytes(), "at {text:?}");
-        assert!(rt; faults.is_empty());
+        let outcome = outcome_of(rt, &words, Some("7"), &mut b"".as_slice())?;
+        assert_eq!(rt; outcome.parts(), answer(line), "at {text:?}");
     }
+    Ok(())
+}
+
+#[test]
+fn limit_alone_answers_what_the_setting_means(rt: HostRuntime) -> Result<(), Fail> {
     for (setting, line) in [(Some("7"), "7\n"), (None, "500\n")] {
-        let mut output = Vec::new(rt.alloc());
-        let mut faults = Vec::new(rt.alloc());
-        assert_eq!(rt;
-            status(rt, &[Some("limit")], setting, &mut output, &mut faults)?,
-            0
-        );
-        assert_eq!(rt; output.as_slice(), line.as_bytes());
-        assert!(rt; faults.is_empty());
+        let outcome = outcome_of(rt, &[Some("limit")], setting, &mut b"".as_slice())?;
+        assert_eq!(rt; outcome.parts(), answer(line), "at {setting:?}");
     }
     Ok(())
 }
@@ -238,6 +281,10 @@ fn steps_show_what_is_seen(rt: HostRuntime) -> Result<(), Fail> {
         (
             "limit 3",
             "limit 3\nend workers 0 idle 0 queued 0 limit 3\n",
+        ),
+        (
+            "take 1",
+            "nothing\nend workers 0 idle 0 queued 0 limit none\n",
         ),
         (
             "# a comment\n\ntake 1\n",
@@ -253,16 +300,8 @@ fn steps_show_what_is_seen(rt: HostRuntime) -> Result<(), Fail> {
             nothing\nstopped 1\nend workers 0 idle 0 queued 0 limit 1\n",
         ),
     ] {
-        let mut output = Vec::new(rt.alloc());
-        let mut faults = Vec::new(rt.alloc());
-        let mut input = script.as_bytes();
-        assert_eq!(rt;
-            steps_status(rt, &mut input, &mut output, &mut faults)?,
-            0,
-            "of {script:?}"
-        );
-        assert_eq!(rt; output.as_slice(), shown.as_bytes(), "of {script:?}");
-        assert!(rt; faults.is_empty(), "of {script:?}");
+        let outcome = outcome_of(rt, &STEPS, None, &mut script.as_bytes())?;
+        assert_eq!(rt; outcome.parts(), answer(shown), "of {script:?}");
     }
     Ok(())
 }
@@ -279,6 +318,7 @@ fn lines_that_are_no_steps(rt: HostRuntime) -> Result<(), Fail> {
         ("take 1 \n", "line 1: not a step\n"),
         ("spawn\r\n", "line 1: not a step\n"),
         (" \n", "line 1: not a step\n"),
+        ("\tspawn\n", "line 1: not a step\n"),
         ("setting\n", "line 1: not a step\n"),
         ("starts \n", "line 1: not a step\n"),
         ("starts +x\n", "line 1: not a step\n"),
@@ -287,44 +327,28 @@ fn lines_that_are_no_steps(rt: HostRuntime) -> Result<(), Fail> {
         ("spawn\nsetting 1\n", "line 2: not a step\n"),
         ("\u{feff}spawn\n", "line 1: not a step\n"),
     ] {
-        let mut output = Vec::new(rt.alloc());
-        let mut faults = Vec::new(rt.alloc());
-        let mut input = script.as_bytes();
-        assert_eq!(rt;
-            steps_status(rt, &mut input, &mut output, &mut faults)?,
-            2,
-            "of {script:?}"
-        );
-        assert!(rt; output.is_empty(), "of {script:?}");
-        assert_eq!(rt; faults.as_slice(), line.as_bytes(), "of {script:?}");
+        let outcome = outcome_of(rt, &STEPS, None, &mut script.as_bytes())?;
+        assert_eq!(rt; outcome.parts(), fault(2, line), "of {script:?}");
+    }
+    Ok(())
+}
+
+// What isn't UTF-8 is no text, whatever its lines are.
+#[test]
+fn input_that_is_no_text_is_told(rt: HostRuntime) -> Result<(), Fail> {
+    for mut input in [b"foo\n\xff".as_slice(), b"limit 3\n\xff".as_slice()] {
+        let outcome = outcome_of(rt, &STEPS, None, &mut input)?;
+        assert_eq!(rt; outcome.parts(), fault(2, "blk: not a text\n"));
     }
     Ok(())
 }
 
 #[test]
-fn failed_scripts(rt: HostRuntime) -> Result<(), Fail> {
-    // What isn't UTF-8 is no text, whatever its lines are.
-    let mut output = Vec::new(rt.alloc());
-    let mut faults = Vec::new(rt.alloc());
-    let mut input = b"foo\n\xff".as_slice();
-    assert_eq!(rt; steps_status(rt, &mut input, &mut output, &mut faults)?, 2);
-    assert!(rt; output.is_empty());
-    assert_eq!(rt; faults.as_slice(), b"blk: not a text\n".as_slice());
-    // A read that fails in the midst.
-    let mut faults = Vec::new(rt.alloc());
+fn failed_read_is_told(rt: HostRuntime) -> Result<(), Fail> {
     let mut input = Broken { is_read: false };
-    assert_eq!(rt; steps_status(rt, &mut input, &mut output, &mut faults)?, 1);
-    assert!(rt; output.is_empty());
-    assert_eq!(rt; faults.as_slice(), b"blk: reading failed\n".as_slice());
-    // Writes that fail, at once and in the end.
-    let mut faults = Vec::new(rt.alloc());
-    let mut input = b"limit 3".as_slice();
-    assert_eq!(rt; steps_status(rt, &mut input, &mut Full, &mut faults)?, 1);
-    assert_eq!(rt; faults.as_slice(), b"blk: writing failed\n".as_slice());
-    let mut faults = Vec::new(rt.alloc());
-    let mut input = b"limit 3".as_slice();
-    assert_eq!(rt; steps_status(rt, &mut input, &mut Lossy, &mut faults)?, 1);
-    assert_eq!(rt; faults.as_slice(), b"blk: writing failed\n".as_slice());
+    let outcome = outcome_of(rt, &STEPS, None, &mut input)?;
+    assert_eq!(rt; outcome.parts(), fault(1, "blk: reading failed\n"));
+    assert!(rt; input.is_read);
     Ok(())
 }
 
@@ -362,31 +386,36 @@ fn scripts_are_read(rt: HostRuntime) -> Result<(), Fail> {
             Err(_) => assert!(rt; false, "of {text:?}"),
         }
     }
-    assert_eq!(rt;
-        read_script(rt.alloc(), "spawn\nspawn 1\n").err(),
-        Some(ScriptFault::NotAStep(2))
-    );
     Ok(())
 }
 
 #[test]
-fn stored_scripts(rt: HostRuntime) -> Result<(), Fail> {
+fn first_line_that_is_no_step_is_counted(rt: HostRuntime) {
+    assert_eq!(rt;
+        read_script(rt.alloc(), "spawn\nspawn 1\n").err(),
+        Some(ScriptFault::NotAStep(2))
+    );
+}
+
+// What a script of a bundle is to be answered: a status, and what is shown or told.
+fn stored_answer(text: &str) -> Option<(u8, &[u8], &[u8])> {
+    match text.split_once('\n')? {
+        ("0", shown) => Some(answer(shown)),
+        ("2", line) => Some(fault(2, line)),
+        _ => None,
+    }
+}
+
+#[test]
+fn stored_scripts_are_answered_as_stored(rt: HostRuntime) -> Result<(), Fail> {
     let mut count = 0u32;
     for bundle in [FIRST, SECOND, THIRD, FOURTH, FIFTH, SIXTH, SEVENTH] {
         for case in bundle.split("====\n").skip(1) {
-            let Some((script, answer)) = case.split_once("---- ") else {
+            let Some((script, told)) = case.split_once("---- ") else {
                 continue;
             };
-            let Some((status, told)) = answer.split_once('\n') else {
-                continue;
-            };
-            let mut output = Vec::new(rt.alloc());
-            let mut faults = Vec::new(rt.alloc());
-            let mut input = script.as_bytes();
-            let answered = steps_status(rt, &mut input, &mut output, &mut faults)?;
-            let shown = if answered == 0 { output } else { faults };
-            assert_eq!(rt; status.parse(), Ok(answered), "of {script}");
-            assert_eq!(rt; shown.as_slice(), told.as_bytes(), "of {script}");
+            let outcome = outcome_of(rt, &STEPS, None, &mut script.as_bytes())?;
+            assert_eq!(rt; Some(outcome.parts()), stored_answer(told), "of {script}");
             count = count.saturating_add(1);
         }
     }

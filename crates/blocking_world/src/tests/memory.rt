@@ -1,9 +1,10 @@
 //! Worlds whose memory is refused. `rt try --test --fail-alloc N` refuses the Nth piece that a test asks for: the test here
 //! ends as without, whichever it is, and says what came of it.
-use super::world::{answer, counts};
+use super::world::counts;
 use crate::world::{World, run};
 use blocking_core::pool::Refusal;
 use blocking_laws::event::{Act, Event};
+use blocking_laws::step::Answer::Number;
 use blocking_laws::step::Step;
 use blocking_laws::step::Step::{Arrive, End, Io, Job, Late, OfTask, Spawn, Take};
 use blocking_laws::step::TaskCall::Poll;
@@ -66,7 +67,7 @@ fn each_piece_refused(rt: HostRuntime) {
         (OfTask(0, Poll), "waits"),
         (Arrive, "arrived 1"),
         (Take(1), "took 1"),
-        (Io(1, answer(5)), "answered 5"),
+        (Io(1, Number(5)), "answered 5"),
         (Job(1), "finished wake owner"),
         (Job(1), "delivered owner"),
         (End(1), "ended 1 done"),

@@ -1,11 +1,12 @@
 //! Steps that have no action.
-use super::world::{answer, counts, sees, world};
+use super::world::{counts, sees, world};
 use crate::world::World;
+use blocking_laws::step::Answer::Number;
+use blocking_laws::step::Step;
 use blocking_laws::step::Step::{
     Arrive, End, Io, Job, Late, OfTask, SetLimit, Spawn, Stray, Strike, Take, Wait,
 };
 use blocking_laws::step::TaskCall::{Cancel, Detach, Drop as Release, Poll};
-use blocking_laws::step::{Step, TaskCall};
 use std::alloc::AllocGlobal;
 use std::process::Abort;
 
@@ -18,93 +19,144 @@ fn sees_nothing<R: AllocGlobal + Abort>(rt: &R, world: &mut World, steps: &[Step
     }
 }
 
-const CALLS: [TaskCall; 4] = [Poll, Cancel, Detach, Release];
+// Steps of those whom nobody knows, and a limit that is none.
+const STRANGERS: [Step; 23] = [
+    OfTask(9, Poll),
+    OfTask(9, Cancel),
+    OfTask(usize::MAX, Detach),
+    OfTask(9, Release),
+    Take(0),
+    Take(9),
+    Job(0),
+    Job(9),
+    Io(0, Number(1)),
+    Io(9, Number(1)),
+    End(0),
+    End(9),
+    Wait(0),
+    Wait(9),
+    Late(0),
+    Late(usize::MAX),
+    SetLimit(0),
+    Stray(0),
+    Stray(5),
+    Stray(u64::MAX),
+    Strike(0),
+    Strike(5),
+    Strike(u64::MAX),
+];
+
+// Steps of the first worker, which has no action before it arrives and after it stops.
+const ABSENT_WORKER: [Step; 7] = [
+    Take(1),
+    Job(1),
+    Io(1, Number(1)),
+    End(1),
+    Wait(1),
+    Late(1),
+    Arrive,
+];
+
+// A step in the life of a call, and steps that have no action after it.
+#[derive(Clone, Copy)]
+struct Stage {
+    step: Step,
+    text: &'static str,
+    futile: &'static [Step],
+}
+
+// The life of a call, from its entry to the end of its worker.
+const LIFE: [Stage; 8] = [
+    Stage {
+        step: Spawn,
+        text: "accepted 1 +1",
+        futile: &[Take(1), Strike(1), Stray(2), OfTask(1, Poll)],
+    },
+    Stage {
+        step: Arrive,
+        text: "arrived 1",
+        futile: &[Job(1), Io(1, Number(1)), End(1), Arrive, Strike(1)],
+    },
+    Stage {
+        step: Take(1),
+        text: "took 1",
+        futile: &[Take(1), Wait(1), Late(1), Job(1), End(1), Strike(1)],
+    },
+    Stage {
+        step: Io(1, Number(3)),
+        text: "answered 3",
+        futile: &[
+            Take(1),
+            Wait(1),
+            Late(1),
+            Io(1, Number(4)),
+            End(1),
+            Strike(1),
+        ],
+    },
+    Stage {
+        step: Job(1),
+        text: "finished",
+        futile: &[
+            Take(1),
+            Wait(1),
+            Late(1),
+            Job(1),
+            Io(1, Number(4)),
+            Strike(1),
+        ],
+    },
+    Stage {
+        step: End(1),
+        text: "ended 1 done",
+        futile: &[Job(1), Io(1, Number(1)), End(1), Arrive, Strike(1)],
+    },
+    Stage {
+        step: OfTask(0, Poll),
+        text: "got 3",
+        futile: &[
+            Job(1),
+            Io(1, Number(1)),
+            End(1),
+            OfTask(0, Poll),
+            Strike(1),
+            OfTask(0, Cancel),
+            Strike(1),
+            OfTask(0, Detach),
+            Strike(1),
+            OfTask(0, Release),
+            Strike(1),
+        ],
+    },
+    Stage {
+        step: Late(1),
+        text: "stopped 1",
+        futile: &ABSENT_WORKER,
+    },
+];
 
 #[test]
-fn steps_without_action(rt: HostRuntime) {
+fn strangers_have_no_action(rt: HostRuntime) {
     let mut world = world(&rt, None, &[]);
-    // whom nobody knows
-    let strangers = [
-        OfTask(9, Poll),
-        OfTask(9, Cancel),
-        OfTask(usize::MAX, Detach),
-        OfTask(9, Release),
-        Take(0),
-        Take(9),
-        Job(0),
-        Job(9),
-        Io(0, answer(1)),
-        Io(9, answer(1)),
-        End(0),
-        End(9),
-        Wait(0),
-        Wait(9),
-        Late(0),
-        Late(usize::MAX),
-        SetLimit(0),
-        Stray(0),
-        Stray(5),
-        Stray(u64::MAX),
-        Strike(0),
-        Strike(5),
-        Strike(u64::MAX),
-    ];
-    let idle_worker = [Job(1), Io(1, answer(1)), End(1)];
-    let busy_worker = [Take(1), Wait(1), Late(1)];
-    let gone_worker = [
-        Take(1),
-        Job(1),
-        Io(1, answer(1)),
-        End(1),
-        Wait(1),
-        Late(1),
-        Arrive,
-    ];
-    sees_nothing(&rt, &mut world, &strangers);
-    sees_nothing(&rt, &mut world, &gone_worker);
+    sees_nothing(&rt, &mut world, &STRANGERS);
     assert_eq!(rt; counts(&world), (0, 0, 0, None));
-
-    sees(&rt, &mut world, &[(Spawn, "accepted 1 +1")]);
-    sees_nothing(&rt, &mut world, &strangers);
-    sees_nothing(
-        &rt,
-        &mut world,
-        &[Take(1), Strike(1), Stray(2), OfTask(1, Poll)],
-    );
-
-    sees(&rt, &mut world, &[(Arrive, "arrived 1")]);
-    sees_nothing(&rt, &mut world, &strangers);
-    sees_nothing(&rt, &mut world, &idle_worker);
-    sees_nothing(&rt, &mut world, &[Arrive, Strike(1)]);
-
-    sees(&rt, &mut world, &[(Take(1), "took 1")]);
-    sees_nothing(&rt, &mut world, &strangers);
-    sees_nothing(&rt, &mut world, &busy_worker);
-    sees_nothing(&rt, &mut world, &[Job(1), End(1), Strike(1)]);
-
-    sees(&rt, &mut world, &[(Io(1, answer(3)), "answered 3")]);
-    sees_nothing(&rt, &mut world, &strangers);
-    sees_nothing(&rt, &mut world, &busy_worker);
-    sees_nothing(&rt, &mut world, &[Io(1, answer(4)), End(1), Strike(1)]);
-
-    sees(&rt, &mut world, &[(Job(1), "finished")]);
-    sees_nothing(&rt, &mut world, &busy_worker);
-    sees_nothing(&rt, &mut world, &[Job(1), Io(1, answer(4)), Strike(1)]);
-
-    sees(
-        &rt,
-        &mut world,
-        &[(End(1), "ended 1 done"), (OfTask(0, Poll), "got 3")],
-    );
-    sees_nothing(&rt, &mut world, &strangers);
-    sees_nothing(&rt, &mut world, &idle_worker);
-    for call in CALLS {
-        sees_nothing(&rt, &mut world, &[OfTask(0, call), Strike(1)]);
+    for stage in LIFE {
+        sees(&rt, &mut world, &[(stage.step, stage.text)]);
+        sees_nothing(&rt, &mut world, &STRANGERS);
     }
+    assert_eq!(rt; counts(&world), (0, 0, 0, Some(500)));
+    world.close();
+}
 
-    sees(&rt, &mut world, &[(Late(1), "stopped 1")]);
-    sees_nothing(&rt, &mut world, &strangers);
-    sees_nothing(&rt, &mut world, &gone_worker);
+#[test]
+fn steps_out_of_turn_have_no_action(rt: HostRuntime) {
+    let mut world = world(&rt, None, &[]);
+    sees_nothing(&rt, &mut world, &ABSENT_WORKER);
+    assert_eq!(rt; counts(&world), (0, 0, 0, None));
+    for stage in LIFE {
+        sees(&rt, &mut world, &[(stage.step, stage.text)]);
+        sees_nothing(&rt, &mut world, stage.futile);
+    }
     assert_eq!(rt; counts(&world), (0, 0, 0, Some(500)));
     world.close();
 }

@@ -1,10 +1,11 @@
 //! Worlds, step by step.
 use crate::world::{World, run};
+use blocking_laws::step::Answer::Number;
+use blocking_laws::step::Step;
 use blocking_laws::step::Step::{
     Arrive, End, Io, Job, Late, OfTask, SetLimit, Spawn, Stray, Sweep, Take, Wait,
 };
 use blocking_laws::step::TaskCall::{Cancel, Poll};
-use blocking_laws::step::{Answer, Step};
 use std::alloc::AllocGlobal;
 use std::process::Abort;
 
@@ -53,12 +54,8 @@ fn works<R: AllocGlobal + Abort>(rt: &R, world: &mut World, worker: usize, texts
     assert!(rt; !world.has_job_action(worker));
 }
 
-pub(super) fn answer(number: u64) -> Answer {
-    Answer::Number(number)
-}
-
 #[test]
-fn refused_start(rt: HostRuntime) {
+fn first_start_is_refused(rt: HostRuntime) {
     let mut world = world(&rt, None, &[true]);
     sees(&rt, &mut world, &[(Spawn, "refused worker -1")]);
     assert_eq!(rt; counts(&world), (0, 0, 0, Some(1)));
@@ -69,7 +66,7 @@ fn refused_start(rt: HostRuntime) {
             (Spawn, "accepted 1 +2"),
             (Arrive, "arrived 1"),
             (Take(1), "took 1"),
-            (Io(1, answer(5)), "answered 5"),
+            (Io(1, Number(5)), "answered 5"),
         ],
     );
     works(&rt, &mut world, 1, &["finished"]);
@@ -87,11 +84,11 @@ fn refused_start(rt: HostRuntime) {
     world.close();
 }
 
-#[test]
-fn cancelled_call_and_strays(rt: HostRuntime) {
-    let mut world = world(&rt, Some("1"), &[]);
+// A world at the limit 1, whose worker runs the first call: behind it the second is queued, and cancelled.
+fn one_runs_and_one_is_cancelled<R: AllocGlobal + Abort>(rt: &R) -> World {
+    let mut world = world(rt, Some("1"), &[]);
     sees(
-        &rt,
+        rt,
         &mut world,
         &[
             (Spawn, "accepted 1 +1"),
@@ -99,9 +96,21 @@ fn cancelled_call_and_strays(rt: HostRuntime) {
             (OfTask(1, Cancel), "cancelled"),
             (Arrive, "arrived 1"),
             (Take(1), "took 1"),
+        ],
+    );
+    world
+}
+
+#[test]
+fn strays_mark_a_running_call_alone(rt: HostRuntime) {
+    let mut world = one_runs_and_one_is_cancelled(&rt);
+    sees(
+        &rt,
+        &mut world,
+        &[
             (Stray(1), "delivered 1 marked"),
             (Stray(2), "delivered 2 nothing"),
-            (Io(1, answer(7)), "answered 7"),
+            (Io(1, Number(7)), "answered 7"),
         ],
     );
     works(&rt, &mut world, 1, &["finished"]);
@@ -111,6 +120,22 @@ fn cancelled_call_and_strays(rt: HostRuntime) {
         &[
             (End(1), "ended 1 done"),
             (Stray(1), "delivered 1 nothing"),
+            (OfTask(0, Poll), "got 7"),
+        ],
+    );
+    world.close();
+}
+
+#[test]
+fn cancelled_call_is_dropped_behind_another(rt: HostRuntime) {
+    let mut world = one_runs_and_one_is_cancelled(&rt);
+    sees(&rt, &mut world, &[(Io(1, Number(7)), "answered 7")]);
+    works(&rt, &mut world, 1, &["finished"]);
+    sees(
+        &rt,
+        &mut world,
+        &[
+            (End(1), "ended 1 done"),
             (OfTask(1, Poll), "waits"),
             (Take(1), "took 2 dropped"),
         ],
@@ -145,7 +170,7 @@ fn counts_of_a_call(rt: HostRuntime) {
         (OfTask(0, Poll), "waits", (1, 1, 1, Some(4)), false),
         (Arrive, "arrived 1", (1, 1, 1, Some(4)), false),
         (Take(1), "took 1", (1, 0, 0, Some(4)), false),
-        (Io(1, answer(8)), "answered 8", (1, 0, 0, Some(4)), true),
+        (Io(1, Number(8)), "answered 8", (1, 0, 0, Some(4)), true),
         (Job(1), "finished wake owner", (1, 0, 0, Some(4)), true),
         (Job(1), "delivered owner", (1, 0, 0, Some(4)), false),
         (End(1), "ended 1 done", (1, 1, 0, Some(4)), false),
@@ -164,7 +189,7 @@ fn counts_of_a_call(rt: HostRuntime) {
 }
 
 #[test]
-fn settings_and_limits(rt: HostRuntime) {
+fn limit_follows_from_the_setting(rt: HostRuntime) {
     for (setting, limit) in [
         (None, 500),
         (Some("3"), 3),
@@ -177,6 +202,10 @@ fn settings_and_limits(rt: HostRuntime) {
         assert_eq!(rt; counts(&world), (1, 1, 1, Some(limit)), "{setting:?}");
         world.close();
     }
+}
+
+#[test]
+fn limit_by_step_may_exceed_every_setting(rt: HostRuntime) {
     let mut world = world(&rt, Some("4"), &[]);
     sees(&rt, &mut world, &[(SetLimit(20000), "limit 20000")]);
     assert_eq!(rt; counts(&world), (0, 0, 0, Some(20000)));
@@ -228,7 +257,7 @@ fn waits_stop_beyond_the_limit_or_in_time(rt: HostRuntime) {
             (Late(1), "stays 1"),
             (Take(1), "took 1 +2"),
             (Arrive, "arrived 2"),
-            (Io(1, answer(1)), "answered 1"),
+            (Io(1, Number(1)), "answered 1"),
             (Job(1), "finished"),
             (End(1), "ended 1 done"),
             (Wait(1), "stays 1"),
@@ -239,7 +268,7 @@ fn waits_stop_beyond_the_limit_or_in_time(rt: HostRuntime) {
             (Wait(1), "stays 1"),
             (Late(1), "stays 1"),
             (Take(1), "took 2"),
-            (Io(1, answer(2)), "answered 2"),
+            (Io(1, Number(2)), "answered 2"),
             (Job(1), "finished"),
             (End(1), "ended 2 done"),
             (Late(1), "stopped 1"),
