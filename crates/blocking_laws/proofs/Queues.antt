@@ -13,10 +13,10 @@ use Rattle.blocking_laws.specs.Seen.{EachMayFollow, among, without, joined, is_w
 use Rattle.blocking_laws.specs.Jobs.{accepted_by, accepted_jobs, standing, stands_by, sweeps, is_queued, is_running, is_parked, is_marked, is_to_drop, is_woken}
 use Rattle.blocking_laws.specs.Queue.{to_sweep, entered_by, taken_by, ended_by, entries, takes, queue, running, times}
 use Rattle.blocking_laws.specs.Turns.{Turn, GoesOn, IsWaiting, MustGiveUp, HasGivenUp, turn, hand, hand_by, hand_of, HoldsOne}
-use Rattle.blocking_laws.specs.Answers.{PoolAnswers, take_answer, take_from, end_of, end_answer}
+use Rattle.blocking_laws.specs.Answers.{PoolAnswers, take_answer, take_from, end_of}
 use Rattle.blocking_laws.specs.Legal.{PoolLaw}
 use Rattle.blocking_laws.specs.declared.event.Act.{Act}
-use Rattle.blocking_laws.specs.declared.event.Act.TheVariants.{Accepted, JobWoken, JobCancelled, Swept, Took, TookDropped, TookNone, Stays, Stopped, Ended, HandedOut}
+use Rattle.blocking_laws.specs.declared.event.Act.TheVariants.{Accepted, JobWoken, JobCancelled, Swept, Took, TookDropped, Stays, Stopped, Ended}
 use Rattle.blocking_laws.specs.declared.event.Event.{Event}
 use Rattle.blocking_laws.specs.declared.event.Moment.{Moment}
 use Rattle.blocking_laws.specs.declared.event.Party.{Party}
@@ -351,10 +351,10 @@ taken_in (Took s) = Some s
 taken_in (TookDropped s) = Some s
 taken_in _ = None
 
-
 taken_if : (b : Bool) (n : ℕ) → taken_in (if b then TookDropped n else Took n) ≡ Some n
 taken_if true n = refl
 taken_if false n = refl
+
 -- the list begins with this number
 record BeginsWith (s : ℕ) (ns : List ℕ) : Type 0 where
   rest : List ℕ
@@ -457,9 +457,6 @@ entered_after : (setting : ℕ) (past : List Moment) (now : Moment) (act : Act) 
     → joined (entries past) (entered_by past act) ≡ joined (takes past) (taken_by act) ++ joined (without (taken_by act) (queue past)) (entered_by past act)
 entered_after setting past now (Took t) sound answers = took_front past t (front_is past t sound (ap taken_in answers)) sound.entered
 entered_after setting past now (TookDropped t) sound answers = took_front past t (front_is past t sound (ap taken_in answers)) sound.entered
-entered_after setting past now (Ended t how) sound answers = enters_last (entries past) (takes past) (queue past) (entered_by past (Ended t how)) sound.entered
-entered_after setting past now (JobWoken t woke) sound answers = enters_last (entries past) (takes past) (queue past) (entered_by past (JobWoken t woke)) sound.entered
-entered_after setting past now (JobCancelled t woke) sound answers = enters_last (entries past) (takes past) (queue past) (entered_by past (JobCancelled t woke)) sound.entered
 entered_after setting past now act sound answers = enters_last (entries past) (takes past) (queue past) (entered_by past act) sound.entered
 
 -- ---- each moment

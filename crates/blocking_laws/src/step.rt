@@ -12,25 +12,25 @@ pub enum Step {
     OfTask(usize, TaskCall),
     /// A started worker arrives.
     Arrive,
-    /// This worker, by its number from 1, is idle and takes a job.
+    /// The idle worker of this number, from 1, takes a job.
     Take(usize),
-    /// The job of this worker, by its number from 1, takes its next action, which is its own to take.
+    /// The job of the worker of this number, from 1, takes its next action, which is its own to take.
     Job(usize),
-    /// What the job of this worker, by its number from 1, has asked for is answered.
+    /// What the job of the worker of this number, from 1, has asked for is answered.
     Io(usize, Answer),
-    /// The job of this worker, by its number from 1, has nothing left to do, and its turn ends.
+    /// The job of the worker of this number, from 1, has nothing left to do, and its turn ends.
     End(usize),
-    /// This worker, by its number from 1, is idle, has waited and was woken.
+    /// The idle worker of this number, from 1, has waited and was woken.
     Wait(usize),
-    /// This worker, by its number from 1, is idle, and has waited until its time was up.
+    /// The idle worker of this number, from 1, has waited until its time was up.
     Late(usize),
     /// The limit of workers is set, to a number above 0.
     SetLimit(usize),
     /// The parked jobs that bear a mark are put back.
     Sweep,
-    /// This job, by its serial from 1, was accepted at some time, and is woken by nobody in particular.
+    /// The job of this serial, from 1, which was accepted at some time, is woken by nobody in particular.
     Stray(u64),
-    /// This job, by its serial from 1, is cancelled in the pool: its task was dropped or cancelled.
+    /// The job of this serial, from 1, is cancelled in the pool: its task was dropped or cancelled.
     Strike(u64),
 }
 
