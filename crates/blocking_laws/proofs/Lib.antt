@@ -2,3 +2,4 @@ pub mod Beginnings
 pub mod Growths
 pub mod OneAnswer
 pub mod OneAct
+pub mod Queues

@@ -1,6 +1,6 @@
 -- What the pool answers: to new jobs, takes, wakes, cancels, sweeps, ends of turns, arrivals and waits.
 use Rattle.std.specs.Prelude.{◌≡◌, ℕ, ◌+◌, ◌<◌, ◌≤◌, nat_lt, ◌==◌, ◌&&◌, ◌||◌, if◌then◌else◌, Bool, true, false, List, [], ◌∷◌, length}
-use Rattle.blocking_core.specs.declared.pool.answer.Refusal.TheVariants.{NoWorker, Numbers}
+use Rattle.blocking_core.specs.declared.pool.answer.Refusal.TheVariants.{Memory, NoWorker, Numbers}
 use Rattle.blocking_core.specs.declared.pool.standing.Standing.TheVariants.{Queued, Parked, Done, Dropped}
 use Rattle.blocking_core.specs.Growth.{greatest}
 use Rattle.blocking_core.specs.Wakes.{wake_of, cancel_of}
@@ -43,7 +43,7 @@ must_stop setting past now late =
 
 -- What the pool answers, act by act. A wake and a cancel do what the job's standing says; a sweep tells how many jobs it put
 -- back; workers are numbered in the order of their arrival; a new job's serial is one more than the number of jobs that
--- were accepted, and the greatest number is no serial.
+-- were accepted, and the greatest number is no serial: where it would be next, a job is refused for that alone.
 abbrev pub PoolAnswers : ℕ → List Moment → Moment → Act → Type 0
 PoolAnswers setting past now (Took s) = Took s ≡ take_answer past
 PoolAnswers setting past now (TookDropped s) = TookDropped s ≡ take_answer past
@@ -57,6 +57,7 @@ PoolAnswers setting past now (Stopped w late) = must_stop setting past now late 
 PoolAnswers setting past now (Swept n) = n ≡ length (to_sweep past)
 PoolAnswers setting past now (Arrived w) = (w ≡ 1 + arrivals past) × (w ≤ starts past)
 PoolAnswers setting past now (Accepted s) = (s ≡ 1 + length (accepted_jobs past)) × (s < greatest)
+PoolAnswers setting past now (Refused Memory) = 1 + length (accepted_jobs past) < greatest
 PoolAnswers setting past now (Refused NoWorker) = 1 + length (accepted_jobs past) < greatest
 PoolAnswers setting past now (Refused Numbers) = 1 + length (accepted_jobs past) ≡ greatest
 PoolAnswers setting past now _ = Unit {0}

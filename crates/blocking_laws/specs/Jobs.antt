@@ -131,6 +131,16 @@ stands_by (TookDropped t) s before = if t == s then Some Running else before
 stands_by (Ended t how) s before = if t == s then Some how else before
 stands_by _ s before = before
 
+-- whether that is queued
+abbrev pub is_queued : Option Standing → Bool
+is_queued (Some Queued) = true
+is_queued _ = false
+
+-- whether that is running
+abbrev pub is_running : Option Standing → Bool
+is_running (Some Running) = true
+is_running _ = false
+
 -- whether that is parked
 abbrev pub is_parked : Option Standing → Bool
 is_parked (Some Parked) = true

@@ -1,5 +1,5 @@
 -- The queue: what entered it, and what was taken out of it.
-use Rattle.std.specs.Prelude.{ℕ, ◌&&◌, if◌then◌else◌, List, [], ◌∷◌, filter}
+use Rattle.std.specs.Prelude.{◌≡◌, ℕ, ◌==◌, ◌&&◌, if◌then◌else◌, Bool, List, [], ◌∷◌, length, filter}
 use Rattle.blocking_core.specs.declared.pool.answer.Woke.TheVariants.{Entered}
 use Rattle.blocking_core.specs.declared.pool.standing.Standing.TheVariants.{Queued}
 use Rattle.blocking_laws.specs.Seen.{IsBeginning, without, joined}
@@ -59,3 +59,11 @@ running (now ∷ past) = joined (without (ended_by now.event.act) (running past)
 -- Jobs are taken in the order in which they entered.
 abbrev pub InOrder : List Moment → Type 0
 InOrder past = IsBeginning (takes past) (entries past)
+
+-- how often a number stands in a list
+abbrev pub times : ℕ → List ℕ → ℕ
+times n ns = length (filter (λ m. m == n) ns)
+
+-- The list has the jobs of which this holds, each once, and no other.
+abbrev pub AreThose : (ℕ → Bool) → List ℕ → Type 0
+AreThose holds_of jobs = (s : ℕ) → times s jobs ≡ (if holds_of s then 1 else 0)

@@ -8,29 +8,29 @@
 pub enum Step {
     /// A call is handed to the pool, whose answer comes by a step of its own.
     Spawn,
-    /// This task is called so.
+    /// This task, by its number from 0, is polled, cancelled, detached or dropped.
     OfTask(usize, TaskCall),
     /// A started worker arrives.
     Arrive,
-    /// This worker, which is idle, takes a job.
+    /// The idle worker of this number, from 1, takes a job.
     Take(usize),
-    /// The job of this worker takes its next action, which is its own to take.
+    /// The job of the worker of this number, from 1, takes its next action, which is its own to take.
     Job(usize),
-    /// What the job of this worker has asked for is answered.
+    /// What the job of the worker of this number, from 1, has asked for is answered.
     Io(usize, Answer),
-    /// The job of this worker has nothing left to do, and its turn ends.
+    /// The job of the worker of this number, from 1, has nothing left to do, and its turn ends.
     End(usize),
-    /// This worker, which is idle, has waited and was woken.
+    /// The idle worker of this number, from 1, has waited and was woken.
     Wait(usize),
-    /// This worker, which is idle, has waited until its time was up.
+    /// The idle worker of this number, from 1, has waited until its time was up.
     Late(usize),
     /// The limit of workers is set, to a number above 0.
     SetLimit(usize),
     /// The parked jobs that bear a mark are put back.
     Sweep,
-    /// This job, which was accepted at some time, is woken by nobody in particular.
+    /// The job of this serial, from 1, which was accepted at some time, is woken by nobody in particular.
     Stray(u64),
-    /// This job is cancelled in the pool: its task was dropped or cancelled.
+    /// The job of this serial, from 1, is cancelled in the pool: its task was dropped or cancelled.
     Strike(u64),
 }
 

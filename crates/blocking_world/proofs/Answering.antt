@@ -50,7 +50,7 @@ begins_rightly may_answer setting w past now (Ok number) growth pool n adds =
     (adds.serial ∙ next_is w past n, subst (λ (s : ℕ). s < greatest) (sym adds.serial) adds.left)
 begins_rightly may_answer setting w past now (Err NoWorker) growth pool n adds = subst (λ (s : ℕ). s < greatest) (next_is w past n) adds.left
 begins_rightly may_answer setting w past now (Err Numbers) growth pool n adds = sym (next_is w past n) ∙ adds.0
-begins_rightly may_answer setting w past now (Err Memory) growth pool n adds = tt
+begins_rightly may_answer setting w past now (Err Memory) growth pool n adds = subst (λ (s : ℕ). s < greatest) (next_is w past n) adds.2
 
 -- ---- takes
 

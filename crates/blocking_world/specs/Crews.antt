@@ -45,7 +45,7 @@ pub record FindsNoWorker (may_answer : ℕ → Bool → Type 0) (old : CallPool)
 -- a new call is refused, and why
 abbrev pub Refuses : (ℕ → Bool → Type 0) → CallPool → Refusal → Growth → CallPool → Type 0
 Refuses may_answer old Numbers growth new = (old.next_serial ≡ greatest) × (growth ≡ no_growth) × (new ≡ old)
-Refuses may_answer old Memory growth new = (growth ≡ no_growth) × (new ≡ old)
+Refuses may_answer old Memory growth new = (growth ≡ no_growth) × (new ≡ old) × (old.next_serial < greatest)
 Refuses may_answer old NoWorker growth new = FindsNoWorker may_answer old growth new
 
 -- a new call is accepted or refused

@@ -1,8 +1,10 @@
 //! What the pool answers.
-ghost use Rattle.std.specs.Prelude.{[], Some, None, true, false};
-ghost use Rattle.blocking_core.specs.declared.pool.answer.Refusal.TheVariants.{Numbers};
+ghost use Rattle.std.specs.Prelude.{◌≡◌, ◌+◌, List, [], length, Some, None, true, false};
+ghost use Rattle.blocking_core.specs.declared.pool.answer.Refusal.TheVariants.{Memory, Numbers};
 ghost use Rattle.blocking_core.specs.declared.pool.answer.Woke.TheVariants.{Entered, Marked, Nothing};
 ghost use Rattle.blocking_core.specs.declared.pool.standing.Standing.TheVariants.{Queued, Parked, Done, Dropped};
+ghost use Rattle.blocking_core.specs.Growth.{greatest};
+ghost use Rattle.blocking_laws.specs.Jobs.{accepted_jobs};
 ghost use Rattle.blocking_laws.specs.Queue.{InOrder};
 ghost use Rattle.blocking_laws.specs.Answers.{AnswerLaw};
 ghost use Rattle.blocking_laws.specs.Legal.{Legal};
@@ -11,6 +13,7 @@ ghost use Rattle.blocking_laws.specs.Traces.{one_queued, one_arrived, one_taken,
 ghost use Rattle.blocking_laws.specs.Traces.{dropped, dropped_running, dropped_given_up, two_queued, two_workers};
 ghost use Rattle.blocking_laws.specs.Traces.{one_waits, one_parked, woken_waits, dropped_waits, dropped_parked};
 ghost use Rattle.blocking_laws.specs.Traces.{two_parked, two_dropped, queued_again};
+ghost use Rattle.blocking_laws.specs.declared.event.Moment.{Moment};
 ghost use Rattle.blocking_laws.specs.declared.event.Act.TheVariants.{Accepted, Refused, JobWoken, JobCancelled, LimitSet, Swept, TaskCancelled, HolderDropped, Arrived, Took, TookDropped, TookNone, Stays, Stopped, Ended, HandedOut};
 ghost use Rattle.blocking_laws.specs.declared.event.Party.TheVariants.{Task, Worker, Pool};
 ghost use Rattle.blocking_laws.specs.declared.step.Step.TheVariants.{Spawn, OfTask, Arrive, Take, End, Wait, Late, SetLimit, Sweep, Stray, Strike};
@@ -250,7 +253,8 @@ pub fn stops()
         (moment (Wait 2) (Worker 2) None (Stays 2 false) 3) }
 {}
 
-/// Serials and workers are numbered in order, and no number is used again; only started workers arrive.
+/// Serials and workers are numbered in order, and no number is used again; only started workers arrive. Want of memory is an
+/// answer only where there is a number for the job.
 pub fn numbers()
     // accepted 1 +1 / arrived 1 / accepted 2
     ensures accepts_in_order { Legal 1 [] two_queued }
@@ -266,6 +270,13 @@ pub fn numbers()
     // accepted 1 +1 / arrived 1 / refused numbers
     ensures refuses_early_end_of_numbers { Refuses (AnswerLaw 1) one_arrived
         (moment Spawn Pool None (Refused Numbers) 2) }
+    // refused memory
+    ensures accepts_want_of_memory { Legal 1 [] ([] ▸ moment Spawn Pool None (Refused Memory) 1) }
+    // where the greatest number would be next no short trace ends: refused numbers, and not refused memory
+    ensures accepts_end_of_numbers { (past : List Moment) → 1 + length (accepted_jobs past) ≡ greatest →
+        AnswerLaw 1 past (moment Spawn Pool None (Refused Numbers) 2) }
+    ensures refuses_memory_at_end_of_numbers { (past : List Moment) → 1 + length (accepted_jobs past) ≡ greatest →
+        Refuses (AnswerLaw 1) past (moment Spawn Pool None (Refused Memory) 2) }
     // accepted 1 +1 / arrived 2
     ensures refuses_worker_left_out { Refuses (AnswerLaw 1) one_queued
         (moment Arrive (Worker 2) None (Arrived 2) 2) }

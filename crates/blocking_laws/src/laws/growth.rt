@@ -14,19 +14,45 @@ ghost use Rattle.blocking_laws.specs.declared.event.Act.TheVariants.{Accepted, R
 ghost use Rattle.blocking_laws.specs.declared.event.Party.TheVariants.{Worker, Pool};
 ghost use Rattle.blocking_laws.specs.declared.step.Step.TheVariants.{Spawn, Arrive, Take, End, Sweep, Stray, Strike};
 
-/// What is due is started, once, and no more.
-pub fn due_starts()
+/// What is due at a new job is started, once, and no more, and starts are numbered on.
+pub fn starts_at_new_jobs()
     // accepted 1 +1
     ensures accepts_first_job { Legal 1 [] one_queued }
     // accepted 1 +1 / .. / accepted 5 / accepted 6 +2: six jobs beside one idle worker
     ensures accepts_sixth_job { Legal 2 [] (five_queued
         ▸ starting 1 (moment Spawn Pool None (Accepted 6) 2)) }
+    // accepted 1 +1 / arrived 1 / accepted 2 +2: two jobs beside one idle worker
+    ensures refuses_start_not_due { Refuses (GrowthLaw 2 []) one_arrived
+        (starting 1 (moment Spawn Pool None (Accepted 2) 2)) }
+    // accepted 1 +1 +2: one job beside one idle worker, once that is started
+    ensures refuses_start_twice { Refuses (GrowthLaw 2 []) []
+        (starting 2 (moment Spawn Pool None (Accepted 1) 1)) }
+    // accepted 1 +1 / arrived 1, told with the number that was started as the next one
+    ensures refuses_number_of_started { Refuses (GrowthLaw 1 []) one_queued
+        (moment Arrive (Worker 1) None (Arrived 1) 1) }
+{}
+
+/// What is due at a take is started, by the jobs that it leaves, and no more.
+pub fn starts_at_takes()
     // accepted 1 +1 / arrived 1 / accepted 2 / took 1 +2: one job beside no idle worker
     ensures accepts_start_at_take { Legal 2 [] (two_queued
         ▸ starting 1 (moment (Take 1) (Worker 1) (Some 1) (Took 1) 2)) }
     // accepted 1 +1 / arrived 1 / accepted 2 / dropped (of job 1) / took 1 dropped +2
     ensures accepts_start_at_drop { Legal 2 [] (front_dropped
         ▸ starting 1 (moment (Take 1) (Worker 1) (Some 1) (TookDropped 1) 2)) }
+    // accepted 1 +1 / arrived 1 / accepted 2 / took 1, at limit 2
+    ensures refuses_start_left_out { Refuses (GrowthLaw 2 []) two_queued
+        (moment (Take 1) (Worker 1) (Some 1) (Took 1) 2) }
+    // accepted 1 +1 / arrived 1 / accepted 2 / dropped (of job 1) / took 1 dropped, at limit 2
+    ensures refuses_start_left_out_at_drop { Refuses (GrowthLaw 2 []) front_dropped
+        (moment (Take 1) (Worker 1) (Some 1) (TookDropped 1) 2) }
+    // accepted 1 +1 / arrived 1 / accepted 2 / took 1 +2, at limit 1
+    ensures refuses_start_past_limit { Refuses (GrowthLaw 1 []) two_queued
+        (starting 1 (moment (Take 1) (Worker 1) (Some 1) (Took 1) 2)) }
+{}
+
+/// What is due where a job is put back is started by a sweep, a wake or a cancel, and not by the end of a turn.
+pub fn starts_where_jobs_go_back()
     // .. / ended 1 parked / stopped 1 / dropped / swept 1 +2
     ensures accepts_start_at_sweep { IsPooled 1 [] (unstaffed_dropped
         ▸ starting 1 (moment Sweep Pool None (Swept 1) 2)) }
@@ -36,30 +62,12 @@ pub fn due_starts()
     // .. / delivered 1 marked / parked / ended 1 queued: six jobs beside one idle worker, below the limit
     ensures accepts_queuing_again_without_growth { IsPooled 1 [] (raised_limit
         ▸ moment (End 1) (Worker 1) (Some 1) (Ended 1 Queued) 2) }
-    // accepted 1 +1 / arrived 1 / accepted 2 +2: two jobs beside one idle worker
-    ensures refuses_start_not_due { Refuses (GrowthLaw 2 []) one_arrived
-        (starting 1 (moment Spawn Pool None (Accepted 2) 2)) }
-    // accepted 1 +1 +2: one job beside one idle worker, once that is started
-    ensures refuses_start_twice { Refuses (GrowthLaw 2 []) []
-        (starting 2 (moment Spawn Pool None (Accepted 1) 1)) }
-    // accepted 1 +1 / arrived 1 / accepted 2 / took 1, at limit 2
-    ensures refuses_start_left_out { Refuses (GrowthLaw 2 []) two_queued
-        (moment (Take 1) (Worker 1) (Some 1) (Took 1) 2) }
-    // accepted 1 +1 / arrived 1 / accepted 2 / dropped (of job 1) / took 1 dropped, at limit 2
-    ensures refuses_start_left_out_at_drop { Refuses (GrowthLaw 2 []) front_dropped
-        (moment (Take 1) (Worker 1) (Some 1) (TookDropped 1) 2) }
     // .. / ended 1 parked / stopped 1 / dropped / swept 1
     ensures refuses_start_left_out_at_sweep { Refuses (GrowthLaw 1 []) unstaffed_dropped
         (moment Sweep Pool None (Swept 1) 2) }
     // .. / ended 1 parked / stopped 1 / dropped / cancelled 1 entered
     ensures refuses_start_left_out_at_cancel { Refuses (GrowthLaw 1 []) unstaffed_dropped
         (moment (Strike 1) Pool None (JobCancelled 1 Entered) 2) }
-    // accepted 1 +1 / arrived 1 / accepted 2 / took 1 +2, at limit 1
-    ensures refuses_start_past_limit { Refuses (GrowthLaw 1 []) two_queued
-        (starting 1 (moment (Take 1) (Worker 1) (Some 1) (Took 1) 2)) }
-    // accepted 1 +1 / arrived 1, told with the number that was started as the next one
-    ensures refuses_number_of_started { Refuses (GrowthLaw 1 []) one_queued
-        (moment Arrive (Worker 1) None (Arrived 1) 1) }
     // .. / delivered 1 marked / parked / ended 1 queued +2
     ensures refuses_growth_by_queuing_again { Refuses (GrowthLaw 1 []) raised_limit
         (starting 1 (moment (End 1) (Worker 1) (Some 1) (Ended 1 Queued) 2)) }

@@ -12,35 +12,41 @@ ghost use Rattle.blocking_laws.specs.declared.step.Answer.TheVariants.{Number};
 ghost use Rattle.blocking_laws.specs.declared.step.Step.TheVariants.{Spawn, OfTask, Arrive, Take, Job, Io, End, Wait, Late, SetLimit, Sweep, Stray, Strike};
 ghost use Rattle.blocking_laws.specs.declared.step.TaskCall.TheVariants.{Poll, Cancel, Detach, Drop};
 
-/// Nothing is done exactly where a step names a party that isn't there, or that has no such action.
-pub fn nothing()
-    // nothing (nobody arrived, nothing was started)
-    ensures accepts_no_worker { Legal 1 [] ([] ▸ moment (Take 1) (Worker 1) None NoAction 1) }
+/// Nothing is done at the pool exactly where nobody is left to arrive, a job was never accepted or may not be cancelled, or the
+/// limit would be 0; a new job and a sweep always have an action.
+pub fn nothing_at_the_pool()
+    // nothing (nothing was started)
     ensures accepts_no_start { Legal 1 [] ([] ▸ moment Arrive Pool None NoAction 1) }
-    ensures accepts_no_task { Legal 1 [] ([] ▸ moment (OfTask 0 Poll) (Task 0) None NoAction 1) }
+    // nothing (no job was accepted)
     ensures accepts_no_job { Legal 1 [] ([] ▸ moment (Stray 1) Pool None NoAction 1) }
+    // nothing (a limit is above 0)
     ensures accepts_no_limit { Legal 1 [] ([] ▸ moment (SetLimit 0) Pool None NoAction 1) }
-    // accepted 1 +1 / arrived 1 / nothing (the worker has no job)
-    ensures accepts_no_turn { Legal 1 [] (one_arrived ▸ moment (End 1) (Worker 1) None NoAction 2) }
-    // accepted 1 +1 / arrived 1 / took 1 / nothing (the job asks for an answer first)
-    ensures accepts_no_end_yet { Legal 1 [] (one_taken
-        ▸ moment (End 1) (Worker 1) None NoAction 2) }
-    ensures accepts_no_answer_to_finish { Legal 1 [] (one_answered
-        ▸ moment (Io 1 (Number 6)) (Worker 1) None NoAction 2) }
     // accepted 1 +1 / arrived 1 / nothing (nobody let the job go)
     ensures accepts_no_cancel { Legal 1 [] (one_arrived ▸ moment (Strike 1) Pool None NoAction 2) }
+    // where there is an action
+    ensures refuses_no_new_job { Refuses StepLaw [] (moment Spawn Pool None NoAction 1) }
+    ensures refuses_no_sweep { Refuses StepLaw [] (moment Sweep Pool None NoAction 1) }
+    ensures refuses_no_limit { Refuses StepLaw [] (moment (SetLimit 1) Pool None NoAction 1) }
+    ensures refuses_no_arrival { Refuses StepLaw one_queued (moment Arrive Pool None NoAction 2) }
+    ensures refuses_no_wake { Refuses StepLaw one_arrived
+        (moment (Stray 1) Pool None NoAction 2) }
+    ensures refuses_no_cancel { Refuses StepLaw dropped (moment (Strike 1) Pool None NoAction 2) }
+    // where there is none
+    ensures refuses_arrival_of_nobody { Refuses StepLaw [] (moment Arrive (Worker 1) None (Arrived 1) 1) }
+    ensures refuses_limit_of_zero { Refuses StepLaw [] (moment (SetLimit 0) Pool None (LimitSet 0) 1) }
+    ensures refuses_wake_of_no_job { Refuses StepLaw []
+        (moment (Stray 1) Pool None (JobWoken 1 Nothing) 1) }
+    ensures refuses_cancel_of_held_job { Refuses StepLaw one_arrived
+        (moment (Strike 1) Pool None (JobCancelled 1 Marked) 2) }
+{}
+
+/// Nothing is done by a task exactly where it isn't there, or was cancelled and is neither polled nor dropped.
+pub fn nothing_by_tasks()
+    // nothing (no call was accepted)
+    ensures accepts_no_task { Legal 1 [] ([] ▸ moment (OfTask 0 Poll) (Task 0) None NoAction 1) }
     // .. / got 5 / nothing (the task is gone)
     ensures accepts_gone_task { Legal 1 [] (one_got
         ▸ moment (OfTask 0 Poll) (Task 0) None NoAction 2) }
-    // .. / ended 1 done / stopped 1 / nothing (the worker is gone)
-    ensures accepts_stopped_worker { Legal 1 [] (one_done
-        ▸ moment (Late 1) (Worker 1) None (Stopped 1 true) 2
-        ▸ moment (Take 1) (Worker 1) None NoAction 2) }
-    // accepted 1 +1 / arrived 1 / took 1 / nothing (the worker has a job)
-    ensures accepts_busy_worker { Legal 1 [] (one_taken
-        ▸ moment (Take 1) (Worker 1) None NoAction 2
-        ▸ moment (Wait 1) (Worker 1) None NoAction 2
-        ▸ moment (Late 1) (Worker 1) None NoAction 2) }
     // .. / answered 5 / detached / nothing
     ensures accepts_detached_task { Legal 1 [] (one_answered
         ▸ moment (OfTask 0 Detach) (Task 0) None TaskDetached 2
@@ -57,19 +63,42 @@ pub fn nothing()
         ▸ moment (OfTask 0 Detach) (Task 0) None NoAction 2
         ▸ moment (OfTask 0 Cancel) (Task 0) None NoAction 2) }
     // where there is an action
-    ensures refuses_no_new_job { Refuses StepLaw [] (moment Spawn Pool None NoAction 1) }
-    ensures refuses_no_sweep { Refuses StepLaw [] (moment Sweep Pool None NoAction 1) }
-    ensures refuses_no_limit { Refuses StepLaw [] (moment (SetLimit 1) Pool None NoAction 1) }
-    ensures refuses_no_arrival { Refuses StepLaw one_queued (moment Arrive Pool None NoAction 2) }
     ensures refuses_no_poll { Refuses StepLaw one_queued
         (moment (OfTask 0 Poll) (Task 0) None NoAction 2) }
+    // where there is none
+    ensures refuses_poll_of_gone_task { Refuses StepLaw one_got
+        (moment (OfTask 0 Poll) (Task 0) None Waits 2) }
+    ensures refuses_detaching_after_cancel { Refuses StepLaw cancelled_given_up
+        (moment (OfTask 0 Detach) (Task 0) None TaskDetached 2) }
+{}
+
+/// Nothing is done by a worker exactly where it isn't there, has a job in hand and is to take or to wait, or has none that does
+/// this next.
+pub fn nothing_by_workers()
+    // nothing (nobody arrived)
+    ensures accepts_no_worker { Legal 1 [] ([] ▸ moment (Take 1) (Worker 1) None NoAction 1) }
+    // accepted 1 +1 / arrived 1 / nothing (the worker has no job)
+    ensures accepts_no_turn { Legal 1 [] (one_arrived ▸ moment (End 1) (Worker 1) None NoAction 2) }
+    // accepted 1 +1 / arrived 1 / took 1 / nothing (the job asks for an answer first)
+    ensures accepts_no_end_yet { Legal 1 [] (one_taken
+        ▸ moment (End 1) (Worker 1) None NoAction 2) }
+    // .. / answered 5 / nothing (the call was answered)
+    ensures accepts_no_answer_to_finish { Legal 1 [] (one_answered
+        ▸ moment (Io 1 (Number 6)) (Worker 1) None NoAction 2) }
+    // .. / ended 1 done / stopped 1 / nothing (the worker is gone)
+    ensures accepts_stopped_worker { Legal 1 [] (one_done
+        ▸ moment (Late 1) (Worker 1) None (Stopped 1 true) 2
+        ▸ moment (Take 1) (Worker 1) None NoAction 2) }
+    // accepted 1 +1 / arrived 1 / took 1 / nothing (the worker has a job)
+    ensures accepts_busy_worker { Legal 1 [] (one_taken
+        ▸ moment (Take 1) (Worker 1) None NoAction 2
+        ▸ moment (Wait 1) (Worker 1) None NoAction 2
+        ▸ moment (Late 1) (Worker 1) None NoAction 2) }
+    // where there is an action
     ensures refuses_no_take { Refuses StepLaw one_arrived
         (moment (Take 1) (Worker 1) None NoAction 2) }
     ensures refuses_no_wait { Refuses StepLaw one_arrived
         (moment (Wait 1) (Worker 1) None NoAction 2) }
-    ensures refuses_no_wake { Refuses StepLaw one_arrived
-        (moment (Stray 1) Pool None NoAction 2) }
-    ensures refuses_no_cancel { Refuses StepLaw dropped (moment (Strike 1) Pool None NoAction 2) }
     ensures refuses_no_answer { Refuses StepLaw one_taken
         (moment (Io 1 (Number 5)) (Worker 1) None NoAction 2) }
     ensures refuses_no_finish { Refuses StepLaw one_answered
@@ -83,16 +112,6 @@ pub fn nothing()
         (moment (Take 1) (Worker 1) None TookNone 2) }
     ensures refuses_take_by_busy_worker { Refuses StepLaw one_taken
         (moment (Take 1) (Worker 1) None TookNone 2) }
-    ensures refuses_arrival_of_nobody { Refuses StepLaw [] (moment Arrive (Worker 1) None (Arrived 1) 1) }
-    ensures refuses_limit_of_zero { Refuses StepLaw [] (moment (SetLimit 0) Pool None (LimitSet 0) 1) }
-    ensures refuses_wake_of_no_job { Refuses StepLaw []
-        (moment (Stray 1) Pool None (JobWoken 1 Nothing) 1) }
-    ensures refuses_cancel_of_held_job { Refuses StepLaw one_arrived
-        (moment (Strike 1) Pool None (JobCancelled 1 Marked) 2) }
-    ensures refuses_poll_of_gone_task { Refuses StepLaw one_got
-        (moment (OfTask 0 Poll) (Task 0) None Waits 2) }
-    ensures refuses_detaching_after_cancel { Refuses StepLaw cancelled_given_up
-        (moment (OfTask 0 Detach) (Task 0) None TaskDetached 2) }
     ensures refuses_answer_unasked { Refuses StepLaw one_answered
         (moment (Io 1 (Number 6)) (Worker 1) (Some 1) (Answered (Number 6)) 2) }
 {}

@@ -18,8 +18,8 @@ ghost use Rattle.blocking_laws.specs.declared.step.Step.TheVariants.{Spawn, OfTa
 ghost use Rattle.blocking_laws.specs.declared.step.TaskCall.TheVariants.{Poll, Cancel, Detach, Drop};
 
 /// The job of a call is answered, finishes, calls the waker that it took, and is over; or it gives up, where its task let it
-/// go. A task is called until it is gone.
-pub fn tables()
+/// go.
+pub fn jobs_of_calls()
     // .. / finished wake owner / delivered owner / ended 1 done / got 5
     ensures accepts_awaited_call { Legal 1 [] (awaited_finished
         ▸ moment (Job 1) (Worker 1) (Some 1) HolderWoken 2
@@ -30,14 +30,6 @@ pub fn tables()
         ▸ moment (Job 1) (Worker 1) (Some 1) HolderWoken 2
         ▸ moment (End 1) (Worker 1) (Some 1) (Ended 1 Dropped) 2
         ▸ moment (OfTask 0 Poll) (Task 0) None TaskGotNone 2) }
-    // .. / took 1 / answered 5 / detached / finished / ended 1 done
-    ensures accepts_detached_call { Legal 1 [] (one_answered
-        ▸ moment (OfTask 0 Detach) (Task 0) None TaskDetached 2
-        ▸ moment (Job 1) (Worker 1) (Some 1) (Finished false) 2
-        ▸ moment (End 1) (Worker 1) (Some 1) (Ended 1 Done) 2) }
-    // .. / answered 5 / cancelled / finished / dropped
-    ensures accepts_drop_after_cancel { Legal 1 [] (cancelled_finished
-        ▸ moment (OfTask 0 Drop) (Task 0) None HolderDropped 2) }
     // accepted 1 +1 / arrived 1 / took 1 / finished
     ensures refuses_finish_before_answer { Refuses FirstTaskLaw one_taken
         (moment (Job 1) (Worker 1) (Some 1) (Finished false) 2) }
@@ -53,6 +45,18 @@ pub fn tables()
     // .. / took 1 / answered 5 / gave up: nobody let it go
     ensures refuses_giving_up_unasked { Refuses FirstTaskLaw one_answered
         (moment (Job 1) (Worker 1) (Some 1) (GaveUp false) 2) }
+{}
+
+/// A task is called until it is gone; after a cancel it is only polled and dropped.
+pub fn calls_of_tasks()
+    // .. / took 1 / answered 5 / detached / finished / ended 1 done
+    ensures accepts_detached_call { Legal 1 [] (one_answered
+        ▸ moment (OfTask 0 Detach) (Task 0) None TaskDetached 2
+        ▸ moment (Job 1) (Worker 1) (Some 1) (Finished false) 2
+        ▸ moment (End 1) (Worker 1) (Some 1) (Ended 1 Done) 2) }
+    // .. / answered 5 / cancelled / finished / dropped
+    ensures accepts_drop_after_cancel { Legal 1 [] (cancelled_finished
+        ▸ moment (OfTask 0 Drop) (Task 0) None HolderDropped 2) }
     // .. / got 5 / got 5
     ensures refuses_answer_twice { Refuses FirstTaskLaw one_got
         (moment (OfTask 0 Poll) (Task 0) None (TaskGot 5) 2) }
@@ -64,31 +68,17 @@ pub fn tables()
         (moment (OfTask 0 Cancel) (Task 0) None TaskCancelled 2) }
 {}
 
-/// A poll finds the answer where the call finished before any cancel; else that none will come, once the call is over; and
-/// until then it waits.
-pub fn places()
+/// A poll finds the answer of its own call, where that finished before any cancel.
+pub fn polls_with_answer()
     // .. / answered 5 / finished / ended 1 done / got 5
     ensures accepts_answer { Legal 1 [] one_got }
     // .. / answered 5 / finished / got 5: it need not be ended
     ensures accepts_answer_at_once { Legal 1 [] (one_finished
         ▸ moment (OfTask 0 Poll) (Task 0) None (TaskGot 5) 2) }
-    // .. / finished / accepted 2 / waits, by the task of job 2
-    ensures accepts_wait_of_other_task { Legal 1 [] (one_finished
-        ▸ moment Spawn Pool None (Accepted 2) 2
-        ▸ moment (OfTask 1 Poll) (Task 1) None Waits 2) }
     // .. / finished / ended 1 done / cancelled / got 5: it was there before the cancel
     ensures accepts_answer_before_cancel { Legal 1 [] (one_done
         ▸ moment (OfTask 0 Cancel) (Task 0) None TaskCancelled 2
         ▸ moment (OfTask 0 Poll) (Task 0) None (TaskGot 5) 2) }
-    // .. / answered 5 / cancelled / finished / got none
-    ensures accepts_none_after_cancel { Legal 1 [] (cancelled_finished
-        ▸ moment (OfTask 0 Poll) (Task 0) None TaskGotNone 2) }
-    // .. / answered 5 / waits: the call hasn't finished
-    ensures accepts_wait { Legal 1 [] (one_answered
-        ▸ moment (OfTask 0 Poll) (Task 0) None Waits 2) }
-    // .. / answered 5 / finished / waits
-    ensures refuses_wait_beside_answer { Refuses FirstTaskLaw one_finished
-        (moment (OfTask 0 Poll) (Task 0) None Waits 2) }
     // .. / answered 5 / finished / got 6
     ensures refuses_other_answer { Refuses FirstTaskLaw one_finished
         (moment (OfTask 0 Poll) (Task 0) None (TaskGot 6) 2) }
@@ -96,18 +86,35 @@ pub fn places()
     ensures refuses_answer_of_other_task { Refuses (LawOfTask 1 2) (one_finished
         ▸ moment Spawn Pool None (Accepted 2) 2)
         (moment (OfTask 1 Poll) (Task 1) None (TaskGot 5) 2) }
-    // .. / answered 5 / finished / got none
-    ensures refuses_lost_answer { Refuses FirstTaskLaw one_finished
-        (moment (OfTask 0 Poll) (Task 0) None TaskGotNone 2) }
     // .. / answered 5 / got 5: it isn't put yet
     ensures refuses_early_answer { Refuses FirstTaskLaw one_answered
         (moment (OfTask 0 Poll) (Task 0) None (TaskGot 5) 2) }
-    // accepted 1 +1 / got none
-    ensures refuses_early_none { Refuses FirstTaskLaw one_queued
-        (moment (OfTask 0 Poll) (Task 0) None TaskGotNone 2) }
     // .. / answered 5 / cancelled / finished / got 5
     ensures refuses_answer_after_cancel { Refuses FirstTaskLaw cancelled_finished
         (moment (OfTask 0 Poll) (Task 0) None (TaskGot 5) 2) }
+{}
+
+/// Where there is no answer to find, a poll finds that none will come, once the call is over, and until then it waits.
+pub fn polls_without_answer()
+    // .. / answered 5 / cancelled / finished / got none
+    ensures accepts_none_after_cancel { Legal 1 [] (cancelled_finished
+        ▸ moment (OfTask 0 Poll) (Task 0) None TaskGotNone 2) }
+    // .. / answered 5 / waits: the call hasn't finished
+    ensures accepts_wait { Legal 1 [] (one_answered
+        ▸ moment (OfTask 0 Poll) (Task 0) None Waits 2) }
+    // .. / finished / accepted 2 / waits, by the task of job 2
+    ensures accepts_wait_of_other_task { Legal 1 [] (one_finished
+        ▸ moment Spawn Pool None (Accepted 2) 2
+        ▸ moment (OfTask 1 Poll) (Task 1) None Waits 2) }
+    // .. / answered 5 / finished / got none
+    ensures refuses_lost_answer { Refuses FirstTaskLaw one_finished
+        (moment (OfTask 0 Poll) (Task 0) None TaskGotNone 2) }
+    // accepted 1 +1 / got none
+    ensures refuses_early_none { Refuses FirstTaskLaw one_queued
+        (moment (OfTask 0 Poll) (Task 0) None TaskGotNone 2) }
+    // .. / answered 5 / finished / waits
+    ensures refuses_wait_beside_answer { Refuses FirstTaskLaw one_finished
+        (moment (OfTask 0 Poll) (Task 0) None Waits 2) }
     // .. / cancelled / .. / gave up wake owner / waits
     ensures refuses_wait_for_nothing { Refuses FirstTaskLaw cancelled_given_up
         (moment (OfTask 0 Poll) (Task 0) None Waits 2) }

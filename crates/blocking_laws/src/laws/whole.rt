@@ -1,15 +1,15 @@
 //! Legality as a whole.
-ghost use Rattle.std.specs.Prelude.{◌≡◌, ◌↔◌, ◌||◌, ℕ, List, Bool, [], ◌∷◌, Some, None, true, false};
+ghost use Rattle.std.specs.Prelude.{◌≡◌, ◌↔◌, ◌||◌, ℕ, ◌-◌, ◌++◌, length, List, Bool, [], ◌∷◌, Some, None, true, false};
 ghost use Rattle.blocking_laws.specs.Seen.{is_by_task, is_of_job};
-ghost use Rattle.blocking_laws.specs.Jobs.{holder};
-ghost use Rattle.blocking_laws.specs.Queue.{InOrder};
+ghost use Rattle.blocking_laws.specs.Jobs.{holder, standing, is_queued, is_running};
+ghost use Rattle.blocking_laws.specs.Queue.{InOrder, AreThose, entries, takes, queue, running};
 ghost use Rattle.blocking_laws.specs.Growth.{GrowthLaw};
 ghost use Rattle.blocking_laws.specs.Turns.{TurnLaw};
 ghost use Rattle.blocking_laws.specs.Answers.{AnswerLaw};
 ghost use Rattle.blocking_laws.specs.Wakes.{NoLostWake};
 ghost use Rattle.blocking_laws.specs.Steps.{StepLaw, is_pool_step, is_out_of_memory};
 ghost use Rattle.blocking_laws.specs.Legal.{Legal, PoolLaw, IsLegalThroughout};
-ghost use Rattle.blocking_laws.specs.Traces.{◌▸◌, moment, starting, Refuses, Keeps, LawOfTask, start_refused};
+ghost use Rattle.blocking_laws.specs.Traces.{◌▸◌, moment, starting, Refuses, Keeps, IsPooled, LawOfTask, start_refused};
 ghost use Rattle.blocking_laws.specs.declared.event.Moment.{Moment};
 ghost use Rattle.blocking_laws.specs.declared.event.Act.TheVariants.{Accepted, TaskGot, Arrived, Took, Stopped, Ended, Answered, Finished, NoAction};
 ghost use Rattle.blocking_laws.specs.declared.event.Party.TheVariants.{Task, Worker, Pool};
@@ -36,6 +36,19 @@ pub fn one_event()
         StepLaw past now → StepLaw past other →
         PoolLaw setting marks past now → PoolLaw setting marks past other →
         now.event ≡ other.event }
+{}
+
+/// The order of entry is the takes and then the queue; and the queue and the running jobs are those that stand so, each once.
+/// This holds of each trace that keeps the pool's law, as each legal one does.
+pub fn queue_and_running()
+    ensures entered { (setting : ℕ) (marks : List Bool) (past : List Moment) → IsPooled setting marks past →
+        entries past ≡ takes past ++ queue past }
+    ensures count { (setting : ℕ) (marks : List Bool) (past : List Moment) → IsPooled setting marks past →
+        length (queue past) ≡ length (entries past) - length (takes past) }
+    ensures queued { (setting : ℕ) (marks : List Bool) (past : List Moment) → IsPooled setting marks past →
+        AreThose (λ s. is_queued (standing past s)) (queue past) }
+    ensures running { (setting : ℕ) (marks : List Bool) (past : List Moment) → IsPooled setting marks past →
+        AreThose (λ s. is_running (standing past s)) (running past) }
 {}
 
 /// What one law refuses is in no legal trace.
