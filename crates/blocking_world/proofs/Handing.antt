@@ -4,6 +4,8 @@ use Rattle.std.specs.Prelude.{filter, slice_get, slice_set, nat_lt, Ok, Err}
 use Rattle.std.specs.Cmp.{nat_cmp_total}
 use Rattle.std.specs.Ordering.{eq_by_cmp}
 use Rattle.std.specs.FinMap.{get, insert, remove, get-insert, get-remove}
+use Rattle.std.proofs.Math.Bool.{or_comm}
+use Rattle.std.proofs.lemmas.Bool.{eqb-true, eqb-false, eq-eqb, ne_eqb}
 use Rattle.std.proofs.lemmas.Bool.Decides.{nat_tests}
 use Rattle.std.proofs.lemmas.List.{length-set}
 use Rattle.std.proofs.lemmas.Option.{slice_get_within}
@@ -31,8 +33,8 @@ use Rattle.blocking_laws.specs.Turns.{Turn, GoesOn, MustGiveUp, HasGivenUp, turn
 use Rattle.blocking_world.specs.Worlds.{Worlded, CallPool, new_call, duty_at, duty_of, answered, finished, given_up, woke_at, woke, hand_at, with_hand, has_let_go, may_be, left, poll_in, poll_at, poll_of, polled_in, polled_at, new_owner, owner_in, owner_at, with_owner}
 use Rattle.blocking_world.specs.Crews.{NoneParked, Accepts, AddsTo, TakesFront, no_growth, mark_value, after_wake, after_cancel}
 use Rattle.blocking_world.specs.Machine.{free_hands, seen, next_start, called, pool_called, wait_act, after_wait, with_held}
-use Rattle.blocking_world.specs.Moves.{Move, Idles, Begins, Calls, Arrives, TakesJob, TakesNone, IsAnswered, Finishes, GivesUp, CallsWaker, EndsTurn, HasWaited, SetsLimit, Sweeps, IsWoken, IsStruck, May, moment_of, after, wakes_as, cancels_as, finish_wakes, giving_up_wakes, wait_step}
-use Rattle.blocking_world.specs.Ties.{Tied, Numbered, FiledAs, ValueAs, Handed, HandAs, HeldAs, ActedAs, turn_of, let_go_in, holder_of, is_queued_as, is_running_as as runs_as}
+use Rattle.blocking_world.specs.Moves.{Move, Idles, Begins, Calls, Arrives, TakesJob, TakesNone, IsAnswered, Finishes, GivesUp, CallsWaker, EndsTurn, HasWaited, SetsLimit, Sweeps, IsWoken, IsStruck, May, moment_of, after, wakes_as, cancels_as, finish_wakes, giving_up_wakes, first_stage, wait_step}
+use Rattle.blocking_world.specs.Ties.{Tied, Numbered, FiledAs, ValueAs, Handed, HandAs, HeldAs, ActedAs, RanAs, turn_of, let_go_in, holder_of, is_queued_as, is_running_as as runs_as}
 use Rattle.blocking_world.specs.declared.call.CallJob.{CallJob}
 use Rattle.blocking_laws.specs.declared.event.Act.{Act}
 use Rattle.blocking_laws.specs.declared.event.Act.TheVariants.{Accepted, Refused, JobWoken, JobCancelled, Waits, TaskGot, TaskGotNone, Took, TookDropped, Answered, Finished, GaveUp, HolderWoken}
@@ -54,45 +56,37 @@ use Rattle.blocking_laws.specs.declared.step.TaskCall.TheVariants.{Poll, Cancel,
 use Rattle.blocking_world.specs.declared.task.Owner.{Owner}
 use Rattle.blocking_world.specs.declared.task.TaskStage.{TaskStage}
 use Rattle.blocking_world.specs.declared.task.TaskStage.TheVariants as task
-use Rattle.blocking_world.proofs.Lookups.{same_number}
-use Rattle.blocking_world.proofs.Hands.{other_number, not_same, itself, got_same, got_before, IsAt, at_held, at_free, hand_from_place, hand_set, hand_pushed, hand_next, free_set, free_pushed}
+use Rattle.blocking_world.proofs.Cutting.{acts_more}
+use Rattle.blocking_world.proofs.Hands.{IsAt, at_held, at_free, hand_from_place, hand_set, hand_pushed, hand_next, free_set, free_pushed}
+use Rattle.blocking_world.proofs.Lookups.{job_put, job_out}
+use Rattle.blocking_world.proofs.Polls.{polled_so, called_stays}
+use Rattle.blocking_world.proofs.Rows.{got_same, got_before}
+use Rattle.blocking_world.proofs.Tied.{held_within, hand_seen}
 
 -- ---- the pool's jobs
-
-eq_by_nat : (x y : ℕ) → eq_by_cmp nat_cmp x y ≡ (x == y)
-eq_by_nat x y = grind (arith)
-
-get_inserted : (jobs : Jobs CallJob) (k q : ℕ) (job : Job CallJob) (b : Bool) → (q == k) ≡ b → get (insert jobs k job) q ≡ cond b (Some job) (get jobs q)
-get_inserted jobs k q job b e = get-insert nat_cmp_total jobs k job q ∙ ap (λ c. cond c (Some job) (get jobs q)) (eq_by_nat q k ∙ e)
-
-get_removed : (jobs : Jobs CallJob) (k q : ℕ) (b : Bool) → (q == k) ≡ b → get (remove jobs k) q ≡ cond b None (get jobs q)
-get_removed jobs k q b e = get-remove nat_cmp_total jobs k q ∙ ap (λ c. cond c None (get jobs q)) (eq_by_nat q k ∙ e)
-
-flipped : (m n : ℕ) → (m == n) ≡ false → (n == m) ≡ false
-flipped m n e = grind (arith, nat_tests)
 
 unparked_by : (b : Bool) (job : Job CallJob) (old : Option (Job CallJob)) → is_parked job.standing ≡ false → is_parked_job old ≡ false → is_parked_job (cond b (Some job) old) ≡ false
 unparked_by true job old e f = e
 unparked_by false job old e f = f
 
 insert_unparked : (jobs : Jobs CallJob) (k : ℕ) (job : Job CallJob) → is_parked job.standing ≡ false → NoneParked jobs → NoneParked (insert jobs k job)
-insert_unparked jobs k job e none s = ap is_parked_job (get_inserted jobs k s job (s == k) refl) ∙ unparked_by (s == k) job (get jobs s) e (none s)
+insert_unparked jobs k job e none s = ap is_parked_job (job_put jobs k job s (k == s) refl) ∙ unparked_by (k == s) job (get jobs s) e (none s)
 
 gone_by : (b : Bool) (old : Option (Job CallJob)) → is_parked_job old ≡ false → is_parked_job (cond b None old) ≡ false
 gone_by true old e = refl
 gone_by false old e = e
 
 remove_unparked : (jobs : Jobs CallJob) (k : ℕ) → NoneParked jobs → NoneParked (remove jobs k)
-remove_unparked jobs k none s = ap is_parked_job (get_removed jobs k s (s == k) refl) ∙ gone_by (s == k) (get jobs s) (none s)
+remove_unparked jobs k none s = ap is_parked_job (job_out jobs k s (k == s) refl) ∙ gone_by (k == s) (get jobs s) (none s)
 
 runs_same : (jobs new : Jobs CallJob) (number : JobNumber) → get new number.serial ≡ get jobs number.serial → is_running_as new number ≡ is_running_as jobs number
 runs_same jobs new number e = ap (λ (o : Option (Job CallJob)). is_running_job (if_at number.place o)) e
 
 insert_runs : (jobs : Jobs CallJob) (k : ℕ) (job : Job CallJob) (number : JobNumber) → (k == number.serial) ≡ false → is_running_as (insert jobs k job) number ≡ is_running_as jobs number
-insert_runs jobs k job number e = runs_same jobs (insert jobs k job) number (get_inserted jobs k number.serial job false (flipped k number.serial e))
+insert_runs jobs k job number e = runs_same jobs (insert jobs k job) number (job_put jobs k job number.serial false e)
 
 remove_runs : (jobs : Jobs CallJob) (k : ℕ) (number : JobNumber) → (k == number.serial) ≡ false → is_running_as (remove jobs k) number ≡ is_running_as jobs number
-remove_runs jobs k number e = runs_same jobs (remove jobs k) number (get_removed jobs k number.serial false (flipped k number.serial e))
+remove_runs jobs k number e = runs_same jobs (remove jobs k) number (job_out jobs k number.serial false e)
 
 -- the same jobs run, and the same are parked
 record Alike (jobs new : Jobs CallJob) : Type 0 where
@@ -120,11 +114,11 @@ changed_alike : (jobs : Jobs CallJob) (x : ℕ) (change : Job CallJob → Job Ca
 changed_alike jobs x change None e st pl = record { runs_alike = λ number. refl; parked_alike = λ s. refl }
 changed_alike jobs x change (Some job) e st pl = record {
   runs_alike = λ number.
-      ap (λ (z : Option (Job CallJob)). is_running_job (if_at number.place z)) (get_inserted jobs x number.serial (change job) (number.serial == x) refl)
-      ∙ runs_by (number.serial == x) number.place job (change job) (get jobs number.serial) (st job) (pl job) (λ b. ap (get jobs) (same_number number.serial x b) ∙ e);
+      ap (λ (z : Option (Job CallJob)). is_running_job (if_at number.place z)) (job_put jobs x (change job) number.serial (x == number.serial) refl)
+      ∙ runs_by (x == number.serial) number.place job (change job) (get jobs number.serial) (st job) (pl job) (λ b. ap (get jobs) (sym (eqb-true x number.serial b)) ∙ e);
   parked_alike = λ s.
-      ap is_parked_job (get_inserted jobs x s (change job) (s == x) refl)
-      ∙ parked_by (s == x) job (change job) (get jobs s) (st job) (λ b. ap (get jobs) (same_number s x b) ∙ e);
+      ap is_parked_job (job_put jobs x (change job) s (x == s) refl)
+      ∙ parked_by (x == s) job (change job) (get jobs s) (st job) (λ b. ap (get jobs) (sym (eqb-true x s b)) ∙ e);
 }
 
 amend_alike : (jobs : Jobs CallJob) (x : ℕ) (change : Job CallJob → Job CallJob)
@@ -146,13 +140,11 @@ mark_kept pool number (Some value) =
 
 wake_kept : (how : Woke) (pool : CallPool) (number : JobNumber) → Kept pool (after_wake how pool number)
 wake_kept Marked pool number = record { alike = amend_alike pool.jobs number.serial woken (λ j. refl) (λ j. refl); counts_same = refl }
-wake_kept Entered pool number = record { alike = same_alike pool.jobs; counts_same = refl }
-wake_kept Nothing pool number = record { alike = same_alike pool.jobs; counts_same = refl }
+wake_kept _ pool number = record { alike = same_alike pool.jobs; counts_same = refl }
 
 cancel_kept : (how : Woke) (pool : CallPool) (number : JobNumber) → Kept pool (after_cancel how pool number)
 cancel_kept Marked pool number = record { alike = amend_alike pool.jobs number.serial cancelled (λ j. refl) (λ j. refl); counts_same = refl }
-cancel_kept Entered pool number = record { alike = same_alike pool.jobs; counts_same = refl }
-cancel_kept Nothing pool number = record { alike = same_alike pool.jobs; counts_same = refl }
+cancel_kept _ pool number = record { alike = same_alike pool.jobs; counts_same = refl }
 
 called_kept : (call : TaskCall) (pool : CallPool) (number : JobNumber) → Kept pool (pool_called call pool number)
 called_kept Poll pool number = record { alike = same_alike pool.jobs; counts_same = refl }
@@ -191,54 +183,6 @@ let_go_pushed owners new n is = ap let_go_in (got_before owners new n (let_go_wi
 let_go_owner : (o : Option Owner) → has_let_go (owner_in o).stage ≡ true → let_go_in o ≡ true
 let_go_owner None is = is
 let_go_owner (Some owner) is = is
-
-left_stays : (st : TaskStage) → has_let_go st ≡ true → has_let_go (left st) ≡ true
-left_stays task.Held is = is
-left_stays task.Cancelled is = refl
-left_stays task.Gone is = is
-left_stays task.LetGo is = refl
-
-polled_in_stays : (content : Content ℕ) (owner : Owner) → has_let_go owner.stage ≡ true → has_let_go (polled_in content owner).stage ≡ true
-polled_in_stays Empty owner is = is
-polled_in_stays (Full number) owner is = left_stays owner.stage is
-polled_in_stays GivenUp owner is = left_stays owner.stage is
-polled_in_stays (Abandoned true) owner is = left_stays owner.stage is
-polled_in_stays (Abandoned false) owner is = is
-
-polled_at_stays : (st : TaskStage) (found : Option ℕ) (content : Content ℕ) (owner : Owner) → has_let_go owner.stage ≡ true → has_let_go (polled_at st found content owner).stage ≡ true
-polled_at_stays task.Cancelled (Some number) content owner is = refl
-polled_at_stays task.Cancelled None content owner is = polled_in_stays content owner is
-polled_at_stays task.Held found content owner is = polled_in_stays content owner is
-polled_at_stays task.Gone found content owner is = polled_in_stays content owner is
-polled_at_stays task.LetGo found content owner is = polled_in_stays content owner is
-
--- a task that is gone isn't detached, nor is a cancelled one
-detaches_held : (st : TaskStage) → may_be st Detach ≡ true → has_let_go st ≡ true → ⊥
-detaches_held task.Held may is = cc
-detaches_held task.Cancelled may is = cc
-detaches_held task.Gone may is = cc
-detaches_held task.LetGo may is = cc
-
-called_stays : (call : TaskCall) (owner : Owner) → may_be owner.stage call ≡ true → has_let_go owner.stage ≡ true → has_let_go (called call owner).stage ≡ true
-called_stays Poll owner may is = polled_at_stays owner.stage owner.found owner.slot.content owner is
-called_stays Cancel owner may is = refl
-called_stays Detach owner may is = absurd (detaches_held owner.stage may is)
-called_stays Drop owner may is = refl
-
-polled_by_content : (content : Content ℕ) → IsPolled (poll_in content)
-polled_by_content Empty = tt
-polled_by_content (Full number) = tt
-polled_by_content GivenUp = tt
-polled_by_content (Abandoned true) = tt
-polled_by_content (Abandoned false) = tt
-
--- what a poll answers is an answer to a poll
-polled_so : (st : TaskStage) (found : Option ℕ) (content : Content ℕ) → IsPolled (poll_at st found content)
-polled_so task.Cancelled (Some number) content = tt
-polled_so task.Cancelled None content = polled_by_content content
-polled_so task.Held found content = polled_by_content content
-polled_so task.Gone found content = polled_by_content content
-polled_so task.LetGo found content = polled_by_content content
 
 -- ---- all that is known of the hands, over plain values
 
@@ -356,7 +300,7 @@ apart_set : (row : List Hand) (v : ℕ) (old h : Hand) → IsAt row v old → Ap
 apart_set row v old h at apart fresh a b one other =
     at_set row v a old h at (λ g. g ≡ Holds one → hand_at (with_hand row v h) b ≡ Holds other → one.turn.serial ≡ other.turn.serial → a ≡ b)
     (λ e is. at_set row v b old h at (λ g. g ≡ Holds other → one.turn.serial ≡ other.turn.serial → a ≡ b)
-    (λ f js s. sym (same_number v a e) ∙ same_number v b f)
+    (λ f js s. sym (eqb-true v a e) ∙ eqb-true v b f)
     (λ f js s. absurd (fresh one is b other f js s)))
     (λ e is. at_set row v b old h at (λ g. g ≡ Holds other → one.turn.serial ≡ other.turn.serial → a ≡ b)
     (λ f js s. absurd (fresh other js a one e is (sym s)))
@@ -374,7 +318,7 @@ hand_known : (row : List Hand) (owners new_owners : List Owner) (jobs new_jobs :
     → ((s : ℕ) → new_let_go s ≡ true → let_go_in (slice_get new_owners (s - 1)) ≡ true)
     → Known (with_hand row v h) new_owners new_jobs new_idles new_arrivings new_there new_job new_turns new_acts new_let_go
 hand_known row owners new_owners jobs new_jobs idles new_idles arrivings new_arrivings there new_there job new_job turns new_turns acts new_acts let_go new_let_go v old h k at here others new_held old_held fresh none idle marks = record {
-  hands_are = λ u. at_set row v u old h at (λ g. HandAs g (new_there u) (new_job u)) (λ e. subst (λ n. HandAs h (new_there n) (new_job n)) (same_number v u e) here) (λ e. others u e (k.hands_are u));
+  hands_are = λ u. at_set row v u old h at (λ g. HandAs g (new_there u) (new_job u)) (λ e. subst (λ n. HandAs h (new_there n) (new_job n)) (eqb-true v u e) here) (λ e. others u e (k.hands_are u));
   held_are = λ u held. at_set row v u old h at (λ g. g ≡ Holds held → HeldHere new_owners new_jobs new_turns new_acts held) (λ e is. new_held held is) (λ e is. old_held u held e is);
   apart_are = apart_set row v old h at k.apart_are fresh;
   parked_are = none;
@@ -409,10 +353,10 @@ own_known row owners new_owners jobs idles arrivings there job turns new_turns a
     (λ u d h. h)
     (λ held is. (let alike : new ≡ held = cc in subst (λ x. HeldHere new_owners jobs new_turns new_acts x) alike here))
     (λ u held d is.
-    (let differs = other_number old.turn.serial held.turn.serial (λ s. not_same v u d (k.apart_are v u old held e is s)) in
+    (let differs = ne_eqb old.turn.serial held.turn.serial (λ s. eqb-false v u d (k.apart_are v u old held e is s)) in
     held_moves owners new_owners jobs jobs turns new_turns acts new_acts held (k.held_are u held is) (other_turns held.turn.serial differs) (other_acts held.turn.serial differs)
     (λ g. gone (held.turn.serial - 1) ∙ g) refl (omega (arith, le))))
-    (λ held is u other d js s. (let alike : new ≡ held = cc in not_same v u d (k.apart_are v u old other e js (ap (λ (n : JobNumber). n.serial) (sym same) ∙ ap (λ (x : Held). x.turn.serial) alike ∙ s))))
+    (λ held is u other d js s. (let alike : new ≡ held = cc in eqb-false v u d (k.apart_are v u old other e js (ap (λ (n : JobNumber). n.serial) (sym same) ∙ ap (λ (x : Held). x.turn.serial) alike ∙ s))))
     k.parked_are (omega (arith, free, idle)) (λ s g. gone (s - 1) ∙ k.marks_are s g)
 
 -- an idle worker takes a job, which is in no hand
@@ -430,12 +374,12 @@ take_known row owners jobs new_jobs idles arrivings started there job turns new_
     let free = free_set row (v - 1) (Free pass) (Holds new) at.got in
     let idle = k.idle_are in
     hand_known row owners owners jobs new_jobs idles (idles - 1 + started) arrivings (arrivings + started) there there job (λ u. if v == u then Some new.turn.serial else job u) turns new_turns acts acts let_go let_go v (Free pass) (Holds new) k at
-    (mine.0, ap (λ b. if b then Some new.turn.serial else job v) (itself v))
+    (mine.0, ap (λ b. if b then Some new.turn.serial else job v) (eq-eqb v v refl))
     (λ u d h. subst (λ b. HandAs (hand_at row u) (there u) (if b then Some new.turn.serial else job u)) (sym d) h)
     (λ held is. (let alike : new ≡ held = cc in subst (λ x. HeldHere owners new_jobs new_turns acts x) alike here))
     (λ u held d is.
     (let h = k.held_are u held is in
-    let differs = other_number new.turn.serial held.turn.serial (fresh held h.runs_is) in
+    let differs = ne_eqb new.turn.serial held.turn.serial (fresh held h.runs_is) in
     held_moves owners owners jobs new_jobs turns new_turns acts acts held h (other_turns held.turn.serial differs) refl (λ g. g) (other_runs held.turn differs) (omega arith)))
     (λ held is u other d js s. (let alike : new ≡ held = cc in fresh other (k.held_are u other js).runs_is (ap (λ (x : Held). x.turn.serial) alike ∙ s)))
     none (omega (arith, free, idle)) k.marks_are
@@ -452,11 +396,11 @@ end_known row owners jobs new_jobs idles arrivings there job turns acts let_go v
     let free = free_set row (v - 1) (Holds old) (Free pass) at.got in
     let idle = k.idle_are in
     hand_known row owners owners jobs new_jobs idles (idles + 1) arrivings arrivings there there job (λ u. if v == u then None else job u) turns turns acts acts let_go let_go v (Holds old) (Free pass) k at
-    (mine.0, ap (λ b. if b then None else job v) (itself v))
+    (mine.0, ap (λ b. if b then None else job v) (eq-eqb v v refl))
     (λ u d h. subst (λ b. HandAs (hand_at row u) (there u) (if b then None else job u)) (sym d) h)
     (λ held is. absurd (cc))
     (λ u held d is.
-    (let differs = other_number old.turn.serial held.turn.serial (λ s. not_same v u d (k.apart_are v u old held e is s)) in
+    (let differs = ne_eqb old.turn.serial held.turn.serial (λ s. eqb-false v u d (k.apart_are v u old held e is s)) in
     held_moves owners owners jobs new_jobs turns turns acts acts held (k.held_are u held is) refl refl (λ g. g) (other_runs held.turn differs) (omega arith)))
     (λ held is u other d js s. cc)
     none (omega (arith, free, idle)) k.marks_are
@@ -484,7 +428,7 @@ stop_known row owners jobs idles arrivings there job turns acts let_go v old k e
     let free = free_set row (v - 1) (Free old) Out at.got in
     let idle = k.idle_are in
     hand_known row owners owners jobs jobs idles (idles - 1) arrivings arrivings there (λ u. not (v == u) && there u) job job turns turns acts acts let_go let_go v (Free old) Out k at
-    (ap (λ b. not b && there v) (itself v), mine.1)
+    (ap (λ b. not b && there v) (eq-eqb v v refl), mine.1)
     (λ u d h. subst (λ b. HandAs (hand_at row u) (not b && there u) (job u)) (sym d) h)
     (λ held is. absurd (cc)) (λ u held d is. k.held_are u held is) (λ held is u other d js s. cc)
     k.parked_are (omega (arith, free, idle)) k.marks_are
@@ -506,7 +450,7 @@ arrive_known row owners jobs idles arrivings there job turns acts let_go pass k 
       hands_are = λ u.
           subst (λ g. HandAs g (length row + 1 == u || there u) (job u)) (sym (hand_pushed row u (Free pass)))
           (if_case (length row + 1 == u) (λ g. HandAs g (length row + 1 == u || there u) (job u)) (Free pass) (hand_at row u)
-          (λ e. (ap (λ b. b || there u) e, subst (λ n. job n ≡ None) (same_number (length row + 1) u e) none))
+          (λ e. (ap (λ b. b || there u) e, subst (λ n. job n ≡ None) (eqb-true (length row + 1) u e) none))
           (λ e. subst (λ b. HandAs (hand_at row u) (b || there u) (job u)) (sym e) (k.hands_are u)));
       held_are = λ u held is. k.held_are u held (pushed_held row pass u held is);
       apart_are = λ u v one other is js s. k.apart_are u v one other (pushed_held row pass u one is) (pushed_held row pass v other js) s;
@@ -530,11 +474,8 @@ gave_up_as : (st : Stage) (core : Action) (n : ℕ) (wake : Bool) (acts new_acts
 gave_up_as stage.MustGiveUp core n true acts new_acts d e a = e ∙ ap (λ (x : List Act). GaveUp true ∷ x) a
 gave_up_as stage.MustGiveUp core n false acts new_acts d e a = inl (e ∙ ap (λ (x : List Act). GaveUp false ∷ x) a)
 gave_up_as stage.Runs action.Call n wake acts new_acts d e a = absurd (cc)
-gave_up_as stage.Runs action.Finish n wake acts new_acts d e a = absurd (cc)
-gave_up_as stage.Runs action.Deliver n wake acts new_acts d e a = absurd (cc)
-gave_up_as stage.Runs action.Done n wake acts new_acts d e a = absurd (cc)
-gave_up_as stage.MustWake core n wake acts new_acts d e a = absurd (cc)
-gave_up_as stage.GaveUp core n wake acts new_acts d e a = absurd (cc)
+gave_up_as stage.Runs _ n wake acts new_acts d e a = absurd (cc)
+gave_up_as _ core n wake acts new_acts d e a = absurd (cc)
 
 gave_up_turn : (wake : Bool) → HasGivenUp ≡ turn_of (if wake then stage.MustWake else stage.GaveUp)
 gave_up_turn true = refl
@@ -572,33 +513,14 @@ woke_turn stage.GaveUp held = refl
 -- ---- the front of the queue
 
 queued_is : (st : Option Standing) → is_queued_as st ≡ true → st ≡ Some Queued
-queued_is None e = absurd (cc)
 queued_is (Some Queued) e = refl
-queued_is (Some Running) e = absurd (cc)
-queued_is (Some Parked) e = absurd (cc)
-queued_is (Some Done) e = absurd (cc)
-queued_is (Some Dropped) e = absurd (cc)
-
-swapped : (a b : Bool) → (a || b) ≡ true → (b || a) ≡ true
-swapped true true e = refl
-swapped true false e = refl
-swapped false true e = refl
-swapped false false e = e
-
-both_true : (a b : Bool) (p : Party) → is_some (if a && b then Some p else None) ≡ true → (a ≡ true) × (b ≡ true)
-both_true true true p e = (refl, refl)
-both_true true false p e = absurd (cc)
-both_true false b p e = absurd (cc)
+queued_is _ e = absurd (cc)
 
 -- what stands somewhere was accepted
 accepted_at : (w : Worlded) (past : List Moment) (s : ℕ) → Numbered w past → is_some (standing past s) ≡ true → (0 < s) × (s - 1 < length w.tasks)
 accepted_at w past s n e =
-    let there : is_some (holder_of (tasks past) s) ≡ true = ap is_some (sym (n.holders s)) ∙ sym (n.stands s) ∙ e in
-    let parts = both_true (nat_lt 0 s) (nat_lt (s - 1) (tasks past)) (Task (s - 1)) there in
-    let first = parts.0 in let second = parts.1 in
-    let many = n.owners in
-    let below : s - 1 < tasks past = grind (arith, nat_tests, second) in
-    (grind (arith, nat_tests, first), omega (arith, below, many))
+    let within = held_within (tasks past) s (ap is_some (sym (n.holders s)) ∙ sym (n.stands s) ∙ e) in
+    (within.0, subst (λ m. s - 1 < m) (sym n.owners) within.1)
 
 -- the job that a take gives: it is queued, hasn't acted, and is dropped only where its task let it go
 record Fronted (w : Worlded) (past : List Moment) (number : JobNumber) (value : CallJob) (to_drop : Bool) (entry : Job CallJob) : Type 0 where
@@ -613,7 +535,7 @@ fronted : (setting : ℕ) (may_answer : ℕ → Bool → Type 0) (w : Worlded) (
 fronted setting may_answer w past number value to_drop growth new t f =
     let s = number.serial in
     let line : queue past ≡ s ∷ f.rest = sym t.lined.same ∙ f.front in
-    let first : among (s ∷ f.rest) s ≡ true = ap (λ b. b || among f.rest s) (itself s) in
+    let first : among (s ∷ f.rest) s ≡ true = ap (λ b. b || among f.rest s) (eq-eqb s s refl) in
     let stands : standing past s ≡ Some Queued = queued_is (standing past s) (sym (t.lined.each s) ∙ ap (λ (q : List ℕ). among q s) line ∙ first) in
     let filed : FiledAs (Some f.job) (standing past s) (is_woken past s) (is_cancelled past s) (is_marked past s) (has_ended past s) (acts_of s (events past)) =
     subst (λ (o : Option (Job CallJob)). FiledAs o (standing past s) (is_woken past s) (is_cancelled past s) (is_marked past s) (has_ended past s) (acts_of s (events past))) f.found (t.filed s) in
@@ -630,7 +552,7 @@ fronted setting may_answer w past number value to_drop growth new t f =
       entry_is = entry;
       unacted = valued_as.1;
       core_is = ap (λ (x : CallJob). x.core) is;
-      wanted_is = λ e. swapped (is_cancelled past s) (is_marked past s) (ap (λ b. b || is_marked past s) cancelled_is ∙ ap (λ b. f.job.cancelled || b) (sym marked_is) ∙ sym f.wanted ∙ e);
+      wanted_is = λ e. or_comm (is_marked past s) (is_cancelled past s) ∙ (ap (λ b. b || is_marked past s) cancelled_is ∙ ap (λ b. f.job.cancelled || b) (sym marked_is) ∙ sym f.wanted ∙ e);
     }
 
 -- a queued job isn't in a hand
@@ -646,8 +568,8 @@ queued_rests_at jobs number other entry found stands same runs =
 -- the taken job runs
 taken_runs : (jobs : Jobs CallJob) (number : JobNumber) (entry : Job CallJob) → entry.place ≡ number.place → is_running_as (insert jobs number.serial (running entry)) number ≡ true
 taken_runs jobs number entry place =
-    ap (λ (o : Option (Job CallJob)). is_running_job (if_at number.place o)) (get_inserted jobs number.serial number.serial (running entry) true (itself number.serial))
-    ∙ ap (λ (b : Bool). is_running_job (if b then Some (running entry) else None)) (ap (λ (n : ℕ). n == number.place) place ∙ itself number.place)
+    ap (λ (o : Option (Job CallJob)). is_running_job (if_at number.place o)) (job_put jobs number.serial (running entry) number.serial true (eq-eqb number.serial number.serial refl))
+    ∙ ap (λ (b : Bool). is_running_job (if b then Some (running entry) else None)) (ap (λ (n : ℕ). n == number.place) place ∙ eq-eqb number.place number.place refl)
 
 -- ---- each move, by what is known
 
@@ -676,7 +598,7 @@ begun setting may_answer w past number growth new step first t a =
     (parts_known w.hands w.tasks (w.tasks ++ new_owner number ∷ []) w.pool.jobs (insert w.pool.jobs w.pool.next_serial (new_job number.place new_call))
     w.pool.counts.idle (w.pool.counts.idle + growth.started) w.pool.counts.arriving (w.pool.counts.arriving + growth.started)
     (is_there past) (hand past) (turn past) (job_acts past) (was_let_go past) (was_let_go past) k
-    (λ held p o. insert_runs w.pool.jobs w.pool.next_serial (new_job number.place new_call) held.turn (other_number w.pool.next_serial held.turn.serial (λ same. omega (arith, same, p, o, next, many))))
+    (λ held p o. insert_runs w.pool.jobs w.pool.next_serial (new_job number.place new_call) held.turn (ne_eqb w.pool.next_serial held.turn.serial (λ same. omega (arith, same, p, o, next, many))))
     (let_go_pushed w.tasks (new_owner number)) le
     (insert_unparked w.pool.jobs w.pool.next_serial (new_job number.place new_call) refl k.parked_are)
     (same_idle w.pool.counts.idle w.pool.counts.arriving growth.started (free_hands w.hands) k.idle_are)
@@ -728,7 +650,7 @@ polled_known _ w past k owner step first is old e may = elim is [ ]
 -- a task is called, and marks its call
 
 is_holder_of : (a b : Bool) (j k : ℕ) → is_holder (if a && b then Some (Task j) else None) (Task k) ≡ true → j ≡ k
-is_holder_of true true j k e = sym (same_number k j e)
+is_holder_of true true j k e = sym (eqb-true k j e)
 is_holder_of true false j k e = absurd (cc)
 is_holder_of false b j k e = absurd (cc)
 
@@ -748,67 +670,43 @@ mark_by w past k call owner n old e may lets s g =
 
 -- a job is taken
 
-took_run : (setting : ℕ) (may_answer : ℕ → Bool → Type 0) (w : Worlded) (past : List Moment) (v : ℕ) (pass : WorkerPass) (number : JobNumber) (value : CallJob) (growth : Growth) (new : CallPool) (step : Step) (first : ℕ)
-    → Tied setting w past → hand_at w.hands v ≡ Free pass → TakesFront may_answer w.pool number value false growth new
-    → KnownOf (record w { pool = new; hands = with_held w v (record { turn = number; job = value; stage = stage.Runs }) }) (at_step step (seen (Worker v) (Some number.serial) (Took number.serial) first growth) ∷ past)
-took_run setting may_answer w past v pass number value growth new step first t e f =
-    let k = known w past t.handed in
-    let front = fronted setting may_answer w past number value false growth new t f in
-    let place = accepted_at w past number.serial t.numbered (ap is_some front.stands_is) in
-    let held : Held = record { turn = number; job = value; stage = stage.Runs } in
-    let turns : ℕ → Turn = λ s. if number.serial == s then GoesOn else turn past s in
-    let here : HeldHere w.tasks (insert w.pool.jobs number.serial (running f.job)) turns (job_acts past) held = record {
-      as_is = record {
-        turn_is = ap (λ b. if b then GoesOn else turn past number.serial) (itself number.serial);
-        acts_are = subst (λ core. ActedAs stage.Runs core value.number (job_acts past number.serial)) (sym front.core_is) front.unacted;
-        wanted = λ is. absurd (cc);
-      };
-      runs_is = taken_runs w.pool.jobs number f.job f.place;
-      positive_is = place.0;
-      owned_is = place.1;
-    } in
-    subst (λ (p : CallPool). KnownOf (record w { pool = p; hands = with_held w v (record { turn = number; job = value; stage = stage.Runs }) }) (at_step step (seen (Worker v) (Some number.serial) (Took number.serial) first growth) ∷ past)) (sym f.after_is)
-    (take_known w.hands w.tasks w.pool.jobs (insert w.pool.jobs number.serial (running f.job)) w.pool.counts.idle w.pool.counts.arriving growth.started
-    (is_there past) (hand past) (turn past) turns (job_acts past) (was_let_go past) v pass held k e here
-    (λ other runs same. queued_rests_at w.pool.jobs number other.turn f.job f.found front.entry_is same runs)
-    (λ x d. ap (λ b. if b then GoesOn else turn past x) d)
-    (λ other d. insert_runs w.pool.jobs number.serial (running f.job) other d)
-    (insert_unparked w.pool.jobs number.serial (running f.job) refl k.parked_are))
+first_as : (to_drop : Bool) (core : Action) (n : ℕ) (acts : List Act) → core ≡ action.Call → acts ≡ [] → ActedAs (first_stage to_drop) core n acts
+first_as true core n acts is none = none
+first_as false core n acts is none = subst (λ next. RanAs next n acts) (sym is) none
 
-took_drop : (setting : ℕ) (may_answer : ℕ → Bool → Type 0) (w : Worlded) (past : List Moment) (v : ℕ) (pass : WorkerPass) (number : JobNumber) (value : CallJob) (growth : Growth) (new : CallPool) (step : Step) (first : ℕ)
-    → Tied setting w past → hand_at w.hands v ≡ Free pass → TakesFront may_answer w.pool number value true growth new
-    → KnownOf (record w { pool = new; hands = with_held w v (record { turn = number; job = value; stage = stage.MustGiveUp }) }) (at_step step (seen (Worker v) (Some number.serial) (TookDropped number.serial) first growth) ∷ past)
-took_drop setting may_answer w past v pass number value growth new step first t e f =
+first_wanted : (to_drop : Bool) (P : Type 0) → (to_drop ≡ true → P) → first_stage to_drop ≡ stage.MustGiveUp → P
+first_wanted true P wanted is = wanted refl
+first_wanted false P wanted is = absurd (cc)
+
+took_known : (setting : ℕ) (may_answer : ℕ → Bool → Type 0) (w : Worlded) (past : List Moment) (v : ℕ) (pass : WorkerPass) (number : JobNumber) (value : CallJob) (to_drop : Bool) (growth : Growth) (new : CallPool)
+    → Tied setting w past → hand_at w.hands v ≡ Free pass → TakesFront may_answer w.pool number value to_drop growth new
+    → Known (with_held w v (record { turn = number; job = value; stage = first_stage to_drop })) w.tasks new.jobs new.counts.idle new.counts.arriving
+    (is_there past) (λ u. if v == u then Some number.serial else hand past u) (λ s. if number.serial == s then turn_of (first_stage to_drop) else turn past s) (job_acts past) (was_let_go past)
+took_known setting may_answer w past v pass number value to_drop growth new t e f =
     let k = known w past t.handed in
-    let front = fronted setting may_answer w past number value true growth new t f in
+    let front = fronted setting may_answer w past number value to_drop growth new t f in
     let place = accepted_at w past number.serial t.numbered (ap is_some front.stands_is) in
-    let held : Held = record { turn = number; job = value; stage = stage.MustGiveUp } in
-    let turns : ℕ → Turn = λ s. if number.serial == s then MustGiveUp else turn past s in
+    let held : Held = record { turn = number; job = value; stage = first_stage to_drop } in
+    let turns : ℕ → Turn = λ s. if number.serial == s then turn_of (first_stage to_drop) else turn past s in
     let here : HeldHere w.tasks (insert w.pool.jobs number.serial (running f.job)) turns (job_acts past) held = record {
       as_is = record {
-        turn_is = ap (λ b. if b then MustGiveUp else turn past number.serial) (itself number.serial);
-        acts_are = front.unacted;
-        wanted = λ is. k.marks_are number.serial (front.wanted_is refl);
+        turn_is = ap (λ b. if b then turn_of (first_stage to_drop) else turn past number.serial) (eq-eqb number.serial number.serial refl);
+        acts_are = first_as to_drop value.core value.number (job_acts past number.serial) front.core_is front.unacted;
+        wanted = first_wanted to_drop (let_go_in (slice_get w.tasks (number.serial - 1)) ≡ true) (λ is. k.marks_are number.serial (front.wanted_is is));
       };
       runs_is = taken_runs w.pool.jobs number f.job f.place;
       positive_is = place.0;
       owned_is = place.1;
     } in
-    subst (λ (p : CallPool). KnownOf (record w { pool = p; hands = with_held w v (record { turn = number; job = value; stage = stage.MustGiveUp }) }) (at_step step (seen (Worker v) (Some number.serial) (TookDropped number.serial) first growth) ∷ past)) (sym f.after_is)
+    subst (λ (p : CallPool). Known (with_held w v held) w.tasks p.jobs p.counts.idle p.counts.arriving (is_there past) (λ u. if v == u then Some number.serial else hand past u) turns (job_acts past) (was_let_go past)) (sym f.after_is)
     (take_known w.hands w.tasks w.pool.jobs (insert w.pool.jobs number.serial (running f.job)) w.pool.counts.idle w.pool.counts.arriving growth.started
     (is_there past) (hand past) (turn past) turns (job_acts past) (was_let_go past) v pass held k e here
     (λ other runs same. queued_rests_at w.pool.jobs number other.turn f.job f.found front.entry_is same runs)
-    (λ x d. ap (λ b. if b then MustGiveUp else turn past x) d)
+    (λ x d. ap (λ b. if b then turn_of (first_stage to_drop) else turn past x) d)
     (λ other d. insert_runs w.pool.jobs number.serial (running f.job) other d)
     (insert_unparked w.pool.jobs number.serial (running f.job) refl k.parked_are))
 
 -- a job acts itself
-
-acts_elsewhere : (e : Event) (x : ℕ) (before : List Event) → is_of_job x e ≡ false → acts_of x (e ∷ before) ≡ acts_of x before
-acts_elsewhere e x before is = ap (λ b. map (λ (y : Event). y.act) (cond b (e ∷ filter (is_of_job x) before) (filter (is_of_job x) before))) is
-
-acts_here : (e : Event) (x : ℕ) (before : List Event) → is_of_job x e ≡ true → acts_of x (e ∷ before) ≡ e.act ∷ acts_of x before
-acts_here e x before is = ap (λ b. map (λ (y : Event). y.act) (cond b (e ∷ filter (is_of_job x) before) (filter (is_of_job x) before))) is
 
 answer_known : (w : Worlded) (past : List Moment) (v : ℕ) (held : Held) (number : ℕ) (step : Step) (first : ℕ) → KnownOf w past → hand_at w.hands v ≡ Holds held → duty_of held ≡ duty.Await
     → KnownOf (record w { hands = with_held w v (answered held number) }) (at_step step (seen (Worker v) (Some held.turn.serial) (Answered (Number number)) first no_growth) ∷ past)
@@ -818,10 +716,10 @@ answer_known w past v held number step first k e d =
     own_known w.hands w.tasks w.tasks w.pool.jobs w.pool.counts.idle w.pool.counts.arriving (is_there past) (hand past) (turn past) (turn past) (job_acts past) (job_acts (at_step step event ∷ past)) (was_let_go past) v held (answered held number) k e refl
     (record {
       turn_is = h.turn_is;
-      acts_are = answered_as held.stage held.job.core held.job.number number (job_acts past held.turn.serial) (job_acts (at_step step event ∷ past) held.turn.serial) d (acts_here event held.turn.serial (events past) (itself held.turn.serial)) h.acts_are;
+      acts_are = answered_as held.stage held.job.core held.job.number number (job_acts past held.turn.serial) (job_acts (at_step step event ∷ past) held.turn.serial) d (acts_more held.turn.serial event (events past) true (eq-eqb held.turn.serial held.turn.serial refl)) h.acts_are;
       wanted = h.wanted;
     })
-    (λ x o. refl) (λ x o. acts_elsewhere event x (events past) o) (λ n. refl) refl
+    (λ x o. refl) (λ x o. acts_more x event (events past) false o) (λ n. refl) refl
 
 finish_known : (w : Worlded) (past : List Moment) (v : ℕ) (held : Held) (wake : Bool) (new : Owner) (step : Step) (first : ℕ) → KnownOf w past → hand_at w.hands v ≡ Holds held → duty_of held ≡ duty.Finish → has_let_go new.stage ≡ has_let_go (owner_at w.tasks held.turn.serial).stage
     → KnownOf (record w { tasks = with_owner w.tasks held.turn.serial new; hands = with_held w v (finished held wake) }) (at_step step (seen (Worker v) (Some held.turn.serial) (Finished wake) first no_growth) ∷ past)
@@ -831,10 +729,10 @@ finish_known w past v held wake new step first k e d same =
     own_known w.hands w.tasks (with_owner w.tasks held.turn.serial new) w.pool.jobs w.pool.counts.idle w.pool.counts.arriving (is_there past) (hand past) (turn past) (turn past) (job_acts past) (job_acts (at_step step event ∷ past)) (was_let_go past) v held (finished held wake) k e refl
     (record {
       turn_is = h.turn_is;
-      acts_are = finished_as held.stage held.job.core held.job.number wake (job_acts past held.turn.serial) (job_acts (at_step step event ∷ past) held.turn.serial) d (acts_here event held.turn.serial (events past) (itself held.turn.serial)) h.acts_are;
+      acts_are = finished_as held.stage held.job.core held.job.number wake (job_acts past held.turn.serial) (job_acts (at_step step event ∷ past) held.turn.serial) d (acts_more held.turn.serial event (events past) true (eq-eqb held.turn.serial held.turn.serial refl)) h.acts_are;
       wanted = h.wanted;
     })
-    (λ x o. refl) (λ x o. acts_elsewhere event x (events past) o) (let_go_same w.tasks (held.turn.serial - 1) new same) (length-set w.tasks (held.turn.serial - 1) new)
+    (λ x o. refl) (λ x o. acts_more x event (events past) false o) (let_go_same w.tasks (held.turn.serial - 1) new same) (length-set w.tasks (held.turn.serial - 1) new)
 
 give_up_known : (w : Worlded) (past : List Moment) (v : ℕ) (held : Held) (wake : Bool) (new : Owner) (step : Step) (first : ℕ) → KnownOf w past → hand_at w.hands v ≡ Holds held → duty_of held ≡ duty.GiveUp → has_let_go new.stage ≡ has_let_go (owner_at w.tasks held.turn.serial).stage
     → KnownOf (record w { tasks = with_owner w.tasks held.turn.serial new; hands = with_held w v (given_up held wake) }) (at_step step (seen (Worker v) (Some held.turn.serial) (GaveUp wake) first no_growth) ∷ past)
@@ -844,11 +742,11 @@ give_up_known w past v held wake new step first k e d same =
     let s = held.turn.serial in
     own_known w.hands w.tasks (with_owner w.tasks held.turn.serial new) w.pool.jobs w.pool.counts.idle w.pool.counts.arriving (is_there past) (hand past) (turn past) (λ x. if held.turn.serial == x then HasGivenUp else turn past x) (job_acts past) (job_acts (at_step step event ∷ past)) (was_let_go past) v held (given_up held wake) k e refl
     (record {
-      turn_is = ap (λ b. if b then HasGivenUp else turn past s) (itself s) ∙ gave_up_turn wake;
-      acts_are = gave_up_as held.stage held.job.core held.job.number wake (job_acts past s) (job_acts (at_step step event ∷ past) s) d (acts_here event s (events past) (itself s)) h.acts_are;
+      turn_is = ap (λ b. if b then HasGivenUp else turn past s) (eq-eqb s s refl) ∙ gave_up_turn wake;
+      acts_are = gave_up_as held.stage held.job.core held.job.number wake (job_acts past s) (job_acts (at_step step event ∷ past) s) d (acts_more s event (events past) true (eq-eqb s s refl)) h.acts_are;
       wanted = λ is. absurd (gave_up_once wake is);
     })
-    (λ x o. ap (λ b. if b then HasGivenUp else turn past x) o) (λ x o. acts_elsewhere event x (events past) o) (let_go_same w.tasks (held.turn.serial - 1) new same) (length-set w.tasks (held.turn.serial - 1) new)
+    (λ x o. ap (λ b. if b then HasGivenUp else turn past x) o) (λ x o. acts_more x event (events past) false o) (let_go_same w.tasks (held.turn.serial - 1) new same) (length-set w.tasks (held.turn.serial - 1) new)
 
 wake_known : (w : Worlded) (past : List Moment) (v : ℕ) (held : Held) (step : Step) (first : ℕ) → KnownOf w past → hand_at w.hands v ≡ Holds held → duty_of held ≡ duty.Wake
     → KnownOf (record w { hands = with_held w v (woke held) }) (at_step step (seen (Worker v) (Some held.turn.serial) HolderWoken first no_growth) ∷ past)
@@ -856,8 +754,8 @@ wake_known w past v held step first k e d =
     let event : Event = seen (Worker v) (Some held.turn.serial) HolderWoken first no_growth in
     let s = held.turn.serial in
     own_known w.hands w.tasks w.tasks w.pool.jobs w.pool.counts.idle w.pool.counts.arriving (is_there past) (hand past) (turn past) (turn past) (job_acts past) (job_acts (at_step step event ∷ past)) (was_let_go past) v held (woke held) k e (woke_turn held.stage held)
-    (woke_held held held.stage (turn past s) (job_acts past s) (job_acts (at_step step event ∷ past) s) (let_go_in (slice_get w.tasks (s - 1))) refl d (acts_here event s (events past) (itself s)) (k.held_are v held e).as_is)
-    (λ x o. refl) (λ x o. acts_elsewhere event x (events past) o) (λ n. refl) refl
+    (woke_held held held.stage (turn past s) (job_acts past s) (job_acts (at_step step event ∷ past) s) (let_go_in (slice_get w.tasks (s - 1))) refl d (acts_more s event (events past) true (eq-eqb s s refl)) (k.held_are v held e).as_is)
+    (λ x o. refl) (λ x o. acts_more x event (events past) false o) (λ n. refl) refl
 
 -- a worker has waited
 
@@ -874,8 +772,8 @@ stirred_known how w past s number step first k =
     kept_known w.hands w.tasks w.tasks w.pool (after_wake how w.pool number) (is_there past) (hand past) (turn past) (job_acts past) (was_let_go past) (was_let_go past) k (wake_kept how w.pool number) (λ n g. g) (omega arith) k.marks_are
 
 cancels_only : (how : Woke) (s x : ℕ) → cancels (JobCancelled s how) x ≡ true → s ≡ x
-cancels_only Entered s x e = same_number s x e
-cancels_only Marked s x e = same_number s x e
+cancels_only Entered s x e = eqb-true s x e
+cancels_only Marked s x e = eqb-true s x e
 cancels_only Nothing s x e = absurd (cc)
 
 strike_cases : (m b c : Bool) → (m || (b || c)) ≡ true → (b ≡ true) ⊎ ((m || c) ≡ true)
@@ -895,10 +793,9 @@ struck_known how w past s number step first k let_go =
 
 -- what is known of the hands after a move
 known_after : (setting : ℕ) (marks : List Bool) (w : Worlded) (past : List Moment) (move : Move) → Tied setting w past → May (IsMarked marks) w move → KnownOf (after w move) (moment_of w move ∷ past)
-known_after setting marks w past (Idles step) t m = known w past t.handed
 known_after setting marks w past (Begins (Ok number) growth pool) t m = begun setting (IsMarked marks) w past number growth pool Spawn (next_start w) t m
 known_after setting marks w past (Begins (Err why) growth pool) t m = refused setting (IsMarked marks) w past why growth pool Spawn (next_start w) t m
-known_after setting marks w past (Calls k Poll owner) t m = polled_known (poll_of owner) w past k owner (OfTask k Poll) (next_start w) (polled_so owner.stage owner.found owner.slot.content) (known w past t.handed) m.0 m.1
+known_after setting marks w past (Calls k Poll owner) t m = polled_known (poll_of owner) w past k owner (OfTask k Poll) (next_start w) (polled_so owner) (known w past t.handed) m.0 m.1
 known_after setting marks w past (Calls k Cancel owner) t m =
     let old = known w past t.handed in
     called_known w past k Cancel owner (λ s. (is_holder (holder past s) (Task k) && not (has_ended past s) || is_marked past s) || is_cancelled past s) old m.0 m.1 (mark_by w past k Cancel owner t.numbered old m.0 m.1 refl)
@@ -908,8 +805,8 @@ known_after setting marks w past (Calls k Drop owner) t m =
     called_known w past k Drop owner (λ s. (is_holder (holder past s) (Task k) && not (has_ended past s) || is_marked past s) || is_cancelled past s) old m.0 m.1 (mark_by w past k Drop owner t.numbered old m.0 m.1 refl)
 known_after setting marks w past (Arrives pass) t m =
     arrive_known w.hands w.tasks w.pool.jobs w.pool.counts.idle w.pool.counts.arriving (is_there past) (hand past) (turn past) (job_acts past) (was_let_go past) pass (known w past t.handed) m
-known_after setting marks w past (TakesJob v old false number job growth pool) t m = took_run setting (IsMarked marks) w past v old number job growth pool (Take v) (next_start w) t m.0 m.1
-known_after setting marks w past (TakesJob v old true number job growth pool) t m = took_drop setting (IsMarked marks) w past v old number job growth pool (Take v) (next_start w) t m.0 m.1
+known_after setting marks w past (TakesJob v old false number job growth pool) t m = took_known setting (IsMarked marks) w past v old number job false growth pool t m.0 m.1
+known_after setting marks w past (TakesJob v old true number job growth pool) t m = took_known setting (IsMarked marks) w past v old number job true growth pool t m.0 m.1
 known_after setting marks w past (TakesNone v old pass) t m =
     idle_known w.hands w.tasks w.pool.jobs w.pool.counts.idle w.pool.counts.arriving (is_there past) (hand past) (turn past) (job_acts past) (was_let_go past) v old pass (known w past t.handed) m.0
 known_after setting marks w past (IsAnswered v held number) t m = answer_known w past v held number (Io v (Number number)) (next_start w) (known w past t.handed) m.0 m.1
@@ -921,10 +818,9 @@ known_after setting marks w past (EndsTurn v held pass) t m =
     end_known w.hands w.tasks w.pool.jobs (remove w.pool.jobs held.turn.serial) w.pool.counts.idle w.pool.counts.arriving (is_there past) (hand past) (turn past) (job_acts past) (was_let_go past) v held pass k m.0
     (remove_runs w.pool.jobs held.turn.serial) (remove_unparked w.pool.jobs held.turn.serial k.parked_are)
 known_after setting marks w past (HasWaited v pass late) t m = waited_known (must_stop late w.pool) w past v pass late (wait_step late v) (next_start w) (known w past t.handed) m
-known_after setting marks w past (SetsLimit n) t m = known w past t.handed
-known_after setting marks w past Sweeps t m = known w past t.handed
 known_after setting marks w past (IsWoken s) t m = stirred_known (wakes_as w s) w past s (owner_at w.tasks s).number (Stray s) (next_start w) (known w past t.handed)
 known_after setting marks w past (IsStruck s) t m = struck_known (cancels_as w s) w past s (owner_at w.tasks s).number (Strike s) (next_start w) (known w past t.handed) m.1
+known_after setting marks w past move t m = known w past t.handed
 
 -- Each move keeps the tie of the hands.
 pub handed_after : (setting : ℕ) (marks : List Bool) (w : Worlded) (past : List Moment) (move : Move) → Tied setting w past → May (IsMarked marks) w move → Handed (after w move) (moment_of w move ∷ past)
@@ -934,30 +830,22 @@ handed_after setting marks w past move t m = handed (after w move) (moment_of w 
 
 fits_await : (st : Stage) (core : Action) (act : Act) → duty_at st core ≡ duty.Await → is_giving_up act ≡ false → FitsTurn (turn_of st) act
 fits_await stage.Runs core act d g = g
-fits_await stage.MustGiveUp core act d g = absurd (cc)
-fits_await stage.MustWake core act d g = absurd (cc)
-fits_await stage.GaveUp core act d g = absurd (cc)
+fits_await _ core act d g = absurd (cc)
 
 fits_finish : (st : Stage) (core : Action) (act : Act) → duty_at st core ≡ duty.Finish → is_giving_up act ≡ false → FitsTurn (turn_of st) act
 fits_finish stage.Runs core act d g = g
-fits_finish stage.MustGiveUp core act d g = absurd (cc)
-fits_finish stage.MustWake core act d g = absurd (cc)
-fits_finish stage.GaveUp core act d g = absurd (cc)
+fits_finish _ core act d g = absurd (cc)
 
 fits_give_up : (st : Stage) (core : Action) (wake : Bool) → duty_at st core ≡ duty.GiveUp → FitsTurn (turn_of st) (GaveUp wake)
-fits_give_up stage.Runs action.Call wake d = absurd (cc)
-fits_give_up stage.Runs action.Finish wake d = absurd (cc)
-fits_give_up stage.Runs action.Deliver wake d = absurd (cc)
-fits_give_up stage.Runs action.Done wake d = absurd (cc)
 fits_give_up stage.MustGiveUp core wake d = refl
-fits_give_up stage.MustWake core wake d = absurd (cc)
-fits_give_up stage.GaveUp core wake d = absurd (cc)
+fits_give_up stage.Runs action.Call wake d = absurd (cc)
+fits_give_up stage.Runs _ wake d = absurd (cc)
+fits_give_up _ core wake d = absurd (cc)
 
 fits_wake : (st : Stage) (core : Action) → duty_at st core ≡ duty.Wake → FitsTurn (turn_of st) HolderWoken
 fits_wake stage.Runs core d = refl
-fits_wake stage.MustGiveUp core d = absurd (cc)
 fits_wake stage.MustWake core d = refl
-fits_wake stage.GaveUp core d = absurd (cc)
+fits_wake _ core d = absurd (cc)
 
 -- whose job is in a hand, and where it is in its turn
 record InHand (past : List Moment) (v : ℕ) (held : Held) : Type 0 where
@@ -966,8 +854,7 @@ record InHand (past : List Moment) (v : ℕ) (held : Held) : Type 0 where
 
 in_hand : (w : Worlded) (past : List Moment) (v : ℕ) (held : Held) → Handed w past → hand_at w.hands v ≡ Holds held → InHand past v held
 in_hand w past v held h e =
-    let mine : HandAs (Holds held) (is_there past v) (hand past v) = subst (λ g. HandAs g (is_there past v) (hand past v)) e (h.each v) in
-    record { its_job = mine.1; its_turn = (h.held v held e).turn_is }
+    record { its_job = (hand_seen w past v (Holds held) h e).1; its_turn = (h.held v held e).turn_is }
 
 -- a job in its hand does what fits its turn
 acts_in_turn : (past : List Moment) (v : ℕ) (held : Held) (act : Act) → InHand past v held → FitsTurn (turn_of held.stage) act → (hand past v ≡ Some held.turn.serial) × FitsTurn (turn past held.turn.serial) act
@@ -977,8 +864,7 @@ taken_once : (setting : ℕ) (may_answer : ℕ → Bool → Type 0) (w : Worlded
     → Tied setting w past → hand_at w.hands v ≡ Free pass → TakesFront may_answer w.pool number value to_drop growth new → (hand past v ≡ None) × (among (running_jobs past) number.serial ≡ false)
 taken_once setting may_answer w past v pass number value to_drop growth new t e f =
     let front = fronted setting may_answer w past number value to_drop growth new t f in
-    let mine : HandAs (Free pass) (is_there past v) (hand past v) = subst (λ g. HandAs g (is_there past v) (hand past v)) e (t.handed.each v) in
-    (mine.1, t.counted.each number.serial ∙ ap runs_as front.stands_is)
+    ((hand_seen w past v (Free pass) t.handed e).1, t.counted.each number.serial ∙ ap runs_as front.stands_is)
 
 polls_quietly : (act : Act) (past : List Moment) (now : Event) → IsPolled act → HoldsOne past now act
 polls_quietly (TaskGot n) past now is = tt
@@ -992,17 +878,10 @@ waits_quietly false late past now v = tt
 
 -- The law of turns holds at each move.
 pub turn_after : (setting : ℕ) (marks : List Bool) (w : Worlded) (past : List Moment) (move : Move) → Tied setting w past → May (IsMarked marks) w move → TurnLaw past (moment_of w move)
-turn_after setting marks w past (Idles step) t m = record { one = tt; acts = tt }
 turn_after setting marks w past (Begins (Ok number) growth pool) t m = record { one = tt; acts = tt }
-turn_after setting marks w past (Begins (Err why) growth pool) t m = record { one = tt; acts = tt }
-turn_after setting marks w past (Calls k Poll owner) t m = record { one = polls_quietly (poll_of owner) past (moment_of w (Calls k Poll owner)).event (polled_so owner.stage owner.found owner.slot.content); acts = tt }
-turn_after setting marks w past (Calls k Cancel owner) t m = record { one = tt; acts = tt }
-turn_after setting marks w past (Calls k Detach owner) t m = record { one = tt; acts = tt }
-turn_after setting marks w past (Calls k Drop owner) t m = record { one = tt; acts = tt }
-turn_after setting marks w past (Arrives pass) t m = record { one = tt; acts = tt }
+turn_after setting marks w past (Calls k Poll owner) t m = record { one = polls_quietly (poll_of owner) past (moment_of w (Calls k Poll owner)).event (polled_so owner); acts = tt }
 turn_after setting marks w past (TakesJob v old false number job growth pool) t m = record { one = taken_once setting (IsMarked marks) w past v old number job false growth pool t m.0 m.1; acts = tt }
 turn_after setting marks w past (TakesJob v old true number job growth pool) t m = record { one = taken_once setting (IsMarked marks) w past v old number job true growth pool t m.0 m.1; acts = tt }
-turn_after setting marks w past (TakesNone v old pass) t m = record { one = tt; acts = tt }
 turn_after setting marks w past (IsAnswered v held number) t m = record { one = tt; acts = acts_in_turn past v held (Answered (Number number)) (in_hand w past v held t.handed m.0) (fits_await held.stage held.job.core (Answered (Number number)) m.1 refl) }
 turn_after setting marks w past (Finishes v held) t m =
     record { one = tt; acts = acts_in_turn past v held (Finished (finish_wakes w held)) (in_hand w past v held t.handed m.0) (fits_finish held.stage held.job.core (Finished (finish_wakes w held)) m.1 refl) }
@@ -1011,7 +890,4 @@ turn_after setting marks w past (GivesUp v held) t m =
 turn_after setting marks w past (CallsWaker v held) t m = record { one = tt; acts = acts_in_turn past v held HolderWoken (in_hand w past v held t.handed m.0) (fits_wake held.stage held.job.core m.1) }
 turn_after setting marks w past (EndsTurn v held pass) t m = record { one = (in_hand w past v held t.handed m.0).its_job; acts = tt }
 turn_after setting marks w past (HasWaited v pass late) t m = record { one = waits_quietly (must_stop late w.pool) late past (moment_of w (HasWaited v pass late)).event v; acts = tt }
-turn_after setting marks w past (SetsLimit n) t m = record { one = tt; acts = tt }
-turn_after setting marks w past Sweeps t m = record { one = tt; acts = tt }
-turn_after setting marks w past (IsWoken s) t m = record { one = tt; acts = tt }
-turn_after setting marks w past (IsStruck s) t m = record { one = tt; acts = tt }
+turn_after setting marks w past move t m = record { one = tt; acts = tt }

@@ -14,8 +14,12 @@ pub mod Stepping
 pub mod Beginning
 pub mod Lining
 pub mod Answering
+pub mod Rows
 pub mod Lookups
 pub mod Entries
+pub mod Tied
+pub mod Polls
+pub mod Quiet
 pub mod Numbering
 pub mod Filing
 pub mod Lawful
