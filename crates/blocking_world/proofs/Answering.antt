@@ -1,8 +1,7 @@
 -- Each move is answered as the law of answers says.
-use Rattle.std.proofs.Common.{◌≡◌, ◌<◌, ◌≤◌, ◌==◌, ◌+◌, ◌-◌, ◌&&◌, ◌||◌, nat_lt, ℕ, Bool, true, false, if◌then◌else◌, List, [], ◌∷◌, length, get_or, slice_get, refl, sym, ap, ap₂, ◌∙◌, subst, arith, Option, Some, None, option_map, Result, Ok, Err}
+use Rattle.std.proofs.Common.{◌≡◌, ◌<◌, ◌≤◌, ◌==◌, ◌+◌, ◌-◌, ◌&&◌, ◌||◌, nat_lt, ℕ, Bool, true, false, if◌then◌else◌, List, [], ◌∷◌, length, refl, sym, ap, ap₂, ◌∙◌, subst, arith, Option, Some, None, option_map, Result, Ok, Err}
 use Rattle.std.proofs.lemmas.Bool.{eq-eqb}
 use Rattle.std.proofs.lemmas.Bool.Decides.{nat_tests}
-use Rattle.std.proofs.lemmas.Option.{slice_get-get_or}
 use Rattle.std.specs.FinMap.{get}
 use Rattle.blocking_core.specs.Growth.{Growth, greatest}
 use Rattle.blocking_core.specs.Jobs.{Job as Entry, JobNumber, if_at, standing_of}
@@ -20,10 +19,10 @@ use Rattle.blocking_laws.specs.Counts.{starts, arrivals, workers, limit}
 use Rattle.blocking_laws.specs.Growth.{IsMarked}
 use Rattle.blocking_laws.specs.Turns.{Turn, turn}
 use Rattle.blocking_laws.specs.Answers.{PoolAnswers, AnswerLaw, take_answer, take_from, end_of}
-use Rattle.blocking_world.specs.Worlds.{Worlded, CallPool, outcome_of, owner_in, owner_at}
+use Rattle.blocking_world.specs.Worlds.{Worlded, CallPool, outcome_of, owner_at}
 use Rattle.blocking_world.specs.Crews.{AddsTo, TakesFront, no_growth}
 use Rattle.blocking_world.specs.Machine.{added_act, next_start, wait_act, was_accepted}
-use Rattle.blocking_world.specs.Moves.{Move, Idles, Begins, Calls, Arrives, TakesJob, TakesNone, IsAnswered, Finishes, GivesUp, CallsWaker, EndsTurn, HasWaited, SetsLimit, Sweeps, IsWoken, IsStruck, May, moment_of, step_of, took}
+use Rattle.blocking_world.specs.Moves.{Move, Begins, Calls, Arrives, TakesJob, TakesNone, EndsTurn, HasWaited, Sweeps, IsWoken, IsStruck, May, moment_of, step_of, took}
 use Rattle.blocking_world.specs.Ties.{Tied, Numbered, FiledAs, ValueAs, Counted, turn_of}
 use Rattle.blocking_world.specs.declared.call.CallJob.{CallJob}
 use Rattle.blocking_laws.specs.declared.event.Act.{Act}
@@ -34,9 +33,6 @@ use Rattle.blocking_laws.specs.declared.event.Party.TheVariants.{Worker}
 use Rattle.blocking_world.specs.declared.hand.Stage.{Stage}
 use Rattle.blocking_world.specs.declared.hand.Stage.TheVariants as stage
 use Rattle.blocking_laws.specs.declared.step.Step.{Step}
-use Rattle.blocking_laws.specs.declared.step.TaskCall.{TaskCall}
-use Rattle.blocking_laws.specs.declared.step.TaskCall.TheVariants.{Poll, Cancel, Detach, Drop}
-use Rattle.blocking_world.specs.declared.task.Owner.{Owner}
 use Rattle.blocking_world.proofs.Entries.{sweep_enters}
 use Rattle.blocking_world.proofs.Polls.{by_call}
 use Rattle.blocking_world.proofs.Quiet.{seen_at}

@@ -1,25 +1,20 @@
 -- Each move keeps the counts of a world what the past tells.
-use Rattle.std.proofs.Common.{◌≡◌, ◌≢◌, ℕ, ◌<◌, ◌≤◌, ◌+◌, ◌-◌, ◌==◌, ⊎_elim, min, List, [], ◌∷◌, ◌++◌, Bool, true, false, cond, length, length-append, length-set, refl, sym, ap, ◌∙◌, subst, ap₂, subst₂, arith, if◌then◌else◌, Option, Some, None, zero, suc}
-use Rattle.std.specs.Prelude.{◌&&◌, ◌||◌, not, nat_lt, slice_get, filter, MatchBool, Result, Ok, Err, is_some, option_map}
-use Rattle.std.specs.FinMap.{get}
+use Rattle.std.proofs.Common.{◌≡◌, ◌≢◌, ℕ, ◌<◌, ◌≤◌, ◌+◌, ◌-◌, ◌==◌, min, List, [], ◌∷◌, ◌++◌, Bool, true, false, cond, length, length-append, length-set, refl, sym, ap, ◌∙◌, subst, ap₂, subst₂, arith, if◌then◌else◌, Option, Some, None, zero, suc}
+use Rattle.std.specs.Prelude.{◌&&◌, ◌||◌, not, nat_lt, Result, Ok, Err}
 use Rattle.std.proofs.lemmas.Bool.{or_from, eqb-true, eqb-false}
 use Rattle.std.proofs.lemmas.Bool.Decides.{nat_tests}
 use Rattle.blocking_core.specs.Counts.{Counts, limit_of, busier}
 use Rattle.blocking_core.specs.Growth.{greatest, Growth, IsGrowth, StartAnswer, grown, limit_after, number_after}
-use Rattle.blocking_core.specs.Jobs.{Job as Entry, JobNumber, if_at, is_parked as is_parked_as, is_parked_job, is_running_job, is_running, job_of, value_at}
-use Rattle.blocking_core.specs.Pools.{entered}
+use Rattle.blocking_core.specs.Jobs.{JobNumber}
 use Rattle.blocking_core.specs.PoolAnswers.{must_stop, is_empty}
-use Rattle.blocking_core.specs.Wakes.{wake_of, cancel_of}
 use Rattle.blocking_core.specs.declared.pool.answer.Refusal.{Refusal}
 use Rattle.blocking_core.specs.declared.pool.answer.Refusal.TheVariants.{Memory, NoWorker, Numbers}
-use Rattle.blocking_core.specs.declared.pool.answer.Woke.{Woke}
-use Rattle.blocking_core.specs.declared.pool.answer.Woke.TheVariants.{Entered, Marked, Nothing}
 use Rattle.blocking_core.specs.declared.pool.standing.Standing.{Standing}
-use Rattle.blocking_core.specs.declared.pool.standing.Standing.TheVariants.{Queued, Running, Parked, Done, Dropped}
+use Rattle.blocking_core.specs.declared.pool.standing.Standing.TheVariants.{Queued, Running}
 use Rattle.blocking_core.specs.declared.pool.token.WorkerPass.{WorkerPass}
-use Rattle.blocking_laws.specs.Seen.{among, without}
-use Rattle.blocking_laws.specs.Jobs.{accepted_jobs, tasks, holder, standing, is_parked, is_marked}
-use Rattle.blocking_laws.specs.Queue.{to_sweep, queue, running}
+use Rattle.blocking_laws.specs.Seen.{among}
+use Rattle.blocking_laws.specs.Jobs.{standing}
+use Rattle.blocking_laws.specs.Queue.{queue, running}
 use Rattle.blocking_laws.specs.Counts.{added, starts, refused_starts, arrivals, stops, workers, limit}
 use Rattle.blocking_laws.specs.Growth.{IsMarked, known_limit, has_limit}
 use Rattle.blocking_world.proofs.Growing.{numbers_last}
@@ -28,29 +23,20 @@ use Rattle.blocking_world.proofs.Lookups.{JobsAlone, called_alone, wake_alone, c
 use Rattle.blocking_world.proofs.Quiet.{seen_at, JobsStay, CountsStay, may_grow, jobs_stay, ungrown, counts_stay, moves_job, moves_count, jobs_stay_at, counts_stay_at}
 use Rattle.blocking_world.proofs.Rows.{among_end, once_end, front_among, one_out, once_without, among_without}
 use Rattle.blocking_world.proofs.Tied.{fresh, held_runs}
-use Rattle.blocking_world.specs.Crews.{no_growth, GrowsBy, Accepts, FindsNoWorker, mark_value, after_wake, after_cancel}
-use Rattle.blocking_world.specs.Worlds.{Worlded, CallPool, hand_at, hand_in, with_hand, outcome_of, new_call, poll_at, poll_of, poll_in, owner_at, answered, finished, given_up, woke}
-use Rattle.blocking_world.specs.Machine.{seen, one_if_free, free_hands, wait_act, after_wait}
-use Rattle.blocking_world.specs.Moves.{Move, Idles, Begins, Calls, Arrives, TakesJob, TakesNone, IsAnswered, Finishes, GivesUp, CallsWaker, EndsTurn, HasWaited, SetsLimit, Sweeps, IsWoken, IsStruck, May, moment_of, after, wakes_as, cancels_as, finish_wakes, giving_up_wakes}
-use Rattle.blocking_world.specs.Ties.{is_queued_as, Filed, FiledAs, IsOnce, is_running_as, Counted, Handed, Tied}
+use Rattle.blocking_world.specs.Crews.{no_growth, GrowsBy}
+use Rattle.blocking_world.specs.Worlds.{Worlded, CallPool, hand_at, outcome_of, owner_at}
+use Rattle.blocking_world.specs.Machine.{wait_act, after_wait}
+use Rattle.blocking_world.specs.Moves.{Move, Begins, Calls, Arrives, TakesJob, TakesNone, IsAnswered, Finishes, GivesUp, CallsWaker, EndsTurn, HasWaited, SetsLimit, IsWoken, IsStruck, May, moment_of, after, wakes_as, cancels_as}
+use Rattle.blocking_world.specs.Ties.{is_queued_as, Filed, IsOnce, is_running_as, Counted, Handed, Tied}
 use Rattle.blocking_world.specs.declared.call.CallJob.{CallJob}
-use Rattle.blocking_laws.specs.declared.event.Act.{Act}
-use Rattle.blocking_laws.specs.declared.event.Act.TheVariants.{Accepted, Refused, JobWoken, JobCancelled, LimitSet, Swept, TaskCancelled, TaskDetached, HolderDropped, Arrived, Took, TookDropped, TookNone, Stays, Stopped, Ended, Answered, Finished, GaveUp, HolderWoken, NoAction}
+use Rattle.blocking_laws.specs.declared.event.Act.TheVariants.{Refused, Stays, Stopped}
 use Rattle.blocking_laws.specs.declared.event.Moment.{Moment}
 use Rattle.blocking_laws.specs.declared.event.Party.{Party}
-use Rattle.blocking_world.specs.declared.hand.Hand.{Hand}
 use Rattle.blocking_world.specs.declared.hand.Hand.TheVariants.{Out, Free, Holds}
 use Rattle.blocking_world.specs.declared.hand.Held.{Held}
 use Rattle.blocking_world.specs.declared.hand.Stage.{Stage}
 use Rattle.blocking_world.specs.declared.hand.Stage.TheVariants as stage
-use Rattle.blocking_laws.specs.declared.step.Answer.TheVariants.{Number}
 use Rattle.blocking_laws.specs.declared.step.Step.{Step}
-use Rattle.blocking_laws.specs.declared.step.TaskCall.{TaskCall}
-use Rattle.blocking_laws.specs.declared.step.TaskCall.TheVariants.{Poll, Cancel, Detach, Drop}
-use Rattle.blocking_core.specs.Slots.{Content, Empty, Full, GivenUp, Abandoned}
-use Rattle.blocking_world.specs.declared.task.Owner.{Owner}
-use Rattle.blocking_world.specs.declared.task.TaskStage.{TaskStage}
-use Rattle.blocking_world.specs.declared.task.TaskStage.TheVariants as task
 
 -- ---- numbers of a growth
 

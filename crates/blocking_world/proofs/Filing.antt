@@ -18,7 +18,7 @@ use Rattle.blocking_laws.specs.Growth.{IsMarked}
 use Rattle.blocking_laws.specs.Jobs.{tasks, holder, is_holder, standing, is_parked, is_woken, is_cancelled, is_marked, has_ended}
 use Rattle.blocking_laws.specs.JobTable.{has_finished, has_given_up}
 use Rattle.blocking_world.specs.Machine.{IsReady, seen, next_start, wait_act, after_wait}
-use Rattle.blocking_world.specs.Moves.{Move, Idles, Begins, Calls, Arrives, TakesJob, TakesNone, IsAnswered, Finishes, GivesUp, CallsWaker, EndsTurn, HasWaited, SetsLimit, Sweeps, IsWoken, IsStruck, May, after, moment_of, event_of, wait_step, took, wakes_as, cancels_as}
+use Rattle.blocking_world.specs.Moves.{Move, Begins, Calls, TakesJob, IsAnswered, Finishes, GivesUp, CallsWaker, EndsTurn, HasWaited, Sweeps, IsWoken, IsStruck, May, after, moment_of, event_of, wait_step, took, wakes_as, cancels_as}
 use Rattle.blocking_laws.specs.Seen.{events, acts_of, is_of_job}
 use Rattle.blocking_world.specs.Ties.{Tied, Numbered, Filed, FiledAs, holder_of}
 use Rattle.blocking_world.specs.Worlds.{Worlded, CallPool, new_call, hand_at, owner_at, outcome_of}
@@ -35,7 +35,7 @@ use Rattle.blocking_laws.specs.declared.event.Party.TheVariants.{Task, Worker, P
 use Rattle.blocking_world.specs.declared.hand.Hand.TheVariants.{Holds}
 use Rattle.blocking_world.specs.declared.hand.Held.{Held}
 use Rattle.blocking_laws.specs.declared.step.Step.TheVariants.{OfTask, Take, Stray, Strike}
-use Rattle.blocking_laws.specs.declared.step.TaskCall.TheVariants.{Poll, Cancel, Detach, Drop}
+use Rattle.blocking_laws.specs.declared.step.TaskCall.TheVariants.{Poll, Cancel, Drop}
 use Rattle.blocking_world.specs.declared.task.Owner.{Owner}
 
 -- what was seen of a job, of which the pool has this

@@ -1,35 +1,29 @@
 -- Each move grows as the law of growth says; and who serves a queued job.
-use Rattle.std.proofs.Common.{◌≡◌, ℕ, ◌<◌, ◌+◌, ◌-◌, ◌==◌, min, List, [], ◌∷◌, ◌++◌, Bool, true, false, length, length-append, refl, sym, ap, ◌∙◌, subst, arith, Option, Some, None}
-use Rattle.std.specs.Prelude.{not, Result, Ok, Err}
+use Rattle.std.proofs.Common.{◌≡◌, ℕ, ◌<◌, ◌+◌, ◌-◌, min, List, [], ◌∷◌, ◌++◌, Bool, true, false, length, length-append, refl, sym, ap, ◌∙◌, subst, arith, Option, None}
+use Rattle.std.specs.Prelude.{Result, Ok, Err}
 use Rattle.blocking_core.specs.Counts.{busier}
 use Rattle.blocking_core.specs.Growth.{greatest, Growth, IsGrowth, StartAnswer}
 use Rattle.blocking_core.specs.Jobs.{JobNumber}
 use Rattle.blocking_core.specs.PoolAnswers.{must_stop}
 use Rattle.blocking_core.specs.declared.pool.answer.Refusal.{Refusal}
 use Rattle.blocking_core.specs.declared.pool.answer.Refusal.TheVariants.{Memory, NoWorker, Numbers}
-use Rattle.blocking_core.specs.declared.pool.answer.Woke.{Woke}
-use Rattle.blocking_core.specs.declared.pool.answer.Woke.TheVariants.{Entered, Marked, Nothing}
 use Rattle.blocking_core.specs.declared.pool.token.WorkerPass.{WorkerPass}
 use Rattle.blocking_laws.specs.Seen.{without}
-use Rattle.blocking_laws.specs.Queue.{queue, running, to_sweep}
+use Rattle.blocking_laws.specs.Queue.{queue, running}
 use Rattle.blocking_laws.specs.Counts.{starts, refused_starts, workers, idle, limit}
-use Rattle.blocking_laws.specs.Growth.{IsMarked, StartsRightly, HasWorker, GrowthLaw, grows}
+use Rattle.blocking_laws.specs.Growth.{IsMarked, StartsRightly, GrowthLaw}
 use Rattle.blocking_laws.specs.Served.{IsServed}
 use Rattle.blocking_world.specs.Crews.{no_growth, GrowsBy, Accepts, FindsNoWorker}
-use Rattle.blocking_world.specs.Worlds.{Worlded, CallPool, poll_of, outcome_of}
+use Rattle.blocking_world.specs.Worlds.{Worlded, CallPool}
 use Rattle.blocking_world.specs.Machine.{wait_act}
-use Rattle.blocking_world.specs.Moves.{Move, Idles, Begins, Calls, Arrives, TakesJob, TakesNone, IsAnswered, Finishes, GivesUp, CallsWaker, EndsTurn, HasWaited, SetsLimit, Sweeps, IsWoken, IsStruck, May, moment_of, wakes_as, cancels_as, finish_wakes, giving_up_wakes}
+use Rattle.blocking_world.specs.Moves.{Move, Begins, Calls, TakesJob, HasWaited, IsWoken, IsStruck, May, moment_of, wakes_as, cancels_as}
 use Rattle.blocking_world.specs.Ties.{Filed, Tied}
 use Rattle.blocking_world.specs.declared.call.CallJob.{CallJob}
 use Rattle.blocking_laws.specs.declared.event.Act.{Act}
-use Rattle.blocking_laws.specs.declared.event.Act.TheVariants.{Accepted, Refused, JobWoken, JobCancelled, LimitSet, Swept, TaskCancelled, TaskDetached, HolderDropped, Arrived, Took, TookDropped, TookNone, Stays, Stopped, Ended, Answered, Finished, GaveUp, HolderWoken, NoAction}
+use Rattle.blocking_laws.specs.declared.event.Act.TheVariants.{Refused, JobWoken, JobCancelled}
 use Rattle.blocking_laws.specs.declared.event.Moment.{Moment}
 use Rattle.blocking_laws.specs.declared.event.Party.{Party}
-use Rattle.blocking_laws.specs.declared.step.Answer.TheVariants.{Number}
 use Rattle.blocking_laws.specs.declared.step.Step.{Step}
-use Rattle.blocking_laws.specs.declared.step.TaskCall.{TaskCall}
-use Rattle.blocking_laws.specs.declared.step.TaskCall.TheVariants.{Poll, Cancel, Detach, Drop}
-use Rattle.blocking_world.specs.declared.task.Owner.{Owner}
 use Rattle.blocking_world.proofs.Counting.{workers_now, idle_some}
 use Rattle.blocking_world.proofs.Lookups.{by_unentered}
 use Rattle.blocking_world.proofs.Polls.{by_call}

@@ -1,18 +1,14 @@
 -- Each move keeps the tie of the hands to what was seen, and the law of turns holds at it.
-use Rattle.std.proofs.Common.{◌≡◌, ℕ, ◌+◌, ◌-◌, ◌<◌, ◌≤◌, ◌==◌, ◌⊎◌, ⊎_elim, inl, inr, List, [], ◌∷◌, ◌++◌, Bool, true, false, cond, length, length-append, refl, sym, ap, ◌∙◌, subst, arith, if◌then◌else◌, Option, Some, None, zero, suc, nat_cmp, map, ◌&&◌, ◌||◌, not, is_some}
-use Rattle.std.specs.Prelude.{filter, slice_get, slice_set, nat_lt, Ok, Err}
-use Rattle.std.specs.Cmp.{nat_cmp_total}
-use Rattle.std.specs.Ordering.{eq_by_cmp}
-use Rattle.std.specs.FinMap.{get, insert, remove, get-insert, get-remove}
+use Rattle.std.proofs.Common.{◌≡◌, ℕ, ◌+◌, ◌-◌, ◌<◌, ◌≤◌, ◌==◌, ◌⊎◌, ⊎_elim, inl, inr, List, [], ◌∷◌, ◌++◌, Bool, true, false, cond, length, length-append, refl, sym, ap, ◌∙◌, subst, arith, if◌then◌else◌, Option, Some, None, zero, suc, ◌&&◌, ◌||◌, not, is_some}
+use Rattle.std.specs.Prelude.{slice_get, slice_set, nat_lt, Ok, Err}
+use Rattle.std.specs.FinMap.{get, insert, remove}
 use Rattle.std.proofs.Math.Bool.{or_comm}
 use Rattle.std.proofs.lemmas.Bool.{eqb-true, eqb-false, eq-eqb, ne_eqb}
-use Rattle.std.proofs.lemmas.Bool.Decides.{nat_tests}
 use Rattle.std.proofs.lemmas.List.{length-set}
 use Rattle.std.proofs.lemmas.Option.{slice_get_within}
 use Rattle.blocking_core.specs.Growth.{Growth}
 use Rattle.blocking_core.specs.Jobs.{Job, Jobs, JobNumber, is_parked, is_running, is_running_job, is_parked_job, running, if_at, job_of, is_running_as, changed, amend, value_at, woken, cancelled, valued, new_job}
 use Rattle.blocking_core.specs.PoolAnswers.{must_stop}
-use Rattle.blocking_core.specs.Slots.{Content, Empty, Full, GivenUp, Abandoned}
 use Rattle.blocking_core.specs.declared.job.Action.{Action}
 use Rattle.blocking_core.specs.declared.job.Action.TheVariants as action
 use Rattle.blocking_core.specs.declared.job.Answer.TheVariants as answer
@@ -21,26 +17,25 @@ use Rattle.blocking_core.specs.declared.pool.answer.Refusal.TheVariants.{Memory,
 use Rattle.blocking_core.specs.declared.pool.answer.Woke.{Woke}
 use Rattle.blocking_core.specs.declared.pool.answer.Woke.TheVariants.{Entered, Marked, Nothing}
 use Rattle.blocking_core.specs.declared.pool.standing.Standing.{Standing}
-use Rattle.blocking_core.specs.declared.pool.standing.Standing.TheVariants.{Queued, Running, Parked, Done, Dropped}
+use Rattle.blocking_core.specs.declared.pool.standing.Standing.TheVariants.{Queued}
 use Rattle.blocking_core.specs.declared.pool.token.WorkerPass.{WorkerPass}
 use Rattle.blocking_core.specs.Cores.{call_after}
-use Rattle.blocking_laws.specs.Seen.{events, acts_of, among, is_of_job}
+use Rattle.blocking_laws.specs.Seen.{events, acts_of, among}
 use Rattle.blocking_laws.specs.Jobs.{tasks, holder, is_holder, standing, cancels, is_woken, is_cancelled, is_marked, has_ended}
 use Rattle.blocking_laws.specs.Growth.{IsMarked}
 use Rattle.blocking_laws.specs.Queue.{queue, running as running_jobs}
 use Rattle.blocking_laws.specs.Steps.{is_there, IsPolled}
-use Rattle.blocking_laws.specs.Turns.{Turn, GoesOn, MustGiveUp, HasGivenUp, turn, hand, TurnLaw, HoldsOne, is_giving_up, FitsTurn}
-use Rattle.blocking_world.specs.Worlds.{Worlded, CallPool, new_call, duty_at, duty_of, answered, finished, given_up, woke_at, woke, hand_at, with_hand, has_let_go, may_be, left, poll_in, poll_at, poll_of, polled_in, polled_at, new_owner, owner_in, owner_at, with_owner}
+use Rattle.blocking_laws.specs.Turns.{Turn, HasGivenUp, turn, hand, TurnLaw, HoldsOne, is_giving_up, FitsTurn}
+use Rattle.blocking_world.specs.Worlds.{Worlded, CallPool, new_call, duty_at, duty_of, answered, finished, given_up, woke_at, woke, hand_at, with_hand, has_let_go, may_be, poll_of, new_owner, owner_in, owner_at, with_owner}
 use Rattle.blocking_world.specs.Crews.{NoneParked, Accepts, AddsTo, TakesFront, no_growth, mark_value, after_wake, after_cancel}
 use Rattle.blocking_world.specs.Machine.{free_hands, seen, next_start, called, pool_called, wait_act, after_wait, with_held}
-use Rattle.blocking_world.specs.Moves.{Move, Idles, Begins, Calls, Arrives, TakesJob, TakesNone, IsAnswered, Finishes, GivesUp, CallsWaker, EndsTurn, HasWaited, SetsLimit, Sweeps, IsWoken, IsStruck, May, moment_of, after, wakes_as, cancels_as, finish_wakes, giving_up_wakes, first_stage, wait_step}
-use Rattle.blocking_world.specs.Ties.{Tied, Numbered, FiledAs, ValueAs, Handed, HandAs, HeldAs, ActedAs, RanAs, turn_of, let_go_in, holder_of, is_queued_as, is_running_as as runs_as}
+use Rattle.blocking_world.specs.Moves.{Move, Begins, Calls, Arrives, TakesJob, TakesNone, IsAnswered, Finishes, GivesUp, CallsWaker, EndsTurn, HasWaited, IsWoken, IsStruck, May, moment_of, after, wakes_as, cancels_as, finish_wakes, giving_up_wakes, first_stage, wait_step}
+use Rattle.blocking_world.specs.Ties.{Tied, Numbered, FiledAs, ValueAs, Handed, HandAs, HeldAs, ActedAs, RanAs, turn_of, let_go_in, is_queued_as, is_running_as as runs_as}
 use Rattle.blocking_world.specs.declared.call.CallJob.{CallJob}
 use Rattle.blocking_laws.specs.declared.event.Act.{Act}
-use Rattle.blocking_laws.specs.declared.event.Act.TheVariants.{Accepted, Refused, JobWoken, JobCancelled, Waits, TaskGot, TaskGotNone, Took, TookDropped, Answered, Finished, GaveUp, HolderWoken}
+use Rattle.blocking_laws.specs.declared.event.Act.TheVariants.{Accepted, Refused, JobWoken, JobCancelled, Waits, TaskGot, TaskGotNone, Answered, Finished, GaveUp, HolderWoken}
 use Rattle.blocking_laws.specs.declared.event.Event.{Event}
 use Rattle.blocking_laws.specs.declared.event.Moment.{Moment}
-use Rattle.blocking_laws.specs.declared.event.Party.{Party}
 use Rattle.blocking_laws.specs.declared.event.Party.TheVariants.{Task, Worker, Pool}
 use Rattle.blocking_world.specs.declared.hand.Duty.TheVariants as duty
 use Rattle.blocking_world.specs.declared.hand.Hand.{Hand}
@@ -50,12 +45,10 @@ use Rattle.blocking_world.specs.declared.hand.Stage.{Stage}
 use Rattle.blocking_world.specs.declared.hand.Stage.TheVariants as stage
 use Rattle.blocking_laws.specs.declared.step.Answer.TheVariants.{Number}
 use Rattle.blocking_laws.specs.declared.step.Step.{Step}
-use Rattle.blocking_laws.specs.declared.step.Step.TheVariants.{Spawn, OfTask, Take, Job as OwnStep, Io, Stray, Strike}
+use Rattle.blocking_laws.specs.declared.step.Step.TheVariants.{Spawn, OfTask, Job as OwnStep, Io, Stray, Strike}
 use Rattle.blocking_laws.specs.declared.step.TaskCall.{TaskCall}
 use Rattle.blocking_laws.specs.declared.step.TaskCall.TheVariants.{Poll, Cancel, Detach, Drop}
 use Rattle.blocking_world.specs.declared.task.Owner.{Owner}
-use Rattle.blocking_world.specs.declared.task.TaskStage.{TaskStage}
-use Rattle.blocking_world.specs.declared.task.TaskStage.TheVariants as task
 use Rattle.blocking_world.proofs.Cutting.{acts_more}
 use Rattle.blocking_world.proofs.Hands.{IsAt, at_held, at_free, hand_from_place, hand_set, hand_pushed, hand_next, free_set, free_pushed}
 use Rattle.blocking_world.proofs.Lookups.{job_put, job_out}

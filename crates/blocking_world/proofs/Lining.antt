@@ -1,22 +1,13 @@
 -- Each move keeps the queue the past's, and jobs are taken in the order in which they entered.
-use Rattle.std.proofs.Common.{◌≡◌, ◌==◌, ◌+◌, ◌-◌, ◌&&◌, ◌||◌, not, nat_lt, ℕ, Bool, true, false, if◌then◌else◌, List, [], ◌∷◌, ◌++◌, filter, slice_get, refl, sym, ap, ap₂, ◌∙◌, subst, append_assoc, arith, Option, Some, None, is_some, option_map, Result, Ok, Err}
-use Rattle.std.proofs.lemmas.Bool.Decides.{nat_tests}
-use Rattle.std.specs.FinMap.{get}
+use Rattle.std.proofs.Common.{◌≡◌, ◌==◌, ◌||◌, ℕ, Bool, true, false, if◌then◌else◌, List, [], ◌∷◌, ◌++◌, refl, sym, ap, ap₂, ◌∙◌, subst, append_assoc, Option, Some, None, Ok, Err}
 use Rattle.blocking_core.specs.Growth.{Growth}
-use Rattle.blocking_core.specs.Jobs.{Job as Entry, JobNumber, if_at, is_parked_job, is_running_job, is_running, is_parked as is_parked_standing, value_at, job_of}
 use Rattle.blocking_core.specs.PoolAnswers.{must_stop}
-use Rattle.blocking_core.specs.Slots.{Content, Empty, Full, GivenUp, Abandoned}
-use Rattle.blocking_core.specs.Wakes.{wake_of, cancel_of}
-use Rattle.blocking_core.specs.declared.pool.answer.Refusal.{Refusal}
-use Rattle.blocking_core.specs.declared.pool.answer.Refusal.TheVariants.{Memory, NoWorker, Numbers}
-use Rattle.blocking_core.specs.declared.pool.answer.Woke.{Woke}
-use Rattle.blocking_core.specs.declared.pool.answer.Woke.TheVariants.{Entered, Marked, Nothing}
 use Rattle.blocking_core.specs.declared.pool.standing.Standing.{Standing}
-use Rattle.blocking_core.specs.declared.pool.standing.Standing.TheVariants.{Queued, Running, Parked, Done, Dropped}
+use Rattle.blocking_core.specs.declared.pool.standing.Standing.TheVariants.{Queued, Running}
 use Rattle.blocking_core.specs.declared.pool.token.WorkerPass.{WorkerPass}
-use Rattle.blocking_laws.specs.Seen.{among, without, joined, events, acts_of}
-use Rattle.blocking_laws.specs.Jobs.{standing, tasks, is_parked, is_woken, is_cancelled, is_marked, has_ended, accepted_jobs}
-use Rattle.blocking_laws.specs.Queue.{queue, entries, takes, entered_by, to_sweep, InOrder}
+use Rattle.blocking_laws.specs.Seen.{among, without, joined}
+use Rattle.blocking_laws.specs.Jobs.{standing}
+use Rattle.blocking_laws.specs.Queue.{queue, entries, takes, entered_by, InOrder}
 use Rattle.blocking_laws.specs.Growth.{IsMarked}
 use Rattle.blocking_world.proofs.Lookups.{called_alone, wake_alone, cancel_alone}
 use Rattle.blocking_world.proofs.Numbering.{refused_alone}
@@ -24,28 +15,17 @@ use Rattle.blocking_world.proofs.Quiet.{seen_at, JobsStay, moves_job, jobs_stay_
 use Rattle.blocking_world.proofs.Rows.{among_end, once_end, front_leaves}
 use Rattle.blocking_world.proofs.Tied.{fresh, held_runs}
 use Rattle.std.proofs.lemmas.Bool.{eqb-true}
-use Rattle.blocking_world.specs.Worlds.{Worlded, CallPool, hand_at, hand_in, outcome_of, poll_in, poll_at, owner_at}
-use Rattle.blocking_world.specs.Crews.{AddsTo, mark_value, after_wake, after_cancel, no_growth}
-use Rattle.blocking_world.specs.Machine.{seen, next_start, wait_act, after_wait, IsHeld}
-use Rattle.blocking_world.specs.Moves.{Move, Idles, Begins, Calls, Arrives, TakesJob, TakesNone, IsAnswered, Finishes, GivesUp, CallsWaker, EndsTurn, HasWaited, SetsLimit, Sweeps, IsWoken, IsStruck, May, after, moment_of, step_of, took, wakes_as, cancels_as}
-use Rattle.blocking_world.specs.Ties.{Tied, Numbered, holder_of, Filed, FiledAs, Lined, IsOnce, is_queued_as}
-use Rattle.blocking_world.specs.declared.call.CallJob.{CallJob}
-use Rattle.blocking_laws.specs.declared.event.Act.{Act}
-use Rattle.blocking_laws.specs.declared.event.Act.TheVariants.{Accepted, JobWoken, JobCancelled, Waits, TaskGot, TaskGotNone, Took, TookDropped, Stays, Stopped, Ended}
+use Rattle.blocking_world.specs.Worlds.{Worlded, CallPool, outcome_of, owner_at}
+use Rattle.blocking_world.specs.Crews.{no_growth}
+use Rattle.blocking_world.specs.Machine.{after_wait}
+use Rattle.blocking_world.specs.Moves.{Move, Begins, Calls, TakesJob, EndsTurn, HasWaited, IsWoken, IsStruck, May, after, moment_of, wakes_as, cancels_as}
+use Rattle.blocking_world.specs.Ties.{Tied, Lined, IsOnce, is_queued_as}
+use Rattle.blocking_laws.specs.declared.event.Act.TheVariants.{Accepted, Ended}
 use Rattle.blocking_laws.specs.declared.event.Moment.{Moment}
 use Rattle.blocking_laws.specs.declared.event.Party.{Party}
-use Rattle.blocking_laws.specs.declared.event.Party.TheVariants.{Task, Worker, Pool}
-use Rattle.blocking_world.specs.declared.hand.Hand.{Hand}
-use Rattle.blocking_world.specs.declared.hand.Hand.TheVariants.{Out, Holds}
-use Rattle.blocking_world.specs.declared.hand.Held.{Held}
 use Rattle.blocking_world.specs.declared.hand.Stage.{Stage}
 use Rattle.blocking_world.specs.declared.hand.Stage.TheVariants as stage
 use Rattle.blocking_laws.specs.declared.step.Step.{Step}
-use Rattle.blocking_laws.specs.declared.step.TaskCall.{TaskCall}
-use Rattle.blocking_laws.specs.declared.step.TaskCall.TheVariants.{Poll, Cancel, Detach, Drop}
-use Rattle.blocking_world.specs.declared.task.Owner.{Owner}
-use Rattle.blocking_world.specs.declared.task.TaskStage.{TaskStage}
-use Rattle.blocking_world.specs.declared.task.TaskStage.TheVariants as task
 
 -- ---- what leaves the queue as it was
 

@@ -11,7 +11,7 @@ use Rattle.blocking_core.specs.Wakes.{wake_of, cancel_of}
 use Rattle.blocking_core.specs.declared.pool.answer.Woke.{Woke}
 use Rattle.blocking_core.specs.declared.pool.answer.Woke.TheVariants.{Entered, Marked, Nothing}
 use Rattle.blocking_core.specs.declared.pool.standing.Standing.{Standing}
-use Rattle.blocking_core.specs.declared.pool.standing.Standing.TheVariants.{Queued, Running, Parked, Done, Dropped}
+use Rattle.blocking_core.specs.declared.pool.standing.Standing.TheVariants.{Parked}
 use Rattle.blocking_world.specs.Crews.{mark_value, marked_in, marked, after_wake, after_cancel}
 use Rattle.blocking_world.specs.Machine.{pool_called}
 use Rattle.blocking_world.specs.Worlds.{CallPool}

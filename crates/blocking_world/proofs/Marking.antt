@@ -1,5 +1,5 @@
 -- A mark on the job of a pool of calls.
-use Rattle.std.proofs.Common.{◌≡◌, Option, Some, None, ap, ◌∙◌, subst, refl}
+use Rattle.std.proofs.Common.{◌≡◌, Option, Some, None, ap, ◌∙◌, subst}
 use Rattle.std.specs.Prelude.{OnSome}
 use Rattle.std.specs.Borrow.{MutBor}
 use Rattle.blocking_core.specs.Jobs.{JobNumber, job_of, value_at, valued}

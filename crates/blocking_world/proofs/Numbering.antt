@@ -1,6 +1,6 @@
 -- Each move keeps the numbers: of the tasks, of the accepted jobs, and of who holds which.
-use Rattle.std.proofs.Common.{◌≡◌, ⊎_elim, ℕ, zero, suc, ◌+◌, ◌-◌, ◌<◌, ◌≤◌, ◌==◌, cond, List, [], ◌∷◌, length, length-append, Bool, true, false, refl, sym, ap, ◌∙◌, subst, arith, if◌then◌else◌, nat_lt, Option, Some, None, ◌&&◌, not}
-use Rattle.std.specs.Prelude.{slice_get, slice_set, option_map, is_some, filter, Ok, Err}
+use Rattle.std.proofs.Common.{◌≡◌, ⊎_elim, ℕ, zero, suc, ◌+◌, ◌-◌, ◌==◌, cond, List, [], ◌∷◌, length, length-append, Bool, true, false, refl, sym, ap, ◌∙◌, subst, arith, if◌then◌else◌, nat_lt, Option, Some, None, ◌&&◌, not}
+use Rattle.std.specs.Prelude.{slice_get, slice_set, is_some, filter, Ok, Err}
 use Rattle.std.specs.FinMap.{get, insert, remove}
 use Rattle.std.proofs.Math.ListN.{length-set}
 use Rattle.std.proofs.lemmas.Option.{slice_get_within}
@@ -13,18 +13,18 @@ use Rattle.blocking_core.specs.PoolAnswers.{must_stop}
 use Rattle.blocking_core.specs.declared.pool.answer.Refusal.{Refusal}
 use Rattle.blocking_core.specs.declared.pool.answer.Refusal.TheVariants.{Memory, NoWorker, Numbers}
 use Rattle.blocking_core.specs.declared.pool.answer.Woke.{Woke}
-use Rattle.blocking_core.specs.declared.pool.answer.Woke.TheVariants.{Entered, Marked, Nothing}
+use Rattle.blocking_core.specs.declared.pool.answer.Woke.TheVariants.{Marked}
 use Rattle.blocking_core.specs.declared.pool.standing.Standing.{Standing}
 use Rattle.blocking_core.specs.declared.pool.standing.Standing.TheVariants.{Queued, Running}
 use Rattle.blocking_core.specs.declared.pool.token.WorkerPass.{WorkerPass}
 use Rattle.blocking_world.specs.Crews.{Accepts, Refuses, marked, mark_value, after_wake, after_cancel}
 use Rattle.blocking_laws.specs.Growth.{IsMarked}
-use Rattle.blocking_laws.specs.Jobs.{accepted_jobs, accepted_by, accepts, makes_a_task, tasks, holder, newcomer, standing, stands_by, is_parked, is_woken, is_cancelled, is_marked, has_ended, is_pool}
+use Rattle.blocking_laws.specs.Jobs.{accepted_jobs, accepted_by, accepts, makes_a_task, tasks, holder, newcomer, standing, is_woken, is_cancelled, is_marked, has_ended, is_pool}
 use Rattle.blocking_world.specs.Machine.{after_wait, called, pool_called}
-use Rattle.blocking_world.specs.Moves.{Move, Idles, Begins, Calls, Arrives, TakesJob, TakesNone, IsAnswered, Finishes, GivesUp, CallsWaker, EndsTurn, HasWaited, SetsLimit, Sweeps, IsWoken, IsStruck, May, after, moment_of, wait_step, took, wakes_as, cancels_as}
+use Rattle.blocking_world.specs.Moves.{Move, Begins, Calls, TakesJob, Finishes, GivesUp, EndsTurn, HasWaited, IsWoken, IsStruck, May, after, moment_of, wakes_as, cancels_as}
 use Rattle.blocking_laws.specs.Seen.{joined, events, acts_of}
 use Rattle.blocking_world.specs.Ties.{Tied, Numbered, Filed, holder_of}
-use Rattle.blocking_world.specs.Worlds.{Worlded, CallPool, new_call, new_owner, hand_at, with_owner, owner_at, owner_in, poll_of, poll_at, poll_in, polled, polled_at, polled_in, outcome_of}
+use Rattle.blocking_world.specs.Worlds.{Worlded, CallPool, new_call, new_owner, with_owner, owner_at, owner_in, outcome_of}
 use Rattle.blocking_world.proofs.Entries.{filed_stands, stands_over}
 use Rattle.blocking_world.proofs.Lookups.{job_put, job_out, called_alone, wake_alone, cancel_alone}
 use Rattle.blocking_world.proofs.Polls.{called_number}
@@ -32,20 +32,14 @@ use Rattle.blocking_world.proofs.Quiet.{jobs_stay_at}
 use Rattle.blocking_world.proofs.Rows.{in_pushed}
 use Rattle.blocking_world.proofs.Tied.{some_held, held_runs}
 use Rattle.blocking_world.specs.declared.call.CallJob.{CallJob}
-use Rattle.blocking_laws.specs.declared.event.Act.{Act}
-use Rattle.blocking_laws.specs.declared.event.Act.TheVariants.{JobWoken, JobCancelled, Waits, TaskGot, TaskGotNone}
 use Rattle.blocking_laws.specs.declared.event.Moment.{Moment}
 use Rattle.blocking_laws.specs.declared.event.Party.{Party}
-use Rattle.blocking_laws.specs.declared.event.Party.TheVariants.{Task, Worker}
+use Rattle.blocking_laws.specs.declared.event.Party.TheVariants.{Task}
 use Rattle.blocking_world.specs.declared.task.Owner.{Owner}
-use Rattle.blocking_world.specs.declared.task.TaskStage.{TaskStage}
-use Rattle.blocking_world.specs.declared.task.TaskStage.TheVariants as task
 use Rattle.blocking_world.specs.declared.hand.Hand.{Hand}
-use Rattle.blocking_world.specs.declared.hand.Held.{Held}
-use Rattle.blocking_laws.specs.declared.step.Step.TheVariants.{OfTask, Take}
 use Rattle.blocking_laws.specs.declared.step.TaskCall.{TaskCall}
 use Rattle.blocking_laws.specs.declared.step.TaskCall.TheVariants.{Poll, Cancel, Detach, Drop}
-use Rattle.blocking_core.specs.Slots.{Slot, Content, Empty, Full, GivenUp, Abandoned, after_put, after_give_up}
+use Rattle.blocking_core.specs.Slots.{Slot, after_put, after_give_up}
 
 -- ---- a new job
 

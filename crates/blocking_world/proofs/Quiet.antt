@@ -1,19 +1,19 @@
 -- What stays as it was: where the jobs stand, at a move that brings none, takes none and ends no turn; and the counts, at one that
 -- changes none.
 use Rattle.std.proofs.Common.{◌≡◌, ℕ, ◌==◌, ◌||◌, List, [], ◌∷◌, length, not, Bool, true, false, refl, ap, if◌then◌else◌, Option, Some, None}
-use Rattle.std.specs.Prelude.{Ok, Err}
+use Rattle.std.specs.Prelude.{Ok}
 use Rattle.blocking_core.specs.Growth.{Growth}
 use Rattle.blocking_core.specs.PoolAnswers.{must_stop}
 use Rattle.blocking_core.specs.declared.pool.answer.Refusal.TheVariants.{NoWorker}
 use Rattle.blocking_core.specs.declared.pool.answer.Woke.TheVariants.{Entered}
 use Rattle.blocking_laws.specs.Jobs.{accepted_by, accepts, standing, sweeps, is_marked}
-use Rattle.blocking_laws.specs.Queue.{queue, entries, takes, running, to_sweep, entered_by}
+use Rattle.blocking_laws.specs.Queue.{queue, entries, takes, running, to_sweep}
 use Rattle.blocking_laws.specs.Counts.{starts, stops, arrivals, refused_starts, limit}
 use Rattle.blocking_laws.specs.Growth.{known_limit, has_limit, grows, HasWorker}
 use Rattle.blocking_world.specs.Crews.{no_growth}
 use Rattle.blocking_world.specs.Machine.{seen, wait_act}
-use Rattle.blocking_world.specs.Moves.{Move, Idles, Begins, Calls, Arrives, TakesJob, TakesNone, IsAnswered, Finishes, GivesUp, CallsWaker, EndsTurn, HasWaited, SetsLimit, Sweeps, IsWoken, IsStruck, moment_of, wakes_as, cancels_as}
-use Rattle.blocking_world.specs.Ties.{Filed, Handed, Tied}
+use Rattle.blocking_world.specs.Moves.{Move, Begins, Calls, Arrives, TakesJob, EndsTurn, HasWaited, SetsLimit, IsWoken, IsStruck, moment_of, wakes_as, cancels_as}
+use Rattle.blocking_world.specs.Ties.{Filed, Tied}
 use Rattle.blocking_world.specs.Worlds.{Worlded}
 use Rattle.blocking_world.proofs.Entries.{swept_same, sweep_enters}
 use Rattle.blocking_world.proofs.Lookups.{by_unentered}

@@ -1,10 +1,9 @@
 -- The workers are those that hold passes or turns and those that haven't arrived: the turns are as many as the running jobs, after every move.
-use Rattle.std.proofs.Common.{◌≡◌, ℕ, ◌+◌, ◌-◌, List, [], ◌∷◌, ◌++◌, Bool, true, false, length, length-append, refl, sym, ap, ◌∙◌, subst, arith, Option, Some, None, zero, suc}
-use Rattle.std.specs.Prelude.{◌&&◌, slice_get, slice_set, Result, Ok, Err, is_some, is_none}
+use Rattle.std.proofs.Common.{◌≡◌, ℕ, ◌+◌, ◌-◌, List, [], ◌∷◌, Bool, true, false, length, length-append, refl, sym, ap, ◌∙◌, arith, Option, Some, None, zero, suc}
+use Rattle.std.specs.Prelude.{◌&&◌, slice_get, Ok, is_some, is_none}
 use Rattle.blocking_core.specs.Growth.{Growth}
 use Rattle.blocking_core.specs.Jobs.{JobNumber}
 use Rattle.blocking_core.specs.PoolAnswers.{must_stop}
-use Rattle.blocking_core.specs.declared.pool.answer.Refusal.{Refusal}
 use Rattle.blocking_core.specs.declared.pool.token.WorkerPass.{WorkerPass}
 use Rattle.blocking_laws.specs.Queue.{running}
 use Rattle.blocking_laws.specs.Growth.{IsMarked}
@@ -12,22 +11,18 @@ use Rattle.blocking_laws.specs.Steps.{is_there, is_free}
 use Rattle.blocking_laws.specs.Turns.{hand}
 use Rattle.blocking_laws.specs.Staffed.{one_where, count_to, passes, turns, AreStaffed}
 use Rattle.blocking_world.specs.Crews.{no_growth}
-use Rattle.blocking_world.specs.Worlds.{Worlded, CallPool, hand_at, with_hand, poll_of, answered, finished, given_up, woke}
+use Rattle.blocking_world.specs.Worlds.{Worlded, CallPool, hand_at, with_hand, answered, finished, given_up, woke}
 use Rattle.blocking_world.specs.Machine.{next_start, one_if_free, free_hands, wait_act, after_wait}
-use Rattle.blocking_world.specs.Moves.{Move, Idles, Begins, Calls, Arrives, TakesJob, TakesNone, IsAnswered, Finishes, GivesUp, CallsWaker, EndsTurn, HasWaited, SetsLimit, Sweeps, IsWoken, IsStruck, May, moment_of, after, finish_wakes, giving_up_wakes, first_stage, wait_step}
+use Rattle.blocking_world.specs.Moves.{Move, Begins, Calls, Arrives, TakesJob, TakesNone, IsAnswered, Finishes, GivesUp, CallsWaker, EndsTurn, HasWaited, May, moment_of, after, finish_wakes, giving_up_wakes, first_stage, wait_step}
 use Rattle.blocking_world.specs.Ties.{HandAs, Handed, Tied}
 use Rattle.blocking_world.specs.declared.call.CallJob.{CallJob}
 use Rattle.blocking_laws.specs.declared.event.Moment.{Moment}
 use Rattle.blocking_laws.specs.declared.event.Party.{Party}
-use Rattle.blocking_laws.specs.declared.event.Party.TheVariants.{Task, Worker}
+use Rattle.blocking_laws.specs.declared.event.Party.TheVariants.{Worker}
 use Rattle.blocking_world.specs.declared.hand.Hand.{Hand}
 use Rattle.blocking_world.specs.declared.hand.Hand.TheVariants.{Out, Free, Holds}
 use Rattle.blocking_world.specs.declared.hand.Held.{Held}
 use Rattle.blocking_laws.specs.declared.step.Step.{Step}
-use Rattle.blocking_laws.specs.declared.step.Step.TheVariants.{OfTask}
-use Rattle.blocking_laws.specs.declared.step.TaskCall.{TaskCall}
-use Rattle.blocking_laws.specs.declared.step.TaskCall.TheVariants.{Poll, Cancel, Detach, Drop}
-use Rattle.blocking_world.specs.declared.task.Owner.{Owner}
 use Rattle.blocking_world.proofs.Hands.{IsAt, at_held, at_free, hand_from_place, sum_of, sum_free, sum_set, sum_pushed}
 use Rattle.blocking_world.proofs.Counting.{held_busy}
 use Rattle.blocking_world.proofs.Quiet.{seen_at, jobs_stay_at}

@@ -1,12 +1,11 @@
 -- A step has an action in a world exactly where it has one by what was seen; and what is seen of a move is of its step.
-use Rattle.std.proofs.Common.{◌≡◌, ℕ, ◌+◌, ◌-◌, inl, inr, List, length, Bool, true, false, refl, sym, ap, ◌∙◌, subst, arith, Option, Some, None, Result, Ok, Err, get_or}
+use Rattle.std.proofs.Common.{◌≡◌, ℕ, ◌+◌, ◌-◌, inl, inr, List, length, Bool, true, false, refl, sym, ap, ◌∙◌, subst, arith, Option, Some, None, Result, Ok, Err}
 use Rattle.std.proofs.lemmas.Bool.{ltb-true, lt-ltb}
 use Rattle.std.proofs.lemmas.Bool.Decides.{nat_tests}
-use Rattle.std.proofs.lemmas.Option.{slice_get-get_or, slice_get_within}
+use Rattle.std.proofs.lemmas.Option.{slice_get_within}
 use Rattle.std.specs.Prelude.{◌&&◌, ◌||◌, nat_lt, not, ◌==◌, slice_get, is_some, is_none, if◌then◌else◌}
 use Rattle.blocking_core.specs.Growth.{Growth}
 use Rattle.blocking_core.specs.PoolAnswers.{must_stop}
-use Rattle.blocking_core.specs.Slots.{Content, Empty, Full, GivenUp as NoneComes, Abandoned}
 use Rattle.blocking_core.specs.declared.job.Action.{Action}
 use Rattle.blocking_core.specs.declared.job.Action.TheVariants as action
 use Rattle.blocking_core.specs.declared.pool.answer.Refusal.{Refusal}
@@ -21,13 +20,13 @@ use Rattle.blocking_laws.specs.Growth.{IsMarked}
 use Rattle.blocking_laws.specs.Turns.{Turn, GoesOn, turn, hand}
 use Rattle.blocking_laws.specs.JobTable.{Calling, AskCall, Finish, WakeHolder, next_of_job}
 use Rattle.blocking_laws.specs.TaskLaws.{is_gone, was_cancelled, is_let_go}
-use Rattle.blocking_laws.specs.Steps.{is_there, Work, NoWork, Does, GivesUp as MustGive, EndsTurn as MustEnd, work_in, work_with, work, is_job_work, is_answered_work, is_turn_end, is_for_cancelled, may_call, may_cancel, has_action, named, party, job_of, IsPolled, IsOfTask, IsBegun, Fits, Happens, StepLaw}
-use Rattle.blocking_world.specs.Worlds.{Worlded, CallPool, outcome_of, duty_of, duty_at, hand_at, may_be, has_let_go, poll_in, poll_at, poll_of, owner_in, owner_at, is_free_hand}
+use Rattle.blocking_laws.specs.Steps.{is_there, Work, NoWork, Does, GivesUp as MustGive, EndsTurn as MustEnd, work_in, work_with, work, is_job_work, is_answered_work, is_turn_end, is_for_cancelled, may_call, may_cancel, has_action, named, party, job_of, IsOfTask, IsBegun, Fits, Happens, StepLaw}
+use Rattle.blocking_world.specs.Worlds.{Worlded, CallPool, outcome_of, duty_of, duty_at, hand_at, may_be, has_let_go, owner_at, is_free_hand}
 use Rattle.blocking_world.specs.Machine.{seen, next_start, was_accepted, added_act, task_act, wait_act}
 use Rattle.blocking_world.specs.Moves.{Move, Idles, Begins, Calls, Arrives, TakesJob, TakesNone, IsAnswered, Finishes, GivesUp, CallsWaker, EndsTurn, HasWaited, SetsLimit, Sweeps, IsWoken, IsStruck, May, has_act, duty_in, is_own, is_awaiting, is_ending, may_call_in, wait_step, finish_wakes, giving_up_wakes, wakes_as, cancels_as, moment_of}
 use Rattle.blocking_world.specs.Ties.{Tied, Numbered, Handed, Tasked, TaskAs, HandAs, HeldAs, ActedAs, turn_of, is_gone_as, CancelAs}
 use Rattle.blocking_laws.specs.declared.event.Act.{Act}
-use Rattle.blocking_laws.specs.declared.event.Act.TheVariants.{JobWoken, JobCancelled, LimitSet, Waits, TaskGot, TaskGotNone, Arrived, Took, TookDropped, TookNone, Stays, Stopped, Ended, Answered, Finished, GaveUp, HolderWoken, NoAction}
+use Rattle.blocking_laws.specs.declared.event.Act.TheVariants.{JobWoken, JobCancelled, LimitSet, Arrived, Took, TookDropped, TookNone, Stays, Stopped, Ended, Answered, Finished, GaveUp, HolderWoken, NoAction}
 use Rattle.blocking_laws.specs.declared.event.Event.{Event}
 use Rattle.blocking_laws.specs.declared.event.Moment.{Moment}
 use Rattle.blocking_laws.specs.declared.event.Party.{Party}

@@ -1,7 +1,6 @@
 -- One more event and the cut of a task; and that a call in time has finished, where its task kept the laws.
-use Rattle.std.proofs.Common.{◌≡◌, ℕ, ◌+◌, ◌-◌, ◌<◌, List, [], ◌∷◌, ◌++◌, length, Bool, true, false, refl, sym, ap, subst, arith, Some, None, zero, suc}
-use Rattle.std.specs.Prelude.{◌&&◌, ◌||◌, not, cond, nat_lt, if◌then◌else◌, slice_get, slice_set}
-use Rattle.std.proofs.lemmas.Bool.Decides.{nat_tests}
+use Rattle.std.proofs.Common.{◌≡◌, ℕ, List, [], ◌∷◌, Bool, true, false, refl, sym, subst}
+use Rattle.std.specs.Prelude.{◌&&◌, ◌||◌, not, cond}
 use Rattle.blocking_laws.specs.Seen.{own, acts_of, task_cut, is_by_task, is_of_job, is_nothing, is_task, is_some_worker}
 use Rattle.blocking_laws.specs.JobTable.{has_finished}
 use Rattle.blocking_laws.specs.Places.{poll_task}
@@ -10,9 +9,6 @@ use Rattle.blocking_world.proofs.Cutting.{no_task, acts_more}
 use Rattle.blocking_laws.specs.declared.event.Act.{Act}
 use Rattle.blocking_laws.specs.declared.event.Act.TheVariants.{Finished}
 use Rattle.blocking_laws.specs.declared.event.Event.{Event}
-use Rattle.blocking_laws.specs.declared.event.Party.{Party}
-use Rattle.blocking_laws.specs.declared.event.Party.TheVariants.{Task, Worker, Pool}
-use Rattle.blocking_world.specs.declared.task.Owner.{Owner}
 
 -- ---- one more event
 

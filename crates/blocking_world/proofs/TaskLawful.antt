@@ -1,5 +1,5 @@
 -- Each move keeps the laws of the tasks, and no wake is lost.
-use Rattle.std.proofs.Common.{◌≡◌, ℕ, ◌<◌, List, ◌∷◌, Bool, true, false, refl, sym, ap, ◌∙◌, subst, Option, Some, None, ⊎_elim}
+use Rattle.std.proofs.Common.{◌≡◌, ℕ, ◌<◌, List, ◌∷◌, Bool, true, false, sym, ◌∙◌, subst, Option, Some, None, ⊎_elim}
 use Rattle.std.specs.Prelude.{◌⊎◌, ◌||◌, slice_get}
 use Rattle.std.specs.FinMap.{get}
 use Rattle.blocking_core.specs.Jobs.{Job as Entry}
@@ -14,7 +14,7 @@ use Rattle.blocking_laws.specs.TaskLaws.{TaskLaws}
 use Rattle.blocking_laws.specs.Wakes.{was_woken, is_waiting, IsTold, NoLostWake}
 use Rattle.blocking_world.specs.Worlds.{Worlded, owner_in}
 use Rattle.blocking_world.specs.Moves.{Move, May, moment_of}
-use Rattle.blocking_world.specs.Ties.{Tied, TaskAs, FiledAs, AbsentAs, ValueAs}
+use Rattle.blocking_world.specs.Ties.{Tied, TaskAs, FiledAs, AbsentAs}
 use Rattle.blocking_world.specs.declared.call.CallJob.{CallJob}
 use Rattle.blocking_laws.specs.declared.event.Act.{Act}
 use Rattle.blocking_laws.specs.declared.event.Event.{Event}

@@ -1,5 +1,5 @@
 -- One event of a task or of its job: it keeps the laws of the task, and the tie of the task to its cut.
-use Rattle.std.proofs.Common.{◌≡◌, ℕ, ◌==◌, List, [], ◌∷◌, Bool, true, false, refl, sym, ap, ◌∙◌, subst, arith, Option, Some, None, inl, inr}
+use Rattle.std.proofs.Common.{◌≡◌, ℕ, List, [], ◌∷◌, Bool, true, false, refl, sym, ap, ◌∙◌, subst, Option, Some, None, inl, inr}
 use Rattle.std.specs.Prelude.{◌⊎◌, ◌||◌, not, is_some}
 use Rattle.std.proofs.lemmas.Bool.{or_from, or_left, or_right, eq-eqb}
 use Rattle.blocking_core.specs.Jobs.{JobNumber}

@@ -1,14 +1,13 @@
 -- Each move keeps the laws of the tasks, and the tie of the tasks to their cuts.
 use Rattle.std.proofs.Common.{◌≡◌, ℕ, ◌+◌, ◌-◌, ◌<◌, ◌≤◌, ◌==◌, List, [], ◌∷◌, ◌++◌, length, length-append, Bool, true, false, refl, sym, ap, ◌∙◌, subst, arith, Option, Some, None, Result, Ok, Err, ⊎_elim}
 use Rattle.std.specs.Prelude.{◌&&◌, ◌||◌, not, if◌then◌else◌, slice_get, slice_set}
-use Rattle.std.proofs.lemmas.Bool.{cases_lt, cases_eq}
 use Rattle.std.proofs.lemmas.Bool.Decides.{nat_tests}
-use Rattle.std.proofs.lemmas.Option.{slice_get_past, slice_get_within}
+use Rattle.std.proofs.lemmas.Option.{slice_get_within}
 use Rattle.std.proofs.Math.ListN.{length-set}
 use Rattle.blocking_core.specs.Growth.{Growth}
 use Rattle.blocking_core.specs.Jobs.{JobNumber}
 use Rattle.blocking_core.specs.PoolAnswers.{must_stop}
-use Rattle.blocking_core.specs.Slots.{Content, Empty, Full, GivenUp, Abandoned, after_put, after_give_up}
+use Rattle.blocking_core.specs.Slots.{after_put, after_give_up}
 use Rattle.blocking_core.specs.declared.job.Action.{Action}
 use Rattle.blocking_core.specs.declared.job.Action.TheVariants as action
 use Rattle.blocking_core.specs.declared.pool.answer.Refusal.{Refusal}
@@ -19,9 +18,9 @@ use Rattle.blocking_laws.specs.JobTable.{Calling, WakeHolder, next_of_job, has_f
 use Rattle.blocking_laws.specs.Growth.{IsMarked}
 use Rattle.blocking_laws.specs.TaskLaws.{TaskLaw, TaskLaws, is_in_time}
 use Rattle.blocking_world.specs.Crews.{AddsTo, no_growth}
-use Rattle.blocking_world.specs.Worlds.{Worlded, CallPool, duty_at, hand_at, hand_in, may_be, has_let_go, poll_in, poll_at, new_owner, owner_at, with_owner}
+use Rattle.blocking_world.specs.Worlds.{Worlded, CallPool, duty_at, hand_at, may_be, has_let_go, new_owner, owner_at, with_owner}
 use Rattle.blocking_world.specs.Machine.{IsHeld, after_wait, seen, next_start, task_act, called, wait_act}
-use Rattle.blocking_world.specs.Moves.{Move, wait_step, Idles, Begins, Calls, Arrives, TakesJob, TakesNone, IsAnswered, Finishes, GivesUp, CallsWaker, EndsTurn, HasWaited, SetsLimit, Sweeps, IsWoken, IsStruck, May, after, moment_of, event_of, took, finish_wakes, giving_up_wakes}
+use Rattle.blocking_world.specs.Moves.{Move, wait_step, Begins, Calls, TakesJob, IsAnswered, Finishes, GivesUp, CallsWaker, HasWaited, May, after, moment_of, event_of, took, finish_wakes, giving_up_wakes}
 use Rattle.blocking_world.specs.Ties.{Tied, Tasked, TaskAs, ActedAs, holder_of, let_go_in}
 use Rattle.blocking_laws.specs.declared.event.Act.{Act}
 use Rattle.blocking_laws.specs.declared.event.Act.TheVariants.{Answered, Finished, GaveUp, HolderWoken}
@@ -30,17 +29,13 @@ use Rattle.blocking_laws.specs.declared.event.Moment.{Moment}
 use Rattle.blocking_laws.specs.declared.event.Party.{Party}
 use Rattle.blocking_laws.specs.declared.event.Party.TheVariants.{Task, Worker}
 use Rattle.blocking_world.specs.declared.hand.Duty.TheVariants as duty
-use Rattle.blocking_world.specs.declared.hand.Hand.{Hand}
-use Rattle.blocking_world.specs.declared.hand.Hand.TheVariants.{Out, Holds}
+use Rattle.blocking_world.specs.declared.hand.Hand.TheVariants.{Holds}
 use Rattle.blocking_world.specs.declared.hand.Held.{Held}
 use Rattle.blocking_world.specs.declared.hand.Stage.{Stage}
 use Rattle.blocking_world.specs.declared.hand.Stage.TheVariants as stage
 use Rattle.blocking_laws.specs.declared.step.Answer.TheVariants.{Number}
 use Rattle.blocking_laws.specs.declared.step.TaskCall.{TaskCall}
-use Rattle.blocking_laws.specs.declared.step.TaskCall.TheVariants.{Poll, Cancel, Detach, Drop}
 use Rattle.blocking_world.specs.declared.task.Owner.{Owner}
-use Rattle.blocking_world.specs.declared.task.TaskStage.{TaskStage}
-use Rattle.blocking_world.specs.declared.task.TaskStage.TheVariants as task
 use Rattle.blocking_world.proofs.Cutting.{acts_cut}
 use Rattle.blocking_world.proofs.Hands.{at_held}
 use Rattle.blocking_world.proofs.Polls.{by_call, called_plainly}

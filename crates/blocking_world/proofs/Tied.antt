@@ -19,7 +19,7 @@ use Rattle.blocking_world.specs.Machine.{IsReady, was_accepted}
 use Rattle.blocking_world.specs.Moves.{wakes_as, cancels_as}
 use Rattle.blocking_world.specs.Ties.{Numbered, Filed, Handed, HandAs, holder_of}
 use Rattle.blocking_world.specs.Worlds.{Worlded, hand_at, owner_at, owner_in}
-use Rattle.blocking_world.proofs.Entries.{filed_unparked, filed_stands, filed_runs}
+use Rattle.blocking_world.proofs.Entries.{filed_unparked, filed_runs}
 use Rattle.blocking_world.proofs.Hands.{at_held}
 use Rattle.blocking_world.proofs.Lookups.{runs_at, none_enters, enters_parked}
 use Rattle.blocking_world.specs.declared.call.CallJob.{CallJob}
