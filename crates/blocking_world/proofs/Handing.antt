@@ -179,29 +179,61 @@ let_go_owner (Some owner) is = is
 
 -- ---- all that is known of the hands, over plain values
 
+-- a row of hands with what belongs to it, and what was seen of its workers and of the jobs
+record Sight : Type 0 where
+  pub row : List Hand
+  pub owners : List Owner
+  pub jobs : Jobs CallJob
+  pub idles : ℕ
+  pub arrivings : ℕ
+  pub there : ℕ → Bool
+  pub job : ℕ → Option ℕ
+  pub turns : ℕ → Turn
+  pub acts : ℕ → List Act
+  pub let_go : ℕ → Bool
+
 -- a job in a hand
-record HeldHere (owners : List Owner) (jobs : Jobs CallJob) (turns : ℕ → Turn) (acts : ℕ → List Act) (held : Held) : Type 0 where
-  pub as_is : HeldAs held (turns held.turn.serial) (acts held.turn.serial) (let_go_in (slice_get owners (held.turn.serial - 1)))
-  pub runs_is : is_running_as jobs held.turn ≡ true
+record HeldHere (x : Sight) (held : Held) : Type 0 where
+  pub as_is : HeldAs held (x.turns held.turn.serial) (x.acts held.turn.serial) (let_go_in (slice_get x.owners (held.turn.serial - 1)))
+  pub runs_is : is_running_as x.jobs held.turn ≡ true
   pub positive_is : 0 < held.turn.serial
-  pub owned_is : held.turn.serial - 1 < length owners
+  pub owned_is : held.turn.serial - 1 < length x.owners
 
 -- no job is in two hands
 abbrev Apart : List Hand → Type 0
 Apart row = (u v : ℕ) (one other : Held) → hand_at row u ≡ Holds one → hand_at row v ≡ Holds other → one.turn.serial ≡ other.turn.serial → u ≡ v
 
-record Known (row : List Hand) (owners : List Owner) (jobs : Jobs CallJob) (idles arrivings : ℕ) (there : ℕ → Bool) (job : ℕ → Option ℕ) (turns : ℕ → Turn) (acts : ℕ → List Act) (let_go : ℕ → Bool) : Type 0 where
-  pub hands_are : (v : ℕ) → HandAs (hand_at row v) (there v) (job v)
-  pub held_are : (v : ℕ) (held : Held) → hand_at row v ≡ Holds held → HeldHere owners jobs turns acts held
-  pub apart_are : Apart row
-  pub parked_are : NoneParked jobs
-  pub idle_are : idles ≡ arrivings + free_hands row
-  pub marks_are : (s : ℕ) → let_go s ≡ true → let_go_in (slice_get owners (s - 1)) ≡ true
+record Known (x : Sight) : Type 0 where
+  pub hands_are : (v : ℕ) → HandAs (hand_at x.row v) (x.there v) (x.job v)
+  pub held_are : (v : ℕ) (held : Held) → hand_at x.row v ≡ Holds held → HeldHere x held
+  pub apart_are : Apart x.row
+  pub parked_are : NoneParked x.jobs
+  pub idle_are : x.idles ≡ x.arrivings + free_hands x.row
+  pub marks_are : (s : ℕ) → x.let_go s ≡ true → let_go_in (slice_get x.owners (s - 1)) ≡ true
+
+abbrev job_acts : List Moment → ℕ → List Act
+job_acts past s = acts_of s (events past)
+
+abbrev was_let_go : List Moment → ℕ → Bool
+was_let_go past s = is_marked past s || is_cancelled past s
+
+-- the hands of a world
+abbrev sight : Worlded → List Moment → Sight
+sight w past = record {
+  row = w.hands;
+  owners = w.tasks;
+  jobs = w.pool.jobs;
+  idles = w.pool.counts.idle;
+  arrivings = w.pool.counts.arriving;
+  there = is_there past;
+  job = hand past;
+  turns = turn past;
+  acts = job_acts past;
+  let_go = was_let_go past;
+}
 
 abbrev KnownOf : Worlded → List Moment → Type 0
-KnownOf w past =
-    Known w.hands w.tasks w.pool.jobs w.pool.counts.idle w.pool.counts.arriving
-    (λ v. is_there past v) (λ v. hand past v) (λ s. turn past s) (λ s. acts_of s (events past)) (λ s. is_marked past s || is_cancelled past s)
+KnownOf w past = Known (sight w past)
 
 known : (w : Worlded) (past : List Moment) → Handed w past → KnownOf w past
 known w past h = record {
@@ -231,14 +263,13 @@ handed w past k = record {
 
 -- ---- one job in a hand, after a change elsewhere
 
-held_moves : (owners new_owners : List Owner) (jobs new_jobs : Jobs CallJob) (turns new_turns : ℕ → Turn) (acts new_acts : ℕ → List Act) (held : Held) → HeldHere owners jobs turns acts held
-    → new_turns held.turn.serial ≡ turns held.turn.serial → new_acts held.turn.serial ≡ acts held.turn.serial
-    → (let_go_in (slice_get owners (held.turn.serial - 1)) ≡ true → let_go_in (slice_get new_owners (held.turn.serial - 1)) ≡ true)
-    → is_running_as new_jobs held.turn ≡ is_running_as jobs held.turn → length owners ≤ length new_owners → HeldHere new_owners new_jobs new_turns new_acts held
-held_moves owners new_owners jobs new_jobs turns new_turns acts new_acts held h t a g r le = record {
+held_moves : (x y : Sight) (held : Held) → HeldHere x held → y.turns held.turn.serial ≡ x.turns held.turn.serial → y.acts held.turn.serial ≡ x.acts held.turn.serial
+    → (let_go_in (slice_get x.owners (held.turn.serial - 1)) ≡ true → let_go_in (slice_get y.owners (held.turn.serial - 1)) ≡ true)
+    → is_running_as y.jobs held.turn ≡ is_running_as x.jobs held.turn → length x.owners ≤ length y.owners → HeldHere y held
+held_moves x y held h t a g r le = record {
   as_is = record {
     turn_is = t ∙ h.as_is.turn_is;
-    acts_are = subst (λ (x : List Act). ActedAs held.stage held.job.core held.job.number x) (sym a) h.as_is.acts_are;
+    acts_are = subst (λ (l : List Act). ActedAs held.stage held.job.core held.job.number l) (sym a) h.as_is.acts_are;
     wanted = λ m. g (h.as_is.wanted m);
   };
   runs_is = r ∙ h.runs_is;
@@ -248,17 +279,14 @@ held_moves owners new_owners jobs new_jobs turns new_turns acts new_acts held h 
 
 -- ---- changes of the pool and of the tasks alone
 
-parts_known : (row : List Hand) (owners new_owners : List Owner) (jobs new_jobs : Jobs CallJob) (idles new_idles arrivings new_arrivings : ℕ) (there : ℕ → Bool) (job : ℕ → Option ℕ) (turns : ℕ → Turn) (acts : ℕ → List Act) (let_go new_let_go : ℕ → Bool)
-    → Known row owners jobs idles arrivings there job turns acts let_go
-    → ((held : Held) → 0 < held.turn.serial → held.turn.serial - 1 < length owners → is_running_as new_jobs held.turn ≡ is_running_as jobs held.turn)
-    → ((n : ℕ) → let_go_in (slice_get owners n) ≡ true → let_go_in (slice_get new_owners n) ≡ true) → length owners ≤ length new_owners
-    → NoneParked new_jobs → new_idles ≡ new_arrivings + free_hands row → ((s : ℕ) → new_let_go s ≡ true → let_go_in (slice_get new_owners (s - 1)) ≡ true)
-    → Known row new_owners new_jobs new_idles new_arrivings there job turns acts new_let_go
-parts_known row owners new_owners jobs new_jobs idles new_idles arrivings new_arrivings there job turns acts let_go new_let_go k runs stays le none idle marks = record {
+parts_known : (x : Sight) (owners : List Owner) (jobs : Jobs CallJob) (idles arrivings : ℕ) (let_go : ℕ → Bool)
+    → (let y = record x { owners = owners; jobs = jobs; idles = idles; arrivings = arrivings; let_go = let_go } in
+    Known x → ((held : Held) → 0 < held.turn.serial → held.turn.serial - 1 < length x.owners → is_running_as jobs held.turn ≡ is_running_as x.jobs held.turn)
+    → ((n : ℕ) → let_go_in (slice_get x.owners n) ≡ true → let_go_in (slice_get owners n) ≡ true) → length x.owners ≤ length owners
+    → NoneParked jobs → idles ≡ arrivings + free_hands x.row → ((s : ℕ) → let_go s ≡ true → let_go_in (slice_get owners (s - 1)) ≡ true) → Known y)
+parts_known x owners jobs idles arrivings let_go k runs stays le none idle marks = record {
   hands_are = k.hands_are;
-  held_are = λ v held e.
-      (let h = k.held_are v held e in
-      held_moves owners new_owners jobs new_jobs turns turns acts acts held h refl refl (stays (held.turn.serial - 1)) (runs held h.positive_is h.owned_is) le);
+  held_are = λ v held e. (let h = k.held_are v held e in held_moves x _ held h refl refl (stays (held.turn.serial - 1)) (runs held h.positive_is h.owned_is) le);
   apart_are = k.apart_are;
   parked_are = none;
   idle_are = idle;
@@ -269,14 +297,13 @@ kept_idle : (pool new : CallPool) (row : List Hand) → new.counts ≡ pool.coun
 kept_idle pool new row e idle = ap (λ (c : _). c.idle) e ∙ idle ∙ ap (λ (c : _). c.arriving + free_hands row) (sym e)
 
 -- a pool that is kept, and the same or other tasks
-kept_known : (row : List Hand) (owners new_owners : List Owner) (pool new : CallPool) (there : ℕ → Bool) (job : ℕ → Option ℕ) (turns : ℕ → Turn) (acts : ℕ → List Act) (let_go new_let_go : ℕ → Bool)
-    → Known row owners pool.jobs pool.counts.idle pool.counts.arriving there job turns acts let_go → Kept pool new
-    → ((n : ℕ) → let_go_in (slice_get owners n) ≡ true → let_go_in (slice_get new_owners n) ≡ true) → length owners ≤ length new_owners
-    → ((s : ℕ) → new_let_go s ≡ true → let_go_in (slice_get new_owners (s - 1)) ≡ true)
-    → Known row new_owners new.jobs new.counts.idle new.counts.arriving there job turns acts new_let_go
-kept_known row owners new_owners pool new there job turns acts let_go new_let_go k kept stays le marks =
-    parts_known row owners new_owners pool.jobs new.jobs pool.counts.idle new.counts.idle pool.counts.arriving new.counts.arriving there job turns acts let_go new_let_go k
-    (λ held p o. kept.alike.runs_alike held.turn) stays le (λ s. kept.alike.parked_alike s ∙ k.parked_are s) (kept_idle pool new row kept.counts_same k.idle_are) marks
+kept_known : (w : Worlded) (past : List Moment) (pool : CallPool) (owners : List Owner) (let_go : ℕ → Bool) → KnownOf w past → Kept w.pool pool
+    → ((n : ℕ) → let_go_in (slice_get w.tasks n) ≡ true → let_go_in (slice_get owners n) ≡ true) → length w.tasks ≤ length owners
+    → ((s : ℕ) → let_go s ≡ true → let_go_in (slice_get owners (s - 1)) ≡ true)
+    → Known (record (sight w past) { owners = owners; jobs = pool.jobs; idles = pool.counts.idle; arrivings = pool.counts.arriving; let_go = let_go })
+kept_known w past pool owners let_go k kept stays le marks =
+    parts_known (sight w past) owners pool.jobs pool.counts.idle pool.counts.arriving let_go k
+    (λ held p o. kept.alike.runs_alike held.turn) stays le (λ s. kept.alike.parked_alike s ∙ k.parked_are s) (kept_idle w.pool pool w.hands kept.counts_same k.idle_are) marks
 
 -- ---- the hand of one worker changes
 
@@ -299,131 +326,137 @@ apart_set row v old h at apart fresh a b one other =
     (λ f js s. absurd (fresh other js a one e is (sym s)))
     (λ f js s. apart a b one other is js s))
 
-hand_known : (row : List Hand) (owners new_owners : List Owner) (jobs new_jobs : Jobs CallJob) (idles new_idles arrivings new_arrivings : ℕ) (there new_there : ℕ → Bool) (job new_job : ℕ → Option ℕ) (turns new_turns : ℕ → Turn) (acts new_acts : ℕ → List Act) (let_go new_let_go : ℕ → Bool)
-    (v : ℕ) (old h : Hand)
-    → Known row owners jobs idles arrivings there job turns acts let_go → IsAt row v old
-    → HandAs h (new_there v) (new_job v)
-    → ((u : ℕ) → (v == u) ≡ false → HandAs (hand_at row u) (there u) (job u) → HandAs (hand_at row u) (new_there u) (new_job u))
-    → ((held : Held) → h ≡ Holds held → HeldHere new_owners new_jobs new_turns new_acts held)
-    → ((u : ℕ) (held : Held) → (v == u) ≡ false → hand_at row u ≡ Holds held → HeldHere new_owners new_jobs new_turns new_acts held)
-    → ((held : Held) → h ≡ Holds held → (u : ℕ) (other : Held) → (v == u) ≡ false → hand_at row u ≡ Holds other → held.turn.serial ≡ other.turn.serial → ⊥)
-    → NoneParked new_jobs → new_idles ≡ new_arrivings + free_hands (with_hand row v h)
-    → ((s : ℕ) → new_let_go s ≡ true → let_go_in (slice_get new_owners (s - 1)) ≡ true)
-    → Known (with_hand row v h) new_owners new_jobs new_idles new_arrivings new_there new_job new_turns new_acts new_let_go
-hand_known row owners new_owners jobs new_jobs idles new_idles arrivings new_arrivings there new_there job new_job turns new_turns acts new_acts let_go new_let_go v old h k at here others new_held old_held fresh none idle marks = record {
-  hands_are = λ u. at_set row v u old h at (λ g. HandAs g (new_there u) (new_job u)) (λ e. subst (λ n. HandAs h (new_there n) (new_job n)) (eqb-true v u e) here) (λ e. others u e (k.hands_are u));
-  held_are = λ u held. at_set row v u old h at (λ g. g ≡ Holds held → HeldHere new_owners new_jobs new_turns new_acts held) (λ e is. new_held held is) (λ e is. old_held u held e is);
-  apart_are = apart_set row v old h at k.apart_are fresh;
+hand_known : (x y : Sight) (v : ℕ) (old h : Hand)
+    → (let z = record y { row = with_hand x.row v h } in
+    Known x → IsAt x.row v old → HandAs h (y.there v) (y.job v)
+    → ((u : ℕ) → (v == u) ≡ false → HandAs (hand_at x.row u) (x.there u) (x.job u) → HandAs (hand_at x.row u) (y.there u) (y.job u))
+    → ((held : Held) → h ≡ Holds held → HeldHere z held)
+    → ((u : ℕ) (held : Held) → (v == u) ≡ false → hand_at x.row u ≡ Holds held → HeldHere z held)
+    → ((held : Held) → h ≡ Holds held → (u : ℕ) (other : Held) → (v == u) ≡ false → hand_at x.row u ≡ Holds other → held.turn.serial ≡ other.turn.serial → ⊥)
+    → NoneParked y.jobs → y.idles ≡ y.arrivings + free_hands (with_hand x.row v h) → ((s : ℕ) → y.let_go s ≡ true → let_go_in (slice_get y.owners (s - 1)) ≡ true) → Known z)
+hand_known x y v old h k at here others new_held old_held fresh none idle marks = record {
+  hands_are = λ u. at_set x.row v u old h at (λ g. HandAs g (y.there u) (y.job u)) (λ e. subst (λ n. HandAs h (y.there n) (y.job n)) (eqb-true v u e) here) (λ e. others u e (k.hands_are u));
+  held_are = λ u held. at_set x.row v u old h at (λ g. g ≡ Holds held → HeldHere (record y { row = with_hand x.row v h }) held) (λ e is. new_held held is) (λ e is. old_held u held e is);
+  apart_are = apart_set x.row v old h at k.apart_are fresh;
   parked_are = none;
   idle_are = idle;
   marks_are = marks;
 }
 
+-- the hand of a worker by what was seen of it
+hand_known_as : (x : Sight) (v : ℕ) (h : Hand) → Known x → hand_at x.row v ≡ h → HandAs h (x.there v) (x.job v)
+hand_known_as x v h k e = subst (λ g. HandAs g (x.there v) (x.job v)) e (k.hands_are v)
+
 -- a job in a hand acts itself: its own turn and acts may change, and the slot of its task
-own_known : (row : List Hand) (owners new_owners : List Owner) (jobs : Jobs CallJob) (idles arrivings : ℕ) (there : ℕ → Bool) (job : ℕ → Option ℕ) (turns new_turns : ℕ → Turn) (acts new_acts : ℕ → List Act) (let_go : ℕ → Bool) (v : ℕ) (old new : Held)
-    → Known row owners jobs idles arrivings there job turns acts let_go → hand_at row v ≡ Holds old → new.turn ≡ old.turn
-    → HeldAs new (new_turns old.turn.serial) (new_acts old.turn.serial) (let_go_in (slice_get owners (old.turn.serial - 1)))
-    → ((x : ℕ) → (old.turn.serial == x) ≡ false → new_turns x ≡ turns x)
-    → ((x : ℕ) → (old.turn.serial == x) ≡ false → new_acts x ≡ acts x)
-    → ((n : ℕ) → let_go_in (slice_get new_owners n) ≡ let_go_in (slice_get owners n)) → length new_owners ≡ length owners
-    → Known (with_hand row v (Holds new)) new_owners jobs idles arrivings there job new_turns new_acts let_go
-own_known row owners new_owners jobs idles arrivings there job turns new_turns acts new_acts let_go v old new k e same shape other_turns other_acts gone le =
-    let at = at_held row v old e in
+own_known : (x : Sight) (v : ℕ) (old new : Held) (owners : List Owner) (turns : ℕ → Turn) (acts : ℕ → List Act)
+    → (let y = record x { row = with_hand x.row v (Holds new); owners = owners; turns = turns; acts = acts } in
+    Known x → hand_at x.row v ≡ Holds old → new.turn ≡ old.turn
+    → HeldAs new (turns old.turn.serial) (acts old.turn.serial) (let_go_in (slice_get x.owners (old.turn.serial - 1)))
+    → ((s : ℕ) → (old.turn.serial == s) ≡ false → turns s ≡ x.turns s) → ((s : ℕ) → (old.turn.serial == s) ≡ false → acts s ≡ x.acts s)
+    → ((n : ℕ) → let_go_in (slice_get owners n) ≡ let_go_in (slice_get x.owners n)) → length owners ≡ length x.owners → Known y)
+own_known x v old new owners turns acts k e same shape other_turns other_acts gone le =
+    let y : Sight = record x { row = with_hand x.row v (Holds new); owners = owners; turns = turns; acts = acts } in
+    let at = at_held x.row v old e in
     let before = k.held_are v old e in
-    let mine : HandAs (Holds old) (there v) (job v) = subst (λ h. HandAs h (there v) (job v)) e (k.hands_are v) in
-    let owned : old.turn.serial - 1 < length new_owners = (let o = before.owned_is in omega (arith, o, le)) in
-    let here : HeldHere new_owners jobs new_turns new_acts new = record {
-      as_is = subst (λ (n : JobNumber). HeldAs new (new_turns n.serial) (new_acts n.serial) (let_go_in (slice_get new_owners (n.serial - 1)))) (sym same)
-          (subst (λ b. HeldAs new (new_turns old.turn.serial) (new_acts old.turn.serial) b) (sym (gone (old.turn.serial - 1))) shape);
-      runs_is = ap (is_running_as jobs) same ∙ before.runs_is;
+    let mine = hand_known_as x v (Holds old) k e in
+    let owned : old.turn.serial - 1 < length owners = (let o = before.owned_is in omega (arith, o, le)) in
+    let here : HeldHere y new = record {
+      as_is = subst (λ (n : JobNumber). HeldAs new (turns n.serial) (acts n.serial) (let_go_in (slice_get owners (n.serial - 1)))) (sym same)
+          (subst (λ b. HeldAs new (turns old.turn.serial) (acts old.turn.serial) b) (sym (gone (old.turn.serial - 1))) shape);
+      runs_is = ap (is_running_as x.jobs) same ∙ before.runs_is;
       positive_is = subst (λ (n : JobNumber). 0 < n.serial) (sym same) before.positive_is;
-      owned_is = subst (λ (n : JobNumber). n.serial - 1 < length new_owners) (sym same) owned;
+      owned_is = subst (λ (n : JobNumber). n.serial - 1 < length owners) (sym same) owned;
     } in
-    let free = free_set row (v - 1) (Holds old) (Holds new) at.got in
+    let free = free_set x.row (v - 1) (Holds old) (Holds new) at.got in
     let idle = k.idle_are in
-    hand_known row owners new_owners jobs jobs idles idles arrivings arrivings there there job job turns new_turns acts new_acts let_go let_go v (Holds old) (Holds new) k at
+    hand_known x y v (Holds old) (Holds new) k at
     (mine.0, mine.1 ∙ ap (λ (n : JobNumber). Some n.serial) (sym same))
     (λ u d h. h)
-    (λ held is. (let alike : new ≡ held = cc in subst (λ x. HeldHere new_owners jobs new_turns new_acts x) alike here))
+    (λ held is. (let alike : new ≡ held = cc in subst (λ g. HeldHere y g) alike here))
     (λ u held d is.
     (let differs = ne_eqb old.turn.serial held.turn.serial (λ s. eqb-false v u d (k.apart_are v u old held e is s)) in
-    held_moves owners new_owners jobs jobs turns new_turns acts new_acts held (k.held_are u held is) (other_turns held.turn.serial differs) (other_acts held.turn.serial differs)
-    (λ g. gone (held.turn.serial - 1) ∙ g) refl (omega (arith, le))))
-    (λ held is u other d js s. (let alike : new ≡ held = cc in eqb-false v u d (k.apart_are v u old other e js (ap (λ (n : JobNumber). n.serial) (sym same) ∙ ap (λ (x : Held). x.turn.serial) alike ∙ s))))
+    held_moves x y held (k.held_are u held is) (other_turns held.turn.serial differs) (other_acts held.turn.serial differs) (λ g. gone (held.turn.serial - 1) ∙ g) refl (omega (arith, le))))
+    (λ held is u other d js s. (let alike : new ≡ held = cc in eqb-false v u d (k.apart_are v u old other e js (ap (λ (n : JobNumber). n.serial) (sym same) ∙ ap (λ (g : Held). g.turn.serial) alike ∙ s))))
     k.parked_are (omega (arith, free, idle)) (λ s g. gone (s - 1) ∙ k.marks_are s g)
 
+-- what is known after a job was taken, with so many starts
+abbrev taken : Sight → ℕ → Held → Jobs CallJob → ℕ → (ℕ → Turn) → Sight
+taken x v new jobs started turns = record x {
+  row = with_hand x.row v (Holds new);
+  jobs = jobs;
+  idles = x.idles - 1 + started;
+  arrivings = x.arrivings + started;
+  job = λ u. if v == u then Some new.turn.serial else x.job u;
+  turns = turns;
+}
+
 -- an idle worker takes a job, which is in no hand
-take_known : (row : List Hand) (owners : List Owner) (jobs new_jobs : Jobs CallJob) (idles arrivings started : ℕ) (there : ℕ → Bool) (job : ℕ → Option ℕ) (turns new_turns : ℕ → Turn) (acts : ℕ → List Act) (let_go : ℕ → Bool) (v : ℕ) (pass : WorkerPass) (new : Held)
-    → Known row owners jobs idles arrivings there job turns acts let_go → hand_at row v ≡ Free pass
-    → HeldHere owners new_jobs new_turns acts new
-    → ((held : Held) → is_running_as jobs held.turn ≡ true → new.turn.serial ≡ held.turn.serial → ⊥)
-    → ((x : ℕ) → (new.turn.serial == x) ≡ false → new_turns x ≡ turns x)
-    → ((number : JobNumber) → (new.turn.serial == number.serial) ≡ false → is_running_as new_jobs number ≡ is_running_as jobs number)
-    → NoneParked new_jobs
-    → Known (with_hand row v (Holds new)) owners new_jobs (idles - 1 + started) (arrivings + started) there (λ u. if v == u then Some new.turn.serial else job u) new_turns acts let_go
-take_known row owners jobs new_jobs idles arrivings started there job turns new_turns acts let_go v pass new k e here fresh other_turns other_runs none =
-    let at = at_free row v pass e in
-    let mine : HandAs (Free pass) (there v) (job v) = subst (λ h. HandAs h (there v) (job v)) e (k.hands_are v) in
-    let free = free_set row (v - 1) (Free pass) (Holds new) at.got in
+take_known : (x : Sight) (v : ℕ) (pass : WorkerPass) (new : Held) (jobs : Jobs CallJob) (started : ℕ) (turns : ℕ → Turn)
+    → Known x → hand_at x.row v ≡ Free pass → HeldHere (taken x v new jobs started turns) new
+    → ((held : Held) → is_running_as x.jobs held.turn ≡ true → new.turn.serial ≡ held.turn.serial → ⊥)
+    → ((s : ℕ) → (new.turn.serial == s) ≡ false → turns s ≡ x.turns s)
+    → ((number : JobNumber) → (new.turn.serial == number.serial) ≡ false → is_running_as jobs number ≡ is_running_as x.jobs number)
+    → NoneParked jobs → Known (taken x v new jobs started turns)
+take_known x v pass new jobs started turns k e here fresh other_turns other_runs none =
+    let y = taken x v new jobs started turns in
+    let at = at_free x.row v pass e in
+    let mine = hand_known_as x v (Free pass) k e in
+    let free = free_set x.row (v - 1) (Free pass) (Holds new) at.got in
     let idle = k.idle_are in
-    hand_known row owners owners jobs new_jobs idles (idles - 1 + started) arrivings (arrivings + started) there there job (λ u. if v == u then Some new.turn.serial else job u) turns new_turns acts acts let_go let_go v (Free pass) (Holds new) k at
-    (mine.0, ap (λ b. if b then Some new.turn.serial else job v) (eq-eqb v v refl))
-    (λ u d h. subst (λ b. HandAs (hand_at row u) (there u) (if b then Some new.turn.serial else job u)) (sym d) h)
-    (λ held is. (let alike : new ≡ held = cc in subst (λ x. HeldHere owners new_jobs new_turns acts x) alike here))
+    hand_known x y v (Free pass) (Holds new) k at
+    (mine.0, ap (λ b. if b then Some new.turn.serial else x.job v) (eq-eqb v v refl))
+    (λ u d h. subst (λ b. HandAs (hand_at x.row u) (x.there u) (if b then Some new.turn.serial else x.job u)) (sym d) h)
+    (λ held is. (let alike : new ≡ held = cc in subst (λ g. HeldHere y g) alike here))
     (λ u held d is.
     (let h = k.held_are u held is in
     let differs = ne_eqb new.turn.serial held.turn.serial (fresh held h.runs_is) in
-    held_moves owners owners jobs new_jobs turns new_turns acts acts held h (other_turns held.turn.serial differs) refl (λ g. g) (other_runs held.turn differs) (omega arith)))
-    (λ held is u other d js s. (let alike : new ≡ held = cc in fresh other (k.held_are u other js).runs_is (ap (λ (x : Held). x.turn.serial) alike ∙ s)))
+    held_moves x y held h (other_turns held.turn.serial differs) refl (λ g. g) (other_runs held.turn differs) (omega arith)))
+    (λ held is u other d js s. (let alike : new ≡ held = cc in fresh other (k.held_are u other js).runs_is (ap (λ (g : Held). g.turn.serial) alike ∙ s)))
     none (omega (arith, free, idle)) k.marks_are
 
 -- a turn ends, and its worker is free
-end_known : (row : List Hand) (owners : List Owner) (jobs new_jobs : Jobs CallJob) (idles arrivings : ℕ) (there : ℕ → Bool) (job : ℕ → Option ℕ) (turns : ℕ → Turn) (acts : ℕ → List Act) (let_go : ℕ → Bool) (v : ℕ) (old : Held) (pass : WorkerPass)
-    → Known row owners jobs idles arrivings there job turns acts let_go → hand_at row v ≡ Holds old
-    → ((number : JobNumber) → (old.turn.serial == number.serial) ≡ false → is_running_as new_jobs number ≡ is_running_as jobs number)
-    → NoneParked new_jobs
-    → Known (with_hand row v (Free pass)) owners new_jobs (idles + 1) arrivings there (λ u. if v == u then None else job u) turns acts let_go
-end_known row owners jobs new_jobs idles arrivings there job turns acts let_go v old pass k e other_runs none =
-    let at = at_held row v old e in
-    let mine : HandAs (Holds old) (there v) (job v) = subst (λ h. HandAs h (there v) (job v)) e (k.hands_are v) in
-    let free = free_set row (v - 1) (Holds old) (Free pass) at.got in
+end_known : (x : Sight) (v : ℕ) (old : Held) (pass : WorkerPass) (jobs : Jobs CallJob)
+    → (let y = record x { row = with_hand x.row v (Free pass); jobs = jobs; idles = x.idles + 1; job = λ u. if v == u then None else x.job u } in
+    Known x → hand_at x.row v ≡ Holds old
+    → ((number : JobNumber) → (old.turn.serial == number.serial) ≡ false → is_running_as jobs number ≡ is_running_as x.jobs number) → NoneParked jobs → Known y)
+end_known x v old pass jobs k e other_runs none =
+    let y : Sight = record x { row = with_hand x.row v (Free pass); jobs = jobs; idles = x.idles + 1; job = λ u. if v == u then None else x.job u } in
+    let at = at_held x.row v old e in
+    let mine = hand_known_as x v (Holds old) k e in
+    let free = free_set x.row (v - 1) (Holds old) (Free pass) at.got in
     let idle = k.idle_are in
-    hand_known row owners owners jobs new_jobs idles (idles + 1) arrivings arrivings there there job (λ u. if v == u then None else job u) turns turns acts acts let_go let_go v (Holds old) (Free pass) k at
-    (mine.0, ap (λ b. if b then None else job v) (eq-eqb v v refl))
-    (λ u d h. subst (λ b. HandAs (hand_at row u) (there u) (if b then None else job u)) (sym d) h)
+    hand_known x y v (Holds old) (Free pass) k at
+    (mine.0, ap (λ b. if b then None else x.job v) (eq-eqb v v refl))
+    (λ u d h. subst (λ b. HandAs (hand_at x.row u) (x.there u) (if b then None else x.job u)) (sym d) h)
     (λ held is. absurd (cc))
     (λ u held d is.
     (let differs = ne_eqb old.turn.serial held.turn.serial (λ s. eqb-false v u d (k.apart_are v u old held e is s)) in
-    held_moves owners owners jobs new_jobs turns turns acts acts held (k.held_are u held is) refl refl (λ g. g) (other_runs held.turn differs) (omega arith)))
+    held_moves x y held (k.held_are u held is) refl refl (λ g. g) (other_runs held.turn differs) (omega arith)))
     (λ held is u other d js s. cc)
     none (omega (arith, free, idle)) k.marks_are
 
 -- a worker stays idle
-idle_known : (row : List Hand) (owners : List Owner) (jobs : Jobs CallJob) (idles arrivings : ℕ) (there : ℕ → Bool) (job : ℕ → Option ℕ) (turns : ℕ → Turn) (acts : ℕ → List Act) (let_go : ℕ → Bool) (v : ℕ) (old pass : WorkerPass)
-    → Known row owners jobs idles arrivings there job turns acts let_go → hand_at row v ≡ Free old
-    → Known (with_hand row v (Free pass)) owners jobs idles arrivings there job turns acts let_go
-idle_known row owners jobs idles arrivings there job turns acts let_go v old pass k e =
-    let at = at_free row v old e in
-    let mine : HandAs (Free old) (there v) (job v) = subst (λ h. HandAs h (there v) (job v)) e (k.hands_are v) in
-    let free = free_set row (v - 1) (Free old) (Free pass) at.got in
+idle_known : (x : Sight) (v : ℕ) (old pass : WorkerPass) → Known x → hand_at x.row v ≡ Free old → Known (record x { row = with_hand x.row v (Free pass) })
+idle_known x v old pass k e =
+    let at = at_free x.row v old e in
+    let free = free_set x.row (v - 1) (Free old) (Free pass) at.got in
     let idle = k.idle_are in
-    hand_known row owners owners jobs jobs idles idles arrivings arrivings there there job job turns turns acts acts let_go let_go v (Free old) (Free pass) k at
-    mine (λ u d h. h) (λ held is. absurd (cc)) (λ u held d is. k.held_are u held is) (λ held is u other d js s. cc)
+    hand_known x x v (Free old) (Free pass) k at
+    (hand_known_as x v (Free old) k e) (λ u d h. h) (λ held is. absurd (cc)) (λ u held d is. held_moves x _ held (k.held_are u held is) refl refl (λ g. g) refl (omega arith)) (λ held is u other d js s. cc)
     k.parked_are (omega (arith, free, idle)) k.marks_are
 
 -- an idle worker stops
-stop_known : (row : List Hand) (owners : List Owner) (jobs : Jobs CallJob) (idles arrivings : ℕ) (there : ℕ → Bool) (job : ℕ → Option ℕ) (turns : ℕ → Turn) (acts : ℕ → List Act) (let_go : ℕ → Bool) (v : ℕ) (old : WorkerPass)
-    → Known row owners jobs idles arrivings there job turns acts let_go → hand_at row v ≡ Free old
-    → Known (with_hand row v Out) owners jobs (idles - 1) arrivings (λ u. not (v == u) && there u) job turns acts let_go
-stop_known row owners jobs idles arrivings there job turns acts let_go v old k e =
-    let at = at_free row v old e in
-    let mine : HandAs (Free old) (there v) (job v) = subst (λ h. HandAs h (there v) (job v)) e (k.hands_are v) in
-    let free = free_set row (v - 1) (Free old) Out at.got in
+stop_known : (x : Sight) (v : ℕ) (old : WorkerPass) → Known x → hand_at x.row v ≡ Free old
+    → Known (record x { row = with_hand x.row v Out; idles = x.idles - 1; there = λ u. not (v == u) && x.there u })
+stop_known x v old k e =
+    let y : Sight = record x { idles = x.idles - 1; there = λ u. not (v == u) && x.there u } in
+    let at = at_free x.row v old e in
+    let free = free_set x.row (v - 1) (Free old) Out at.got in
     let idle = k.idle_are in
-    hand_known row owners owners jobs jobs idles (idles - 1) arrivings arrivings there (λ u. not (v == u) && there u) job job turns turns acts acts let_go let_go v (Free old) Out k at
-    (ap (λ b. not b && there v) (eq-eqb v v refl), mine.1)
-    (λ u d h. subst (λ b. HandAs (hand_at row u) (not b && there u) (job u)) (sym d) h)
-    (λ held is. absurd (cc)) (λ u held d is. k.held_are u held is) (λ held is u other d js s. cc)
+    hand_known x y v (Free old) Out k at
+    (ap (λ b. not b && x.there v) (eq-eqb v v refl), (hand_known_as x v (Free old) k e).1)
+    (λ u d h. subst (λ b. HandAs (hand_at x.row u) (not b && x.there u) (x.job u)) (sym d) h)
+    (λ held is. absurd (cc)) (λ u held d is. held_moves x _ held (k.held_are u held is) refl refl (λ g. g) refl (omega arith)) (λ held is u other d js s. cc)
     k.parked_are (omega (arith, free, idle)) k.marks_are
 
 -- a worker arrives
@@ -432,21 +465,21 @@ pushed_held : (row : List Hand) (pass : WorkerPass) (u : ℕ) (held : Held) → 
 pushed_held row pass u held is =
     if_case (length row + 1 == u) (λ g. g ≡ Holds held → hand_at row u ≡ Holds held) (Free pass) (hand_at row u) (λ e js. absurd (cc)) (λ e js. js) (sym (hand_pushed row u (Free pass)) ∙ is)
 
-arrive_known : (row : List Hand) (owners : List Owner) (jobs : Jobs CallJob) (idles arrivings : ℕ) (there : ℕ → Bool) (job : ℕ → Option ℕ) (turns : ℕ → Turn) (acts : ℕ → List Act) (let_go : ℕ → Bool) (pass : WorkerPass)
-    → Known row owners jobs idles arrivings there job turns acts let_go → 0 < arrivings
-    → Known (row ++ Free pass ∷ []) owners jobs idles (arrivings - 1) (λ u. length row + 1 == u || there u) job turns acts let_go
-arrive_known row owners jobs idles arrivings there job turns acts let_go pass k some =
-    let free = free_pushed row (Free pass) in
+arrive_known : (x : Sight) (pass : WorkerPass) → Known x → 0 < x.arrivings
+    → Known (record x { row = x.row ++ Free pass ∷ []; arrivings = x.arrivings - 1; there = λ u. length x.row + 1 == u || x.there u })
+arrive_known x pass k some =
+    let last = length x.row + 1 in
+    let free = free_pushed x.row (Free pass) in
     let idle = k.idle_are in
-    let none : job (length row + 1) ≡ None = (let h : HandAs Out (there (length row + 1)) (job (length row + 1)) = subst (λ h. HandAs h (there (length row + 1)) (job (length row + 1))) (hand_next row) (k.hands_are (length row + 1)) in h.1) in
+    let none : x.job last ≡ None = (hand_known_as x last Out k (hand_next x.row)).1 in
     record {
       hands_are = λ u.
-          subst (λ g. HandAs g (length row + 1 == u || there u) (job u)) (sym (hand_pushed row u (Free pass)))
-          (if_case (length row + 1 == u) (λ g. HandAs g (length row + 1 == u || there u) (job u)) (Free pass) (hand_at row u)
-          (λ e. (ap (λ b. b || there u) e, subst (λ n. job n ≡ None) (eqb-true (length row + 1) u e) none))
-          (λ e. subst (λ b. HandAs (hand_at row u) (b || there u) (job u)) (sym e) (k.hands_are u)));
-      held_are = λ u held is. k.held_are u held (pushed_held row pass u held is);
-      apart_are = λ u v one other is js s. k.apart_are u v one other (pushed_held row pass u one is) (pushed_held row pass v other js) s;
+          subst (λ g. HandAs g (last == u || x.there u) (x.job u)) (sym (hand_pushed x.row u (Free pass)))
+          (if_case (last == u) (λ g. HandAs g (last == u || x.there u) (x.job u)) (Free pass) (hand_at x.row u)
+          (λ e. (ap (λ b. b || x.there u) e, subst (λ n. x.job n ≡ None) (eqb-true last u e) none))
+          (λ e. subst (λ b. HandAs (hand_at x.row u) (b || x.there u) (x.job u)) (sym e) (k.hands_are u)));
+      held_are = λ u held is. held_moves x _ held (k.held_are u held (pushed_held x.row pass u held is)) refl refl (λ g. g) refl (omega arith);
+      apart_are = λ u v one other is js s. k.apart_are u v one other (pushed_held x.row pass u one is) (pushed_held x.row pass v other js) s;
       parked_are = k.parked_are;
       idle_are = omega (arith, free, idle, some);
       marks_are = k.marks_are;
@@ -566,12 +599,6 @@ taken_runs jobs number entry place =
 
 -- ---- each move, by what is known
 
-abbrev job_acts : List Moment → ℕ → List Act
-job_acts past s = acts_of s (events past)
-
-abbrev was_let_go : List Moment → ℕ → Bool
-was_let_go past s = is_marked past s || is_cancelled past s
-
 abbrev at_step : Step → Event → Moment
 at_step step event = record { step = step; event = event }
 
@@ -588,9 +615,8 @@ begun setting may_answer w past number growth new step first t a =
     let grown_list = length-append w.tasks (new_owner number ∷ []) in
     let le : length w.tasks ≤ length (w.tasks ++ new_owner number ∷ []) = omega (arith, grown_list) in
     subst (λ (p : CallPool). KnownOf (record w { pool = p; tasks = w.tasks ++ new_owner number ∷ [] }) (at_step step (seen Pool None (Accepted number.serial) first growth) ∷ past)) (sym a.after_is)
-    (parts_known w.hands w.tasks (w.tasks ++ new_owner number ∷ []) w.pool.jobs (insert w.pool.jobs w.pool.next_serial (new_job number.place new_call))
-    w.pool.counts.idle (w.pool.counts.idle + growth.started) w.pool.counts.arriving (w.pool.counts.arriving + growth.started)
-    (is_there past) (hand past) (turn past) (job_acts past) (was_let_go past) (was_let_go past) k
+    (parts_known (sight w past) (w.tasks ++ new_owner number ∷ []) (insert w.pool.jobs w.pool.next_serial (new_job number.place new_call))
+    (w.pool.counts.idle + growth.started) (w.pool.counts.arriving + growth.started) (was_let_go past) k
     (λ held p o. insert_runs w.pool.jobs w.pool.next_serial (new_job number.place new_call) held.turn (ne_eqb w.pool.next_serial held.turn.serial (λ same. omega (arith, same, p, o, next, many))))
     (let_go_pushed w.tasks (new_owner number)) le
     (insert_unparked w.pool.jobs w.pool.next_serial (new_job number.place new_call) refl k.parked_are)
@@ -607,9 +633,7 @@ refused setting may_answer w past Memory growth new step first t a =
 refused setting may_answer w past NoWorker growth new step first t a =
     let k = known w past t.handed in
     subst (λ (p : CallPool). KnownOf (record w { pool = p }) (at_step step (seen Pool None (Refused NoWorker) first growth) ∷ past)) (sym a.after_is)
-    (parts_known w.hands w.tasks w.tasks w.pool.jobs w.pool.jobs
-    w.pool.counts.idle (w.pool.counts.idle + growth.started) w.pool.counts.arriving (w.pool.counts.arriving + growth.started)
-    (is_there past) (hand past) (turn past) (job_acts past) (was_let_go past) (was_let_go past) k
+    (parts_known (sight w past) w.tasks w.pool.jobs (w.pool.counts.idle + growth.started) (w.pool.counts.arriving + growth.started) (was_let_go past) k
     (λ held p o. refl) (λ n g. g) (omega arith) k.parked_are
     (same_idle w.pool.counts.idle w.pool.counts.arriving growth.started (free_hands w.hands) k.idle_are)
     k.marks_are)
@@ -622,12 +646,11 @@ CalledOf w k call owner = record w { pool = pool_called call w.pool owner.number
 called_known : (w : Worlded) (past : List Moment) (k : ℕ) (call : TaskCall) (owner : Owner) (let_go : ℕ → Bool) → KnownOf w past → slice_get w.tasks k ≡ Some owner → may_be owner.stage call ≡ true
     → ((s : ℕ) → let_go s ≡ true → let_go_in (slice_get (slice_set w.tasks k (called call owner)) (s - 1)) ≡ true)
     → (let pool = pool_called call w.pool owner.number in
-    Known w.hands (slice_set w.tasks k (called call owner)) pool.jobs pool.counts.idle pool.counts.arriving (is_there past) (hand past) (turn past) (job_acts past) let_go)
+    Known (record (sight w past) { owners = slice_set w.tasks k (called call owner); jobs = pool.jobs; idles = pool.counts.idle; arrivings = pool.counts.arriving; let_go = let_go }))
 called_known w past k call owner let_go old e may marks =
     let stays = let_go_stays w.tasks k owner (called call owner) e (called_stays call owner may) in
     let many = length-set w.tasks k (called call owner) in
-    kept_known w.hands w.tasks (slice_set w.tasks k (called call owner)) w.pool (pool_called call w.pool owner.number)
-    (is_there past) (hand past) (turn past) (job_acts past) (was_let_go past) let_go old (called_kept call w.pool owner.number) stays (omega (arith, many)) marks
+    kept_known w past (pool_called call w.pool owner.number) (slice_set w.tasks k (called call owner)) let_go old (called_kept call w.pool owner.number) stays (omega (arith, many)) marks
 
 quiet_marks : (w : Worlded) (past : List Moment) (k : ℕ) (call : TaskCall) (owner : Owner) → KnownOf w past → slice_get w.tasks k ≡ Some owner → may_be owner.stage call ≡ true
     → (s : ℕ) → was_let_go past s ≡ true → let_go_in (slice_get (slice_set w.tasks k (called call owner)) (s - 1)) ≡ true
@@ -673,15 +696,21 @@ first_wanted false P wanted is = absurd (cc)
 
 took_known : (setting : ℕ) (may_answer : ℕ → Bool → Type 0) (w : Worlded) (past : List Moment) (v : ℕ) (pass : WorkerPass) (number : JobNumber) (value : CallJob) (to_drop : Bool) (growth : Growth) (new : CallPool)
     → Tied setting w past → hand_at w.hands v ≡ Free pass → TakesFront may_answer w.pool number value to_drop growth new
-    → Known (with_held w v (record { turn = number; job = value; stage = first_stage to_drop })) w.tasks new.jobs new.counts.idle new.counts.arriving
-    (is_there past) (λ u. if v == u then Some number.serial else hand past u) (λ s. if number.serial == s then turn_of (first_stage to_drop) else turn past s) (job_acts past) (was_let_go past)
+    → Known (record (sight w past) {
+      row = with_held w v (record { turn = number; job = value; stage = first_stage to_drop });
+      jobs = new.jobs;
+      idles = new.counts.idle;
+      arrivings = new.counts.arriving;
+      job = λ u. if v == u then Some number.serial else hand past u;
+      turns = λ s. if number.serial == s then turn_of (first_stage to_drop) else turn past s;
+    })
 took_known setting may_answer w past v pass number value to_drop growth new t e f =
     let k = known w past t.handed in
     let front = fronted setting may_answer w past number value to_drop growth new t f in
     let place = accepted_at w past number.serial t.numbered (ap is_some front.stands_is) in
     let held : Held = record { turn = number; job = value; stage = first_stage to_drop } in
     let turns : ℕ → Turn = λ s. if number.serial == s then turn_of (first_stage to_drop) else turn past s in
-    let here : HeldHere w.tasks (insert w.pool.jobs number.serial (running f.job)) turns (job_acts past) held = record {
+    let here : HeldHere (taken (sight w past) v held (insert w.pool.jobs number.serial (running f.job)) growth.started turns) held = record {
       as_is = record {
         turn_is = ap (λ b. if b then turn_of (first_stage to_drop) else turn past number.serial) (eq-eqb number.serial number.serial refl);
         acts_are = first_as to_drop value.core value.number (job_acts past number.serial) front.core_is front.unacted;
@@ -691,9 +720,8 @@ took_known setting may_answer w past v pass number value to_drop growth new t e 
       positive_is = place.0;
       owned_is = place.1;
     } in
-    subst (λ (p : CallPool). Known (with_held w v held) w.tasks p.jobs p.counts.idle p.counts.arriving (is_there past) (λ u. if v == u then Some number.serial else hand past u) turns (job_acts past) (was_let_go past)) (sym f.after_is)
-    (take_known w.hands w.tasks w.pool.jobs (insert w.pool.jobs number.serial (running f.job)) w.pool.counts.idle w.pool.counts.arriving growth.started
-    (is_there past) (hand past) (turn past) turns (job_acts past) (was_let_go past) v pass held k e here
+    subst (λ (p : CallPool). Known (record (taken (sight w past) v held p.jobs growth.started turns) { idles = p.counts.idle; arrivings = p.counts.arriving })) (sym f.after_is)
+    (take_known (sight w past) v pass held (insert w.pool.jobs number.serial (running f.job)) growth.started turns k e here
     (λ other runs same. queued_rests_at w.pool.jobs number other.turn f.job f.found front.entry_is same runs)
     (λ x d. ap (λ b. if b then turn_of (first_stage to_drop) else turn past x) d)
     (λ other d. insert_runs w.pool.jobs number.serial (running f.job) other d)
@@ -706,7 +734,7 @@ answer_known : (w : Worlded) (past : List Moment) (v : ℕ) (held : Held) (numbe
 answer_known w past v held number step first k e d =
     let event : Event = seen (Worker v) (Some held.turn.serial) (Answered (Number number)) first no_growth in
     let h = (k.held_are v held e).as_is in
-    own_known w.hands w.tasks w.tasks w.pool.jobs w.pool.counts.idle w.pool.counts.arriving (is_there past) (hand past) (turn past) (turn past) (job_acts past) (job_acts (at_step step event ∷ past)) (was_let_go past) v held (answered held number) k e refl
+    own_known (sight w past) v held (answered held number) w.tasks (turn past) (job_acts (at_step step event ∷ past)) k e refl
     (record {
       turn_is = h.turn_is;
       acts_are = answered_as held.stage held.job.core held.job.number number (job_acts past held.turn.serial) (job_acts (at_step step event ∷ past) held.turn.serial) d (acts_more held.turn.serial event (events past) true (eq-eqb held.turn.serial held.turn.serial refl)) h.acts_are;
@@ -719,7 +747,7 @@ finish_known : (w : Worlded) (past : List Moment) (v : ℕ) (held : Held) (wake 
 finish_known w past v held wake new step first k e d same =
     let event : Event = seen (Worker v) (Some held.turn.serial) (Finished wake) first no_growth in
     let h = (k.held_are v held e).as_is in
-    own_known w.hands w.tasks (with_owner w.tasks held.turn.serial new) w.pool.jobs w.pool.counts.idle w.pool.counts.arriving (is_there past) (hand past) (turn past) (turn past) (job_acts past) (job_acts (at_step step event ∷ past)) (was_let_go past) v held (finished held wake) k e refl
+    own_known (sight w past) v held (finished held wake) (with_owner w.tasks held.turn.serial new) (turn past) (job_acts (at_step step event ∷ past)) k e refl
     (record {
       turn_is = h.turn_is;
       acts_are = finished_as held.stage held.job.core held.job.number wake (job_acts past held.turn.serial) (job_acts (at_step step event ∷ past) held.turn.serial) d (acts_more held.turn.serial event (events past) true (eq-eqb held.turn.serial held.turn.serial refl)) h.acts_are;
@@ -733,7 +761,7 @@ give_up_known w past v held wake new step first k e d same =
     let event : Event = seen (Worker v) (Some held.turn.serial) (GaveUp wake) first no_growth in
     let h = (k.held_are v held e).as_is in
     let s = held.turn.serial in
-    own_known w.hands w.tasks (with_owner w.tasks held.turn.serial new) w.pool.jobs w.pool.counts.idle w.pool.counts.arriving (is_there past) (hand past) (turn past) (λ x. if held.turn.serial == x then HasGivenUp else turn past x) (job_acts past) (job_acts (at_step step event ∷ past)) (was_let_go past) v held (given_up held wake) k e refl
+    own_known (sight w past) v held (given_up held wake) (with_owner w.tasks held.turn.serial new) (λ x. if held.turn.serial == x then HasGivenUp else turn past x) (job_acts (at_step step event ∷ past)) k e refl
     (record {
       turn_is = ap (λ b. if b then HasGivenUp else turn past s) (eq-eqb s s refl) ∙ gave_up_turn wake;
       acts_are = gave_up_as held.stage held.job.core held.job.number wake (job_acts past s) (job_acts (at_step step event ∷ past) s) d (acts_more s event (events past) true (eq-eqb s s refl)) h.acts_are;
@@ -746,7 +774,7 @@ wake_known : (w : Worlded) (past : List Moment) (v : ℕ) (held : Held) (step : 
 wake_known w past v held step first k e d =
     let event : Event = seen (Worker v) (Some held.turn.serial) HolderWoken first no_growth in
     let s = held.turn.serial in
-    own_known w.hands w.tasks w.tasks w.pool.jobs w.pool.counts.idle w.pool.counts.arriving (is_there past) (hand past) (turn past) (turn past) (job_acts past) (job_acts (at_step step event ∷ past)) (was_let_go past) v held (woke held) k e (woke_turn held.stage held)
+    own_known (sight w past) v held (woke held) w.tasks (turn past) (job_acts (at_step step event ∷ past)) k e (woke_turn held.stage held)
     (woke_held held held.stage (turn past s) (job_acts past s) (job_acts (at_step step event ∷ past) s) (let_go_in (slice_get w.tasks (s - 1))) refl d (acts_more s event (events past) true (eq-eqb s s refl)) (k.held_are v held e).as_is)
     (λ x o. refl) (λ x o. acts_more x event (events past) false o) (λ n. refl) refl
 
@@ -754,15 +782,15 @@ wake_known w past v held step first k e d =
 
 waited_known : (stops : Bool) (w : Worlded) (past : List Moment) (v : ℕ) (pass : WorkerPass) (late : Bool) (step : Step) (first : ℕ) → KnownOf w past → hand_at w.hands v ≡ Free pass
     → KnownOf (after_wait w v pass stops) (at_step step (seen (Worker v) None (wait_act v late stops) first no_growth) ∷ past)
-waited_known true w past v pass late step first k e = stop_known w.hands w.tasks w.pool.jobs w.pool.counts.idle w.pool.counts.arriving (is_there past) (hand past) (turn past) (job_acts past) (was_let_go past) v pass k e
-waited_known false w past v pass late step first k e = idle_known w.hands w.tasks w.pool.jobs w.pool.counts.idle w.pool.counts.arriving (is_there past) (hand past) (turn past) (job_acts past) (was_let_go past) v pass pass k e
+waited_known true w past v pass late step first k e = stop_known (sight w past) v pass k e
+waited_known false w past v pass late step first k e = idle_known (sight w past) v pass pass k e
 
 -- a job is woken, or cancelled in the pool
 
 stirred_known : (how : Woke) (w : Worlded) (past : List Moment) (s : ℕ) (number : JobNumber) (step : Step) (first : ℕ) → KnownOf w past
     → KnownOf (record w { pool = after_wake how w.pool number }) (at_step step (seen Pool None (JobWoken s how) first no_growth) ∷ past)
 stirred_known how w past s number step first k =
-    kept_known w.hands w.tasks w.tasks w.pool (after_wake how w.pool number) (is_there past) (hand past) (turn past) (job_acts past) (was_let_go past) (was_let_go past) k (wake_kept how w.pool number) (λ n g. g) (omega arith) k.marks_are
+    kept_known w past (after_wake how w.pool number) w.tasks (was_let_go past) k (wake_kept how w.pool number) (λ n g. g) (omega arith) k.marks_are
 
 cancels_only : (how : Woke) (s x : ℕ) → cancels (JobCancelled s how) x ≡ true → s ≡ x
 cancels_only Entered s x e = eqb-true s x e
@@ -777,7 +805,7 @@ strike_cases false false c e = inr e
 struck_known : (how : Woke) (w : Worlded) (past : List Moment) (s : ℕ) (number : JobNumber) (step : Step) (first : ℕ) → KnownOf w past → has_let_go (owner_at w.tasks s).stage ≡ true
     → KnownOf (record w { pool = after_cancel how w.pool number }) (at_step step (seen Pool None (JobCancelled s how) first no_growth) ∷ past)
 struck_known how w past s number step first k let_go =
-    kept_known w.hands w.tasks w.tasks w.pool (after_cancel how w.pool number) (is_there past) (hand past) (turn past) (job_acts past) (was_let_go past)
+    kept_known w past (after_cancel how w.pool number) w.tasks
     (λ x. is_marked past x || (cancels (JobCancelled s how) x || is_cancelled past x)) k (cancel_kept how w.pool number) (λ n g. g) (omega arith)
     (λ x g. ⊎_elim
     (λ is. subst (λ n. let_go_in (slice_get w.tasks (n - 1)) ≡ true) (cancels_only how s x is) (let_go_owner (slice_get w.tasks (s - 1)) let_go))
@@ -796,19 +824,17 @@ known_after setting marks w past (Calls k Detach owner) t m = (let old = known w
 known_after setting marks w past (Calls k Drop owner) t m =
     let old = known w past t.handed in
     called_known w past k Drop owner (λ s. (is_holder (holder past s) (Task k) && not (has_ended past s) || is_marked past s) || is_cancelled past s) old m.0 m.1 (mark_by w past k Drop owner t.numbered old m.0 m.1 refl)
-known_after setting marks w past (Arrives pass) t m =
-    arrive_known w.hands w.tasks w.pool.jobs w.pool.counts.idle w.pool.counts.arriving (is_there past) (hand past) (turn past) (job_acts past) (was_let_go past) pass (known w past t.handed) m
+known_after setting marks w past (Arrives pass) t m = arrive_known (sight w past) pass (known w past t.handed) m
 known_after setting marks w past (TakesJob v old false number job growth pool) t m = took_known setting (IsMarked marks) w past v old number job false growth pool t m.0 m.1
 known_after setting marks w past (TakesJob v old true number job growth pool) t m = took_known setting (IsMarked marks) w past v old number job true growth pool t m.0 m.1
-known_after setting marks w past (TakesNone v old pass) t m =
-    idle_known w.hands w.tasks w.pool.jobs w.pool.counts.idle w.pool.counts.arriving (is_there past) (hand past) (turn past) (job_acts past) (was_let_go past) v old pass (known w past t.handed) m.0
+known_after setting marks w past (TakesNone v old pass) t m = idle_known (sight w past) v old pass (known w past t.handed) m.0
 known_after setting marks w past (IsAnswered v held number) t m = answer_known w past v held number (Io v (Number number)) (next_start w) (known w past t.handed) m.0 m.1
 known_after setting marks w past (Finishes v held) t m = finish_known w past v held (finish_wakes w held) _ (OwnStep v) (next_start w) (known w past t.handed) m.0 m.1 refl
 known_after setting marks w past (GivesUp v held) t m = give_up_known w past v held (giving_up_wakes w held) _ (OwnStep v) (next_start w) (known w past t.handed) m.0 m.1 refl
 known_after setting marks w past (CallsWaker v held) t m = wake_known w past v held (OwnStep v) (next_start w) (known w past t.handed) m.0 m.1
 known_after setting marks w past (EndsTurn v held pass) t m =
     let k = known w past t.handed in
-    end_known w.hands w.tasks w.pool.jobs (remove w.pool.jobs held.turn.serial) w.pool.counts.idle w.pool.counts.arriving (is_there past) (hand past) (turn past) (job_acts past) (was_let_go past) v held pass k m.0
+    end_known (sight w past) v held pass (remove w.pool.jobs held.turn.serial) k m.0
     (remove_runs w.pool.jobs held.turn.serial) (remove_unparked w.pool.jobs held.turn.serial k.parked_are)
 known_after setting marks w past (HasWaited v pass late) t m = waited_known (must_stop late w.pool) w past v pass late (wait_step late v) (next_start w) (known w past t.handed) m
 known_after setting marks w past (IsWoken s) t m = stirred_known (wakes_as w s) w past s (owner_at w.tasks s).number (Stray s) (next_start w) (known w past t.handed)
