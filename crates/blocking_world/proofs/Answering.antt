@@ -149,7 +149,7 @@ met_rightly answer setting w past s done dropped t accepted =
     let serial = accepted_serial w past s t.numbered accepted in
     let found = owner_there w.tasks (s - 1) (accepted_within w s accepted).1 in
     ap (λ (n : ℕ). answer (option_map (λ (job : Entry CallJob). job.standing) (if_at owner.number.place (get w.pool.jobs n)))) serial
-    ∙ met_as answer (get w.pool.jobs s) owner.number.place (standing past s) (is_woken past s) (is_cancelled past s) (is_marked past s) (has_ended past s) (acts_of s (events past))
+    ∙ met_as answer (get w.pool.jobs s) owner.number.place (standing past s) _ _ _ _ _
     done dropped (λ entry e. own_place w past (s - 1) owner t.numbered found entry (ap (get w.pool.jobs) serial ∙ e)) (t.filed s)
 
 -- ---- each move

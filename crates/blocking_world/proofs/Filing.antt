@@ -1,12 +1,12 @@
 -- Each move keeps the pool's jobs as the past tells of them.
 use Rattle.std.proofs.Common.{◌≡◌, ℕ, ◌+◌, ◌-◌, ◌<◌, ◌==◌, cond, map, List, ◌∷◌, Bool, true, false, refl, sym, ap, ◌∙◌, subst, arith, if◌then◌else◌, nat_lt, Option, Some, None, ◌&&◌, ◌||◌, not}
-use Rattle.std.specs.Prelude.{slice_get, is_some, filter, Ok, Err}
+use Rattle.std.specs.Prelude.{option_map, slice_get, is_some, filter, Ok, Err}
 use Rattle.std.specs.FinMap.{get}
 use Rattle.std.proofs.lemmas.Option.{slice_get_within}
 use Rattle.std.proofs.lemmas.Bool.{and_parts, ltb-true, eqb-true}
 use Rattle.std.proofs.lemmas.Bool.Decides.{nat_tests}
 use Rattle.blocking_core.specs.Growth.{Growth}
-use Rattle.blocking_core.specs.Jobs.{Job as Entry, JobNumber, new_job, running, woken, cancelled, is_running_job}
+use Rattle.blocking_core.specs.Jobs.{Job as Entry, JobNumber, new_job, running, woken, cancelled, amend, is_running_job}
 use Rattle.blocking_core.specs.PoolAnswers.{must_stop}
 use Rattle.blocking_core.specs.Wakes.{wake_of, cancel_of}
 use Rattle.blocking_core.specs.declared.pool.answer.Woke.{Woke}
@@ -53,7 +53,7 @@ accepted_filed may_answer w past number growth pool numbered filed accepts s =
     let at : get pool.jobs s ≡ (if number.serial == s then Some (new_job number.place new_call) else get w.pool.jobs s) =
     ap (λ p. get p.jobs s) accepts.after_is ∙ job_put w.pool.jobs w.pool.next_serial (new_job number.place new_call) s (number.serial == s) (ap (λ n. n == s) (sym accepts.serial)) in
     subst (λ o. FiledHere o (moment_of w (Begins (Ok number) growth pool) ∷ past) s) (sym at)
-    (new_filed (number.serial == s) number.place (get w.pool.jobs s) (standing past s) (is_woken past s) (is_cancelled past s) (is_marked past s) (has_ended past s) (acts_of s (events past))
+    (new_filed (number.serial == s) number.place (get w.pool.jobs s) (standing past s) _ _ _ _ _
     (next_fresh w past number.serial s numbered accepts.serial) (filed s))
 
 took_filed : (may_answer : ℕ → Bool → Type 0) (to_drop drops : Bool) (w : Worlded) (past : List Moment) (v : ℕ) (turn : JobNumber) (job : CallJob) (growth : Growth) (pool : CallPool) → Filed w past
@@ -67,7 +67,7 @@ took_filed may_answer to_drop drops w past v turn job growth pool filed takes s 
     changed : FiledAs (if turn.serial == s then Some (running takes.job) else get w.pool.jobs s) (if turn.serial == s then Some Running else standing past s) (not (turn.serial == s) && is_woken past s)
         (is_cancelled past s) (is_marked past s) (has_ended past s) (acts_of s (events past))
     changed =
-        taken_filed (turn.serial == s) takes.job (get w.pool.jobs s) (standing past s) (is_woken past s) (is_cancelled past s) (is_marked past s) (has_ended past s) (acts_of s (events past))
+        taken_filed (turn.serial == s) takes.job (get w.pool.jobs s) (standing past s) _ _ _ _ _
         (λ b. ap (get w.pool.jobs) (sym (eqb-true turn.serial s b)) ∙ takes.found) (filed s)
 
     by : (b : Bool) → FiledHere (if turn.serial == s then Some (running takes.job) else get w.pool.jobs s)
@@ -107,7 +107,7 @@ let_go_filed w past k s owner numbered filed at =
     (sym test)
     (subst (λ o. FiledAs o (standing past s) (is_woken past s) (is_cancelled past s) (owner.number.serial == s && not (has_ended past s) || is_marked past s) (has_ended past s) (acts_of s (events past)))
     (sym (job_marked w.pool owner.number s (owner.number.serial == s) refl (own_place w past k owner numbered at)))
-    (marked_filed (owner.number.serial == s) (get w.pool.jobs s) (standing past s) (is_woken past s) (is_cancelled past s) (is_marked past s) (has_ended past s) (acts_of s (events past))
+    (marked_filed (owner.number.serial == s) (get w.pool.jobs s) (standing past s) _ _ _ _ _
     (λ is. let same = eqb-true owner.number.serial s is in
     numbered.stands s ∙ ap is_some (numbered.holders s ∙ some_held (tasks past) s (omega (arith, same, serial)) (omega (arith, same, serial, counted))))
     (filed s)))
@@ -122,25 +122,28 @@ held_filed w past v s held event ready at filed =
 
 -- ---- wakes and cancels
 
+-- a job that is there has changed
+changed_filed : (w : Worlded) (t s : ℕ) (number : JobNumber) (change : Entry CallJob → Entry CallJob) (P : Option (Entry CallJob) → Type 0) → number.serial ≡ t → is_some (get w.pool.jobs number.serial) ≡ true
+    → (((t == s) ≡ true → is_some (get w.pool.jobs s) ≡ true) → P (if t == s then option_map change (get w.pool.jobs s) else get w.pool.jobs s)) → P (get (amend w.pool.jobs number.serial change) s)
+changed_filed w t s number change P serial there changed =
+    subst P (sym (job_changed w.pool.jobs number.serial change s (t == s) (ap (λ n. n == s) serial)))
+    (changed (λ is. ap (λ n. is_some (get w.pool.jobs n)) (sym (serial ∙ eqb-true t s is)) ∙ there))
+
 wake_filed : (how : Woke) (w : Worlded) (past : List Moment) (t : ℕ) (number : JobNumber) → number.serial ≡ t → (how ≡ Entered → ⊥) → (how ≡ Marked → is_some (get w.pool.jobs number.serial) ≡ true) → Filed w past
     → (s : ℕ) → FiledHere (get (after_wake how w.pool number).jobs s) (record { step = Stray t; event = seen Pool None (JobWoken t how) (next_start w) no_growth } ∷ past) s
 wake_filed Nothing w past t number serial never there filed s = filed s
 wake_filed Entered w past t number serial never there filed s = absurd (never refl)
 wake_filed Marked w past t number serial never there filed s =
-    subst (λ o. FiledHere o (record { step = Stray t; event = seen Pool None (JobWoken t Marked) (next_start w) no_growth } ∷ past) s)
-    (sym (job_changed w.pool.jobs number.serial woken s (t == s) (ap (λ n. n == s) serial)))
-    (woken_filed (t == s) (get w.pool.jobs s) (standing past s) (is_woken past s) (is_cancelled past s) (is_marked past s) (has_ended past s) (acts_of s (events past))
-    (λ is. ap (λ n. is_some (get w.pool.jobs n)) (sym (serial ∙ eqb-true t s is)) ∙ there refl) (filed s))
+    changed_filed w t s number woken (λ o. FiledHere o (record { step = Stray t; event = seen Pool None (JobWoken t Marked) (next_start w) no_growth } ∷ past) s) serial (there refl)
+    (λ here. woken_filed (t == s) (get w.pool.jobs s) (standing past s) _ _ _ _ _ here (filed s))
 
 cancel_filed : (how : Woke) (w : Worlded) (past : List Moment) (t : ℕ) (number : JobNumber) → number.serial ≡ t → (how ≡ Entered → ⊥) → (how ≡ Marked → is_some (get w.pool.jobs number.serial) ≡ true) → Filed w past
     → (s : ℕ) → FiledHere (get (after_cancel how w.pool number).jobs s) (record { step = Strike t; event = seen Pool None (JobCancelled t how) (next_start w) no_growth } ∷ past) s
 cancel_filed Nothing w past t number serial never there filed s = filed s
 cancel_filed Entered w past t number serial never there filed s = absurd (never refl)
 cancel_filed Marked w past t number serial never there filed s =
-    subst (λ o. FiledHere o (record { step = Strike t; event = seen Pool None (JobCancelled t Marked) (next_start w) no_growth } ∷ past) s)
-    (sym (job_changed w.pool.jobs number.serial cancelled s (t == s) (ap (λ n. n == s) serial)))
-    (cancelled_filed (t == s) (get w.pool.jobs s) (standing past s) (is_woken past s) (is_cancelled past s) (is_marked past s) (has_ended past s) (acts_of s (events past))
-    (λ is. ap (λ n. is_some (get w.pool.jobs n)) (sym (serial ∙ eqb-true t s is)) ∙ there refl) (filed s))
+    changed_filed w t s number cancelled (λ o. FiledHere o (record { step = Strike t; event = seen Pool None (JobCancelled t Marked) (next_start w) no_growth } ∷ past) s) serial (there refl)
+    (λ here. cancelled_filed (t == s) (get w.pool.jobs s) (standing past s) _ _ _ _ _ here (filed s))
 
 -- ---- sweeps and waits
 

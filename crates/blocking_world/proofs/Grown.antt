@@ -27,7 +27,7 @@ use Rattle.blocking_laws.specs.declared.step.Step.{Step}
 use Rattle.blocking_world.proofs.Counting.{workers_now, idle_some}
 use Rattle.blocking_world.proofs.Lookups.{by_unentered}
 use Rattle.blocking_world.proofs.Polls.{by_call}
-use Rattle.blocking_world.proofs.Quiet.{seen_at, may_grow, ungrown}
+use Rattle.blocking_world.proofs.Quiet.{by_wait, seen_at, may_grow, ungrown}
 use Rattle.blocking_world.proofs.Rows.{one_out, front_among}
 use Rattle.blocking_world.proofs.Tied.{never_woken, never_struck}
 
@@ -47,10 +47,6 @@ plain_law setting marks w past step who job act first filed next may =
       starting = subst (λ b. StartsRightly b setting marks past (seen_at step who job act first no_growth)) (sym plain.grows_not) (refl, refl);
       worker = plain.worker (workers past + 0);
     }
-
-wait_grows : (v : ℕ) (late stops : Bool) → may_grow (wait_act v late stops) ≡ false
-wait_grows v late true = refl
-wait_grows v late false = refl
 
 -- ---- growth
 
@@ -144,7 +140,7 @@ growth_after setting marks w past (Begins answer growth pool) t m = begin_law se
 growth_after setting marks w past (TakesJob v old to_drop turn job growth pool) t m = take_law setting marks w past v old to_drop turn job growth pool t m
 growth_after setting marks w past (Calls k call owner) t m =
     plain_law setting marks w past _ _ _ _ _ t.filed t.counted.next_is (by_call (λ act. may_grow act ≡ false) refl (λ n. refl) refl refl refl refl call owner)
-growth_after setting marks w past (HasWaited v pass late) t m = plain_law setting marks w past _ _ _ _ _ t.filed t.counted.next_is (wait_grows v late (must_stop late w.pool))
+growth_after setting marks w past (HasWaited v pass late) t m = plain_law setting marks w past _ _ _ _ _ t.filed t.counted.next_is (by_wait (λ act. may_grow act ≡ false) v late refl refl (must_stop late w.pool))
 growth_after setting marks w past (IsWoken s) t m =
     plain_law setting marks w past _ _ _ _ _ t.filed t.counted.next_is (by_unentered (λ how. may_grow (JobWoken s how) ≡ false) refl refl (wakes_as w s) (never_woken w s t.handed.ready))
 growth_after setting marks w past (IsStruck s) t m =

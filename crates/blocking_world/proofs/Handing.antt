@@ -53,6 +53,7 @@ use Rattle.blocking_world.proofs.Cutting.{acts_more}
 use Rattle.blocking_world.proofs.Hands.{IsAt, at_held, at_free, hand_from_place, hand_set, hand_pushed, hand_next, free_set, free_pushed}
 use Rattle.blocking_world.proofs.Lookups.{job_put, job_out}
 use Rattle.blocking_world.proofs.Polls.{polled_so, called_stays}
+use Rattle.blocking_world.proofs.Quiet.{by_wait}
 use Rattle.blocking_world.proofs.Rows.{got_same, got_before}
 use Rattle.blocking_world.proofs.Tied.{held_within, hand_seen}
 
@@ -891,10 +892,6 @@ polls_quietly TaskGotNone past now is = tt
 polls_quietly Waits past now is = tt
 polls_quietly _ past now is = elim is [ ]
 
-waits_quietly : (stops late : Bool) (past : List Moment) (now : Event) (v : ℕ) → HoldsOne past now (wait_act v late stops)
-waits_quietly true late past now v = tt
-waits_quietly false late past now v = tt
-
 -- The law of turns holds at each move.
 pub turn_after : (setting : ℕ) (marks : List Bool) (w : Worlded) (past : List Moment) (move : Move) → Tied setting w past → May (IsMarked marks) w move → TurnLaw past (moment_of w move)
 turn_after setting marks w past (Begins (Ok number) growth pool) t m = record { one = tt; acts = tt }
@@ -908,5 +905,5 @@ turn_after setting marks w past (GivesUp v held) t m =
     record { one = tt; acts = acts_in_turn past v held (GaveUp (giving_up_wakes w held)) (in_hand w past v held t.handed m.0) (fits_give_up held.stage held.job.core (giving_up_wakes w held) m.1) }
 turn_after setting marks w past (CallsWaker v held) t m = record { one = tt; acts = acts_in_turn past v held HolderWoken (in_hand w past v held t.handed m.0) (fits_wake held.stage held.job.core m.1) }
 turn_after setting marks w past (EndsTurn v held pass) t m = record { one = (in_hand w past v held t.handed m.0).its_job; acts = tt }
-turn_after setting marks w past (HasWaited v pass late) t m = record { one = waits_quietly (must_stop late w.pool) late past (moment_of w (HasWaited v pass late)).event v; acts = tt }
+turn_after setting marks w past (HasWaited v pass late) t m = record { one = by_wait (HoldsOne past (moment_of w (HasWaited v pass late)).event) v late tt tt (must_stop late w.pool); acts = tt }
 turn_after setting marks w past move t m = record { one = tt; acts = tt }

@@ -261,7 +261,7 @@ keeps_numbers w w' past now parts brings none stands old =
 found_stands : (w : Worlded) (past : List Moment) (t s : ℕ) (entry : Entry CallJob) → Filed w past → get w.pool.jobs t ≡ Some entry → (t == s) ≡ true → is_some (standing past s) ≡ true
 found_stands w past t s entry filed found is =
     ap (λ n. is_some (standing past n)) (sym (eqb-true t s is))
-    ∙ filed_stands (get w.pool.jobs t) (standing past t) (is_woken past t) (is_cancelled past t) (is_marked past t) (has_ended past t) (acts_of t (events past)) (filed t) (ap is_some found)
+    ∙ filed_stands (get w.pool.jobs t) (standing past t) _ _ _ _ _ (filed t) (ap is_some found)
 
 -- each move keeps the numbers
 pub numbered_after : (setting : ℕ) (marks : List Bool) (w : Worlded) (past : List Moment) (move : Move) → Tied setting w past → May (IsMarked marks) w move

@@ -20,7 +20,7 @@ use Rattle.blocking_world.proofs.Lookups.{by_unentered}
 use Rattle.blocking_world.proofs.Polls.{by_call}
 use Rattle.blocking_world.proofs.Tied.{unparked, nothing_to_sweep, never_woken, never_struck}
 use Rattle.blocking_laws.specs.declared.event.Act.{Act}
-use Rattle.blocking_laws.specs.declared.event.Act.TheVariants.{Accepted, Refused, JobWoken, JobCancelled, LimitSet, Arrived, Took, TookDropped, Stopped, Ended}
+use Rattle.blocking_laws.specs.declared.event.Act.TheVariants.{Accepted, Refused, JobWoken, JobCancelled, LimitSet, Arrived, Took, TookDropped, Stays, Stopped, Ended}
 use Rattle.blocking_laws.specs.declared.event.Moment.{Moment}
 use Rattle.blocking_laws.specs.declared.event.Party.{Party}
 use Rattle.blocking_laws.specs.declared.step.Step.{Step}
@@ -155,10 +155,10 @@ moves_count (HasWaited v pass late) = true
 moves_count (SetsLimit n) = true
 moves_count _ = false
 
--- a wait moves no job
-wait_moves : (v : ℕ) (late stops : Bool) → moves_a_job (wait_act v late stops) ≡ false
-wait_moves v late true = refl
-wait_moves v late false = refl
+-- what holds of a worker that stays and of one that stops holds of one that has waited
+pub by_wait : (P : Act → Type 0) (v : ℕ) (late : Bool) → P (Stays v late) → P (Stopped v late) → (stops : Bool) → P (wait_act v late stops)
+by_wait P v late stays stopped true = stopped
+by_wait P v late stays stopped false = stays
 
 module _ (setting : ℕ) (w : Worlded) (past : List Moment) (tied : Tied setting w past) where
   -- a move that moves no job leaves them where they stand
@@ -167,7 +167,7 @@ module _ (setting : ℕ) (w : Worlded) (past : List Moment) (tied : Tied setting
   jobs_stay_at (TakesJob v old to_drop turn job growth pool) moves = absurd cc
   jobs_stay_at (EndsTurn v held pass) moves = absurd cc
   jobs_stay_at (Calls k call owner) moves = jobs_stay w past tied.filed _ _ _ _ _ _ (by_call (λ act. moves_a_job act ≡ false) refl (λ n. refl) refl refl refl refl call owner)
-  jobs_stay_at (HasWaited v pass late) moves = jobs_stay w past tied.filed _ _ _ _ _ _ (wait_moves v late (must_stop late w.pool))
+  jobs_stay_at (HasWaited v pass late) moves = jobs_stay w past tied.filed _ _ _ _ _ _ (by_wait (λ act. moves_a_job act ≡ false) v late refl refl (must_stop late w.pool))
   jobs_stay_at (IsWoken s) moves =
       jobs_stay w past tied.filed _ _ _ _ _ _ (by_unentered (λ how. moves_a_job (JobWoken s how) ≡ false) refl refl (wakes_as w s) (never_woken w s tied.handed.ready))
   jobs_stay_at (IsStruck s) moves =

@@ -65,7 +65,7 @@ told_of setting w past t k s held waits rest =
     let tie : TaskAs (owner_in (slice_get w.tasks k)) s (task_cut k s (events past)) =
     subst (λ j. TaskAs (owner_in (slice_get w.tasks k)) j (task_cut k j (events past))) (sym job.0) (t.tasked.each k (owner_in (slice_get w.tasks k)) there) in
     let over : has_finished (acts_of s (events past)) || has_given_up (acts_of s (events past)) ≡ true =
-    filed_over (get w.pool.jobs s) (standing past s) (is_woken past s) (is_cancelled past s) (is_marked past s) (has_ended past s) (acts_of s (events past)) (t.filed s) rest in
+    filed_over (get w.pool.jobs s) (standing past s) _ _ _ _ _ (t.filed s) rest in
     told_at (owner_in (slice_get w.tasks k)) s (task_cut k s (events past)) tie waits
     (subst (λ (l : List Act). has_finished l || has_given_up l ≡ true) (sym (acts_cut k s (events past))) over)
 

@@ -106,7 +106,7 @@ fresh w past numbered =
 
 pub unparked : (w : Worlded) (past : List Moment) (s : ℕ) → Filed w past → is_parked (standing past s) ≡ false
 unparked w past s filed =
-    filed_unparked (get w.pool.jobs s) (standing past s) (is_woken past s) (is_cancelled past s) (is_marked past s) (has_ended past s) (acts_of s (events past)) (filed s)
+    filed_unparked (get w.pool.jobs s) (standing past s) _ _ _ _ _ (filed s)
 
 none_filtered : (p : ℕ → Bool) (ns : List ℕ) → ((n : ℕ) → p n ≡ false) → filter p ns ≡ []
 none_filtered p [] never = refl
@@ -142,4 +142,4 @@ hand_runs w v held ready at = runs_at held.turn.place (get w.pool.jobs held.turn
 pub held_runs : (w : Worlded) (past : List Moment) (v : ℕ) (held : Held) → Filed w past → IsReady w → hand_at w.hands v ≡ Holds held → standing past held.turn.serial ≡ Some Running
 held_runs w past v held filed ready at =
     let s = held.turn.serial in
-    filed_runs (get w.pool.jobs s) (standing past s) (is_woken past s) (is_cancelled past s) (is_marked past s) (has_ended past s) (acts_of s (events past)) (filed s) (hand_runs w v held ready at)
+    filed_runs (get w.pool.jobs s) (standing past s) _ _ _ _ _ (filed s) (hand_runs w v held ready at)
