@@ -15,7 +15,6 @@ use Rattle.blocking_laws.specs.Growth.{IsMarked, StartsRightly, GrowthLaw}
 use Rattle.blocking_laws.specs.Served.{IsServed}
 use Rattle.blocking_world.specs.Crews.{no_growth, GrowsBy, Accepts, FindsNoWorker}
 use Rattle.blocking_world.specs.Worlds.{Worlded, CallPool}
-use Rattle.blocking_world.specs.Machine.{wait_act}
 use Rattle.blocking_world.specs.Moves.{Move, Begins, Calls, TakesJob, HasWaited, IsWoken, IsStruck, May, moment_of, wakes_as, cancels_as}
 use Rattle.blocking_world.specs.Ties.{Filed, Tied}
 use Rattle.blocking_world.specs.declared.call.CallJob.{CallJob}

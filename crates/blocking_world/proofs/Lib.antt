@@ -2,6 +2,8 @@ pub mod Growing
 pub mod Marking
 pub mod Unparked
 pub mod Dismissals
+pub mod Alike
+pub mod Sights
 pub mod Handing
 pub mod Hands
 pub mod Passing

@@ -19,10 +19,10 @@ use Rattle.blocking_core.specs.declared.pool.standing.Standing.TheVariants.{Queu
 use Rattle.blocking_core.specs.declared.pool.token.WorkerPass.{WorkerPass}
 use Rattle.blocking_world.specs.Crews.{Accepts, Refuses, marked, mark_value, after_wake, after_cancel}
 use Rattle.blocking_laws.specs.Growth.{IsMarked}
-use Rattle.blocking_laws.specs.Jobs.{accepted_jobs, accepted_by, accepts, makes_a_task, tasks, holder, newcomer, standing, is_woken, is_cancelled, is_marked, has_ended, is_pool}
+use Rattle.blocking_laws.specs.Jobs.{accepted_jobs, accepted_by, accepts, makes_a_task, tasks, holder, newcomer, standing, is_pool}
 use Rattle.blocking_world.specs.Machine.{after_wait, called, pool_called}
 use Rattle.blocking_world.specs.Moves.{Move, Begins, Calls, TakesJob, Finishes, GivesUp, EndsTurn, HasWaited, IsWoken, IsStruck, May, after, moment_of, wakes_as, cancels_as}
-use Rattle.blocking_laws.specs.Seen.{joined, events, acts_of}
+use Rattle.blocking_laws.specs.Seen.{joined}
 use Rattle.blocking_world.specs.Ties.{Tied, Numbered, Filed, holder_of}
 use Rattle.blocking_world.specs.Worlds.{Worlded, CallPool, new_call, new_owner, with_owner, owner_at, owner_in, outcome_of}
 use Rattle.blocking_world.proofs.Entries.{filed_stands, stands_over}

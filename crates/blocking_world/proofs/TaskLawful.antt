@@ -6,7 +6,7 @@ use Rattle.blocking_core.specs.Jobs.{Job as Entry}
 use Rattle.blocking_core.specs.declared.pool.standing.Standing.{Standing}
 use Rattle.blocking_core.specs.declared.pool.standing.Standing.TheVariants.{Queued, Running, Parked, Done, Dropped}
 use Rattle.blocking_laws.specs.Seen.{events, acts_of, task_cut, own}
-use Rattle.blocking_laws.specs.Jobs.{holder, tasks, standing, is_parked, is_woken, is_cancelled, is_marked, has_ended}
+use Rattle.blocking_laws.specs.Jobs.{holder, tasks, standing, is_parked}
 use Rattle.blocking_laws.specs.JobTable.{has_finished, has_given_up}
 use Rattle.blocking_laws.specs.Growth.{IsMarked}
 use Rattle.blocking_laws.specs.Seats.{task_seat}

@@ -345,10 +345,6 @@ waited false w past v pass late t laws =
 
 -- ---- each move
 
--- a move whose event is in no cut
-set_by : (w : Worlded) (past : List Moment) (move : Move) → Aside (event_of w move) → (after w move).tasks ≡ w.tasks → Tasked w past → AllLaws past → TasksHold (after w move) (moment_of w move ∷ past)
-set_by w past move out same t laws = aside w (after w move) past (moment_of w move) out same t laws
-
 acts_on : (setting : ℕ) (w : Worlded) (past : List Moment) (move : Move) → Tied setting w past → AllLaws past → Keeps w.tasks (after w move).tasks (events past) (event_of w move) → TasksHold (after w move) (moment_of w move ∷ past)
 acts_on setting w past move t laws q = keeps w (after w move) past (moment_of w move) q t.numbered.holders t.tasked laws
 
@@ -360,7 +356,7 @@ both_after setting marks w past (Calls k call owner) t laws may =
     acts_on setting w past (Calls k call owner) t laws
     (call_keeps w.tasks k call owner (events past) (next_start w) may.0 may.1 (t.tasked.each k owner may.0))
 both_after setting marks w past (TakesJob v old to_drop turn job growth pool) t laws may =
-    set_by w past (TakesJob v old to_drop turn job growth pool) (took_aside to_drop v turn.serial (next_start w) growth) refl t.tasked laws
+    aside w _ past (moment_of w (TakesJob v old to_drop turn job growth pool)) (took_aside to_drop v turn.serial (next_start w) growth) refl t.tasked laws
 both_after setting marks w past (IsAnswered v held n) t laws may =
     let i = in_hand setting w past v held t laws may.0 in
     let s = held.turn.serial in
@@ -392,7 +388,7 @@ both_after setting marks w past (CallsWaker v held) t laws may =
     (stays_keeps w past v (next_start w) held HolderWoken i refl refl (λ j. refl)
     (wake_goes (owner_at w.tasks s) v s (next_start w) (held_cut past s) next i.was))
 both_after setting marks w past (HasWaited v pass late) t laws may = waited (must_stop late w.pool) w past v pass late t.tasked laws
-both_after setting marks w past move t laws may = set_by w past move (record { out = λ k s. refl; none_new = λ s. refl }) refl t.tasked laws
+both_after setting marks w past move t laws may = aside w (after w move) past (moment_of w move) (record { out = λ k s. refl; none_new = λ s. refl }) refl t.tasked laws
 
 -- each move keeps the tie of the tasks, where they kept their laws
 pub tasked_after : (setting : ℕ) (marks : List Bool) (w : Worlded) (past : List Moment) (move : Move) → Tied setting w past

@@ -10,8 +10,7 @@ use Rattle.blocking_core.specs.Wakes.{wake_of, cancel_of}
 use Rattle.blocking_core.specs.declared.pool.answer.Woke.TheVariants.{Entered}
 use Rattle.blocking_core.specs.declared.pool.standing.Standing.{Standing}
 use Rattle.blocking_core.specs.declared.pool.standing.Standing.TheVariants.{Running}
-use Rattle.blocking_laws.specs.Seen.{events, acts_of}
-use Rattle.blocking_laws.specs.Jobs.{accepted_jobs, tasks, standing, is_parked, is_woken, is_cancelled, is_marked, has_ended}
+use Rattle.blocking_laws.specs.Jobs.{accepted_jobs, tasks, standing, is_parked, is_marked}
 use Rattle.blocking_laws.specs.Queue.{to_sweep}
 use Rattle.blocking_laws.specs.Steps.{is_there}
 use Rattle.blocking_laws.specs.Turns.{hand}
