@@ -1,7 +1,7 @@
 -- Each move is answered as the law of answers says.
-use Rattle.std.proofs.Common.{◌≡◌, ◌<◌, ◌≤◌, ◌==◌, ◌+◌, ◌-◌, ◌&&◌, ◌||◌, nat_lt, ℕ, Bool, true, false, if◌then◌else◌, List, [], ◌∷◌, length, get_or, slice_get, refl, sym, ap, ap₂, ◌∙◌, subst, arith, Option, Some, None, option_map, Result, Ok, Err}
+use Rattle.std.proofs.Common.{◌≡◌, ◌<◌, ◌≤◌, ◌==◌, ◌+◌, ◌-◌, ◌&&◌, ◌||◌, nat_lt, ℕ, Bool, true, false, if◌then◌else◌, List, [], ◌∷◌, length, refl, sym, ap, ap₂, ◌∙◌, subst, arith, Option, Some, None, option_map, Result, Ok, Err}
+use Rattle.std.proofs.lemmas.Bool.{eq-eqb}
 use Rattle.std.proofs.lemmas.Bool.Decides.{nat_tests}
-use Rattle.std.proofs.lemmas.Option.{slice_get-get_or}
 use Rattle.std.specs.FinMap.{get}
 use Rattle.blocking_core.specs.Growth.{Growth, greatest}
 use Rattle.blocking_core.specs.Jobs.{Job as Entry, JobNumber, if_at, standing_of}
@@ -19,10 +19,10 @@ use Rattle.blocking_laws.specs.Counts.{starts, arrivals, workers, limit}
 use Rattle.blocking_laws.specs.Growth.{IsMarked}
 use Rattle.blocking_laws.specs.Turns.{Turn, turn}
 use Rattle.blocking_laws.specs.Answers.{PoolAnswers, AnswerLaw, take_answer, take_from, end_of}
-use Rattle.blocking_world.specs.Worlds.{Worlded, CallPool, outcome_of, owner_in, owner_at}
+use Rattle.blocking_world.specs.Worlds.{Worlded, CallPool, outcome_of, owner_at}
 use Rattle.blocking_world.specs.Crews.{AddsTo, TakesFront, no_growth}
 use Rattle.blocking_world.specs.Machine.{added_act, next_start, wait_act, was_accepted}
-use Rattle.blocking_world.specs.Moves.{Move, Idles, Begins, Calls, Arrives, TakesJob, TakesNone, IsAnswered, Finishes, GivesUp, CallsWaker, EndsTurn, HasWaited, SetsLimit, Sweeps, IsWoken, IsStruck, May, moment_of, step_of, took}
+use Rattle.blocking_world.specs.Moves.{Move, Begins, Calls, Arrives, TakesJob, TakesNone, EndsTurn, HasWaited, Sweeps, IsWoken, IsStruck, May, moment_of, step_of, took}
 use Rattle.blocking_world.specs.Ties.{Tied, Numbered, FiledAs, ValueAs, Counted, turn_of}
 use Rattle.blocking_world.specs.declared.call.CallJob.{CallJob}
 use Rattle.blocking_laws.specs.declared.event.Act.{Act}
@@ -33,10 +33,10 @@ use Rattle.blocking_laws.specs.declared.event.Party.TheVariants.{Worker}
 use Rattle.blocking_world.specs.declared.hand.Stage.{Stage}
 use Rattle.blocking_world.specs.declared.hand.Stage.TheVariants as stage
 use Rattle.blocking_laws.specs.declared.step.Step.{Step}
-use Rattle.blocking_laws.specs.declared.step.TaskCall.{TaskCall}
-use Rattle.blocking_laws.specs.declared.step.TaskCall.TheVariants.{Poll, Cancel, Detach, Drop}
-use Rattle.blocking_world.specs.declared.task.Owner.{Owner}
-use Rattle.blocking_world.proofs.Lining.{at, polled_at, nothing_to_sweep, sweep_enters}
+use Rattle.blocking_world.proofs.Entries.{sweep_enters}
+use Rattle.blocking_world.proofs.Polls.{by_call}
+use Rattle.blocking_world.proofs.Quiet.{seen_at}
+use Rattle.blocking_world.proofs.Tied.{owner_there, accepted_within, accepted_serial, own_place, nothing_to_sweep}
 
 -- ---- new jobs and arrivals
 
@@ -117,7 +117,7 @@ stop_is setting w past late t =
     ap₂ (λ (a b : Bool). a || late && b) (ap₂ nat_lt (sym t.counted.limit_is) (workers_is setting w past t.counted)) left
 
 waited_rightly : (setting : ℕ) (w : Worlded) (past : List Moment) (step : Step) (who : Party) (job : Option ℕ) (v first : ℕ) (late stop : Bool) → Tied setting w past
-    → must_stop late w.pool ≡ stop → AnswerLaw setting past (at step who job (wait_act v late stop) first no_growth)
+    → must_stop late w.pool ≡ stop → AnswerLaw setting past (seen_at step who job (wait_act v late stop) first no_growth)
 waited_rightly setting w past step who job v first late false t e = stop_is setting w past late t ∙ e
 waited_rightly setting w past step who job v first late true t e = stop_is setting w past late t ∙ e
 
@@ -127,9 +127,6 @@ met_here : (b : Bool) (answer : Option Standing → Woke) (entry : Entry CallJob
     → answer (option_map (λ (job : Entry CallJob). job.standing) (if b then Some entry else None)) ≡ answer stand
 met_here true answer entry stand e f = ap answer (sym f)
 met_here false answer entry stand e f = absurd (cc)
-
-same_place : (m n : ℕ) → m ≡ n → (m == n) ≡ true
-same_place m n e = grind (arith, nat_tests)
 
 -- an answer to a standing: a job that is over is as one that isn't there
 met_as : (answer : Option Standing → Woke) (entry : Option (Entry CallJob)) (place : ℕ) (stand : Option Standing) (wake cancel mark ended : Bool) (acts : List Act)
@@ -142,40 +139,20 @@ met_as answer None place (Some Parked) wake cancel mark ended acts done dropped 
 met_as answer None place (Some Done) wake cancel mark ended acts done dropped at_place f = done
 met_as answer None place (Some Dropped) wake cancel mark ended acts done dropped at_place f = dropped
 met_as answer (Some entry) place stand wake cancel mark ended acts done dropped at_place f =
-    met_here (entry.place == place) answer entry stand (same_place entry.place place (at_place entry refl)) f.0
-
-both : (a b : Bool) → (a && b) ≡ true → (a ≡ true) × (b ≡ true)
-both true b e = (refl, e)
-both false b e = absurd (cc)
-
-before_it : (s : ℕ) → nat_lt 0 s ≡ true → s - 1 + 1 ≡ s
-before_it s e = grind (arith, nat_tests)
-
-below : (m n : ℕ) → nat_lt m n ≡ true → m < n
-below m n e = grind (arith, nat_tests)
+    met_here (entry.place == place) answer entry stand (eq-eqb entry.place place (at_place entry refl)) f.0
 
 -- a job that was accepted is answered as it stands
 met_rightly : (answer : Option Standing → Woke) (setting : ℕ) (w : Worlded) (past : List Moment) (s : ℕ) → answer None ≡ answer (Some Done) → answer None ≡ answer (Some Dropped)
     → Tied setting w past → was_accepted w s ≡ true → answer (standing_of w.pool.jobs (owner_at w.tasks s).number) ≡ answer (standing past s)
 met_rightly answer setting w past s done dropped t accepted =
-    let known = both (nat_lt 0 s) (nat_lt (s - 1) (length w.tasks)) accepted in
-    let again = before_it s known.0 in
-    let owner = get_or w.tasks (s - 1) (owner_in None) in
-    let found : slice_get w.tasks (s - 1) ≡ Some owner = slice_get-get_or w.tasks (s - 1) (owner_in None) (below (s - 1) (length w.tasks) known.1) in
-    let serial : owner.number.serial ≡ s = t.numbered.numbers (s - 1) owner found ∙ again in
-    ap (λ (o : Option Owner). answer (standing_of w.pool.jobs (owner_in o).number)) found
-    ∙ ap (λ (n : ℕ). answer (option_map (λ (job : Entry CallJob). job.standing) (if_at owner.number.place (get w.pool.jobs n)))) serial
-    ∙ met_as answer (get w.pool.jobs s) owner.number.place (standing past s) (is_woken past s) (is_cancelled past s) (is_marked past s) (has_ended past s) (acts_of s (events past))
-    done dropped (λ entry e. t.numbered.places (s - 1) owner entry found (ap (get w.pool.jobs) again ∙ e)) (t.filed s)
+    let owner = owner_at w.tasks s in
+    let serial = accepted_serial w past s t.numbered accepted in
+    let found = owner_there w.tasks (s - 1) (accepted_within w s accepted).1 in
+    ap (λ (n : ℕ). answer (option_map (λ (job : Entry CallJob). job.standing) (if_at owner.number.place (get w.pool.jobs n)))) serial
+    ∙ met_as answer (get w.pool.jobs s) owner.number.place (standing past s) _ _ _ _ _
+    done dropped (λ entry e. own_place w past (s - 1) owner t.numbered found entry (ap (get w.pool.jobs) serial ∙ e)) (t.filed s)
 
 -- ---- each move
-
-calls_rightly : (setting : ℕ) (w : Worlded) (past : List Moment) (k : ℕ) (call : TaskCall) (owner : Owner) → AnswerLaw setting past (moment_of w (Calls k call owner))
-calls_rightly setting w past k Poll owner =
-    polled_at (λ (act : Act). PoolAnswers setting past (moment_of w (Calls k Poll owner)) act) tt (λ n. tt) tt owner.stage owner.found owner.slot.content
-calls_rightly setting w past k Cancel owner = tt
-calls_rightly setting w past k Detach owner = tt
-calls_rightly setting w past k Drop owner = tt
 
 arrives_rightly : (setting : ℕ) (w : Worlded) (past : List Moment) → Counted setting w past → 0 < w.pool.counts.arriving
     → (length w.hands + 1 ≡ 1 + arrivals past) × (length w.hands + 1 ≤ starts past)
@@ -185,25 +162,21 @@ arrives_rightly setting w past c some =
 -- Each move is answered as the law says.
 pub answers_after : (setting : ℕ) (marks : List Bool) (w : Worlded) (past : List Moment) (move : Move) → Tied setting w past → May (IsMarked marks) w move
     → AnswerLaw setting past (moment_of w move)
-answers_after setting marks w past (Idles step) t may = tt
 answers_after setting marks w past (Begins added growth pool) t may =
     begins_rightly (IsMarked marks) setting w past (moment_of w (Begins added growth pool)) added growth pool t.numbered may
-answers_after setting marks w past (Calls k call owner) t may = calls_rightly setting w past k call owner
+answers_after setting marks w past (Calls k call owner) t may =
+    by_call (λ (act : Act). PoolAnswers setting past (moment_of w (Calls k call owner)) act) tt (λ n. tt) tt tt tt tt call owner
 answers_after setting marks w past (Arrives pass) t may = arrives_rightly setting w past t.counted may
 answers_after setting marks w past (TakesJob v old to_drop turn job growth pool) t may =
     took_rightly setting past (moment_of w (TakesJob v old to_drop turn job growth pool)) to_drop turn.serial (take_is (IsMarked marks) setting w past turn job to_drop growth pool t may.1)
 answers_after setting marks w past (TakesNone v old pass) t may = ap (take_from past) (sym may.1 ∙ t.lined.same)
-answers_after setting marks w past (IsAnswered v held number) t may = tt
-answers_after setting marks w past (Finishes v held) t may = tt
-answers_after setting marks w past (GivesUp v held) t may = tt
-answers_after setting marks w past (CallsWaker v held) t may = tt
 answers_after setting marks w past (EndsTurn v held pass) t may =
     let s = held.turn.serial in
     let is = t.handed.held v held may.0 in
     end_is held.stage (is_to_drop past s) (is_woken past s) s ∙ ap (λ (at : Turn). end_of at (is_to_drop past s) (is_woken past s) s) (sym is.turn_is)
 answers_after setting marks w past (HasWaited v pass late) t may =
     waited_rightly setting w past (step_of (HasWaited v pass late)) (Worker v) None v (next_start w) late (must_stop late w.pool) t refl
-answers_after setting marks w past (SetsLimit n) t may = tt
 answers_after setting marks w past Sweeps t may = sym (ap length (nothing_to_sweep w past t.filed))
 answers_after setting marks w past (IsWoken s) t may = met_rightly wake_of setting w past s refl refl t may
 answers_after setting marks w past (IsStruck s) t may = met_rightly cancel_of setting w past s refl refl t may.0
+answers_after setting marks w past move t may = tt

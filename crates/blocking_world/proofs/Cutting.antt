@@ -28,7 +28,8 @@ own_step e X Y false false false false q i o h = h
 own_step e X Y false false false true true i o h = own_less e X i ∙ h
 own_step e X Y false false false true false i o h = h
 
-no_task : (k : ℕ) (who : Party) → is_some_worker who ≡ true → is_task k who ≡ false
+-- no worker is a task
+pub no_task : (k : ℕ) (who : Party) → is_some_worker who ≡ true → is_task k who ≡ false
 no_task k (Task j) e = absurd (cc)
 no_task k Pool e = refl
 no_task k (Worker v) e = refl
@@ -39,7 +40,8 @@ own_cut k s [] = refl
 own_cut k s (e ∷ seen) =
     own_step e (task_cut k s seen) (filter (is_by_task k) seen) (is_nothing e.act) (is_of_pool e.act) (is_task k e.party) (is_some_worker e.party) (is_this s e.job) refl (no_task k e.party) (own_cut k s seen)
 
-acts_more : (s : ℕ) (e : Event) (X : List Event) (b : Bool) → is_of_job s e ≡ b → acts_of s (e ∷ X) ≡ cond b (e.act ∷ acts_of s X) (acts_of s X)
+-- what the acts of a job are after one more event
+pub acts_more : (s : ℕ) (e : Event) (X : List Event) (b : Bool) → is_of_job s e ≡ b → acts_of s (e ∷ X) ≡ cond b (e.act ∷ acts_of s X) (acts_of s X)
 acts_more s e X true i = rw i refl
 acts_more s e X false i = rw i refl
 

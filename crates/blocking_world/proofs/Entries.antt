@@ -1,5 +1,5 @@
 -- An entry of the pool by what was seen of its job, over plain values: what it tells, and each kind of change.
-use Rattle.std.proofs.Common.{◌≡◌, inl, inr, ℕ, ◌==◌, cond, List, ◌∷◌, map, Bool, true, false, refl, sym, ap, ◌∙◌, subst, if◌then◌else◌, Option, Some, None, ◌&&◌, ◌||◌, not}
+use Rattle.std.proofs.Common.{◌≡◌, inl, inr, ℕ, ◌==◌, cond, List, [], ◌∷◌, map, Bool, true, false, refl, sym, ap, ◌∙◌, subst, if◌then◌else◌, Option, Some, None, ◌&&◌, ◌||◌, not}
 use Rattle.std.specs.Prelude.{option_map, is_some}
 use Rattle.blocking_core.specs.Jobs.{Job as Entry, new_job, running, woken, cancelled, is_running_job, is_running}
 use Rattle.blocking_core.specs.declared.job.Action.{Action}
@@ -7,6 +7,7 @@ use Rattle.blocking_core.specs.declared.job.Action.TheVariants as action
 use Rattle.blocking_core.specs.declared.pool.standing.Standing.{Standing}
 use Rattle.blocking_core.specs.declared.pool.standing.Standing.TheVariants.{Queued, Running, Parked, Done, Dropped}
 use Rattle.blocking_world.specs.Crews.{marked}
+use Rattle.blocking_laws.specs.Seen.{joined}
 use Rattle.blocking_laws.specs.Jobs.{is_parked, ends_for_good}
 use Rattle.blocking_laws.specs.JobTable.{has_finished, has_given_up}
 use Rattle.blocking_world.specs.Ties.{FiledAs, ValueAs, ActedAs}
@@ -24,25 +25,27 @@ use Rattle.blocking_world.specs.declared.hand.Stage.TheVariants as stage
 
 -- no job is parked
 pub filed_unparked : (found : Option (Entry CallJob)) (stand : Option Standing) (wake cancel mark ended : Bool) (acts : List Act) → FiledAs found stand wake cancel mark ended acts → is_parked stand ≡ false
-filed_unparked None None wake cancel mark ended acts filed = refl
-filed_unparked None (Some Done) wake cancel mark ended acts filed = refl
-filed_unparked None (Some Dropped) wake cancel mark ended acts filed = refl
-filed_unparked None (Some Queued) wake cancel mark ended acts filed = refl
-filed_unparked None (Some Running) wake cancel mark ended acts filed = refl
 filed_unparked None (Some Parked) wake cancel mark ended acts filed = absurd filed
+filed_unparked None _ wake cancel mark ended acts filed = refl
 filed_unparked (Some entry) stand wake cancel mark ended acts filed = ap is_parked filed.0 ∙ by entry.standing filed.4
   where
     by : (standing : Standing) → ValueAs standing entry.value mark acts → is_parked (Some standing) ≡ false
-    by Queued value = refl
-    by Running value = refl
     by Parked value = absurd value
-    by Done value = absurd value
-    by Dropped value = absurd value
+    by _ value = refl
 
 -- a job that is there stands somewhere
 pub filed_stands : (found : Option (Entry CallJob)) (stand : Option Standing) (wake cancel mark ended : Bool) (acts : List Act) → FiledAs found stand wake cancel mark ended acts → is_some found ≡ true → is_some stand ≡ true
 filed_stands None stand wake cancel mark ended acts filed there = absurd cc
 filed_stands (Some entry) stand wake cancel mark ended acts filed there = ap is_some filed.0
+
+-- a running job stands so
+pub filed_runs : (found : Option (Entry CallJob)) (stand : Option Standing) (wake cancel mark ended : Bool) (acts : List Act) → FiledAs found stand wake cancel mark ended acts → is_running_job found ≡ true → stand ≡ Some Running
+filed_runs None stand wake cancel mark ended acts filed runs = absurd cc
+filed_runs (Some entry) stand wake cancel mark ended acts filed runs = filed.0 ∙ ap Some (by entry.standing runs)
+  where
+    by : (standing : Standing) → is_running standing ≡ true → standing ≡ Running
+    by Running is = refl
+    by _ is = absurd cc
 
 -- ---- each kind of change; the Bool is whether it is this job
 
@@ -90,11 +93,8 @@ acted_filed true event events None stand wake cancel mark ended runs filed = let
 acted_filed true event events (Some entry) stand wake cancel mark ended runs filed = (filed.0, filed.1, filed.2, filed.3, by entry.standing entry.value (runs refl) filed.4)
   where
     by : (standing : Standing) (value : Option CallJob) → is_running standing ≡ true → ValueAs standing value mark (map (λ e. e.act) events) → ValueAs standing value mark (event.act ∷ map (λ e. e.act) events)
-    by Queued value is filed = absurd cc
     by Running value is filed = filed
-    by Parked value is filed = absurd cc
-    by Done value is filed = absurd cc
-    by Dropped value is filed = absurd cc
+    by _ value is filed = absurd cc
 
 -- whether a job that stands so is over
 abbrev pub is_final : Standing → Bool
@@ -179,6 +179,11 @@ marked_filed true (Some entry) stand wake cancel mark ended acts there filed = m
 pub swept_same : (late m : Bool) (stand : Option Standing) → is_parked stand ≡ false → (if late && is_parked stand && m then Some Queued else stand) ≡ stand
 swept_same false m stand unparked = refl
 swept_same true m stand unparked = ap (λ b. if b && m then Some Queued else stand) unparked
+
+-- and enters none
+pub sweep_enters : (late : Bool) (swept ns : List ℕ) → swept ≡ [] → joined ns (if late then swept else []) ≡ ns
+sweep_enters true swept ns none = ap (joined ns) none
+sweep_enters false swept ns none = refl
 
 -- a job that stands somewhere stands elsewhere
 pub stands_over : (b : Bool) (new : Standing) (stand : Option Standing) → (b ≡ true → is_some stand ≡ true) → is_some (if b then Some new else stand) ≡ is_some stand

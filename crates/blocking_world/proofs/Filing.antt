@@ -1,29 +1,32 @@
 -- Each move keeps the pool's jobs as the past tells of them.
 use Rattle.std.proofs.Common.{◌≡◌, ℕ, ◌+◌, ◌-◌, ◌<◌, ◌==◌, cond, map, List, ◌∷◌, Bool, true, false, refl, sym, ap, ◌∙◌, subst, arith, if◌then◌else◌, nat_lt, Option, Some, None, ◌&&◌, ◌||◌, not}
-use Rattle.std.specs.Prelude.{slice_get, is_some, filter, Ok, Err}
+use Rattle.std.specs.Prelude.{option_map, slice_get, is_some, filter, Ok, Err}
 use Rattle.std.specs.FinMap.{get}
 use Rattle.std.proofs.lemmas.Option.{slice_get_within}
-use Rattle.std.proofs.lemmas.Bool.{and_parts, ltb-true}
+use Rattle.std.proofs.lemmas.Bool.{and_parts, ltb-true, eqb-true}
 use Rattle.std.proofs.lemmas.Bool.Decides.{nat_tests}
 use Rattle.blocking_core.specs.Growth.{Growth}
-use Rattle.blocking_core.specs.Jobs.{Job as Entry, JobNumber, new_job, running, woken, cancelled, is_running_job}
+use Rattle.blocking_core.specs.Jobs.{Job as Entry, JobNumber, new_job, running, woken, cancelled, amend, is_running_job}
 use Rattle.blocking_core.specs.PoolAnswers.{must_stop}
+use Rattle.blocking_core.specs.Wakes.{wake_of, cancel_of}
 use Rattle.blocking_core.specs.declared.pool.answer.Woke.{Woke}
 use Rattle.blocking_core.specs.declared.pool.answer.Woke.TheVariants.{Entered, Marked, Nothing}
-use Rattle.blocking_core.specs.declared.pool.standing.Standing.TheVariants.{Running}
+use Rattle.blocking_core.specs.declared.pool.standing.Standing.TheVariants.{Queued, Running}
 use Rattle.blocking_core.specs.declared.pool.token.WorkerPass.{WorkerPass}
 use Rattle.blocking_world.specs.Crews.{Accepts, TakesFront, no_growth, marked_in, after_wake, after_cancel}
 use Rattle.blocking_laws.specs.Growth.{IsMarked}
-use Rattle.blocking_laws.specs.Jobs.{tasks, holder, is_holder, standing, is_woken, is_cancelled, is_marked, has_ended}
+use Rattle.blocking_laws.specs.Jobs.{tasks, holder, is_holder, standing, is_parked, is_woken, is_cancelled, is_marked, has_ended}
 use Rattle.blocking_laws.specs.JobTable.{has_finished, has_given_up}
 use Rattle.blocking_world.specs.Machine.{IsReady, seen, next_start, wait_act, after_wait}
-use Rattle.blocking_world.specs.Moves.{Move, Idles, Begins, Calls, Arrives, TakesJob, TakesNone, IsAnswered, Finishes, GivesUp, CallsWaker, EndsTurn, HasWaited, SetsLimit, Sweeps, IsWoken, IsStruck, May, after, moment_of, event_of, wait_step, took, wakes_as, cancels_as}
+use Rattle.blocking_world.specs.Moves.{Move, Begins, Calls, TakesJob, IsAnswered, Finishes, GivesUp, CallsWaker, EndsTurn, HasWaited, Sweeps, IsWoken, IsStruck, May, after, moment_of, event_of, wait_step, took, wakes_as, cancels_as}
 use Rattle.blocking_laws.specs.Seen.{events, acts_of, is_of_job}
 use Rattle.blocking_world.specs.Ties.{Tied, Numbered, Filed, FiledAs, holder_of}
 use Rattle.blocking_world.specs.Worlds.{Worlded, CallPool, new_call, hand_at, owner_at, outcome_of}
 use Rattle.blocking_world.proofs.Entries.{new_filed, taken_filed, woken_filed, cancelled_filed, acted_filed, ended_filed, marked_filed, outcome_final, over_by, swept_same}
-use Rattle.blocking_world.proofs.Lookups.{same_number, job_put, job_out, job_changed, job_marked, wake_finds, cancel_finds}
-use Rattle.blocking_world.proofs.Numbering.{none_held, some_held, accepted_serial, own_place, by_poll, refused_jobs, unparked, hand_runs, never_woken, never_struck}
+use Rattle.blocking_world.proofs.Lookups.{job_put, job_out, job_changed, job_marked, mark_finds}
+use Rattle.blocking_world.proofs.Numbering.{refused_alone}
+use Rattle.blocking_world.proofs.Polls.{by_poll}
+use Rattle.blocking_world.proofs.Tied.{some_held, accepted_serial, own_place, fresh, unparked, hand_runs, never_woken, never_struck}
 use Rattle.blocking_world.specs.declared.call.CallJob.{CallJob}
 use Rattle.blocking_laws.specs.declared.event.Act.TheVariants.{JobWoken, JobCancelled}
 use Rattle.blocking_laws.specs.declared.event.Event.{Event}
@@ -32,7 +35,7 @@ use Rattle.blocking_laws.specs.declared.event.Party.TheVariants.{Task, Worker, P
 use Rattle.blocking_world.specs.declared.hand.Hand.TheVariants.{Holds}
 use Rattle.blocking_world.specs.declared.hand.Held.{Held}
 use Rattle.blocking_laws.specs.declared.step.Step.TheVariants.{OfTask, Take, Stray, Strike}
-use Rattle.blocking_laws.specs.declared.step.TaskCall.TheVariants.{Poll, Cancel, Detach, Drop}
+use Rattle.blocking_laws.specs.declared.step.TaskCall.TheVariants.{Poll, Cancel, Drop}
 use Rattle.blocking_world.specs.declared.task.Owner.{Owner}
 
 -- what was seen of a job, of which the pool has this
@@ -41,12 +44,8 @@ FiledHere found past s = FiledAs found (standing past s) (is_woken past s) (is_c
 
 -- ---- a new job, and one that is taken
 
-fresh : (w : Worlded) (past : List Moment) (t s : ℕ) → Numbered w past → t ≡ w.pool.next_serial → (t == s) ≡ true → is_some (standing past s) ≡ false
-fresh w past t s numbered next is =
-    let same = same_number t s is in
-    let serial = numbered.next in
-    let beyond : tasks past < s = omega (arith, same, next, serial) in
-    numbered.stands s ∙ ap is_some (numbered.holders s ∙ none_held (tasks past) s beyond)
+next_fresh : (w : Worlded) (past : List Moment) (t s : ℕ) → Numbered w past → t ≡ w.pool.next_serial → (t == s) ≡ true → is_some (standing past s) ≡ false
+next_fresh w past t s numbered next is = ap (λ n. is_some (standing past n)) (sym (eqb-true t s is) ∙ next) ∙ ap is_some (fresh w past numbered)
 
 accepted_filed : (may_answer : ℕ → Bool → Type 0) (w : Worlded) (past : List Moment) (number : JobNumber) (growth : Growth) (pool : CallPool) → Numbered w past → Filed w past
     → Accepts may_answer w.pool number growth pool → Filed (after w (Begins (Ok number) growth pool)) (moment_of w (Begins (Ok number) growth pool) ∷ past)
@@ -54,8 +53,8 @@ accepted_filed may_answer w past number growth pool numbered filed accepts s =
     let at : get pool.jobs s ≡ (if number.serial == s then Some (new_job number.place new_call) else get w.pool.jobs s) =
     ap (λ p. get p.jobs s) accepts.after_is ∙ job_put w.pool.jobs w.pool.next_serial (new_job number.place new_call) s (number.serial == s) (ap (λ n. n == s) (sym accepts.serial)) in
     subst (λ o. FiledHere o (moment_of w (Begins (Ok number) growth pool) ∷ past) s) (sym at)
-    (new_filed (number.serial == s) number.place (get w.pool.jobs s) (standing past s) (is_woken past s) (is_cancelled past s) (is_marked past s) (has_ended past s) (acts_of s (events past))
-    (fresh w past number.serial s numbered accepts.serial) (filed s))
+    (new_filed (number.serial == s) number.place (get w.pool.jobs s) (standing past s) _ _ _ _ _
+    (next_fresh w past number.serial s numbered accepts.serial) (filed s))
 
 took_filed : (may_answer : ℕ → Bool → Type 0) (to_drop drops : Bool) (w : Worlded) (past : List Moment) (v : ℕ) (turn : JobNumber) (job : CallJob) (growth : Growth) (pool : CallPool) → Filed w past
     → TakesFront may_answer w.pool turn job drops growth pool
@@ -68,8 +67,8 @@ took_filed may_answer to_drop drops w past v turn job growth pool filed takes s 
     changed : FiledAs (if turn.serial == s then Some (running takes.job) else get w.pool.jobs s) (if turn.serial == s then Some Running else standing past s) (not (turn.serial == s) && is_woken past s)
         (is_cancelled past s) (is_marked past s) (has_ended past s) (acts_of s (events past))
     changed =
-        taken_filed (turn.serial == s) takes.job (get w.pool.jobs s) (standing past s) (is_woken past s) (is_cancelled past s) (is_marked past s) (has_ended past s) (acts_of s (events past))
-        (λ b. ap (get w.pool.jobs) (sym (same_number turn.serial s b)) ∙ takes.found) (filed s)
+        taken_filed (turn.serial == s) takes.job (get w.pool.jobs s) (standing past s) _ _ _ _ _
+        (λ b. ap (get w.pool.jobs) (sym (eqb-true turn.serial s b)) ∙ takes.found) (filed s)
 
     by : (b : Bool) → FiledHere (if turn.serial == s then Some (running takes.job) else get w.pool.jobs s)
         (record { step = Take v; event = seen (Worker v) (Some turn.serial) (took b turn.serial) (next_start w) growth } ∷ past) s
@@ -83,7 +82,7 @@ holder_test n k t s within next = by (t == s) (nat_lt 0 s && nat_lt (s - 1) n) r
   where
     by : (b c : Bool) → (t == s) ≡ b → (nat_lt 0 s && nat_lt (s - 1) n) ≡ c → is_holder (holder_of n s) (Task k) ≡ (t == s)
     by true c is test =
-        let same = same_number t s is in
+        let same = eqb-true t s is in
         let found = some_held n s (omega (arith, same, next)) (omega (arith, same, next, within)) in
         let here : (k == s - 1) ≡ true = grind (arith, nat_tests) in
         ap (λ o. is_holder o (Task k)) found ∙ here ∙ sym is
@@ -108,8 +107,8 @@ let_go_filed w past k s owner numbered filed at =
     (sym test)
     (subst (λ o. FiledAs o (standing past s) (is_woken past s) (is_cancelled past s) (owner.number.serial == s && not (has_ended past s) || is_marked past s) (has_ended past s) (acts_of s (events past)))
     (sym (job_marked w.pool owner.number s (owner.number.serial == s) refl (own_place w past k owner numbered at)))
-    (marked_filed (owner.number.serial == s) (get w.pool.jobs s) (standing past s) (is_woken past s) (is_cancelled past s) (is_marked past s) (has_ended past s) (acts_of s (events past))
-    (λ is. let same = same_number owner.number.serial s is in
+    (marked_filed (owner.number.serial == s) (get w.pool.jobs s) (standing past s) _ _ _ _ _
+    (λ is. let same = eqb-true owner.number.serial s is in
     numbered.stands s ∙ ap is_some (numbered.holders s ∙ some_held (tasks past) s (omega (arith, same, serial)) (omega (arith, same, serial, counted))))
     (filed s)))
 
@@ -119,58 +118,59 @@ held_filed : (w : Worlded) (past : List Moment) (v s : ℕ) (held : Held) (event
     → FiledAs (get w.pool.jobs s) (standing past s) (is_woken past s) (is_cancelled past s) (is_marked past s) (has_ended past s) (map (λ e. e.act) (cond (held.turn.serial == s) (event ∷ filter (is_of_job s) (events past)) (filter (is_of_job s) (events past))))
 held_filed w past v s held event ready at filed =
     acted_filed (held.turn.serial == s) event (filter (is_of_job s) (events past)) (get w.pool.jobs s) (standing past s) (is_woken past s) (is_cancelled past s) (is_marked past s) (has_ended past s)
-    (λ is. ap (λ n. is_running_job (get w.pool.jobs n)) (sym (same_number held.turn.serial s is)) ∙ hand_runs w v held ready at) (filed s)
+    (λ is. ap (λ n. is_running_job (get w.pool.jobs n)) (sym (eqb-true held.turn.serial s is)) ∙ hand_runs w v held ready at) (filed s)
 
 -- ---- wakes and cancels
+
+-- a job that is there has changed
+changed_filed : (w : Worlded) (t s : ℕ) (number : JobNumber) (change : Entry CallJob → Entry CallJob) (P : Option (Entry CallJob) → Type 0) → number.serial ≡ t → is_some (get w.pool.jobs number.serial) ≡ true
+    → (((t == s) ≡ true → is_some (get w.pool.jobs s) ≡ true) → P (if t == s then option_map change (get w.pool.jobs s) else get w.pool.jobs s)) → P (get (amend w.pool.jobs number.serial change) s)
+changed_filed w t s number change P serial there changed =
+    subst P (sym (job_changed w.pool.jobs number.serial change s (t == s) (ap (λ n. n == s) serial)))
+    (changed (λ is. ap (λ n. is_some (get w.pool.jobs n)) (sym (serial ∙ eqb-true t s is)) ∙ there))
 
 wake_filed : (how : Woke) (w : Worlded) (past : List Moment) (t : ℕ) (number : JobNumber) → number.serial ≡ t → (how ≡ Entered → ⊥) → (how ≡ Marked → is_some (get w.pool.jobs number.serial) ≡ true) → Filed w past
     → (s : ℕ) → FiledHere (get (after_wake how w.pool number).jobs s) (record { step = Stray t; event = seen Pool None (JobWoken t how) (next_start w) no_growth } ∷ past) s
 wake_filed Nothing w past t number serial never there filed s = filed s
 wake_filed Entered w past t number serial never there filed s = absurd (never refl)
 wake_filed Marked w past t number serial never there filed s =
-    subst (λ o. FiledHere o (record { step = Stray t; event = seen Pool None (JobWoken t Marked) (next_start w) no_growth } ∷ past) s)
-    (sym (job_changed w.pool.jobs number.serial woken s (t == s) (ap (λ n. n == s) serial)))
-    (woken_filed (t == s) (get w.pool.jobs s) (standing past s) (is_woken past s) (is_cancelled past s) (is_marked past s) (has_ended past s) (acts_of s (events past))
-    (λ is. ap (λ n. is_some (get w.pool.jobs n)) (sym (serial ∙ same_number t s is)) ∙ there refl) (filed s))
+    changed_filed w t s number woken (λ o. FiledHere o (record { step = Stray t; event = seen Pool None (JobWoken t Marked) (next_start w) no_growth } ∷ past) s) serial (there refl)
+    (λ here. woken_filed (t == s) (get w.pool.jobs s) (standing past s) _ _ _ _ _ here (filed s))
 
 cancel_filed : (how : Woke) (w : Worlded) (past : List Moment) (t : ℕ) (number : JobNumber) → number.serial ≡ t → (how ≡ Entered → ⊥) → (how ≡ Marked → is_some (get w.pool.jobs number.serial) ≡ true) → Filed w past
     → (s : ℕ) → FiledHere (get (after_cancel how w.pool number).jobs s) (record { step = Strike t; event = seen Pool None (JobCancelled t how) (next_start w) no_growth } ∷ past) s
 cancel_filed Nothing w past t number serial never there filed s = filed s
 cancel_filed Entered w past t number serial never there filed s = absurd (never refl)
 cancel_filed Marked w past t number serial never there filed s =
-    subst (λ o. FiledHere o (record { step = Strike t; event = seen Pool None (JobCancelled t Marked) (next_start w) no_growth } ∷ past) s)
-    (sym (job_changed w.pool.jobs number.serial cancelled s (t == s) (ap (λ n. n == s) serial)))
-    (cancelled_filed (t == s) (get w.pool.jobs s) (standing past s) (is_woken past s) (is_cancelled past s) (is_marked past s) (has_ended past s) (acts_of s (events past))
-    (λ is. ap (λ n. is_some (get w.pool.jobs n)) (sym (serial ∙ same_number t s is)) ∙ there refl) (filed s))
+    changed_filed w t s number cancelled (λ o. FiledHere o (record { step = Strike t; event = seen Pool None (JobCancelled t Marked) (next_start w) no_growth } ∷ past) s) serial (there refl)
+    (λ here. cancelled_filed (t == s) (get w.pool.jobs s) (standing past s) _ _ _ _ _ here (filed s))
 
--- ---- waits
+-- ---- sweeps and waits
+
+swept_filed : (late : Bool) (w : Worlded) (past : List Moment) (s : ℕ) → Filed w past
+    → FiledAs (get w.pool.jobs s) (if late && is_parked (standing past s) && is_marked past s then Some Queued else standing past s) (is_woken past s) (is_cancelled past s) (is_marked past s) (has_ended past s) (acts_of s (events past))
+swept_filed late w past s filed =
+    subst (λ o. FiledAs (get w.pool.jobs s) o (is_woken past s) (is_cancelled past s) (is_marked past s) (has_ended past s) (acts_of s (events past)))
+    (sym (swept_same late (is_marked past s) (standing past s) (unparked w past s filed))) (filed s)
 
 waited_filed : (late stops : Bool) (v : ℕ) (pass : WorkerPass) (w : Worlded) (past : List Moment) → Filed w past
     → Filed (after_wait w v pass stops) (record { step = wait_step late v; event = seen (Worker v) None (wait_act v late stops) (next_start w) no_growth } ∷ past)
-waited_filed late true v pass w past filed s =
-    subst (λ o. FiledAs (get w.pool.jobs s) o (is_woken past s) (is_cancelled past s) (is_marked past s) (has_ended past s) (acts_of s (events past)))
-    (sym (swept_same late (is_marked past s) (standing past s) (unparked w past s filed))) (filed s)
-waited_filed late false v pass w past filed s =
-    subst (λ o. FiledAs (get w.pool.jobs s) o (is_woken past s) (is_cancelled past s) (is_marked past s) (has_ended past s) (acts_of s (events past)))
-    (sym (swept_same late (is_marked past s) (standing past s) (unparked w past s filed))) (filed s)
+waited_filed late true v pass w past filed s = swept_filed late w past s filed
+waited_filed late false v pass w past filed s = swept_filed late w past s filed
 
 -- ---- every move
 
 -- each move keeps the pool's jobs
 pub filed_after : (setting : ℕ) (marks : List Bool) (w : Worlded) (past : List Moment) (move : Move) → Tied setting w past → May (IsMarked marks) w move
     → Filed (after w move) (moment_of w move ∷ past)
-filed_after setting marks w past (Idles step) tied may s = tied.filed s
 filed_after setting marks w past (Begins (Ok number) growth pool) tied may s = accepted_filed (IsMarked marks) w past number growth pool tied.numbered tied.filed may s
 filed_after setting marks w past (Begins (Err why) growth pool) tied may s =
-    subst (λ j. FiledHere (get j s) (moment_of w (Begins (Err why) growth pool) ∷ past) s) (sym (refused_jobs (IsMarked marks) w.pool why growth pool may).0) (tied.filed s)
+    subst (λ j. FiledHere (get j s) (moment_of w (Begins (Err why) growth pool) ∷ past) s) (sym (ap (λ p. p.jobs) (refused_alone (IsMarked marks) w.pool why growth pool may))) (tied.filed s)
 filed_after setting marks w past (Calls k Poll owner) tied may s =
     by_poll (λ act. FiledHere (get w.pool.jobs s) (record { step = OfTask k Poll; event = seen (Task k) None act (next_start w) no_growth } ∷ past) s) (tied.filed s) (λ n. tied.filed s) (tied.filed s) owner
-filed_after setting marks w past (Calls k Detach owner) tied may s = tied.filed s
 filed_after setting marks w past (Calls k Cancel owner) tied may s = let_go_filed w past k s owner tied.numbered tied.filed may.0
 filed_after setting marks w past (Calls k Drop owner) tied may s = let_go_filed w past k s owner tied.numbered tied.filed may.0
-filed_after setting marks w past (Arrives pass) tied may s = tied.filed s
 filed_after setting marks w past (TakesJob v old to_drop turn job growth pool) tied may s = took_filed (IsMarked marks) to_drop to_drop w past v turn job growth pool tied.filed may.1 s
-filed_after setting marks w past (TakesNone v old pass) tied may s = tied.filed s
 filed_after setting marks w past (IsAnswered v held number) tied may s = held_filed w past v s held (event_of w (IsAnswered v held number)) tied.handed.ready may.0 tied.filed
 filed_after setting marks w past (Finishes v held) tied may s = held_filed w past v s held (event_of w (Finishes v held)) tied.handed.ready may.0 tied.filed
 filed_after setting marks w past (GivesUp v held) tied may s = held_filed w past v s held (event_of w (GivesUp v held)) tied.handed.ready may.0 tied.filed
@@ -180,17 +180,15 @@ filed_after setting marks w past (EndsTurn v held pass) tied may s =
     subst (λ o. FiledHere o (moment_of w (EndsTurn v held pass) ∷ past) s) (sym (job_out w.pool.jobs held.turn.serial s (held.turn.serial == s) refl))
     (ended_filed held.turn.serial s (held.turn.serial == s) (outcome_of held.stage) (get w.pool.jobs s) (standing past s) (is_woken past s) (is_cancelled past s) (is_marked past s) (has_ended past s) (acts_of s (events past))
     refl (outcome_final held.stage)
-    (λ is. subst (λ n. has_finished (acts_of n (events past)) || has_given_up (acts_of n (events past)) ≡ true) (same_number held.turn.serial s is)
+    (λ is. subst (λ n. has_finished (acts_of n (events past)) || has_given_up (acts_of n (events past)) ≡ true) (eqb-true held.turn.serial s is)
     (over_by held.stage held.job.core held.job.number (acts_of held.turn.serial (events past)) known.acts_are may.1))
     (tied.filed s))
 filed_after setting marks w past (HasWaited v pass late) tied may s = waited_filed late (must_stop late w.pool) v pass w past tied.filed s
-filed_after setting marks w past (SetsLimit n) tied may s = tied.filed s
-filed_after setting marks w past Sweeps tied may s =
-    subst (λ o. FiledAs (get w.pool.jobs s) o (is_woken past s) (is_cancelled past s) (is_marked past s) (has_ended past s) (acts_of s (events past)))
-    (sym (swept_same true (is_marked past s) (standing past s) (unparked w past s tied.filed))) (tied.filed s)
+filed_after setting marks w past Sweeps tied may s = swept_filed true w past s tied.filed
 filed_after setting marks w past (IsWoken t) tied may s =
     wake_filed (wakes_as w t) w past t (owner_at w.tasks t).number (accepted_serial w past t tied.numbered may) (never_woken w t tied.handed.ready)
-    (wake_finds (owner_at w.tasks t).number.place (get w.pool.jobs (owner_at w.tasks t).number.serial)) tied.filed s
+    (mark_finds wake_of (owner_at w.tasks t).number.place (get w.pool.jobs (owner_at w.tasks t).number.serial) (λ is. cc)) tied.filed s
 filed_after setting marks w past (IsStruck t) tied may s =
     cancel_filed (cancels_as w t) w past t (owner_at w.tasks t).number (accepted_serial w past t tied.numbered may.0) (never_struck w t tied.handed.ready)
-    (cancel_finds (owner_at w.tasks t).number.place (get w.pool.jobs (owner_at w.tasks t).number.serial)) tied.filed s
+    (mark_finds cancel_of (owner_at w.tasks t).number.place (get w.pool.jobs (owner_at w.tasks t).number.serial) (λ is. cc)) tied.filed s
+filed_after setting marks w past move tied may s = tied.filed s

@@ -42,9 +42,10 @@ pub record Told (ready : ℕ) (old new : Counts) (growth : Growth) : Type 0 wher
   pub refused : growth.refused ≡ is_due ready new.idle new.workers (limit_of old) 0
   pub numbers : old.next_worker ≤ greatest → old.next_worker + growth.started ≤ greatest
 
-numbered : (may_answer : ℕ → Bool → Type 0) (ready idle workers limit first : ℕ) (growth : Growth)
+-- so the starts of a growth have numbers
+pub numbers_last : (may_answer : ℕ → Bool → Type 0) (ready idle workers limit first : ℕ) (growth : Growth)
     → IsGrowth (StartAnswer may_answer) ready idle workers limit first growth → first ≤ greatest → first + growth.started ≤ greatest
-numbered may_answer ready idle workers limit first growth starts within =
+numbers_last may_answer ready idle workers limit first growth starts within =
     elim (cases_lt greatest (first + growth.started)) [
       | inl over ↦ absurd (never_greatest may_answer (first + (greatest - first)) (omega arith) (starts.each (greatest - first) (omega arith)).1)
       | inr under ↦ under
@@ -59,7 +60,7 @@ told may_answer before after ready old new growth grows = record {
   setting = ap (λ (c : Counts). c.setting) grows.counts;
   next = ap (λ (c : Counts). c.next_worker) grows.counts;
   refused = rw (idle, workers) (sym grows.starts.next ∙ due_later ready old.idle old.workers (limit_of old) growth.started);
-  numbers = numbered may_answer ready old.idle old.workers (limit_of old) old.next_worker growth grows.starts;
+  numbers = numbers_last may_answer ready old.idle old.workers (limit_of old) old.next_worker growth grows.starts;
 }
   where
     workers : new.workers ≡ old.workers + growth.started

@@ -1,114 +1,51 @@
 -- Each move grows as the law of growth says; and who serves a queued job.
-use Rattle.std.proofs.Common.{◌≡◌, ℕ, ◌<◌, ◌+◌, ◌-◌, ◌==◌, min, List, [], ◌∷◌, ◌++◌, Bool, true, false, length, length-append, refl, sym, ap, ◌∙◌, subst, arith, Option, Some, None}
-use Rattle.std.specs.Prelude.{not, Result, Ok, Err}
+use Rattle.std.proofs.Common.{◌≡◌, ℕ, ◌<◌, ◌+◌, ◌-◌, min, List, [], ◌∷◌, ◌++◌, Bool, true, false, length, length-append, refl, sym, ap, ◌∙◌, subst, arith, Option, None}
+use Rattle.std.specs.Prelude.{Result, Ok, Err}
 use Rattle.blocking_core.specs.Counts.{busier}
 use Rattle.blocking_core.specs.Growth.{greatest, Growth, IsGrowth, StartAnswer}
 use Rattle.blocking_core.specs.Jobs.{JobNumber}
 use Rattle.blocking_core.specs.PoolAnswers.{must_stop}
 use Rattle.blocking_core.specs.declared.pool.answer.Refusal.{Refusal}
 use Rattle.blocking_core.specs.declared.pool.answer.Refusal.TheVariants.{Memory, NoWorker, Numbers}
-use Rattle.blocking_core.specs.declared.pool.answer.Woke.{Woke}
-use Rattle.blocking_core.specs.declared.pool.answer.Woke.TheVariants.{Entered, Marked, Nothing}
 use Rattle.blocking_core.specs.declared.pool.token.WorkerPass.{WorkerPass}
 use Rattle.blocking_laws.specs.Seen.{without}
-use Rattle.blocking_laws.specs.Queue.{queue, running, to_sweep}
+use Rattle.blocking_laws.specs.Queue.{queue, running}
 use Rattle.blocking_laws.specs.Counts.{starts, refused_starts, workers, idle, limit}
-use Rattle.blocking_laws.specs.Growth.{IsMarked, StartsRightly, HasWorker, GrowthLaw, grows}
+use Rattle.blocking_laws.specs.Growth.{IsMarked, StartsRightly, GrowthLaw}
 use Rattle.blocking_laws.specs.Served.{IsServed}
-use Rattle.blocking_world.specs.Crews.{GrowsBy, Accepts, FindsNoWorker}
-use Rattle.blocking_world.specs.Worlds.{Worlded, CallPool, poll_of, outcome_of}
-use Rattle.blocking_world.specs.Machine.{wait_act}
-use Rattle.blocking_world.specs.Moves.{Move, Idles, Begins, Calls, Arrives, TakesJob, TakesNone, IsAnswered, Finishes, GivesUp, CallsWaker, EndsTurn, HasWaited, SetsLimit, Sweeps, IsWoken, IsStruck, May, moment_of, wakes_as, cancels_as, finish_wakes, giving_up_wakes}
+use Rattle.blocking_world.specs.Crews.{no_growth, GrowsBy, Accepts, FindsNoWorker}
+use Rattle.blocking_world.specs.Worlds.{Worlded, CallPool}
+use Rattle.blocking_world.specs.Moves.{Move, Begins, Calls, TakesJob, HasWaited, IsWoken, IsStruck, May, moment_of, wakes_as, cancels_as}
 use Rattle.blocking_world.specs.Ties.{Filed, Tied}
 use Rattle.blocking_world.specs.declared.call.CallJob.{CallJob}
 use Rattle.blocking_laws.specs.declared.event.Act.{Act}
-use Rattle.blocking_laws.specs.declared.event.Act.TheVariants.{Accepted, Refused, JobWoken, JobCancelled, LimitSet, Swept, TaskCancelled, TaskDetached, HolderDropped, Arrived, Took, TookDropped, TookNone, Stays, Stopped, Ended, Answered, Finished, GaveUp, HolderWoken, NoAction}
+use Rattle.blocking_laws.specs.declared.event.Act.TheVariants.{Refused, JobWoken, JobCancelled}
 use Rattle.blocking_laws.specs.declared.event.Moment.{Moment}
 use Rattle.blocking_laws.specs.declared.event.Party.{Party}
-use Rattle.blocking_laws.specs.declared.step.Answer.TheVariants.{Number}
 use Rattle.blocking_laws.specs.declared.step.Step.{Step}
-use Rattle.blocking_laws.specs.declared.step.TaskCall.{TaskCall}
-use Rattle.blocking_laws.specs.declared.step.TaskCall.TheVariants.{Poll, Cancel, Detach, Drop}
-use Rattle.blocking_world.specs.declared.task.Owner.{Owner}
-use Rattle.blocking_world.proofs.Counting.{is_still, quiet, poll_still, no_sweep, never_wakes, never_cancels, workers_now, idle_some, one_out, front_among}
+use Rattle.blocking_world.proofs.Counting.{workers_now, idle_some}
+use Rattle.blocking_world.proofs.Lookups.{by_unentered}
+use Rattle.blocking_world.proofs.Polls.{by_call}
+use Rattle.blocking_world.proofs.Quiet.{by_wait, seen_at, may_grow, ungrown}
+use Rattle.blocking_world.proofs.Rows.{one_out, front_among}
+use Rattle.blocking_world.proofs.Tied.{never_woken, never_struck}
 
 -- ---- no growth
-
-still_grows : (past : List Moment) (act : Act) → is_still act ≡ true → grows past act ≡ false
-still_grows past (Accepted s) e = absurd cc
-still_grows past (Refused NoWorker) e = absurd cc
-still_grows past (Refused Memory) e = refl
-still_grows past (Refused Numbers) e = refl
-still_grows past (JobWoken s Entered) e = absurd cc
-still_grows past (JobWoken s Marked) e = refl
-still_grows past (JobWoken s Nothing) e = refl
-still_grows past (JobCancelled s Entered) e = absurd cc
-still_grows past (JobCancelled s Marked) e = refl
-still_grows past (JobCancelled s Nothing) e = refl
-still_grows past (LimitSet n) e = absurd cc
-still_grows past (Swept n) e = absurd cc
-still_grows past (Arrived v) e = absurd cc
-still_grows past (Took s) e = absurd cc
-still_grows past (TookDropped s) e = absurd cc
-still_grows past (Stays v late) e = absurd cc
-still_grows past (Stopped v late) e = absurd cc
-still_grows past (Ended s how) e = absurd cc
-still_grows past _ e = refl
-
-still_worker : (act : Act) (n : ℕ) → is_still act ≡ true → HasWorker act n
-still_worker (Accepted s) n e = absurd cc
-still_worker (Refused NoWorker) n e = absurd cc
-still_worker (Refused Memory) n e = tt
-still_worker (Refused Numbers) n e = tt
-still_worker _ n e = tt
 
 -- the number of the next start, as the past tells it
 abbrev IsNext : List Moment → ℕ → Type 0
 IsNext past first = first ≡ min (1 + starts past + refused_starts past) greatest
 
--- an act at which the pool doesn't grow
-ungrown : (setting : ℕ) (marks : List Bool) (past : List Moment) (step : Step) (who : Party) (job : Option ℕ) (act : Act) (first : ℕ) → IsNext past first → grows past act ≡ false
-    → HasWorker act (workers past + 0) → GrowthLaw setting marks past (quiet step who job act first)
-ungrown setting marks past step who job act first next none worker =
+-- an act at which the pool may not grow
+plain_law : (setting : ℕ) (marks : List Bool) (w : Worlded) (past : List Moment) (step : Step) (who : Party) (job : Option ℕ) (act : Act) (first : ℕ) → Filed w past → IsNext past first
+    → may_grow act ≡ false → GrowthLaw setting marks past (seen_at step who job act first no_growth)
+plain_law setting marks w past step who job act first filed next may =
+    let plain = ungrown w past filed act may in
     record {
       first = next;
-      starting = subst (λ b. StartsRightly b setting marks past (quiet step who job act first)) (sym none) (refl, refl);
-      worker = worker;
+      starting = subst (λ b. StartsRightly b setting marks past (seen_at step who job act first no_growth)) (sym plain.grows_not) (refl, refl);
+      worker = plain.worker (workers past + 0);
     }
-
-still_law : (setting : ℕ) (marks : List Bool) (past : List Moment) (step : Step) (who : Party) (job : Option ℕ) (act : Act) (first : ℕ) → IsNext past first → is_still act ≡ true
-    → GrowthLaw setting marks past (quiet step who job act first)
-still_law setting marks past step who job act first next still =
-    ungrown setting marks past step who job act first next (still_grows past act still) (still_worker act (workers past + 0) still)
-
-none_swept : (w : Worlded) (past : List Moment) → Filed w past → not (length (to_sweep past) == 0) ≡ false
-none_swept w past f = ap (λ (ns : List ℕ). not (length ns == 0)) (no_sweep w past f)
-
-wait_law : (setting : ℕ) (marks : List Bool) (w : Worlded) (past : List Moment) (step : Step) (who : Party) (v : ℕ) (late stops : Bool) (first : ℕ) → Filed w past → IsNext past first
-    → GrowthLaw setting marks past (quiet step who None (wait_act v late stops) first)
-wait_law setting marks w past step who v true true first f next = ungrown setting marks past step who None (Stopped v true) first next (none_swept w past f) tt
-wait_law setting marks w past step who v false true first f next = ungrown setting marks past step who None (Stopped v false) first next refl tt
-wait_law setting marks w past step who v true false first f next = ungrown setting marks past step who None (Stays v true) first next (none_swept w past f) tt
-wait_law setting marks w past step who v false false first f next = ungrown setting marks past step who None (Stays v false) first next refl tt
-
-wake_law : (setting : ℕ) (marks : List Bool) (past : List Moment) (step : Step) (who : Party) (s : ℕ) (woke : Woke) (first : ℕ) → (woke ≡ Entered → ⊥) → IsNext past first
-    → GrowthLaw setting marks past (quiet step who None (JobWoken s woke) first)
-wake_law setting marks past step who s Entered first never next = absurd (never refl)
-wake_law setting marks past step who s Marked first never next = still_law setting marks past step who None (JobWoken s Marked) first next refl
-wake_law setting marks past step who s Nothing first never next = still_law setting marks past step who None (JobWoken s Nothing) first next refl
-
-cancel_law : (setting : ℕ) (marks : List Bool) (past : List Moment) (step : Step) (who : Party) (s : ℕ) (woke : Woke) (first : ℕ) → (woke ≡ Entered → ⊥) → IsNext past first
-    → GrowthLaw setting marks past (quiet step who None (JobCancelled s woke) first)
-cancel_law setting marks past step who s Entered first never next = absurd (never refl)
-cancel_law setting marks past step who s Marked first never next = still_law setting marks past step who None (JobCancelled s Marked) first next refl
-cancel_law setting marks past step who s Nothing first never next = still_law setting marks past step who None (JobCancelled s Nothing) first next refl
-
-call_law : (setting : ℕ) (marks : List Bool) (w : Worlded) (past : List Moment) (k : ℕ) (call : TaskCall) (owner : Owner) → IsNext past w.pool.counts.next_worker
-    → GrowthLaw setting marks past (moment_of w (Calls k call owner))
-call_law setting marks w past k Poll owner next = still_law setting marks past _ _ None (poll_of owner) _ next (poll_still owner.stage owner.found owner.slot.content)
-call_law setting marks w past k Cancel owner next = still_law setting marks past _ _ None TaskCancelled _ next refl
-call_law setting marks w past k Detach owner next = still_law setting marks past _ _ None TaskDetached _ next refl
-call_law setting marks w past k Drop owner next = still_law setting marks past _ _ None HolderDropped _ next refl
 
 -- ---- growth
 
@@ -157,10 +94,10 @@ begin_law setting marks w past (Ok number) growth pool t m = accepted_law settin
 begin_law setting marks w past (Err NoWorker) growth pool t m = unstaffed_law setting marks w past growth pool t m
 begin_law setting marks w past (Err Memory) growth pool t m =
     subst (λ (g : Growth). GrowthLaw setting marks past (moment_of w (Begins (Err Memory) g pool))) (sym m.0)
-    (still_law setting marks past _ _ None (Refused Memory) _ t.counted.next_is refl)
+    (plain_law setting marks w past _ _ None (Refused Memory) _ t.filed t.counted.next_is refl)
 begin_law setting marks w past (Err Numbers) growth pool t m =
     subst (λ (g : Growth). GrowthLaw setting marks past (moment_of w (Begins (Err Numbers) g pool))) (sym m.1)
-    (still_law setting marks past _ _ None (Refused Numbers) _ t.counted.next_is refl)
+    (plain_law setting marks w past _ _ None (Refused Numbers) _ t.filed t.counted.next_is refl)
 
 -- the numbers by which the pool grows at a take
 take_growth : (setting : ℕ) (marks : List Bool) (w : Worlded) (past : List Moment) (s : ℕ) (rest : List ℕ) (growth : Growth) → Tied setting w past → 0 < w.pool.counts.idle → w.pool.queue ≡ s ∷ rest
@@ -198,23 +135,16 @@ take_law setting marks w past v old false turn job growth pool t m =
 -- Each move grows as the law of growth says.
 pub growth_after : (setting : ℕ) (marks : List Bool) (w : Worlded) (past : List Moment) (move : Move) → Tied setting w past → May (IsMarked marks) w move
     → GrowthLaw setting marks past (moment_of w move)
-growth_after setting marks w past (Idles step) t m = still_law setting marks past step _ None NoAction _ t.counted.next_is refl
 growth_after setting marks w past (Begins answer growth pool) t m = begin_law setting marks w past answer growth pool t m
-growth_after setting marks w past (Calls k call owner) t m = call_law setting marks w past k call owner t.counted.next_is
-growth_after setting marks w past (Arrives pass) t m = ungrown setting marks past _ _ None (Arrived (length w.hands + 1)) _ t.counted.next_is refl tt
 growth_after setting marks w past (TakesJob v old to_drop turn job growth pool) t m = take_law setting marks w past v old to_drop turn job growth pool t m
-growth_after setting marks w past (TakesNone v old pass) t m = still_law setting marks past _ _ None TookNone _ t.counted.next_is refl
-growth_after setting marks w past (IsAnswered v held number) t m = still_law setting marks past _ _ (Some held.turn.serial) (Answered (Number number)) _ t.counted.next_is refl
-growth_after setting marks w past (Finishes v held) t m = still_law setting marks past _ _ (Some held.turn.serial) (Finished (finish_wakes w held)) _ t.counted.next_is refl
-growth_after setting marks w past (GivesUp v held) t m = still_law setting marks past _ _ (Some held.turn.serial) (GaveUp (giving_up_wakes w held)) _ t.counted.next_is refl
-growth_after setting marks w past (CallsWaker v held) t m = still_law setting marks past _ _ (Some held.turn.serial) HolderWoken _ t.counted.next_is refl
-growth_after setting marks w past (EndsTurn v held pass) t m =
-    ungrown setting marks past _ _ (Some held.turn.serial) (Ended held.turn.serial (outcome_of held.stage)) _ t.counted.next_is refl tt
-growth_after setting marks w past (HasWaited v pass late) t m = wait_law setting marks w past _ _ v late (must_stop late w.pool) _ t.filed t.counted.next_is
-growth_after setting marks w past (SetsLimit n) t m = ungrown setting marks past _ _ None (LimitSet n) _ t.counted.next_is refl tt
-growth_after setting marks w past Sweeps t m = ungrown setting marks past _ _ None (Swept 0) _ t.counted.next_is (none_swept w past t.filed) tt
-growth_after setting marks w past (IsWoken s) t m = wake_law setting marks past _ _ s (wakes_as w s) _ (never_wakes w past s t.handed) t.counted.next_is
-growth_after setting marks w past (IsStruck s) t m = cancel_law setting marks past _ _ s (cancels_as w s) _ (never_cancels w past s t.handed) t.counted.next_is
+growth_after setting marks w past (Calls k call owner) t m =
+    plain_law setting marks w past _ _ _ _ _ t.filed t.counted.next_is (by_call (λ act. may_grow act ≡ false) refl (λ n. refl) refl refl refl refl call owner)
+growth_after setting marks w past (HasWaited v pass late) t m = plain_law setting marks w past _ _ _ _ _ t.filed t.counted.next_is (by_wait (λ act. may_grow act ≡ false) v late refl refl (must_stop late w.pool))
+growth_after setting marks w past (IsWoken s) t m =
+    plain_law setting marks w past _ _ _ _ _ t.filed t.counted.next_is (by_unentered (λ how. may_grow (JobWoken s how) ≡ false) refl refl (wakes_as w s) (never_woken w s t.handed.ready))
+growth_after setting marks w past (IsStruck s) t m =
+    plain_law setting marks w past _ _ _ _ _ t.filed t.counted.next_is (by_unentered (λ how. may_grow (JobCancelled s how) ≡ false) refl refl (cancels_as w s) (never_struck w s t.handed.ready))
+growth_after setting marks w past move t m = plain_law setting marks w past _ _ _ _ _ t.filed t.counted.next_is refl
 
 -- ---- the counts of a world
 

@@ -1,16 +1,14 @@
 -- Each move keeps the tie of the hands to what was seen, and the law of turns holds at it.
-use Rattle.std.proofs.Common.{◌≡◌, ℕ, ◌+◌, ◌-◌, ◌<◌, ◌≤◌, ◌==◌, ◌⊎◌, ⊎_elim, inl, inr, List, [], ◌∷◌, ◌++◌, Bool, true, false, cond, length, length-append, refl, sym, ap, ◌∙◌, subst, arith, if◌then◌else◌, Option, Some, None, zero, suc, nat_cmp, map, ◌&&◌, ◌||◌, not, is_some}
-use Rattle.std.specs.Prelude.{filter, slice_get, slice_set, nat_lt, Ok, Err}
-use Rattle.std.specs.Cmp.{nat_cmp_total}
-use Rattle.std.specs.Ordering.{eq_by_cmp}
-use Rattle.std.specs.FinMap.{get, insert, remove, get-insert, get-remove}
-use Rattle.std.proofs.lemmas.Bool.Decides.{nat_tests}
+use Rattle.std.proofs.Common.{◌≡◌, ℕ, ◌+◌, ◌-◌, ◌<◌, ◌≤◌, ◌==◌, ◌⊎◌, ⊎_elim, inl, inr, List, [], ◌∷◌, ◌++◌, Bool, true, false, length, length-append, refl, sym, ap, ◌∙◌, subst, arith, if◌then◌else◌, Option, Some, None, ◌&&◌, ◌||◌, not, is_some}
+use Rattle.std.specs.Prelude.{slice_get, slice_set, nat_lt, Ok, Err}
+use Rattle.std.specs.FinMap.{get, insert, remove}
+use Rattle.std.proofs.Math.Bool.{or_comm}
+use Rattle.std.proofs.lemmas.Bool.{eqb-true, eq-eqb, ne_eqb}
 use Rattle.std.proofs.lemmas.List.{length-set}
 use Rattle.std.proofs.lemmas.Option.{slice_get_within}
 use Rattle.blocking_core.specs.Growth.{Growth}
-use Rattle.blocking_core.specs.Jobs.{Job, Jobs, JobNumber, is_parked, is_running, is_running_job, is_parked_job, running, if_at, job_of, is_running_as, changed, amend, value_at, woken, cancelled, valued, new_job}
+use Rattle.blocking_core.specs.Jobs.{Job, Jobs, JobNumber, is_running, is_running_job, running, if_at, is_running_as, new_job}
 use Rattle.blocking_core.specs.PoolAnswers.{must_stop}
-use Rattle.blocking_core.specs.Slots.{Content, Empty, Full, GivenUp, Abandoned}
 use Rattle.blocking_core.specs.declared.job.Action.{Action}
 use Rattle.blocking_core.specs.declared.job.Action.TheVariants as action
 use Rattle.blocking_core.specs.declared.job.Answer.TheVariants as answer
@@ -19,501 +17,45 @@ use Rattle.blocking_core.specs.declared.pool.answer.Refusal.TheVariants.{Memory,
 use Rattle.blocking_core.specs.declared.pool.answer.Woke.{Woke}
 use Rattle.blocking_core.specs.declared.pool.answer.Woke.TheVariants.{Entered, Marked, Nothing}
 use Rattle.blocking_core.specs.declared.pool.standing.Standing.{Standing}
-use Rattle.blocking_core.specs.declared.pool.standing.Standing.TheVariants.{Queued, Running, Parked, Done, Dropped}
+use Rattle.blocking_core.specs.declared.pool.standing.Standing.TheVariants.{Queued}
 use Rattle.blocking_core.specs.declared.pool.token.WorkerPass.{WorkerPass}
 use Rattle.blocking_core.specs.Cores.{call_after}
-use Rattle.blocking_laws.specs.Seen.{events, acts_of, among, is_of_job}
+use Rattle.blocking_laws.specs.Seen.{events, acts_of, among}
 use Rattle.blocking_laws.specs.Jobs.{tasks, holder, is_holder, standing, cancels, is_woken, is_cancelled, is_marked, has_ended}
 use Rattle.blocking_laws.specs.Growth.{IsMarked}
 use Rattle.blocking_laws.specs.Queue.{queue, running as running_jobs}
-use Rattle.blocking_laws.specs.Steps.{is_there, IsPolled}
-use Rattle.blocking_laws.specs.Turns.{Turn, GoesOn, MustGiveUp, HasGivenUp, turn, hand, TurnLaw, HoldsOne, is_giving_up, FitsTurn}
-use Rattle.blocking_world.specs.Worlds.{Worlded, CallPool, new_call, duty_at, duty_of, answered, finished, given_up, woke_at, woke, hand_at, with_hand, has_let_go, may_be, left, poll_in, poll_at, poll_of, polled_in, polled_at, new_owner, owner_in, owner_at, with_owner}
-use Rattle.blocking_world.specs.Crews.{NoneParked, Accepts, AddsTo, TakesFront, no_growth, mark_value, after_wake, after_cancel}
+use Rattle.blocking_laws.specs.Steps.{IsPolled}
+use Rattle.blocking_laws.specs.Turns.{Turn, HasGivenUp, turn, hand, TurnLaw, HoldsOne, is_giving_up, FitsTurn}
+use Rattle.blocking_world.specs.Worlds.{Worlded, CallPool, new_call, duty_at, duty_of, answered, finished, given_up, woke_at, woke, hand_at, has_let_go, may_be, poll_of, new_owner, owner_at, with_owner}
+use Rattle.blocking_world.specs.Crews.{Accepts, AddsTo, TakesFront, no_growth, after_wake, after_cancel}
 use Rattle.blocking_world.specs.Machine.{free_hands, seen, next_start, called, pool_called, wait_act, after_wait, with_held}
-use Rattle.blocking_world.specs.Moves.{Move, Idles, Begins, Calls, Arrives, TakesJob, TakesNone, IsAnswered, Finishes, GivesUp, CallsWaker, EndsTurn, HasWaited, SetsLimit, Sweeps, IsWoken, IsStruck, May, moment_of, after, wakes_as, cancels_as, finish_wakes, giving_up_wakes, wait_step}
-use Rattle.blocking_world.specs.Ties.{Tied, Numbered, FiledAs, ValueAs, Handed, HandAs, HeldAs, ActedAs, turn_of, let_go_in, holder_of, is_queued_as, is_running_as as runs_as}
+use Rattle.blocking_world.specs.Moves.{Move, Begins, Calls, Arrives, TakesJob, TakesNone, IsAnswered, Finishes, GivesUp, CallsWaker, EndsTurn, HasWaited, IsWoken, IsStruck, May, moment_of, after, wakes_as, cancels_as, finish_wakes, giving_up_wakes, first_stage, wait_step}
+use Rattle.blocking_world.specs.Ties.{Tied, Numbered, FiledAs, ValueAs, Handed, HeldAs, ActedAs, RanAs, turn_of, let_go_in, is_queued_as, is_running_as as runs_as}
 use Rattle.blocking_world.specs.declared.call.CallJob.{CallJob}
 use Rattle.blocking_laws.specs.declared.event.Act.{Act}
-use Rattle.blocking_laws.specs.declared.event.Act.TheVariants.{Accepted, Refused, JobWoken, JobCancelled, Waits, TaskGot, TaskGotNone, Took, TookDropped, Answered, Finished, GaveUp, HolderWoken}
+use Rattle.blocking_laws.specs.declared.event.Act.TheVariants.{Accepted, Refused, JobWoken, JobCancelled, Waits, TaskGot, TaskGotNone, Answered, Finished, GaveUp, HolderWoken}
 use Rattle.blocking_laws.specs.declared.event.Event.{Event}
 use Rattle.blocking_laws.specs.declared.event.Moment.{Moment}
-use Rattle.blocking_laws.specs.declared.event.Party.{Party}
 use Rattle.blocking_laws.specs.declared.event.Party.TheVariants.{Task, Worker, Pool}
 use Rattle.blocking_world.specs.declared.hand.Duty.TheVariants as duty
-use Rattle.blocking_world.specs.declared.hand.Hand.{Hand}
-use Rattle.blocking_world.specs.declared.hand.Hand.TheVariants.{Out, Free, Holds}
+use Rattle.blocking_world.specs.declared.hand.Hand.TheVariants.{Free, Holds}
 use Rattle.blocking_world.specs.declared.hand.Held.{Held}
 use Rattle.blocking_world.specs.declared.hand.Stage.{Stage}
 use Rattle.blocking_world.specs.declared.hand.Stage.TheVariants as stage
 use Rattle.blocking_laws.specs.declared.step.Answer.TheVariants.{Number}
 use Rattle.blocking_laws.specs.declared.step.Step.{Step}
-use Rattle.blocking_laws.specs.declared.step.Step.TheVariants.{Spawn, OfTask, Take, Job as OwnStep, Io, Stray, Strike}
+use Rattle.blocking_laws.specs.declared.step.Step.TheVariants.{Spawn, OfTask, Job as OwnStep, Io, Stray, Strike}
 use Rattle.blocking_laws.specs.declared.step.TaskCall.{TaskCall}
 use Rattle.blocking_laws.specs.declared.step.TaskCall.TheVariants.{Poll, Cancel, Detach, Drop}
 use Rattle.blocking_world.specs.declared.task.Owner.{Owner}
-use Rattle.blocking_world.specs.declared.task.TaskStage.{TaskStage}
-use Rattle.blocking_world.specs.declared.task.TaskStage.TheVariants as task
-use Rattle.blocking_world.proofs.Lookups.{same_number}
-use Rattle.blocking_world.proofs.Hands.{other_number, not_same, itself, got_same, got_before, IsAt, at_held, at_free, hand_from_place, hand_set, hand_pushed, hand_next, free_set, free_pushed}
-
--- ---- the pool's jobs
-
-eq_by_nat : (x y : ℕ) → eq_by_cmp nat_cmp x y ≡ (x == y)
-eq_by_nat x y = grind (arith)
-
-get_inserted : (jobs : Jobs CallJob) (k q : ℕ) (job : Job CallJob) (b : Bool) → (q == k) ≡ b → get (insert jobs k job) q ≡ cond b (Some job) (get jobs q)
-get_inserted jobs k q job b e = get-insert nat_cmp_total jobs k job q ∙ ap (λ c. cond c (Some job) (get jobs q)) (eq_by_nat q k ∙ e)
-
-get_removed : (jobs : Jobs CallJob) (k q : ℕ) (b : Bool) → (q == k) ≡ b → get (remove jobs k) q ≡ cond b None (get jobs q)
-get_removed jobs k q b e = get-remove nat_cmp_total jobs k q ∙ ap (λ c. cond c None (get jobs q)) (eq_by_nat q k ∙ e)
-
-flipped : (m n : ℕ) → (m == n) ≡ false → (n == m) ≡ false
-flipped m n e = grind (arith, nat_tests)
-
-unparked_by : (b : Bool) (job : Job CallJob) (old : Option (Job CallJob)) → is_parked job.standing ≡ false → is_parked_job old ≡ false → is_parked_job (cond b (Some job) old) ≡ false
-unparked_by true job old e f = e
-unparked_by false job old e f = f
-
-insert_unparked : (jobs : Jobs CallJob) (k : ℕ) (job : Job CallJob) → is_parked job.standing ≡ false → NoneParked jobs → NoneParked (insert jobs k job)
-insert_unparked jobs k job e none s = ap is_parked_job (get_inserted jobs k s job (s == k) refl) ∙ unparked_by (s == k) job (get jobs s) e (none s)
-
-gone_by : (b : Bool) (old : Option (Job CallJob)) → is_parked_job old ≡ false → is_parked_job (cond b None old) ≡ false
-gone_by true old e = refl
-gone_by false old e = e
-
-remove_unparked : (jobs : Jobs CallJob) (k : ℕ) → NoneParked jobs → NoneParked (remove jobs k)
-remove_unparked jobs k none s = ap is_parked_job (get_removed jobs k s (s == k) refl) ∙ gone_by (s == k) (get jobs s) (none s)
-
-runs_same : (jobs new : Jobs CallJob) (number : JobNumber) → get new number.serial ≡ get jobs number.serial → is_running_as new number ≡ is_running_as jobs number
-runs_same jobs new number e = ap (λ (o : Option (Job CallJob)). is_running_job (if_at number.place o)) e
-
-insert_runs : (jobs : Jobs CallJob) (k : ℕ) (job : Job CallJob) (number : JobNumber) → (k == number.serial) ≡ false → is_running_as (insert jobs k job) number ≡ is_running_as jobs number
-insert_runs jobs k job number e = runs_same jobs (insert jobs k job) number (get_inserted jobs k number.serial job false (flipped k number.serial e))
-
-remove_runs : (jobs : Jobs CallJob) (k : ℕ) (number : JobNumber) → (k == number.serial) ≡ false → is_running_as (remove jobs k) number ≡ is_running_as jobs number
-remove_runs jobs k number e = runs_same jobs (remove jobs k) number (get_removed jobs k number.serial false (flipped k number.serial e))
-
--- the same jobs run, and the same are parked
-record Alike (jobs new : Jobs CallJob) : Type 0 where
-  pub runs_alike : (number : JobNumber) → is_running_as new number ≡ is_running_as jobs number
-  pub parked_alike : (s : ℕ) → is_parked_job (get new s) ≡ is_parked_job (get jobs s)
-
-if_alike : (b : Bool) (job new : Job CallJob) → new.standing ≡ job.standing → is_running_job (if b then Some new else None) ≡ is_running_job (if b then Some job else None)
-if_alike true job new e = ap is_running e
-if_alike false job new e = refl
-
-place_alike : (p : ℕ) (job new : Job CallJob) → new.standing ≡ job.standing → new.place ≡ job.place → is_running_job (if_at p (Some new)) ≡ is_running_job (if_at p (Some job))
-place_alike p job new st pl = ap (λ (n : ℕ). is_running_job (if n == p then Some new else None)) pl ∙ if_alike (job.place == p) job new st
-
-runs_by : (b : Bool) (p : ℕ) (job new : Job CallJob) (o : Option (Job CallJob)) → new.standing ≡ job.standing → new.place ≡ job.place → (b ≡ true → o ≡ Some job)
-    → is_running_job (if_at p (cond b (Some new) o)) ≡ is_running_job (if_at p o)
-runs_by true p job new o st pl here = place_alike p job new st pl ∙ ap (λ (z : Option (Job CallJob)). is_running_job (if_at p z)) (sym (here refl))
-runs_by false p job new o st pl here = refl
-
-parked_by : (b : Bool) (job new : Job CallJob) (o : Option (Job CallJob)) → new.standing ≡ job.standing → (b ≡ true → o ≡ Some job) → is_parked_job (cond b (Some new) o) ≡ is_parked_job o
-parked_by true job new o st here = ap is_parked st ∙ ap is_parked_job (sym (here refl))
-parked_by false job new o st here = refl
-
-changed_alike : (jobs : Jobs CallJob) (x : ℕ) (change : Job CallJob → Job CallJob) (o : Option (Job CallJob)) → get jobs x ≡ o
-    → ((j : Job CallJob) → (change j).standing ≡ j.standing) → ((j : Job CallJob) → (change j).place ≡ j.place) → Alike jobs (changed jobs x change o)
-changed_alike jobs x change None e st pl = record { runs_alike = λ number. refl; parked_alike = λ s. refl }
-changed_alike jobs x change (Some job) e st pl = record {
-  runs_alike = λ number.
-      ap (λ (z : Option (Job CallJob)). is_running_job (if_at number.place z)) (get_inserted jobs x number.serial (change job) (number.serial == x) refl)
-      ∙ runs_by (number.serial == x) number.place job (change job) (get jobs number.serial) (st job) (pl job) (λ b. ap (get jobs) (same_number number.serial x b) ∙ e);
-  parked_alike = λ s.
-      ap is_parked_job (get_inserted jobs x s (change job) (s == x) refl)
-      ∙ parked_by (s == x) job (change job) (get jobs s) (st job) (λ b. ap (get jobs) (same_number s x b) ∙ e);
-}
-
-amend_alike : (jobs : Jobs CallJob) (x : ℕ) (change : Job CallJob → Job CallJob)
-    → ((j : Job CallJob) → (change j).standing ≡ j.standing) → ((j : Job CallJob) → (change j).place ≡ j.place) → Alike jobs (amend jobs x change)
-amend_alike jobs x change st pl = changed_alike jobs x change (get jobs x) refl st pl
-
-same_alike : (jobs : Jobs CallJob) → Alike jobs jobs
-same_alike jobs = record { runs_alike = λ number. refl; parked_alike = λ s. refl }
-
--- a pool with the same workers, whose jobs run and are parked as before
-record Kept (pool new : CallPool) : Type 0 where
-  pub alike : Alike pool.jobs new.jobs
-  pub counts_same : new.counts ≡ pool.counts
-
-mark_kept : (pool : CallPool) (number : JobNumber) (o : Option CallJob) → Kept pool (mark_value pool number o)
-mark_kept pool number None = record { alike = same_alike pool.jobs; counts_same = refl }
-mark_kept pool number (Some value) =
-    record { alike = amend_alike pool.jobs number.serial (valued (record value { is_marked = true })) (λ j. refl) (λ j. refl); counts_same = refl }
-
-wake_kept : (how : Woke) (pool : CallPool) (number : JobNumber) → Kept pool (after_wake how pool number)
-wake_kept Marked pool number = record { alike = amend_alike pool.jobs number.serial woken (λ j. refl) (λ j. refl); counts_same = refl }
-wake_kept Entered pool number = record { alike = same_alike pool.jobs; counts_same = refl }
-wake_kept Nothing pool number = record { alike = same_alike pool.jobs; counts_same = refl }
-
-cancel_kept : (how : Woke) (pool : CallPool) (number : JobNumber) → Kept pool (after_cancel how pool number)
-cancel_kept Marked pool number = record { alike = amend_alike pool.jobs number.serial cancelled (λ j. refl) (λ j. refl); counts_same = refl }
-cancel_kept Entered pool number = record { alike = same_alike pool.jobs; counts_same = refl }
-cancel_kept Nothing pool number = record { alike = same_alike pool.jobs; counts_same = refl }
-
-called_kept : (call : TaskCall) (pool : CallPool) (number : JobNumber) → Kept pool (pool_called call pool number)
-called_kept Poll pool number = record { alike = same_alike pool.jobs; counts_same = refl }
-called_kept Detach pool number = record { alike = same_alike pool.jobs; counts_same = refl }
-called_kept Cancel pool number = mark_kept pool number (value_at (job_of pool.jobs number))
-called_kept Drop pool number = mark_kept pool number (value_at (job_of pool.jobs number))
-
--- ---- tasks that let their calls go
-
--- a changed task has let go as it had before
-let_go_same : (owners : List Owner) (k : ℕ) (new : Owner) → has_let_go new.stage ≡ has_let_go (owner_in (slice_get owners k)).stage → (n : ℕ) → let_go_in (slice_get (slice_set owners k new) n) ≡ let_go_in (slice_get owners n)
-let_go_same [] k new e n = refl
-let_go_same (o ∷ owners) zero new e zero = e
-let_go_same (o ∷ owners) zero new e (suc n) = refl
-let_go_same (o ∷ owners) (suc k) new e zero = refl
-let_go_same (o ∷ owners) (suc k) new e (suc n) = let_go_same owners k new e n
-
--- what was let go stays so
-let_go_stays : (owners : List Owner) (k : ℕ) (old new : Owner) → slice_get owners k ≡ Some old → (has_let_go old.stage ≡ true → has_let_go new.stage ≡ true)
-    → (n : ℕ) → let_go_in (slice_get owners n) ≡ true → let_go_in (slice_get (slice_set owners k new) n) ≡ true
-let_go_stays [] k old new e stays n is = is
-let_go_stays (o ∷ owners) zero old new e stays zero is = let same : o ≡ old = cc in stays (ap (λ (x : Owner). has_let_go x.stage) (sym same) ∙ is)
-let_go_stays (o ∷ owners) zero old new e stays (suc n) is = is
-let_go_stays (o ∷ owners) (suc k) old new e stays zero is = is
-let_go_stays (o ∷ owners) (suc k) old new e stays (suc n) is = let_go_stays owners k old new e stays n is
-
-let_go_within : (owners : List Owner) (n : ℕ) → let_go_in (slice_get owners n) ≡ true → n < length owners
-let_go_within [] n is = absurd (cc)
-let_go_within (o ∷ owners) zero is = omega arith
-let_go_within (o ∷ owners) (suc n) is = let below = let_go_within owners n is in omega (arith, below)
-
-let_go_pushed : (owners : List Owner) (new : Owner) (n : ℕ) → let_go_in (slice_get owners n) ≡ true → let_go_in (slice_get (owners ++ new ∷ []) n) ≡ true
-let_go_pushed owners new n is = ap let_go_in (got_before owners new n (let_go_within owners n is)) ∙ is
-
--- a task that answers so is there
-let_go_owner : (o : Option Owner) → has_let_go (owner_in o).stage ≡ true → let_go_in o ≡ true
-let_go_owner None is = is
-let_go_owner (Some owner) is = is
-
-left_stays : (st : TaskStage) → has_let_go st ≡ true → has_let_go (left st) ≡ true
-left_stays task.Held is = is
-left_stays task.Cancelled is = refl
-left_stays task.Gone is = is
-left_stays task.LetGo is = refl
-
-polled_in_stays : (content : Content ℕ) (owner : Owner) → has_let_go owner.stage ≡ true → has_let_go (polled_in content owner).stage ≡ true
-polled_in_stays Empty owner is = is
-polled_in_stays (Full number) owner is = left_stays owner.stage is
-polled_in_stays GivenUp owner is = left_stays owner.stage is
-polled_in_stays (Abandoned true) owner is = left_stays owner.stage is
-polled_in_stays (Abandoned false) owner is = is
-
-polled_at_stays : (st : TaskStage) (found : Option ℕ) (content : Content ℕ) (owner : Owner) → has_let_go owner.stage ≡ true → has_let_go (polled_at st found content owner).stage ≡ true
-polled_at_stays task.Cancelled (Some number) content owner is = refl
-polled_at_stays task.Cancelled None content owner is = polled_in_stays content owner is
-polled_at_stays task.Held found content owner is = polled_in_stays content owner is
-polled_at_stays task.Gone found content owner is = polled_in_stays content owner is
-polled_at_stays task.LetGo found content owner is = polled_in_stays content owner is
-
--- a task that is gone isn't detached, nor is a cancelled one
-detaches_held : (st : TaskStage) → may_be st Detach ≡ true → has_let_go st ≡ true → ⊥
-detaches_held task.Held may is = cc
-detaches_held task.Cancelled may is = cc
-detaches_held task.Gone may is = cc
-detaches_held task.LetGo may is = cc
-
-called_stays : (call : TaskCall) (owner : Owner) → may_be owner.stage call ≡ true → has_let_go owner.stage ≡ true → has_let_go (called call owner).stage ≡ true
-called_stays Poll owner may is = polled_at_stays owner.stage owner.found owner.slot.content owner is
-called_stays Cancel owner may is = refl
-called_stays Detach owner may is = absurd (detaches_held owner.stage may is)
-called_stays Drop owner may is = refl
-
-polled_by_content : (content : Content ℕ) → IsPolled (poll_in content)
-polled_by_content Empty = tt
-polled_by_content (Full number) = tt
-polled_by_content GivenUp = tt
-polled_by_content (Abandoned true) = tt
-polled_by_content (Abandoned false) = tt
-
--- what a poll answers is an answer to a poll
-polled_so : (st : TaskStage) (found : Option ℕ) (content : Content ℕ) → IsPolled (poll_at st found content)
-polled_so task.Cancelled (Some number) content = tt
-polled_so task.Cancelled None content = polled_by_content content
-polled_so task.Held found content = polled_by_content content
-polled_so task.Gone found content = polled_by_content content
-polled_so task.LetGo found content = polled_by_content content
-
--- ---- all that is known of the hands, over plain values
-
--- a job in a hand
-record HeldHere (owners : List Owner) (jobs : Jobs CallJob) (turns : ℕ → Turn) (acts : ℕ → List Act) (held : Held) : Type 0 where
-  pub as_is : HeldAs held (turns held.turn.serial) (acts held.turn.serial) (let_go_in (slice_get owners (held.turn.serial - 1)))
-  pub runs_is : is_running_as jobs held.turn ≡ true
-  pub positive_is : 0 < held.turn.serial
-  pub owned_is : held.turn.serial - 1 < length owners
-
--- no job is in two hands
-abbrev Apart : List Hand → Type 0
-Apart row = (u v : ℕ) (one other : Held) → hand_at row u ≡ Holds one → hand_at row v ≡ Holds other → one.turn.serial ≡ other.turn.serial → u ≡ v
-
-record Known (row : List Hand) (owners : List Owner) (jobs : Jobs CallJob) (idles arrivings : ℕ) (there : ℕ → Bool) (job : ℕ → Option ℕ) (turns : ℕ → Turn) (acts : ℕ → List Act) (let_go : ℕ → Bool) : Type 0 where
-  pub hands_are : (v : ℕ) → HandAs (hand_at row v) (there v) (job v)
-  pub held_are : (v : ℕ) (held : Held) → hand_at row v ≡ Holds held → HeldHere owners jobs turns acts held
-  pub apart_are : Apart row
-  pub parked_are : NoneParked jobs
-  pub idle_are : idles ≡ arrivings + free_hands row
-  pub marks_are : (s : ℕ) → let_go s ≡ true → let_go_in (slice_get owners (s - 1)) ≡ true
-
-abbrev KnownOf : Worlded → List Moment → Type 0
-KnownOf w past =
-    Known w.hands w.tasks w.pool.jobs w.pool.counts.idle w.pool.counts.arriving
-    (λ v. is_there past v) (λ v. hand past v) (λ s. turn past s) (λ s. acts_of s (events past)) (λ s. is_marked past s || is_cancelled past s)
-
-known : (w : Worlded) (past : List Moment) → Handed w past → KnownOf w past
-known w past h = record {
-  hands_are = h.each;
-  held_are = λ v held e. (let r = h.ready.held (v - 1) held (at_held w.hands v held e).got in record { as_is = h.held v held e; runs_is = r.runs; positive_is = r.positive; owned_is = r.owned });
-  apart_are = λ u v one other e f same.
-      (let at = at_held w.hands u one e in let bt = at_held w.hands v other f in
-      let places = h.ready.apart (u - 1) (v - 1) one other at.got bt.got same in let p = at.positive in let q = bt.positive in omega (arith, places, p, q));
-  parked_are = h.ready.parked;
-  idle_are = h.ready.idle;
-  marks_are = h.marks;
-}
-
-handed : (w : Worlded) (past : List Moment) → KnownOf w past → Handed w past
-handed w past k = record {
-  each = k.hands_are;
-  held = λ v held e. (k.held_are v held e).as_is;
-  ready = record {
-    parked = k.parked_are;
-    idle = k.idle_are;
-    held = λ n held e. (let r = k.held_are (n + 1) held (hand_from_place w.hands n (Holds held) e) in record { runs = r.runs_is; positive = r.positive_is; owned = r.owned_is });
-    apart = λ m n one other e f same.
-        (let places = k.apart_are (m + 1) (n + 1) one other (hand_from_place w.hands m (Holds one) e) (hand_from_place w.hands n (Holds other) f) same in omega (arith, places));
-  };
-  marks = k.marks_are;
-}
-
--- ---- one job in a hand, after a change elsewhere
-
-held_moves : (owners new_owners : List Owner) (jobs new_jobs : Jobs CallJob) (turns new_turns : ℕ → Turn) (acts new_acts : ℕ → List Act) (held : Held) → HeldHere owners jobs turns acts held
-    → new_turns held.turn.serial ≡ turns held.turn.serial → new_acts held.turn.serial ≡ acts held.turn.serial
-    → (let_go_in (slice_get owners (held.turn.serial - 1)) ≡ true → let_go_in (slice_get new_owners (held.turn.serial - 1)) ≡ true)
-    → is_running_as new_jobs held.turn ≡ is_running_as jobs held.turn → length owners ≤ length new_owners → HeldHere new_owners new_jobs new_turns new_acts held
-held_moves owners new_owners jobs new_jobs turns new_turns acts new_acts held h t a g r le = record {
-  as_is = record {
-    turn_is = t ∙ h.as_is.turn_is;
-    acts_are = subst (λ (x : List Act). ActedAs held.stage held.job.core held.job.number x) (sym a) h.as_is.acts_are;
-    wanted = λ m. g (h.as_is.wanted m);
-  };
-  runs_is = r ∙ h.runs_is;
-  positive_is = h.positive_is;
-  owned_is = (let o = h.owned_is in omega (arith, o, le));
-}
-
--- ---- changes of the pool and of the tasks alone
-
-parts_known : (row : List Hand) (owners new_owners : List Owner) (jobs new_jobs : Jobs CallJob) (idles new_idles arrivings new_arrivings : ℕ) (there : ℕ → Bool) (job : ℕ → Option ℕ) (turns : ℕ → Turn) (acts : ℕ → List Act) (let_go new_let_go : ℕ → Bool)
-    → Known row owners jobs idles arrivings there job turns acts let_go
-    → ((held : Held) → 0 < held.turn.serial → held.turn.serial - 1 < length owners → is_running_as new_jobs held.turn ≡ is_running_as jobs held.turn)
-    → ((n : ℕ) → let_go_in (slice_get owners n) ≡ true → let_go_in (slice_get new_owners n) ≡ true) → length owners ≤ length new_owners
-    → NoneParked new_jobs → new_idles ≡ new_arrivings + free_hands row → ((s : ℕ) → new_let_go s ≡ true → let_go_in (slice_get new_owners (s - 1)) ≡ true)
-    → Known row new_owners new_jobs new_idles new_arrivings there job turns acts new_let_go
-parts_known row owners new_owners jobs new_jobs idles new_idles arrivings new_arrivings there job turns acts let_go new_let_go k runs stays le none idle marks = record {
-  hands_are = k.hands_are;
-  held_are = λ v held e.
-      (let h = k.held_are v held e in
-      held_moves owners new_owners jobs new_jobs turns turns acts acts held h refl refl (stays (held.turn.serial - 1)) (runs held h.positive_is h.owned_is) le);
-  apart_are = k.apart_are;
-  parked_are = none;
-  idle_are = idle;
-  marks_are = marks;
-}
-
-kept_idle : (pool new : CallPool) (row : List Hand) → new.counts ≡ pool.counts → pool.counts.idle ≡ pool.counts.arriving + free_hands row → new.counts.idle ≡ new.counts.arriving + free_hands row
-kept_idle pool new row e idle = ap (λ (c : _). c.idle) e ∙ idle ∙ ap (λ (c : _). c.arriving + free_hands row) (sym e)
-
--- a pool that is kept, and the same or other tasks
-kept_known : (row : List Hand) (owners new_owners : List Owner) (pool new : CallPool) (there : ℕ → Bool) (job : ℕ → Option ℕ) (turns : ℕ → Turn) (acts : ℕ → List Act) (let_go new_let_go : ℕ → Bool)
-    → Known row owners pool.jobs pool.counts.idle pool.counts.arriving there job turns acts let_go → Kept pool new
-    → ((n : ℕ) → let_go_in (slice_get owners n) ≡ true → let_go_in (slice_get new_owners n) ≡ true) → length owners ≤ length new_owners
-    → ((s : ℕ) → new_let_go s ≡ true → let_go_in (slice_get new_owners (s - 1)) ≡ true)
-    → Known row new_owners new.jobs new.counts.idle new.counts.arriving there job turns acts new_let_go
-kept_known row owners new_owners pool new there job turns acts let_go new_let_go k kept stays le marks =
-    parts_known row owners new_owners pool.jobs new.jobs pool.counts.idle new.counts.idle pool.counts.arriving new.counts.arriving there job turns acts let_go new_let_go k
-    (λ held p o. kept.alike.runs_alike held.turn) stays le (λ s. kept.alike.parked_alike s ∙ k.parked_are s) (kept_idle pool new row kept.counts_same k.idle_are) marks
-
--- ---- the hand of one worker changes
-
-if_case : (b : Bool) (P : Hand → Type 0) (h g : Hand) → (b ≡ true → P h) → (b ≡ false → P g) → P (if b then h else g)
-if_case true P h g same other = same refl
-if_case false P h g same other = other refl
-
-at_set : (row : List Hand) (v u : ℕ) (old h : Hand) → IsAt row v old → (P : Hand → Type 0) → ((v == u) ≡ true → P h) → ((v == u) ≡ false → P (hand_at row u)) → P (hand_at (with_hand row v h) u)
-at_set row v u old h at P same other = subst P (sym (hand_set row v u old h at)) (if_case (v == u) P h (hand_at row u) same other)
-
--- the job of a hand that holds one isn't in another
-apart_set : (row : List Hand) (v : ℕ) (old h : Hand) → IsAt row v old → Apart row
-    → ((held : Held) → h ≡ Holds held → (u : ℕ) (other : Held) → (v == u) ≡ false → hand_at row u ≡ Holds other → held.turn.serial ≡ other.turn.serial → ⊥) → Apart (with_hand row v h)
-apart_set row v old h at apart fresh a b one other =
-    at_set row v a old h at (λ g. g ≡ Holds one → hand_at (with_hand row v h) b ≡ Holds other → one.turn.serial ≡ other.turn.serial → a ≡ b)
-    (λ e is. at_set row v b old h at (λ g. g ≡ Holds other → one.turn.serial ≡ other.turn.serial → a ≡ b)
-    (λ f js s. sym (same_number v a e) ∙ same_number v b f)
-    (λ f js s. absurd (fresh one is b other f js s)))
-    (λ e is. at_set row v b old h at (λ g. g ≡ Holds other → one.turn.serial ≡ other.turn.serial → a ≡ b)
-    (λ f js s. absurd (fresh other js a one e is (sym s)))
-    (λ f js s. apart a b one other is js s))
-
-hand_known : (row : List Hand) (owners new_owners : List Owner) (jobs new_jobs : Jobs CallJob) (idles new_idles arrivings new_arrivings : ℕ) (there new_there : ℕ → Bool) (job new_job : ℕ → Option ℕ) (turns new_turns : ℕ → Turn) (acts new_acts : ℕ → List Act) (let_go new_let_go : ℕ → Bool)
-    (v : ℕ) (old h : Hand)
-    → Known row owners jobs idles arrivings there job turns acts let_go → IsAt row v old
-    → HandAs h (new_there v) (new_job v)
-    → ((u : ℕ) → (v == u) ≡ false → HandAs (hand_at row u) (there u) (job u) → HandAs (hand_at row u) (new_there u) (new_job u))
-    → ((held : Held) → h ≡ Holds held → HeldHere new_owners new_jobs new_turns new_acts held)
-    → ((u : ℕ) (held : Held) → (v == u) ≡ false → hand_at row u ≡ Holds held → HeldHere new_owners new_jobs new_turns new_acts held)
-    → ((held : Held) → h ≡ Holds held → (u : ℕ) (other : Held) → (v == u) ≡ false → hand_at row u ≡ Holds other → held.turn.serial ≡ other.turn.serial → ⊥)
-    → NoneParked new_jobs → new_idles ≡ new_arrivings + free_hands (with_hand row v h)
-    → ((s : ℕ) → new_let_go s ≡ true → let_go_in (slice_get new_owners (s - 1)) ≡ true)
-    → Known (with_hand row v h) new_owners new_jobs new_idles new_arrivings new_there new_job new_turns new_acts new_let_go
-hand_known row owners new_owners jobs new_jobs idles new_idles arrivings new_arrivings there new_there job new_job turns new_turns acts new_acts let_go new_let_go v old h k at here others new_held old_held fresh none idle marks = record {
-  hands_are = λ u. at_set row v u old h at (λ g. HandAs g (new_there u) (new_job u)) (λ e. subst (λ n. HandAs h (new_there n) (new_job n)) (same_number v u e) here) (λ e. others u e (k.hands_are u));
-  held_are = λ u held. at_set row v u old h at (λ g. g ≡ Holds held → HeldHere new_owners new_jobs new_turns new_acts held) (λ e is. new_held held is) (λ e is. old_held u held e is);
-  apart_are = apart_set row v old h at k.apart_are fresh;
-  parked_are = none;
-  idle_are = idle;
-  marks_are = marks;
-}
-
--- a job in a hand acts itself: its own turn and acts may change, and the slot of its task
-own_known : (row : List Hand) (owners new_owners : List Owner) (jobs : Jobs CallJob) (idles arrivings : ℕ) (there : ℕ → Bool) (job : ℕ → Option ℕ) (turns new_turns : ℕ → Turn) (acts new_acts : ℕ → List Act) (let_go : ℕ → Bool) (v : ℕ) (old new : Held)
-    → Known row owners jobs idles arrivings there job turns acts let_go → hand_at row v ≡ Holds old → new.turn ≡ old.turn
-    → HeldAs new (new_turns old.turn.serial) (new_acts old.turn.serial) (let_go_in (slice_get owners (old.turn.serial - 1)))
-    → ((x : ℕ) → (old.turn.serial == x) ≡ false → new_turns x ≡ turns x)
-    → ((x : ℕ) → (old.turn.serial == x) ≡ false → new_acts x ≡ acts x)
-    → ((n : ℕ) → let_go_in (slice_get new_owners n) ≡ let_go_in (slice_get owners n)) → length new_owners ≡ length owners
-    → Known (with_hand row v (Holds new)) new_owners jobs idles arrivings there job new_turns new_acts let_go
-own_known row owners new_owners jobs idles arrivings there job turns new_turns acts new_acts let_go v old new k e same shape other_turns other_acts gone le =
-    let at = at_held row v old e in
-    let before = k.held_are v old e in
-    let mine : HandAs (Holds old) (there v) (job v) = subst (λ h. HandAs h (there v) (job v)) e (k.hands_are v) in
-    let owned : old.turn.serial - 1 < length new_owners = (let o = before.owned_is in omega (arith, o, le)) in
-    let here : HeldHere new_owners jobs new_turns new_acts new = record {
-      as_is = subst (λ (n : JobNumber). HeldAs new (new_turns n.serial) (new_acts n.serial) (let_go_in (slice_get new_owners (n.serial - 1)))) (sym same)
-          (subst (λ b. HeldAs new (new_turns old.turn.serial) (new_acts old.turn.serial) b) (sym (gone (old.turn.serial - 1))) shape);
-      runs_is = ap (is_running_as jobs) same ∙ before.runs_is;
-      positive_is = subst (λ (n : JobNumber). 0 < n.serial) (sym same) before.positive_is;
-      owned_is = subst (λ (n : JobNumber). n.serial - 1 < length new_owners) (sym same) owned;
-    } in
-    let free = free_set row (v - 1) (Holds old) (Holds new) at.got in
-    let idle = k.idle_are in
-    hand_known row owners new_owners jobs jobs idles idles arrivings arrivings there there job job turns new_turns acts new_acts let_go let_go v (Holds old) (Holds new) k at
-    (mine.0, mine.1 ∙ ap (λ (n : JobNumber). Some n.serial) (sym same))
-    (λ u d h. h)
-    (λ held is. (let alike : new ≡ held = cc in subst (λ x. HeldHere new_owners jobs new_turns new_acts x) alike here))
-    (λ u held d is.
-    (let differs = other_number old.turn.serial held.turn.serial (λ s. not_same v u d (k.apart_are v u old held e is s)) in
-    held_moves owners new_owners jobs jobs turns new_turns acts new_acts held (k.held_are u held is) (other_turns held.turn.serial differs) (other_acts held.turn.serial differs)
-    (λ g. gone (held.turn.serial - 1) ∙ g) refl (omega (arith, le))))
-    (λ held is u other d js s. (let alike : new ≡ held = cc in not_same v u d (k.apart_are v u old other e js (ap (λ (n : JobNumber). n.serial) (sym same) ∙ ap (λ (x : Held). x.turn.serial) alike ∙ s))))
-    k.parked_are (omega (arith, free, idle)) (λ s g. gone (s - 1) ∙ k.marks_are s g)
-
--- an idle worker takes a job, which is in no hand
-take_known : (row : List Hand) (owners : List Owner) (jobs new_jobs : Jobs CallJob) (idles arrivings started : ℕ) (there : ℕ → Bool) (job : ℕ → Option ℕ) (turns new_turns : ℕ → Turn) (acts : ℕ → List Act) (let_go : ℕ → Bool) (v : ℕ) (pass : WorkerPass) (new : Held)
-    → Known row owners jobs idles arrivings there job turns acts let_go → hand_at row v ≡ Free pass
-    → HeldHere owners new_jobs new_turns acts new
-    → ((held : Held) → is_running_as jobs held.turn ≡ true → new.turn.serial ≡ held.turn.serial → ⊥)
-    → ((x : ℕ) → (new.turn.serial == x) ≡ false → new_turns x ≡ turns x)
-    → ((number : JobNumber) → (new.turn.serial == number.serial) ≡ false → is_running_as new_jobs number ≡ is_running_as jobs number)
-    → NoneParked new_jobs
-    → Known (with_hand row v (Holds new)) owners new_jobs (idles - 1 + started) (arrivings + started) there (λ u. if v == u then Some new.turn.serial else job u) new_turns acts let_go
-take_known row owners jobs new_jobs idles arrivings started there job turns new_turns acts let_go v pass new k e here fresh other_turns other_runs none =
-    let at = at_free row v pass e in
-    let mine : HandAs (Free pass) (there v) (job v) = subst (λ h. HandAs h (there v) (job v)) e (k.hands_are v) in
-    let free = free_set row (v - 1) (Free pass) (Holds new) at.got in
-    let idle = k.idle_are in
-    hand_known row owners owners jobs new_jobs idles (idles - 1 + started) arrivings (arrivings + started) there there job (λ u. if v == u then Some new.turn.serial else job u) turns new_turns acts acts let_go let_go v (Free pass) (Holds new) k at
-    (mine.0, ap (λ b. if b then Some new.turn.serial else job v) (itself v))
-    (λ u d h. subst (λ b. HandAs (hand_at row u) (there u) (if b then Some new.turn.serial else job u)) (sym d) h)
-    (λ held is. (let alike : new ≡ held = cc in subst (λ x. HeldHere owners new_jobs new_turns acts x) alike here))
-    (λ u held d is.
-    (let h = k.held_are u held is in
-    let differs = other_number new.turn.serial held.turn.serial (fresh held h.runs_is) in
-    held_moves owners owners jobs new_jobs turns new_turns acts acts held h (other_turns held.turn.serial differs) refl (λ g. g) (other_runs held.turn differs) (omega arith)))
-    (λ held is u other d js s. (let alike : new ≡ held = cc in fresh other (k.held_are u other js).runs_is (ap (λ (x : Held). x.turn.serial) alike ∙ s)))
-    none (omega (arith, free, idle)) k.marks_are
-
--- a turn ends, and its worker is free
-end_known : (row : List Hand) (owners : List Owner) (jobs new_jobs : Jobs CallJob) (idles arrivings : ℕ) (there : ℕ → Bool) (job : ℕ → Option ℕ) (turns : ℕ → Turn) (acts : ℕ → List Act) (let_go : ℕ → Bool) (v : ℕ) (old : Held) (pass : WorkerPass)
-    → Known row owners jobs idles arrivings there job turns acts let_go → hand_at row v ≡ Holds old
-    → ((number : JobNumber) → (old.turn.serial == number.serial) ≡ false → is_running_as new_jobs number ≡ is_running_as jobs number)
-    → NoneParked new_jobs
-    → Known (with_hand row v (Free pass)) owners new_jobs (idles + 1) arrivings there (λ u. if v == u then None else job u) turns acts let_go
-end_known row owners jobs new_jobs idles arrivings there job turns acts let_go v old pass k e other_runs none =
-    let at = at_held row v old e in
-    let mine : HandAs (Holds old) (there v) (job v) = subst (λ h. HandAs h (there v) (job v)) e (k.hands_are v) in
-    let free = free_set row (v - 1) (Holds old) (Free pass) at.got in
-    let idle = k.idle_are in
-    hand_known row owners owners jobs new_jobs idles (idles + 1) arrivings arrivings there there job (λ u. if v == u then None else job u) turns turns acts acts let_go let_go v (Holds old) (Free pass) k at
-    (mine.0, ap (λ b. if b then None else job v) (itself v))
-    (λ u d h. subst (λ b. HandAs (hand_at row u) (there u) (if b then None else job u)) (sym d) h)
-    (λ held is. absurd (cc))
-    (λ u held d is.
-    (let differs = other_number old.turn.serial held.turn.serial (λ s. not_same v u d (k.apart_are v u old held e is s)) in
-    held_moves owners owners jobs new_jobs turns turns acts acts held (k.held_are u held is) refl refl (λ g. g) (other_runs held.turn differs) (omega arith)))
-    (λ held is u other d js s. cc)
-    none (omega (arith, free, idle)) k.marks_are
-
--- a worker stays idle
-idle_known : (row : List Hand) (owners : List Owner) (jobs : Jobs CallJob) (idles arrivings : ℕ) (there : ℕ → Bool) (job : ℕ → Option ℕ) (turns : ℕ → Turn) (acts : ℕ → List Act) (let_go : ℕ → Bool) (v : ℕ) (old pass : WorkerPass)
-    → Known row owners jobs idles arrivings there job turns acts let_go → hand_at row v ≡ Free old
-    → Known (with_hand row v (Free pass)) owners jobs idles arrivings there job turns acts let_go
-idle_known row owners jobs idles arrivings there job turns acts let_go v old pass k e =
-    let at = at_free row v old e in
-    let mine : HandAs (Free old) (there v) (job v) = subst (λ h. HandAs h (there v) (job v)) e (k.hands_are v) in
-    let free = free_set row (v - 1) (Free old) (Free pass) at.got in
-    let idle = k.idle_are in
-    hand_known row owners owners jobs jobs idles idles arrivings arrivings there there job job turns turns acts acts let_go let_go v (Free old) (Free pass) k at
-    mine (λ u d h. h) (λ held is. absurd (cc)) (λ u held d is. k.held_are u held is) (λ held is u other d js s. cc)
-    k.parked_are (omega (arith, free, idle)) k.marks_are
-
--- an idle worker stops
-stop_known : (row : List Hand) (owners : List Owner) (jobs : Jobs CallJob) (idles arrivings : ℕ) (there : ℕ → Bool) (job : ℕ → Option ℕ) (turns : ℕ → Turn) (acts : ℕ → List Act) (let_go : ℕ → Bool) (v : ℕ) (old : WorkerPass)
-    → Known row owners jobs idles arrivings there job turns acts let_go → hand_at row v ≡ Free old
-    → Known (with_hand row v Out) owners jobs (idles - 1) arrivings (λ u. not (v == u) && there u) job turns acts let_go
-stop_known row owners jobs idles arrivings there job turns acts let_go v old k e =
-    let at = at_free row v old e in
-    let mine : HandAs (Free old) (there v) (job v) = subst (λ h. HandAs h (there v) (job v)) e (k.hands_are v) in
-    let free = free_set row (v - 1) (Free old) Out at.got in
-    let idle = k.idle_are in
-    hand_known row owners owners jobs jobs idles (idles - 1) arrivings arrivings there (λ u. not (v == u) && there u) job job turns turns acts acts let_go let_go v (Free old) Out k at
-    (ap (λ b. not b && there v) (itself v), mine.1)
-    (λ u d h. subst (λ b. HandAs (hand_at row u) (not b && there u) (job u)) (sym d) h)
-    (λ held is. absurd (cc)) (λ u held d is. k.held_are u held is) (λ held is u other d js s. cc)
-    k.parked_are (omega (arith, free, idle)) k.marks_are
-
--- a worker arrives
-
-pushed_held : (row : List Hand) (pass : WorkerPass) (u : ℕ) (held : Held) → hand_at (row ++ Free pass ∷ []) u ≡ Holds held → hand_at row u ≡ Holds held
-pushed_held row pass u held is =
-    if_case (length row + 1 == u) (λ g. g ≡ Holds held → hand_at row u ≡ Holds held) (Free pass) (hand_at row u) (λ e js. absurd (cc)) (λ e js. js) (sym (hand_pushed row u (Free pass)) ∙ is)
-
-arrive_known : (row : List Hand) (owners : List Owner) (jobs : Jobs CallJob) (idles arrivings : ℕ) (there : ℕ → Bool) (job : ℕ → Option ℕ) (turns : ℕ → Turn) (acts : ℕ → List Act) (let_go : ℕ → Bool) (pass : WorkerPass)
-    → Known row owners jobs idles arrivings there job turns acts let_go → 0 < arrivings
-    → Known (row ++ Free pass ∷ []) owners jobs idles (arrivings - 1) (λ u. length row + 1 == u || there u) job turns acts let_go
-arrive_known row owners jobs idles arrivings there job turns acts let_go pass k some =
-    let free = free_pushed row (Free pass) in
-    let idle = k.idle_are in
-    let none : job (length row + 1) ≡ None = (let h : HandAs Out (there (length row + 1)) (job (length row + 1)) = subst (λ h. HandAs h (there (length row + 1)) (job (length row + 1))) (hand_next row) (k.hands_are (length row + 1)) in h.1) in
-    record {
-      hands_are = λ u.
-          subst (λ g. HandAs g (length row + 1 == u || there u) (job u)) (sym (hand_pushed row u (Free pass)))
-          (if_case (length row + 1 == u) (λ g. HandAs g (length row + 1 == u || there u) (job u)) (Free pass) (hand_at row u)
-          (λ e. (ap (λ b. b || there u) e, subst (λ n. job n ≡ None) (same_number (length row + 1) u e) none))
-          (λ e. subst (λ b. HandAs (hand_at row u) (b || there u) (job u)) (sym e) (k.hands_are u)));
-      held_are = λ u held is. k.held_are u held (pushed_held row pass u held is);
-      apart_are = λ u v one other is js s. k.apart_are u v one other (pushed_held row pass u one is) (pushed_held row pass v other js) s;
-      parked_are = k.parked_are;
-      idle_are = omega (arith, free, idle, some);
-      marks_are = k.marks_are;
-    }
+use Rattle.blocking_world.proofs.Cutting.{acts_more}
+use Rattle.blocking_world.proofs.Lookups.{job_put}
+use Rattle.blocking_world.proofs.Polls.{polled_so, called_stays}
+use Rattle.blocking_world.proofs.Quiet.{by_wait}
+use Rattle.blocking_world.proofs.Rows.{got_same}
+use Rattle.blocking_world.proofs.Tied.{held_within, hand_seen}
+use Rattle.blocking_world.proofs.Alike.{insert_unparked, remove_unparked, insert_runs, remove_runs, wake_kept, cancel_kept, called_kept}
+use Rattle.blocking_world.proofs.Sights.{let_go_same, let_go_stays, let_go_pushed, let_go_owner, HeldHere, Known, job_acts, was_let_go, sight, KnownOf, known, handed, parts_known, kept_known, own_known, taken, take_known, end_known, idle_known, stop_known, arrive_known}
 
 -- ---- what a job in a hand has done, after it acts
 
@@ -530,11 +72,8 @@ gave_up_as : (st : Stage) (core : Action) (n : ℕ) (wake : Bool) (acts new_acts
 gave_up_as stage.MustGiveUp core n true acts new_acts d e a = e ∙ ap (λ (x : List Act). GaveUp true ∷ x) a
 gave_up_as stage.MustGiveUp core n false acts new_acts d e a = inl (e ∙ ap (λ (x : List Act). GaveUp false ∷ x) a)
 gave_up_as stage.Runs action.Call n wake acts new_acts d e a = absurd (cc)
-gave_up_as stage.Runs action.Finish n wake acts new_acts d e a = absurd (cc)
-gave_up_as stage.Runs action.Deliver n wake acts new_acts d e a = absurd (cc)
-gave_up_as stage.Runs action.Done n wake acts new_acts d e a = absurd (cc)
-gave_up_as stage.MustWake core n wake acts new_acts d e a = absurd (cc)
-gave_up_as stage.GaveUp core n wake acts new_acts d e a = absurd (cc)
+gave_up_as stage.Runs _ n wake acts new_acts d e a = absurd (cc)
+gave_up_as _ core n wake acts new_acts d e a = absurd (cc)
 
 gave_up_turn : (wake : Bool) → HasGivenUp ≡ turn_of (if wake then stage.MustWake else stage.GaveUp)
 gave_up_turn true = refl
@@ -572,33 +111,14 @@ woke_turn stage.GaveUp held = refl
 -- ---- the front of the queue
 
 queued_is : (st : Option Standing) → is_queued_as st ≡ true → st ≡ Some Queued
-queued_is None e = absurd (cc)
 queued_is (Some Queued) e = refl
-queued_is (Some Running) e = absurd (cc)
-queued_is (Some Parked) e = absurd (cc)
-queued_is (Some Done) e = absurd (cc)
-queued_is (Some Dropped) e = absurd (cc)
-
-swapped : (a b : Bool) → (a || b) ≡ true → (b || a) ≡ true
-swapped true true e = refl
-swapped true false e = refl
-swapped false true e = refl
-swapped false false e = e
-
-both_true : (a b : Bool) (p : Party) → is_some (if a && b then Some p else None) ≡ true → (a ≡ true) × (b ≡ true)
-both_true true true p e = (refl, refl)
-both_true true false p e = absurd (cc)
-both_true false b p e = absurd (cc)
+queued_is _ e = absurd (cc)
 
 -- what stands somewhere was accepted
 accepted_at : (w : Worlded) (past : List Moment) (s : ℕ) → Numbered w past → is_some (standing past s) ≡ true → (0 < s) × (s - 1 < length w.tasks)
 accepted_at w past s n e =
-    let there : is_some (holder_of (tasks past) s) ≡ true = ap is_some (sym (n.holders s)) ∙ sym (n.stands s) ∙ e in
-    let parts = both_true (nat_lt 0 s) (nat_lt (s - 1) (tasks past)) (Task (s - 1)) there in
-    let first = parts.0 in let second = parts.1 in
-    let many = n.owners in
-    let below : s - 1 < tasks past = grind (arith, nat_tests, second) in
-    (grind (arith, nat_tests, first), omega (arith, below, many))
+    let within = held_within (tasks past) s (ap is_some (sym (n.holders s)) ∙ sym (n.stands s) ∙ e) in
+    (within.0, subst (λ m. s - 1 < m) (sym n.owners) within.1)
 
 -- the job that a take gives: it is queued, hasn't acted, and is dropped only where its task let it go
 record Fronted (w : Worlded) (past : List Moment) (number : JobNumber) (value : CallJob) (to_drop : Bool) (entry : Job CallJob) : Type 0 where
@@ -613,7 +133,7 @@ fronted : (setting : ℕ) (may_answer : ℕ → Bool → Type 0) (w : Worlded) (
 fronted setting may_answer w past number value to_drop growth new t f =
     let s = number.serial in
     let line : queue past ≡ s ∷ f.rest = sym t.lined.same ∙ f.front in
-    let first : among (s ∷ f.rest) s ≡ true = ap (λ b. b || among f.rest s) (itself s) in
+    let first : among (s ∷ f.rest) s ≡ true = ap (λ b. b || among f.rest s) (eq-eqb s s refl) in
     let stands : standing past s ≡ Some Queued = queued_is (standing past s) (sym (t.lined.each s) ∙ ap (λ (q : List ℕ). among q s) line ∙ first) in
     let filed : FiledAs (Some f.job) (standing past s) (is_woken past s) (is_cancelled past s) (is_marked past s) (has_ended past s) (acts_of s (events past)) =
     subst (λ (o : Option (Job CallJob)). FiledAs o (standing past s) (is_woken past s) (is_cancelled past s) (is_marked past s) (has_ended past s) (acts_of s (events past))) f.found (t.filed s) in
@@ -630,7 +150,7 @@ fronted setting may_answer w past number value to_drop growth new t f =
       entry_is = entry;
       unacted = valued_as.1;
       core_is = ap (λ (x : CallJob). x.core) is;
-      wanted_is = λ e. swapped (is_cancelled past s) (is_marked past s) (ap (λ b. b || is_marked past s) cancelled_is ∙ ap (λ b. f.job.cancelled || b) (sym marked_is) ∙ sym f.wanted ∙ e);
+      wanted_is = λ e. or_comm (is_marked past s) (is_cancelled past s) ∙ (ap (λ b. b || is_marked past s) cancelled_is ∙ ap (λ b. f.job.cancelled || b) (sym marked_is) ∙ sym f.wanted ∙ e);
     }
 
 -- a queued job isn't in a hand
@@ -646,16 +166,10 @@ queued_rests_at jobs number other entry found stands same runs =
 -- the taken job runs
 taken_runs : (jobs : Jobs CallJob) (number : JobNumber) (entry : Job CallJob) → entry.place ≡ number.place → is_running_as (insert jobs number.serial (running entry)) number ≡ true
 taken_runs jobs number entry place =
-    ap (λ (o : Option (Job CallJob)). is_running_job (if_at number.place o)) (get_inserted jobs number.serial number.serial (running entry) true (itself number.serial))
-    ∙ ap (λ (b : Bool). is_running_job (if b then Some (running entry) else None)) (ap (λ (n : ℕ). n == number.place) place ∙ itself number.place)
+    ap (λ (o : Option (Job CallJob)). is_running_job (if_at number.place o)) (job_put jobs number.serial (running entry) number.serial true (eq-eqb number.serial number.serial refl))
+    ∙ ap (λ (b : Bool). is_running_job (if b then Some (running entry) else None)) (ap (λ (n : ℕ). n == number.place) place ∙ eq-eqb number.place number.place refl)
 
 -- ---- each move, by what is known
-
-abbrev job_acts : List Moment → ℕ → List Act
-job_acts past s = acts_of s (events past)
-
-abbrev was_let_go : List Moment → ℕ → Bool
-was_let_go past s = is_marked past s || is_cancelled past s
 
 abbrev at_step : Step → Event → Moment
 at_step step event = record { step = step; event = event }
@@ -673,10 +187,9 @@ begun setting may_answer w past number growth new step first t a =
     let grown_list = length-append w.tasks (new_owner number ∷ []) in
     let le : length w.tasks ≤ length (w.tasks ++ new_owner number ∷ []) = omega (arith, grown_list) in
     subst (λ (p : CallPool). KnownOf (record w { pool = p; tasks = w.tasks ++ new_owner number ∷ [] }) (at_step step (seen Pool None (Accepted number.serial) first growth) ∷ past)) (sym a.after_is)
-    (parts_known w.hands w.tasks (w.tasks ++ new_owner number ∷ []) w.pool.jobs (insert w.pool.jobs w.pool.next_serial (new_job number.place new_call))
-    w.pool.counts.idle (w.pool.counts.idle + growth.started) w.pool.counts.arriving (w.pool.counts.arriving + growth.started)
-    (is_there past) (hand past) (turn past) (job_acts past) (was_let_go past) (was_let_go past) k
-    (λ held p o. insert_runs w.pool.jobs w.pool.next_serial (new_job number.place new_call) held.turn (other_number w.pool.next_serial held.turn.serial (λ same. omega (arith, same, p, o, next, many))))
+    (parts_known (sight w past) (w.tasks ++ new_owner number ∷ []) (insert w.pool.jobs w.pool.next_serial (new_job number.place new_call))
+    (w.pool.counts.idle + growth.started) (w.pool.counts.arriving + growth.started) (was_let_go past) k
+    (λ held p o. insert_runs w.pool.jobs w.pool.next_serial (new_job number.place new_call) held.turn (ne_eqb w.pool.next_serial held.turn.serial (λ same. omega (arith, same, p, o, next, many))))
     (let_go_pushed w.tasks (new_owner number)) le
     (insert_unparked w.pool.jobs w.pool.next_serial (new_job number.place new_call) refl k.parked_are)
     (same_idle w.pool.counts.idle w.pool.counts.arriving growth.started (free_hands w.hands) k.idle_are)
@@ -692,9 +205,7 @@ refused setting may_answer w past Memory growth new step first t a =
 refused setting may_answer w past NoWorker growth new step first t a =
     let k = known w past t.handed in
     subst (λ (p : CallPool). KnownOf (record w { pool = p }) (at_step step (seen Pool None (Refused NoWorker) first growth) ∷ past)) (sym a.after_is)
-    (parts_known w.hands w.tasks w.tasks w.pool.jobs w.pool.jobs
-    w.pool.counts.idle (w.pool.counts.idle + growth.started) w.pool.counts.arriving (w.pool.counts.arriving + growth.started)
-    (is_there past) (hand past) (turn past) (job_acts past) (was_let_go past) (was_let_go past) k
+    (parts_known (sight w past) w.tasks w.pool.jobs (w.pool.counts.idle + growth.started) (w.pool.counts.arriving + growth.started) (was_let_go past) k
     (λ held p o. refl) (λ n g. g) (omega arith) k.parked_are
     (same_idle w.pool.counts.idle w.pool.counts.arriving growth.started (free_hands w.hands) k.idle_are)
     k.marks_are)
@@ -707,12 +218,11 @@ CalledOf w k call owner = record w { pool = pool_called call w.pool owner.number
 called_known : (w : Worlded) (past : List Moment) (k : ℕ) (call : TaskCall) (owner : Owner) (let_go : ℕ → Bool) → KnownOf w past → slice_get w.tasks k ≡ Some owner → may_be owner.stage call ≡ true
     → ((s : ℕ) → let_go s ≡ true → let_go_in (slice_get (slice_set w.tasks k (called call owner)) (s - 1)) ≡ true)
     → (let pool = pool_called call w.pool owner.number in
-    Known w.hands (slice_set w.tasks k (called call owner)) pool.jobs pool.counts.idle pool.counts.arriving (is_there past) (hand past) (turn past) (job_acts past) let_go)
+    Known (record (sight w past) { owners = slice_set w.tasks k (called call owner); jobs = pool.jobs; idles = pool.counts.idle; arrivings = pool.counts.arriving; let_go = let_go }))
 called_known w past k call owner let_go old e may marks =
     let stays = let_go_stays w.tasks k owner (called call owner) e (called_stays call owner may) in
     let many = length-set w.tasks k (called call owner) in
-    kept_known w.hands w.tasks (slice_set w.tasks k (called call owner)) w.pool (pool_called call w.pool owner.number)
-    (is_there past) (hand past) (turn past) (job_acts past) (was_let_go past) let_go old (called_kept call w.pool owner.number) stays (omega (arith, many)) marks
+    kept_known w past (pool_called call w.pool owner.number) (slice_set w.tasks k (called call owner)) let_go old (called_kept call w.pool owner.number) stays (omega (arith, many)) marks
 
 quiet_marks : (w : Worlded) (past : List Moment) (k : ℕ) (call : TaskCall) (owner : Owner) → KnownOf w past → slice_get w.tasks k ≡ Some owner → may_be owner.stage call ≡ true
     → (s : ℕ) → was_let_go past s ≡ true → let_go_in (slice_get (slice_set w.tasks k (called call owner)) (s - 1)) ≡ true
@@ -728,7 +238,7 @@ polled_known _ w past k owner step first is old e may = elim is [ ]
 -- a task is called, and marks its call
 
 is_holder_of : (a b : Bool) (j k : ℕ) → is_holder (if a && b then Some (Task j) else None) (Task k) ≡ true → j ≡ k
-is_holder_of true true j k e = sym (same_number k j e)
+is_holder_of true true j k e = sym (eqb-true k j e)
 is_holder_of true false j k e = absurd (cc)
 is_holder_of false b j k e = absurd (cc)
 
@@ -748,93 +258,74 @@ mark_by w past k call owner n old e may lets s g =
 
 -- a job is taken
 
-took_run : (setting : ℕ) (may_answer : ℕ → Bool → Type 0) (w : Worlded) (past : List Moment) (v : ℕ) (pass : WorkerPass) (number : JobNumber) (value : CallJob) (growth : Growth) (new : CallPool) (step : Step) (first : ℕ)
-    → Tied setting w past → hand_at w.hands v ≡ Free pass → TakesFront may_answer w.pool number value false growth new
-    → KnownOf (record w { pool = new; hands = with_held w v (record { turn = number; job = value; stage = stage.Runs }) }) (at_step step (seen (Worker v) (Some number.serial) (Took number.serial) first growth) ∷ past)
-took_run setting may_answer w past v pass number value growth new step first t e f =
-    let k = known w past t.handed in
-    let front = fronted setting may_answer w past number value false growth new t f in
-    let place = accepted_at w past number.serial t.numbered (ap is_some front.stands_is) in
-    let held : Held = record { turn = number; job = value; stage = stage.Runs } in
-    let turns : ℕ → Turn = λ s. if number.serial == s then GoesOn else turn past s in
-    let here : HeldHere w.tasks (insert w.pool.jobs number.serial (running f.job)) turns (job_acts past) held = record {
-      as_is = record {
-        turn_is = ap (λ b. if b then GoesOn else turn past number.serial) (itself number.serial);
-        acts_are = subst (λ core. ActedAs stage.Runs core value.number (job_acts past number.serial)) (sym front.core_is) front.unacted;
-        wanted = λ is. absurd (cc);
-      };
-      runs_is = taken_runs w.pool.jobs number f.job f.place;
-      positive_is = place.0;
-      owned_is = place.1;
-    } in
-    subst (λ (p : CallPool). KnownOf (record w { pool = p; hands = with_held w v (record { turn = number; job = value; stage = stage.Runs }) }) (at_step step (seen (Worker v) (Some number.serial) (Took number.serial) first growth) ∷ past)) (sym f.after_is)
-    (take_known w.hands w.tasks w.pool.jobs (insert w.pool.jobs number.serial (running f.job)) w.pool.counts.idle w.pool.counts.arriving growth.started
-    (is_there past) (hand past) (turn past) turns (job_acts past) (was_let_go past) v pass held k e here
-    (λ other runs same. queued_rests_at w.pool.jobs number other.turn f.job f.found front.entry_is same runs)
-    (λ x d. ap (λ b. if b then GoesOn else turn past x) d)
-    (λ other d. insert_runs w.pool.jobs number.serial (running f.job) other d)
-    (insert_unparked w.pool.jobs number.serial (running f.job) refl k.parked_are))
+first_as : (to_drop : Bool) (core : Action) (n : ℕ) (acts : List Act) → core ≡ action.Call → acts ≡ [] → ActedAs (first_stage to_drop) core n acts
+first_as true core n acts is none = none
+first_as false core n acts is none = subst (λ next. RanAs next n acts) (sym is) none
 
-took_drop : (setting : ℕ) (may_answer : ℕ → Bool → Type 0) (w : Worlded) (past : List Moment) (v : ℕ) (pass : WorkerPass) (number : JobNumber) (value : CallJob) (growth : Growth) (new : CallPool) (step : Step) (first : ℕ)
-    → Tied setting w past → hand_at w.hands v ≡ Free pass → TakesFront may_answer w.pool number value true growth new
-    → KnownOf (record w { pool = new; hands = with_held w v (record { turn = number; job = value; stage = stage.MustGiveUp }) }) (at_step step (seen (Worker v) (Some number.serial) (TookDropped number.serial) first growth) ∷ past)
-took_drop setting may_answer w past v pass number value growth new step first t e f =
+first_wanted : (to_drop : Bool) (P : Type 0) → (to_drop ≡ true → P) → first_stage to_drop ≡ stage.MustGiveUp → P
+first_wanted true P wanted is = wanted refl
+first_wanted false P wanted is = absurd (cc)
+
+took_known : (setting : ℕ) (may_answer : ℕ → Bool → Type 0) (w : Worlded) (past : List Moment) (v : ℕ) (pass : WorkerPass) (number : JobNumber) (value : CallJob) (to_drop : Bool) (growth : Growth) (new : CallPool)
+    → Tied setting w past → hand_at w.hands v ≡ Free pass → TakesFront may_answer w.pool number value to_drop growth new
+    → Known (record (sight w past) {
+      row = with_held w v (record { turn = number; job = value; stage = first_stage to_drop });
+      jobs = new.jobs;
+      idles = new.counts.idle;
+      arrivings = new.counts.arriving;
+      job = λ u. if v == u then Some number.serial else hand past u;
+      turns = λ s. if number.serial == s then turn_of (first_stage to_drop) else turn past s;
+    })
+took_known setting may_answer w past v pass number value to_drop growth new t e f =
     let k = known w past t.handed in
-    let front = fronted setting may_answer w past number value true growth new t f in
+    let front = fronted setting may_answer w past number value to_drop growth new t f in
     let place = accepted_at w past number.serial t.numbered (ap is_some front.stands_is) in
-    let held : Held = record { turn = number; job = value; stage = stage.MustGiveUp } in
-    let turns : ℕ → Turn = λ s. if number.serial == s then MustGiveUp else turn past s in
-    let here : HeldHere w.tasks (insert w.pool.jobs number.serial (running f.job)) turns (job_acts past) held = record {
+    let held : Held = record { turn = number; job = value; stage = first_stage to_drop } in
+    let turns : ℕ → Turn = λ s. if number.serial == s then turn_of (first_stage to_drop) else turn past s in
+    let here : HeldHere (taken (sight w past) v held (insert w.pool.jobs number.serial (running f.job)) growth.started turns) held = record {
       as_is = record {
-        turn_is = ap (λ b. if b then MustGiveUp else turn past number.serial) (itself number.serial);
-        acts_are = front.unacted;
-        wanted = λ is. k.marks_are number.serial (front.wanted_is refl);
+        turn_is = ap (λ b. if b then turn_of (first_stage to_drop) else turn past number.serial) (eq-eqb number.serial number.serial refl);
+        acts_are = first_as to_drop value.core value.number (job_acts past number.serial) front.core_is front.unacted;
+        wanted = first_wanted to_drop (let_go_in (slice_get w.tasks (number.serial - 1)) ≡ true) (λ is. k.marks_are number.serial (front.wanted_is is));
       };
       runs_is = taken_runs w.pool.jobs number f.job f.place;
       positive_is = place.0;
       owned_is = place.1;
     } in
-    subst (λ (p : CallPool). KnownOf (record w { pool = p; hands = with_held w v (record { turn = number; job = value; stage = stage.MustGiveUp }) }) (at_step step (seen (Worker v) (Some number.serial) (TookDropped number.serial) first growth) ∷ past)) (sym f.after_is)
-    (take_known w.hands w.tasks w.pool.jobs (insert w.pool.jobs number.serial (running f.job)) w.pool.counts.idle w.pool.counts.arriving growth.started
-    (is_there past) (hand past) (turn past) turns (job_acts past) (was_let_go past) v pass held k e here
+    subst (λ (p : CallPool). Known (record (taken (sight w past) v held p.jobs growth.started turns) { idles = p.counts.idle; arrivings = p.counts.arriving })) (sym f.after_is)
+    (take_known (sight w past) v pass held (insert w.pool.jobs number.serial (running f.job)) growth.started turns k e here
     (λ other runs same. queued_rests_at w.pool.jobs number other.turn f.job f.found front.entry_is same runs)
-    (λ x d. ap (λ b. if b then MustGiveUp else turn past x) d)
+    (λ x d. ap (λ b. if b then turn_of (first_stage to_drop) else turn past x) d)
     (λ other d. insert_runs w.pool.jobs number.serial (running f.job) other d)
     (insert_unparked w.pool.jobs number.serial (running f.job) refl k.parked_are))
 
 -- a job acts itself
-
-acts_elsewhere : (e : Event) (x : ℕ) (before : List Event) → is_of_job x e ≡ false → acts_of x (e ∷ before) ≡ acts_of x before
-acts_elsewhere e x before is = ap (λ b. map (λ (y : Event). y.act) (cond b (e ∷ filter (is_of_job x) before) (filter (is_of_job x) before))) is
-
-acts_here : (e : Event) (x : ℕ) (before : List Event) → is_of_job x e ≡ true → acts_of x (e ∷ before) ≡ e.act ∷ acts_of x before
-acts_here e x before is = ap (λ b. map (λ (y : Event). y.act) (cond b (e ∷ filter (is_of_job x) before) (filter (is_of_job x) before))) is
 
 answer_known : (w : Worlded) (past : List Moment) (v : ℕ) (held : Held) (number : ℕ) (step : Step) (first : ℕ) → KnownOf w past → hand_at w.hands v ≡ Holds held → duty_of held ≡ duty.Await
     → KnownOf (record w { hands = with_held w v (answered held number) }) (at_step step (seen (Worker v) (Some held.turn.serial) (Answered (Number number)) first no_growth) ∷ past)
 answer_known w past v held number step first k e d =
     let event : Event = seen (Worker v) (Some held.turn.serial) (Answered (Number number)) first no_growth in
     let h = (k.held_are v held e).as_is in
-    own_known w.hands w.tasks w.tasks w.pool.jobs w.pool.counts.idle w.pool.counts.arriving (is_there past) (hand past) (turn past) (turn past) (job_acts past) (job_acts (at_step step event ∷ past)) (was_let_go past) v held (answered held number) k e refl
+    own_known (sight w past) v held (answered held number) w.tasks (turn past) (job_acts (at_step step event ∷ past)) k e refl
     (record {
       turn_is = h.turn_is;
-      acts_are = answered_as held.stage held.job.core held.job.number number (job_acts past held.turn.serial) (job_acts (at_step step event ∷ past) held.turn.serial) d (acts_here event held.turn.serial (events past) (itself held.turn.serial)) h.acts_are;
+      acts_are = answered_as held.stage held.job.core held.job.number number (job_acts past held.turn.serial) (job_acts (at_step step event ∷ past) held.turn.serial) d (acts_more held.turn.serial event (events past) true (eq-eqb held.turn.serial held.turn.serial refl)) h.acts_are;
       wanted = h.wanted;
     })
-    (λ x o. refl) (λ x o. acts_elsewhere event x (events past) o) (λ n. refl) refl
+    (λ x o. refl) (λ x o. acts_more x event (events past) false o) (λ n. refl) refl
 
 finish_known : (w : Worlded) (past : List Moment) (v : ℕ) (held : Held) (wake : Bool) (new : Owner) (step : Step) (first : ℕ) → KnownOf w past → hand_at w.hands v ≡ Holds held → duty_of held ≡ duty.Finish → has_let_go new.stage ≡ has_let_go (owner_at w.tasks held.turn.serial).stage
     → KnownOf (record w { tasks = with_owner w.tasks held.turn.serial new; hands = with_held w v (finished held wake) }) (at_step step (seen (Worker v) (Some held.turn.serial) (Finished wake) first no_growth) ∷ past)
 finish_known w past v held wake new step first k e d same =
     let event : Event = seen (Worker v) (Some held.turn.serial) (Finished wake) first no_growth in
     let h = (k.held_are v held e).as_is in
-    own_known w.hands w.tasks (with_owner w.tasks held.turn.serial new) w.pool.jobs w.pool.counts.idle w.pool.counts.arriving (is_there past) (hand past) (turn past) (turn past) (job_acts past) (job_acts (at_step step event ∷ past)) (was_let_go past) v held (finished held wake) k e refl
+    own_known (sight w past) v held (finished held wake) (with_owner w.tasks held.turn.serial new) (turn past) (job_acts (at_step step event ∷ past)) k e refl
     (record {
       turn_is = h.turn_is;
-      acts_are = finished_as held.stage held.job.core held.job.number wake (job_acts past held.turn.serial) (job_acts (at_step step event ∷ past) held.turn.serial) d (acts_here event held.turn.serial (events past) (itself held.turn.serial)) h.acts_are;
+      acts_are = finished_as held.stage held.job.core held.job.number wake (job_acts past held.turn.serial) (job_acts (at_step step event ∷ past) held.turn.serial) d (acts_more held.turn.serial event (events past) true (eq-eqb held.turn.serial held.turn.serial refl)) h.acts_are;
       wanted = h.wanted;
     })
-    (λ x o. refl) (λ x o. acts_elsewhere event x (events past) o) (let_go_same w.tasks (held.turn.serial - 1) new same) (length-set w.tasks (held.turn.serial - 1) new)
+    (λ x o. refl) (λ x o. acts_more x event (events past) false o) (let_go_same w.tasks (held.turn.serial - 1) new same) (length-set w.tasks (held.turn.serial - 1) new)
 
 give_up_known : (w : Worlded) (past : List Moment) (v : ℕ) (held : Held) (wake : Bool) (new : Owner) (step : Step) (first : ℕ) → KnownOf w past → hand_at w.hands v ≡ Holds held → duty_of held ≡ duty.GiveUp → has_let_go new.stage ≡ has_let_go (owner_at w.tasks held.turn.serial).stage
     → KnownOf (record w { tasks = with_owner w.tasks held.turn.serial new; hands = with_held w v (given_up held wake) }) (at_step step (seen (Worker v) (Some held.turn.serial) (GaveUp wake) first no_growth) ∷ past)
@@ -842,40 +333,40 @@ give_up_known w past v held wake new step first k e d same =
     let event : Event = seen (Worker v) (Some held.turn.serial) (GaveUp wake) first no_growth in
     let h = (k.held_are v held e).as_is in
     let s = held.turn.serial in
-    own_known w.hands w.tasks (with_owner w.tasks held.turn.serial new) w.pool.jobs w.pool.counts.idle w.pool.counts.arriving (is_there past) (hand past) (turn past) (λ x. if held.turn.serial == x then HasGivenUp else turn past x) (job_acts past) (job_acts (at_step step event ∷ past)) (was_let_go past) v held (given_up held wake) k e refl
+    own_known (sight w past) v held (given_up held wake) (with_owner w.tasks held.turn.serial new) (λ x. if held.turn.serial == x then HasGivenUp else turn past x) (job_acts (at_step step event ∷ past)) k e refl
     (record {
-      turn_is = ap (λ b. if b then HasGivenUp else turn past s) (itself s) ∙ gave_up_turn wake;
-      acts_are = gave_up_as held.stage held.job.core held.job.number wake (job_acts past s) (job_acts (at_step step event ∷ past) s) d (acts_here event s (events past) (itself s)) h.acts_are;
+      turn_is = ap (λ b. if b then HasGivenUp else turn past s) (eq-eqb s s refl) ∙ gave_up_turn wake;
+      acts_are = gave_up_as held.stage held.job.core held.job.number wake (job_acts past s) (job_acts (at_step step event ∷ past) s) d (acts_more s event (events past) true (eq-eqb s s refl)) h.acts_are;
       wanted = λ is. absurd (gave_up_once wake is);
     })
-    (λ x o. ap (λ b. if b then HasGivenUp else turn past x) o) (λ x o. acts_elsewhere event x (events past) o) (let_go_same w.tasks (held.turn.serial - 1) new same) (length-set w.tasks (held.turn.serial - 1) new)
+    (λ x o. ap (λ b. if b then HasGivenUp else turn past x) o) (λ x o. acts_more x event (events past) false o) (let_go_same w.tasks (held.turn.serial - 1) new same) (length-set w.tasks (held.turn.serial - 1) new)
 
 wake_known : (w : Worlded) (past : List Moment) (v : ℕ) (held : Held) (step : Step) (first : ℕ) → KnownOf w past → hand_at w.hands v ≡ Holds held → duty_of held ≡ duty.Wake
     → KnownOf (record w { hands = with_held w v (woke held) }) (at_step step (seen (Worker v) (Some held.turn.serial) HolderWoken first no_growth) ∷ past)
 wake_known w past v held step first k e d =
     let event : Event = seen (Worker v) (Some held.turn.serial) HolderWoken first no_growth in
     let s = held.turn.serial in
-    own_known w.hands w.tasks w.tasks w.pool.jobs w.pool.counts.idle w.pool.counts.arriving (is_there past) (hand past) (turn past) (turn past) (job_acts past) (job_acts (at_step step event ∷ past)) (was_let_go past) v held (woke held) k e (woke_turn held.stage held)
-    (woke_held held held.stage (turn past s) (job_acts past s) (job_acts (at_step step event ∷ past) s) (let_go_in (slice_get w.tasks (s - 1))) refl d (acts_here event s (events past) (itself s)) (k.held_are v held e).as_is)
-    (λ x o. refl) (λ x o. acts_elsewhere event x (events past) o) (λ n. refl) refl
+    own_known (sight w past) v held (woke held) w.tasks (turn past) (job_acts (at_step step event ∷ past)) k e (woke_turn held.stage held)
+    (woke_held held held.stage (turn past s) (job_acts past s) (job_acts (at_step step event ∷ past) s) (let_go_in (slice_get w.tasks (s - 1))) refl d (acts_more s event (events past) true (eq-eqb s s refl)) (k.held_are v held e).as_is)
+    (λ x o. refl) (λ x o. acts_more x event (events past) false o) (λ n. refl) refl
 
 -- a worker has waited
 
 waited_known : (stops : Bool) (w : Worlded) (past : List Moment) (v : ℕ) (pass : WorkerPass) (late : Bool) (step : Step) (first : ℕ) → KnownOf w past → hand_at w.hands v ≡ Free pass
     → KnownOf (after_wait w v pass stops) (at_step step (seen (Worker v) None (wait_act v late stops) first no_growth) ∷ past)
-waited_known true w past v pass late step first k e = stop_known w.hands w.tasks w.pool.jobs w.pool.counts.idle w.pool.counts.arriving (is_there past) (hand past) (turn past) (job_acts past) (was_let_go past) v pass k e
-waited_known false w past v pass late step first k e = idle_known w.hands w.tasks w.pool.jobs w.pool.counts.idle w.pool.counts.arriving (is_there past) (hand past) (turn past) (job_acts past) (was_let_go past) v pass pass k e
+waited_known true w past v pass late step first k e = stop_known (sight w past) v pass k e
+waited_known false w past v pass late step first k e = idle_known (sight w past) v pass pass k e
 
 -- a job is woken, or cancelled in the pool
 
 stirred_known : (how : Woke) (w : Worlded) (past : List Moment) (s : ℕ) (number : JobNumber) (step : Step) (first : ℕ) → KnownOf w past
     → KnownOf (record w { pool = after_wake how w.pool number }) (at_step step (seen Pool None (JobWoken s how) first no_growth) ∷ past)
 stirred_known how w past s number step first k =
-    kept_known w.hands w.tasks w.tasks w.pool (after_wake how w.pool number) (is_there past) (hand past) (turn past) (job_acts past) (was_let_go past) (was_let_go past) k (wake_kept how w.pool number) (λ n g. g) (omega arith) k.marks_are
+    kept_known w past (after_wake how w.pool number) w.tasks (was_let_go past) k (wake_kept how w.pool number) (λ n g. g) (omega arith) k.marks_are
 
 cancels_only : (how : Woke) (s x : ℕ) → cancels (JobCancelled s how) x ≡ true → s ≡ x
-cancels_only Entered s x e = same_number s x e
-cancels_only Marked s x e = same_number s x e
+cancels_only Entered s x e = eqb-true s x e
+cancels_only Marked s x e = eqb-true s x e
 cancels_only Nothing s x e = absurd (cc)
 
 strike_cases : (m b c : Bool) → (m || (b || c)) ≡ true → (b ≡ true) ⊎ ((m || c) ≡ true)
@@ -886,7 +377,7 @@ strike_cases false false c e = inr e
 struck_known : (how : Woke) (w : Worlded) (past : List Moment) (s : ℕ) (number : JobNumber) (step : Step) (first : ℕ) → KnownOf w past → has_let_go (owner_at w.tasks s).stage ≡ true
     → KnownOf (record w { pool = after_cancel how w.pool number }) (at_step step (seen Pool None (JobCancelled s how) first no_growth) ∷ past)
 struck_known how w past s number step first k let_go =
-    kept_known w.hands w.tasks w.tasks w.pool (after_cancel how w.pool number) (is_there past) (hand past) (turn past) (job_acts past) (was_let_go past)
+    kept_known w past (after_cancel how w.pool number) w.tasks
     (λ x. is_marked past x || (cancels (JobCancelled s how) x || is_cancelled past x)) k (cancel_kept how w.pool number) (λ n g. g) (omega arith)
     (λ x g. ⊎_elim
     (λ is. subst (λ n. let_go_in (slice_get w.tasks (n - 1)) ≡ true) (cancels_only how s x is) (let_go_owner (slice_get w.tasks (s - 1)) let_go))
@@ -895,10 +386,9 @@ struck_known how w past s number step first k let_go =
 
 -- what is known of the hands after a move
 known_after : (setting : ℕ) (marks : List Bool) (w : Worlded) (past : List Moment) (move : Move) → Tied setting w past → May (IsMarked marks) w move → KnownOf (after w move) (moment_of w move ∷ past)
-known_after setting marks w past (Idles step) t m = known w past t.handed
 known_after setting marks w past (Begins (Ok number) growth pool) t m = begun setting (IsMarked marks) w past number growth pool Spawn (next_start w) t m
 known_after setting marks w past (Begins (Err why) growth pool) t m = refused setting (IsMarked marks) w past why growth pool Spawn (next_start w) t m
-known_after setting marks w past (Calls k Poll owner) t m = polled_known (poll_of owner) w past k owner (OfTask k Poll) (next_start w) (polled_so owner.stage owner.found owner.slot.content) (known w past t.handed) m.0 m.1
+known_after setting marks w past (Calls k Poll owner) t m = polled_known (poll_of owner) w past k owner (OfTask k Poll) (next_start w) (polled_so owner) (known w past t.handed) m.0 m.1
 known_after setting marks w past (Calls k Cancel owner) t m =
     let old = known w past t.handed in
     called_known w past k Cancel owner (λ s. (is_holder (holder past s) (Task k) && not (has_ended past s) || is_marked past s) || is_cancelled past s) old m.0 m.1 (mark_by w past k Cancel owner t.numbered old m.0 m.1 refl)
@@ -906,25 +396,22 @@ known_after setting marks w past (Calls k Detach owner) t m = (let old = known w
 known_after setting marks w past (Calls k Drop owner) t m =
     let old = known w past t.handed in
     called_known w past k Drop owner (λ s. (is_holder (holder past s) (Task k) && not (has_ended past s) || is_marked past s) || is_cancelled past s) old m.0 m.1 (mark_by w past k Drop owner t.numbered old m.0 m.1 refl)
-known_after setting marks w past (Arrives pass) t m =
-    arrive_known w.hands w.tasks w.pool.jobs w.pool.counts.idle w.pool.counts.arriving (is_there past) (hand past) (turn past) (job_acts past) (was_let_go past) pass (known w past t.handed) m
-known_after setting marks w past (TakesJob v old false number job growth pool) t m = took_run setting (IsMarked marks) w past v old number job growth pool (Take v) (next_start w) t m.0 m.1
-known_after setting marks w past (TakesJob v old true number job growth pool) t m = took_drop setting (IsMarked marks) w past v old number job growth pool (Take v) (next_start w) t m.0 m.1
-known_after setting marks w past (TakesNone v old pass) t m =
-    idle_known w.hands w.tasks w.pool.jobs w.pool.counts.idle w.pool.counts.arriving (is_there past) (hand past) (turn past) (job_acts past) (was_let_go past) v old pass (known w past t.handed) m.0
+known_after setting marks w past (Arrives pass) t m = arrive_known (sight w past) pass (known w past t.handed) m
+known_after setting marks w past (TakesJob v old false number job growth pool) t m = took_known setting (IsMarked marks) w past v old number job false growth pool t m.0 m.1
+known_after setting marks w past (TakesJob v old true number job growth pool) t m = took_known setting (IsMarked marks) w past v old number job true growth pool t m.0 m.1
+known_after setting marks w past (TakesNone v old pass) t m = idle_known (sight w past) v old pass (known w past t.handed) m.0
 known_after setting marks w past (IsAnswered v held number) t m = answer_known w past v held number (Io v (Number number)) (next_start w) (known w past t.handed) m.0 m.1
 known_after setting marks w past (Finishes v held) t m = finish_known w past v held (finish_wakes w held) _ (OwnStep v) (next_start w) (known w past t.handed) m.0 m.1 refl
 known_after setting marks w past (GivesUp v held) t m = give_up_known w past v held (giving_up_wakes w held) _ (OwnStep v) (next_start w) (known w past t.handed) m.0 m.1 refl
 known_after setting marks w past (CallsWaker v held) t m = wake_known w past v held (OwnStep v) (next_start w) (known w past t.handed) m.0 m.1
 known_after setting marks w past (EndsTurn v held pass) t m =
     let k = known w past t.handed in
-    end_known w.hands w.tasks w.pool.jobs (remove w.pool.jobs held.turn.serial) w.pool.counts.idle w.pool.counts.arriving (is_there past) (hand past) (turn past) (job_acts past) (was_let_go past) v held pass k m.0
+    end_known (sight w past) v held pass (remove w.pool.jobs held.turn.serial) k m.0
     (remove_runs w.pool.jobs held.turn.serial) (remove_unparked w.pool.jobs held.turn.serial k.parked_are)
 known_after setting marks w past (HasWaited v pass late) t m = waited_known (must_stop late w.pool) w past v pass late (wait_step late v) (next_start w) (known w past t.handed) m
-known_after setting marks w past (SetsLimit n) t m = known w past t.handed
-known_after setting marks w past Sweeps t m = known w past t.handed
 known_after setting marks w past (IsWoken s) t m = stirred_known (wakes_as w s) w past s (owner_at w.tasks s).number (Stray s) (next_start w) (known w past t.handed)
 known_after setting marks w past (IsStruck s) t m = struck_known (cancels_as w s) w past s (owner_at w.tasks s).number (Strike s) (next_start w) (known w past t.handed) m.1
+known_after setting marks w past move t m = known w past t.handed
 
 -- Each move keeps the tie of the hands.
 pub handed_after : (setting : ℕ) (marks : List Bool) (w : Worlded) (past : List Moment) (move : Move) → Tied setting w past → May (IsMarked marks) w move → Handed (after w move) (moment_of w move ∷ past)
@@ -934,30 +421,22 @@ handed_after setting marks w past move t m = handed (after w move) (moment_of w 
 
 fits_await : (st : Stage) (core : Action) (act : Act) → duty_at st core ≡ duty.Await → is_giving_up act ≡ false → FitsTurn (turn_of st) act
 fits_await stage.Runs core act d g = g
-fits_await stage.MustGiveUp core act d g = absurd (cc)
-fits_await stage.MustWake core act d g = absurd (cc)
-fits_await stage.GaveUp core act d g = absurd (cc)
+fits_await _ core act d g = absurd (cc)
 
 fits_finish : (st : Stage) (core : Action) (act : Act) → duty_at st core ≡ duty.Finish → is_giving_up act ≡ false → FitsTurn (turn_of st) act
 fits_finish stage.Runs core act d g = g
-fits_finish stage.MustGiveUp core act d g = absurd (cc)
-fits_finish stage.MustWake core act d g = absurd (cc)
-fits_finish stage.GaveUp core act d g = absurd (cc)
+fits_finish _ core act d g = absurd (cc)
 
 fits_give_up : (st : Stage) (core : Action) (wake : Bool) → duty_at st core ≡ duty.GiveUp → FitsTurn (turn_of st) (GaveUp wake)
-fits_give_up stage.Runs action.Call wake d = absurd (cc)
-fits_give_up stage.Runs action.Finish wake d = absurd (cc)
-fits_give_up stage.Runs action.Deliver wake d = absurd (cc)
-fits_give_up stage.Runs action.Done wake d = absurd (cc)
 fits_give_up stage.MustGiveUp core wake d = refl
-fits_give_up stage.MustWake core wake d = absurd (cc)
-fits_give_up stage.GaveUp core wake d = absurd (cc)
+fits_give_up stage.Runs action.Call wake d = absurd (cc)
+fits_give_up stage.Runs _ wake d = absurd (cc)
+fits_give_up _ core wake d = absurd (cc)
 
 fits_wake : (st : Stage) (core : Action) → duty_at st core ≡ duty.Wake → FitsTurn (turn_of st) HolderWoken
 fits_wake stage.Runs core d = refl
-fits_wake stage.MustGiveUp core d = absurd (cc)
 fits_wake stage.MustWake core d = refl
-fits_wake stage.GaveUp core d = absurd (cc)
+fits_wake _ core d = absurd (cc)
 
 -- whose job is in a hand, and where it is in its turn
 record InHand (past : List Moment) (v : ℕ) (held : Held) : Type 0 where
@@ -966,8 +445,7 @@ record InHand (past : List Moment) (v : ℕ) (held : Held) : Type 0 where
 
 in_hand : (w : Worlded) (past : List Moment) (v : ℕ) (held : Held) → Handed w past → hand_at w.hands v ≡ Holds held → InHand past v held
 in_hand w past v held h e =
-    let mine : HandAs (Holds held) (is_there past v) (hand past v) = subst (λ g. HandAs g (is_there past v) (hand past v)) e (h.each v) in
-    record { its_job = mine.1; its_turn = (h.held v held e).turn_is }
+    record { its_job = (hand_seen w past v (Holds held) h e).1; its_turn = (h.held v held e).turn_is }
 
 -- a job in its hand does what fits its turn
 acts_in_turn : (past : List Moment) (v : ℕ) (held : Held) (act : Act) → InHand past v held → FitsTurn (turn_of held.stage) act → (hand past v ≡ Some held.turn.serial) × FitsTurn (turn past held.turn.serial) act
@@ -977,8 +455,7 @@ taken_once : (setting : ℕ) (may_answer : ℕ → Bool → Type 0) (w : Worlded
     → Tied setting w past → hand_at w.hands v ≡ Free pass → TakesFront may_answer w.pool number value to_drop growth new → (hand past v ≡ None) × (among (running_jobs past) number.serial ≡ false)
 taken_once setting may_answer w past v pass number value to_drop growth new t e f =
     let front = fronted setting may_answer w past number value to_drop growth new t f in
-    let mine : HandAs (Free pass) (is_there past v) (hand past v) = subst (λ g. HandAs g (is_there past v) (hand past v)) e (t.handed.each v) in
-    (mine.1, t.counted.each number.serial ∙ ap runs_as front.stands_is)
+    ((hand_seen w past v (Free pass) t.handed e).1, t.counted.each number.serial ∙ ap runs_as front.stands_is)
 
 polls_quietly : (act : Act) (past : List Moment) (now : Event) → IsPolled act → HoldsOne past now act
 polls_quietly (TaskGot n) past now is = tt
@@ -986,23 +463,12 @@ polls_quietly TaskGotNone past now is = tt
 polls_quietly Waits past now is = tt
 polls_quietly _ past now is = elim is [ ]
 
-waits_quietly : (stops late : Bool) (past : List Moment) (now : Event) (v : ℕ) → HoldsOne past now (wait_act v late stops)
-waits_quietly true late past now v = tt
-waits_quietly false late past now v = tt
-
 -- The law of turns holds at each move.
 pub turn_after : (setting : ℕ) (marks : List Bool) (w : Worlded) (past : List Moment) (move : Move) → Tied setting w past → May (IsMarked marks) w move → TurnLaw past (moment_of w move)
-turn_after setting marks w past (Idles step) t m = record { one = tt; acts = tt }
 turn_after setting marks w past (Begins (Ok number) growth pool) t m = record { one = tt; acts = tt }
-turn_after setting marks w past (Begins (Err why) growth pool) t m = record { one = tt; acts = tt }
-turn_after setting marks w past (Calls k Poll owner) t m = record { one = polls_quietly (poll_of owner) past (moment_of w (Calls k Poll owner)).event (polled_so owner.stage owner.found owner.slot.content); acts = tt }
-turn_after setting marks w past (Calls k Cancel owner) t m = record { one = tt; acts = tt }
-turn_after setting marks w past (Calls k Detach owner) t m = record { one = tt; acts = tt }
-turn_after setting marks w past (Calls k Drop owner) t m = record { one = tt; acts = tt }
-turn_after setting marks w past (Arrives pass) t m = record { one = tt; acts = tt }
+turn_after setting marks w past (Calls k Poll owner) t m = record { one = polls_quietly (poll_of owner) past (moment_of w (Calls k Poll owner)).event (polled_so owner); acts = tt }
 turn_after setting marks w past (TakesJob v old false number job growth pool) t m = record { one = taken_once setting (IsMarked marks) w past v old number job false growth pool t m.0 m.1; acts = tt }
 turn_after setting marks w past (TakesJob v old true number job growth pool) t m = record { one = taken_once setting (IsMarked marks) w past v old number job true growth pool t m.0 m.1; acts = tt }
-turn_after setting marks w past (TakesNone v old pass) t m = record { one = tt; acts = tt }
 turn_after setting marks w past (IsAnswered v held number) t m = record { one = tt; acts = acts_in_turn past v held (Answered (Number number)) (in_hand w past v held t.handed m.0) (fits_await held.stage held.job.core (Answered (Number number)) m.1 refl) }
 turn_after setting marks w past (Finishes v held) t m =
     record { one = tt; acts = acts_in_turn past v held (Finished (finish_wakes w held)) (in_hand w past v held t.handed m.0) (fits_finish held.stage held.job.core (Finished (finish_wakes w held)) m.1 refl) }
@@ -1010,8 +476,5 @@ turn_after setting marks w past (GivesUp v held) t m =
     record { one = tt; acts = acts_in_turn past v held (GaveUp (giving_up_wakes w held)) (in_hand w past v held t.handed m.0) (fits_give_up held.stage held.job.core (giving_up_wakes w held) m.1) }
 turn_after setting marks w past (CallsWaker v held) t m = record { one = tt; acts = acts_in_turn past v held HolderWoken (in_hand w past v held t.handed m.0) (fits_wake held.stage held.job.core m.1) }
 turn_after setting marks w past (EndsTurn v held pass) t m = record { one = (in_hand w past v held t.handed m.0).its_job; acts = tt }
-turn_after setting marks w past (HasWaited v pass late) t m = record { one = waits_quietly (must_stop late w.pool) late past (moment_of w (HasWaited v pass late)).event v; acts = tt }
-turn_after setting marks w past (SetsLimit n) t m = record { one = tt; acts = tt }
-turn_after setting marks w past Sweeps t m = record { one = tt; acts = tt }
-turn_after setting marks w past (IsWoken s) t m = record { one = tt; acts = tt }
-turn_after setting marks w past (IsStruck s) t m = record { one = tt; acts = tt }
+turn_after setting marks w past (HasWaited v pass late) t m = record { one = by_wait (HoldsOne past (moment_of w (HasWaited v pass late)).event) v late tt tt (must_stop late w.pool); acts = tt }
+turn_after setting marks w past move t m = record { one = tt; acts = tt }

@@ -1,54 +1,15 @@
--- Small facts on the hands of workers: what stands in a row after a change of one hand, and how many hands are free.
+-- The hands of workers: what stands in a row after a change of one hand, and sums over a row.
 use Rattle.std.proofs.Common.{◌≡◌, ℕ, ◌+◌, ◌-◌, ◌<◌, ◌==◌, List, [], ◌∷◌, ◌++◌, Bool, true, false, length, refl, sym, ap, ◌∙◌, subst, arith, if◌then◌else◌, Option, Some, None, zero, suc}
 use Rattle.std.specs.Prelude.{slice_get, slice_set}
 use Rattle.std.proofs.lemmas.Bool.Decides.{nat_tests}
-use Rattle.std.proofs.lemmas.Option.{slice_get_within}
-use Rattle.blocking_world.proofs.Lookups.{same_number}
+use Rattle.std.proofs.lemmas.Bool.{eqb-true, eqb-false}
+use Rattle.std.proofs.lemmas.Option.{slice_get_past, slice_get_within}
+use Rattle.blocking_world.proofs.Rows.{got_same, got_other, got_pushed}
 use Rattle.blocking_world.specs.Worlds.{hand_at, hand_in, with_hand}
 use Rattle.blocking_world.specs.Machine.{one_if_free, free_hands}
 use Rattle.blocking_world.specs.declared.hand.Hand.{Hand}
 use Rattle.blocking_world.specs.declared.hand.Hand.TheVariants.{Out, Free, Holds}
 use Rattle.blocking_world.specs.declared.hand.Held.{Held}
-
--- ---- lists
-
-pub other_number : (m n : ℕ) → (m ≡ n → ⊥) → (m == n) ≡ false
-other_number m n differs = grind (arith, nat_tests)
-
-pub not_same : (m n : ℕ) → (m == n) ≡ false → m ≡ n → ⊥
-not_same m n e = grind (arith, nat_tests)
-
-pub itself : (n : ℕ) → (n == n) ≡ true
-itself n = grind (arith, nat_tests)
-
--- a changed place
-pub got_same : {X : Type 0} (xs : List X) (i : ℕ) (y : X) → i < length xs → slice_get (slice_set xs i y) i ≡ Some y
-got_same [] i y lt = absurd (omega arith)
-got_same (x ∷ xs) zero y lt = refl
-got_same (x ∷ xs) (suc i) y lt = got_same xs i y (omega arith)
-
--- the other places
-pub got_other : {X : Type 0} (xs : List X) (i j : ℕ) (y : X) → (i ≡ j → ⊥) → slice_get (slice_set xs i y) j ≡ slice_get xs j
-got_other [] i j y differs = refl
-got_other (x ∷ xs) zero zero y differs = absurd (differs refl)
-got_other (x ∷ xs) zero (suc j) y differs = refl
-got_other (x ∷ xs) (suc i) zero y differs = refl
-got_other (x ∷ xs) (suc i) (suc j) y differs = got_other xs i j y (λ e. differs (ap suc e))
-
--- what stands in a list that has one more at its end
-pub got_pushed : {X : Type 0} (xs : List X) (y : X) (i : ℕ) (b : Bool) → (length xs == i) ≡ b → slice_get (xs ++ y ∷ []) i ≡ (if b then Some y else slice_get xs i)
-got_pushed [] y zero true e = refl
-got_pushed [] y zero false e = absurd (not_same 0 0 e refl)
-got_pushed [] y (suc i) true e = let z = same_number 0 (suc i) e in absurd (omega (arith, z))
-got_pushed [] y (suc i) false e = refl
-got_pushed (x ∷ xs) y zero true e = let z = same_number (suc (length xs)) 0 e in absurd (omega (arith, z))
-got_pushed (x ∷ xs) y zero false e = refl
-got_pushed (x ∷ xs) y (suc i) true e = got_pushed xs y i true (grind (arith, nat_tests))
-got_pushed (x ∷ xs) y (suc i) false e = got_pushed xs y i false (grind (arith, nat_tests))
-
--- what stood there still does
-pub got_before : {X : Type 0} (xs : List X) (y : X) (i : ℕ) → i < length xs → slice_get (xs ++ y ∷ []) i ≡ slice_get xs i
-got_before xs y i lt = got_pushed xs y i false (grind (arith, nat_tests))
 
 -- ---- the hand of a worker that is there
 
@@ -86,13 +47,13 @@ hand_from_place row n h e =
 
 set_by : (row : List Hand) (v u : ℕ) (old h : Hand) → IsAt row v old → (b c : Bool) → (v == u) ≡ b → (u == 0) ≡ c → hand_at (with_hand row v h) u ≡ (if b then h else hand_at row u)
 set_by row v u old h at true c e z =
-    subst (λ n. hand_at (with_hand row v h) n ≡ h) (same_number v u e)
+    subst (λ n. hand_at (with_hand row v h) n ≡ h) (eqb-true v u e)
     (hand_of_place (with_hand row v h) v at.positive ∙ ap hand_in (got_same row (v - 1) h at.within))
 set_by row v u old h at false true e z = rw z refl
 set_by row v u old h at false false e z =
     let there : 0 < u = grind (arith, nat_tests) in
     let here = at.positive in
-    let ne = not_same v u e in
+    let ne = eqb-false v u e in
     let differs : v - 1 ≡ u - 1 → ⊥ = λ same. ne (omega (arith, same, here, there)) in
     hand_of_place (with_hand row v h) u there ∙ ap hand_in (got_other row (v - 1) (u - 1) h differs) ∙ sym (hand_of_place row u there)
 
@@ -118,23 +79,37 @@ hand_pushed row u h = pushed_by row u h (length row + 1 == u) (u == 0) refl refl
 pub hand_next : (row : List Hand) → hand_at row (length row + 1) ≡ Out
 hand_next row =
     let same : length row + 1 - 1 ≡ length row = omega arith in
-    hand_of_place row (length row + 1) (omega arith) ∙ ap hand_in (ap (slice_get row) same ∙ past_end row)
-  where
-    past_end : (xs : List Hand) → slice_get xs (length xs) ≡ None
-    past_end [] = refl
-    past_end (x ∷ xs) = past_end xs
+    hand_of_place row (length row + 1) (omega arith) ∙ ap hand_in (ap (slice_get row) same ∙ slice_get_past row (length row) (omega arith))
 
--- ---- how many hands are free
+-- ---- sums over a row of hands
 
--- after one has changed
+-- a sum of what each hand adds
+abbrev pub sum_of : (Hand → ℕ) → List Hand → ℕ
+sum_of one [] = 0
+sum_of one (h ∷ row) = one h + sum_of one row
+
+-- how many hands are free
+pub sum_free : (row : List Hand) → sum_of one_if_free row ≡ free_hands row
+sum_free [] = refl
+sum_free (h ∷ row) = ap (λ n. one_if_free h + n) (sum_free row)
+
+-- a sum after one hand has changed
+pub sum_set : (one : Hand → ℕ) (row : List Hand) (i : ℕ) (old new : Hand) → slice_get row i ≡ Some old → sum_of one (slice_set row i new) + one old ≡ sum_of one row + one new
+sum_set one [] i old new e = absurd (cc)
+sum_set one (h ∷ row) zero old new e =
+    let same : h ≡ old = cc in
+    subst (λ g. sum_of one (new ∷ row) + one g ≡ sum_of one (h ∷ row) + one new) same (omega arith)
+sum_set one (h ∷ row) (suc i) old new e = let below = sum_set one row i old new e in omega (arith, below)
+
+-- a sum after one hand was added
+pub sum_pushed : (one : Hand → ℕ) (row : List Hand) (new : Hand) → sum_of one (row ++ new ∷ []) ≡ sum_of one row + one new
+sum_pushed one [] new = omega arith
+sum_pushed one (h ∷ row) new = let below = sum_pushed one row new in omega (arith, below)
+
+-- how many hands are free after one has changed
 pub free_set : (row : List Hand) (i : ℕ) (old h : Hand) → slice_get row i ≡ Some old → free_hands (slice_set row i h) + one_if_free old ≡ free_hands row + one_if_free h
-free_set [] i old h e = absurd (cc)
-free_set (x ∷ row) zero old h e =
-    let same : x ≡ old = cc in
-    subst (λ g. free_hands (h ∷ row) + one_if_free g ≡ free_hands (x ∷ row) + one_if_free h) same (omega arith)
-free_set (x ∷ row) (suc i) old h e = let below = free_set row i old h e in omega (arith, below)
+free_set row i old h e = omega (arith, sum_set one_if_free row i old h e, sum_free row, sum_free (slice_set row i h))
 
--- after one was added
+-- and after one was added
 pub free_pushed : (row : List Hand) (h : Hand) → free_hands (row ++ h ∷ []) ≡ free_hands row + one_if_free h
-free_pushed [] h = omega arith
-free_pushed (x ∷ row) h = let below = free_pushed row h in omega (arith, below)
+free_pushed row h = omega (arith, sum_pushed one_if_free row h, sum_free row, sum_free (row ++ h ∷ []))

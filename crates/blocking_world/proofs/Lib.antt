@@ -2,6 +2,8 @@ pub mod Growing
 pub mod Marking
 pub mod Unparked
 pub mod Dismissals
+pub mod Alike
+pub mod Sights
 pub mod Handing
 pub mod Hands
 pub mod Passing
@@ -14,8 +16,12 @@ pub mod Stepping
 pub mod Beginning
 pub mod Lining
 pub mod Answering
+pub mod Rows
 pub mod Lookups
 pub mod Entries
+pub mod Tied
+pub mod Polls
+pub mod Quiet
 pub mod Numbering
 pub mod Filing
 pub mod Lawful

@@ -1,5 +1,5 @@
 -- A mark on the job of a pool of calls.
-use Rattle.std.proofs.Common.{◌≡◌, Option, Some, None, ap, ◌∙◌, subst, refl}
+use Rattle.std.proofs.Common.{◌≡◌, Option, Some, None, ap, ◌∙◌, subst}
 use Rattle.std.specs.Prelude.{OnSome}
 use Rattle.std.specs.Borrow.{MutBor}
 use Rattle.blocking_core.specs.Jobs.{JobNumber, job_of, value_at, valued}
@@ -7,14 +7,11 @@ use Rattle.blocking_core.specs.Pools.{with_job}
 use Rattle.blocking_world.specs.Crews.{marked, mark_value, marked_in}
 use Rattle.blocking_world.specs.Worlds.{CallPool}
 use Rattle.blocking_world.specs.declared.call.CallJob.{CallJob}
-
-value_counts : (pool : CallPool) (number : JobNumber) (value : Option CallJob) → (mark_value pool number value).counts ≡ pool.counts
-value_counts pool number None = refl
-value_counts pool number (Some value) = refl
+use Rattle.blocking_world.proofs.Lookups.{mark_alone}
 
 -- a mark leaves the counts
 pub marked_counts : (pool : CallPool) (number : JobNumber) → (marked_in pool number).counts ≡ pool.counts
-marked_counts pool number = value_counts pool number (value_at (job_of pool.jobs number))
+marked_counts pool number = ap (λ (p : CallPool). p.counts) (mark_alone pool number (value_at (job_of pool.jobs number)))
 
 -- a value that was lent and marked
 pub lent_marked : (inside old last : CallPool) (number : JobNumber) (lent : Option (MutBor CallJob)) (job : MutBor CallJob) → inside ≡ old → lent ≡ Some job

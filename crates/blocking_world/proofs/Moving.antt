@@ -1,5 +1,6 @@
 -- Each step is a move.
 use Rattle.std.proofs.Common.{◌≡◌, ℕ, Bool, true, false, refl, ap, ◌∙◌, arith, Option, Some, None}
+use Rattle.std.proofs.lemmas.Bool.{and_parts}
 use Rattle.std.proofs.lemmas.Bool.Decides.{nat_tests}
 use Rattle.std.specs.Prelude.{◌&&◌, nat_lt, not, ◌==◌, slice_get}
 use Rattle.blocking_core.specs.Growth.{Growth}
@@ -133,18 +134,10 @@ stray_if : (may_answer : ℕ → Bool → Type 0) (w : Worlded) (s : ℕ) (e : E
 stray_if may_answer w s e w' false test does = idle_move may_answer w e w' (Stray s) test does
 stray_if may_answer w s e w' true test does = moved_by may_answer w e w' (IsWoken s) test does
 
-both_first : (a b : Bool) → (a && b) ≡ true → a ≡ true
-both_first true b test = refl
-both_first false b test = absurd (cc)
-
-both_second : (a b : Bool) → (a && b) ≡ true → b ≡ true
-both_second true b test = test
-both_second false b test = absurd (cc)
-
 strike_if : (may_answer : ℕ → Bool → Type 0) (w : Worlded) (s : ℕ) (e : Event) (w' : Worlded) (b : Bool) → (was_accepted w s && has_let_go (owner_at w.tasks s).stage) ≡ b → StrikesIf b w s e w' → Moves may_answer (Strike s) w e w'
 strike_if may_answer w s e w' false test does = idle_move may_answer w e w' (Strike s) test does
 strike_if may_answer w s e w' true test does =
-    moved_by may_answer w e w' (IsStruck s) (both_first (was_accepted w s) (has_let_go (owner_at w.tasks s).stage) test, both_second (was_accepted w s) (has_let_go (owner_at w.tasks s).stage) test) does
+    moved_by may_answer w e w' (IsStruck s) (and_parts (was_accepted w s) (has_let_go (owner_at w.tasks s).stage) test) does
 
 -- ---- each step
 

@@ -1,66 +1,41 @@
 -- The workers are those that hold passes or turns and those that haven't arrived: the turns are as many as the running jobs, after every move.
-use Rattle.std.proofs.Common.{◌≡◌, ℕ, ◌+◌, ◌-◌, List, [], ◌∷◌, ◌++◌, Bool, true, false, length, length-append, refl, sym, ap, ◌∙◌, subst, arith, Option, Some, None, zero, suc}
-use Rattle.std.specs.Prelude.{◌&&◌, slice_get, slice_set, Result, Ok, Err, is_some, is_none}
+use Rattle.std.proofs.Common.{◌≡◌, ℕ, ◌+◌, ◌-◌, List, [], ◌∷◌, Bool, true, false, length, length-append, refl, sym, ap, ◌∙◌, arith, Option, Some, None, zero, suc}
+use Rattle.std.specs.Prelude.{◌&&◌, slice_get, Ok, is_some, is_none}
 use Rattle.blocking_core.specs.Growth.{Growth}
 use Rattle.blocking_core.specs.Jobs.{JobNumber}
 use Rattle.blocking_core.specs.PoolAnswers.{must_stop}
-use Rattle.blocking_core.specs.declared.pool.answer.Refusal.{Refusal}
 use Rattle.blocking_core.specs.declared.pool.token.WorkerPass.{WorkerPass}
 use Rattle.blocking_laws.specs.Queue.{running}
 use Rattle.blocking_laws.specs.Growth.{IsMarked}
 use Rattle.blocking_laws.specs.Steps.{is_there, is_free}
 use Rattle.blocking_laws.specs.Turns.{hand}
 use Rattle.blocking_laws.specs.Staffed.{one_where, count_to, passes, turns, AreStaffed}
-use Rattle.blocking_world.specs.Worlds.{Worlded, CallPool, hand_at, with_hand, poll_of, answered, finished, given_up, woke}
+use Rattle.blocking_world.specs.Crews.{no_growth}
+use Rattle.blocking_world.specs.Worlds.{Worlded, CallPool, hand_at, with_hand, answered, finished, given_up, woke}
 use Rattle.blocking_world.specs.Machine.{next_start, one_if_free, free_hands, one_if_held, held_hands, wait_act, after_wait}
-use Rattle.blocking_world.specs.Moves.{Move, Idles, Begins, Calls, Arrives, TakesJob, TakesNone, IsAnswered, Finishes, GivesUp, CallsWaker, EndsTurn, HasWaited, SetsLimit, Sweeps, IsWoken, IsStruck, May, moment_of, after, finish_wakes, giving_up_wakes, first_stage, wait_step}
+use Rattle.blocking_world.specs.Moves.{Move, Begins, Calls, Arrives, TakesJob, TakesNone, IsAnswered, Finishes, GivesUp, CallsWaker, EndsTurn, HasWaited, May, moment_of, after, finish_wakes, giving_up_wakes, first_stage, wait_step}
 use Rattle.blocking_world.specs.Ties.{HandAs, Handed, Tied, Holding}
 use Rattle.blocking_world.specs.declared.call.CallJob.{CallJob}
 use Rattle.blocking_laws.specs.declared.event.Moment.{Moment}
 use Rattle.blocking_laws.specs.declared.event.Party.{Party}
-use Rattle.blocking_laws.specs.declared.event.Party.TheVariants.{Task, Worker}
+use Rattle.blocking_laws.specs.declared.event.Party.TheVariants.{Worker}
 use Rattle.blocking_world.specs.declared.hand.Hand.{Hand}
 use Rattle.blocking_world.specs.declared.hand.Hand.TheVariants.{Out, Free, Holds}
 use Rattle.blocking_world.specs.declared.hand.Held.{Held}
 use Rattle.blocking_laws.specs.declared.step.Step.{Step}
-use Rattle.blocking_laws.specs.declared.step.Step.TheVariants.{OfTask}
-use Rattle.blocking_laws.specs.declared.step.TaskCall.{TaskCall}
-use Rattle.blocking_laws.specs.declared.step.TaskCall.TheVariants.{Poll, Cancel, Detach, Drop}
-use Rattle.blocking_world.specs.declared.task.Owner.{Owner}
-use Rattle.blocking_world.proofs.Hands.{IsAt, at_held, at_free, hand_from_place}
-use Rattle.blocking_world.proofs.Counting.{one_out, held_runs, quiet, still_act, poll_still}
+use Rattle.blocking_world.proofs.Hands.{IsAt, at_held, at_free, hand_from_place, sum_of, sum_free, sum_set, sum_pushed}
+use Rattle.blocking_world.proofs.Counting.{held_busy}
+use Rattle.blocking_world.proofs.Quiet.{seen_at, jobs_stay_at}
+use Rattle.blocking_world.proofs.Rows.{one_out}
+use Rattle.blocking_world.proofs.Tied.{hand_seen}
 use Rattle.blocking_world.proofs.Grown.{counts_are}
 
--- ---- sums over a row of hands
-
-abbrev sum_of : (Hand → ℕ) → List Hand → ℕ
-sum_of one [] = 0
-sum_of one (h ∷ row) = one h + sum_of one row
-
--- the sum of the passes is the count of the free hands
-sum_free : (row : List Hand) → sum_of one_if_free row ≡ free_hands row
-sum_free [] = refl
-sum_free (h ∷ row) = ap (λ n. one_if_free h + n) (sum_free row)
+-- ---- what a test of the workers counts is a sum over their hands
 
 -- the sum of the turns is the count of the hands that hold jobs
 sum_held : (row : List Hand) → sum_of one_if_held row ≡ held_hands row
 sum_held [] = refl
 sum_held (h ∷ row) = ap (λ n. one_if_held h + n) (sum_held row)
-
--- a sum after one hand has changed
-sum_set : (one : Hand → ℕ) (row : List Hand) (i : ℕ) (old new : Hand) → slice_get row i ≡ Some old → sum_of one (slice_set row i new) + one old ≡ sum_of one row + one new
-sum_set one [] i old new e = absurd (cc)
-sum_set one (h ∷ row) zero old new e =
-    let same : h ≡ old = cc in
-    subst (λ g. sum_of one (new ∷ row) + one g ≡ sum_of one (h ∷ row) + one new) same (omega arith)
-sum_set one (h ∷ row) (suc i) old new e = let below = sum_set one row i old new e in omega (arith, below)
-
--- a sum after one hand was added
-sum_pushed : (one : Hand → ℕ) (row : List Hand) (new : Hand) → sum_of one (row ++ new ∷ []) ≡ sum_of one row + one new
-sum_pushed one [] new = omega arith
-sum_pushed one (h ∷ row) new = let below = sum_pushed one row new in omega (arith, below)
-
--- ---- what a test of the workers counts is a sum over their hands
 
 -- a count by its first worker
 count_first : (test : ℕ → Bool) (n : ℕ) → count_to test (suc n) ≡ one_where (test 1) + count_to (λ v. test (v + 1)) n
@@ -96,7 +71,7 @@ held_tells (Holds held) there job tied = ap (λ j. one_where (is_some j)) tied.1
 
 -- the hand in a place, by what was seen of its worker
 seen_hand : (w : Worlded) (past : List Moment) (n : ℕ) (h : Hand) → Handed w past → slice_get w.hands n ≡ Some h → HandAs h (is_there past (n + 1)) (hand past (n + 1))
-seen_hand w past n h handed e = subst (λ g. HandAs g (is_there past (n + 1)) (hand past (n + 1))) (hand_from_place w.hands n h e) (handed.each (n + 1))
+seen_hand w past n h handed e = hand_seen w past (n + 1) h handed (hand_from_place w.hands n h e)
 
 -- the passes are the free hands
 passes_are : (setting : ℕ) (w : Worlded) (past : List Moment) → Tied setting w past → passes past ≡ free_hands w.hands
@@ -148,20 +123,6 @@ hand_held w past v old new at same held =
     let changed = sum_set one_if_held w.hands (v - 1) old new at.got in
     omega (arith, changed, same, held)
 
-begins_held : (w : Worlded) (past : List Moment) (answer : Result JobNumber Refusal) (growth : Growth) (pool : CallPool) → AreHeld w past
-    → (let move = Begins answer growth pool in AreHeld (after w move) (moment_of w move ∷ past))
-begins_held w past (Ok number) growth pool held = held
-begins_held w past (Err why) growth pool held = held
-
-calls_held : (w : Worlded) (past : List Moment) (k : ℕ) (call : TaskCall) (owner : Owner) → AreHeld w past
-    → (let move = Calls k call owner in AreHeld (after w move) (moment_of w move ∷ past))
-calls_held w past k Poll owner held =
-    let still = poll_still owner.stage owner.found owner.slot.content in
-    held ∙ sym (ap length (still_act 0 past (OfTask k Poll) (Task k) None (poll_of owner) (next_start w) still).busy)
-calls_held w past k Cancel owner held = held
-calls_held w past k Detach owner held = held
-calls_held w past k Drop owner held = held
-
 takes_held : (w : Worlded) (past : List Moment) (v : ℕ) (old : WorkerPass) (to_drop : Bool) (turn : JobNumber) (job : CallJob) (growth : Growth) (pool : CallPool)
     → hand_at w.hands v ≡ Free old → AreHeld w past
     → (let move = TakesJob v old to_drop turn job growth pool in AreHeld (after w move) (moment_of w move ∷ past))
@@ -180,11 +141,11 @@ ends_held : (setting : ℕ) (w : Worlded) (past : List Moment) (v : ℕ) (held :
     → (let move = EndsTurn v held pass in AreHeld (after w move) (moment_of w move ∷ past))
 ends_held setting w past v held pass t holds same =
     let changed = sum_set one_if_held w.hands (v - 1) (Holds held) (Free pass) (at_held w.hands v held holds).got in
-    let fewer = one_out held.turn.serial (running past) t.counted.once (held_runs setting w past v held t holds) in
+    let fewer = one_out held.turn.serial (running past) t.counted.once (held_busy setting w past v held t holds) in
     omega (arith, changed, fewer, same)
 
 waits_held : (w : Worlded) (past : List Moment) (v : ℕ) (pass : WorkerPass) (late stops : Bool) (step : Step) (who : Party) (first : ℕ) → hand_at w.hands v ≡ Free pass → AreHeld w past
-    → AreHeld (after_wait w v pass stops) (quiet step who None (wait_act v late stops) first ∷ past)
+    → AreHeld (after_wait w v pass stops) (seen_at step who None (wait_act v late stops) first no_growth ∷ past)
 waits_held w past v pass late true step who first free held = hand_held w past v (Free pass) Out (at_free w.hands v pass free) refl held
 waits_held w past v pass late false step who first free held = hand_held w past v (Free pass) (Free pass) (at_free w.hands v pass free) refl held
 
@@ -194,9 +155,8 @@ arrives_held w past pass held = let pushed = sum_pushed one_if_held w.hands (Fre
 -- each move keeps as many hands that hold jobs as jobs run
 held_after : (setting : ℕ) (marks : List Bool) (w : Worlded) (past : List Moment) (move : Move) → Tied setting w past → May (IsMarked marks) w move → AreHeld w past
     → AreHeld (after w move) (moment_of w move ∷ past)
-held_after setting marks w past (Idles step) t m same = same
-held_after setting marks w past (Begins answer growth pool) t m same = begins_held w past answer growth pool same
-held_after setting marks w past (Calls k call owner) t m same = calls_held w past k call owner same
+held_after setting marks w past (Begins (Ok number) growth pool) t m same = same
+held_after setting marks w past (Calls k call owner) t m same = same ∙ sym (ap length (jobs_stay_at setting w past t (Calls k call owner) refl).busy)
 held_after setting marks w past (Arrives pass) t m same = arrives_held w past pass same
 held_after setting marks w past (TakesJob v old to_drop turn job growth pool) t m same = takes_held w past v old to_drop turn job growth pool m.0 same
 held_after setting marks w past (TakesNone v old pass) t m same = hand_held w past v (Free old) (Free pass) (at_free w.hands v old m.0) refl same
@@ -209,10 +169,7 @@ held_after setting marks w past (GivesUp v held) t m same =
 held_after setting marks w past (CallsWaker v held) t m same = hand_held w past v (Holds held) (Holds (woke held)) (at_held w.hands v held m.0) refl same
 held_after setting marks w past (EndsTurn v held pass) t m same = ends_held setting w past v held pass t m.0 same
 held_after setting marks w past (HasWaited v pass late) t m same = waits_held w past v pass late (must_stop late w.pool) (wait_step late v) (Worker v) (next_start w) m same
-held_after setting marks w past (SetsLimit n) t m same = same
-held_after setting marks w past Sweeps t m same = same
-held_after setting marks w past (IsWoken s) t m same = same
-held_after setting marks w past (IsStruck s) t m same = same
+held_after setting marks w past move t m same = same
 
 -- Each move leaves the workers with what was seen.
 pub holding_after : (setting : ℕ) (marks : List Bool) (w : Worlded) (past : List Moment) (move : Move) → Tied setting w past → Tied setting (after w move) (moment_of w move ∷ past)

@@ -1,11 +1,11 @@
 -- A step has an action in a world exactly where it has one by what was seen; and what is seen of a move is of its step.
-use Rattle.std.proofs.Common.{◌≡◌, ℕ, ◌+◌, ◌-◌, inl, inr, List, length, Bool, true, false, refl, sym, ap, ◌∙◌, subst, arith, Option, Some, None, Result, Ok, Err, get_or}
+use Rattle.std.proofs.Common.{◌≡◌, ℕ, ◌+◌, ◌-◌, inl, inr, List, length, Bool, true, false, refl, sym, ap, ◌∙◌, subst, arith, Option, Some, None, Result, Ok, Err}
+use Rattle.std.proofs.lemmas.Bool.{ltb-true, lt-ltb}
 use Rattle.std.proofs.lemmas.Bool.Decides.{nat_tests}
-use Rattle.std.proofs.lemmas.Option.{slice_get-get_or, slice_get_within}
+use Rattle.std.proofs.lemmas.Option.{slice_get_within}
 use Rattle.std.specs.Prelude.{◌&&◌, ◌||◌, nat_lt, not, ◌==◌, slice_get, is_some, is_none, if◌then◌else◌}
 use Rattle.blocking_core.specs.Growth.{Growth}
 use Rattle.blocking_core.specs.PoolAnswers.{must_stop}
-use Rattle.blocking_core.specs.Slots.{Content, Empty, Full, GivenUp as NoneComes, Abandoned}
 use Rattle.blocking_core.specs.declared.job.Action.{Action}
 use Rattle.blocking_core.specs.declared.job.Action.TheVariants as action
 use Rattle.blocking_core.specs.declared.pool.answer.Refusal.{Refusal}
@@ -20,13 +20,13 @@ use Rattle.blocking_laws.specs.Growth.{IsMarked}
 use Rattle.blocking_laws.specs.Turns.{Turn, GoesOn, turn, hand}
 use Rattle.blocking_laws.specs.JobTable.{Calling, AskCall, Finish, WakeHolder, next_of_job}
 use Rattle.blocking_laws.specs.TaskLaws.{is_gone, was_cancelled, is_let_go}
-use Rattle.blocking_laws.specs.Steps.{is_there, Work, NoWork, Does, GivesUp as MustGive, EndsTurn as MustEnd, work_in, work_with, work, is_job_work, is_answered_work, is_turn_end, is_for_cancelled, may_call, may_cancel, has_action, named, party, job_of, IsPolled, IsOfTask, IsBegun, Fits, Happens, StepLaw}
-use Rattle.blocking_world.specs.Worlds.{Worlded, CallPool, outcome_of, duty_of, duty_at, hand_at, may_be, has_let_go, poll_in, poll_at, poll_of, owner_in, owner_at, is_free_hand}
+use Rattle.blocking_laws.specs.Steps.{is_there, Work, NoWork, Does, GivesUp as MustGive, EndsTurn as MustEnd, work_in, work_with, work, is_job_work, is_answered_work, is_turn_end, is_for_cancelled, may_call, may_cancel, has_action, named, party, job_of, IsOfTask, IsBegun, Fits, Happens, StepLaw}
+use Rattle.blocking_world.specs.Worlds.{Worlded, CallPool, outcome_of, duty_of, duty_at, hand_at, may_be, has_let_go, owner_at, is_free_hand}
 use Rattle.blocking_world.specs.Machine.{seen, next_start, was_accepted, added_act, task_act, wait_act}
 use Rattle.blocking_world.specs.Moves.{Move, Idles, Begins, Calls, Arrives, TakesJob, TakesNone, IsAnswered, Finishes, GivesUp, CallsWaker, EndsTurn, HasWaited, SetsLimit, Sweeps, IsWoken, IsStruck, May, has_act, duty_in, is_own, is_awaiting, is_ending, may_call_in, wait_step, finish_wakes, giving_up_wakes, wakes_as, cancels_as, moment_of}
 use Rattle.blocking_world.specs.Ties.{Tied, Numbered, Handed, Tasked, TaskAs, HandAs, HeldAs, ActedAs, turn_of, is_gone_as, CancelAs}
 use Rattle.blocking_laws.specs.declared.event.Act.{Act}
-use Rattle.blocking_laws.specs.declared.event.Act.TheVariants.{JobWoken, JobCancelled, LimitSet, Waits, TaskGot, TaskGotNone, Arrived, Took, TookDropped, TookNone, Stays, Stopped, Ended, Answered, Finished, GaveUp, HolderWoken, NoAction}
+use Rattle.blocking_laws.specs.declared.event.Act.TheVariants.{JobWoken, JobCancelled, LimitSet, Arrived, Took, TookDropped, TookNone, Stays, Stopped, Ended, Answered, Finished, GaveUp, HolderWoken, NoAction}
 use Rattle.blocking_laws.specs.declared.event.Event.{Event}
 use Rattle.blocking_laws.specs.declared.event.Moment.{Moment}
 use Rattle.blocking_laws.specs.declared.event.Party.{Party}
@@ -48,6 +48,8 @@ use Rattle.blocking_world.specs.declared.task.Owner.{Owner}
 use Rattle.blocking_world.specs.declared.task.TaskStage.{TaskStage}
 use Rattle.blocking_world.specs.declared.task.TaskStage.TheVariants as task
 use Rattle.blocking_world.proofs.Cutting.{own_cut}
+use Rattle.blocking_world.proofs.Polls.{polled_so, called_plainly}
+use Rattle.blocking_world.proofs.Tied.{owner_there, accepted_within, hand_seen}
 
 -- ---- workers
 
@@ -93,26 +95,17 @@ work_is w past v handed = work_by w past v handed (hand_at w.hands v) refl (hand
 own_work : (d : Option Duty) → is_own d ≡ is_job_work (duty_work d)
 own_work None = refl
 own_work (Some duty.Await) = refl
-own_work (Some duty.Finish) = refl
-own_work (Some duty.GiveUp) = refl
-own_work (Some duty.Wake) = refl
-own_work (Some duty.End) = refl
+own_work (Some _) = refl
 
 awaited_work : (d : Option Duty) (answer : Answer) → is_awaiting d ≡ is_answered_work (duty_work d) answer
 awaited_work None answer = refl
 awaited_work (Some duty.Await) (Number n) = refl
-awaited_work (Some duty.Finish) answer = refl
-awaited_work (Some duty.GiveUp) answer = refl
-awaited_work (Some duty.Wake) answer = refl
-awaited_work (Some duty.End) answer = refl
+awaited_work (Some _) answer = refl
 
 ending_work : (d : Option Duty) → is_ending d ≡ is_turn_end (duty_work d)
 ending_work None = refl
 ending_work (Some duty.Await) = refl
-ending_work (Some duty.Finish) = refl
-ending_work (Some duty.GiveUp) = refl
-ending_work (Some duty.Wake) = refl
-ending_work (Some duty.End) = refl
+ending_work (Some _) = refl
 
 -- a worker has still to arrive exactly where one was started that hasn't
 arrive_by : (m n s : ℕ) → s ≡ m + n → (x y : Bool) → nat_lt 0 m ≡ x → nat_lt n s ≡ y → x ≡ y
@@ -140,16 +133,8 @@ task_may k owner seen call tie =
 
 -- a task that isn't found isn't there
 none_there : (row : List Owner) (k : ℕ) → slice_get row k ≡ None → (b : Bool) → nat_lt k (length row) ≡ b → b ≡ false
-none_there row k none true test =
-    let some = slice_get-get_or row k (owner_in None) (grind (arith, nat_tests)) in
-    absurd (cc)
+none_there row k none true test = let some = owner_there row k (ltb-true k (length row) test) in absurd (cc)
 none_there row k none false test = refl
-
-some_there : (row : List Owner) (k : ℕ) (owner : Owner) → slice_get row k ≡ Some owner → (b : Bool) → nat_lt k (length row) ≡ b → b ≡ true
-some_there row k owner some true test = refl
-some_there row k owner some false test =
-    let within = slice_get_within row k owner some in
-    absurd (grind (arith, nat_tests))
 
 calls_by : (w : Worlded) (past : List Moment) (k : ℕ) (call : TaskCall) → Numbered w past → Tasked w past → (found : Option Owner) → slice_get w.tasks k ≡ found
     → may_call_in found call ≡ (nat_lt k (tasks past) && may_call (acts_of_task k (events past)) call)
@@ -159,7 +144,7 @@ calls_by w past k call numbered tasked None found =
 calls_by w past k call numbered tasked (Some owner) found =
     task_may k owner (events past) call (tasked.each k owner found)
     ∙ sym (ap (λ n. nat_lt k n && may_call (acts_of_task k (events past)) call) (sym numbered.owners)
-    ∙ ap (λ b. b && may_call (acts_of_task k (events past)) call) (some_there w.tasks k owner found (nat_lt k (length w.tasks)) refl))
+    ∙ ap (λ b. b && may_call (acts_of_task k (events past)) call) (lt-ltb k (length w.tasks) (slice_get_within w.tasks k owner found)))
 
 -- ---- jobs
 
@@ -175,22 +160,14 @@ stray_is : (w : Worlded) (past : List Moment) (s : ℕ) → Numbered w past → 
 stray_is w past s numbered =
     accepted_is w past s numbered ∙ some_if (nat_lt 0 s && nat_lt (s - 1) (tasks past)) (Task (s - 1)) ∙ ap is_some (sym (numbered.holders s))
 
-both_second : (a b : Bool) → (a && b) ≡ true → b ≡ true
-both_second true b test = test
-both_second false b test = absurd (cc)
-
--- the task of a job that was accepted is there
-owner_there : (row : List Owner) (k : ℕ) → nat_lt k (length row) ≡ true → slice_get row k ≡ Some (get_or row k (owner_in None))
-owner_there row k test = slice_get-get_or row k (owner_in None) (grind (arith, nat_tests))
-
 strike_if : (w : Worlded) (past : List Moment) (s : ℕ) → Tasked w past → (b : Bool) → (nat_lt 0 s && nat_lt (s - 1) (length w.tasks)) ≡ b
     → (b && has_let_go (owner_at w.tasks s).stage) ≡ may_cancel (if b then Some (Task (s - 1)) else None) past
 strike_if w past s tasked false test = refl
 strike_if w past s tasked true test =
-    let there = owner_there w.tasks (s - 1) (both_second (nat_lt 0 s) (nat_lt (s - 1) (length w.tasks)) test) in
-    let owner = get_or w.tasks (s - 1) (owner_in None) in
+    let there = owner_there w.tasks (s - 1) (accepted_within w s test).1 in
+    let owner = owner_at w.tasks s in
     let tie = tasked.each (s - 1) owner there in
-    ap (λ o. has_let_go (owner_in o).stage) there ∙ sym tie.let_go ∙ ap is_let_go (own_cut (s - 1) (s - 1 + 1) (events past))
+    sym tie.let_go ∙ ap is_let_go (own_cut (s - 1) (s - 1 + 1) (events past))
 
 strike_is : (w : Worlded) (past : List Moment) (s : ℕ) → Numbered w past → Tasked w past → (was_accepted w s && has_let_go (owner_at w.tasks s).stage) ≡ may_cancel (holder past s) past
 strike_is w past s numbered tasked =
@@ -234,9 +211,7 @@ idled past step has = subst (λ b. Happens b past step NoAction) (sym has) refl
 
 -- what a hand holds is what was seen in it
 in_hand : (w : Worlded) (past : List Moment) (v : ℕ) (held : Held) → Handed w past → hand_at w.hands v ≡ Holds held → hand past v ≡ Some held.turn.serial
-in_hand w past v held handed holds =
-    let tie = subst (λ h. HandAs h (is_there past v) (hand past v)) holds (handed.each v) in
-    tie.1
+in_hand w past v held handed holds = (hand_seen w past v (Holds held) handed holds).1
 
 begun_fits : (added : Result JobNumber Refusal) → IsBegun (added_act added)
 begun_fits (Ok number) = tt
@@ -246,37 +221,11 @@ begun_is : (added : Result JobNumber Refusal) → is_nothing (added_act added) �
 begun_is (Ok number) = refl
 begun_is (Err why) = refl
 
-poll_in_fits : (content : Content ℕ) → IsPolled (poll_in content)
-poll_in_fits Empty = tt
-poll_in_fits (Full number) = tt
-poll_in_fits NoneComes = tt
-poll_in_fits (Abandoned true) = tt
-poll_in_fits (Abandoned false) = tt
-
-poll_fits : (at : TaskStage) (found : Option ℕ) (content : Content ℕ) → IsPolled (poll_at at found content)
-poll_fits task.Held found content = poll_in_fits content
-poll_fits task.Cancelled None content = poll_in_fits content
-poll_fits task.Cancelled (Some number) content = tt
-poll_fits task.Gone found content = poll_in_fits content
-poll_fits task.LetGo found content = poll_in_fits content
-
 call_fits : (call : TaskCall) (owner : Owner) → IsOfTask call (task_act call owner)
-call_fits Poll owner = poll_fits owner.stage owner.found owner.slot.content
+call_fits Poll owner = polled_so owner
 call_fits Cancel owner = refl
 call_fits Detach owner = refl
 call_fits Drop owner = refl
-
-polled_is : (act : Act) → IsPolled act → is_nothing act ≡ false
-polled_is (TaskGot n) polled = refl
-polled_is TaskGotNone polled = refl
-polled_is Waits polled = refl
-polled_is _ polled = absurd polled
-
-called_is : (call : TaskCall) (owner : Owner) → is_nothing (task_act call owner) ≡ false
-called_is Poll owner = polled_is (poll_of owner) (poll_fits owner.stage owner.found owner.slot.content)
-called_is Cancel owner = refl
-called_is Detach owner = refl
-called_is Drop owner = refl
 
 -- where something is done, it is done by the step's party, and of its job
 party_of : (past : List Moment) (step : Step) (act : Act) → is_nothing act ≡ false → party past step ≡ (if is_nothing act then named step else party past step)
@@ -292,9 +241,9 @@ step_begins w past added growth pool =
 step_calls : (w : Worlded) (past : List Moment) (k : ℕ) (call : TaskCall) (owner : Owner) → has_action past (OfTask k call) ≡ true → StepLaw past (moment_of w (Calls k call owner))
 step_calls w past k call owner has =
     record {
-      act = happened past (OfTask k call) (task_act call owner) has (called_is call owner) (call_fits call owner);
-      by = party_of past (OfTask k call) (task_act call owner) (called_is call owner);
-      of = what_of past (OfTask k call) (task_act call owner) (called_is call owner);
+      act = happened past (OfTask k call) (task_act call owner) has (called_plainly call owner) (call_fits call owner);
+      by = party_of past (OfTask k call) (task_act call owner) (called_plainly call owner);
+      of = what_of past (OfTask k call) (task_act call owner) (called_plainly call owner);
       owned = refl;
     }
 
@@ -322,6 +271,11 @@ late_free : (w : Worlded) (v : ℕ) (late : Bool) → is_free_hand (hand_at w.ha
 late_free w v false free = free
 late_free w v true free = free
 
+-- a step that the duty of the job in a hand makes an action of
+has_due : (setting : ℕ) (w : Worlded) (past : List Moment) → Tied setting w past → (step : Step) (v : ℕ) (held : Held) (test : Option Duty → Bool) → has_act w step ≡ test (duty_in (hand_at w.hands v))
+    → hand_at w.hands v ≡ Holds held → {d : Duty} → duty_of held ≡ d → has_action past step ≡ test (Some d)
+has_due setting w past tied step v held test same at due = sym (has_is setting w past tied step) ∙ same ∙ ap (λ h. test (duty_in h)) at ∙ ap (λ d. test (Some d)) due
+
 -- what is seen of a move is of its step
 pub step_after : (setting : ℕ) (marks : List Bool) (w : Worlded) (past : List Moment) (move : Move) → Tied setting w past → May (IsMarked marks) w move → StepLaw past (moment_of w move)
 step_after setting marks w past (Idles step) tied may = record { act = idled past step (sym (has_is setting w past tied step) ∙ may); by = refl; of = refl; owned = refl }
@@ -335,40 +289,15 @@ step_after setting marks w past (TakesJob v old to_drop turn job growth pool) ti
     step_takes w past v old to_drop turn job growth pool (sym (has_is setting w past tied (Take v)) ∙ ap is_free_hand may.0)
 step_after setting marks w past (TakesNone v old pass) tied may = step_takes_none w past v old pass (sym (has_is setting w past tied (Take v)) ∙ ap is_free_hand may.0)
 step_after setting marks w past (IsAnswered v held n) tied may =
-    record {
-      act = happened past (Io v (Number n)) (Answered (Number n)) (sym (has_is setting w past tied (Io v (Number n))) ∙ ap (λ h. is_awaiting (duty_in h)) may.0 ∙ ap (λ d. is_awaiting (Some d)) may.1) refl refl;
-      by = refl;
-      of = sym (in_hand w past v held tied.handed may.0);
-      owned = refl;
-    }
+    record { act = happened past (Io v (Number n)) (Answered (Number n)) (has_due setting w past tied (Io v (Number n)) v held is_awaiting refl may.0 may.1) refl refl; by = refl; of = sym (in_hand w past v held tied.handed may.0); owned = refl }
 step_after setting marks w past (Finishes v held) tied may =
-    record {
-      act = happened past (Job v) (Finished (finish_wakes w held)) (sym (has_is setting w past tied (Job v)) ∙ ap (λ h. is_own (duty_in h)) may.0 ∙ ap (λ d. is_own (Some d)) may.1) refl (refl, refl);
-      by = refl;
-      of = sym (in_hand w past v held tied.handed may.0);
-      owned = refl;
-    }
+    record { act = happened past (Job v) (Finished (finish_wakes w held)) (has_due setting w past tied (Job v) v held is_own refl may.0 may.1) refl (refl, refl); by = refl; of = sym (in_hand w past v held tied.handed may.0); owned = refl }
 step_after setting marks w past (GivesUp v held) tied may =
-    record {
-      act = happened past (Job v) (GaveUp (giving_up_wakes w held)) (sym (has_is setting w past tied (Job v)) ∙ ap (λ h. is_own (duty_in h)) may.0 ∙ ap (λ d. is_own (Some d)) may.1) refl (refl, refl);
-      by = refl;
-      of = sym (in_hand w past v held tied.handed may.0);
-      owned = refl;
-    }
+    record { act = happened past (Job v) (GaveUp (giving_up_wakes w held)) (has_due setting w past tied (Job v) v held is_own refl may.0 may.1) refl (refl, refl); by = refl; of = sym (in_hand w past v held tied.handed may.0); owned = refl }
 step_after setting marks w past (CallsWaker v held) tied may =
-    record {
-      act = happened past (Job v) HolderWoken (sym (has_is setting w past tied (Job v)) ∙ ap (λ h. is_own (duty_in h)) may.0 ∙ ap (λ d. is_own (Some d)) may.1) refl (refl, refl);
-      by = refl;
-      of = sym (in_hand w past v held tied.handed may.0);
-      owned = refl;
-    }
+    record { act = happened past (Job v) HolderWoken (has_due setting w past tied (Job v) v held is_own refl may.0 may.1) refl (refl, refl); by = refl; of = sym (in_hand w past v held tied.handed may.0); owned = refl }
 step_after setting marks w past (EndsTurn v held pass) tied may =
-    record {
-      act = happened past (End v) (Ended held.turn.serial (outcome_of held.stage)) (sym (has_is setting w past tied (End v)) ∙ ap (λ h. is_ending (duty_in h)) may.0 ∙ ap (λ d. is_ending (Some d)) may.1) refl (in_hand w past v held tied.handed may.0);
-      by = refl;
-      of = sym (in_hand w past v held tied.handed may.0);
-      owned = refl;
-    }
+    record { act = happened past (End v) (Ended held.turn.serial (outcome_of held.stage)) (has_due setting w past tied (End v) v held is_ending refl may.0 may.1) refl (in_hand w past v held tied.handed may.0); by = refl; of = sym (in_hand w past v held tied.handed may.0); owned = refl }
 step_after setting marks w past (HasWaited v pass late) tied may =
     step_waits w past v late (must_stop late w.pool) (sym (has_is setting w past tied (wait_step late v)) ∙ late_free w v late (ap is_free_hand may))
 step_after setting marks w past (SetsLimit n) tied may =

@@ -1,12 +1,12 @@
 -- Each move keeps the laws of the tasks, and no wake is lost.
-use Rattle.std.proofs.Common.{◌≡◌, ℕ, ◌<◌, List, ◌∷◌, Bool, true, false, refl, sym, ap, ◌∙◌, subst, Option, Some, None, ⊎_elim}
+use Rattle.std.proofs.Common.{◌≡◌, ℕ, ◌<◌, List, ◌∷◌, Bool, true, false, sym, ◌∙◌, subst, Option, Some, None, ⊎_elim}
 use Rattle.std.specs.Prelude.{◌⊎◌, ◌||◌, slice_get}
 use Rattle.std.specs.FinMap.{get}
 use Rattle.blocking_core.specs.Jobs.{Job as Entry}
 use Rattle.blocking_core.specs.declared.pool.standing.Standing.{Standing}
 use Rattle.blocking_core.specs.declared.pool.standing.Standing.TheVariants.{Queued, Running, Parked, Done, Dropped}
 use Rattle.blocking_laws.specs.Seen.{events, acts_of, task_cut, own}
-use Rattle.blocking_laws.specs.Jobs.{holder, tasks, standing, is_parked, is_woken, is_cancelled, is_marked, has_ended}
+use Rattle.blocking_laws.specs.Jobs.{holder, tasks, standing, is_parked}
 use Rattle.blocking_laws.specs.JobTable.{has_finished, has_given_up}
 use Rattle.blocking_laws.specs.Growth.{IsMarked}
 use Rattle.blocking_laws.specs.Seats.{task_seat}
@@ -14,15 +14,17 @@ use Rattle.blocking_laws.specs.TaskLaws.{TaskLaws}
 use Rattle.blocking_laws.specs.Wakes.{was_woken, is_waiting, IsTold, NoLostWake}
 use Rattle.blocking_world.specs.Worlds.{Worlded, owner_in}
 use Rattle.blocking_world.specs.Moves.{Move, May, moment_of}
-use Rattle.blocking_world.specs.Ties.{Tied, TaskAs, FiledAs, AbsentAs, ValueAs}
+use Rattle.blocking_world.specs.Ties.{Tied, TaskAs, FiledAs, AbsentAs}
 use Rattle.blocking_world.specs.declared.call.CallJob.{CallJob}
 use Rattle.blocking_laws.specs.declared.event.Act.{Act}
 use Rattle.blocking_laws.specs.declared.event.Event.{Event}
 use Rattle.blocking_laws.specs.declared.event.Moment.{Moment}
 use Rattle.blocking_laws.specs.declared.event.Party.TheVariants.{Task}
 use Rattle.blocking_world.specs.declared.task.Owner.{Owner}
+use Rattle.std.proofs.lemmas.Bool.{or_from}
 use Rattle.blocking_world.proofs.Cutting.{acts_cut}
-use Rattle.blocking_world.proofs.TaskCuts.{holder_gives, there_is}
+use Rattle.blocking_world.proofs.Entries.{filed_unparked}
+use Rattle.blocking_world.proofs.Tied.{holder_gives, owner_there}
 use Rattle.blocking_world.proofs.Tasking.{both_after}
 
 -- each move keeps the laws of the tasks
@@ -42,22 +44,12 @@ absent_over (Some Queued) wake cancel mark ended acts is rest = absurd is
 absent_over (Some Running) wake cancel mark ended acts is rest = absurd is
 absent_over (Some Parked) wake cancel mark ended acts is rest = absurd is
 
-never_parked : (stand : Standing) (value : Option CallJob) (mark : Bool) (acts : List Act) → ValueAs stand value mark acts → is_parked (Some stand) ≡ false
-never_parked Queued value mark acts is = refl
-never_parked Running value mark acts is = refl
-never_parked Parked value mark acts is = absurd is
-never_parked Done value mark acts is = refl
-never_parked Dropped value mark acts is = refl
-
-neither : (a b : Bool) → a ≡ false → b ≡ false → a || b ≡ true → ⊥
-neither a b x y e = let z : a || b ≡ false = rw (x, y) refl in cc
-
 filed_over : (entry : Option (Entry CallJob)) (stand : Option Standing) (wake cancel mark ended : Bool) (acts : List Act) → FiledAs entry stand wake cancel mark ended acts
     → is_parked stand || ended ≡ true → has_finished acts || has_given_up acts ≡ true
 filed_over None stand wake cancel mark ended acts is rest = absent_over stand wake cancel mark ended acts is rest
 filed_over (Some entry) stand wake cancel mark ended acts is rest =
-    let parked : is_parked stand ≡ false = ap is_parked is.0 ∙ never_parked entry.standing entry.value mark acts is.4 in
-    absurd (neither (is_parked stand) ended parked is.3 rest)
+    let still = or_from (is_parked stand) ended (filed_unparked (Some entry) stand wake cancel mark ended acts is) is.3 in
+    absurd (cc)
 
 told_by : (woken seated over : Bool) → over ≡ true → (woken ≡ true) ⊎ ((seated ≡ true) × (over ≡ false)) → woken ≡ true
 told_by woken seated over is told = ⊎_elim (λ now. now) (λ still. let not_over = still.1 in absurd (cc)) told
@@ -69,11 +61,11 @@ told_at owner s cut t waits over = told_by (was_woken cut) (task_seat cut) (has_
 told_of : (setting : ℕ) (w : Worlded) (past : List Moment) → Tied setting w past → (k s : ℕ) → holder past s ≡ Some (Task k) → IsTold past s (task_cut k s (events past))
 told_of setting w past t k s held waits rest =
     let job = holder_gives (tasks past) s k (sym (t.numbered.holders s) ∙ held) in
-    let there = there_is w.tasks k (subst (λ n. k < n) (sym t.numbered.owners) job.1) in
+    let there = owner_there w.tasks k (subst (λ n. k < n) (sym t.numbered.owners) job.1) in
     let tie : TaskAs (owner_in (slice_get w.tasks k)) s (task_cut k s (events past)) =
     subst (λ j. TaskAs (owner_in (slice_get w.tasks k)) j (task_cut k j (events past))) (sym job.0) (t.tasked.each k (owner_in (slice_get w.tasks k)) there) in
     let over : has_finished (acts_of s (events past)) || has_given_up (acts_of s (events past)) ≡ true =
-    filed_over (get w.pool.jobs s) (standing past s) (is_woken past s) (is_cancelled past s) (is_marked past s) (has_ended past s) (acts_of s (events past)) (t.filed s) rest in
+    filed_over (get w.pool.jobs s) (standing past s) _ _ _ _ _ (t.filed s) rest in
     told_at (owner_in (slice_get w.tasks k)) s (task_cut k s (events past)) tie waits
     (subst (λ (l : List Act). has_finished l || has_given_up l ≡ true) (sym (acts_cut k s (events past))) over)
 

@@ -1,7 +1,7 @@
 -- One event of a task or of its job: it keeps the laws of the task, and the tie of the task to its cut.
-use Rattle.std.proofs.Common.{◌≡◌, ℕ, ◌==◌, List, [], ◌∷◌, Bool, true, false, refl, sym, ap, ◌∙◌, subst, arith, Option, Some, None, inl, inr}
+use Rattle.std.proofs.Common.{◌≡◌, ℕ, List, [], ◌∷◌, Bool, true, false, refl, sym, ap, ◌∙◌, subst, Option, Some, None, inl, inr}
 use Rattle.std.specs.Prelude.{◌⊎◌, ◌||◌, not, is_some}
-use Rattle.std.proofs.lemmas.Bool.Decides.{nat_tests}
+use Rattle.std.proofs.lemmas.Bool.{or_from, or_left, or_right, eq-eqb}
 use Rattle.blocking_core.specs.Jobs.{JobNumber}
 use Rattle.blocking_core.specs.Slots.{Content, Empty, Full, GivenUp, Abandoned, without_owner, full_with, slot_after, answer_of, slot_without_job, waker_out_of, after_put, put_in, after_give_up, waker_of_give_up}
 use Rattle.blocking_laws.specs.Seen.{own, acts_of, is_of_pool, is_nothing}
@@ -95,15 +95,6 @@ cancelled_got place over seat found (Some n) s k first cut law t =
 cancelled_got place over seat found None s k first cut law t =
     record { law = (t.gone, law); tie = record { gone = refl; cancel = tt; let_go = t.let_go; seat = t.seat; slot = pending over (has_finished (acts_of s cut) || has_given_up (acts_of s cut)) t.slot.0; told = λ w. absurd (cc) } }
 
-either : (a b : Bool) → a ≡ false → b ≡ false → a || b ≡ false
-either a b x y = rw (x, y) refl
-
-first_true : (a b : Bool) → a ≡ true → a || b ≡ true
-first_true a b x = rw x refl
-
-second_true : (a b : Bool) → a ≡ false → b ≡ true → a || b ≡ true
-second_true a b x y = rw (x, y) refl
-
 -- a poll of a task that may be polled
 pub poll_goes : (place : JobNumber) (how : TaskStage) (found : Option ℕ) (content : Content ℕ) (seat : Option (Unit {0})) (s k first : ℕ) (cut : List Event)
     → may_be how Poll ≡ true → TaskAs (owner_by place how content seat found) s cut
@@ -111,120 +102,67 @@ pub poll_goes : (place : JobNumber) (how : TaskStage) (found : Option ℕ) (cont
 poll_goes place task.Held found Empty seat s k first cut may t =
     poll_waits place task.Held Empty seat found s k first cut may
     (waits_is (is_in_time cut) (has_finished (acts_of s cut)) (has_given_up (acts_of s cut)) (number (acts_of s cut)) t.slot.0 t.slot.1 t.slot.2)
-    (either (has_finished (acts_of s cut)) (has_given_up (acts_of s cut)) t.slot.0 t.slot.1) t
+    (or_from (has_finished (acts_of s cut)) (has_given_up (acts_of s cut)) t.slot.0 t.slot.1) t
 poll_goes place task.Held found (Full m) seat s k first cut may t =
     held_got place (Full m) Empty seat found (Some m) s k first cut
     (got_is (is_in_time cut) (has_finished (acts_of s cut) || has_given_up (acts_of s cut)) m (number (acts_of s cut)) t.slot.1 t.slot.2)
-    (first_true (has_finished (acts_of s cut)) (has_given_up (acts_of s cut)) t.slot.0) t
+    (or_left (has_finished (acts_of s cut)) (has_given_up (acts_of s cut)) t.slot.0) t
 poll_goes place task.Held found GivenUp seat s k first cut may t =
-    let over = second_true (has_finished (acts_of s cut)) (has_given_up (acts_of s cut)) t.slot.0 t.slot.1 in
+    let over = or_right (has_finished (acts_of s cut)) (has_given_up (acts_of s cut)) t.slot.1 in
     held_got place GivenUp GivenUp seat found None s k first cut
     (none_is (is_in_time cut) (has_finished (acts_of s cut) || has_given_up (acts_of s cut)) (number (acts_of s cut)) over t.slot.2) over t
-poll_goes place task.Held found (Abandoned over) seat s k first cut may t = absurd t.slot
 poll_goes place task.Cancelled (Some m) (Abandoned over) seat s k first cut may t =
     cancelled_got place over seat (Some m) (Some m) s k first cut
     (got_is (is_in_time cut) (has_finished (acts_of s cut) || has_given_up (acts_of s cut)) m (number (acts_of s cut)) t.slot.1.0 t.slot.1.1) t
-poll_goes place task.Cancelled (Some m) Empty seat s k first cut may t = absurd t.slot
-poll_goes place task.Cancelled (Some m) (Full n) seat s k first cut may t = absurd t.slot
-poll_goes place task.Cancelled (Some m) GivenUp seat s k first cut may t = absurd t.slot
 poll_goes place task.Cancelled None (Abandoned true) seat s k first cut may t =
     cancelled_got place true seat None None s k first cut
     (none_is (is_in_time cut) (has_finished (acts_of s cut) || has_given_up (acts_of s cut)) (number (acts_of s cut)) t.slot.0 t.slot.1) t
 poll_goes place task.Cancelled None (Abandoned false) seat s k first cut may t =
     poll_waits place task.Cancelled (Abandoned false) seat None s k first cut may
     (still_is (is_in_time cut) (has_finished (acts_of s cut) || has_given_up (acts_of s cut)) (number (acts_of s cut)) t.slot.0 t.slot.1) t.slot.0 t
-poll_goes place task.Cancelled None Empty seat s k first cut may t = absurd t.slot
-poll_goes place task.Cancelled None (Full n) seat s k first cut may t = absurd t.slot
-poll_goes place task.Cancelled None GivenUp seat s k first cut may t = absurd t.slot
 poll_goes place task.Gone found content seat s k first cut may t = absurd (cc)
 poll_goes place task.LetGo found content seat s k first cut may t = absurd (cc)
+poll_goes place _ _ _ seat s k first cut may t = absurd t.slot
 
 -- ---- cancels, detaching and drops
 
 not_over : (content : Content ℕ) (finished gave in_time : Bool) (n : ℕ) → SlotAs task.Held content None finished gave in_time n → finished || gave ≡ false → IsPending (without_owner content)
 not_over Empty finished gave in_time n slot idle = tt
-not_over (Full m) finished gave in_time n slot idle = absurd (let f = first_true finished gave slot.0 in cc)
-not_over GivenUp finished gave in_time n slot idle = absurd (let f = second_true finished gave slot.0 slot.1 in cc)
+not_over (Full m) finished gave in_time n slot idle = absurd (let f = or_left finished gave slot.0 in cc)
+not_over GivenUp finished gave in_time n slot idle = absurd (let f = or_right finished gave slot.1 in cc)
 not_over (Abandoned over) finished gave in_time n slot idle = absurd slot
 
 -- what a cancel finds
 keeps_found : (content : Content ℕ) (finished gave in_time : Bool) (n : ℕ) → SlotAs task.Held content None finished gave in_time n
     → SlotAs task.Cancelled (without_owner content) (full_with content) finished gave in_time n
-keeps_found Empty finished gave in_time n slot = (either finished gave slot.0 slot.1, slot.2)
-keeps_found (Full m) finished gave in_time n slot = (first_true finished gave slot.0, (slot.1, slot.2))
-keeps_found GivenUp finished gave in_time n slot = (second_true finished gave slot.0 slot.1, slot.2)
+keeps_found Empty finished gave in_time n slot = (or_from finished gave slot.0 slot.1, slot.2)
+keeps_found (Full m) finished gave in_time n slot = (or_left finished gave slot.0, (slot.1, slot.2))
+keeps_found GivenUp finished gave in_time n slot = (or_right finished gave slot.1, slot.2)
 keeps_found (Abandoned over) finished gave in_time n slot = absurd slot
 
 cancel_goes : (place : JobNumber) (how : TaskStage) (found : Option ℕ) (content : Content ℕ) (seat : Option (Unit {0})) (s k first : ℕ) (cut : List Event)
     → may_be how Cancel ≡ true → TaskAs (owner_by place how content seat found) s cut
     → Goes (cancelled (owner_by place how content seat found)) s cut (by_task k TaskCancelled first)
 cancel_goes place task.Held found content seat s k first cut may t =
-    record {
-      law = (t.gone, t.cancel);
-      tie = record {
-        gone = t.gone;
-        cancel = refl;
-        let_go = refl;
-        seat = t.seat;
-        slot = keeps_found content (has_finished (acts_of s cut)) (has_given_up (acts_of s cut)) (is_in_time cut) (number (acts_of s cut)) t.slot;
-        told = λ w. absurd (cc);
-      };
-    }
-cancel_goes place task.Cancelled found content seat s k first cut may t = absurd (cc)
-cancel_goes place task.Gone found content seat s k first cut may t = absurd (cc)
-cancel_goes place task.LetGo found content seat s k first cut may t = absurd (cc)
+    record { law = (t.gone, t.cancel); tie = record { gone = t.gone; cancel = refl; let_go = refl; seat = t.seat; slot = keeps_found content (has_finished (acts_of s cut)) (has_given_up (acts_of s cut)) (is_in_time cut) (number (acts_of s cut)) t.slot; told = λ w. absurd (cc) } }
+cancel_goes place _ found content seat s k first cut may t = absurd (cc)
 
 detach_goes : (place : JobNumber) (how : TaskStage) (found : Option ℕ) (content : Content ℕ) (seat : Option (Unit {0})) (s k first : ℕ) (cut : List Event)
     → may_be how Detach ≡ true → TaskAs (owner_by place how content seat found) s cut
     → Goes (detached (owner_by place how content seat found)) s cut (by_task k TaskDetached first)
 detach_goes place task.Held found content seat s k first cut may t =
-    record {
-      law = (t.gone, t.cancel);
-      tie = record {
-        gone = refl;
-        cancel = tt;
-        let_go = t.let_go;
-        seat = t.seat;
-        slot = not_over content (has_finished (acts_of s cut)) (has_given_up (acts_of s cut)) (is_in_time cut) (number (acts_of s cut)) t.slot;
-        told = λ w. absurd (cc);
-      };
-    }
-detach_goes place task.Cancelled found content seat s k first cut may t = absurd (cc)
-detach_goes place task.Gone found content seat s k first cut may t = absurd (cc)
-detach_goes place task.LetGo found content seat s k first cut may t = absurd (cc)
+    record { law = (t.gone, t.cancel); tie = record { gone = refl; cancel = tt; let_go = t.let_go; seat = t.seat; slot = not_over content (has_finished (acts_of s cut)) (has_given_up (acts_of s cut)) (is_in_time cut) (number (acts_of s cut)) t.slot; told = λ w. absurd (cc) } }
+detach_goes place _ found content seat s k first cut may t = absurd (cc)
 
 drop_goes : (place : JobNumber) (how : TaskStage) (found : Option ℕ) (content : Content ℕ) (seat : Option (Unit {0})) (s k first : ℕ) (cut : List Event)
     → may_be how Drop ≡ true → TaskAs (owner_by place how content seat found) s cut
     → Goes (dropped (owner_by place how content seat found)) s cut (by_task k HolderDropped first)
 drop_goes place task.Held found content seat s k first cut may t =
-    record {
-      law = (t.gone, tt);
-      tie = record {
-        gone = refl;
-        cancel = tt;
-        let_go = refl;
-        seat = t.seat;
-        slot = not_over content (has_finished (acts_of s cut)) (has_given_up (acts_of s cut)) (is_in_time cut) (number (acts_of s cut)) t.slot;
-        told = λ w. absurd (cc);
-      };
-    }
+    record { law = (t.gone, tt); tie = record { gone = refl; cancel = tt; let_go = refl; seat = t.seat; slot = not_over content (has_finished (acts_of s cut)) (has_given_up (acts_of s cut)) (is_in_time cut) (number (acts_of s cut)) t.slot; told = λ w. absurd (cc) } }
 drop_goes place task.Cancelled found (Abandoned over) seat s k first cut may t =
-    record {
-      law = (t.gone, tt);
-      tie = record {
-        gone = refl;
-        cancel = tt;
-        let_go = refl;
-        seat = t.seat;
-        slot = pending over (has_finished (acts_of s cut) || has_given_up (acts_of s cut)) t.slot.0;
-        told = λ w. absurd (cc);
-      };
-    }
-drop_goes place task.Cancelled found Empty seat s k first cut may t = absurd t.slot
-drop_goes place task.Cancelled found (Full m) seat s k first cut may t = absurd t.slot
-drop_goes place task.Cancelled found GivenUp seat s k first cut may t = absurd t.slot
-drop_goes place task.Gone found content seat s k first cut may t = absurd (cc)
-drop_goes place task.LetGo found content seat s k first cut may t = absurd (cc)
+    record { law = (t.gone, tt); tie = record { gone = refl; cancel = tt; let_go = refl; seat = t.seat; slot = pending over (has_finished (acts_of s cut) || has_given_up (acts_of s cut)) t.slot.0; told = λ w. absurd (cc) } }
+drop_goes place task.Cancelled found _ seat s k first cut may t = absurd t.slot
+drop_goes place _ found content seat s k first cut may t = absurd (cc)
 
 -- each call of a task that may be called so
 pub call_goes : (call : TaskCall) (owner : Owner) (s k first : ℕ) (cut : List Event) → may_be owner.stage call ≡ true → TaskAs owner s cut
@@ -237,7 +175,7 @@ call_goes Drop owner s k first cut may t = drop_goes owner.number owner.stage ow
 -- ---- acts of the job
 
 acts_more : (v s : ℕ) (act : Act) (first : ℕ) (cut : List Event) → is_of_pool act ≡ false → is_nothing act ≡ false → acts_of s (by_job v s act first ∷ cut) ≡ act ∷ acts_of s cut
-acts_more v s act first cut pool nothing = let same : (s == s) ≡ true = grind (arith, nat_tests) in rw (pool, nothing, same) refl
+acts_more v s act first cut pool nothing = rw (pool, nothing, eq-eqb s s refl) refl
 
 -- the parts of a tie that the job's acts are in
 abbrev SlotBy : Owner → Bool → List Act → Type 0
@@ -255,9 +193,7 @@ none_in_time task.Held GivenUp found in_time n m timely slot = absurd (let f = s
 none_in_time task.Held (Abandoned over) found in_time n m timely slot = absurd slot
 none_in_time task.Cancelled (Abandoned over) None in_time n m timely slot = slot
 none_in_time task.Cancelled (Abandoned over) (Some x) in_time n m timely slot = absurd (let f = timely slot.1.0 in cc)
-none_in_time task.Cancelled Empty found in_time n m timely slot = absurd slot
-none_in_time task.Cancelled (Full x) found in_time n m timely slot = absurd slot
-none_in_time task.Cancelled GivenUp found in_time n m timely slot = absurd slot
+none_in_time task.Cancelled _ found in_time n m timely slot = absurd slot
 none_in_time task.Gone content found in_time n m timely slot = slot
 none_in_time task.LetGo content found in_time n m timely slot = slot
 
@@ -300,14 +236,10 @@ wake_goes owner v s first cut next t =
       };
     }
 
-or_true : (b : Bool) → b || true ≡ true
-or_true true = refl
-or_true false = refl
-
 -- a task that waits is woken by the act that takes its waker
 woken_by : (wake woken seated over : Bool) → wake ≡ seated → (woken ≡ true) ⊎ ((seated ≡ true) × (over ≡ false)) → wake || woken ≡ true
-woken_by wake woken seated over same (inl is) = rw is (or_true wake)
-woken_by wake woken seated over same (inr is) = let now : wake ≡ true = same ∙ is.0 in rw now refl
+woken_by wake woken seated over same (inl is) = or_right wake woken is
+woken_by wake woken seated over same (inr is) = or_left wake woken (same ∙ is.0)
 
 -- ---- finishing
 
@@ -326,23 +258,16 @@ none_came : (how : TaskStage) (content : Content ℕ) (found : Option ℕ) (canc
 none_came task.Held Empty found cancel in_time n timely was slot = was
 none_came task.Held (Full x) found cancel in_time n timely was slot = absurd (let f = slot.0 in cc)
 none_came task.Held GivenUp found cancel in_time n timely was slot = absurd (let f = slot.1 in cc)
-none_came task.Held (Abandoned over) found cancel in_time n timely was slot = absurd slot
 none_came task.Cancelled (Abandoned false) None cancel in_time n timely was slot = was
 none_came task.Cancelled (Abandoned true) None cancel in_time n timely was slot = absurd (let f = slot.0 in cc)
 none_came task.Cancelled (Abandoned over) (Some x) cancel in_time n timely was slot = absurd (let f = timely slot.1.0 in cc)
-none_came task.Cancelled Empty found cancel in_time n timely was slot = absurd slot
-none_came task.Cancelled (Full x) found cancel in_time n timely was slot = absurd slot
-none_came task.Cancelled GivenUp found cancel in_time n timely was slot = absurd slot
 none_came task.Gone Empty found cancel in_time n timely was slot = tt
 none_came task.Gone (Abandoned false) found cancel in_time n timely was slot = tt
-none_came task.Gone (Full x) found cancel in_time n timely was slot = absurd (slot refl)
-none_came task.Gone GivenUp found cancel in_time n timely was slot = absurd (slot refl)
-none_came task.Gone (Abandoned true) found cancel in_time n timely was slot = absurd (slot refl)
+none_came task.Gone _ found cancel in_time n timely was slot = absurd (slot refl)
 none_came task.LetGo Empty found cancel in_time n timely was slot = tt
 none_came task.LetGo (Abandoned false) found cancel in_time n timely was slot = tt
-none_came task.LetGo (Full x) found cancel in_time n timely was slot = absurd (slot refl)
-none_came task.LetGo GivenUp found cancel in_time n timely was slot = absurd (slot refl)
-none_came task.LetGo (Abandoned true) found cancel in_time n timely was slot = absurd (slot refl)
+none_came task.LetGo _ found cancel in_time n timely was slot = absurd (slot refl)
+none_came _ _ found cancel in_time n timely was slot = absurd slot
 
 -- such a slot takes a number, and its waker leaves the seat
 pub record Puts (how : TaskStage) (content : Content ℕ) (seat : Option (Unit {0})) (found : Option ℕ) (cancel : Bool) (n : ℕ) : Type 0 where
@@ -352,25 +277,12 @@ pub record Puts (how : TaskStage) (content : Content ℕ) (seat : Option (Unit {
 
 puts : (how : TaskStage) (content : Content ℕ) (seat : Option (Unit {0})) (found : Option ℕ) (cancel : Bool) (n : ℕ) → Pends how content found cancel → Puts how content seat found cancel n
 puts task.Held Empty seat found cancel n p = record { slot = (refl, ap not p, refl); empty = refl; wake = refl }
-puts task.Held (Full x) seat found cancel n p = absurd p
-puts task.Held GivenUp seat found cancel n p = absurd p
-puts task.Held (Abandoned over) seat found cancel n p = absurd p
 puts task.Cancelled (Abandoned false) seat None cancel n p = record { slot = (refl, ap not p); empty = refl; wake = refl }
-puts task.Cancelled (Abandoned false) seat (Some x) cancel n p = absurd p
-puts task.Cancelled (Abandoned true) seat found cancel n p = absurd p
-puts task.Cancelled Empty seat found cancel n p = absurd p
-puts task.Cancelled (Full x) seat found cancel n p = absurd p
-puts task.Cancelled GivenUp seat found cancel n p = absurd p
 puts task.Gone Empty seat found cancel n p = record { slot = λ idle. absurd (cc); empty = refl; wake = refl }
 puts task.Gone (Abandoned false) seat found cancel n p = record { slot = λ idle. absurd (cc); empty = refl; wake = refl }
-puts task.Gone (Full x) seat found cancel n p = absurd p
-puts task.Gone GivenUp seat found cancel n p = absurd p
-puts task.Gone (Abandoned true) seat found cancel n p = absurd p
 puts task.LetGo Empty seat found cancel n p = record { slot = λ idle. absurd (cc); empty = refl; wake = refl }
 puts task.LetGo (Abandoned false) seat found cancel n p = record { slot = λ idle. absurd (cc); empty = refl; wake = refl }
-puts task.LetGo (Full x) seat found cancel n p = absurd p
-puts task.LetGo GivenUp seat found cancel n p = absurd p
-puts task.LetGo (Abandoned true) seat found cancel n p = absurd p
+puts _ _ seat _ cancel n p = absurd p
 
 -- the job puts its number
 pub finish_goes : (owner : Owner) (v s n first : ℕ) (cut : List Event) → acts_of s cut ≡ Answered (Number n) ∷ [] → (is_in_time cut ≡ true → has_finished (acts_of s cut) ≡ true) → TaskAs owner s cut
@@ -408,25 +320,12 @@ pub record Ceases (how : TaskStage) (content : Content ℕ) (seat : Option (Unit
 ceases : (how : TaskStage) (content : Content ℕ) (seat : Option (Unit {0})) (found : Option ℕ) (cancel in_time : Bool) (n : ℕ) → SlotAs how content found false false in_time n → Pends how content found cancel
     → Ceases how content seat found in_time n
 ceases task.Held Empty seat found cancel in_time n slot p = record { slot = (refl, refl, slot.2); empty = refl; wake = refl }
-ceases task.Held (Full x) seat found cancel in_time n slot p = absurd p
-ceases task.Held GivenUp seat found cancel in_time n slot p = absurd p
-ceases task.Held (Abandoned over) seat found cancel in_time n slot p = absurd p
 ceases task.Cancelled (Abandoned false) seat None cancel in_time n slot p = record { slot = (refl, slot.1); empty = refl; wake = refl }
-ceases task.Cancelled (Abandoned false) seat (Some x) cancel in_time n slot p = absurd p
-ceases task.Cancelled (Abandoned true) seat found cancel in_time n slot p = absurd p
-ceases task.Cancelled Empty seat found cancel in_time n slot p = absurd p
-ceases task.Cancelled (Full x) seat found cancel in_time n slot p = absurd p
-ceases task.Cancelled GivenUp seat found cancel in_time n slot p = absurd p
 ceases task.Gone Empty seat found cancel in_time n slot p = record { slot = λ idle. absurd (cc); empty = refl; wake = refl }
 ceases task.Gone (Abandoned false) seat found cancel in_time n slot p = record { slot = λ idle. absurd (cc); empty = refl; wake = refl }
-ceases task.Gone (Full x) seat found cancel in_time n slot p = absurd p
-ceases task.Gone GivenUp seat found cancel in_time n slot p = absurd p
-ceases task.Gone (Abandoned true) seat found cancel in_time n slot p = absurd p
 ceases task.LetGo Empty seat found cancel in_time n slot p = record { slot = λ idle. absurd (cc); empty = refl; wake = refl }
 ceases task.LetGo (Abandoned false) seat found cancel in_time n slot p = record { slot = λ idle. absurd (cc); empty = refl; wake = refl }
-ceases task.LetGo (Full x) seat found cancel in_time n slot p = absurd p
-ceases task.LetGo GivenUp seat found cancel in_time n slot p = absurd p
-ceases task.LetGo (Abandoned true) seat found cancel in_time n slot p = absurd p
+ceases _ _ seat _ cancel in_time n slot p = absurd p
 
 -- the job gives up
 pub give_up_goes : (owner : Owner) (v s first : ℕ) (cut : List Event) → acts_of s cut ≡ [] → (is_in_time cut ≡ true → has_finished (acts_of s cut) ≡ true) → has_let_go owner.stage ≡ true → TaskAs owner s cut

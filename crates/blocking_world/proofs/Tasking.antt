@@ -1,14 +1,13 @@
 -- Each move keeps the laws of the tasks, and the tie of the tasks to their cuts.
 use Rattle.std.proofs.Common.{◌≡◌, ℕ, ◌+◌, ◌-◌, ◌<◌, ◌≤◌, ◌==◌, List, [], ◌∷◌, ◌++◌, length, length-append, Bool, true, false, refl, sym, ap, ◌∙◌, subst, arith, Option, Some, None, Result, Ok, Err, ⊎_elim}
 use Rattle.std.specs.Prelude.{◌&&◌, ◌||◌, not, if◌then◌else◌, slice_get, slice_set}
-use Rattle.std.proofs.lemmas.Bool.{cases_lt, cases_eq}
 use Rattle.std.proofs.lemmas.Bool.Decides.{nat_tests}
-use Rattle.std.proofs.lemmas.Option.{slice_get_past, slice_get_within}
+use Rattle.std.proofs.lemmas.Option.{slice_get_within}
 use Rattle.std.proofs.Math.ListN.{length-set}
 use Rattle.blocking_core.specs.Growth.{Growth}
 use Rattle.blocking_core.specs.Jobs.{JobNumber}
 use Rattle.blocking_core.specs.PoolAnswers.{must_stop}
-use Rattle.blocking_core.specs.Slots.{Content, Empty, Full, GivenUp, Abandoned, after_put, after_give_up}
+use Rattle.blocking_core.specs.Slots.{after_put, after_give_up}
 use Rattle.blocking_core.specs.declared.job.Action.{Action}
 use Rattle.blocking_core.specs.declared.job.Action.TheVariants as action
 use Rattle.blocking_core.specs.declared.pool.answer.Refusal.{Refusal}
@@ -19,9 +18,9 @@ use Rattle.blocking_laws.specs.JobTable.{Calling, WakeHolder, next_of_job, has_f
 use Rattle.blocking_laws.specs.Growth.{IsMarked}
 use Rattle.blocking_laws.specs.TaskLaws.{TaskLaw, TaskLaws, is_in_time}
 use Rattle.blocking_world.specs.Crews.{AddsTo, no_growth}
-use Rattle.blocking_world.specs.Worlds.{Worlded, CallPool, duty_at, hand_at, hand_in, may_be, has_let_go, poll_in, poll_at, new_owner, owner_at, with_owner}
+use Rattle.blocking_world.specs.Worlds.{Worlded, CallPool, duty_at, hand_at, may_be, has_let_go, new_owner, owner_at, with_owner}
 use Rattle.blocking_world.specs.Machine.{IsHeld, after_wait, seen, next_start, task_act, called, wait_act}
-use Rattle.blocking_world.specs.Moves.{Move, wait_step, Idles, Begins, Calls, Arrives, TakesJob, TakesNone, IsAnswered, Finishes, GivesUp, CallsWaker, EndsTurn, HasWaited, SetsLimit, Sweeps, IsWoken, IsStruck, May, after, moment_of, event_of, took, finish_wakes, giving_up_wakes}
+use Rattle.blocking_world.specs.Moves.{Move, wait_step, Begins, Calls, TakesJob, IsAnswered, Finishes, GivesUp, CallsWaker, HasWaited, May, after, moment_of, event_of, took, finish_wakes, giving_up_wakes}
 use Rattle.blocking_world.specs.Ties.{Tied, Tasked, TaskAs, ActedAs, holder_of, let_go_in}
 use Rattle.blocking_laws.specs.declared.event.Act.{Act}
 use Rattle.blocking_laws.specs.declared.event.Act.TheVariants.{Answered, Finished, GaveUp, HolderWoken}
@@ -30,19 +29,19 @@ use Rattle.blocking_laws.specs.declared.event.Moment.{Moment}
 use Rattle.blocking_laws.specs.declared.event.Party.{Party}
 use Rattle.blocking_laws.specs.declared.event.Party.TheVariants.{Task, Worker}
 use Rattle.blocking_world.specs.declared.hand.Duty.TheVariants as duty
-use Rattle.blocking_world.specs.declared.hand.Hand.{Hand}
-use Rattle.blocking_world.specs.declared.hand.Hand.TheVariants.{Out, Holds}
+use Rattle.blocking_world.specs.declared.hand.Hand.TheVariants.{Holds}
 use Rattle.blocking_world.specs.declared.hand.Held.{Held}
 use Rattle.blocking_world.specs.declared.hand.Stage.{Stage}
 use Rattle.blocking_world.specs.declared.hand.Stage.TheVariants as stage
 use Rattle.blocking_laws.specs.declared.step.Answer.TheVariants.{Number}
 use Rattle.blocking_laws.specs.declared.step.TaskCall.{TaskCall}
-use Rattle.blocking_laws.specs.declared.step.TaskCall.TheVariants.{Poll, Cancel, Detach, Drop}
 use Rattle.blocking_world.specs.declared.task.Owner.{Owner}
-use Rattle.blocking_world.specs.declared.task.TaskStage.{TaskStage}
-use Rattle.blocking_world.specs.declared.task.TaskStage.TheVariants as task
 use Rattle.blocking_world.proofs.Cutting.{acts_cut}
-use Rattle.blocking_world.proofs.TaskCuts.{cut_same, cut_more, timely, holder_is, holder_gives, set_same, set_other, append_left, append_seam, there_is}
+use Rattle.blocking_world.proofs.Hands.{at_held}
+use Rattle.blocking_world.proofs.Polls.{by_call, called_plainly}
+use Rattle.blocking_world.proofs.Rows.{got_same, got_other, in_pushed}
+use Rattle.blocking_world.proofs.TaskCuts.{cut_same, cut_more, timely}
+use Rattle.blocking_world.proofs.Tied.{holder_is, holder_gives, owner_there}
 use Rattle.blocking_world.proofs.TaskSteps.{Goes, by_task, by_job, call_goes, answer_goes, wake_goes, finish_goes, give_up_goes}
 
 -- the laws of all tasks so far
@@ -146,46 +145,6 @@ keeps w w' past now q holders t laws =
 
 -- ---- a task is called
 
-plain_in : (content : Content ℕ) → is_nothing (poll_in content) ≡ false
-plain_in Empty = refl
-plain_in (Full n) = refl
-plain_in GivenUp = refl
-plain_in (Abandoned true) = refl
-plain_in (Abandoned false) = refl
-
-plain_at : (how : TaskStage) (found : Option ℕ) (content : Content ℕ) → is_nothing (poll_at how found content) ≡ false
-plain_at task.Cancelled (Some n) content = refl
-plain_at task.Cancelled None content = plain_in content
-plain_at task.Held found content = plain_in content
-plain_at task.Gone found content = plain_in content
-plain_at task.LetGo found content = plain_in content
-
-plain : (call : TaskCall) (owner : Owner) → is_nothing (task_act call owner) ≡ false
-plain Poll owner = plain_at owner.stage owner.found owner.slot.content
-plain Cancel owner = refl
-plain Detach owner = refl
-plain Drop owner = refl
-
-none_in : (s : ℕ) (content : Content ℕ) → accepts s (poll_in content) ≡ false
-none_in s Empty = refl
-none_in s (Full n) = refl
-none_in s GivenUp = refl
-none_in s (Abandoned true) = refl
-none_in s (Abandoned false) = refl
-
-none_at : (s : ℕ) (how : TaskStage) (found : Option ℕ) (content : Content ℕ) → accepts s (poll_at how found content) ≡ false
-none_at s task.Cancelled (Some n) content = refl
-none_at s task.Cancelled None content = none_in s content
-none_at s task.Held found content = none_in s content
-none_at s task.Gone found content = none_in s content
-none_at s task.LetGo found content = none_in s content
-
-none_called : (s : ℕ) (call : TaskCall) (owner : Owner) → accepts s (task_act call owner) ≡ false
-none_called s Poll owner = none_at s owner.stage owner.found owner.slot.content
-none_called s Cancel owner = refl
-none_called s Detach owner = refl
-none_called s Drop owner = refl
-
 task_only : (p n i q : Bool) → n ≡ false → (not n && i) || (not p && not n && false && q) ≡ i
 task_only p true i q is = absurd (cc)
 task_only true false true q is = refl
@@ -201,20 +160,15 @@ call_keeps owners k call owner before first found may t =
       place = k;
       inside = inside;
       owner = called call owner;
-      there = set_same owners k (called call owner) inside;
-      others = λ j other. set_other owners k j (called call owner) other;
+      there = got_same owners k (called call owner) inside;
+      others = λ j other. got_other owners k j (called call owner) other;
       count = length-set owners k (called call owner);
-      within = λ j. task_only (is_of_pool (task_act call owner)) (is_nothing (task_act call owner)) (k == j) false (plain call owner);
+      within = λ j. task_only (is_of_pool (task_act call owner)) (is_nothing (task_act call owner)) (k == j) false (called_plainly call owner);
       goes = call_goes call owner (k + 1) k first (task_cut k (k + 1) before) may t;
-      none_new = λ s. none_called s call owner;
+      none_new = λ s. by_call (λ act. accepts s act ≡ false) refl (λ n. refl) refl refl refl refl call owner;
     }
 
 -- ---- the job in a hand acts
-
-hand_if : (b : Bool) (o : Option Hand) (held : Held) → (if b then Out else hand_in o) ≡ Holds held → o ≡ Some (Holds held)
-hand_if true o held e = absurd (cc)
-hand_if false None held e = absurd (cc)
-hand_if false (Some h) held e = ap Some e
 
 -- the cut of the task whose job is s
 abbrev pub held_cut : List Moment → ℕ → List Event
@@ -238,12 +192,12 @@ let_go_is (Some other) owner same is = let one : other ≡ owner = cc in subst (
 in_hand : (setting : ℕ) (w : Worlded) (past : List Moment) (v : ℕ) (held : Held) → Tied setting w past → AllLaws past → hand_at w.hands v ≡ Holds held → InHand w past held
 in_hand setting w past v held t laws e =
     let s = held.turn.serial in
-    let is : IsHeld w held = t.handed.ready.held (v - 1) held (hand_if (v == 0) (slice_get w.hands (v - 1)) held e) in
+    let is : IsHeld w held = t.handed.ready.held (v - 1) held (at_held w.hands v held e).got in
     let as_held = t.handed.held v held e in
     let positive = is.positive in
     let owned = is.owned in
     let same : (s - 1) + 1 ≡ s = omega arith in
-    let there = there_is w.tasks (s - 1) owned in
+    let there = owner_there w.tasks (s - 1) owned in
     let born : s - 1 < tasks past = subst (λ n. s - 1 < n) t.numbered.owners owned in
     let holds : holder past s ≡ Some (Task (s - 1)) = t.numbered.holders s ∙ subst (λ j. holder_of (tasks past) j ≡ Some (Task (s - 1))) same (holder_is (tasks past) (s - 1) born) in
     record {
@@ -257,39 +211,25 @@ in_hand setting w past v held t laws e =
 
 await_acts : (how : Stage) (next : Action) (n : ℕ) (acts : List Act) → duty_at how next ≡ duty.Await → ActedAs how next n acts → acts ≡ []
 await_acts stage.Runs action.Call n acts due is = is
-await_acts stage.Runs action.Finish n acts due is = absurd (cc)
-await_acts stage.Runs action.Deliver n acts due is = absurd (cc)
-await_acts stage.Runs action.Done n acts due is = absurd (cc)
-await_acts stage.MustGiveUp next n acts due is = absurd (cc)
-await_acts stage.MustWake next n acts due is = absurd (cc)
-await_acts stage.GaveUp next n acts due is = absurd (cc)
+await_acts stage.Runs _ n acts due is = absurd (cc)
+await_acts _ next n acts due is = absurd (cc)
 
 finish_acts : (how : Stage) (next : Action) (n : ℕ) (acts : List Act) → duty_at how next ≡ duty.Finish → ActedAs how next n acts → acts ≡ Answered (Number n) ∷ []
-finish_acts stage.Runs action.Call n acts due is = absurd (cc)
 finish_acts stage.Runs action.Finish n acts due is = is
-finish_acts stage.Runs action.Deliver n acts due is = absurd (cc)
-finish_acts stage.Runs action.Done n acts due is = absurd (cc)
-finish_acts stage.MustGiveUp next n acts due is = absurd (cc)
-finish_acts stage.MustWake next n acts due is = absurd (cc)
-finish_acts stage.GaveUp next n acts due is = absurd (cc)
+finish_acts stage.Runs _ n acts due is = absurd (cc)
+finish_acts _ next n acts due is = absurd (cc)
 
 give_up_acts : (how : Stage) (next : Action) (n : ℕ) (acts : List Act) → duty_at how next ≡ duty.GiveUp → ActedAs how next n acts → (how ≡ stage.MustGiveUp) × (acts ≡ [])
-give_up_acts stage.Runs action.Call n acts due is = absurd (cc)
-give_up_acts stage.Runs action.Finish n acts due is = absurd (cc)
-give_up_acts stage.Runs action.Deliver n acts due is = absurd (cc)
-give_up_acts stage.Runs action.Done n acts due is = absurd (cc)
 give_up_acts stage.MustGiveUp next n acts due is = (refl, is)
-give_up_acts stage.MustWake next n acts due is = absurd (cc)
-give_up_acts stage.GaveUp next n acts due is = absurd (cc)
+give_up_acts stage.Runs action.Call n acts due is = absurd (cc)
+give_up_acts stage.Runs _ n acts due is = absurd (cc)
+give_up_acts _ next n acts due is = absurd (cc)
 
 wake_acts : (how : Stage) (next : Action) (n : ℕ) (acts : List Act) → duty_at how next ≡ duty.Wake → ActedAs how next n acts → next_of_job Calling acts ≡ WakeHolder
-wake_acts stage.Runs action.Call n acts due is = absurd (cc)
-wake_acts stage.Runs action.Finish n acts due is = absurd (cc)
 wake_acts stage.Runs action.Deliver n acts due is = ap (next_of_job Calling) is
-wake_acts stage.Runs action.Done n acts due is = absurd (cc)
-wake_acts stage.MustGiveUp next n acts due is = absurd (cc)
 wake_acts stage.MustWake next n acts due is = ap (next_of_job Calling) is
-wake_acts stage.GaveUp next n acts due is = absurd (cc)
+wake_acts stage.Runs _ n acts due is = absurd (cc)
+wake_acts _ next n acts due is = absurd (cc)
 
 same_place : (t k : ℕ) → 0 < t → (t == k + 1) ≡ (t - 1 == k)
 same_place t k first = both (t == k + 1) (t - 1 == k) refl refl
@@ -330,7 +270,7 @@ stays_keeps : (w : Worlded) (past : List Moment) (v first : ℕ) (held : Held) (
     → Keeps w.tasks w.tasks (events past) (by_job v held.turn.serial act first)
 stays_keeps w past v first held act i pool plain none_new goes =
     job_keeps w.tasks w.tasks (events past) v held.turn.serial first act (owner_at w.tasks held.turn.serial) i.positive i.inside pool plain none_new
-    (there_is w.tasks (held.turn.serial - 1) i.inside) (λ k other. refl) refl goes
+    (owner_there w.tasks (held.turn.serial - 1) i.inside) (λ k other. refl) refl goes
 
 changes_keeps : (w : Worlded) (past : List Moment) (v first : ℕ) (held : Held) (act : Act) (owner : Owner) → InHand w past held
     → is_of_pool act ≡ false → is_nothing act ≡ false → ((s : ℕ) → accepts s act ≡ false)
@@ -338,7 +278,7 @@ changes_keeps : (w : Worlded) (past : List Moment) (v first : ℕ) (held : Held)
     → Keeps w.tasks (with_owner w.tasks held.turn.serial owner) (events past) (by_job v held.turn.serial act first)
 changes_keeps w past v first held act owner i pool plain none_new goes =
     job_keeps w.tasks (with_owner w.tasks held.turn.serial owner) (events past) v held.turn.serial first act owner i.positive i.inside pool plain none_new
-    (set_same w.tasks (held.turn.serial - 1) owner i.inside) (λ k other. set_other w.tasks (held.turn.serial - 1) k owner other) (length-set w.tasks (held.turn.serial - 1) owner) goes
+    (got_same w.tasks (held.turn.serial - 1) owner i.inside) (λ k other. got_other w.tasks (held.turn.serial - 1) k owner other) (length-set w.tasks (held.turn.serial - 1) owner) goes
 
 -- ---- a new call
 
@@ -352,20 +292,12 @@ new_each : (owners : List Owner) (place : JobNumber) (before : List Event) → (
     → (k : ℕ) (owner : Owner) → slice_get (owners ++ new_owner place ∷ []) k ≡ Some owner → TaskAs owner (k + 1) (task_cut k (k + 1) before)
 new_each owners place before all unborn k owner found =
     ⊎_elim
-    (λ inside. all k owner (sym (append_left owners (new_owner place ∷ []) k inside) ∙ found))
-    (λ over. ⊎_elim
-    (λ same.
-    let seam = append_seam owners (new_owner place) [] in
-    let now : slice_get (owners ++ new_owner place ∷ []) k ≡ Some (new_owner place) = subst (λ j. slice_get (owners ++ new_owner place ∷ []) j ≡ Some (new_owner place)) (sym same) seam in
-    let one = one_owner (new_owner place) owner (slice_get (owners ++ new_owner place ∷ []) k) now found in
-    subst (λ (o : Owner). TaskAs o (k + 1) (task_cut k (k + 1) before)) one
-    (subst (λ (c : List Event). TaskAs (new_owner place) (k + 1) c) (sym (unborn k over)) (new_tied place (k + 1))))
-    (λ other.
-    let past_all : length (owners ++ new_owner place ∷ []) ≤ k = omega (arith, length-append owners (new_owner place ∷ []), over, other) in
-    let none = slice_get_past (owners ++ new_owner place ∷ []) k past_all in
-    absurd (cc))
-    (cases_eq k (length owners)))
-    (cases_lt k (length owners))
+    (λ old. all k owner old)
+    (λ new.
+    let at = new.0 in
+    subst (λ (o : Owner). TaskAs o (k + 1) (task_cut k (k + 1) before)) new.1
+    (subst (λ (c : List Event). TaskAs (new_owner place) (k + 1) c) (sym (unborn k (omega (arith, at)))) (new_tied place (k + 1))))
+    (in_pushed owners (new_owner place) k owner found)
 
 new_law : (w : Worlded) (past : List Moment) (e : Event) (serial k s : ℕ) (b : Bool) → (serial == s) ≡ b → serial ≡ tasks past + 1 → length w.tasks ≡ tasks past → is_by_task k e || is_of_job s e ≡ false
     → Tasked w past → AllLaws past → (if b then Some (Task (tasks past)) else holder past s) ≡ Some (Task k) → TaskLaws s (task_cut k s (e ∷ events past))
@@ -413,25 +345,18 @@ waited false w past v pass late t laws =
 
 -- ---- each move
 
--- a move whose event is in no cut
-set_by : (w : Worlded) (past : List Moment) (move : Move) → Aside (event_of w move) → (after w move).tasks ≡ w.tasks → Tasked w past → AllLaws past → TasksHold (after w move) (moment_of w move ∷ past)
-set_by w past move out same t laws = aside w (after w move) past (moment_of w move) out same t laws
-
 acts_on : (setting : ℕ) (w : Worlded) (past : List Moment) (move : Move) → Tied setting w past → AllLaws past → Keeps w.tasks (after w move).tasks (events past) (event_of w move) → TasksHold (after w move) (moment_of w move ∷ past)
 acts_on setting w past move t laws q = keeps w (after w move) past (moment_of w move) q t.numbered.holders t.tasked laws
 
 -- each move keeps the tie and the laws of the tasks
 pub both_after : (setting : ℕ) (marks : List Bool) (w : Worlded) (past : List Moment) (move : Move) → Tied setting w past → AllLaws past → May (IsMarked marks) w move
     → TasksHold (after w move) (moment_of w move ∷ past)
-both_after setting marks w past (Idles step) t laws may = set_by w past (Idles step) (record { out = λ k s. refl; none_new = λ s. refl }) refl t.tasked laws
 both_after setting marks w past (Begins added growth pool) t laws may = begins setting marks w past added growth pool t laws may
 both_after setting marks w past (Calls k call owner) t laws may =
     acts_on setting w past (Calls k call owner) t laws
     (call_keeps w.tasks k call owner (events past) (next_start w) may.0 may.1 (t.tasked.each k owner may.0))
-both_after setting marks w past (Arrives pass) t laws may = set_by w past (Arrives pass) (record { out = λ k s. refl; none_new = λ s. refl }) refl t.tasked laws
 both_after setting marks w past (TakesJob v old to_drop turn job growth pool) t laws may =
-    set_by w past (TakesJob v old to_drop turn job growth pool) (took_aside to_drop v turn.serial (next_start w) growth) refl t.tasked laws
-both_after setting marks w past (TakesNone v old pass) t laws may = set_by w past (TakesNone v old pass) (record { out = λ k s. refl; none_new = λ s. refl }) refl t.tasked laws
+    aside w _ past (moment_of w (TakesJob v old to_drop turn job growth pool)) (took_aside to_drop v turn.serial (next_start w) growth) refl t.tasked laws
 both_after setting marks w past (IsAnswered v held n) t laws may =
     let i = in_hand setting w past v held t laws may.0 in
     let s = held.turn.serial in
@@ -462,12 +387,8 @@ both_after setting marks w past (CallsWaker v held) t laws may =
     acts_on setting w past (CallsWaker v held) t laws
     (stays_keeps w past v (next_start w) held HolderWoken i refl refl (λ j. refl)
     (wake_goes (owner_at w.tasks s) v s (next_start w) (held_cut past s) next i.was))
-both_after setting marks w past (EndsTurn v held pass) t laws may = set_by w past (EndsTurn v held pass) (record { out = λ k s. refl; none_new = λ s. refl }) refl t.tasked laws
 both_after setting marks w past (HasWaited v pass late) t laws may = waited (must_stop late w.pool) w past v pass late t.tasked laws
-both_after setting marks w past (SetsLimit n) t laws may = set_by w past (SetsLimit n) (record { out = λ k s. refl; none_new = λ s. refl }) refl t.tasked laws
-both_after setting marks w past Sweeps t laws may = set_by w past Sweeps (record { out = λ k s. refl; none_new = λ s. refl }) refl t.tasked laws
-both_after setting marks w past (IsWoken x) t laws may = set_by w past (IsWoken x) (record { out = λ k s. refl; none_new = λ s. refl }) refl t.tasked laws
-both_after setting marks w past (IsStruck x) t laws may = set_by w past (IsStruck x) (record { out = λ k s. refl; none_new = λ s. refl }) refl t.tasked laws
+both_after setting marks w past move t laws may = aside w (after w move) past (moment_of w move) (record { out = λ k s. refl; none_new = λ s. refl }) refl t.tasked laws
 
 -- each move keeps the tie of the tasks, where they kept their laws
 pub tasked_after : (setting : ℕ) (marks : List Bool) (w : Worlded) (past : List Moment) (move : Move) → Tied setting w past
