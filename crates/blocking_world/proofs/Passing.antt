@@ -3,7 +3,10 @@ use Rattle.std.proofs.Common.{◌≡◌, ◌-◌, ◌==◌, ℕ, Bool, true, fal
 use Rattle.std.specs.Prelude.{OnSome}
 use Rattle.std.proofs.lemmas.Bool.Decides.{nat_tests}
 use Rattle.blocking_core.specs.declared.pool.token.WorkerPass.{WorkerPass}
-use Rattle.blocking_world.specs.Worlds.{hand_at, hand_in, hand_of, with_hand, duty_of, pass_in, held_in, over_in, over_by}
+use Rattle.blocking_world.specs.Machine.{DoesNothing, nothing, next_start}
+use Rattle.blocking_laws.specs.declared.event.Event.{Event}
+use Rattle.blocking_laws.specs.declared.event.Party.TheVariants.{Worker}
+use Rattle.blocking_world.specs.Worlds.{Worlded, hand_at, hand_in, hand_of, with_hand, duty_of, pass_in, held_in, over_in, over_by}
 use Rattle.blocking_world.specs.declared.hand.Duty.{Duty}
 use Rattle.blocking_world.specs.declared.hand.Duty.TheVariants as duty
 use Rattle.blocking_world.specs.declared.hand.Hand.{Hand}
@@ -89,3 +92,10 @@ lent_within (Some x) row row' v hand held is holds = is ∙ ap (with_hand row v)
 -- a job that was lent, and stays as it is, changes nothing
 pub lent_as_was : (row row' : List Hand) (v : ℕ) (held : Held) → Some held ≡ held_in (hand_at row v) → row' ≡ with_hand row v (Holds held) → row' ≡ row
 lent_as_was row row' v held holds put = put ∙ set_same row (v - 1) (Holds held) (at_held row v held (held_is (hand_at row v) held holds)).got
+
+-- ---- the world, where nothing is done
+
+-- the worker did nothing, and the hands are as they were
+pub nothing_done : (w : Worlded) (v : ℕ) {first : ℕ} {e : Event} {hands : List Hand} → hands ≡ w.hands → first ≡ next_start w → e ≡ nothing (Worker v) first
+    → DoesNothing (Worker v) w e (record w { hands = hands })
+nothing_done w v same start event = (event ∙ ap (nothing (Worker v)) start, ap (λ row. record w { hands = row }) same)

@@ -217,13 +217,13 @@ impl Parts {
         let Some(held) = self.workers.over(worker) else {
             return nothing(party, first);
         };
+        let serial = held.serial();
         let how = held.outcome();
         let Held {
             turn,
             job: _,
             stage: _,
         } = held;
-        let serial = turn.job().serial();
         let pass = self.crew.end(turn, how);
         self.workers.put(worker, Hand::Free(pass));
         seen(
