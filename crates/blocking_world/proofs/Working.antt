@@ -1,7 +1,7 @@
 -- What a worker does with the job in its hand: the job's next action, where that is its own to take, and the answer of its call.
-use Rattle.std.proofs.Common.{◌≡◌, ◌<◌, ◌-◌, ℕ, Bool, List, length, slice_index_or, slice_set, Some, None, ap, sym, subst, refl, arith}
+use Rattle.std.proofs.Common.{◌≡◌, ◌<◌, ◌-◌, ℕ, Bool, List, length, slice_index_or, slice_set, Some, None, ap, sym, subst, refl, arith, ◌∙◌}
 use mathlib.Core.Logic.{◌⊎◌, inl, inr}
-use Rattle.std.specs.Prelude.{is_some}
+use Rattle.std.specs.Prelude.{is_some, slice_get}
 use Rattle.std.proofs.lemmas.Option.{slice_get_read}
 use Rattle.blocking_core.specs.Slots.{after_put, put_in, after_give_up, waker_of_give_up}
 use Rattle.blocking_world.specs.Worlds.{Worlded, hand_at, with_hand, owner_at, owner_in, duty_of, held_in, answered, finished, given_up, woke}
@@ -26,12 +26,12 @@ use Rattle.blocking_world.proofs.Passing.{held_is, lent_as_was, nothing_done}
 pub held_there : (w : Worlded) (v : ℕ) (held : Held) → IsReady w → Some held ≡ held_in (hand_at w.hands v) → IsHeld w held
 held_there w v held ready is = ready.held (v - 1) held (at_held w.hands v held (held_is (hand_at w.hands v) held is)).got
 
--- and its serial names that task
-pub task_there : (w : Worlded) (v : ℕ) {held : Held} {serial : ℕ} → IsReady w → Some held ≡ held_in (hand_at w.hands v) → serial ≡ held.turn.serial → serial - 1 < length w.tasks
+-- which has the number before its serial
+pub task_there : (w : Worlded) (v : ℕ) {held : Held} {task : ℕ} → IsReady w → Some held ≡ held_in (hand_at w.hands v) → task ≡ held.turn.serial - 1 → task < length w.tasks
 task_there w v {held} ready is same = let owned = (held_there w v held ready is).owned in omega (arith, owned, same)
 
-read_owner : (tasks : List Owner) (s : ℕ) (owner : Owner) → s - 1 < length tasks → owner ≡ slice_index_or tasks (s - 1) owner → owner_at tasks s ≡ owner
-read_owner tasks s owner within value = ap owner_in (slice_get_read tasks (length tasks) (s - 1) owner refl within value)
+read_owner : (tasks : List Owner) (serial task : ℕ) (owner : Owner) → task ≡ serial - 1 → task < length tasks → owner ≡ slice_index_or tasks task owner → owner_at tasks serial ≡ owner
+read_owner tasks serial task owner same within value = ap (λ n. owner_in (slice_get tasks n)) (sym same) ∙ ap owner_in (slice_get_read tasks (length tasks) task owner refl within value)
 
 -- ---- the next action of a job
 
@@ -58,25 +58,25 @@ work_rests w v {first} {e} {held} {d} {hands} holds is idle put start event =
     (rests w v e (record w { hands = hands }) d held idle (nothing_done w v (lent_as_was w.hands hands v held holds put) start event))
 
 -- the job puts its result
-pub work_finishes : (w : Worlded) (v : ℕ) {first serial number : ℕ} {e : Event} {w' : Worlded} {act : Act} {held held' : Held} {wake : Bool} {owner owner' : Owner} {hands : List Hand}
+pub work_finishes : (w : Worlded) (v : ℕ) {first serial task number : ℕ} {e : Event} {w' : Worlded} {act : Act} {held held' : Held} {wake : Bool} {owner owner' : Owner} {hands : List Hand}
     → Some held ≡ held_in (hand_at w.hands v) → duty.Finish ≡ duty_of held
-    → serial ≡ held.turn.serial → number ≡ held.job.number → serial - 1 < length w.tasks → owner ≡ slice_index_or w.tasks (serial - 1) owner
+    → serial ≡ held.turn.serial → number ≡ held.job.number → task ≡ held.turn.serial - 1 → task < length w.tasks → owner ≡ slice_index_or w.tasks task owner
     → wake ≡ is_some (put_in owner.slot number).wake → owner' ≡ record owner { slot = after_put owner.slot number } → held' ≡ finished held wake
-    → hands ≡ with_hand w.hands v (Holds held') → act ≡ Finished wake → w' ≡ record w { tasks = slice_set w.tasks (serial - 1) owner'; hands = hands }
+    → hands ≡ with_hand w.hands v (Holds held') → act ≡ Finished wake → w' ≡ record w { tasks = slice_set w.tasks task owner'; hands = hands }
     → first ≡ next_start w → e ≡ seen (Worker v) (Some serial) act first no_growth → WorksWith (hand_at w.hands v) w v e w'
-work_finishes w v {first} {serial} {number} {e} {w'} {act} {held} {held'} {wake} {owner} holds is same numbers within value wakes so left put acts after start event =
-    let own : owner_at w.tasks serial ≡ owner = read_owner w.tasks serial owner within value in
+work_finishes w v {first} {serial} {task} {number} {e} {w'} {act} {held} {held'} {wake} {owner} holds is same numbers place within value wakes so left put acts after start event =
+    let own : owner_at w.tasks held.turn.serial ≡ owner = read_owner w.tasks held.turn.serial task owner place within value in
     works_so w v e w' held duty.Finish holds is (cc, cc)
 
 -- the job gives up
-pub work_gives_up : (w : Worlded) (v : ℕ) {first serial : ℕ} {e : Event} {w' : Worlded} {act : Act} {held held' : Held} {wake : Bool} {owner owner' : Owner} {hands : List Hand}
+pub work_gives_up : (w : Worlded) (v : ℕ) {first serial task : ℕ} {e : Event} {w' : Worlded} {act : Act} {held held' : Held} {wake : Bool} {owner owner' : Owner} {hands : List Hand}
     → Some held ≡ held_in (hand_at w.hands v) → duty.GiveUp ≡ duty_of held
-    → serial ≡ held.turn.serial → serial - 1 < length w.tasks → owner ≡ slice_index_or w.tasks (serial - 1) owner
+    → serial ≡ held.turn.serial → task ≡ held.turn.serial - 1 → task < length w.tasks → owner ≡ slice_index_or w.tasks task owner
     → wake ≡ is_some (waker_of_give_up owner.slot) → owner' ≡ record owner { slot = after_give_up owner.slot } → held' ≡ given_up held wake
-    → hands ≡ with_hand w.hands v (Holds held') → act ≡ GaveUp wake → w' ≡ record w { tasks = slice_set w.tasks (serial - 1) owner'; hands = hands }
+    → hands ≡ with_hand w.hands v (Holds held') → act ≡ GaveUp wake → w' ≡ record w { tasks = slice_set w.tasks task owner'; hands = hands }
     → first ≡ next_start w → e ≡ seen (Worker v) (Some serial) act first no_growth → WorksWith (hand_at w.hands v) w v e w'
-work_gives_up w v {first} {serial} {e} {w'} {act} {held} {held'} {wake} {owner} holds is same within value wakes so left put acts after start event =
-    let own : owner_at w.tasks serial ≡ owner = read_owner w.tasks serial owner within value in
+work_gives_up w v {first} {serial} {task} {e} {w'} {act} {held} {held'} {wake} {owner} holds is same place within value wakes so left put acts after start event =
+    let own : owner_at w.tasks held.turn.serial ≡ owner = read_owner w.tasks held.turn.serial task owner place within value in
     works_so w v e w' held duty.GiveUp holds is (cc, cc)
 
 -- the job calls the waker that it took

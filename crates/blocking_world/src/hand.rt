@@ -1,5 +1,5 @@
 //! What the workers of a world have in hand.
-ghost use Rattle.std.specs.Prelude.{◌≡◌, is_some, if◌then◌else◌};
+ghost use Rattle.std.specs.Prelude.{◌≡◌, ◌<◌, ◌-◌, is_some, if◌then◌else◌};
 ghost use Rattle.std.specs.Option.{option_copied_mut};
 ghost use Rattle.std.specs.Borrow.{sem};
 
@@ -67,6 +67,14 @@ impl Held {
         ensures { result ≡ self.now.turn.serial }
     {
         self.turn.job().serial()
+    }
+
+    /// The number of the job's task: tasks come with their jobs, and are numbered from 0, as jobs are from 1.
+    pub(crate) fn task(&self) -> usize
+        requires { 0 < self.now.turn.serial }
+        ensures { result ≡ self.now.turn.serial - 1 }
+    {
+        (self.serial() - 1) as usize
     }
 
     /// What the call was answered, once it was.

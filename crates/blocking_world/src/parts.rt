@@ -168,7 +168,7 @@ impl Parts {
             return nothing(party, first);
         };
         let serial = held.serial();
-        let task = (serial - 1) as usize;
+        let task = held.task();
         let act = match held.duty() {
             Duty::Await | Duty::End => return nothing(party, first),
             Duty::Finish => {

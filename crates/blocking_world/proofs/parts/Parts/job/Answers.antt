@@ -14,12 +14,8 @@ returns-in_default c =
     rw (sym c.self.view_is)
     (work_none w v (hand_at w.hands v) c.in_default.ensures.held c.held_mut.follows.holds-at-none c.next_start-first.ensures c.nothing.ensures)
 
-pub overflow_sub-task : goal.overflow_sub-task
-overflow_sub-task c =
-    let there = held_there (the_view c.self.inside) c.args.worker c.in-Some.held.now (subst IsReady (sym c.self.view_is) c.requires) c.in-Some.ensures.held in
-    let positive = there.positive in
-    let same = c.serial-serial.ensures in
-    omega (arith, positive, same)
+pub task-task-requires : goal.task-task-requires
+task-task-requires c = (held_there (the_view c.self.inside) c.args.worker c.in-Some.held.now (subst IsReady (sym c.self.view_is) c.requires) c.in-Some.ensures.held).positive
 
 pub returns-in-Await : goal.returns-in-Await
 returns-in-Await c =
@@ -29,13 +25,13 @@ returns-in-Await c =
 
 pub index_mut-requires : goal.index_mut-requires
 index_mut-requires c =
-    let within = task_there (the_view c.self.inside) c.args.worker (subst IsReady (sym c.self.view_is) c.requires) c.in-Some.ensures.held c.serial-serial.ensures in
+    let within = task_there (the_view c.self.inside) c.args.worker (subst IsReady (sym c.self.view_is) c.requires) c.in-Some.ensures.held c.task-task.ensures in
     let len = c.self.inside.tasks.ok.0 in
     omega (arith, within, len)
 
 pub index_mut-requires-in-GiveUp : goal.index_mut-requires-in-GiveUp
 index_mut-requires-in-GiveUp c =
-    let within = task_there (the_view c.self.inside) c.args.worker (subst IsReady (sym c.self.view_is) c.requires) c.in-Some.ensures.held c.serial-serial.ensures in
+    let within = task_there (the_view c.self.inside) c.args.worker (subst IsReady (sym c.self.view_is) c.requires) c.in-Some.ensures.held c.task-task.ensures in
     let len = c.self.inside.tasks.ok.0 in
     omega (arith, within, len)
 
@@ -45,13 +41,14 @@ returns c =
     let v = c.args.worker in
     let holds = c.in-Some.ensures.held in
     let same = c.serial-serial.ensures in
-    let within = task_there w v (subst IsReady (sym c.self.view_is) c.requires) holds same in
+    let place = c.task-task.ensures in
+    let within = task_there w v (subst IsReady (sym c.self.view_is) c.requires) holds place in
     let start = c.next_start-first.ensures in
     let event = c.seen.ensures in
     let done : WorksWith (hand_at w.hands v) w v c.seen.result c.match-duty.self = elim c.match-duty.branch [
-      | in-Finish b ↦ work_finishes w v holds b.in-Finish.ensures same b.number.ensures within b.index_mut.ensures.value b.finish-wake.ensures.wake b.finish-wake.ensures.after b.finish.ensures
+      | in-Finish b ↦ work_finishes w v holds b.in-Finish.ensures same b.number.ensures place within b.index_mut.ensures.value b.finish-wake.ensures.wake b.finish-wake.ensures.after b.finish.ensures
           (lent_hand c.in-Some.is (c.held_mut.follows.holds b.finish.new.self)) b.act-is b.self-is start event
-      | in-GiveUp b ↦ work_gives_up w v holds b.in-GiveUp.ensures same within b.index_mut-in-GiveUp.ensures.value b.give_up-wake.ensures.wake b.give_up-wake.ensures.after b.give_up.ensures
+      | in-GiveUp b ↦ work_gives_up w v holds b.in-GiveUp.ensures same place within b.index_mut-in-GiveUp.ensures.value b.give_up-wake.ensures.wake b.give_up-wake.ensures.after b.give_up.ensures
           (lent_hand c.in-Some.is (c.held_mut.follows.holds b.give_up.new.self)) b.act-is b.self-is start event
       | in-Wake b ↦ work_wakes w v holds b.in-Wake.ensures same b.wake.ensures (lent_hand c.in-Some.is (c.held_mut.follows.holds b.wake.new.self)) b.act-is b.self-is start event
     ] in
