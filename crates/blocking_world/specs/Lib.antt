@@ -5,3 +5,4 @@ pub mod Moves
 pub mod Ties
 pub mod Runs
 pub mod Closing
+pub mod HandLends

@@ -121,6 +121,13 @@ ArrivesIf true w e w' =
     Does (seen (Worker (length w.hands + 1)) None (Arrived (length w.hands + 1)) (next_start w) no_growth)
     (record w { pool = record w.pool { counts = arrived w.pool.counts }; hands = w.hands ++ Free pass ∷ [] }) e w'
 
+-- A worker that was started arrives, with its pass in hand, and is the next one; no worker, where none is left to arrive.
+abbrev pub Joins : CallPool → List Hand → Option ℕ → CallPool → List Hand → Type 0
+Joins pool hands None pool' hands' = (pool.counts.arriving ≡ 0) × (pool' ≡ pool) × (hands' ≡ hands)
+Joins pool hands (Some worker) pool' hands' =
+    (0 < pool.counts.arriving) × (worker ≡ length hands + 1) × (pool' ≡ record pool { counts = arrived pool.counts })
+    × ((pass : WorkerPass) × (hands' ≡ hands ++ Free pass ∷ []))
+
 -- what is seen of a take
 abbrev pub took_act : Took CallJob → Act
 took_act (Run turn job) = TookToRun turn.serial

@@ -1,5 +1,5 @@
 -- The parts of a world as contracts see them: jobs, hands and tasks, and what each small step does to one of them.
-use Rattle.std.specs.Prelude.{◌≡◌, ℕ, Bool, true, false, ◌==◌, ◌-◌, if◌then◌else◌, List, slice_get, slice_set, refl, Option, Some, None}
+use Rattle.std.specs.Prelude.{ℕ, Bool, true, false, ◌==◌, ◌-◌, if◌then◌else◌, List, slice_get, slice_set, refl, Option, Some, None}
 use Rattle.std.specs.Coded.{Coded, code_by, coded×, coded_list}
 use Rattle.blocking_core.specs.Cores.{call_after}
 use Rattle.blocking_core.specs.Jobs.{JobNumber}
@@ -115,19 +115,28 @@ abbrev pub is_free_hand : Hand → Bool
 is_free_hand (Free pass) = true
 is_free_hand _ = false
 
--- the pass comes out of the hand of an idle worker
-abbrev pub LetsPass : Hand → Option WorkerPass → Hand → Type 0
-LetsPass (Free pass) result after = (result ≡ Some pass) × (after ≡ Out)
-LetsPass hand result after = (result ≡ None) × (after ≡ hand)
+-- the hand of a worker that is there
+abbrev pub hand_of : List Hand → ℕ → Option Hand
+hand_of row worker = if worker == 0 then None else slice_get row (worker - 1)
 
-abbrev pub LetsIf : Duty → Held → Option Held → Hand → Type 0
-LetsIf duty.End held result after = (result ≡ Some held) × (after ≡ Out)
-LetsIf _ held result after = (result ≡ None) × (after ≡ Holds held)
+-- the pass of an idle worker
+abbrev pub pass_in : Hand → Option WorkerPass
+pass_in (Free pass) = Some pass
+pass_in _ = None
 
--- a job with nothing left to do comes out of its hand
-abbrev pub LetsJob : Hand → Option Held → Hand → Type 0
-LetsJob (Holds held) result after = LetsIf (duty_of held) held result after
-LetsJob hand result after = (result ≡ None) × (after ≡ hand)
+-- the job in a hand
+abbrev pub held_in : Hand → Option Held
+held_in (Holds held) = Some held
+held_in _ = None
+
+abbrev pub over_by : Duty → Held → Option Held
+over_by duty.End held = Some held
+over_by _ held = None
+
+-- the job in a hand, where nothing is left to do
+abbrev pub over_in : Hand → Option Held
+over_in (Holds held) = over_by (duty_of held) held
+over_in _ = None
 
 -- ---- tasks
 

@@ -1,5 +1,7 @@
 //! What the workers of a world have in hand.
-ghost use Rattle.std.specs.Prelude.{◌≡◌};
+ghost use Rattle.std.specs.Prelude.{◌≡◌, ◌<◌, ◌-◌, is_some, if◌then◌else◌};
+ghost use Rattle.std.specs.Option.{option_copied_mut};
+ghost use Rattle.std.specs.Borrow.{sem};
 
 use crate::call::CallJob;
 use blocking_core::job::{Action, Answer};
@@ -65,6 +67,14 @@ impl Held {
         ensures { result ≡ self.now.turn.serial }
     {
         self.turn.job().serial()
+    }
+
+    /// The number of the job's task: tasks come with their jobs, and are numbered from 0, as jobs are from 1.
+    pub(crate) fn task(&self) -> usize
+        requires { 0 < self.now.turn.serial }
+        ensures { result ≡ self.now.turn.serial - 1 }
+    {
+        (self.serial() - 1) as usize
     }
 
     /// What the call was answered, once it was.
@@ -135,7 +145,8 @@ impl Held {
 }
 
 impl Hand {
-    ghost use Rattle.blocking_world.specs.Worlds.{LetsPass, LetsJob};
+    ghost use Rattle.blocking_world.specs.Worlds.{pass_in, held_in, over_in};
+    ghost use Rattle.blocking_world.specs.HandLends.{lends_job};
 
     /// Puts something into a hand that is out.
     pub(crate) fn put(&mut self, hand: Hand)
@@ -149,9 +160,21 @@ impl Hand {
         }
     }
 
+    /// The job in the hand.
+    pub(crate) fn held_mut(&mut self) -> Option<&mut Held>
+        ensures* lends { sem 𝓛 (lends_job self.entry result) }
+        ensures held { option_copied_mut result ≡ held_in self.old }
+    {
+        match self {
+            Hand::Holds(held) => Some(held),
+            Hand::Out | Hand::Free(_) => None,
+        }
+    }
+
     /// The pass of an idle worker, whose hand is out then; None, and no change, where the worker isn't idle.
     pub(crate) fn pass(&mut self) -> Option<WorkerPass>
-        ensures { LetsPass self.old result self.new }
+        ensures pass { result ≡ pass_in self.old }
+        ensures after { self.new ≡ (if is_some result then Hand.Out else self.old) }
     {
         match mem::replace(self, Hand::Out) {
             Hand::Out => None,
@@ -165,7 +188,8 @@ impl Hand {
 
     /// The job that has nothing left to do, and the hand is out then; None, and no change, elsewhere.
     pub(crate) fn over(&mut self) -> Option<Held>
-        ensures { LetsJob self.old result self.new }
+        ensures job { result ≡ over_in self.old }
+        ensures after { self.new ≡ (if is_some result then Hand.Out else self.old) }
     {
         match mem::replace(self, Hand::Out) {
             Hand::Out => None,

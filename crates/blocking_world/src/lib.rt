@@ -11,6 +11,7 @@ mod starts;
 mod task;
 #[cfg(test)]
 mod tests;
+mod workers;
 mod world;
 
 pub use blocking_laws::{Act, Answer, Event, Moment, Party, Step, TaskCall};

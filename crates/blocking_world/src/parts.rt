@@ -1,26 +1,23 @@
 //! The parts of a world, and the steps on them.
-ghost use Rattle.std.specs.Prelude.{◌≡◌, ◌<◌, ◌≤◌, ◌+◌, ℕ, [], length, IfOk, OnErr, Some, None, true, false, slice_set};
-ghost use Rattle.blocking_core.specs.Jobs.{JobNumber, is_running_as};
-ghost use Rattle.blocking_world.specs.Crews.{NoneParked};
-ghost use Rattle.blocking_world.specs.Machine.{one_if_free};
-ghost use Rattle.blocking_world.specs.Closing.{RunsIn, IsOther};
-ghost use Rattle.blocking_world.specs.Machine.{seen as what_is_seen, nothing as what_is_not};
+ghost use Rattle.std.specs.Prelude.{◌≡◌, [], IfOk, OnErr, Some, None};
+ghost use Rattle.blocking_world.specs.Machine.{seen as what_is_seen, nothing as what_is_not, took_hand, took_job, took_act};
 
+use crate::call::CallJob;
 use crate::crew::{Crew, Grown, NO_GROWTH};
 use crate::hand::{Duty, Hand, Held, Stage};
 use crate::task::Owner;
-use blocking_core::pool::{Standing, Starter, Took, Waited, WorkerPass};
+use crate::workers::Workers;
+use blocking_core::pool::{Starter, Took, Waited};
 use blocking_laws::event::{Act, Event, Party};
 use blocking_laws::step::{Answer, Step, TaskCall};
 use std::alloc::{AllocError, Global};
 use std::marker::Model;
-use std::mem;
 
-/// A pool of calls, the tasks that own them, in order, and the workers that arrived, in order.
+/// A pool of calls, the tasks that own them, in order, and what the workers have in hand.
 pub(crate) struct Parts {
     pub(crate) crew: Crew,
     tasks: Vec<Owner>,
-    pub(crate) hands: Vec<Hand>,
+    workers: Workers,
 }
 
 impl Model for Parts {
@@ -30,7 +27,7 @@ impl Model for Parts {
 
     ghost coded = { worlded_code };
 
-    ghost view = { λ p. record { pool = p.crew; tasks = p.tasks.items; hands = p.hands.items } };
+    ghost view = { λ p. record { pool = p.crew; tasks = p.tasks.items; hands = p.workers } };
 }
 
 impl Parts {
@@ -48,7 +45,7 @@ impl Parts {
         Parts {
             crew: Crew::new(alloc, setting),
             tasks: Vec::new(alloc),
-            hands: Vec::new(alloc),
+            workers: Workers::new(alloc),
         }
     }
 
@@ -136,16 +133,10 @@ impl Parts {
         ensures ok { IfOk result (λ e. ArrivesIf (nat_lt 0 self.old.pool.counts.arriving) self.old e self.new) }
         ensures err { OnErr result (self.new ≡ self.old) }
     {
-        self.hands.reserve(1)?;
         let first = self.crew.next_start();
-        let Some(pass) = self.crew.arrive() else {
+        let Some(worker) = self.workers.arrive(&mut self.crew)? else {
             return Ok(nothing(Party::Pool, first));
         };
-        match self.hands.push(Hand::Free(pass)) {
-            Ok(()) => {}
-            Err(_failed) => unreachable!(),
-        }
-        let worker = self.hands.len();
         let party = Party::Worker(worker);
         Ok(seen(party, None, Act::Arrived(worker), first, NO_GROWTH))
     }
@@ -157,36 +148,12 @@ impl Parts {
     {
         let first = self.crew.next_start();
         let party = Party::Worker(worker);
-        let Some(place) = worker.checked_sub(1) else {
-            return nothing(party, first);
-        };
-        let Some(hand) = self.hands.get_mut(place) else {
-            return nothing(party, first);
-        };
-        let Some(pass) = hand.pass() else {
+        let Some(pass) = self.workers.pass(worker) else {
             return nothing(party, first);
         };
         let (took, growth) = self.crew.take(pass, starter);
-        let (hand, job, act) = match took {
-            Took::Idle(pass) => (Hand::Free(pass), None, Act::TookNone),
-            Took::Run(turn, job) => {
-                let serial = turn.job().serial();
-                (
-                    Hand::Holds(Held::new(turn, job, Stage::Runs)),
-                    Some(serial),
-                    Act::Took(serial),
-                )
-            }
-            Took::Drop(turn, job) => {
-                let serial = turn.job().serial();
-                (
-                    Hand::Holds(Held::new(turn, job, Stage::MustGiveUp)),
-                    Some(serial),
-                    Act::TookDropped(serial),
-                )
-            }
-        };
-        self.hands[place].put(hand);
+        let (hand, job, act) = received(took);
+        self.workers.put(worker, hand);
         seen(party, job, act, first, growth)
     }
 
@@ -197,17 +164,11 @@ impl Parts {
     {
         let first = self.crew.next_start();
         let party = Party::Worker(worker);
-        let Some(place) = worker.checked_sub(1) else {
-            return nothing(party, first);
-        };
-        let Some(hand) = self.hands.get_mut(place) else {
-            return nothing(party, first);
-        };
-        let Hand::Holds(held) = hand else {
+        let Some(held) = self.workers.held_mut(worker) else {
             return nothing(party, first);
         };
         let serial = held.serial();
-        let task = (serial - 1) as usize;
+        let task = held.task();
         let act = match held.duty() {
             Duty::Await | Duty::End => return nothing(party, first),
             Duty::Finish => {
@@ -234,13 +195,7 @@ impl Parts {
     {
         let first = self.crew.next_start();
         let party = Party::Worker(worker);
-        let Some(place) = worker.checked_sub(1) else {
-            return nothing(party, first);
-        };
-        let Some(hand) = self.hands.get_mut(place) else {
-            return nothing(party, first);
-        };
-        let Hand::Holds(held) = hand else {
+        let Some(held) = self.workers.held_mut(worker) else {
             return nothing(party, first);
         };
         let Duty::Await = held.duty() else {
@@ -259,24 +214,18 @@ impl Parts {
     {
         let first = self.crew.next_start();
         let party = Party::Worker(worker);
-        let Some(place) = worker.checked_sub(1) else {
+        let Some(held) = self.workers.over(worker) else {
             return nothing(party, first);
         };
-        let Some(hand) = self.hands.get_mut(place) else {
-            return nothing(party, first);
-        };
-        let Some(held) = hand.over() else {
-            return nothing(party, first);
-        };
+        let serial = held.serial();
         let how = held.outcome();
         let Held {
             turn,
             job: _,
             stage: _,
         } = held;
-        let serial = turn.job().serial();
         let pass = self.crew.end(turn, how);
-        self.hands[place].put(Hand::Free(pass));
+        self.workers.put(worker, Hand::Free(pass));
         seen(
             party,
             Some(serial),
@@ -293,18 +242,12 @@ impl Parts {
     {
         let first = self.crew.next_start();
         let party = Party::Worker(worker);
-        let Some(place) = worker.checked_sub(1) else {
-            return nothing(party, first);
-        };
-        let Some(hand) = self.hands.get_mut(place) else {
-            return nothing(party, first);
-        };
-        let Some(pass) = hand.pass() else {
+        let Some(pass) = self.workers.pass(worker) else {
             return nothing(party, first);
         };
         let act = match self.crew.after_wait(pass, late, starter) {
             Waited::Stay(pass) => {
-                self.hands[place].put(Hand::Free(pass));
+                self.workers.put(worker, Hand::Free(pass));
                 Act::Stays(worker, late)
             }
             Waited::Stop => Act::Stopped(worker, late),
@@ -391,16 +334,10 @@ impl Parts {
     pub(crate) fn has_job_action(&self, worker: usize) -> bool
         ensures { result ≡ is_own (duty_in (hand_at self.now.hands worker)) }
     {
-        let Some(place) = worker.checked_sub(1) else {
+        let Some(duty) = self.workers.duty(worker) else {
             return false;
         };
-        let Some(hand) = self.hands.get(place) else {
-            return false;
-        };
-        let Hand::Holds(held) = hand else {
-            return false;
-        };
-        match held.duty() {
+        match duty {
             Duty::Finish | Duty::GiveUp | Duty::Wake => true,
             Duty::Await | Duty::End => false,
         }
@@ -413,36 +350,29 @@ impl Parts {
         let Parts {
             mut crew,
             tasks: _tasks,
-            hands,
+            workers,
         } = self;
-        let mut hands = hands;
-        while let Some(hand) = hands.pop() {
-            let_go(&mut crew, hand, starter);
-        }
-        hands.destroy_empty();
+        workers.close(&mut crew, starter);
     }
 }
 
-// Lets a worker go: its job ends as done, and it stops with an empty queue.
-fn let_go<S: Starter>(crew: &mut Crew, hand: Hand, starter: &mut S)
-    requires parked { NoneParked crew.old.jobs }
-    requires free { crew.old.counts.arriving + one_if_free hand ≤ crew.old.counts.idle }
-    requires runs { RunsIn crew.old.jobs hand }
-    ensures parked { NoneParked crew.new.jobs }
-    ensures left { (rest : ℕ) → crew.old.counts.idle ≡ crew.old.counts.arriving + (one_if_free hand + rest) → crew.new.counts.idle ≡ crew.new.counts.arriving + rest }
-    ensures others { (number : JobNumber) → IsOther hand number.serial → is_running_as crew.old.jobs number ≡ true → is_running_as crew.new.jobs number ≡ true }
+// What a worker has in hand after a take, and what is seen of it: the job, where there is one, and the act.
+fn received(took: Took<CallJob>) -> (Hand, Option<u64>, Act)
+    ensures hand { result.0 ≡ took_hand took }
+    ensures job { result.1 ≡ took_job took }
+    ensures act { result.2 ≡ took_act took }
 {
-    match hand {
-        Hand::Out => {}
-        Hand::Free(pass) => crew.dismiss(pass, starter),
-        Hand::Holds(held) => {
-            let Held {
-                turn,
-                job: _job,
-                stage: _stage,
-            } = held;
-            let pass = crew.end(turn, Standing::Done);
-            crew.dismiss(pass, starter);
+    match took {
+        Took::Idle(pass) => (Hand::Free(pass), None, Act::TookNone),
+        Took::Run(turn, job) => {
+            let serial = turn.job().serial();
+            let held = Held::new(turn, job, Stage::Runs);
+            (Hand::Holds(held), Some(serial), Act::Took(serial))
+        }
+        Took::Drop(turn, job) => {
+            let serial = turn.job().serial();
+            let held = Held::new(turn, job, Stage::MustGiveUp);
+            (Hand::Holds(held), Some(serial), Act::TookDropped(serial))
         }
     }
 }

@@ -3,7 +3,7 @@ use Rattle.blocking_world.specs.Closing.{IsOther}
 use Rattle.blocking_world.specs.Machine.{one_if_free}
 use Rattle.blocking_world.specs.Worlds.{CallPool}
 use Rattle.blocking_world.proofs.Closings.{still_none_parked, others_run}
-use Rattle.blocking_world.proofs.parts.let_go.Goals as goal
+use Rattle.blocking_world.proofs.workers.let_go.Goals as goal
 
 pub dismiss-requires-in-Holds-clause-parked : goal.dismiss-requires-in-Holds-clause-parked
 dismiss-requires-in-Holds-clause-parked g c =

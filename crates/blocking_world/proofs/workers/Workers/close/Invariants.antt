@@ -1,7 +1,7 @@
 -- What is left of the hands still fits the pool, and they get fewer.
 use Rattle.std.proofs.Common.{vec_len}
 use Rattle.blocking_world.specs.Closing.{AreLeft}
-use Rattle.blocking_world.proofs.parts.Parts.close.Given as goal
+use Rattle.blocking_world.proofs.workers.Workers.close.Given as goal
 
 abbrev pub invariant-loop-hand : goal.invariant-loop-hand
 invariant-loop-hand g l = AreLeft l.crew l.hands.items

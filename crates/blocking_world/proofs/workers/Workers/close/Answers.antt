@@ -1,5 +1,5 @@
 use Rattle.blocking_world.proofs.Closings.{last_free, last_runs, rest_left}
-use Rattle.blocking_world.proofs.parts.Parts.close.Goals as goal
+use Rattle.blocking_world.proofs.workers.Workers.close.Goals as goal
 
 pub let_go-requires-clause-free : goal.let_go-requires-clause-free
 let_go-requires-clause-free g c =

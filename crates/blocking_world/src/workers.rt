@@ -1,0 +1,152 @@
+//! The workers of a world that arrived.
+ghost use Rattle.std.specs.Prelude.{◌≡◌, ◌≤◌, ◌+◌, ℕ, [], IfOk, OnErr, Some, is_some, true, if◌then◌else◌};
+ghost use Rattle.std.specs.Option.{option_copied_mut};
+ghost use Rattle.std.specs.Borrow.{sem};
+ghost use Rattle.blocking_core.specs.Jobs.{JobNumber, is_running_as};
+ghost use Rattle.blocking_world.specs.Closing.{RunsIn, IsOther};
+ghost use Rattle.blocking_world.specs.Crews.{NoneParked};
+ghost use Rattle.blocking_world.specs.Machine.{one_if_free};
+
+use crate::crew::Crew;
+use crate::hand::{Duty, Hand, Held};
+use blocking_core::pool::{Standing, Starter, WorkerPass};
+use std::alloc::{AllocError, Global};
+use std::marker::Model;
+
+/// The workers that arrived, in order, by what they have in hand. A worker is named by its number, from 1 on, and one that
+/// hasn't arrived has nothing in hand.
+pub(crate) struct Workers {
+    hands: Vec<Hand>,
+}
+
+impl Model for Workers {
+    ghost use Rattle.std.specs.Prelude.{List};
+    ghost use Rattle.blocking_world.specs.declared.hand.Hand.{Hand};
+
+    ghost Value = { List Hand };
+
+    ghost view = { λ w. w.hands.items };
+}
+
+impl Workers {
+    ghost use Rattle.blocking_world.specs.Closing.{AreLeft};
+    ghost use Rattle.blocking_world.specs.HandLends.{lends_hand, lends_held};
+    ghost use Rattle.blocking_world.specs.Machine.{Joins};
+    ghost use Rattle.blocking_world.specs.Moves.{duty_in};
+    ghost use Rattle.blocking_world.specs.Worlds.{hand_at, hand_of, with_hand, pass_in, held_in, over_in};
+
+    /// No worker has arrived. Takes no memory.
+    pub(crate) fn new(alloc: Global) -> Workers
+        ensures { result ≡ [] }
+    {
+        Workers {
+            hands: Vec::new(alloc),
+        }
+    }
+
+    // The hand of this worker, if it has arrived.
+    fn at(&mut self, worker: usize) -> Option<&mut Hand>
+        ensures* lends { sem 𝓛 (lends_hand self.entry worker result) }
+        ensures hand { option_copied_mut result ≡ hand_of self.old worker }
+    {
+        let place = worker.checked_sub(1)?;
+        self.hands.get_mut(place)
+    }
+
+    /// The pass of this worker, if it is idle. Its hand is out then.
+    pub(crate) fn pass(&mut self, worker: usize) -> Option<WorkerPass>
+        ensures pass { result ≡ pass_in (hand_at self.old worker) }
+        ensures after { self.new ≡ (if is_some result then with_hand self.old worker Hand.Out else self.old) }
+    {
+        self.at(worker)?.pass()
+    }
+
+    /// The job of this worker that has nothing left to do, if it has one. Its hand is out then.
+    pub(crate) fn over(&mut self, worker: usize) -> Option<Held>
+        ensures job { result ≡ over_in (hand_at self.old worker) }
+        ensures after { self.new ≡ (if is_some result then with_hand self.old worker Hand.Out else self.old) }
+    {
+        self.at(worker)?.over()
+    }
+
+    /// Puts something into the hand of this worker, which is out.
+    pub(crate) fn put(&mut self, worker: usize, hand: Hand)
+        requires { hand_of self.old worker ≡ Some Hand.Out }
+        ensures { self.new ≡ with_hand self.old worker hand }
+    {
+        match self.at(worker) {
+            Some(out) => out.put(hand),
+            None => unreachable!(),
+        }
+    }
+
+    /// The job in the hand of this worker, if it has one.
+    pub(crate) fn held_mut(&mut self, worker: usize) -> Option<&mut Held>
+        ensures* lends { sem 𝓛 (lends_held self.entry worker result) }
+        ensures held { option_copied_mut result ≡ held_in (hand_at self.old worker) }
+    {
+        self.at(worker)?.held_mut()
+    }
+
+    /// What this worker has to do next with its job, if it has one.
+    pub(crate) fn duty(&self, worker: usize) -> Option<Duty>
+        ensures { result ≡ duty_in (hand_at self.now worker) }
+    {
+        let place = worker.checked_sub(1)?;
+        match self.hands.get(place)? {
+            Hand::Holds(held) => Some(held.duty()),
+            Hand::Out | Hand::Free(_) => None,
+        }
+    }
+
+    /// A started worker of the pool arrives, and its number comes back: None where all that were started have arrived.
+    /// Where there is no room for its hand, none arrives.
+    pub(crate) fn arrive(&mut self, crew: &mut Crew) -> Result<Option<usize>, AllocError>
+        ensures ok { IfOk result (λ worker. Joins crew.old self.old worker crew.new self.new) }
+        ensures err { OnErr result ((crew.new ≡ crew.old) × (self.new ≡ self.old)) }
+    {
+        self.hands.reserve(1)?;
+        let Some(pass) = crew.arrive() else {
+            return Ok(None);
+        };
+        match self.hands.push(Hand::Free(pass)) {
+            Ok(()) => Ok(Some(self.hands.len())),
+            Err(_failed) => unreachable!(),
+        }
+    }
+
+    /// Lets every worker go, which ends the jobs that are left. Takes no memory.
+    pub(crate) fn close<S: Starter>(self, crew: &mut Crew, starter: &mut S)
+        requires { AreLeft crew.old self }
+    {
+        let Workers { mut hands } = self;
+        while let Some(hand) = hands.pop() {
+            let_go(crew, hand, starter);
+        }
+        hands.destroy_empty();
+    }
+}
+
+// Lets a worker go: its job ends as done, and it stops with an empty queue.
+fn let_go<S: Starter>(crew: &mut Crew, hand: Hand, starter: &mut S)
+    requires parked { NoneParked crew.old.jobs }
+    requires free { crew.old.counts.arriving + one_if_free hand ≤ crew.old.counts.idle }
+    requires runs { RunsIn crew.old.jobs hand }
+    ensures parked { NoneParked crew.new.jobs }
+    ensures left { (rest : ℕ) → crew.old.counts.idle ≡ crew.old.counts.arriving + (one_if_free hand + rest) → crew.new.counts.idle ≡ crew.new.counts.arriving + rest }
+    ensures others { (number : JobNumber) → IsOther hand number.serial → is_running_as crew.old.jobs number ≡ true → is_running_as crew.new.jobs number ≡ true }
+{
+    match hand {
+        Hand::Out => {}
+        Hand::Free(pass) => crew.dismiss(pass, starter),
+        Hand::Holds(held) => {
+            let Held {
+                turn,
+                job: _job,
+                stage: _stage,
+            } = held;
+            let pass = crew.end(turn, Standing::Done);
+            crew.dismiss(pass, starter);
+        }
+    }
+}
