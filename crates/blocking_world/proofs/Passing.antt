@@ -12,7 +12,8 @@ use Rattle.blocking_world.specs.declared.hand.Duty.TheVariants as duty
 use Rattle.blocking_world.specs.declared.hand.Hand.{Hand}
 use Rattle.blocking_world.specs.declared.hand.Hand.TheVariants.{Out, Free, Holds}
 use Rattle.blocking_world.specs.declared.hand.Held.{Held}
-use Rattle.blocking_world.proofs.Hands.{IsAt, got_same, at_held}
+use Rattle.blocking_world.proofs.Hands.{IsAt, at_held}
+use Rattle.blocking_world.proofs.Rows.{got_same}
 
 -- ---- one hand
 
