@@ -1,6 +1,5 @@
 -- A new world is lawful.
-use Rattle.std.proofs.Common.{◌≡◌, ◌<◌, ◌==◌, ◌-◌, ◌&&◌, nat_lt, ℕ, Bool, true, false, List, [], Option, Some, None, if◌then◌else◌, ap, sym, subst, refl, arith}
-use Rattle.std.proofs.lemmas.Bool.Decides.{nat_tests}
+use Rattle.std.proofs.Common.{◌≡◌, ◌<◌, ◌==◌, ℕ, Bool, true, false, List, [], Option, Some, None, if◌then◌else◌, ap, sym, subst, refl, arith}
 use Rattle.std.specs.FinMap as map
 use Rattle.std.specs.Ordering.{nat_cmp}
 use Rattle.blocking_core.specs.Jobs.{is_parked_job}
@@ -8,21 +7,15 @@ use Rattle.blocking_core.specs.Limits.{limit_of_setting, limit_by, number_of}
 use Rattle.blocking_core.specs.Pools.{empty_pool}
 use Rattle.blocking_world.specs.Worlds.{Worlded, hand_at, hand_in}
 use Rattle.blocking_world.specs.Machine.{IsReady}
-use Rattle.blocking_world.specs.Ties.{Numbered, FiledAs, Counted, Handed, HandAs, Tied, IsLawful, holder_of}
+use Rattle.blocking_world.specs.Ties.{Numbered, FiledAs, Counted, Handed, HandAs, Tied, IsLawful}
 use Rattle.blocking_laws.specs.Legal.{Legal}
-use Rattle.blocking_laws.specs.declared.event.Party.TheVariants.{Task}
 use Rattle.blocking_world.specs.declared.hand.Hand.{Hand}
 use Rattle.blocking_world.specs.declared.hand.Hand.TheVariants.{Out, Holds}
+use Rattle.blocking_world.proofs.Tied.{none_held}
 
 -- a world with no job, no task and no worker
 abbrev pub first_world : ℕ → Worlded
 first_world setting = record { pool = empty_pool setting 1 1; tasks = []; hands = [] }
-
--- where no task is there, nobody holds a job
-nobody_holds : (s : ℕ) (b : Bool) → nat_lt (s - 1) 0 ≡ b → b ≡ false → None ≡ holder_of 0 s
-nobody_holds s b is none =
-    let never : (nat_lt 0 s && nat_lt (s - 1) 0) ≡ false = grind (arith, nat_tests) in
-    sym (ap (λ (x : Bool). if x then Some (Task (s - 1)) else None) never)
 
 -- where no worker is there, nobody has a hand
 pub no_hand : (v : ℕ) → hand_at [] v ≡ Out
@@ -38,7 +31,7 @@ numbered setting =
       owners = refl;
       accepted = refl;
       next = refl;
-      holders = λ s. nobody_holds s (nat_lt (s - 1) 0) refl (grind (arith, nat_tests));
+      holders = λ s. sym (none_held 0 s (omega arith));
       numbers = λ k owner there. cc;
       places = λ k owner entry there found. cc;
       stands = λ s. refl;

@@ -278,9 +278,7 @@ held_busy setting w past v held t e = t.counted.each held.turn.serial ∙ ap is_
 
 over_idle : (at : Stage) → is_running_as (Some (outcome_of at)) ≡ false
 over_idle stage.Runs = refl
-over_idle stage.MustGiveUp = refl
-over_idle stage.MustWake = refl
-over_idle stage.GaveUp = refl
+over_idle _ = refl
 
 ended_runs : (b r : Bool) (st : Option Standing) (how : Standing) → is_running_as (Some how) ≡ false → r ≡ is_running_as st → (not b && r) ≡ is_running_as (if b then Some how else st)
 ended_runs true r st how over e = sym over

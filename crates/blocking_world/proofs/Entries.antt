@@ -105,9 +105,7 @@ is_final _ = false
 -- a job whose turn ends in the world is over
 pub outcome_final : (at : Stage) → is_final (outcome_of at) ≡ true
 outcome_final stage.Runs = refl
-outcome_final stage.MustGiveUp = refl
-outcome_final stage.MustWake = refl
-outcome_final stage.GaveUp = refl
+outcome_final _ = refl
 
 -- the turn of a job that is over ends
 pub ended_filed : (t s : ℕ) (b : Bool) (how : Standing) (found : Option (Entry CallJob)) (stand : Option Standing) (wake cancel mark ended : Bool) (acts : List Act) → (t == s) ≡ b → is_final how ≡ true
@@ -118,38 +116,29 @@ ended_filed t s true Done found stand wake cancel mark ended acts is final over 
 ended_filed t s true Dropped found stand wake cancel mark ended acts is final over filed = (ap (λ b. b || ended) is, over refl)
 ended_filed t s false Done found stand wake cancel mark ended acts is final over filed = subst (λ b. FiledAs found stand wake cancel mark (b || ended) acts) (sym is) filed
 ended_filed t s false Dropped found stand wake cancel mark ended acts is final over filed = subst (λ b. FiledAs found stand wake cancel mark (b || ended) acts) (sym is) filed
-ended_filed t s b Queued found stand wake cancel mark ended acts is final over filed = absurd cc
-ended_filed t s b Running found stand wake cancel mark ended acts is final over filed = absurd cc
-ended_filed t s b Parked found stand wake cancel mark ended acts is final over filed = absurd cc
+ended_filed t s _ _ found stand wake cancel mark ended acts is final over filed = absurd cc
 
 -- a job whose turn is to end has finished or given up
 pub over_by : (at : Stage) (next : Action) (n : ℕ) (acts : List Act) → ActedAs at next n acts → duty_at at next ≡ duty.End → has_finished acts || has_given_up acts ≡ true
-over_by stage.Runs action.Call n acts acted is = absurd cc
-over_by stage.Runs action.Finish n acts acted is = absurd cc
-over_by stage.Runs action.Deliver n acts acted is = absurd cc
 over_by stage.Runs action.Done n acts (inl acted) is = ap (λ a. has_finished a || has_given_up a) acted
 over_by stage.Runs action.Done n acts (inr acted) is = ap (λ a. has_finished a || has_given_up a) acted
-over_by stage.MustGiveUp next n acts acted is = absurd cc
-over_by stage.MustWake next n acts acted is = absurd cc
+over_by stage.Runs _ n acts acted is = absurd cc
 over_by stage.GaveUp next n acts (inl acted) is = ap (λ a. has_finished a || has_given_up a) acted
 over_by stage.GaveUp next n acts (inr acted) is = ap (λ a. has_finished a || has_given_up a) acted
+over_by _ next n acts acted is = absurd cc
 
 -- ---- marks
 
 none_valued : (stand : Standing) (mark new : Bool) (acts : List Act) → ValueAs stand None mark acts → ValueAs stand None new acts
 none_valued Queued mark new acts valued = let is = valued.0 in absurd cc
 none_valued Running mark new acts valued = refl
-none_valued Parked mark new acts valued = valued
-none_valued Done mark new acts valued = valued
-none_valued Dropped mark new acts valued = valued
+none_valued _ mark new acts valued = absurd valued
 
 some_valued : (stand : Standing) (value : CallJob) (mark ended : Bool) (acts : List Act) → ended ≡ false → ValueAs stand (Some value) mark acts → ValueAs stand (Some (marked value)) (not ended || mark) acts
 some_valued Queued value mark ended acts going valued =
     (ap (option_map marked) valued.0 ∙ ap (λ e. Some (record new_call { is_marked = not e || mark })) (sym going), valued.1)
 some_valued Running value mark ended acts going valued = absurd cc
-some_valued Parked value mark ended acts going valued = valued
-some_valued Done value mark ended acts going valued = valued
-some_valued Dropped value mark ended acts going valued = valued
+some_valued _ value mark ended acts going valued = absurd valued
 
 marked_some : (entry : Entry CallJob) (value : Option CallJob) (stand : Option Standing) (wake cancel mark ended : Bool) (acts : List Act) → entry.value ≡ value → FiledAs (Some entry) stand wake cancel mark ended acts
     → FiledAs (Some (mark_by value entry)) stand wake cancel (not ended || mark) ended acts
@@ -168,9 +157,7 @@ marked_filed false found stand wake cancel mark ended acts there filed = filed
 marked_filed true None None wake cancel mark ended acts there filed = let some = there refl in absurd cc
 marked_filed true None (Some Done) wake cancel mark ended acts there filed = filed
 marked_filed true None (Some Dropped) wake cancel mark ended acts there filed = filed
-marked_filed true None (Some Queued) wake cancel mark ended acts there filed = absurd filed
-marked_filed true None (Some Running) wake cancel mark ended acts there filed = absurd filed
-marked_filed true None (Some Parked) wake cancel mark ended acts there filed = absurd filed
+marked_filed true None _ wake cancel mark ended acts there filed = absurd filed
 marked_filed true (Some entry) stand wake cancel mark ended acts there filed = marked_some entry entry.value stand wake cancel mark ended acts refl filed
 
 -- ---- standing

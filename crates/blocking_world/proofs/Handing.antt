@@ -246,15 +246,25 @@ mark_cases : (a b c d : Bool) → ((a && b || c) || d) ≡ true → (a ≡ true)
 mark_cases true b c d e = inl refl
 mark_cases false b c d e = inr e
 
-mark_by : (w : Worlded) (past : List Moment) (k : ℕ) (call : TaskCall) (owner : Owner) → Numbered w past → KnownOf w past → slice_get w.tasks k ≡ Some owner → may_be owner.stage call ≡ true → has_let_go (called call owner).stage ≡ true
-    → (s : ℕ) → ((is_holder (holder past s) (Task k) && not (has_ended past s) || is_marked past s) || is_cancelled past s) ≡ true → let_go_in (slice_get (slice_set w.tasks k (called call owner)) (s - 1)) ≡ true
-mark_by w past k call owner n old e may lets s g =
-    ⊎_elim
+marked_known : {setting : ℕ} (w : Worlded) (past : List Moment) (k : ℕ) (call : TaskCall) (owner : Owner) → Tied setting w past → (slice_get w.tasks k ≡ Some owner) × (may_be owner.stage call ≡ true)
+    → has_let_go (called call owner).stage ≡ true
+    → (let pool = pool_called call w.pool owner.number in
+    Known (record (sight w past) {
+      owners = slice_set w.tasks k (called call owner);
+      jobs = pool.jobs;
+      idles = pool.counts.idle;
+      arrivings = pool.counts.arriving;
+      let_go = λ s. (is_holder (holder past s) (Task k) && not (has_ended past s) || is_marked past s) || is_cancelled past s;
+    }))
+marked_known w past k call owner t m lets =
+    let old = known w past t.handed in
+    called_known w past k call owner (λ s. (is_holder (holder past s) (Task k) && not (has_ended past s) || is_marked past s) || is_cancelled past s) old m.0 m.1
+    (λ s g. ⊎_elim
     (λ holds.
-    let place : s - 1 ≡ k = is_holder_of (nat_lt 0 s) (nat_lt (s - 1) (tasks past)) (s - 1) k (ap (λ h. is_holder h (Task k)) (sym (n.holders s)) ∙ holds) in
-    ap let_go_in (ap (slice_get (slice_set w.tasks k (called call owner))) place ∙ got_same w.tasks k (called call owner) (slice_get_within w.tasks k owner e)) ∙ lets)
-    (λ before. quiet_marks w past k call owner old e may s before)
-    (mark_cases (is_holder (holder past s) (Task k)) (not (has_ended past s)) (is_marked past s) (is_cancelled past s) g)
+    let place : s - 1 ≡ k = is_holder_of (nat_lt 0 s) (nat_lt (s - 1) (tasks past)) (s - 1) k (ap (λ h. is_holder h (Task k)) (sym (t.numbered.holders s)) ∙ holds) in
+    ap let_go_in (ap (slice_get (slice_set w.tasks k (called call owner))) place ∙ got_same w.tasks k (called call owner) (slice_get_within w.tasks k owner m.0)) ∙ lets)
+    (λ before. quiet_marks w past k call owner old m.0 m.1 s before)
+    (mark_cases (is_holder (holder past s) (Task k)) (not (has_ended past s)) (is_marked past s) (is_cancelled past s) g))
 
 -- a job is taken
 
@@ -389,13 +399,9 @@ known_after : (setting : ℕ) (marks : List Bool) (w : Worlded) (past : List Mom
 known_after setting marks w past (Begins (Ok number) growth pool) t m = begun setting (IsMarked marks) w past number growth pool Spawn (next_start w) t m
 known_after setting marks w past (Begins (Err why) growth pool) t m = refused setting (IsMarked marks) w past why growth pool Spawn (next_start w) t m
 known_after setting marks w past (Calls k Poll owner) t m = polled_known (poll_of owner) w past k owner (OfTask k Poll) (next_start w) (polled_so owner) (known w past t.handed) m.0 m.1
-known_after setting marks w past (Calls k Cancel owner) t m =
-    let old = known w past t.handed in
-    called_known w past k Cancel owner (λ s. (is_holder (holder past s) (Task k) && not (has_ended past s) || is_marked past s) || is_cancelled past s) old m.0 m.1 (mark_by w past k Cancel owner t.numbered old m.0 m.1 refl)
+known_after setting marks w past (Calls k Cancel owner) t m = marked_known w past k Cancel owner t m refl
 known_after setting marks w past (Calls k Detach owner) t m = (let old = known w past t.handed in called_known w past k Detach owner (was_let_go past) old m.0 m.1 (quiet_marks w past k Detach owner old m.0 m.1))
-known_after setting marks w past (Calls k Drop owner) t m =
-    let old = known w past t.handed in
-    called_known w past k Drop owner (λ s. (is_holder (holder past s) (Task k) && not (has_ended past s) || is_marked past s) || is_cancelled past s) old m.0 m.1 (mark_by w past k Drop owner t.numbered old m.0 m.1 refl)
+known_after setting marks w past (Calls k Drop owner) t m = marked_known w past k Drop owner t m refl
 known_after setting marks w past (Arrives pass) t m = arrive_known (sight w past) pass (known w past t.handed) m
 known_after setting marks w past (TakesJob v old false number job growth pool) t m = took_known setting (IsMarked marks) w past v old number job false growth pool t m.0 m.1
 known_after setting marks w past (TakesJob v old true number job growth pool) t m = took_known setting (IsMarked marks) w past v old number job true growth pool t m.0 m.1

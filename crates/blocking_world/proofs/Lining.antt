@@ -93,15 +93,11 @@ took_by w w' past now t rest q front qs es ts st l =
 
 ended_enters : (past : List Moment) (t : ℕ) (at : Stage) → entered_by past (Ended t (outcome_of at)) ≡ []
 ended_enters past t stage.Runs = refl
-ended_enters past t stage.MustGiveUp = refl
-ended_enters past t stage.MustWake = refl
-ended_enters past t stage.GaveUp = refl
+ended_enters past t _ = refl
 
 outcome_unqueued : (at : Stage) → is_queued_as (Some (outcome_of at)) ≡ false
 outcome_unqueued stage.Runs = refl
-outcome_unqueued stage.MustGiveUp = refl
-outcome_unqueued stage.MustWake = refl
-outcome_unqueued stage.GaveUp = refl
+outcome_unqueued _ = refl
 
 ended_each : (b : Bool) (t s : ℕ) (ns : List ℕ) (how : Standing) (stand : Option Standing) → (t == s) ≡ b → is_queued_as (Some how) ≡ false → among ns t ≡ false
     → among ns s ≡ is_queued_as stand → among ns s ≡ is_queued_as (if b then Some how else stand)

@@ -230,8 +230,8 @@ parts_stay may_answer w move may brings = record { long = refl; serial = refl; o
 
 -- ---- each move
 
-no_task : (past : List Moment) (now : Moment) → accepted_by now.event.act ≡ [] → tasks (now ∷ past) ≡ tasks past
-no_task past now brings =
+same_tasks : (past : List Moment) (now : Moment) → accepted_by now.event.act ≡ [] → tasks (now ∷ past) ≡ tasks past
+same_tasks past now brings =
     let none : makes_a_task now.event ≡ false = and_right (is_pool now.event.party) (not (length (accepted_by now.event.act) == 0)) (ap (λ a. not (length a == 0)) brings) in
     ap (λ b. length (cond b (now ∷ filter (λ m. makes_a_task m.event) past) (filter (λ m. makes_a_task m.event) past))) none
 
@@ -239,7 +239,7 @@ no_task past now brings =
 keeps_numbers : (w w' : Worlded) (past : List Moment) (now : Moment) → PartsStay w w' → accepted_by now.event.act ≡ [] → ((s : ℕ) → accepts s now.event.act ≡ false)
     → ((s : ℕ) → is_some (standing (now ∷ past) s) ≡ is_some (standing past s)) → Numbered w past → Numbered w' (now ∷ past)
 keeps_numbers w w' past now parts brings none stands old =
-    let same = no_task past now brings in
+    let same = same_tasks past now brings in
     let jobs : accepted_jobs (now ∷ past) ≡ accepted_jobs past = ap (joined (accepted_jobs past)) brings in
     record {
       owners = parts.long ∙ old.owners ∙ sym same;

@@ -32,7 +32,7 @@ use Rattle.blocking_world.specs.declared.task.Owner.{Owner}
 -- ---- who holds a job
 
 -- beyond the tasks nobody holds a job
-pub none_held : (n s : ℕ) → n < s → holder_of n s ≡ None
+pub none_held : (n s : ℕ) → n ≤ s - 1 → holder_of n s ≡ None
 none_held n s beyond =
     let test : nat_lt (s - 1) n ≡ false = grind (arith, nat_tests) in
     ap (λ b. if b then Some (Task (s - 1)) else None) (and_right (nat_lt 0 s) (nat_lt (s - 1) n) test)
