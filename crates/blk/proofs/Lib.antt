@@ -2,3 +2,4 @@ pub mod Numbers
 pub mod OutcomeLemmas
 pub mod PlayLemmas
 pub mod ScriptLemmas
+pub mod TellLemmas

@@ -1,5 +1,5 @@
 -- What is played after what was played before.
-use Rattle.std.proofs.Common.{◌≡◌, ℕ, ◌<◌, Bool, true, false, List, [], ◌∷◌, ◌++◌, length, map, take, refl, ap, sym, ◌∙◌, subst, append_assoc, inl, inr, arith, rules, get_or, Result, Ok, Err, is_ok, IfOk, OnOk, Option, String, string_bytes, if◌then◌else◌}
+use Rattle.std.proofs.Common.{◌≡◌, ℕ, ◌+◌, ◌<◌, Bool, true, false, List, [], ◌∷◌, ◌++◌, length, map, take, refl, ap, sym, ◌∙◌, subst, append_assoc, inl, inr, arith, rules, get_or, Result, Ok, Err, is_ok, IfOk, OnOk, Option, String, string_bytes, if◌then◌else◌}
 use Rattle.std.proofs.lemmas.Bool.{cases_eq}
 use Rattle.std.proofs.lemmas.List.{append-nil, length-append, map-append, reverse-append, take-append-le, take_all}
 use Rattle.std.proofs.lemmas.List.Elements.{All-append}
@@ -119,6 +119,13 @@ takes_next worker a b c e0 e1 e2 early action late = record {
   events_are = joined_events early.moments late.moments e0 e1 e2 early.events_are late.events_are;
   legal = λ l. late.legal (subst (λ ms. 0 < length ms) (sym late.plays.2) (omega arith));
 }
+
+-- each action is an event more
+pub one_event_more : (step : Step) (old new : History) (before now : List Event) → Takes (PlaysLine (One step)) old new before now
+    → length now ≡ length before + 1
+one_event_more step old new before now took =
+    ap length took.events_are ∙ (length-append before (map (λ moment. moment.event) took.moments)
+    ∙ ap (λ ms. length before + length (map (λ moment. moment.event) ms)) took.plays.2)
 
 -- none is left
 pub takes_ended : (worker : ℕ) (old new : History) (before now : List Event) → Takes (Repeats (Job worker)) old new before now

@@ -151,17 +151,17 @@ module _ (items : List (Bor (List ℕ))) (k : ℕ) (d : Bor (List ℕ)) (there :
   fits = omega (arith, length-map items (λ (line : Bor (List ℕ)). line.now), there)
 
   -- a line that may not stand is what the reading tells
-  pub stray_told : (new : Script) (f : ScriptFault) → AllMayStand (map (λ line. line.now) items) k
+  pub bad_line_told : (new : Script) (f : ScriptFault) → AllMayStand (map (λ line. line.now) items) k
       → AddsLine (take k (map (λ line. line.now) items)) (get_or items k d).now (k + 1) new (Err f)
       → Reads (map (λ line. line.now) items) (Err f)
-  stray_told new (NotAStep n) all stray = record {
+  bad_line_told new (NotAStep n) all bad = record {
     place = k;
-    counted = stray.1;
+    counted = bad.1;
     there = fits;
     others = all;
-    stray = ap (may_follow (take k (map (λ line. line.now) items))) text_at ∙ stray.0;
+    bad_line = ap (may_follow (take k (map (λ line. line.now) items))) text_at ∙ bad.0;
   }
-  stray_told new Memory all stray = tt
+  bad_line_told new Memory all bad = tt
 
   -- a line that may stand keeps what the reading knows
   pub line_told : (new : Script) → AllMayStand (map (λ line. line.now) items) k

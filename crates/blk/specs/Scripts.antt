@@ -60,12 +60,12 @@ abbrev pub AllMayStand : List (List ℕ) → ℕ → Type 0
 AllMayStand lines n = (k : ℕ) → k < n → may_follow (take k lines) (slice_index_or lines k []) ≡ true
 
 -- the line of this number, counted from 1, is the first that may not stand behind those before it
-pub record IsFirstStray (lines : List (List ℕ)) (number : ℕ) : Type 0 where
+pub record IsFirstBadLine (lines : List (List ℕ)) (number : ℕ) : Type 0 where
   pub place : ℕ
   pub counted : number ≡ place + 1
   pub there : place < length lines
   pub others : AllMayStand lines place
-  pub stray : may_follow (take place lines) (slice_index_or lines place []) ≡ false
+  pub bad_line : may_follow (take place lines) (slice_index_or lines place []) ≡ false
 
 -- the script says what the lines say
 pub record IsScriptOf (said : List (List ℕ)) (script : Script) : Type 0 where
@@ -78,7 +78,7 @@ pub record IsScriptOf (said : List (List ℕ)) (script : Script) : Type 0 where
 -- what the reading of lines answers: the script, where each line may stand where it stands, or the first line that may not
 abbrev pub Reads : List (List ℕ) → Result Script ScriptFault → Type 0
 Reads lines (Ok script) = AllMayStand lines (length lines) × IsScriptOf lines script
-Reads lines (Err (NotAStep number)) = IsFirstStray lines number
+Reads lines (Err (NotAStep number)) = IsFirstBadLine lines number
 Reads lines (Err Memory) = Unit {0}
 
 -- what the reading of one more line answers

@@ -1,6 +1,5 @@
 //! The call that `blk call` makes, on the threads of a pool.
-ghost use Rattle.std.specs.Prelude.{◌≡◌, ◌+◌, IfErr, IfOk};
-ghost use Rattle.blk.specs.Faults.{fault_status};
+ghost use Rattle.std.specs.Prelude.{◌≡◌, ◌+◌, IfOk};
 
 use crate::fault::BlkFault;
 use crate::host::Host;
@@ -40,8 +39,7 @@ pub(crate) fn successor_of<R: Host>(
     setting: Option<&str>,
     number: u32,
 ) -> Result<u64, BlkFault>
-    ensures answer { IfOk result (λ answer. answer ≡ number + 1) }
-    ensures fault { IfErr result (λ fault. fault_status fault ≡ 1) }
+    ensures { IfOk result (λ answer. answer ≡ number + 1) }
 {
     let executor: Executor<CallJob<Successor, R>, R> = Executor::new(rt, setting).map_err(
         BlkFault::Refused,

@@ -10,6 +10,7 @@ mod number;
 mod request;
 mod script;
 mod steps;
+mod tell;
 #[cfg(test)]
 mod tests;
 mod words;

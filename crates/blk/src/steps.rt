@@ -1,11 +1,10 @@
 //! `blk steps`: the steps of a script, and what is seen of them.
 ghost use Rattle.std.specs.Prelude.{◌≡◌, [], IfOk, OnOk, Some, option_map, string_bytes};
-ghost use Rattle.blk.specs.Faults.{fault_status};
 ghost use Rattle.blk.specs.Outcomes.{ReadsText, Shows};
 ghost use Rattle.blk.specs.Plays.{PlaysLine, PlaysLines, ShowsScript, Takes, ending_of, ending_text, shown_text};
 ghost use Rattle.blk.specs.declared.line.Line.TheVariants as deed;
 
-use crate::fault::BlkFault;
+use crate::fault::{BlkFault, CommandFault};
 use crate::line::Line;
 use crate::script::{Script, read_script};
 use blocking_world::{Event, Step, World, run};
@@ -58,7 +57,7 @@ impl fmt::Display for Ending {
 }
 
 /// Reads a script to its end, takes its steps, and answers what is to be shown.
-pub(crate) fn steps<R: Read>(alloc: Global, input: &mut R) -> Result<String, BlkFault>
+pub(crate) fn steps<R: Read>(alloc: Global, input: &mut R) -> Result<String, CommandFault>
     ensures { Shows (R.remaining input.old) (R.remaining input.new) result }
 {
     let text = read_text(alloc, input)?;
@@ -67,24 +66,22 @@ pub(crate) fn steps<R: Read>(alloc: Global, input: &mut R) -> Result<String, Blk
 }
 
 // Reads the input to its end.
-fn read_text<R: Read>(alloc: Global, input: &mut R) -> Result<String, BlkFault>
+fn read_text<R: Read>(alloc: Global, input: &mut R) -> Result<String, CommandFault>
     ensures { ReadsText (R.remaining input.old) (R.remaining input.new) result }
 {
     let mut bytes = Vec::new(alloc);
     match input.read_to_end(&mut bytes) {
         Ok(_) => {}
-        Err(error) => return Err(reading_fault(error)),
+        Err(error) => return Err(CommandFault::Failed(reading_fault(error))),
     }
     let Ok(text) = String::from_utf8(bytes) else {
-        return Err(BlkFault::NotText);
+        return Err(CommandFault::NotText);
     };
     Ok(text)
 }
 
 // What the failure of a read is told as.
-fn reading_fault(error: io::Error) -> BlkFault
-    ensures { fault_status result ≡ 1 }
-{
+fn reading_fault(error: io::Error) -> BlkFault {
     if error.kind() == ErrorKind::OutOfMemory {
         BlkFault::from(AllocError)
     } else {
@@ -164,14 +161,11 @@ fn take_all(
     ensures { OnOk result (Takes (PlaysLine (deed.JobAll worker)) world.old world.new events.old.items events.new.items) }
 {
     take(world, alloc, Step::Job(worker), events)?;
-    for _ in 0..u64::MAX {
-        if !world.has_job_action(worker) {
-            return Ok(());
-        }
+    // (It ends, since each action is an event more, and no list has room for endless ones.)
+    while world.has_job_action(worker) {
         take(world, alloc, Step::Job(worker), events)?;
     }
-    // (No memory holds so many events.)
-    Err(AllocError)
+    Ok(())
 }
 
 // The texts of the events, line by line, and that of the ending.

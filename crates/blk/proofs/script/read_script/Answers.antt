@@ -5,7 +5,7 @@ use Rattle.std.proofs.lemmas.Iterator.Splits.{YieldsList-from_str_split}
 use Rattle.std.proofs.lemmas.Iterator.Consumers.{map_from_collect}
 use Rattle.std.proofs.lemmas.List.{length-map}
 use Rattle.blk.specs.Scripts.{Reads, lines_of}
-use Rattle.blk.proofs.ScriptLemmas.{all_told, fails_with, line_told, stray_told}
+use Rattle.blk.proofs.ScriptLemmas.{all_told, fails_with, line_told, bad_line_told}
 use Rattle.blk.proofs.script.read_script.Goals as goal
 
 pub returns-in_err-add : goal.returns-in_err-add
@@ -13,7 +13,7 @@ returns-in_err-add c =
     let parts = map_from_collect {E = AllocError} (Ok c.in_ok-lines.lines) c.in_ok-lines.ensures.ran (YieldsList-from_str_split 10 c.args.text.now (lit< tt) c.split.ensures.text c.split.ensures.has_more c.split.ensures.pattern) in
     let items = c.deref-line-items.result.now in
     let same : map (λ line. line.now) items ≡ lines_of c.args.text.now = ap (map (λ line. line.now)) c.deref-line-items.ensures.value ∙ parts in
-    let told = stray_told items c.loop-place.place _ c.loop-place-test.true c.add.new.self c.in_err-add.field-0.0 c.loop-place.invariant.stand
+    let told = bad_line_told items c.loop-place.place _ c.loop-place-test.true c.add.new.self c.in_err-add.field-0.0 c.loop-place.invariant.stand
     (c.in_err-add.ensures (take c.loop-place.place (map (λ line. line.now) items)) c.loop-place.invariant.script) in
     fails_with (lines_of c.args.text.now) c.from_residual-in_err-add.result c.in_err-add.field-0.0 c.from_residual-in_err-add.ensures.1
     (subst (λ lines. Reads lines (Err c.in_err-add.field-0.0)) same told)
