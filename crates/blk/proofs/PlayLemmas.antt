@@ -13,7 +13,7 @@ use Rattle.blocking_laws.specs.declared.event.Event.{Event}
 use Rattle.blocking_laws.specs.declared.event.Moment.{Moment}
 use Rattle.blocking_laws.specs.declared.step.Step.{Step}
 use Rattle.blocking_laws.specs.declared.step.Step.TheVariants.{Job}
-use Rattle.blk.specs.Plays.{PlaysLine, PlaysLines, Repeats, ShowsScript, Takes, after, ending_of, new_history, shown_text}
+use Rattle.blk.specs.Plays.{IsLegal, PlaysLine, PlaysLines, Repeats, ShowsScript, Takes, after, ending_of, new_history, shown_text}
 use Rattle.blk.specs.declared.line.Line.{Line}
 use Rattle.blk.specs.declared.line.Line.TheVariants.{One, JobAll}
 use Rattle.blk.specs.declared.steps.Ending.{Ending}
@@ -117,7 +117,7 @@ takes_next worker a b c e0 e1 e2 early action late = record {
       (subst (λ past. has_action past (Job worker) ≡ true) (ap (λ h. h.past) early.follow) action) late.plays.1);
   follow = follows early.moments late.moments a b c early.follow late.follow;
   events_are = joined_events early.moments late.moments e0 e1 e2 early.events_are late.events_are;
-  legal = λ l. late.legal (subst (λ ms. 0 < length ms) (sym late.plays.2) (omega arith));
+  legal = λ l. late.legal (early.legal l);
 }
 
 -- each action is an event more
@@ -140,14 +140,9 @@ takes_ended worker old new before now took ended = record {
 
 -- ---- lines
 
--- a line makes something happen
-line_some : (line : Line) (past moments : List Moment) → PlaysLine line past moments → 0 < length moments
-line_some (One step) past moments plays = subst (λ ms. 0 < length ms) (sym plays.2) (omega arith)
-line_some (JobAll worker) past moments plays = plays.0.some
-
 -- no line
 pub takes_none : (history : History) → Takes (PlaysLines []) history history [] []
-takes_none history = record { moments = []; plays = refl; follow = refl; events_are = refl; legal = λ l. absurd (omega (arith, l)) }
+takes_none history = record { moments = []; plays = refl; follow = refl; events_are = refl; legal = λ l. l }
 
 -- one more line
 pub takes_line : (lines : List Line) (line : Line) (a b c : History) (e1 e2 : List Event) → Takes (PlaysLines lines) a b [] e1
@@ -158,23 +153,23 @@ takes_line lines line a b c e1 e2 early late = record {
       (subst (λ past. PlaysLine line past late.moments) (ap (λ h. h.past) early.follow) late.plays);
   follow = follows early.moments late.moments a b c early.follow late.follow;
   events_are = joined_events early.moments late.moments [] e1 e2 early.events_are late.events_are;
-  legal = λ l. late.legal (line_some line b.past late.moments late.plays);
+  legal = λ l. late.legal (early.legal l);
 }
 
 -- ---- scripts
 
 -- what the lines made happen in a new world is what the script shows
 pub shows_script : (setting : Option (List ℕ)) (starts : List Bool) (lines told : List Line) (a b : History) (events listed : List Event)
-    (ending : Ending) (r : Result (String Global) AllocError) → told ≡ lines → a ≡ new_history setting starts
+    (ending : Ending) (r : Result (String Global) AllocError) → told ≡ lines → a ≡ new_history setting starts → IsLegal a
     → Takes (PlaysLines told) a b [] events → ending ≡ ending_of b → listed ≡ events
     → IfOk r (λ text. string_bytes text ≡ shown_text listed ending) → IfOk r (λ text. ShowsScript setting starts lines (string_bytes text))
-shows_script setting starts lines told a b events listed ending (Ok text) same_lines new took stands same_events shown = record {
+shows_script setting starts lines told a b events listed ending (Ok text) same_lines new begins took stands same_events shown = record {
   moments = took.moments;
   end = b;
   plays = subst (λ ls. PlaysLines ls [] took.moments) same_lines (subst (λ h. PlaysLines told h.past took.moments) new took.plays);
   follow = subst (λ h. Follow took.moments h b) new took.follow;
-  legal = took.legal;
+  legal = took.legal begins;
   shown = shown ∙ (ap (λ es. shown_text es ending) (same_events ∙ took.events_are)
       ∙ ap (λ en. shown_text (map (λ moment. moment.event) took.moments) en) stands);
 }
-shows_script setting starts lines told a b events listed ending (Err e) same_lines new took stands same_events shown = tt
+shows_script setting starts lines told a b events listed ending (Err e) same_lines new begins took stands same_events shown = tt

@@ -41,17 +41,17 @@ PlaysLines [] past moments = moments ≡ []
 PlaysLines (line ∷ lines) past moments =
     (now : List Moment) × (later : List Moment) × (moments ≡ now ++ later) × PlaysLine line past now × PlaysLines lines (after now past) later
 
--- what was seen is legal, once something was seen
-abbrev pub IsLegal : History → List Moment → Type 0
-IsLegal history moments = 0 < length moments → Legal history.setting history.starts history.past
+-- what was seen is legal
+abbrev pub IsLegal : History → Type 0
+IsLegal history = Legal history.setting history.starts history.past
 
--- So much was taken: these moments came after what was seen before, with these events.
+-- So much was taken: these moments came after what was seen before, with these events, and leave it legal.
 pub record Takes (Plays : List Moment → List Moment → Type 0) (old new : History) (before events : List Event) : Type 0 where
   pub moments : List Moment
   pub plays : Plays old.past moments
   pub follow : Follow moments old new
   pub events_are : events ≡ before ++ map (λ moment. moment.event) moments
-  pub legal : IsLegal new moments
+  pub legal : IsLegal old → IsLegal new
 
 -- ---- what is shown
 
@@ -93,5 +93,5 @@ pub record ShowsScript (setting : Option (List ℕ)) (starts : List Bool) (lines
   pub end : History
   pub plays : PlaysLines lines [] moments
   pub follow : Follow moments (new_history setting starts) end
-  pub legal : IsLegal end moments
+  pub legal : IsLegal end
   pub shown : text ≡ shown_text (map (λ moment. moment.event) moments) (ending_of end)

@@ -99,7 +99,7 @@ fn played(alloc: Global, script: Script) -> Result<String, AllocError>
         lines,
     } = script;
     let mut world = World::new(alloc, text_of(&setting), starts);
-    let events = play(&mut world, alloc, lines.as_slice());
+    let events = play(alloc, &mut world, lines.as_slice());
     let ending = Ending::of(&world);
     world.close();
     shown(alloc, events?.as_slice(), ending)
@@ -113,57 +113,57 @@ fn text_of(setting: &Option<String>) -> Option<&str>
 }
 
 // Takes the steps of these lines, and answers what is seen of each step.
-fn play(world: &mut World, alloc: Global, lines: &[Line]) -> Result<Vec<Event>, AllocError>
+fn play(alloc: Global, world: &mut World, lines: &[Line]) -> Result<Vec<Event>, AllocError>
     ensures { IfOk result (λ events. Takes (PlaysLines lines.now) world.old world.new [] events.items) }
 {
     let mut events = Vec::new(alloc);
     for line in lines {
-        play_line(world, alloc, *line, &mut events)?;
+        play_line(alloc, world, *line, &mut events)?;
     }
     Ok(events)
 }
 
 // Takes the steps of a line, and adds what is seen of each.
 fn play_line(
-    world: &mut World,
     alloc: Global,
+    world: &mut World,
     line: Line,
     events: &mut Vec<Event>,
 ) -> Result<(), AllocError>
     ensures { OnOk result (Takes (PlaysLine line) world.old world.new events.old.items events.new.items) }
 {
     match line {
-        Line::One(step) => take(world, alloc, step, events),
-        Line::JobAll(worker) => take_all(world, alloc, worker, events),
+        Line::One(step) => take(alloc, world, step, events),
+        Line::JobAll(worker) => take_all(alloc, world, worker, events),
     }
 }
 
 // Takes a step, and adds what is seen of it.
 fn take(
-    world: &mut World,
     alloc: Global,
+    world: &mut World,
     step: Step,
     events: &mut Vec<Event>,
 ) -> Result<(), AllocError>
     ensures { OnOk result (Takes (PlaysLine (deed.One step)) world.old world.new events.old.items events.new.items) }
 {
-    let seen = run(world, alloc, &[step])?;
+    let seen = run(alloc, world, &[step])?;
     events.extend_from_slice(seen.as_slice())
 }
 
 // Takes the next action of this worker's job, and then again while it has one.
 fn take_all(
-    world: &mut World,
     alloc: Global,
+    world: &mut World,
     worker: usize,
     events: &mut Vec<Event>,
 ) -> Result<(), AllocError>
     ensures { OnOk result (Takes (PlaysLine (deed.JobAll worker)) world.old world.new events.old.items events.new.items) }
 {
-    take(world, alloc, Step::Job(worker), events)?;
+    take(alloc, world, Step::Job(worker), events)?;
     // (It ends, since each action is an event more, and no list has room for endless ones.)
     while world.has_job_action(worker) {
-        take(world, alloc, Step::Job(worker), events)?;
+        take(alloc, world, Step::Job(worker), events)?;
     }
     Ok(())
 }

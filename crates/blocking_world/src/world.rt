@@ -149,21 +149,21 @@ fn close_with<L: Ledger>(parts: Parts, blank: Blank)
 /// Err where there was no room for the world's own lists: the world is then where the steps so far left it. The room for a
 /// step and its event is had before the step acts.
 #[tactic(auto, using(crate::proofs::Grown::served, crate::proofs::Lawful::staffed_now))]
-pub fn run(world: &mut World, alloc: Global, steps: &[Step]) -> Result<Vec<Event>, AllocError>
+pub fn run(alloc: Global, world: &mut World, steps: &[Step]) -> Result<Vec<Event>, AllocError>
     ensures ok { IfOk result (λ events. Adds steps.now events.items world.old world.new) }
     ensures err { OnErr result (StopsShort steps.now world.old world.new) }
     ensures legal { Legal world.new.setting world.new.starts world.new.past }
     ensures served { IsServed world.new.past }
     ensures staffed { AreStaffed world.new.past }
 {
-    let outcome = take_all(world, alloc, steps);
+    let outcome = take_all(alloc, world, steps);
     // Opens the value, so that what it keeps is known.
     let _ = &world.trace;
     outcome
 }
 
 // Takes all steps.
-fn take_all(world: &mut World, alloc: Global, steps: &[Step]) -> Result<Vec<Event>, AllocError>
+fn take_all(alloc: Global, world: &mut World, steps: &[Step]) -> Result<Vec<Event>, AllocError>
     ensures ok { IfOk result (λ events. Adds steps.now events.items world.old world.new) }
     ensures err { OnErr result (StopsShort steps.now world.old world.new) }
 {

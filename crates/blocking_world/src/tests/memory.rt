@@ -16,7 +16,7 @@ use std::process::Abort;
 fn insists<R: AllocGlobal + Abort + Print>(rt: &R, world: &mut World, step: Step) -> Event {
     for _ in 0..2 {
         let before = counts(world);
-        let outcome = run(world, rt.alloc(), &[step]);
+        let outcome = run(rt.alloc(), world, &[step]);
         if let Ok(events) = outcome {
             assert_eq!(rt; events.len(), 1);
             let Act::Refused(Refusal::Memory) = events[0].act else {
@@ -39,7 +39,7 @@ fn spawns_six<R: AllocGlobal + Abort + Print>(rt: &R, world: &mut World) {
     for _ in 0..2 {
         let taken = world.queue_len().saturating_sub(before);
         let left = SPAWNS.get(taken..).unwrap_or(&[]);
-        if run(world, rt.alloc(), left).is_err() {
+        if run(rt.alloc(), world, left).is_err() {
             let taken = world.queue_len().saturating_sub(before);
             println!(rt; "refused: six calls: an error after {taken}").expect(rt, "output");
         }

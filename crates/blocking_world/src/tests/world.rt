@@ -35,7 +35,7 @@ pub(super) fn sees<R: AllocGlobal + Abort>(rt: &R, world: &mut World, script: &[
     for (step, _) in script {
         steps.push(*step).expect(rt, "memory");
     }
-    let events = run(world, rt.alloc(), &steps).expect(rt, "memory");
+    let events = run(rt.alloc(), world, &steps).expect(rt, "memory");
     assert_eq!(rt; events.len(), script.len());
     for (event, (step, text)) in events.iter().zip(script) {
         let seen = format!(in rt.alloc(); "{event}").expect(rt, "memory");
