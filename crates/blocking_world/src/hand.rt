@@ -4,6 +4,7 @@ ghost use Rattle.std.specs.Option.{option_copied_mut};
 ghost use Rattle.std.specs.Borrow.{sem};
 
 use crate::call::CallJob;
+use crate::crew::Crew;
 use blocking_core::job::{Action, Answer};
 use blocking_core::pool::{Standing, Turn, WorkerPass};
 use std::mem;
@@ -145,6 +146,7 @@ impl Held {
 }
 
 impl Hand {
+    ghost use Rattle.blocking_world.specs.Closing.{RunsIn, EndsTurn};
     ghost use Rattle.blocking_world.specs.Worlds.{pass_in, held_in, over_in};
     ghost use Rattle.blocking_world.specs.HandLends.{lends_job};
 
@@ -203,6 +205,26 @@ impl Hand {
                 }
                 self.put(Hand::Holds(held));
                 None
+            }
+        }
+    }
+
+    /// The turn of the job in the hand ends, as done, and its worker is idle then. A hand without a job stays as it is.
+    pub(crate) fn end_turn(&mut self, crew: &mut Crew)
+        requires { RunsIn crew.old.jobs self.old }
+        ensures { EndsTurn self.old crew.old self.new crew.new }
+    {
+        match mem::replace(self, Hand::Out) {
+            Hand::Out => {}
+            Hand::Free(pass) => self.put(Hand::Free(pass)),
+            Hand::Holds(held) => {
+                let Held {
+                    turn,
+                    job: _job,
+                    stage: _stage,
+                } = held;
+                let pass = crew.end(turn, Standing::Done);
+                self.put(Hand::Free(pass));
             }
         }
     }

@@ -33,6 +33,7 @@ impl Model for Parts {
 impl Parts {
     ghost use Rattle.std.specs.Prelude.{nat_lt, ◌==◌, ◌-◌, ◌+◌, ◌&&◌, if◌then◌else◌, slice_get};
     ghost use Rattle.blocking_core.specs.PoolAnswers.{pool_of};
+    ghost use Rattle.blocking_world.specs.Closing.{RefusesAll};
     ghost use Rattle.blocking_world.specs.Worlds.{hand_at, is_free_hand, has_let_go, owner_at};
     ghost use Rattle.blocking_world.specs.Machine.{IsReady, StepDoes, Spawns, CallsOf, ArrivesIf, TakesWith, WorksWith, AnswersWith, EndsWith, WaitsWith, LimitsIf, StraysIf, StrikesIf, Does, DoesNothing, was_accepted};
     ghost use Rattle.blocking_world.specs.Moves.{duty_in, is_own};
@@ -343,9 +344,11 @@ impl Parts {
         }
     }
 
-    /// Lets every worker go, which ends the jobs that are left. Takes no memory.
+    /// Ends the turns that are left, and then lets every worker go, which ends the jobs that are still queued. No worker may
+    /// be started any more. Takes no memory.
     pub(crate) fn close<S: Starter>(self, starter: &mut S)
-        requires { IsReady self }
+        requires ready { IsReady self }
+        requires refuses { RefusesAll (S.may_answer starter.old) }
     {
         let Parts {
             mut crew,
