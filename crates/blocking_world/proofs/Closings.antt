@@ -133,7 +133,7 @@ pub jobless_next : (pool new : CallPool) (row : List Hand) (place : ℕ) (hand a
     → Jobless (slice_set row place after) (place + 1)
 jobless_next pool new row place hand after jobless found ends n held early now =
     let was =
-      held_before row place n after held (slice_get_within row place hand found) (λ one is. no_job_after hand after pool new one ends is) now in
+    held_before row place n after held (slice_get_within row place hand found) (λ one is. no_job_after hand after pool new one ends is) now in
     let differs = was.0 in
     let less : n < place = omega (arith, early, differs) in
     jobless n held less was.1

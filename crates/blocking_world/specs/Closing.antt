@@ -1,15 +1,24 @@
--- What is known of the hands while a world ends.
+-- How turns end, and what is known of the hands while a world ends.
 use Rattle.std.specs.Prelude.{◌≡◌, ◌≢◌, ◌+◌, ℕ, Bool, true, List, slice_get, Some}
 use Rattle.blocking_core.specs.Jobs.{Jobs, is_running_as}
 use Rattle.blocking_core.specs.Pools.{without_job}
+use Rattle.blocking_core.specs.declared.pool.standing.Standing.{Standing}
+use Rattle.blocking_core.specs.declared.pool.standing.Standing.TheVariants.{Done, Dropped}
 use Rattle.blocking_core.specs.declared.pool.token.WorkerPass.{WorkerPass}
 use Rattle.blocking_world.specs.Crews.{NoneParked}
 use Rattle.blocking_world.specs.Machine.{free_hands}
 use Rattle.blocking_world.specs.Worlds.{CallPool}
 use Rattle.blocking_world.specs.declared.call.CallJob.{CallJob}
+use Rattle.blocking_world.specs.declared.crew.Outcome.{Outcome}
+use Rattle.blocking_world.specs.declared.crew.Outcome.TheVariants as outcome
 use Rattle.blocking_world.specs.declared.hand.Hand.{Hand}
 use Rattle.blocking_world.specs.declared.hand.Hand.TheVariants.{Free, Holds}
 use Rattle.blocking_world.specs.declared.hand.Held.{Held}
+
+-- how a job stands after its turn has ended so
+abbrev pub standing_after : Outcome → Standing
+standing_after outcome.Done = Done
+standing_after outcome.Dropped = Dropped
 
 -- every start is refused
 abbrev pub RefusesAll : (ℕ → Bool → Type 0) → Type 0

@@ -4,9 +4,9 @@ ghost use Rattle.std.specs.Option.{option_copied_mut};
 ghost use Rattle.std.specs.Borrow.{sem};
 
 use crate::call::CallJob;
-use crate::crew::Crew;
+use crate::crew::{Crew, Outcome};
 use blocking_core::job::{Action, Answer};
-use blocking_core::pool::{Standing, Turn, WorkerPass};
+use blocking_core::pool::{Turn, WorkerPass};
 use std::mem;
 
 /// Where a job is in its turn.
@@ -55,6 +55,7 @@ pub(crate) enum Hand {
 }
 
 impl Held {
+    ghost use Rattle.blocking_world.specs.Closing.{standing_after};
     ghost use Rattle.blocking_world.specs.Worlds.{duty_of, outcome_of, answered, finished, given_up, woke};
 
     pub(crate) fn new(turn: Turn, job: CallJob, stage: Stage) -> Held
@@ -103,12 +104,12 @@ impl Held {
     }
 
     /// How a job that is over ends its turn.
-    pub(crate) fn outcome(&self) -> Standing
-        ensures { result ≡ outcome_of self.now.stage }
+    pub(crate) fn outcome(&self) -> Outcome
+        ensures { standing_after result ≡ outcome_of self.now.stage }
     {
         match self.stage {
-            Stage::Runs => Standing::Done,
-            Stage::MustGiveUp | Stage::MustWake | Stage::GaveUp => Standing::Dropped,
+            Stage::Runs => Outcome::Done,
+            Stage::MustGiveUp | Stage::MustWake | Stage::GaveUp => Outcome::Dropped,
         }
     }
 
@@ -223,7 +224,7 @@ impl Hand {
                     job: _job,
                     stage: _stage,
                 } = held;
-                let pass = crew.end(turn, Standing::Done);
+                let pass = crew.end(turn, Outcome::Done);
                 self.put(Hand::Free(pass));
             }
         }

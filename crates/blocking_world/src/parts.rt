@@ -219,21 +219,16 @@ impl Parts {
             return nothing(party, first);
         };
         let serial = held.serial();
-        let how = held.outcome();
+        let outcome = held.outcome();
         let Held {
             turn,
             job: _,
             stage: _,
         } = held;
-        let pass = self.crew.end(turn, how);
+        let pass = self.crew.end(turn, outcome);
         self.workers.put(worker, Hand::Free(pass));
-        seen(
-            party,
-            Some(serial),
-            Act::Ended(serial, how),
-            first,
-            NO_GROWTH,
-        )
+        let act = Act::Ended(serial, outcome.standing());
+        seen(party, Some(serial), act, first, NO_GROWTH)
     }
 
     /// An idle worker has waited.

@@ -1,5 +1,5 @@
-use Rattle.std.proofs.Common.{◌≡◌, length, slice_index_or, subst, sym, arith}
-use Rattle.blocking_world.proofs.Closings.{Jobless, got_index, runs_at, still_left, jobless_next, all_idle}
+use Rattle.std.proofs.Common.{slice_index_or, arith}
+use Rattle.blocking_world.proofs.Closings.{got_index, runs_at, still_left, jobless_next, all_idle}
 use Rattle.blocking_world.proofs.workers.end_turns.Goals as goal
 
 pub loop-place-init : goal.loop-place-init
