@@ -1,11 +1,12 @@
--- What is known of the hands while a world ends is kept as they are emptied one after the other.
-use Rattle.std.proofs.Common.{◌≡◌, ◌≢◌, ℕ, zero, suc, ◌+◌, ◌<◌, ◌≤◌, true, List, [], ◌∷◌, ◌++◌, length, slice_get, Option, Some, ap, ◌∙◌, subst, refl, inl, inr, arith}
+-- What is known of the hands while a world ends is kept, as first every turn ends and then the workers are let go.
+use Rattle.std.proofs.Common.{◌≡◌, ◌≢◌, ℕ, zero, suc, ◌+◌, ◌<◌, ◌≤◌, true, List, [], ◌∷◌, ◌++◌, length, slice_get, slice_index_or, slice_set, Option, Some, ap, sym, ◌∙◌, subst, refl, inl, inr, arith}
 use Rattle.std.proofs.lemmas.Bool.{cases_eq}
 use Rattle.std.proofs.lemmas.Option.{slice_get_within}
 use Rattle.std.specs.FinMap.{get, remove}
 use Rattle.blocking_core.specs.Jobs.{Job, Jobs, JobNumber, if_at, is_running_job, is_running_as, is_parked_job}
 use Rattle.blocking_core.specs.Pools.{without_job}
-use Rattle.blocking_world.specs.Closing.{RunsIn, IsOther, AreLeft}
+use Rattle.blocking_core.specs.declared.pool.token.WorkerPass.{WorkerPass}
+use Rattle.blocking_world.specs.Closing.{RunsIn, EndsTurn, AreLeft, AreIdle}
 use Rattle.blocking_world.specs.Crews.{NoneParked}
 use Rattle.blocking_world.specs.Machine.{one_if_free, free_hands}
 use Rattle.blocking_world.specs.Worlds.{CallPool}
@@ -14,6 +15,8 @@ use Rattle.blocking_world.specs.declared.hand.Hand.{Hand}
 use Rattle.blocking_world.specs.declared.hand.Hand.TheVariants.{Out, Free, Holds}
 use Rattle.blocking_world.specs.declared.hand.Held.{Held}
 use Rattle.blocking_world.proofs.Dismissals.{at_remove_same, at_remove_other}
+use Rattle.blocking_world.proofs.Hands.{free_set}
+use Rattle.blocking_world.proofs.Rows.{got_same, got_other}
 
 -- ---- the last of the hands
 
@@ -51,43 +54,118 @@ module _ (old new : CallPool) (serial : ℕ) (ended : new ≡ without_job old se
       ∙ ap (λ (o : Option (Job CallJob)). is_running_job (if_at number.place o)) (at_remove_other old.jobs serial number.serial differs)
       ∙ runs
 
--- ---- one hand
+-- ---- one turn
 
-module _ (pool : CallPool) (hands row : List Hand) (hand : Hand) (popped : hands ≡ row ++ hand ∷ []) (left : AreLeft pool hands) where
-  whole : AreLeft pool (row ++ hand ∷ [])
-  whole = subst (λ (h : List Hand). AreLeft pool h) popped left
+same_set : (row : List Hand) (n : ℕ) (hand : Hand) → slice_get row n ≡ Some hand → slice_set row n hand ≡ row
+same_set [] n hand found = refl
+same_set (one ∷ row) zero hand found = (let same : one ≡ hand = cc in ap (λ (h : Hand). h ∷ row) (sym same))
+same_set (one ∷ row) (suc n) hand found = ap (λ (rest : List Hand). one ∷ rest) (same_set row n hand found)
+
+pub got_index : (row : List Hand) (n : ℕ) (other : Hand) → n < length row → slice_get row n ≡ Some (slice_index_or row n other)
+got_index [] n other within = absurd (omega (arith, within))
+got_index (one ∷ row) zero other within = refl
+got_index (one ∷ row) (suc n) other within = got_index row n other (omega (arith, within))
+
+-- what is in a hand that is left runs
+pub runs_at : (pool : CallPool) (row : List Hand) (n : ℕ) (hand : Hand) → AreLeft pool row → slice_get row n ≡ Some hand → RunsIn pool.jobs hand
+runs_at pool row n Out left found = tt
+runs_at pool row n (Free pass) left found = tt
+runs_at pool row n (Holds held) left found = left.runs n held found
+
+-- a hand after its turn has ended holds no job
+no_job_after : (hand after : Hand) (pool new : CallPool) (held : Held) → EndsTurn hand pool after new → after ≡ Holds held → ⊥
+no_job_after Out after pool new held ends is = (let out = ends.0 in cc)
+no_job_after (Free pass) after pool new held ends is = (let free = ends.0 in cc)
+no_job_after (Holds one) after pool new held ends is = (let free = ends.1 in cc)
+
+-- a job in another place than the one that has changed was there before
+held_before : (row : List Hand) (place n : ℕ) (after : Hand) (held : Held) → place < length row → ((one : Held) → after ≡ Holds one → ⊥)
+    → slice_get (slice_set row place after) n ≡ Some (Holds held) → (n ≢ place) × (slice_get row n ≡ Some (Holds held))
+held_before row place n after held within jobless found =
+    elim (cases_eq n place) [
+      | inl same ↦
+          (let here : slice_get (slice_set row place after) place ≡ Some (Holds held) = subst (λ (m : ℕ). slice_get (slice_set row place after) m ≡ Some (Holds held)) same found in
+          let there = got_same row place after within in
+          let is : after ≡ Holds held = cc in
+          absurd (jobless held is))
+      | inr differs ↦ (differs, sym (got_other row place n after (λ same. differs (sym same))) ∙ found)
+    ]
+
+module _ (pool new : CallPool) (row : List Hand) (place : ℕ) (held : Held) (pass : WorkerPass) (left : AreLeft pool row)
+    (found : slice_get row place ≡ Some (Holds held)) (ended : new ≡ without_job pool held.turn.serial) where
+  before : (n : ℕ) (other : Held) → slice_get (slice_set row place (Free pass)) n ≡ Some (Holds other) → (n ≢ place) × (slice_get row n ≡ Some (Holds other))
+  before n other = held_before row place n (Free pass) other (slice_get_within row place (Holds held) found) (λ one is. cc)
+
+  -- the hands, after the turn of one has ended
+  ended_left : AreLeft new (slice_set row place (Free pass))
+  ended_left = record {
+    parked = still_none_parked pool new held.turn.serial ended left.parked;
+    idle =
+        let idle : new.counts.idle ≡ pool.counts.idle + 1 = ap (λ (p : CallPool). p.counts.idle) ended in
+        let arriving : new.counts.arriving ≡ pool.counts.arriving = ap (λ (p : CallPool). p.counts.arriving) ended in
+        let level = left.idle in
+        let more = free_set row place (Holds held) (Free pass) found in
+        omega (arith, idle, arriving, level, more);
+    runs =
+        λ n other now. (let was = before n other now in
+        others_run pool new held.turn.serial ended other.turn (λ same. was.0 (left.apart n place other held was.1 found same)) (left.runs n other was.1));
+    apart = λ m n one other first second same. left.apart m n one other (before m one first).1 (before n other second).1 same;
+  }
+
+-- the hands, after one whose turn ended where it had one
+pub still_left : (pool new : CallPool) (row : List Hand) (place : ℕ) (hand after : Hand) → AreLeft pool row → slice_get row place ≡ Some hand → EndsTurn hand pool after new
+    → AreLeft new (slice_set row place after)
+still_left pool new row place Out after left found ends =
+    let same : slice_set row place after ≡ row = ap (slice_set row place) ends.0 ∙ same_set row place Out found in
+    rw same (subst (λ (p : CallPool). AreLeft p row) (sym ends.1) left)
+still_left pool new row place (Free pass) after left found ends =
+    let same : slice_set row place after ≡ row = ap (slice_set row place) ends.0 ∙ same_set row place (Free pass) found in
+    rw same (subst (λ (p : CallPool). AreLeft p row) (sym ends.1) left)
+still_left pool new row place (Holds held) after left found ends =
+    rw ends.1 (ended_left pool new row place held ends.0 left found ends.2)
+
+-- no hand before this place holds a job
+abbrev pub Jobless : List Hand → ℕ → Type 0
+Jobless row place = (n : ℕ) (held : Held) → n < place → slice_get row n ≢ Some (Holds held)
+
+-- nor does the one at it, after its turn has ended
+pub jobless_next : (pool new : CallPool) (row : List Hand) (place : ℕ) (hand after : Hand) → Jobless row place → slice_get row place ≡ Some hand → EndsTurn hand pool after new
+    → Jobless (slice_set row place after) (place + 1)
+jobless_next pool new row place hand after jobless found ends n held early now =
+    let was =
+    held_before row place n after held (slice_get_within row place hand found) (λ one is. no_job_after hand after pool new one ends is) now in
+    let differs = was.0 in
+    let less : n < place = omega (arith, early, differs) in
+    jobless n held less was.1
+
+-- after all turns no hand holds a job
+pub all_idle : (pool : CallPool) (row : List Hand) → AreLeft pool row → Jobless row (length row) → AreIdle pool row
+all_idle pool row left jobless = record {
+  parked = left.parked;
+  idle = left.idle;
+  jobless = λ n held found. jobless n held (slice_get_within row n (Holds held) found) found;
+}
+
+-- ---- one pass
+
+module _ (pool : CallPool) (hands row : List Hand) (hand : Hand) (popped : hands ≡ row ++ hand ∷ []) (idle : AreIdle pool hands) where
+  whole : AreIdle pool (row ++ hand ∷ [])
+  whole = subst (λ (h : List Hand). AreIdle pool h) popped idle
+
+  -- the last hand holds no job
+  pub last_jobless : (held : Held) → hand ≡ Holds held → ⊥
+  last_jobless held is = whole.jobless (length row) held (last_at row hand ∙ ap Some is)
 
   -- a free hand is that of an idle worker
   pub last_free : pool.counts.arriving + one_if_free hand ≤ pool.counts.idle
-  last_free = let idle = whole.idle in let more = free_with_last row hand in omega (arith, idle, more)
+  last_free = let level = whole.idle in let more = free_with_last row hand in omega (arith, level, more)
 
-  runs_of : (one : Hand) → slice_get (row ++ hand ∷ []) (length row) ≡ Some one → RunsIn pool.jobs one
-  runs_of Out found = tt
-  runs_of (Free pass) found = tt
-  runs_of (Holds held) found = whole.runs (length row) held found
-
-  -- what is in the last hand runs
-  pub last_runs : RunsIn pool.jobs hand
-  last_runs = runs_of hand (last_at row hand)
-
-  other_of : (one : Hand) (n : ℕ) (held : Held) → slice_get (row ++ hand ∷ []) (length row) ≡ Some one → slice_get row n ≡ Some (Holds held) → IsOther one held.turn.serial
-  other_of Out n held found early = tt
-  other_of (Free pass) n held found early = tt
-  other_of (Holds one) n held found early = λ same.
-      let place : n ≡ length row = whole.apart n (length row) held one (early_at row (hand ∷ []) n (Holds held) early) found same in
-      let within : n < length row = slice_get_within row n (Holds held) early in
-      absurd (omega (arith, place, within))
-
-  -- the other hands, after the last one was let go
-  pub rest_left : (new : CallPool) → NoneParked new.jobs
+  -- the other hands, after the last worker was let go
+  pub rest_idle : (new : CallPool) → NoneParked new.jobs
       → ((rest : ℕ) → pool.counts.idle ≡ pool.counts.arriving + (one_if_free hand + rest) → new.counts.idle ≡ new.counts.arriving + rest)
-      → ((number : JobNumber) → IsOther hand number.serial → is_running_as pool.jobs number ≡ true → is_running_as new.jobs number ≡ true)
-      → AreLeft new row
-  rest_left new parked level others = record {
+      → AreIdle new row
+  rest_idle new parked level = record {
     parked = parked;
-    idle = level (free_hands row) (let idle = whole.idle in let more = free_with_last row hand in omega (arith, idle, more));
-    runs =
-        λ n held found. others held.turn (other_of hand n held (last_at row hand) found) (whole.runs n held (early_at row (hand ∷ []) n (Holds held) found));
-    apart =
-        λ m n one other first second same. whole.apart m n one other (early_at row (hand ∷ []) m (Holds one) first) (early_at row (hand ∷ []) n (Holds other) second) same;
+    idle = level (free_hands row) (let now = whole.idle in let more = free_with_last row hand in omega (arith, now, more));
+    jobless = λ n held found. whole.jobless n held (early_at row (hand ∷ []) n (Holds held) found);
   }

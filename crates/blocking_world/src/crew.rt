@@ -43,6 +43,29 @@ pub(crate) struct Crew {
     next_start: u64,
 }
 
+/// How the turn of a job ends.
+#[derive(Clone, Copy)]
+pub(crate) enum Outcome {
+    /// The job ran to its end.
+    Done,
+    /// The job was given up.
+    Dropped,
+}
+
+impl Outcome {
+    ghost use Rattle.blocking_world.specs.Closing.{standing_after};
+
+    /// How the job stands then.
+    pub(crate) fn standing(self) -> Standing
+        ensures { result ≡ standing_after self }
+    {
+        match self {
+            Outcome::Done => Standing::Done,
+            Outcome::Dropped => Standing::Dropped,
+        }
+    }
+}
+
 // Contracts see the pool.
 impl Model for Crew {
     ghost use Rattle.std.specs.Prelude.{◌≡◌};
@@ -193,13 +216,13 @@ impl Crew {
     }
 
     /// The turn of a job that is over ends.
-    pub(crate) fn end(&mut self, turn: Turn, how: Standing) -> WorkerPass
+    pub(crate) fn end(&mut self, turn: Turn, outcome: Outcome) -> WorkerPass
         requires { is_running_as self.old.jobs turn ≡ true }
         ensures { self.new ≡ without_job self.old turn.serial }
     {
-        let finish = match how {
-            Standing::Dropped => Finish::Dropped,
-            _ => Finish::Done,
+        let finish = match outcome {
+            Outcome::Done => Finish::Done,
+            Outcome::Dropped => Finish::Dropped,
         };
         match self.pool.end(turn, finish) {
             Gone::Free(pass) => pass,
@@ -247,7 +270,7 @@ impl Crew {
         let (took, _growth) = self.take(pass, starter);
         match took {
             Took::Idle(pass) => pass,
-            Took::Run(turn, _job) | Took::Drop(turn, _job) => self.end(turn, Standing::Done),
+            Took::Run(turn, _job) | Took::Drop(turn, _job) => self.end(turn, Outcome::Done),
         }
     }
 

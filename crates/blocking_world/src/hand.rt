@@ -4,8 +4,9 @@ ghost use Rattle.std.specs.Option.{option_copied_mut};
 ghost use Rattle.std.specs.Borrow.{sem};
 
 use crate::call::CallJob;
+use crate::crew::{Crew, Outcome};
 use blocking_core::job::{Action, Answer};
-use blocking_core::pool::{Standing, Turn, WorkerPass};
+use blocking_core::pool::{Turn, WorkerPass};
 use std::mem;
 
 /// Where a job is in its turn.
@@ -54,6 +55,7 @@ pub(crate) enum Hand {
 }
 
 impl Held {
+    ghost use Rattle.blocking_world.specs.Closing.{standing_after};
     ghost use Rattle.blocking_world.specs.Worlds.{duty_of, outcome_of, answered, finished, given_up, woke};
 
     pub(crate) fn new(turn: Turn, job: CallJob, stage: Stage) -> Held
@@ -102,12 +104,12 @@ impl Held {
     }
 
     /// How a job that is over ends its turn.
-    pub(crate) fn outcome(&self) -> Standing
-        ensures { result ≡ outcome_of self.now.stage }
+    pub(crate) fn outcome(&self) -> Outcome
+        ensures { standing_after result ≡ outcome_of self.now.stage }
     {
         match self.stage {
-            Stage::Runs => Standing::Done,
-            Stage::MustGiveUp | Stage::MustWake | Stage::GaveUp => Standing::Dropped,
+            Stage::Runs => Outcome::Done,
+            Stage::MustGiveUp | Stage::MustWake | Stage::GaveUp => Outcome::Dropped,
         }
     }
 
@@ -145,6 +147,7 @@ impl Held {
 }
 
 impl Hand {
+    ghost use Rattle.blocking_world.specs.Closing.{RunsIn, EndsTurn};
     ghost use Rattle.blocking_world.specs.Worlds.{pass_in, held_in, over_in};
     ghost use Rattle.blocking_world.specs.HandLends.{lends_job};
 
@@ -203,6 +206,26 @@ impl Hand {
                 }
                 self.put(Hand::Holds(held));
                 None
+            }
+        }
+    }
+
+    /// The turn of the job in the hand ends, as done, and its worker is idle then. A hand without a job stays as it is.
+    pub(crate) fn end_turn(&mut self, crew: &mut Crew)
+        requires { RunsIn crew.old.jobs self.old }
+        ensures { EndsTurn self.old crew.old self.new crew.new }
+    {
+        match mem::replace(self, Hand::Out) {
+            Hand::Out => {}
+            Hand::Free(pass) => self.put(Hand::Free(pass)),
+            Hand::Holds(held) => {
+                let Held {
+                    turn,
+                    job: _job,
+                    stage: _stage,
+                } = held;
+                let pass = crew.end(turn, Outcome::Done);
+                self.put(Hand::Free(pass));
             }
         }
     }

@@ -33,6 +33,7 @@ impl Model for Parts {
 impl Parts {
     ghost use Rattle.std.specs.Prelude.{nat_lt, ◌==◌, ◌-◌, ◌+◌, ◌&&◌, if◌then◌else◌, slice_get};
     ghost use Rattle.blocking_core.specs.PoolAnswers.{pool_of};
+    ghost use Rattle.blocking_world.specs.Closing.{RefusesAll};
     ghost use Rattle.blocking_world.specs.Worlds.{hand_at, is_free_hand, has_let_go, owner_at};
     ghost use Rattle.blocking_world.specs.Machine.{IsReady, StepDoes, Spawns, CallsOf, ArrivesIf, TakesWith, WorksWith, AnswersWith, EndsWith, WaitsWith, LimitsIf, StraysIf, StrikesIf, Does, DoesNothing, was_accepted};
     ghost use Rattle.blocking_world.specs.Moves.{duty_in, is_own};
@@ -218,21 +219,16 @@ impl Parts {
             return nothing(party, first);
         };
         let serial = held.serial();
-        let how = held.outcome();
+        let outcome = held.outcome();
         let Held {
             turn,
             job: _,
             stage: _,
         } = held;
-        let pass = self.crew.end(turn, how);
+        let pass = self.crew.end(turn, outcome);
         self.workers.put(worker, Hand::Free(pass));
-        seen(
-            party,
-            Some(serial),
-            Act::Ended(serial, how),
-            first,
-            NO_GROWTH,
-        )
+        let act = Act::Ended(serial, outcome.standing());
+        seen(party, Some(serial), act, first, NO_GROWTH)
     }
 
     /// An idle worker has waited.
@@ -343,9 +339,11 @@ impl Parts {
         }
     }
 
-    /// Lets every worker go, which ends the jobs that are left. Takes no memory.
+    /// Ends the turns that are left, and then lets every worker go, which ends the jobs that are still queued. No worker may
+    /// be started any more. Takes no memory.
     pub(crate) fn close<S: Starter>(self, starter: &mut S)
-        requires { IsReady self }
+        requires ready { IsReady self }
+        requires refuses { RefusesAll (S.may_answer starter.old) }
     {
         let Parts {
             mut crew,

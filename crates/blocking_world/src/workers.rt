@@ -2,14 +2,11 @@
 ghost use Rattle.std.specs.Prelude.{◌≡◌, ◌≤◌, ◌+◌, ℕ, [], IfOk, OnErr, Some, is_some, true, if◌then◌else◌};
 ghost use Rattle.std.specs.Option.{option_copied_mut};
 ghost use Rattle.std.specs.Borrow.{sem};
-ghost use Rattle.blocking_core.specs.Jobs.{JobNumber, is_running_as};
-ghost use Rattle.blocking_world.specs.Closing.{RunsIn, IsOther};
-ghost use Rattle.blocking_world.specs.Crews.{NoneParked};
-ghost use Rattle.blocking_world.specs.Machine.{one_if_free};
+ghost use Rattle.blocking_world.specs.Closing.{AreLeft, AreIdle};
 
 use crate::crew::Crew;
 use crate::hand::{Duty, Hand, Held};
-use blocking_core::pool::{Standing, Starter, WorkerPass};
+use blocking_core::pool::{Starter, WorkerPass};
 use std::alloc::{AllocError, Global};
 use std::marker::Model;
 
@@ -29,7 +26,6 @@ impl Model for Workers {
 }
 
 impl Workers {
-    ghost use Rattle.blocking_world.specs.Closing.{AreLeft};
     ghost use Rattle.blocking_world.specs.HandLends.{lends_hand, lends_held};
     ghost use Rattle.blocking_world.specs.Machine.{Joins};
     ghost use Rattle.blocking_world.specs.Moves.{duty_in};
@@ -115,38 +111,36 @@ impl Workers {
         }
     }
 
-    /// Lets every worker go, which ends the jobs that are left. Takes no memory.
+    /// Lets every worker go: first every turn ends, and then the workers are dismissed. Takes no memory.
     pub(crate) fn close<S: Starter>(self, crew: &mut Crew, starter: &mut S)
         requires { AreLeft crew.old self }
     {
         let Workers { mut hands } = self;
-        while let Some(hand) = hands.pop() {
-            let_go(crew, hand, starter);
-        }
-        hands.destroy_empty();
+        end_turns(&mut hands, crew);
+        dismiss_all(hands, crew, starter);
     }
 }
 
-// Lets a worker go: its job ends as done, and it stops with an empty queue.
-fn let_go<S: Starter>(crew: &mut Crew, hand: Hand, starter: &mut S)
-    requires parked { NoneParked crew.old.jobs }
-    requires free { crew.old.counts.arriving + one_if_free hand ≤ crew.old.counts.idle }
-    requires runs { RunsIn crew.old.jobs hand }
-    ensures parked { NoneParked crew.new.jobs }
-    ensures left { (rest : ℕ) → crew.old.counts.idle ≡ crew.old.counts.arriving + (one_if_free hand + rest) → crew.new.counts.idle ≡ crew.new.counts.arriving + rest }
-    ensures others { (number : JobNumber) → IsOther hand number.serial → is_running_as crew.old.jobs number ≡ true → is_running_as crew.new.jobs number ≡ true }
+// Ends every turn.
+fn end_turns(hands: &mut [Hand], crew: &mut Crew)
+    requires { AreLeft crew.old hands.old }
+    ensures { AreIdle crew.new hands.new }
 {
-    match hand {
-        Hand::Out => {}
-        Hand::Free(pass) => crew.dismiss(pass, starter),
-        Hand::Holds(held) => {
-            let Held {
-                turn,
-                job: _job,
-                stage: _stage,
-            } = held;
-            let pass = crew.end(turn, Standing::Done);
-            crew.dismiss(pass, starter);
+    for place in 0..hands.len() {
+        hands[place].end_turn(crew);
+    }
+}
+
+// Dismisses every worker, from the last on: the first takes what is queued, and ends it.
+fn dismiss_all<S: Starter>(mut hands: Vec<Hand>, crew: &mut Crew, starter: &mut S)
+    requires { AreIdle crew.old hands.items }
+{
+    while let Some(hand) = hands.pop() {
+        match hand {
+            Hand::Out => {}
+            Hand::Free(pass) => crew.dismiss(pass, starter),
+            Hand::Holds(_held) => unreachable!(),
         }
     }
+    hands.destroy_empty();
 }

@@ -1,4 +1,4 @@
-use Rattle.std.proofs.Common.{sym, subst}
+use Rattle.std.proofs.Common.{◌∙◌, sym, subst}
 use Rattle.blocking_world.specs.Machine.{IsReady}
 use Rattle.blocking_world.specs.Worlds.{hand_at}
 use Rattle.blocking_world.specs.contracts.parts.Parts.{the_view}
@@ -22,4 +22,4 @@ pub returns : goal.returns
 returns c =
     rw (sym c.self.view_is)
     (ends_so (the_view c.self.inside) c.args.worker c.end-pass.result c.in-Some.ensures.job c.in-Some.ensures.after
-    c.serial-serial.ensures c.outcome-how.ensures c.end-pass.ensures c.put.ensures c.next_start-first.ensures c.seen.ensures)
+    c.serial-serial.ensures (c.standing.ensures ∙ c.outcome-outcome.ensures) c.end-pass.ensures c.put.ensures c.next_start-first.ensures c.seen.ensures)
