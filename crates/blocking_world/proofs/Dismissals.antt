@@ -39,26 +39,6 @@ pub at_remove_other : (jobs : Jobs CallJob) (serial other : ℕ) → other ≢ s
 at_remove_other jobs serial other differs =
     get-remove nat_cmp_total jobs serial other ∙ ap (λ (b : Bool). cond b None (get jobs other)) (eq_by_nat_cmp other serial ∙ ne_eqb other serial differs)
 
--- ---- a queued job doesn't run
-
-not_both : (standing : Standing) → is_queued standing ≡ true → is_running standing ≡ true → ⊥
-not_both Queued queued runs = false≢true runs
-not_both Running queued runs = false≢true queued
-not_both Parked queued runs = false≢true queued
-not_both Done queued runs = false≢true queued
-not_both Dropped queued runs = false≢true queued
-
-runs_by : (b : Bool) (job : Job CallJob) → is_running_job (cond b (Some job) None) ≡ true → is_running job.standing ≡ true
-runs_by true job runs = runs
-runs_by false job runs = absurd (false≢true runs)
-
-front_waits : (pool : CallPool) (serial place : ℕ) (rest : List ℕ) (job : Job CallJob) → IsSound pool → pool.queue ≡ serial ∷ rest → get pool.jobs serial ≡ Some job
-    → is_running_job (if_at place (get pool.jobs serial)) ≡ true → ⊥
-front_waits pool serial place rest job sound front found runs =
-    let there : is_in serial (serial ∷ rest) ≡ true = or_left (eqb serial serial) (is_in serial rest) (eq-eqb serial serial refl) in
-    let queued : is_queued job.standing ≡ true = ap is_queued_job (sym found) ∙ sym (sound.queue.each serial) ∙ ap (is_in serial) front ∙ there in
-    not_both job.standing queued (runs_by (eqb job.place place) job (ap (λ (o : Option (Job CallJob)). is_running_job (if_at place o)) (sym found) ∙ runs))
-
 -- ---- one job
 
 -- a worker that took a job took the front one
@@ -106,23 +86,13 @@ module _ (may_answer : ℕ → Bool → Type 0) (old between new : CallPool) (nu
           | inr differs ↦ ap is_parked_job (kept_at serial differs) ∙ none serial
         ]
 
-    still_runs : IsSound old → (other : JobNumber) → is_running_as old.jobs other ≡ true → is_running_as new.jobs other ≡ true
-    still_runs sound other runs =
-        elim (cases_eq other.serial number.serial) [
-          | inl same ↦
-              absurd (front_waits old number.serial other.place takes.rest takes.job sound takes.front takes.found
-              (ap (λ (s : ℕ). is_running_job (if_at other.place (get old.jobs s))) (sym same) ∙ runs))
-          | inr differs ↦ ap (λ (o : Option (Job CallJob)). is_running_job (if_at other.place o)) (kept_at other.serial differs) ∙ runs
-        ]
-
     -- a job that is taken and ended is passed over
-    pub passed_over : IsSound old → NoneParked old.jobs → old.counts.arriving < old.counts.idle → PassesOver old new
-    passed_over sound none free =
+    pub passed_over : NoneParked old.jobs → old.counts.arriving < old.counts.idle → PassesOver old new
+    passed_over none free =
         let idle : new.counts.idle ≡ old.counts.idle - 1 + seen.started + 1 = ap (λ (c : Counts). c.idle) ended_counts in
         let arriving : new.counts.arriving ≡ old.counts.arriving + seen.started = ap (λ (c : Counts). c.arriving) ended_counts in
         record {
           parked = none_parked none;
           free = omega arith;
           level = omega arith;
-          runs = still_runs sound;
         }

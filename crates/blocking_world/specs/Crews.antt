@@ -3,7 +3,7 @@ use Rattle.std.specs.Prelude.{◌≡◌, ◌<◌, ℕ, ◌+◌, Bool, true, fals
 use Rattle.std.specs.FinMap as map
 use Rattle.blocking_core.specs.Counts.{Counts, limit_of, busier}
 use Rattle.blocking_core.specs.Growth.{Growth, IsGrowth, StartAnswer, grown, greatest}
-use Rattle.blocking_core.specs.Jobs.{Job, Jobs, JobNumber, is_parked_job, is_running_as, running, woken, cancelled, valued, job_of, value_at}
+use Rattle.blocking_core.specs.Jobs.{Job, Jobs, JobNumber, is_parked_job, running, woken, cancelled, valued, job_of, value_at}
 use Rattle.blocking_core.specs.Pools.{entered, with_job}
 use Rattle.blocking_core.specs.declared.pool.answer.Refusal.{Refusal}
 use Rattle.blocking_core.specs.declared.pool.answer.Refusal.TheVariants.{Memory, NoWorker, Numbers}
@@ -101,10 +101,9 @@ mark_value pool number (Some value) = with_job pool number.serial (valued (marke
 abbrev pub marked_in : CallPool → JobNumber → CallPool
 marked_in pool number = mark_value pool number (value_at (job_of pool.jobs number))
 
--- A free worker has passed over jobs: none is parked still, a worker is free, as many idle workers have arrived as
--- before, and what ran still runs.
+-- A free worker has passed over jobs: none is parked still, a worker is free, and as many idle workers have arrived as
+-- before.
 pub record PassesOver (old new : CallPool) : Type 0 where
   pub parked : NoneParked new.jobs
   pub free : new.counts.arriving < new.counts.idle
   pub level : new.counts.idle + old.counts.arriving ≡ old.counts.idle + new.counts.arriving
-  pub runs : (number : JobNumber) → is_running_as old.jobs number ≡ true → is_running_as new.jobs number ≡ true

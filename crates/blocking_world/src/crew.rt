@@ -89,8 +89,8 @@ struct Before {
 
 impl Crew {
     ghost use Rattle.blocking_core.specs.PoolAnswers.{Arrives, StaysOrStops, pool_of};
-    ghost use Rattle.blocking_core.specs.Jobs.{JobNumber, is_running_as, standing_of};
-    ghost use Rattle.blocking_core.specs.Pools.{IsSound, without_job};
+    ghost use Rattle.blocking_core.specs.Jobs.{is_running_as, standing_of};
+    ghost use Rattle.blocking_core.specs.Pools.{without_job};
     ghost use Rattle.blocking_core.specs.Counts.{limited};
     ghost use Rattle.blocking_core.specs.Wakes.{wake_of, cancel_of};
     ghost use Rattle.blocking_world.specs.Crews.{AddsTo, TakesTo, NoneParked, PassesOver, marked_in, after_wake, after_cancel};
@@ -237,7 +237,6 @@ impl Crew {
         requires free { self.old.counts.arriving < self.old.counts.idle }
         ensures parked { NoneParked self.new.jobs }
         ensures left { (rest : ℕ) → self.old.counts.idle ≡ self.old.counts.arriving + rest + 1 → self.new.counts.idle ≡ self.new.counts.arriving + rest }
-        ensures runs { (number : JobNumber) → is_running_as self.old.jobs number ≡ true → is_running_as self.new.jobs number ≡ true }
     {
         let pass = self.clear_queue(pass, starter);
         match self.after_wait(pass, true, starter) {
@@ -261,7 +260,6 @@ impl Crew {
 
     // A free worker takes the front job, if there is one, and ends it as done.
     fn pass_over<S: Starter>(&mut self, pass: WorkerPass, starter: &mut S) -> WorkerPass
-        requires sound { IsSound self.old }
         requires parked { NoneParked self.old.jobs }
         requires free { self.old.counts.arriving < self.old.counts.idle }
         ensures shorter { length self.new.queue ≡ length self.old.queue - 1 }

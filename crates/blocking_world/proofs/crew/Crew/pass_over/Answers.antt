@@ -12,4 +12,4 @@ returns-in-Run-clause-passed g c =
     let may_answer = g.S.Starter.may_answer c.args.starter.now in
     let front = takes_front may_answer c.args.self.now c.take-took.new.self c.take-took.result.0 c.in-Run.turn c.take-took.result.1 c.in-Run.is c.take-took.ensures in
     passed_over may_answer c.args.self.now c.take-took.new.self c.end.new.self c.in-Run.turn front.0 front.1 c.take-took.result.1 front.2 c.end.ensures
-    c.requires.sound c.requires.parked c.requires.free
+    c.requires.parked c.requires.free
