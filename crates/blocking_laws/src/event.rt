@@ -65,9 +65,9 @@ pub enum Act {
     Answered(Answer),
     /// The job found that it has to wait for a wake.
     JobParked,
-    /// The job put its result where its holder finds it.
+    /// The job put its result where its holder finds it; whether it took a waker out of its seat.
     Finished(bool),
-    /// The job gave up: no result will come.
+    /// The job gave up: no result will come; whether it took a waker out of its seat.
     GaveUp(bool),
     /// The waker that the job took out of its seat was called.
     HolderWoken,
