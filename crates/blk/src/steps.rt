@@ -1,8 +1,10 @@
 //! `blk steps`: the steps of a script, and what is seen of them.
-ghost use Rattle.std.specs.Prelude.{◌≡◌, [], IfOk, OnOk, Some, option_map, string_bytes};
+ghost use Rattle.std.specs.Prelude.{◌≡◌, ◌⊎◌, [], IfOk, OnOk, Some, option_map, string_bytes};
 ghost use Rattle.blk.specs.Outcomes.{ReadsText, Shows};
 ghost use Rattle.blk.specs.Plays.{PlaysLine, PlaysLines, ShowsScript, Takes, ending_of, ending_text, shown_text};
+ghost use Rattle.blk.specs.declared.fault.BlkFault.TheVariants as blk_fault;
 ghost use Rattle.blk.specs.declared.line.Line.TheVariants as deed;
+ghost use Rattle.blocking_core.specs.declared.pool.answer.Refusal.TheVariants.{Memory};
 
 use crate::fault::{BlkFault, CommandFault};
 use crate::line::Line;
@@ -81,7 +83,9 @@ fn read_text<R: Read>(alloc: Global, input: &mut R) -> Result<String, CommandFau
 }
 
 // What the failure of a read is told as.
-fn reading_fault(error: io::Error) -> BlkFault {
+fn reading_fault(error: io::Error) -> BlkFault
+    ensures { (result ≡ blk_fault.Reading) ⊎ (result ≡ blk_fault.Refused Memory) }
+{
     if error.kind() == ErrorKind::OutOfMemory {
         BlkFault::from(AllocError)
     } else {
