@@ -54,7 +54,8 @@ fn pass_through(alloc: Global, source: &[u8], buffer: &mut [u8]) -> io::Result<(
 // Puts a piece into an empty pipe and drains it: it is in the buffer then, and the pipe is as before.
 fn pass(pipe: &mut BytePipe<u8>, piece: &[u8], buffer: &mut [u8])
     requires empty { pipe.old ≡ empty_pipe 65536 }
-    requires fits { (0 < length piece.now) × (length piece.now ≤ 65536) × (length piece.now ≤ length buffer.old) }
+    requires fits { (0 < length piece.now) × (length piece.now ≤ 65536)
+        × (length piece.now ≤ length buffer.old) }
     ensures pipe { pipe.new ≡ pipe.old }
     ensures buffer { buffer.new ≡ piece.now ++ drop (length piece.now) buffer.old }
 {

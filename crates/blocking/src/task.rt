@@ -109,7 +109,8 @@ impl<F: Call<Out: Drop>, H: Wait + Copy> Future for Task<F, H> {
         ensures value { IfReady result F.may_give }
         ensures taken { IfReady result (λ _. self.new.is_taken ≡ true) }
         ensures again { OnPending result (self.new.is_taken ≡ false) }
-        ensures registered { OnPending result (Covers cx.new (λ source. source ≡ self.new.source.id)) }
+        ensures registered { OnPending result
+            (Covers cx.new (λ source. source ≡ self.new.source.id)) }
         ensures kept { Keeps cx.old cx.new }
     {
         // An answer that is there needs no waker. Else the waker of an earlier poll is used again, since one that is
@@ -191,7 +192,8 @@ impl<F: Call<Out: Drop>, H: Wait + Copy> Cancel<F, H> {
         requires { self.old.is_taken ≡ false }
         ensures settled { result ≡ settled answer self.old.found }
         ensures taken { IfReady result (λ _. self.new.is_taken ≡ true) }
-        ensures again { OnPending result ((self.new.is_taken ≡ false) × (self.new.found ≡ self.old.found)) }
+        ensures again { OnPending result
+            ((self.new.is_taken ≡ false) × (self.new.found ≡ self.old.found)) }
         ensures waits { OnPending result (self.new ≡ self.old) }
         ensures allowed { IfReady result (λ out. IfSome out F.may_give) }
     {
@@ -221,8 +223,10 @@ impl<F: Call<Out: Drop>, H: Wait + Copy> Future for Cancel<F, H> {
         ensures value { IfReady result (λ out. (out ≡ self.old.found) × IfSome out F.may_give) }
         ensures taken { IfReady result (λ _. self.new.is_taken ≡ true) }
         ensures at_once { OnPending result (self.old.found ≡ None) }
-        ensures again { OnPending result ((self.new.is_taken ≡ false) × (self.new.found ≡ self.old.found)) }
-        ensures registered { OnPending result (Covers cx.new (λ source. source ≡ self.new.source.id)) }
+        ensures again { OnPending result
+            ((self.new.is_taken ≡ false) × (self.new.found ≡ self.old.found)) }
+        ensures registered { OnPending result
+            (Covers cx.new (λ source. source ≡ self.new.source.id)) }
         ensures kept { Keeps cx.old cx.new }
     {
         if self.found.is_some() {

@@ -4,5 +4,6 @@ pub mod Lists
 pub mod PoolLemmas
 pub mod RingLemmas
 pub mod RollLemmas
+pub mod Standings
 pub mod SweepLemmas
 pub mod TableLemmas

@@ -1,9 +1,11 @@
--- Lists of numbers in which none stands twice.
-use Rattle.std.proofs.Common.{◌≡◌, ◌≢◌, ℕ, suc, ◌<◌, ◌≤◌, Bool, true, false, cond, eqb, ◌||◌, List, [], ◌∷◌, ◌++◌, length, refl, sym, ap, ◌∙◌, subst, inl, inr, not}
-use Rattle.std.proofs.lemmas.Bool.{eqb-false, eq-eqb, ne_eqb, cases_eq, or_parts, or_from, false≢true}
+-- Numbers that may be equal, and lists of numbers.
+use Rattle.std.proofs.Common.{◌≡◌, ◌≢◌, ℕ, suc, ◌<◌, ◌≤◌, Bool, true, false, cond, eqb, ◌||◌, List, [], ◌∷◌, ◌++◌, length, refl, sym, ap, ◌∙◌, subst, inl, inr, not, arith, nat_cmp}
+use Rattle.std.proofs.lemmas.Bool.{eqb-false, eq-eqb, ne_eqb, cases_eq, or_left, or_right, or_parts, or_from, false≢true}
+use Rattle.std.proofs.Math.Bool.{or-false}
 use Rattle.std.proofs.lemmas.Map.Steps.{length-le_from_distinct_below}
 use Rattle.std.specs.List.{IsDistinct, AllByRecursion}
-use Rattle.blocking_core.specs.Chain.{is_in, IsOnce, without}
+use Rattle.std.specs.Ordering.{eq_by_cmp}
+use Rattle.blocking_core.specs.Lists.{is_in, IsOnce, without}
 
 -- what is said of two numbers that may be equal
 pub by_eq : (x y : ℕ) (P : Bool → Type 0) → (x ≡ y → P true) → (x ≢ y → P false) → P (eqb x y)
@@ -13,6 +15,14 @@ by_eq x y P same differs =
       | inr n ↦ subst P (sym (ne_eqb x y n)) (differs n)
     ]
 
+-- which of two numbers stands first doesn't matter
+pub turned : (x y : ℕ) → eqb x y ≡ eqb y x
+turned x y = by_eq x y (λ b. b ≡ eqb y x) (λ same. sym (eq-eqb y x (sym same))) (λ differs. sym (ne_eqb y x (λ same. differs (sym same))))
+
+-- the order of numbers ties just where they are equal
+pub eq_by_nat_cmp : (x y : ℕ) → eq_by_cmp nat_cmp x y ≡ eqb x y
+eq_by_nat_cmp x y = grind (arith)
+
 pub is_in-append : (x : ℕ) (xs ys : List ℕ) → is_in x (xs ++ ys) ≡ (is_in x xs || is_in x ys)
 is_in-append x [] ys = refl
 is_in-append x (y ∷ xs) ys = by_head (eqb x y) (is_in-append x xs ys)
@@ -20,6 +30,22 @@ is_in-append x (y ∷ xs) ys = by_head (eqb x y) (is_in-append x xs ys)
     by_head : (b : Bool) → is_in x (xs ++ ys) ≡ (is_in x xs || is_in x ys) → (b || is_in x (xs ++ ys)) ≡ ((b || is_in x xs) || is_in x ys)
     by_head true e = refl
     by_head false e = e
+
+-- the first of a list is in it
+pub is_in-first : (x : ℕ) (xs : List ℕ) → is_in x (x ∷ xs) ≡ true
+is_in-first x xs = or_left (eqb x x) (is_in x xs) (eq-eqb x x refl)
+
+-- and so is the last
+pub is_in-last : (x y : ℕ) (xs : List ℕ) → x ≡ y → is_in x (xs ++ y ∷ []) ≡ true
+is_in-last x y xs same = is_in-append x xs (y ∷ []) ∙ or_right (is_in x xs) (eqb x y || false) (or_left (eqb x y) false (eq-eqb x y same))
+
+-- any other number is in the list where it was in it before
+pub is_in-push : (x y : ℕ) (xs : List ℕ) → x ≢ y → is_in x (xs ++ y ∷ []) ≡ is_in x xs
+is_in-push x y xs differs = is_in-append x xs (y ∷ []) ∙ ap (λ b. is_in x xs || (b || false)) (ne_eqb x y differs) ∙ or-false (is_in x xs)
+
+-- one more at the end of two lists that are the same
+pub same_ends : {xs ys : List ℕ} {x y : ℕ} → xs ≡ ys → x ≡ y → xs ++ x ∷ [] ≡ ys ++ y ∷ []
+same_ends e f = cc
 
 pub without-fresh : (x : ℕ) (xs : List ℕ) → is_in x xs ≡ false → without x xs ≡ xs
 without-fresh x [] fresh = refl

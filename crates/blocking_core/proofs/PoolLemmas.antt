@@ -1,11 +1,12 @@
 -- What each call of a pool keeps.
 use Rattle.std.proofs.Common.{◌≡◌, ◌≢◌, ℕ, zero, suc, ◌+◌, ◌-◌, ◌<◌, ◌≤◌, Bool, true, false, cond, not, eqb, ◌||◌, ◌&&◌, List, [], ◌∷◌, ◌++◌, length, filter, Option, Some, None, is_some, option_map, OnSome, refl, sym, ap, ◌∙◌, subst, inl, inr, arith, add-one}
-use Rattle.std.proofs.lemmas.Bool.{eqb-true, eq-eqb, ne_eqb, cases_eq, cases_lt, or_left, or_right, and_parts, false≢true}
+use Rattle.std.proofs.lemmas.Bool.{eqb-true, eq-eqb, ne_eqb, cases_eq, cases_lt, or_right, and_parts, false≢true}
+use Rattle.std.proofs.Math.Bool.{and-false, and-true}
 use Rattle.std.proofs.lemmas.List.{append-nil, append_assoc, length-append}
 use Rattle.std.proofs.lemmas.List.Elements.{filter_agree, filter-append}
 use Rattle.std.specs.FinMap.{get, insert, remove, empty, get-empty}
 use Rattle.std.specs.Ordering.{nat_cmp}
-use Rattle.blocking_core.specs.Chain.{is_in, IsOnce, without}
+use Rattle.blocking_core.specs.Lists.{is_in, IsOnce, without}
 use Rattle.blocking_core.specs.Sweeps.{AreAsked, is_due, swept, serials_below}
 use Rattle.blocking_core.specs.Tables.{Table, Becomes, TakesFirst, SweepsAll, IsRollOf, IsWhole}
 use Rattle.blocking_core.specs.PoolAnswers.{Sweeps, SweepsTo, StaysOrStops, Waits}
@@ -17,28 +18,16 @@ use Rattle.blocking_core.specs.Growth.{Growth, Grows, grown}
 use Rattle.blocking_core.specs.Pools.{Pool, is_queued_job, IsSound, EnterAgain, with_job, empty_pool}
 use Rattle.blocking_core.specs.TableLends.{IfLent}
 use Rattle.blocking_core.specs.declared.pool.standing.Standing.{Standing}
-use Rattle.blocking_core.specs.declared.pool.standing.Standing.TheVariants.{Queued, Running, Parked, Done, Dropped}
+use Rattle.blocking_core.specs.declared.pool.standing.Standing.TheVariants.{Running, Parked}
 use Rattle.blocking_core.specs.declared.pool.bell.BellKind.TheVariants.{One}
-use Rattle.blocking_core.proofs.Lists.{by_eq, is_in-append, IsOnce-push, length-le_below}
-use Rattle.blocking_core.proofs.RollLemmas.{running_job, standing_job}
-use Rattle.blocking_core.proofs.SweepLemmas.{filter_same, parked_is, job_of_found, job_of_amend, at_changed}
+use Rattle.blocking_core.proofs.Lists.{by_eq, is_in-first, is_in-last, is_in-push, IsOnce-push, length-le_below}
+use Rattle.blocking_core.proofs.Standings.{queued_is, running_is, standing_job, running_job, parked_job}
+use Rattle.blocking_core.proofs.SweepLemmas.{filter_same, job_of_found, job_of_amend, at_changed}
 use Rattle.blocking_core.proofs.TableLemmas.{at_insert_same, at_insert_other, at_remove_same, at_remove_other, amend_found}
 
 -- a growth keeps the order of the counts, and the number of those that run a job
 pub grown_order : (counts : Counts) (growth : Growth) → AreInOrder counts → AreInOrder (grown counts growth)
 grown_order counts growth order = record { arriving = omega (arith, order.arriving); idle = omega (arith, order.idle) }
-
-or_nothing : (b : Bool) → (b || (false || false)) ≡ b
-or_nothing true = refl
-or_nothing false = refl
-
-and_false : (b : Bool) → (b && false) ≡ false
-and_false true = refl
-and_false false = refl
-
-and_true : (b : Bool) → (b && true) ≡ b
-and_true true = refl
-and_true false = refl
 
 -- two tests, one after the other
 filter_twice : (p q r : ℕ → Bool) (xs : List ℕ) → ((x : ℕ) → r x ≡ (p x && q x)) → filter q (filter p xs) ≡ filter r xs
@@ -58,7 +47,7 @@ below s (suc next) found =
     elim (cases_eq s next) [
       | inl same ↦ omega (arith, same)
       | inr far ↦
-          let rest = sym (is_in-append s (serials_below next) (next ∷ []) ∙ ap (λ b. is_in s (serials_below next) || (b || false)) (ne_eqb s next far) ∙ or_nothing (is_in s (serials_below next))) ∙ found in
+          let rest = sym (is_in-push s next (serials_below next) far) ∙ found in
           omega (arith, below s next rest)
     ]
 
@@ -66,10 +55,9 @@ below s (suc next) found =
 pub stands_below : (s next : ℕ) → s < next → is_in s (serials_below next) ≡ true
 stands_below s zero is = absurd (omega arith)
 stands_below s (suc next) is =
-    is_in-append s (serials_below next) (next ∷ [])
-    ∙ elim (cases_eq s next) [
-      | inl same ↦ or_right (is_in s (serials_below next)) (eqb s next || false) (or_left (eqb s next) false (eq-eqb s next same))
-      | inr far ↦ or_left (is_in s (serials_below next)) (eqb s next || false) (stands_below s next (omega (arith, far)))
+    elim (cases_eq s next) [
+      | inl same ↦ is_in-last s next (serials_below next) same
+      | inr far ↦ is_in-push s next (serials_below next) far ∙ stands_below s next (omega (arith, far))
     ]
 
 once_below : (next : ℕ) → IsOnce (serials_below next)
@@ -198,11 +186,8 @@ module _ {J : Type 0} where
         queue = record {
           once = IsOnce-push pool.queue serial sound.queue.once absent;
           each = λ s. elim (cases_eq s serial) [
-            | inl same ↦ is_in-append s pool.queue (serial ∷ [])
-                ∙ or_right (is_in s pool.queue) (eqb s serial || false) (or_left (eqb s serial) false (eq-eqb s serial same))
-                ∙ sym (ap is_queued_job (ap (get jobs) same ∙ at_insert_same pool.jobs serial (new_job place value)))
-            | inr far ↦ is_in-append s pool.queue (serial ∷ []) ∙ ap (λ b. is_in s pool.queue || (b || false)) (ne_eqb s serial far) ∙ or_false (is_in s pool.queue)
-                ∙ sound.queue.each s ∙ sym (ap is_queued_job (at_insert_other pool.jobs serial (new_job place value) s far))
+            | inl same ↦ is_in-last s serial pool.queue same ∙ sym (ap is_queued_job (ap (get jobs) same ∙ at_insert_same pool.jobs serial (new_job place value)))
+            | inr far ↦ is_in-push s serial pool.queue far ∙ sound.queue.each s ∙ sym (ap is_queued_job (at_insert_other pool.jobs serial (new_job place value) s far))
           ];
         };
         running =
@@ -229,10 +214,6 @@ module _ {J : Type 0} where
 
       absent : is_in serial pool.queue ≡ false
       absent = sound.queue.each serial ∙ ap is_queued_job none
-
-      or_false : (b : Bool) → (b || (false || false)) ≡ b
-      or_false true = refl
-      or_false false = refl
 
   -- the front job is taken up by an idle worker
   pub taken_sound : (pool : Pool J) (serial : ℕ) (rest : List ℕ) (job : Job J) → pool.queue ≡ serial ∷ rest → get pool.jobs serial ≡ Some job → pool.counts.arriving < pool.counts.idle → IsSound pool
@@ -262,7 +243,7 @@ module _ {J : Type 0} where
       once = subst IsOnce front sound.queue.once
 
       queued : is_in serial pool.queue ≡ true
-      queued = ap (is_in serial) front ∙ or_left (eqb serial serial) (is_in serial rest) (eq-eqb serial serial refl)
+      queued = ap (is_in serial) front ∙ is_in-first serial rest
 
       below : serial < pool.next_serial
       below = queued_below pool sound serial queued
@@ -272,14 +253,7 @@ module _ {J : Type 0} where
         where
           idle : (j : Option (Job J)) → is_queued_job j ≡ true → one_if (is_running_job j) ≡ 0
           idle None q = absurd (false≢true q)
-          idle (Some j) q = by_standing j.standing q
-            where
-              by_standing : (s : Standing) → is_queued s ≡ true → one_if (is_running s) ≡ 0
-              by_standing Queued q = refl
-              by_standing Running q = absurd (false≢true q)
-              by_standing Parked q = refl
-              by_standing Done q = refl
-              by_standing Dropped q = refl
+          idle (Some j) q = ap (λ s. one_if (is_running s)) (queued_is j.standing q)
 
   -- the number of a running job names a running job
   runs_running : (jobs : Jobs J) (number : JobNumber) → is_running_as jobs number ≡ true → is_running_job (get jobs number.serial) ≡ true
@@ -289,14 +263,7 @@ module _ {J : Type 0} where
 
   not_queued : (job : Option (Job J)) → is_running_job job ≡ true → is_queued_job job ≡ false
   not_queued None runs = refl
-  not_queued (Some job) runs = by_standing job.standing runs
-    where
-      by_standing : (s : Standing) → is_running s ≡ true → is_queued s ≡ false
-      by_standing Queued r = absurd (false≢true r)
-      by_standing Running r = refl
-      by_standing Parked r = refl
-      by_standing Done r = refl
-      by_standing Dropped r = refl
+  not_queued (Some job) runs = ap is_queued (running_is job.standing runs)
 
   running_used : (pool : Pool J) (serial : ℕ) → IsSound pool → is_running_job (get pool.jobs serial) ≡ true → serial < pool.next_serial
   running_used pool serial sound runs =
@@ -406,11 +373,8 @@ module _ {J : Type 0} where
         queue = record {
           once = IsOnce-push pool.queue serial sound.queue.once (sound.queue.each serial ∙ ap is_queued_job found ∙ ap is_queued parked);
           each = λ s. elim (cases_eq s serial) [
-            | inl same ↦ is_in-append s pool.queue (serial ∷ [])
-                ∙ or_right (is_in s pool.queue) (eqb s serial || false) (or_left (eqb s serial) false (eq-eqb s serial same))
-                ∙ sym (ap is_queued_job (ap (get (amend pool.jobs serial queued_again)) same ∙ amend_same pool.jobs serial queued_again job found))
-            | inr far ↦ is_in-append s pool.queue (serial ∷ []) ∙ ap (λ b. is_in s pool.queue || (b || false)) (ne_eqb s serial far) ∙ or_nothing (is_in s pool.queue)
-                ∙ sound.queue.each s ∙ sym (ap is_queued_job (amend_other pool.jobs serial queued_again s far))
+            | inl same ↦ is_in-last s serial pool.queue same ∙ sym (ap is_queued_job (ap (get (amend pool.jobs serial queued_again)) same ∙ amend_same pool.jobs serial queued_again job found))
+            | inr far ↦ is_in-push s serial pool.queue far ∙ sound.queue.each s ∙ sym (ap is_queued_job (amend_other pool.jobs serial queued_again s far))
           ];
         };
         running = sound.running ∙ ap (λ n. pool.counts.idle + n) (sym (running_same pool.jobs (amend pool.jobs serial queued_again) pool.next_serial (λ s. elim (cases_eq s serial) [
@@ -427,17 +391,13 @@ module _ {J : Type 0} where
       → IsSound (record pool { queue = pool.queue ++ serials; jobs = all_queued_again pool.jobs serials })
   requeued_sound pool [] once parked sound = subst (λ queue. IsSound (record pool { queue = queue })) (sym (append-nil pool.queue)) sound
   requeued_sound pool (serial ∷ serials) once parked sound =
-      let job = parked_at (get pool.jobs serial) (parked serial (or_left (eqb serial serial) (is_in serial serials) (eq-eqb serial serial refl))) in
+      let job = parked_job (get pool.jobs serial) (parked serial (is_in-first serial serials)) in
       subst (λ queue. IsSound (record pool { queue = queue; jobs = all_queued_again (amend pool.jobs serial queued_again) serials })) (append_assoc pool.queue (serial ∷ []) serials)
       (requeued_sound (record pool { queue = pool.queue ++ serial ∷ []; jobs = amend pool.jobs serial queued_again }) serials once.1
       (λ s found.
       let far : s ≢ serial = λ e. false≢true (sym once.0 ∙ ap (λ n. is_in n serials) (sym e) ∙ found) in
       ap is_parked_job (amend_other pool.jobs serial queued_again s far) ∙ parked s (or_right (eqb s serial) (is_in s serials) found))
       (again_sound pool serial job.0 job.1 job.2 sound))
-    where
-      parked_at : (found : Option (Job J)) → is_parked_job found ≡ true → (job : Job J) × (found ≡ Some job) × (job.standing ≡ Parked)
-      parked_at None is = absurd (false≢true is)
-      parked_at (Some job) is = (job, refl, parked_is job.standing is)
 
   -- a running job waits, and its worker is free
   pub parked_sound : (pool : Pool J) (number : JobNumber) (value : J) → is_running_as pool.jobs number ≡ true → IsSound pool
@@ -511,8 +471,8 @@ module _ {J : Type 0} where
           at_each : (s : ℕ) → is_some (get (remove jobs serial) s) ≡ (is_some (get jobs s) && not (eqb serial s))
           at_each s =
               elim (cases_eq s serial) [
-                | inl same ↦ ap is_some (ap (get (remove jobs serial)) same ∙ at_remove_same jobs serial) ∙ sym (ap (λ b. is_some (get jobs s) && not b) (eq-eqb serial s (sym same)) ∙ and_false (is_some (get jobs s)))
-                | inr far ↦ ap is_some (at_remove_other jobs serial s far) ∙ sym (ap (λ b. is_some (get jobs s) && not b) (ne_eqb serial s (λ e. far (sym e))) ∙ and_true (is_some (get jobs s)))
+                | inl same ↦ ap is_some (ap (get (remove jobs serial)) same ∙ at_remove_same jobs serial) ∙ sym (ap (λ b. is_some (get jobs s) && not b) (eq-eqb serial s (sym same)) ∙ and-false (is_some (get jobs s)))
+                | inr far ↦ ap is_some (at_remove_other jobs serial s far) ∙ sym (ap (λ b. is_some (get jobs s) && not b) (ne_eqb serial s (λ e. far (sym e))) ∙ and-true (is_some (get jobs s)))
               ]
 
   -- a sound pool, as its parts are told
@@ -726,18 +686,6 @@ module _ {J : Type 0} where
       (once_kept (is_due old.jobs sweep.marked) (serials_below next) (once_below next))
       (λ s found. (and_parts (is_parked_job (get old.jobs s)) (sweep.marked s) (kept_in (is_due old.jobs sweep.marked) s (serials_below next) found).1).0)
       whole (swept_becomes may_mark old new counts next sweep whole) is
-
-  -- the pool is whole after a sweep that put nothing back
-  pub unswept_whole : (may_mark : J → Bool → Type 0) (old new : Table J) (counts : Counts) (next was now : ℕ) → IsWhole old counts next → SweepsAll may_mark old old.accepted new
-      → was ≡ length old.queue → now ≡ length new.queue → now - was ≡ 0 → IsWhole new counts next
-  unswept_whole may_mark old new counts next was now whole sweep before_is after_is nil =
-      whole_as new old.queue old.accepted old.jobs counts counts next (becomes.queue_is ∙ append-nil old.queue) becomes.accepted_is becomes.jobs_are refl whole.sound whole.roll
-    where
-      nothing : swept old.jobs sweep.marked (serials_below next) ≡ []
-      nothing = none_of _ (omega (arith, swept_count may_mark old new counts next was now sweep whole before_is after_is, nil))
-
-      becomes : Becomes old new (old.queue ++ []) old.jobs
-      becomes = subst (λ ss. Becomes old new (old.queue ++ ss) (all_queued_again old.jobs ss)) nothing (swept_becomes may_mark old new counts next sweep whole)
 
   -- a wait without a timeout doesn't sweep
   pub waits_on : (may_mark : J → Bool → Type 0) (may_answer : ℕ → Bool → Type 0) (refused : ℕ) (timed_out : Bool) (old new : Pool J) (waited : Waited) → timed_out ≡ false → StaysOrStops false old waited new

@@ -2,7 +2,8 @@
 use Rattle.std.proofs.Common.{◌≡◌, ◌≢◌, ℕ, zero, suc, ◌+◌, ◌-◌, ◌<◌, ◌≤◌, Bool, true, false, cond, eqb, ◌||◌, List, [], ◌∷◌, ◌++◌, length, refl, sym, ap, ◌∙◌, subst, arith, add-one, not, Option, Some, None, get_or, replicate}
 use Rattle.std.proofs.lemmas.Bool.{eqb-false, eq-eqb, ne_eqb, or_parts, false≢true}
 use Rattle.std.proofs.lemmas.List.{length_push, get_or_read}
-use Rattle.blocking_core.specs.Chain.{Chain, is_in, IsOnce, without, first_of, rest_after}
+use Rattle.blocking_core.specs.Chain.{Chain}
+use Rattle.blocking_core.specs.Lists.{is_in, IsOnce, without, first_of, rest_after}
 use Rattle.blocking_core.specs.Rings.{loose, node_after, node_before, walk, LeadsOn, LeadsBack, AreWithin, IsRing, Joins, IsInserted}
 use Rattle.blocking_core.specs.declared.pool.chain.Link.{Link}
 use Rattle.blocking_core.proofs.Lists.{by_eq, without-fresh, IsOnce-without, IsOnce-push, length-without, length-le_below}

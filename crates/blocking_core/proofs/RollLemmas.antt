@@ -1,27 +1,26 @@
 -- The order of acceptance, and what each call of the table makes of queue, order and jobs.
-use Rattle.std.proofs.Common.{◌≡◌, ◌≢◌, ℕ, ◌<◌, Bool, true, false, cond, eqb, ltb, not, ◌||◌, ◌&&◌, List, [], ◌∷◌, ◌++◌, Option, Some, None, is_some, IsSome, option_map, refl, sym, ap, ◌∙◌, subst, inl, inr}
-use Rattle.std.proofs.lemmas.Bool.{eq-eqb, ne_eqb, cases_eq, or_left, or_right, and_parts, ltb-true, false≢true}
+use Rattle.std.proofs.Common.{◌≡◌, ◌≢◌, ℕ, ◌<◌, Bool, true, false, cond, eqb, ltb, not, ◌&&◌, List, [], ◌∷◌, ◌++◌, Option, Some, None, is_some, IsSome, option_map, refl, sym, ap, ◌∙◌, subst, inl, inr}
+use Rattle.std.proofs.lemmas.Bool.{eq-eqb, ne_eqb, cases_eq, or_right, and_parts, ltb-true, false≢true}
 use Rattle.std.proofs.lemmas.List.{map_push}
 use Rattle.std.specs.Cmp.{nat_cmp_total}
 use Rattle.std.specs.FinMap.{get as at, insert, remove, same_map, nat_cmp-IsAntisymmetric}
 use Rattle.slab.specs.Slab.{Slab, get, slab_len, Updates, with_value}
 use Rattle.slab.proofs.SlabLemmas.{Updates-with_value}
-use Rattle.blocking_core.specs.Chain.{Chain, is_in, without, first_of, rest_after}
-use Rattle.blocking_core.specs.Jobs.{Job, Jobs, JobNumber, new_job, is_queued, is_running, is_parked, is_running_job, is_parked_job, is_running_as, standing_of, queued_again, parked_with, has_value, value_at, valued, job_of, amend}
-use Rattle.blocking_core.specs.declared.pool.standing.Standing.{Standing}
-use Rattle.blocking_core.specs.declared.pool.standing.Standing.TheVariants.{Queued, Running, Parked, Done, Dropped}
+use Rattle.blocking_core.specs.Chain.{Chain}
+use Rattle.blocking_core.specs.Lists.{is_in, without, first_of, rest_after}
+use Rattle.blocking_core.specs.Jobs.{Job, Jobs, JobNumber, new_job, is_queued, is_running, is_parked, is_parked_job, is_running_as, standing_of, queued_again, parked_with, has_value, value_at, valued, job_of, amend}
+use Rattle.blocking_core.specs.declared.pool.standing.Standing.TheVariants.{Queued, Running, Parked}
 use Rattle.blocking_core.specs.Tables.{Table, job_at, serial_or_zero, serials_at, table_of, IsTable, IsRoll, IsKept, Becomes, TakesFirst, IsNumberOf, IsAsked, found_of}
 use Rattle.blocking_core.specs.TableLends.{IfLent}
 use Rattle.blocking_core.specs.declared.pool.table.Entry.{Entry}
-use Rattle.blocking_core.proofs.Lists.{by_eq, is_in-append, is_in-without, is_in-without_itself, IsOnce-without, IsOnce-push}
+use Rattle.blocking_core.proofs.Lists.{by_eq, is_in-first, is_in-last, is_in-push, same_ends, is_in-without, is_in-without_itself, IsOnce-without, IsOnce-push}
+use Rattle.blocking_core.proofs.Standings.{standing_job, running_job}
 use Rattle.blocking_core.proofs.TableLemmas.{jobs_of, AreApart, tabled, Changes, changed_jobs, changed_table, Follows, same_serials, taken_by, Takes, takes, Inserts, inserts, Removes, removes, IsEntryOf, entry_of, job_here, job_nowhere, at_insert_same, at_insert_other, amend_found}
 
-some_of : {X : Type 0} (x : Option X) → is_some x ≡ true → (y : X) × (x ≡ Some y)
+-- what is some is of something
+pub some_of : {X : Type 0} (x : Option X) → is_some x ≡ true → (y : X) × (x ≡ Some y)
 some_of None is = absurd (false≢true is)
 some_of (Some y) is = (y, refl)
-
-is_some_of : {X : Type 0} (x : Option X) (y : X) → x ≡ Some y → is_some x ≡ true
-is_some_of x y is = ap is_some is
 
 -- what holds where something was lent
 pub if_lent : {X : Type 0} (x : Option X) (lent kept : Type 0) → (x ≡ None → ⊥) → lent → IfLent x lent kept
@@ -31,10 +30,6 @@ if_lent (Some y) lent kept some l = l
 -- a copy of something is of something
 pub is_lent : {X Y : Type 0} (f : X → Y) (x : Option X) (y : Option Y) → option_map f x ≡ y → is_some y ≡ true → x ≡ None → ⊥
 is_lent f x y copied some none = false≢true (sym (ap (λ o. is_some (option_map f o)) none) ∙ ap is_some copied ∙ some)
-
-or_nothing : (b : Bool) → (b || (false || false)) ≡ b
-or_nothing true = refl
-or_nothing false = refl
 
 -- what comes after a place stands in the same row
 pub among_rest : (place q : ℕ) (places : List ℕ) → is_in q (rest_after place places) ≡ true → is_in q places ≡ true
@@ -53,11 +48,8 @@ module _ {J : Type 0} where
   roll_pushed old new chain place entry vacant updates roll =
       record {
         each = λ q. elim (cases_eq q place) [
-          | inl same ↦ is_in-append q chain.places (place ∷ [])
-              ∙ or_right (is_in q chain.places) (eqb q place || false) (or_left (eqb q place) false (eq-eqb q place same))
-              ∙ sym (ap is_some (ap (get new) same ∙ updates.changed))
-          | inr differs ↦ is_in-append q chain.places (place ∷ []) ∙ ap (λ b. is_in q chain.places || (b || false)) (ne_eqb q place differs) ∙ or_nothing (is_in q chain.places)
-              ∙ roll.each q ∙ sym (ap is_some (updates.others q differs))
+          | inl same ↦ is_in-last q place chain.places same ∙ sym (ap is_some (ap (get new) same ∙ updates.changed))
+          | inr differs ↦ is_in-push q place chain.places differs ∙ roll.each q ∙ sym (ap is_some (updates.others q differs))
         ];
         once = IsOnce-push chain.places place roll.once (roll.each place ∙ ap is_some vacant);
       }
@@ -73,10 +65,6 @@ module _ {J : Type 0} where
         once = IsOnce-without place chain.places roll.once;
       }
 
-  -- each of these places has an entry
-  AreOccupied : Slab (Entry J) → List ℕ → Type 0
-  AreOccupied slab places = (place : ℕ) → is_in place places ≡ true → is_some (get slab place) ≡ true
-
   -- two entries have one serial where they have one place
   one_serial : (slab : Slab (Entry J)) (place other : ℕ) (entry : Entry J) → AreApart slab → get slab place ≡ Some entry → is_some (get slab other) ≡ true → eqb entry.serial (serial_or_zero (get slab other)) ≡ eqb place other
   one_serial slab place other entry apart found there =
@@ -90,7 +78,7 @@ module _ {J : Type 0} where
   rest_occupied slab place places all q found = all q (or_right (eqb q place) (is_in q places) found)
 
   first_occupied : (slab : Slab (Entry J)) (place : ℕ) (places : List ℕ) → ((q : ℕ) → is_in q (place ∷ places) ≡ true → is_some (get slab q) ≡ true) → is_some (get slab place) ≡ true
-  first_occupied slab place places all = all place (or_left (eqb place place) (is_in place places) (eq-eqb place place refl))
+  first_occupied slab place places all = all place (is_in-first place places)
 
   -- the serials after one are those of the places after its place
   pub rest_serials : (slab : Slab (Entry J)) (place : ℕ) (entry : Entry J) (places : List ℕ) → AreApart slab → get slab place ≡ Some entry → ((q : ℕ) → is_in q places ≡ true → is_some (get slab q) ≡ true)
@@ -133,6 +121,22 @@ module _ {J : Type 0} where
         subst IsSome (sym (job_here slab (record { place = place; serial = one.0.serial }) one.0 apart one.1 refl)) refl,
       )
 
+  -- where one entry is another, the same places have entries
+  same_places : (old new : Slab (Entry J)) (place : ℕ) (was is : Entry J) → get old place ≡ Some was → Updates old new place (Some is) → (q : ℕ) → is_some (get new q) ≡ is_some (get old q)
+  same_places old new place was is found updates q =
+      elim (cases_eq q place) [
+        | inl here ↦ ap (λ n. is_some (get new n)) here ∙ ap is_some updates.changed ∙ sym (ap (λ n. is_some (get old n)) here ∙ ap is_some found)
+        | inr differs ↦ ap is_some (updates.others q differs)
+      ]
+
+  -- and where it keeps its serial, the same serials
+  serials_stay : (old new : Slab (Entry J)) (place : ℕ) (was is : Entry J) → get old place ≡ Some was → Updates old new place (Some is) → is.serial ≡ was.serial → (q : ℕ) → serial_or_zero (get new q) ≡ serial_or_zero (get old q)
+  serials_stay old new place was is found updates same q =
+      elim (cases_eq q place) [
+        | inl here ↦ ap (λ n. serial_or_zero (get new n)) here ∙ ap serial_or_zero updates.changed ∙ same ∙ sym (ap (λ n. serial_or_zero (get old n)) here ∙ ap serial_or_zero found)
+        | inr differs ↦ ap serial_or_zero (updates.others q differs)
+      ]
+
   -- The table after a change of one entry, which keeps its serial. The queue's places follow.
   pub record Amends (old : Slab (Entry J)) (queue next accepted : Chain) (place : ℕ) (was is : Entry J) : Type 0 where
     pub kept : IsKept (with_value old place is) next accepted
@@ -146,10 +150,10 @@ module _ {J : Type 0} where
       record {
         kept = record {
           table = changed_table old new queue next place is changes follows kept.table;
-          roll = roll_kept old new accepted some_same kept.roll;
+          roll = roll_kept old new accepted (same_places old new place was is found updates) kept.roll;
         };
-        same_queue = λ q within. serials q;
-        same_order = same_serials old new accepted.places (λ q within. serials q);
+        same_queue = λ q within. serials_stay old new place was is found updates same q;
+        same_order = same_serials old new accepted.places (λ q within. serials_stay old new place was is found updates same q);
         jobs = changed_jobs old new place is changes kept.table.apart ∙ ap (λ serial. insert (jobs_of old) serial (job_at place is)) same;
       }
     where
@@ -166,18 +170,6 @@ module _ {J : Type 0} where
             same = λ before there. let e : before ≡ was = cc in ap (λ x. x.serial) e ∙ sym same;
             apart = λ other before differs there alike. differs (kept.table.apart other place before was there found (alike ∙ same));
           }
-
-      some_same : (q : ℕ) → is_some (get new q) ≡ is_some (get old q)
-      some_same q = elim (cases_eq q place) [
-        | inl here ↦ ap (λ n. is_some (get new n)) here ∙ ap is_some updates.changed ∙ sym (ap (λ n. is_some (get old n)) here ∙ ap is_some found)
-        | inr differs ↦ ap is_some (updates.others q differs)
-      ]
-
-      serials : (q : ℕ) → serial_or_zero (get new q) ≡ serial_or_zero (get old q)
-      serials q = elim (cases_eq q place) [
-        | inl here ↦ ap (λ n. serial_or_zero (get new n)) here ∙ ap serial_or_zero updates.changed ∙ same ∙ sym (ap (λ n. serial_or_zero (get old n)) here ∙ ap serial_or_zero found)
-        | inr differs ↦ ap serial_or_zero (updates.others q differs)
-      ]
 
   -- the queue stays as it is, where the job is queued as it was
   pub stays : (chain : Chain) (slab : Slab (Entry J)) (place : ℕ) (was is : Entry J) → IsTable slab chain → get slab place ≡ Some was → is_queued is.standing ≡ is_queued was.standing → is_some is.value ≡ not (is_running is.standing) → Follows chain chain place is
@@ -196,9 +188,8 @@ module _ {J : Type 0} where
       → Follows chain (record chain { places = chain.places ++ place ∷ [] }) place is
   pushed chain slab place was is table found before after held =
       record {
-        others = λ other differs. is_in-append other chain.places (place ∷ [])
-            ∙ ap (λ b. is_in other chain.places || (b || false)) (ne_eqb other place differs) ∙ or_nothing (is_in other chain.places);
-        here = is_in-append place chain.places (place ∷ []) ∙ or_right (is_in place chain.places) (eqb place place || false) (or_left (eqb place place) false (eq-eqb place place refl)) ∙ sym after;
+        others = λ other differs. is_in-push other place chain.places differs;
+        here = is_in-last place place chain.places refl ∙ sym after;
         held = held;
         room = refl;
         within = table.roomy place was found;
@@ -246,9 +237,6 @@ module _ {J : Type 0} where
       new : Slab (Entry J)
       new = with_value old place is
 
-      same_ends : {xs ys : List ℕ} {x y : ℕ} → xs ≡ ys → x ≡ y → xs ++ x ∷ [] ≡ ys ++ y ∷ []
-      same_ends e f = cc
-
   -- the entry to which a number leads is that of its job
   pub leads_to : (slab : Slab (Entry J)) (queue accepted : Chain) (before : Table J) (number : JobNumber) (job : Job J) (place : ℕ) (entry : Entry J) → IsKept slab queue accepted → table_of slab queue accepted ≡ before
       → job_of before.jobs number ≡ Some job → place ≡ number.place → get slab place ≡ Some entry → (entry.serial ≡ number.serial) × (job ≡ job_at place entry)
@@ -263,31 +251,13 @@ module _ {J : Type 0} where
       let own = entry_of slab number job kept.table.apart (ap (λ t. job_of t.jobs number) seen ∙ is) in
       absurd (let e = sym own.is_at ∙ ap (get slab) (sym here) ∙ none in cc)
 
-  pub some_job : (found : Option (Job J)) → IsSome found → (job : Job J) × (found ≡ Some job)
-  some_job found is = some_of found is
-
-  pub standing_job : (found : Option (Job J)) (standing : Standing) → option_map (λ job. job.standing) found ≡ Some standing → (job : Job J) × (found ≡ Some job) × (job.standing ≡ standing)
-  standing_job None standing is = absurd (let e : None ≡ Some standing = is in cc)
-  standing_job (Some job) standing is = (job, refl, let e : Some job.standing ≡ Some standing = is in cc)
-
-  pub running_job : (found : Option (Job J)) → is_running_job found ≡ true → (job : Job J) × (found ≡ Some job) × (job.standing ≡ Running)
-  running_job None is = absurd (false≢true is)
-  running_job (Some job) is = (job, refl, by_standing job.standing is)
-    where
-      by_standing : (s : Standing) → is_running s ≡ true → s ≡ Running
-      by_standing Queued r = absurd (false≢true r)
-      by_standing Running r = refl
-      by_standing Parked r = absurd (false≢true r)
-      by_standing Done r = absurd (false≢true r)
-      by_standing Dropped r = absurd (false≢true r)
-
   -- a job is marked
   pub marks : (old : Slab (Entry J)) (queue accepted : Chain) (before : Table J) (number : JobNumber) (place : ℕ) (was is : Entry J) (change : Job J → Job J) → IsKept old queue accepted → table_of old queue accepted ≡ before
       → IsSome (job_of before.jobs number) → place ≡ number.place → get old place ≡ Some was
       → is.serial ≡ was.serial → is.standing ≡ was.standing → is.value ≡ was.value → job_at place is ≡ change (job_at place was)
       → IsKept (with_value old place is) queue accepted × Becomes before (table_of (with_value old place is) queue accepted) before.queue (amend before.jobs number.serial change)
   marks old queue accepted before number place was is change kept seen present here found same alike equal changes =
-      let job = some_job (job_of before.jobs number) present in
+      let job = some_of (job_of before.jobs number) present in
       becomes_kept old queue accepted place was is number change before kept found here (leads_to old queue accepted before number job.0 place was kept seen job.1 here found).0
       same (ap is_queued alike) (ap is_some equal ∙ kept.table.held place was found ∙ ap (λ s. not (is_running s)) (sym alike)) changes seen
 
@@ -337,7 +307,7 @@ module _ {J : Type 0} where
       × TakesFirst before (Some (record { no = number; value = value; cancelled = entry.cancelled })) (table_of (with_value old place (left_by entry left)) next accepted)
   takes_so old queue next accepted place entry value left number before kept front found held unlinked none is seen =
       subst (λ l. IsKept (with_value old place (left_by entry l)) next accepted × TakesFirst before (Some (record { no = number; value = value; cancelled = entry.cancelled })) (table_of (with_value old place (left_by entry l)) next accepted)) (sym none) (
-        record { table = done.table; roll = roll_kept old new accepted some_same kept.roll },
+        record { table = done.table; roll = roll_kept old new accepted (same_places old new place entry (taken_by entry) found updates) kept.roll },
         subst (λ t. TakesFirst t (Some (record { no = number; value = value; cancelled = entry.cancelled })) (table_of new next accepted)) seen
             (subst (λ n. TakesFirst (table_of old queue accepted) (Some (record { no = n; value = value; cancelled = entry.cancelled })) (table_of new next accepted)) (sym is) (
               done.front,
@@ -348,7 +318,7 @@ module _ {J : Type 0} where
               refl,
               record {
                 queue_is = refl;
-                accepted_is = same_serials old new accepted.places (λ q within. serials q);
+                accepted_is = same_serials old new accepted.places (λ q within. serials_stay old new place entry (taken_by entry) found updates refl q);
                 jobs_are = done.jobs;
               },
             )),
@@ -362,18 +332,6 @@ module _ {J : Type 0} where
 
       updates : Updates old new place (Some (taken_by entry))
       updates = Updates-with_value old place (taken_by entry) (subst IsSome (sym found) refl)
-
-      some_same : (q : ℕ) → is_some (get new q) ≡ is_some (get old q)
-      some_same q = elim (cases_eq q place) [
-        | inl here ↦ ap (λ n. is_some (get new n)) here ∙ ap is_some updates.changed ∙ sym (ap (λ n. is_some (get old n)) here ∙ ap is_some found)
-        | inr differs ↦ ap is_some (updates.others q differs)
-      ]
-
-      serials : (q : ℕ) → serial_or_zero (get new q) ≡ serial_or_zero (get old q)
-      serials q = elim (cases_eq q place) [
-        | inl here ↦ ap (λ n. serial_or_zero (get new n)) here ∙ ap serial_or_zero updates.changed ∙ sym (ap (λ n. serial_or_zero (get old n)) here ∙ ap serial_or_zero found)
-        | inr differs ↦ ap serial_or_zero (updates.others q differs)
-      ]
 
   -- the place of the next entry is free in both rows
   pub has_room : (old : Slab (Entry J)) (queue accepted : Chain) (before : Table J) → table_of old queue accepted ≡ before → before.has_room ≡ true → (old.vacant_key < queue.room) × (old.vacant_key < accepted.room)
@@ -410,9 +368,6 @@ module _ {J : Type 0} where
 
       apart : (q : ℕ) → q ≡ place → is_in q accepted.places ≡ true → ⊥
       apart q same found = false≢true (sym (kept.roll.each place ∙ ap is_some vacant) ∙ ap (λ n. is_in n accepted.places) (sym same) ∙ found)
-
-      same_ends : {xs ys : List ℕ} {x y : ℕ} → xs ≡ ys → x ≡ y → xs ++ x ∷ [] ≡ ys ++ y ∷ []
-      same_ends e f = cc
 
   -- a running job leaves both the table and the order
   pub record Leaves (before : Table J) (new : Slab (Entry J)) (queue shorter : Chain) (serial : ℕ) : Type 0 where
@@ -491,7 +446,7 @@ module _ {J : Type 0} where
   pub found_there : (slab : Slab (Entry J)) (queue accepted : Chain) (before : Table J) (number : JobNumber) (place : ℕ) (entry : Entry J) → IsKept slab queue accepted → table_of slab queue accepted ≡ before
       → IsSome (job_of before.jobs number) → place ≡ number.place → get slab place ≡ Some entry → job_of before.jobs number ≡ Some (job_at place entry)
   found_there slab queue accepted before number place entry kept seen present here found =
-      let job = some_job (job_of before.jobs number) present in
+      let job = some_of (job_of before.jobs number) present in
       job.1 ∙ ap Some (leads_to slab queue accepted before number job.0 place entry kept seen job.1 here found).1
 
   -- a job that isn't parked isn't asked, and stays

@@ -1,16 +1,16 @@
 -- Sweeps: jobs that are swept one after the other, and what they come to together.
-use Rattle.std.proofs.Common.{◌≡◌, ◌≢◌, ◌<◌, ℕ, arith, Bool, true, false, cond, eqb, ◌||◌, ◌&&◌, List, [], ◌∷◌, ◌++◌, length, filter, Option, Some, None, is_some, IsSome, option_map, refl, sym, ap, ◌∙◌, subst, inl, inr}
-use Rattle.std.proofs.lemmas.Bool.{eq-eqb, ne_eqb, cases_eq, or_left, or_right, and_parts, false≢true}
+use Rattle.std.proofs.Common.{◌≡◌, ◌≢◌, ◌<◌, ℕ, arith, Bool, true, false, cond, eqb, ◌||◌, ◌&&◌, List, [], ◌∷◌, ◌++◌, length, filter, Option, Some, None, IsSome, option_map, refl, sym, ap, ◌∙◌, subst, inl, inr}
+use Rattle.std.proofs.lemmas.Bool.{eq-eqb, ne_eqb, cases_eq, or_right, and_parts, false≢true}
 use Rattle.std.proofs.lemmas.List.{append-nil, append_assoc}
 use Rattle.std.specs.FinMap.{get as at, insert}
-use Rattle.blocking_core.specs.Chain.{is_in, IsOnce, first_of, rest_after}
-use Rattle.blocking_core.specs.Jobs.{Job, Jobs, JobNumber, is_parked, is_parked_job, if_at, job_of, queued_again, amend, all_queued_again}
+use Rattle.blocking_core.specs.Lists.{is_in, IsOnce, first_of, rest_after}
+use Rattle.blocking_core.specs.Jobs.{Job, Jobs, JobNumber, is_parked_job, if_at, job_of, queued_again, amend, all_queued_again}
 use Rattle.blocking_core.specs.Sweeps.{is_due, swept}
 use Rattle.blocking_core.specs.Tables.{Table, Becomes, IsNumberOf, IsAsked, SweepsOne, SweepsAll}
-use Rattle.blocking_core.specs.declared.pool.standing.Standing.{Standing}
-use Rattle.blocking_core.specs.declared.pool.standing.Standing.TheVariants.{Queued, Running, Parked, Done, Dropped}
-use Rattle.blocking_core.proofs.Lists.{by_eq}
-use Rattle.blocking_core.proofs.RollLemmas.{among_rest}
+use Rattle.blocking_core.specs.declared.pool.standing.Standing.TheVariants.{Parked}
+use Rattle.blocking_core.proofs.Lists.{by_eq, is_in-first}
+use Rattle.blocking_core.proofs.RollLemmas.{some_of, among_rest}
+use Rattle.blocking_core.proofs.Standings.{parked_is}
 use Rattle.blocking_core.proofs.TableLemmas.{at_insert_same, at_insert_other, amend_found}
 
 -- tests that agree on a list keep the same of it
@@ -18,7 +18,7 @@ pub filter_same : (p q : ℕ → Bool) (xs : List ℕ) → ((x : ℕ) → is_in 
 filter_same p q [] same = refl
 filter_same p q (x ∷ xs) same =
     let rest = filter_same p q xs (λ y found. same y (or_right (eqb y x) (is_in y xs) found)) in
-    let here = same x (or_left (eqb x x) (is_in x xs) (eq-eqb x x refl)) in
+    let here = same x (is_in-first x xs) in
     ap (λ b. cond b (x ∷ filter p xs) (filter p xs)) here ∙ ap (λ ys. cond (q x) (x ∷ ys) ys) rest
 
 -- the first of what comes after one has after it what is left
@@ -27,10 +27,10 @@ rest_again x y [] ys once is = absurd (cc)
 rest_again x y (z ∷ xs) ys once is =
     by_eq x z (λ b. cond b xs (rest_after x xs) ≡ y ∷ ys → cond (eqb y z) xs (rest_after y xs) ≡ ys)
     (λ same here.
-    let far : eqb y z ≡ false = apart z y xs once.0 (ap (is_in y) here ∙ or_left (eqb y y) (is_in y ys) (eq-eqb y y refl)) in
+    let far : eqb y z ≡ false = apart z y xs once.0 (ap (is_in y) here ∙ is_in-first y ys) in
     ap (λ b. cond b xs (rest_after y xs)) far ∙ ap (rest_after y) here ∙ ap (λ b. cond b ys (rest_after y ys)) (eq-eqb y y refl))
     (λ differs there.
-    let far : eqb y z ≡ false = apart z y xs once.0 (among_rest x y xs (ap (is_in y) there ∙ or_left (eqb y y) (is_in y ys) (eq-eqb y y refl))) in
+    let far : eqb y z ≡ false = apart z y xs once.0 (among_rest x y xs (ap (is_in y) there ∙ is_in-first y ys)) in
     ap (λ b. cond b xs (rest_after y xs)) far ∙ rest_again x y xs ys once.1 there) is
   where
     apart : (z y : ℕ) (xs : List ℕ) → is_in z xs ≡ false → is_in y xs ≡ true → eqb y z ≡ false
@@ -40,14 +40,6 @@ rest_again x y (z ∷ xs) ys once is =
 abbrev pub rest_of : Option JobNumber → List ℕ → List ℕ
 rest_of None serials = []
 rest_of (Some number) serials = number.serial ∷ rest_after number.serial serials
-
--- what the test finds parked is parked
-pub parked_is : (s : Standing) → is_parked s ≡ true → s ≡ Parked
-parked_is Queued never = absurd (false≢true never)
-parked_is Running never = absurd (false≢true never)
-parked_is Parked is_so = refl
-parked_is Done never = absurd (false≢true never)
-parked_is Dropped never = absurd (false≢true never)
 
 module _ {J : Type 0} where
   -- what a number finds stands under its serial, at its place
@@ -97,13 +89,9 @@ module _ {J : Type 0} where
   pub still_there : (may_answer : J → Bool → Type 0) (old new : Table J) (number : JobNumber) → SweepsOne may_answer old number new → IsSome (job_of old.jobs number) → IsSome (job_of new.jobs number)
   still_there may_answer old new number one present = by_test one.put_back one.becomes.jobs_are
     where
-      job : (found : Option (Job J)) → is_some found ≡ true → (j : Job J) × (found ≡ Some j)
-      job None never = absurd (false≢true never)
-      job (Some j) is_so = (j, refl)
-
       by_test : (b : Bool) → new.jobs ≡ cond b (amend old.jobs number.serial queued_again) old.jobs → IsSome (job_of new.jobs number)
       by_test true are =
-          let was = job (job_of old.jobs number) present in
+          let was = some_of (job_of old.jobs number) present in
           subst IsSome (sym (ap (λ js. job_of js number) are ∙ job_of_amend old.jobs number was.0 queued_again (λ j. refl) was.1)) refl
       by_test false are = subst (λ js. IsSome (job_of js number)) (sym are) present
 
@@ -119,13 +107,6 @@ module _ {J : Type 0} where
     pub same : now.accepted ≡ first.accepted
     pub here : (number : JobNumber) → next ≡ Some number → IsSome (job_of now.jobs number)
 
-  rest_first : (serials : List ℕ) (next : Option JobNumber) (jobs : Jobs J) → IsNumberOf jobs (first_of serials) next → rest_of next serials ≡ serials
-  rest_first [] None jobs is = refl
-  rest_first [] (Some number) jobs is = absurd is
-  rest_first (serial ∷ serials) None jobs is = absurd is
-  rest_first (serial ∷ serials) (Some number) jobs is =
-      ap (λ s. s ∷ cond (eqb s serial) serials (rest_after s serials)) is.0 ∙ ap (λ b. serial ∷ cond b serials (rest_after serial serials)) (eq-eqb serial serial refl)
-
   rest_next : (serial : ℕ) (all rest : List ℕ) (next : Option JobNumber) (jobs : Jobs J) → IsOnce all → rest_after serial all ≡ rest → IsNumberOf jobs (first_of rest) next → rest_of next all ≡ rest
   rest_next serial all [] None jobs once is number = refl
   rest_next serial all [] (Some n) jobs once is number = absurd number
@@ -138,14 +119,6 @@ module _ {J : Type 0} where
   number_here jobs None next (Some n) is number some = absurd is
   number_here jobs (Some s) next None is number some = absurd is
   number_here jobs (Some s) next (Some n) is number some = let one : n ≡ number = let e : Some n ≡ Some number = some in cc in subst (λ k. IsSome (job_of jobs k)) one is.1
-
-  pub sweep_begins : (may_answer : J → Bool → Type 0) (first : Table J) (next : Option JobNumber) → IsNumberOf first.jobs (first_of first.accepted) next → IsSweeping may_answer first first next
-  sweep_begins may_answer first next is =
-      record {
-        completes = λ last turns. subst (λ serials. SweepsInTurn may_answer first serials last) (rest_first first.accepted next first.jobs is) turns;
-        same = refl;
-        here = number_here first.jobs (first_of first.accepted) None next is;
-      }
 
   pub sweep_goes_on : (may_answer : J → Bool → Type 0) (first now mid : Table J) (before next : Option JobNumber) (number : JobNumber) → IsOnce first.accepted → before ≡ Some number → IsSweeping may_answer first now before
       → SweepsOne may_answer now number mid → IsNumberOf mid.jobs (first_of (rest_after number.serial mid.accepted)) next → IsSweeping may_answer first mid next
@@ -191,12 +164,8 @@ module _ {J : Type 0} where
           marked : ℕ → Bool
           marked s = cond (eqb s serial) one.asked.marked (rest.marked s)
 
-          job : (found : Option (Job J)) → is_some found ≡ true → (j : Job J) × (found ≡ Some j)
-          job None never = absurd (false≢true never)
-          job (Some j) is_so = (j, refl)
-
           here : job_of old.jobs number ≡ at old.jobs number.serial
-          here = let was = job (job_of old.jobs number) present in was.1 ∙ sym (job_of_found old.jobs number was.0 was.1).0
+          here = let was = some_of (job_of old.jobs number) present in was.1 ∙ sym (job_of_found old.jobs number was.0 was.1).0
 
           due : is_due old.jobs marked serial ≡ one.put_back
           due =

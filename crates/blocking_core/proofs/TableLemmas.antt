@@ -1,23 +1,19 @@
 -- How a change of one place of the table changes the jobs and the queue.
-use Rattle.std.proofs.Common.{◌≡◌, ◌≢◌, ◌⊎◌, ℕ, zero, suc, ◌+◌, ◌<◌, Bool, true, false, cond, eqb, not, ◌||◌, List, [], ◌∷◌, ◌++◌, map, get_or, Option, Some, None, is_some, IsSome, refl, sym, ap, ◌∙◌, subst, inl, inr, arith, add-zero, nat_cmp}
+use Rattle.std.proofs.Common.{◌≡◌, ◌≢◌, ◌⊎◌, ℕ, zero, suc, ◌+◌, ◌<◌, Bool, true, false, cond, eqb, not, List, [], ◌∷◌, ◌++◌, map, get_or, Option, Some, None, is_some, IsSome, refl, sym, ap, ◌∙◌, subst, inl, inr, arith, add-zero, nat_cmp}
 use Rattle.std.proofs.lemmas.Bool.{eq-eqb, ne_eqb, cases_eq, or_left, or_right, false≢true}
 use Rattle.std.proofs.lemmas.List.{map_push}
 use Rattle.std.specs.Cmp.{nat_cmp_total}
-use Rattle.std.specs.Ordering.{eq_by_cmp}
 use Rattle.std.specs.FinMap.{find, get as at, insert, remove, from_entries, get-from_entries, get-insert, get-remove, same_map, nat_cmp-IsAntisymmetric}
 use Rattle.slab.specs.Slab.{Slab, get, Updates, with_value}
 use Rattle.slab.proofs.SlabLemmas.{Updates-with_value}
-use Rattle.blocking_core.specs.Chain.{Chain, is_in, IsOnce, without, first_of}
-use Rattle.blocking_core.specs.Jobs.{Job, Jobs, JobNumber, is_queued, is_running, is_running_job, new_job, if_at, job_of, is_running_as, changed, amend}
+use Rattle.blocking_core.specs.Chain.{Chain}
+use Rattle.blocking_core.specs.Lists.{is_in, IsOnce, without, first_of}
+use Rattle.blocking_core.specs.Jobs.{Job, Jobs, JobNumber, is_queued, is_running, new_job, if_at, job_of, is_running_as, changed, amend}
 use Rattle.blocking_core.specs.Tables.{job_at, listed, serial_or_zero, serials_at, IsTable}
-use Rattle.blocking_core.specs.declared.pool.standing.Standing.{Standing}
-use Rattle.blocking_core.specs.declared.pool.standing.Standing.TheVariants.{Queued, Running, Parked, Done, Dropped}
+use Rattle.blocking_core.specs.declared.pool.standing.Standing.TheVariants.{Queued, Running}
 use Rattle.blocking_core.specs.declared.pool.table.Entry.{Entry}
-use Rattle.blocking_core.proofs.Lists.{by_eq, is_in-append, without-first, is_in-without, is_in-without_itself, IsOnce-without, IsOnce-push}
-
--- the order of numbers ties just where they are equal
-pub eq_by_nat_cmp : (x y : ℕ) → eq_by_cmp nat_cmp x y ≡ eqb x y
-eq_by_nat_cmp x y = grind (arith)
+use Rattle.blocking_core.proofs.Lists.{eq_by_nat_cmp, by_eq, is_in-first, is_in-last, is_in-push, same_ends, without-first, is_in-without, is_in-without_itself, IsOnce-without, IsOnce-push}
+use Rattle.blocking_core.proofs.Standings.{queued_is, running_job}
 
 pub some_or_none : {X : Type 0} (x : Option X) → (x ≡ None) ⊎ ((y : X) × (x ≡ Some y))
 some_or_none None = inl refl
@@ -225,7 +221,7 @@ module _ {J : Type 0} where
   pub same_serials : (old new : Slab (Entry J)) (places : List ℕ) → ((q : ℕ) → is_in q places ≡ true → serial_or_zero (get new q) ≡ serial_or_zero (get old q)) → map (λ q. serial_or_zero (get new q)) places ≡ map (λ q. serial_or_zero (get old q)) places
   same_serials old new [] same = refl
   same_serials old new (p ∷ places) same =
-      let here = same p (or_left (eqb p p) (is_in p places) (eq-eqb p p refl)) in
+      let here = same p (is_in-first p places) in
       let rest = same_serials old new places (λ q found. same q (or_right (eqb q p) (is_in q places) found)) in
       (cc)
 
@@ -324,9 +320,6 @@ module _ {J : Type 0} where
       both : (q : ℕ) → q ≡ place → is_in q chain.places ≡ true → ⊥
       both q same found = false≢true (sym unqueued ∙ ap (λ n. is_in n chain.places) (sym same) ∙ found)
 
-      same_ends : {xs ys : List ℕ} {x y : ℕ} → xs ≡ ys → x ≡ y → xs ++ x ∷ [] ≡ ys ++ y ∷ []
-      same_ends e f = cc
-
       changes : Changes old new place entry
       changes =
           record {
@@ -338,18 +331,13 @@ module _ {J : Type 0} where
       follows : Follows chain longer place entry
       follows =
           record {
-            others = λ other differs. is_in-append other chain.places (place ∷ [])
-                ∙ ap (λ b. is_in other chain.places || (b || false)) (ne_eqb other place differs) ∙ or_false (is_in other chain.places);
-            here = is_in-append place chain.places (place ∷ []) ∙ or_right (is_in place chain.places) (eqb place place || false) (or_left (eqb place place) false (eq-eqb place place refl));
+            others = λ other differs. is_in-push other place chain.places differs;
+            here = is_in-last place place chain.places refl;
             held = refl;
             room = refl;
             within = roomy;
             once = IsOnce-push chain.places place table.once unqueued;
           }
-        where
-          or_false : (b : Bool) → (b || (false || false)) ≡ b
-          or_false true = refl
-          or_false false = refl
 
   -- the entry of a job in the hands of a worker
   abbrev pub taken_by : Entry J → Entry J
@@ -371,14 +359,8 @@ module _ {J : Type 0} where
   -- a queued entry has its value
   pub queued_held : (slab : Slab (Entry J)) (chain : Chain) (place : ℕ) (entry : Entry J) → IsTable slab chain → is_in place chain.places ≡ true → get slab place ≡ Some entry → entry.value ≡ None → ⊥
   queued_held slab chain place entry table queued found none =
-      by_standing entry.standing (sym (table.queued place entry found) ∙ queued) (sym (ap is_some none) ∙ table.held place entry found)
-    where
-      by_standing : (s : Standing) → is_queued s ≡ true → false ≡ not (is_running s) → ⊥
-      by_standing Queued q h = false≢true h
-      by_standing Running q h = false≢true q
-      by_standing Parked q h = false≢true q
-      by_standing Done q h = false≢true q
-      by_standing Dropped q h = false≢true q
+      let stands = queued_is entry.standing (sym (table.queued place entry found) ∙ queued) in
+      false≢true (sym (ap is_some none) ∙ table.held place entry found ∙ ap (λ s. not (is_running s)) stands)
 
   pub takes : (old : Slab (Entry J)) (chain next : Chain) (place : ℕ) (entry : Entry J) → IsTable old chain → first_of chain.places ≡ Some place
       → get old place ≡ Some entry → next ≡ record chain { places = without place chain.places }
@@ -485,14 +467,6 @@ module _ {J : Type 0} where
           })
           (λ differs none. absurd (let e : None ≡ Some job = none in cc)) here
 
-  -- a running job has an entry
-  pub running_entry : (slab : Slab (Entry J)) (number : JobNumber) → AreApart slab → is_running_as (jobs_of slab) number ≡ true → (job : Job J) × (job_of (jobs_of slab) number ≡ Some job) × (is_running job.standing ≡ true)
-  running_entry slab number apart runs = by_job (job_of (jobs_of slab) number) refl runs
-    where
-      by_job : (found : Option (Job J)) → job_of (jobs_of slab) number ≡ found → is_running_job found ≡ true → (job : Job J) × (job_of (jobs_of slab) number ≡ Some job) × (is_running job.standing ≡ true)
-      by_job None is r = absurd (false≢true r)
-      by_job (Some job) is r = (job, is, r)
-
   pub amend_found : (jobs : Jobs J) (serial : ℕ) (change : Job J → Job J) (job : Job J) → at jobs serial ≡ Some job → amend jobs serial change ≡ insert jobs serial (change job)
   amend_found jobs serial change job found = ap (changed jobs serial change) found
 
@@ -510,18 +484,11 @@ module _ {J : Type 0} where
         jobs = removed_jobs old new number.place here.entry here.is_at updates table.apart ∙ ap (remove (jobs_of old)) here.serial_is;
       }
     where
-      job : (job : Job J) × (job_of (jobs_of old) number ≡ Some job) × (is_running job.standing ≡ true)
-      job = running_entry old number table.apart runs
+      job : (job : Job J) × (job_of (jobs_of old) number ≡ Some job) × (job.standing ≡ Running)
+      job = running_job (job_of (jobs_of old) number) runs
 
       here : IsEntryOf old number job.0
       here = entry_of old number job.0 table.apart job.1
 
       unqueued : is_in number.place chain.places ≡ false
-      unqueued = table.queued number.place here.entry here.is_at ∙ not_queued here.entry.standing (ap (λ j. is_running j.standing) (sym here.job_is) ∙ job.2)
-        where
-          not_queued : (s : Standing) → is_running s ≡ true → is_queued s ≡ false
-          not_queued Running r = refl
-          not_queued Queued r = absurd (false≢true r)
-          not_queued Parked r = refl
-          not_queued Done r = refl
-          not_queued Dropped r = refl
+      unqueued = table.queued number.place here.entry here.is_at ∙ ap is_queued (ap (λ j. j.standing) (sym here.job_is) ∙ job.2)

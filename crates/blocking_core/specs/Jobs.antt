@@ -51,8 +51,7 @@ abbrev pub jobs_code : {J : Type 0} → Coded J → Coded (Jobs J)
 jobs_code code = map.code coded_ℕ (job_code code)
 
 abbrev pub one_if : Bool → ℕ
-one_if true = 1
-one_if false = 0
+one_if b = if b then 1 else 0
 
 module _ {J : Type 0} where
   -- a job that has just been accepted

@@ -4,6 +4,7 @@ pub mod Counts
 pub mod Growth
 pub mod Jobs
 pub mod Limits
+pub mod Lists
 pub mod PipeAnswers
 pub mod Pipes
 pub mod Places

@@ -2,7 +2,7 @@
 use Rattle.std.specs.Prelude.{◌≡◌, ℕ, ◌+◌, ◌<◌, ◌≤◌, ◌||◌, Bool, false, List, [], ◌∷◌, ◌++◌, length, Option, Some, None, refl}
 use Rattle.std.specs.FinMap as map
 use Rattle.std.specs.Coded.{Coded, code_by, coded×, coded_ℕ, coded_list}
-use Rattle.blocking_core.specs.Chain.{is_in, IsOnce}
+use Rattle.blocking_core.specs.Lists.{is_in, IsOnce}
 use Rattle.blocking_core.specs.Jobs.{Job, Jobs, JobNumber, jobs_code, is_queued, new_job, running, running_below, parked_with, queued_again, amend, all_queued_again}
 use Rattle.blocking_core.specs.Counts.{Counts, counts_code, no_workers, busier, freer, rung, AreInOrder}
 use Rattle.blocking_core.specs.Growth.{Growth, Grows, greatest}

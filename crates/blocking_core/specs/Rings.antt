@@ -1,7 +1,7 @@
 -- How a chain is kept: a ring of links. Node 0 is its beginning and its end, and place p has the node p + 1.
 -- No public clause cites this file.
 use Rattle.std.specs.Prelude.{◌≡◌, ℕ, zero, suc, ◌-◌, ◌<◌, ◌==◌, if◌then◌else◌, List, [], ◌∷◌, length, slice_index_or}
-use Rattle.blocking_core.specs.Chain.{IsOnce}
+use Rattle.blocking_core.specs.Lists.{IsOnce}
 use Rattle.blocking_core.specs.declared.pool.chain.Link.{Link}
 
 -- a node that stands in no ring

@@ -4,7 +4,8 @@ use Rattle.std.specs.Coded.{Coded, code_by, coded×, coded_ℕ, coded_bool, code
 use Rattle.std.specs.FinMap.{from_entries}
 use Rattle.std.specs.FinMap as map
 use Rattle.slab.specs.Slab.{Slab, get, slab_len}
-use Rattle.blocking_core.specs.Chain.{Chain, is_in, IsOnce}
+use Rattle.blocking_core.specs.Chain.{Chain}
+use Rattle.blocking_core.specs.Lists.{is_in, IsOnce}
 use Rattle.blocking_core.specs.Jobs.{Job, Jobs, jobs_code, JobNumber, is_queued, is_running, is_parked_job, running, queued_again, job_of, amend, all_queued_again}
 use Rattle.blocking_core.specs.Sweeps.{swept, serials_below}
 use Rattle.blocking_core.specs.Counts.{Counts}

@@ -42,7 +42,14 @@ impl<X: Drop, W: Drop> Model for Pipe<X, W> {
 
     ghost coded = { pipe_code X.code W.code };
 
-    ghost view = { λ p. record { items = p.ring.items; capacity = p.ring.capacity; is_owner_open = p.is_owner_open; is_job_open = p.is_job_open; owner_seat = p.owner_seat; job_seat = p.job_seat } };
+    ghost view = { λ p. record {
+      items = p.ring.items;
+      capacity = p.ring.capacity;
+      is_owner_open = p.is_owner_open;
+      is_job_open = p.is_job_open;
+      owner_seat = p.owner_seat;
+      job_seat = p.job_seat;
+    } };
 
     ghost invariant = { λ p. IsBounded p.ring };
 }
@@ -210,7 +217,8 @@ impl<X: Drop, W: Drop> Pipe<X, W> {
     /// The job lets the first `count` items go, which are inside. Answers the waker of an owner who waited.
     pub fn consume(&mut self, count: usize) -> Option<W>
         requires { count ≤ length self.old.items }
-        ensures pipe { self.new ≡ record self.old { items = drop count self.old.items; owner_seat = None } }
+        ensures pipe { self.new ≡
+            record self.old { items = drop count self.old.items; owner_seat = None } }
         ensures waker { result ≡ self.old.owner_seat }
     {
         let rest = self.len() - count;

@@ -46,7 +46,12 @@ impl<J: Job> Model for Pool<J> {
 
     ghost coded = { pool_code J.code };
 
-    ghost view = { λ p. record { queue = p.table.queue; jobs = p.table.jobs; counts = p.counts; next_serial = p.next_serial } };
+    ghost view = { λ p. record {
+      queue = p.table.queue;
+      jobs = p.table.jobs;
+      counts = p.counts;
+      next_serial = p.next_serial;
+    } };
 
     ghost invariant = { λ p. IsWhole p.table p.counts p.next_serial };
 }

@@ -3,7 +3,7 @@ use Rattle.std.proofs.Common.{◌≡◌, ℕ, ◌+◌, ◌-◌, ◌<◌, ◌==�
 use Rattle.std.specs.Prelude.{MatchBool}
 use mathlib.Core.Path.{subst, sym}
 use Rattle.blocking_core.specs.Growth.{greatest, is_due, StartAnswer, Growth, IsGrowth}
-use Rattle.blocking_laws.specs.Seen.{joined, without}
+use Rattle.blocking_laws.specs.Seen.{joined, without_all}
 use Rattle.blocking_laws.specs.Queue.{queue, running, entered_by, taken_by, ended_by}
 use Rattle.blocking_laws.specs.Counts.{workers, limit}
 use Rattle.blocking_laws.specs.Growth.{IsMarked, StartsRightly, GrowthLaw, grows, turned_away}
@@ -43,8 +43,8 @@ same_refusal marks ready idle workers limit first g h of_g of_h same =
 abbrev pub GrowsAt : ℕ → List Bool → List Moment → Act → ℕ → Growth → Type 0
 GrowsAt setting marks past act first growth =
     IsGrowth (StartAnswer (IsMarked marks))
-    (length (joined (without (taken_by act) (queue past)) (entered_by past act)) + turned_away act)
-    (workers past - length (joined (without (ended_by act) (running past)) (taken_by act)))
+    (length (joined (without_all (taken_by act) (queue past)) (entered_by past act)) + turned_away act)
+    (workers past - length (joined (without_all (ended_by act) (running past)) (taken_by act)))
     (workers past) (limit setting past) first growth
 
 abbrev pub growth_of : Moment → Growth
@@ -56,8 +56,8 @@ Same now other = (now.event.started ≡ other.event.started) × (now.event.start
 same_growth : (setting : ℕ) (marks : List Bool) (past : List Moment) (act : Act) (first : ℕ) (now other : Moment)
     → GrowsAt setting marks past act first (growth_of now) → GrowsAt setting marks past act first (growth_of other) → Same now other
 same_growth setting marks past act first now other of_now of_other =
-    let waiting = length (joined (without (taken_by act) (queue past)) (entered_by past act)) + turned_away act in
-    let free = workers past - length (joined (without (ended_by act) (running past)) (taken_by act)) in
+    let waiting = length (joined (without_all (taken_by act) (queue past)) (entered_by past act)) + turned_away act in
+    let free = workers past - length (joined (without_all (ended_by act) (running past)) (taken_by act)) in
     let same = same_starts marks waiting free (workers past) (limit setting past) first (growth_of now) (growth_of other) of_now of_other in
     (same, same_refusal marks waiting free (workers past) (limit setting past) first (growth_of now) (growth_of other) of_now of_other same)
 

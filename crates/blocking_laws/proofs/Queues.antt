@@ -1,19 +1,24 @@
 -- The order of entry is the takes and then the queue; what is queued and what runs stands so, each job once.
 use Rattle.std.proofs.Common.{◌≡◌, refl, ℕ, ◌+◌, ◌-◌, ◌<◌, ◌==◌, ◌&&◌, ◌||◌, if◌then◌else◌, Bool, true, false, cond, List, [], ◌∷◌, ◌++◌, length, Option, Some, None, ap, ◌∙◌, arith, add-zero, length-append}
 use Rattle.std.specs.Prelude.{filter, not, is_some}
+use Rattle.std.proofs.lemmas.Bool.{eqb-true, eq-eqb, or_from}
 use Rattle.std.proofs.lemmas.Bool.Decides.{nat_tests}
 use Rattle.std.proofs.lemmas.List.{append_assoc}
 use Rattle.std.proofs.lemmas.List.Elements.{filter-append}
 use mathlib.Core.Path.{subst, sym}
+use Rattle.blocking_core.specs.Jobs.{one_if}
+use Rattle.blocking_core.specs.Lists.{is_in, without}
 use Rattle.blocking_core.specs.Wakes.{wake_of, cancel_of}
+use Rattle.blocking_core.proofs.Lists.{turned, without-first}
 use Rattle.blocking_core.specs.declared.pool.answer.Woke.TheVariants.{Entered}
 use Rattle.blocking_core.specs.declared.pool.standing.Standing.{Standing}
 use Rattle.blocking_core.specs.declared.pool.standing.Standing.TheVariants.{Queued, Running, Parked, Done, Dropped}
-use Rattle.blocking_laws.specs.Seen.{EachMayFollow, among, without, joined, is_worker}
+use Rattle.blocking_laws.specs.Seen.{EachMayFollow, without_all, joined, is_worker}
 use Rattle.blocking_laws.specs.Jobs.{accepted_by, accepted_jobs, standing, stands_by, sweeps, is_queued, is_running, is_parked, is_marked, is_to_drop, is_woken}
 use Rattle.blocking_laws.specs.Queue.{to_sweep, entered_by, taken_by, ended_by, entries, takes, queue, running, times}
 use Rattle.blocking_laws.specs.Turns.{Turn, GoesOn, IsWaiting, MustGiveUp, HasGivenUp, turn, hand, hand_by, hand_of, HoldsOne}
 use Rattle.blocking_laws.specs.Answers.{PoolAnswers, take_answer, take_from, end_of}
+use Rattle.blocking_laws.specs.Steps.{job_taken}
 use Rattle.blocking_laws.specs.Legal.{PoolLaw}
 use Rattle.blocking_laws.specs.declared.event.Act.{Act}
 use Rattle.blocking_laws.specs.declared.event.Act.TheVariants.{Accepted, JobWoken, JobCancelled, Swept, Took, TookDropped, Stays, Stopped, Ended}
@@ -23,15 +28,6 @@ use Rattle.blocking_laws.specs.declared.event.Party.{Party}
 use Rattle.blocking_laws.specs.declared.event.Party.TheVariants.{Worker}
 
 -- ---- how often a number stands in a list
-
-abbrev one_if : Bool → ℕ
-one_if b = if b then 1 else 0
-
-same_is : (n s : ℕ) → (n == s) ≡ true → n ≡ s
-same_is n s e = grind (arith, nat_tests)
-
-same_self : (n : ℕ) → (n == n) ≡ true
-same_self n = grind (arith, nat_tests)
 
 times_both : (s : ℕ) (xs ys : List ℕ) → times s (xs ++ ys) ≡ times s xs + times s ys
 times_both s xs ys = ap length (filter-append (λ m. m == s) xs ys) ∙ length-append (filter (λ m. m == s) xs) (filter (λ m. m == s) ys)
@@ -71,19 +67,24 @@ times_kept : (keep : ℕ → Bool) (s : ℕ) (ns : List ℕ) → times s (filter
 times_kept keep s [] = none_either (keep s) (times s []) refl
 times_kept keep s (n ∷ ns) =
     kept_if (keep n) s n (filter keep ns)
-    ∙ kept_count (keep s) (keep n) (n == s) (times s (filter keep ns)) (times s ns) (λ e. ap keep (same_is n s e)) (times_kept keep s ns)
+    ∙ kept_count (keep s) (keep n) (n == s) (times s (filter keep ns)) (times s ns) (λ e. ap keep (eqb-true n s e)) (times_kept keep s ns)
     ∙ ap (λ (k : ℕ). if keep s then k else 0) (sym (times_more s n ns))
 
-left_if : (b : Bool) (n : ℕ) → (if not b then n else 0) ≡ (if b then 0 else n)
-left_if true n = refl
-left_if false n = refl
+left_by : (b c : Bool) (n : ℕ) → (if c then 0 else (if not b then n else 0)) ≡ (if b || c then 0 else n)
+left_by true true n = refl
+left_by true false n = refl
+left_by false true n = refl
+left_by false false n = refl
 
-times_left : (s : ℕ) (gone ns : List ℕ) → times s (without gone ns) ≡ (if among gone s then 0 else times s ns)
+times_left : (s : ℕ) (gone ns : List ℕ) → times s (without_all gone ns) ≡ (if is_in s gone then 0 else times s ns)
 times_left s [] ns = refl
-times_left s (g ∷ gone) ns = times_kept (λ n. not (among (g ∷ gone) n)) s ns ∙ left_if (among (g ∷ gone) s) (times s ns)
+times_left s (g ∷ gone) ns =
+    times_left s gone (without g ns)
+    ∙ ap (λ (k : ℕ). if is_in s gone then 0 else k) (times_kept (λ n. not (g == n)) s ns ∙ ap (λ (b : Bool). if not b then times s ns else 0) (turned g s))
+    ∙ left_by (s == g) (is_in s gone) (times s ns)
 
-times_after : (s : ℕ) (gone new ns : List ℕ) → times s (joined (without gone ns) new) ≡ (if among gone s then 0 else times s ns) + times s new
-times_after s gone new ns = times_joined s (without gone ns) new ∙ ap (λ (k : ℕ). k + times s new) (times_left s gone ns)
+times_after : (s : ℕ) (gone new ns : List ℕ) → times s (joined (without_all gone ns) new) ≡ (if is_in s gone then 0 else times s ns) + times s new
+times_after s gone new ns = times_joined s (without_all gone ns) new ∙ ap (λ (k : ℕ). k + times s new) (times_left s gone ns)
 
 -- ---- a job before and after an act
 
@@ -115,11 +116,15 @@ keeps : (test : Test) (b : Bool) (st new : Option Standing) (n : ℕ) → (b ≡
 keeps test true st new n same e = add-zero n ∙ e ∙ ap one_if (same refl)
 keeps test false st new n same e = add-zero n ∙ e
 
--- a job that no longer stands as the test says leaves the list
-leaves : (test : Test) (b : Bool) (st new : Option Standing) (n : ℕ) → test new ≡ false → n ≡ one_if (test st)
+leaves_by : (test : Test) (b : Bool) (st new : Option Standing) (n : ℕ) → test new ≡ false → n ≡ one_if (test st)
     → (if b || false then 0 else n) + 0 ≡ one_if (test (if b then new else st))
-leaves test true st new n is e = sym (ap one_if is)
-leaves test false st new n is e = add-zero n ∙ e
+leaves_by test true st new n is e = sym (ap one_if is)
+leaves_by test false st new n is e = add-zero n ∙ e
+
+-- a job that no longer stands as the test says leaves the list
+leaves : (test : Test) (t s : ℕ) (st new : Option Standing) (n : ℕ) → test new ≡ false → n ≡ one_if (test st)
+    → (if is_in s (t ∷ []) then 0 else n) + 0 ≡ one_if (test (if t == s then new else st))
+leaves test t s st new n is e = ap (λ (b : Bool). (if b || false then 0 else n) + 0) (turned s t) ∙ leaves_by test (t == s) st new n is e
 
 parked_is : (st : Option Standing) (mark : Bool) → (is_parked st && mark) ≡ true → st ≡ Some Parked
 parked_is (Some Parked) mark e = refl
@@ -154,15 +159,15 @@ swept_queue past s st mark n sweep e =
 
 queued_after : (past : List Moment) (act : Act) (s : ℕ) (st : Option Standing) (mark : Bool) (n : ℕ) → times s (to_sweep past) ≡ one_if (is_parked st && mark)
     → Meets act s st → n ≡ one_if (is_queued st)
-    → (if among (taken_by act) s then 0 else n) + times s (entered_by past act) ≡ one_if (is_queued (stands_after act s st mark))
+    → (if is_in s (taken_by act) then 0 else n) + times s (entered_by past act) ≡ one_if (is_queued (stands_after act s st mark))
 queued_after past (Accepted t) s st mark n sweep meets e =
     ap (λ (k : ℕ). n + k) (times_one s t) ∙ comes is_queued (t == s) st (Some Queued) n (λ b. ap is_queued (meets b)) refl e
 queued_after past (JobWoken t Entered) s st mark n sweep meets e =
     ap (λ (k : ℕ). n + k) (times_one s t) ∙ comes is_queued (t == s) st (Some Queued) n (λ b. ap is_queued (meets b)) refl e
 queued_after past (JobCancelled t Entered) s st mark n sweep meets e =
     ap (λ (k : ℕ). n + k) (times_one s t) ∙ comes is_queued (t == s) st (Some Queued) n (λ b. ap is_queued (meets b)) refl e
-queued_after past (Took t) s st mark n sweep meets e = leaves is_queued (t == s) st (Some Running) n refl e
-queued_after past (TookDropped t) s st mark n sweep meets e = leaves is_queued (t == s) st (Some Running) n refl e
+queued_after past (Took t) s st mark n sweep meets e = leaves is_queued t s st (Some Running) n refl e
+queued_after past (TookDropped t) s st mark n sweep meets e = leaves is_queued t s st (Some Running) n refl e
 queued_after past (Ended t how) s st mark n sweep meets e = ended_queue past s t how st n meets.0 e
 queued_after past (Swept k) s st mark n sweep meets e = swept_queue past s st mark n sweep e
 queued_after past (Stays w true) s st mark n sweep meets e = swept_queue past s st mark n sweep e
@@ -174,7 +179,7 @@ queued_after past _ s st mark n sweep meets e = add-zero n ∙ e
 -- ---- what runs
 
 running_after : (act : Act) (s : ℕ) (st : Option Standing) (mark : Bool) (n : ℕ) → Meets act s st → n ≡ one_if (is_running st)
-    → (if among (ended_by act) s then 0 else n) + times s (taken_by act) ≡ one_if (is_running (stands_after act s st mark))
+    → (if is_in s (ended_by act) then 0 else n) + times s (taken_by act) ≡ one_if (is_running (stands_after act s st mark))
 running_after (Accepted t) s st mark n meets e = keeps is_running (t == s) st (Some Queued) n (λ b. ap is_running (meets b)) e
 running_after (JobWoken t Entered) s st mark n meets e = keeps is_running (t == s) st (Some Queued) n (λ b. ap is_running (meets b)) e
 running_after (JobCancelled t Entered) s st mark n meets e = keeps is_running (t == s) st (Some Queued) n (λ b. ap is_running (meets b)) e
@@ -182,7 +187,7 @@ running_after (Took t) s st mark n meets e =
     ap (λ (k : ℕ). n + k) (times_one s t) ∙ comes is_running (t == s) st (Some Running) n (λ b. ap is_running (meets b)) refl e
 running_after (TookDropped t) s st mark n meets e =
     ap (λ (k : ℕ). n + k) (times_one s t) ∙ comes is_running (t == s) st (Some Running) n (λ b. ap is_running (meets b)) refl e
-running_after (Ended t how) s st mark n meets e = leaves is_running (t == s) st (Some how) n meets.1 e
+running_after (Ended t how) s st mark n meets e = leaves is_running t s st (Some how) n meets.1 e
 running_after (Swept k) s st mark n meets e = keeps is_running (is_parked st && mark) st (Some Queued) n (λ c. ap is_running (parked_is st mark c)) e
 running_after (Stays w true) s st mark n meets e = keeps is_running (is_parked st && mark) st (Some Queued) n (λ c. ap is_running (parked_is st mark c)) e
 running_after (Stopped w true) s st mark n meets e = keeps is_running (is_parked st && mark) st (Some Queued) n (λ c. ap is_running (parked_is st mark c)) e
@@ -216,7 +221,7 @@ abbrev NoneBeyond : List ℕ → Type 0
 NoneBeyond jobs = (s : ℕ) → length jobs < s → times s jobs ≡ 0
 
 beyond_by : (b : Bool) (t s : ℕ) (jobs : List ℕ) → (t == s) ≡ b → t ≡ 1 + length jobs → 1 + length jobs < s → times s jobs ≡ 0 → times s jobs + one_if b ≡ 0
-beyond_by true t s jobs e next over none = let is = same_is t s e in absurd (omega (arith, is, next, over))
+beyond_by true t s jobs e next over none = let is = eqb-true t s e in absurd (omega (arith, is, next, over))
 beyond_by false t s jobs e next over none = add-zero (times s jobs) ∙ none
 
 beyond_more : (b : Bool) (t s : ℕ) (jobs : List ℕ) → (t == s) ≡ b → t ≡ 1 + length jobs → NoneBeyond jobs → length (jobs ++ t ∷ []) < s → times s jobs + one_if b ≡ 0
@@ -251,16 +256,16 @@ held_one : (is_own : Bool) (t s : ℕ) (held : Option ℕ) (st : Option Standing
     → (if t == s then Some Running else st) ≡ Some Running
 held_one true t s held st runs e =
     let is : t ≡ s = cc e in
-    subst (λ (u : ℕ). (if t == u then Some Running else st) ≡ Some Running) is (ap (λ (b : Bool). if b then Some Running else st) (same_self t))
+    subst (λ (u : ℕ). (if t == u then Some Running else st) ≡ Some Running) is (ap (λ (b : Bool). if b then Some Running else st) (eq-eqb t t refl))
 held_one false t s held st runs e = run_again (t == s) st (runs e)
 
 -- a hand that the end of another's turn leaves: it holds another job
 ends_other : (past : List Moment) (hands : Hands past) (party : Party) (w t s : ℕ) (how : Standing) → hand_of past party ≡ Some t → is_worker w party ≡ false → hand past w ≡ Some s
     → (b : Bool) → (t == s) ≡ b → (if b then Some how else standing past s) ≡ Some Running
 ends_other past hands (Worker v) w t s how holds other e true same =
-    let there : hand past v ≡ Some s = subst (λ (u : ℕ). hand past v ≡ Some u) (same_is t s same) holds in
+    let there : hand past v ≡ Some s = subst (λ (u : ℕ). hand past v ≡ Some u) (eqb-true t s same) holds in
     let one : v ≡ w = hands.alone v w s there e in
-    let bad : true ≡ false = sym (same_self w) ∙ ap (λ (u : ℕ). u == w) (sym one) ∙ other in
+    let bad : true ≡ false = sym (eq-eqb w w refl) ∙ ap (λ (u : ℕ). u == w) (sym one) ∙ other in
     absurd cc
 ends_other past hands (Worker v) w t s how holds other e false same = hands.held w s e
 ends_other past hands _ w t s how holds other e b same = absurd cc
@@ -289,13 +294,13 @@ held_after past event (Stopped v false) w s hands meets one e = hands.held w s e
 held_after past event _ w s hands meets one e = hands.held w s e
 
 same_worker : (party : Party) (v w : ℕ) → is_worker v party ≡ true → is_worker w party ≡ true → v ≡ w
-same_worker (Worker u) v w one two = sym (same_is u v one) ∙ same_is u w two
+same_worker (Worker u) v w one two = sym (eqb-true u v one) ∙ eqb-true u w two
 same_worker _ v w one two = absurd cc
 
 -- the job that a hand takes is in no other hand
 not_held : (past : List Moment) (hands : Hands past) (w t s : ℕ) → t ≡ s → ((t == s) ≡ true → standing past s ≡ Some Queued) → hand past w ≡ Some s → ⊥
 not_held past hands w t s is meets e =
-    let self : (t == s) ≡ true = subst (λ (u : ℕ). (t == u) ≡ true) is (same_self t) in
+    let self : (t == s) ≡ true = subst (λ (u : ℕ). (t == u) ≡ true) is (eq-eqb t t refl) in
     let bad : true ≡ false = sym (ap is_running (hands.held w s e)) ∙ ap is_running (meets self) in
     cc
 
@@ -345,13 +350,7 @@ cancelled_is : (st : Option Standing) → Entered ≡ cancel_of st → st ≡ So
 cancelled_is (Some Parked) e = refl
 cancelled_is _ e = absurd cc
 
--- the job that an act takes
-abbrev taken_in : Act → Option ℕ
-taken_in (Took s) = Some s
-taken_in (TookDropped s) = Some s
-taken_in _ = None
-
-taken_if : (b : Bool) (n : ℕ) → taken_in (if b then TookDropped n else Took n) ≡ Some n
+taken_if : (b : Bool) (n : ℕ) → job_taken (if b then TookDropped n else Took n) ≡ Some n
 taken_if true n = refl
 taken_if false n = refl
 
@@ -360,7 +359,7 @@ record BeginsWith (s : ℕ) (ns : List ℕ) : Type 0 where
   rest : List ℕ
   is : ns ≡ s ∷ rest
 
-front_of : (past : List Moment) (s : ℕ) (ns : List ℕ) → Some s ≡ taken_in (take_from past ns) → BeginsWith s ns
+front_of : (past : List Moment) (s : ℕ) (ns : List ℕ) → Some s ≡ job_taken (take_from past ns) → BeginsWith s ns
 front_of past s [] e = absurd cc
 front_of past s (n ∷ ns) e =
     let both : Some s ≡ Some n = e ∙ taken_if (is_to_drop past n) n in
@@ -378,19 +377,19 @@ once_in : (st : Option Standing) (n : ℕ) → 1 + n ≡ one_if (is_queued st) �
 once_in (Some Queued) n e = omega (arith, e)
 once_in _ n e = absurd (omega (arith, e))
 
-front_is : (past : List Moment) (s : ℕ) → Sound past → Some s ≡ taken_in (take_answer past) → IsFront past s
+front_is : (past : List Moment) (s : ℕ) → Sound past → Some s ≡ job_taken (take_answer past) → IsFront past s
 front_is past s sound e =
     let front = front_of past s (queue past) e in
     let count : 1 + times s front.rest ≡ one_if (is_queued (standing past s)) =
-    ap (λ (b : Bool). one_if b + times s front.rest) (sym (same_self s)) ∙ sym (times_more s s front.rest) ∙ ap (times s) (sym front.is) ∙ sound.queued s in
+    ap (λ (b : Bool). one_if b + times s front.rest) (sym (eq-eqb s s refl)) ∙ sym (times_more s s front.rest) ∙ ap (times s) (sym front.is) ∙ sound.queued s in
     record { rest = front.rest; is = front.is; stands = queued_is (standing past s) (times s front.rest) count; once = once_in (standing past s) (times s front.rest) count }
 
 stands_at : (past : List Moment) (st : Option Standing) (t s : ℕ) → (t == s) ≡ true → standing past t ≡ st → standing past s ≡ st
-stands_at past st t s same e = subst (λ (u : ℕ). standing past u ≡ st) (same_is t s same) e
+stands_at past st t s same e = subst (λ (u : ℕ). standing past u ≡ st) (eqb-true t s same) e
 
 new_is : (past : List Moment) (t s : ℕ) → Sound past → t ≡ 1 + length (accepted_jobs past) → (t == s) ≡ true → standing past s ≡ None
 new_is past t s sound next same =
-    let is = same_is t s same in
+    let is = eqb-true t s same in
     unknown_is (standing past s) (sym (sound.accepted s) ∙ sound.beyond s (omega (arith, is, next)))
 
 in_hand : (past : List Moment) (party : Party) (t : ℕ) → Sound past → hand_of past party ≡ Some t → standing past t ≡ Some Running
@@ -414,8 +413,8 @@ meets : (setting : ℕ) (past : List Moment) (now : Moment) (act : Act) (s : ℕ
 meets setting past now (Accepted t) s sound answers one = new_is past t s sound answers.0
 meets setting past now (JobWoken t Entered) s sound answers one = λ same. stands_at past (Some Parked) t s same (woken_is (standing past t) answers)
 meets setting past now (JobCancelled t Entered) s sound answers one = λ same. stands_at past (Some Parked) t s same (cancelled_is (standing past t) answers)
-meets setting past now (Took t) s sound answers one = λ same. stands_at past (Some Queued) t s same (front_is past t sound (ap taken_in answers)).stands
-meets setting past now (TookDropped t) s sound answers one = λ same. stands_at past (Some Queued) t s same (front_is past t sound (ap taken_in answers)).stands
+meets setting past now (Took t) s sound answers one = λ same. stands_at past (Some Queued) t s same (front_is past t sound (ap job_taken answers)).stands
+meets setting past now (TookDropped t) s sound answers one = λ same. stands_at past (Some Queued) t s same (front_is past t sound (ap job_taken answers)).stands
 meets setting past now (Ended t how) s sound answers one = (
   λ same. stands_at past (Some Running) t s same (in_hand past now.event.party t sound one),
   ap (λ (a : Act). is_running (ended_how a)) answers ∙ never_running (turn past t) (is_to_drop past t) (is_woken past t) t,
@@ -432,31 +431,26 @@ rest_none : (b : Bool) (m : ℕ) → one_if b + m ≡ 0 → m ≡ 0
 rest_none true m e = omega (arith, e)
 rest_none false m e = omega (arith, e)
 
--- without a number that isn't there a list is what it was
-all_left : (t : ℕ) (ns : List ℕ) → times t ns ≡ 0 → without (t ∷ []) ns ≡ ns
-all_left t [] none = refl
-all_left t (n ∷ ns) none =
+-- a number that stands nowhere in a list isn't in it
+not_in : (t : ℕ) (ns : List ℕ) → times t ns ≡ 0 → is_in t ns ≡ false
+not_in t [] none = refl
+not_in t (n ∷ ns) none =
     let count : one_if (n == t) + times t ns ≡ 0 = sym (times_more t n ns) ∙ none in
-    ap (λ (b : Bool). cond (not (b || false)) (n ∷ without (t ∷ []) ns) (without (t ∷ []) ns)) (differs (n == t) n t (times t ns) refl count)
-    ∙ ap (λ (ms : List ℕ). n ∷ ms) (all_left t ns (rest_none (n == t) (times t ns) count))
+    or_from (t == n) (is_in t ns) (differs (n == t) n t (times t ns) refl count) (not_in t ns (rest_none (n == t) (times t ns) count))
 
-rest_left : (t : ℕ) (ns : List ℕ) → times t ns ≡ 0 → without (t ∷ []) (t ∷ ns) ≡ ns
-rest_left t ns none =
-    ap (λ (b : Bool). cond (not (b || false)) (t ∷ without (t ∷ []) ns) (without (t ∷ []) ns)) (same_self t) ∙ all_left t ns none
-
-took_front : (past : List Moment) (t : ℕ) → IsFront past t → entries past ≡ takes past ++ queue past → entries past ≡ (takes past ++ t ∷ []) ++ without (t ∷ []) (queue past)
+took_front : (past : List Moment) (t : ℕ) → IsFront past t → entries past ≡ takes past ++ queue past → entries past ≡ (takes past ++ t ∷ []) ++ without t (queue past)
 took_front past t front e =
     e ∙ ap (λ (ns : List ℕ). takes past ++ ns) front.is ∙ sym (append_assoc (takes past) (t ∷ []) front.rest)
-    ∙ ap (λ (ns : List ℕ). (takes past ++ t ∷ []) ++ ns) (sym (ap (without (t ∷ [])) front.is ∙ rest_left t front.rest front.once))
+    ∙ ap (λ (ns : List ℕ). (takes past ++ t ∷ []) ++ ns) (sym (ap (without t) front.is ∙ without-first t front.rest (not_in t front.rest front.once)))
 
 enters_last : (before taken line new : List ℕ) → before ≡ taken ++ line → joined before new ≡ taken ++ joined line new
 enters_last before taken line [] e = e
 enters_last before taken line (n ∷ new) e = ap (λ (ns : List ℕ). ns ++ n ∷ new) e ∙ append_assoc taken line (n ∷ new)
 
 entered_after : (setting : ℕ) (past : List Moment) (now : Moment) (act : Act) → Sound past → PoolAnswers setting past now act
-    → joined (entries past) (entered_by past act) ≡ joined (takes past) (taken_by act) ++ joined (without (taken_by act) (queue past)) (entered_by past act)
-entered_after setting past now (Took t) sound answers = took_front past t (front_is past t sound (ap taken_in answers)) sound.entered
-entered_after setting past now (TookDropped t) sound answers = took_front past t (front_is past t sound (ap taken_in answers)) sound.entered
+    → joined (entries past) (entered_by past act) ≡ joined (takes past) (taken_by act) ++ joined (without_all (taken_by act) (queue past)) (entered_by past act)
+entered_after setting past now (Took t) sound answers = took_front past t (front_is past t sound (ap job_taken answers)) sound.entered
+entered_after setting past now (TookDropped t) sound answers = took_front past t (front_is past t sound (ap job_taken answers)) sound.entered
 entered_after setting past now act sound answers = enters_last (entries past) (takes past) (queue past) (entered_by past act) sound.entered
 
 -- ---- each moment

@@ -41,6 +41,11 @@ abbrev pub must_stop : ℕ → List Moment → Moment → Bool → Bool
 must_stop setting past now late =
     nat_lt (limit setting (now ∷ past)) (workers past + now.event.started) || late && length (queue (now ∷ past)) == 0
 
+-- what is seen of a wait, by whether the worker stops
+abbrev pub wait_act : ℕ → Bool → Bool → Act
+wait_act w late true = Stopped w late
+wait_act w late false = Stays w late
+
 -- What the pool answers, act by act. A wake and a cancel do what the job's standing says; a sweep tells how many jobs it put
 -- back; workers are numbered in the order of their arrival; a new job's serial is one more than the number of jobs that
 -- were accepted, and the greatest number is no serial: where it would be next, a job is refused for that alone.

@@ -2,7 +2,7 @@
 use Rattle.std.specs.Prelude.{◌≡◌, ℕ, ◌==◌, ◌&&◌, if◌then◌else◌, Bool, List, [], ◌∷◌, length, filter}
 use Rattle.blocking_core.specs.declared.pool.answer.Woke.TheVariants.{Entered}
 use Rattle.blocking_core.specs.declared.pool.standing.Standing.TheVariants.{Queued}
-use Rattle.blocking_laws.specs.Seen.{IsBeginning, without, joined}
+use Rattle.blocking_laws.specs.Seen.{IsBeginning, without_all, joined}
 use Rattle.blocking_laws.specs.Jobs.{accepted_jobs, standing, is_parked, is_marked, sweeps}
 use Rattle.blocking_laws.specs.declared.event.Act.{Act}
 use Rattle.blocking_laws.specs.declared.event.Act.TheVariants.{Accepted, JobWoken, JobCancelled, Took, TookDropped, Ended}
@@ -40,7 +40,7 @@ takes (now ∷ past) = joined (takes past) (taken_by now.event.act)
 -- the queue: the entries that no take has removed, in order
 abbrev pub queue : List Moment → List ℕ
 queue [] = []
-queue (now ∷ past) = joined (without (taken_by now.event.act) (queue past)) (entered_by past now.event.act)
+queue (now ∷ past) = joined (without_all (taken_by now.event.act) (queue past)) (entered_by past now.event.act)
 
 -- the queued jobs that may run, in order: all of them
 abbrev pub ready : List Moment → List ℕ
@@ -54,7 +54,7 @@ ended_by _ = []
 -- the running jobs: those that were taken and whose turn has not ended
 abbrev pub running : List Moment → List ℕ
 running [] = []
-running (now ∷ past) = joined (without (ended_by now.event.act) (running past)) (taken_by now.event.act)
+running (now ∷ past) = joined (without_all (ended_by now.event.act) (running past)) (taken_by now.event.act)
 
 -- Jobs are taken in the order in which they entered.
 abbrev pub InOrder : List Moment → Type 0

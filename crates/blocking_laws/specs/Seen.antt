@@ -1,5 +1,6 @@
 -- What was seen. A past is the list of the moments so far, the newest first: a beginning of the trace is a tail of it.
 use Rattle.std.specs.Prelude.{◌≡◌, ℕ, ◌==◌, ◌&&◌, ◌||◌, not, Bool, true, false, List, [], ◌∷◌, ◌++◌, map, filter, Option, Some, None}
+use Rattle.blocking_core.specs.Lists.{without}
 use Rattle.blocking_laws.specs.declared.event.Act.{Act}
 use Rattle.blocking_laws.specs.declared.event.Act.TheVariants.{Took, TookDropped, Ended, HandedOut, NoAction}
 use Rattle.blocking_laws.specs.declared.event.Event.{Event}
@@ -25,15 +26,10 @@ IsBeginning xs ys = (rest : List ℕ) × (ys ≡ xs ++ rest)
 abbrev pub events : List Moment → List Event
 events past = map (λ now. now.event) past
 
--- whether the number stands in the list
-abbrev pub among : List ℕ → ℕ → Bool
-among [] n = false
-among (m ∷ ms) n = m == n || among ms n
-
 -- the list without these numbers
-abbrev pub without : List ℕ → List ℕ → List ℕ
-without [] ns = ns
-without (g ∷ gone) ns = filter (λ n. not (among (g ∷ gone) n)) ns
+abbrev pub without_all : List ℕ → List ℕ → List ℕ
+without_all [] ns = ns
+without_all (n ∷ gone) ns = without_all gone (without n ns)
 
 -- the list with these numbers at its end
 abbrev pub joined : List ℕ → List ℕ → List ℕ

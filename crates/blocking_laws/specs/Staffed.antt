@@ -1,18 +1,15 @@
 -- Where the workers are: each is idle with a pass, or has a job in its turn, or was started and hasn't arrived.
-use Rattle.std.specs.Prelude.{◌≡◌, ℕ, zero, suc, ◌+◌, ◌-◌, Bool, true, false, List, is_some}
+use Rattle.std.specs.Prelude.{◌≡◌, ℕ, zero, suc, ◌+◌, ◌-◌, Bool, List, is_some}
+use Rattle.blocking_core.specs.Jobs.{one_if}
 use Rattle.blocking_laws.specs.Counts.{starts, arrivals, workers, idle}
 use Rattle.blocking_laws.specs.Steps.{is_free}
 use Rattle.blocking_laws.specs.Turns.{hand}
 use Rattle.blocking_laws.specs.declared.event.Moment.{Moment}
 
-abbrev pub one_where : Bool → ℕ
-one_where true = 1
-one_where false = 0
-
 -- how many of the workers from 1 to this number pass a test
 abbrev pub count_to : (ℕ → Bool) → ℕ → ℕ
 count_to test zero = 0
-count_to test (suc n) = count_to test n + one_where (test (n + 1))
+count_to test (suc n) = count_to test n + one_if (test (n + 1))
 
 -- how many workers hold a pass: those that are there and have no job in hand
 abbrev pub passes : List Moment → ℕ

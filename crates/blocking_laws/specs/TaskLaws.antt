@@ -1,6 +1,7 @@
 -- The laws of one task and of the job of its call, over the cut of that task alone.
 use Rattle.std.specs.Prelude.{◌≡◌, ℕ, Bool, true, false, ◌||◌, not, List, [], ◌∷◌}
 use Rattle.blocking_laws.specs.Seen.{EachMayFollow, own, acts_of, is_some_worker}
+use Rattle.blocking_laws.specs.Jobs.{lets_go}
 use Rattle.blocking_laws.specs.JobTable.{Calling, JobAction, AskCall, Finish, WakeHolder, IsAnswerTo, action_after, next_of_job, is_over, number, has_finished, has_given_up}
 use Rattle.blocking_laws.specs.Places.{poll_task}
 use Rattle.blocking_laws.specs.Seats.{task_seat}
@@ -27,16 +28,10 @@ abbrev pub is_gone : List Act → Bool
 is_gone [] = false
 is_gone (act ∷ past) = is_gone_by act || is_gone past
 
--- whether the task let its call go by this act
-abbrev pub is_let_go_by : Act → Bool
-is_let_go_by TaskCancelled = true
-is_let_go_by HolderDropped = true
-is_let_go_by _ = false
-
 -- whether the task let its call go: it was cancelled or dropped
 abbrev pub is_let_go : List Act → Bool
 is_let_go [] = false
-is_let_go (act ∷ past) = is_let_go_by act || is_let_go past
+is_let_go (act ∷ past) = lets_go act || is_let_go past
 
 -- whether the call finished in time, after an act
 abbrev pub in_time_by : Act → Bool → Bool → Bool

@@ -1,6 +1,7 @@
 -- Turns: which worker has which job in hand, and what the job may do there.
 use Rattle.std.specs.Prelude.{◌≡◌, ℕ, ◌==◌, ◌&&◌, not, if◌then◌else◌, Bool, true, false, List, [], ◌∷◌, Option, Some, None}
-use Rattle.blocking_laws.specs.Seen.{among, is_worker, is_of_job, is_of_pool}
+use Rattle.blocking_core.specs.Lists.{is_in}
+use Rattle.blocking_laws.specs.Seen.{is_worker, is_of_job, is_of_pool}
 use Rattle.blocking_laws.specs.Queue.{running}
 use Rattle.blocking_laws.specs.declared.event.Act.{Act}
 use Rattle.blocking_laws.specs.declared.event.Act.TheVariants.{Took, TookDropped, Ended, HandedOut, JobParked, GaveUp, HolderWoken}
@@ -50,8 +51,8 @@ hand_of past _ = None
 -- One worker at a time runs a job, and a worker one job: a take finds the worker's hand empty and the job not running, and
 -- the end of a turn finds the job in that hand.
 abbrev pub HoldsOne : List Moment → Event → Act → Type 0
-HoldsOne past now (Took s) = (hand_of past now.party ≡ None) × (among (running past) s ≡ false)
-HoldsOne past now (TookDropped s) = (hand_of past now.party ≡ None) × (among (running past) s ≡ false)
+HoldsOne past now (Took s) = (hand_of past now.party ≡ None) × (is_in s (running past) ≡ false)
+HoldsOne past now (TookDropped s) = (hand_of past now.party ≡ None) × (is_in s (running past) ≡ false)
 HoldsOne past now (Ended s how) = hand_of past now.party ≡ Some s
 HoldsOne past now (HandedOut s) = hand_of past now.party ≡ Some s
 HoldsOne past now act = Unit {0}

@@ -18,10 +18,10 @@ use Rattle.blocking_laws.specs.Queue.{queue, to_sweep}
 use Rattle.blocking_laws.specs.Counts.{starts, arrivals, workers, limit}
 use Rattle.blocking_laws.specs.Growth.{IsMarked}
 use Rattle.blocking_laws.specs.Turns.{Turn, turn}
-use Rattle.blocking_laws.specs.Answers.{PoolAnswers, AnswerLaw, take_answer, take_from, end_of}
+use Rattle.blocking_laws.specs.Answers.{PoolAnswers, AnswerLaw, take_answer, take_from, end_of, wait_act}
 use Rattle.blocking_world.specs.Worlds.{Worlded, CallPool, outcome_of, owner_at}
 use Rattle.blocking_world.specs.Crews.{AddsTo, TakesFront, no_growth}
-use Rattle.blocking_world.specs.Machine.{added_act, next_start, wait_act, was_accepted}
+use Rattle.blocking_world.specs.Machine.{added_act, next_start, was_accepted}
 use Rattle.blocking_world.specs.Moves.{Move, Begins, Calls, Arrives, TakesJob, TakesNone, EndsTurn, HasWaited, Sweeps, IsWoken, IsStruck, May, moment_of, step_of, took}
 use Rattle.blocking_world.specs.Ties.{Tied, Numbered, FiledAs, ValueAs, Counted, turn_of}
 use Rattle.blocking_world.specs.declared.call.CallJob.{CallJob}

@@ -1,9 +1,9 @@
 -- What is known of the hands while a world ends is kept, as first every turn ends and then the workers are let go.
-use Rattle.std.proofs.Common.{◌≡◌, ◌≢◌, ℕ, zero, suc, ◌+◌, ◌<◌, ◌≤◌, true, List, [], ◌∷◌, ◌++◌, length, slice_get, slice_index_or, slice_set, Option, Some, ap, sym, ◌∙◌, subst, refl, inl, inr, arith}
-use Rattle.std.proofs.lemmas.Bool.{cases_eq}
+use Rattle.std.proofs.Common.{◌≡◌, ◌≢◌, ℕ, zero, suc, ◌+◌, ◌<◌, ◌≤◌, true, List, [], ◌∷◌, ◌++◌, length, slice_get, slice_index_or, slice_set, Some, ap, sym, ◌∙◌, subst, refl, inl, inr, arith}
+use Rattle.std.proofs.lemmas.Bool.{cases_eq, ne_eqb}
 use Rattle.std.proofs.lemmas.Option.{slice_get_within}
-use Rattle.std.specs.FinMap.{get, remove}
-use Rattle.blocking_core.specs.Jobs.{Job, Jobs, JobNumber, if_at, is_running_job, is_running_as, is_parked_job}
+use Rattle.std.specs.FinMap.{remove}
+use Rattle.blocking_core.specs.Jobs.{Jobs, JobNumber, is_running_as}
 use Rattle.blocking_core.specs.Pools.{without_job}
 use Rattle.blocking_core.specs.declared.pool.token.WorkerPass.{WorkerPass}
 use Rattle.blocking_world.specs.Closing.{RunsIn, EndsTurn, AreLeft, AreIdle}
@@ -14,15 +14,11 @@ use Rattle.blocking_world.specs.declared.call.CallJob.{CallJob}
 use Rattle.blocking_world.specs.declared.hand.Hand.{Hand}
 use Rattle.blocking_world.specs.declared.hand.Hand.TheVariants.{Out, Free, Holds}
 use Rattle.blocking_world.specs.declared.hand.Held.{Held}
-use Rattle.blocking_world.proofs.Dismissals.{at_remove_same, at_remove_other}
-use Rattle.blocking_world.proofs.Hands.{free_set}
-use Rattle.blocking_world.proofs.Rows.{got_same, got_other}
+use Rattle.blocking_world.proofs.Alike.{remove_unparked, remove_runs}
+use Rattle.blocking_world.proofs.Hands.{free_set, free_pushed}
+use Rattle.blocking_world.proofs.Rows.{got_same, got_other, set_same}
 
 -- ---- the last of the hands
-
-free_with_last : (row : List Hand) (hand : Hand) → free_hands (row ++ hand ∷ []) ≡ free_hands row + one_if_free hand
-free_with_last [] hand = omega arith
-free_with_last (one ∷ row) hand = let rest = free_with_last row hand in omega (arith, rest)
 
 early_at : (row more : List Hand) (n : ℕ) (hand : Hand) → slice_get row n ≡ Some hand → slice_get (row ++ more) n ≡ Some hand
 early_at [] more n hand found = absurd cc
@@ -41,25 +37,16 @@ module _ (old new : CallPool) (serial : ℕ) (ended : new ≡ without_job old se
 
   -- none is parked after a job has ended
   pub still_none_parked : NoneParked old.jobs → NoneParked new.jobs
-  still_none_parked none other =
-      elim (cases_eq other serial) [
-        | inl same ↦ ap (λ (s : ℕ). is_parked_job (get new.jobs s)) same ∙ ap (λ (jobs : Jobs CallJob). is_parked_job (get jobs serial)) jobs_left ∙ ap is_parked_job (at_remove_same old.jobs serial)
-        | inr differs ↦ ap (λ (jobs : Jobs CallJob). is_parked_job (get jobs other)) jobs_left ∙ ap is_parked_job (at_remove_other old.jobs serial other differs) ∙ none other
-      ]
+  still_none_parked none = subst NoneParked (sym jobs_left) (remove_unparked old.jobs serial none)
 
   -- what ran beside the job that has ended still runs
   pub others_run : (number : JobNumber) → number.serial ≢ serial → is_running_as old.jobs number ≡ true → is_running_as new.jobs number ≡ true
   others_run number differs runs =
       ap (λ (jobs : Jobs CallJob). is_running_as jobs number) jobs_left
-      ∙ ap (λ (o : Option (Job CallJob)). is_running_job (if_at number.place o)) (at_remove_other old.jobs serial number.serial differs)
+      ∙ remove_runs old.jobs serial number (ne_eqb serial number.serial (λ same. differs (sym same)))
       ∙ runs
 
 -- ---- one turn
-
-same_set : (row : List Hand) (n : ℕ) (hand : Hand) → slice_get row n ≡ Some hand → slice_set row n hand ≡ row
-same_set [] n hand found = refl
-same_set (one ∷ row) zero hand found = (let same : one ≡ hand = cc in ap (λ (h : Hand). h ∷ row) (sym same))
-same_set (one ∷ row) (suc n) hand found = ap (λ (rest : List Hand). one ∷ rest) (same_set row n hand found)
 
 pub got_index : (row : List Hand) (n : ℕ) (other : Hand) → n < length row → slice_get row n ≡ Some (slice_index_or row n other)
 got_index [] n other within = absurd (omega (arith, within))
@@ -116,10 +103,10 @@ module _ (pool new : CallPool) (row : List Hand) (place : ℕ) (held : Held) (pa
 pub still_left : (pool new : CallPool) (row : List Hand) (place : ℕ) (hand after : Hand) → AreLeft pool row → slice_get row place ≡ Some hand → EndsTurn hand pool after new
     → AreLeft new (slice_set row place after)
 still_left pool new row place Out after left found ends =
-    let same : slice_set row place after ≡ row = ap (slice_set row place) ends.0 ∙ same_set row place Out found in
+    let same : slice_set row place after ≡ row = ap (slice_set row place) ends.0 ∙ set_same row place Out found in
     rw same (subst (λ (p : CallPool). AreLeft p row) (sym ends.1) left)
 still_left pool new row place (Free pass) after left found ends =
-    let same : slice_set row place after ≡ row = ap (slice_set row place) ends.0 ∙ same_set row place (Free pass) found in
+    let same : slice_set row place after ≡ row = ap (slice_set row place) ends.0 ∙ set_same row place (Free pass) found in
     rw same (subst (λ (p : CallPool). AreLeft p row) (sym ends.1) left)
 still_left pool new row place (Holds held) after left found ends =
     rw ends.1 (ended_left pool new row place held ends.0 left found ends.2)
@@ -158,7 +145,7 @@ module _ (pool : CallPool) (hands row : List Hand) (hand : Hand) (popped : hands
 
   -- a free hand is that of an idle worker
   pub last_free : pool.counts.arriving + one_if_free hand ≤ pool.counts.idle
-  last_free = let level = whole.idle in let more = free_with_last row hand in omega (arith, level, more)
+  last_free = let level = whole.idle in let more = free_pushed row hand in omega (arith, level, more)
 
   -- the other hands, after the last worker was let go
   pub rest_idle : (new : CallPool) → NoneParked new.jobs
@@ -166,6 +153,6 @@ module _ (pool : CallPool) (hands row : List Hand) (hand : Hand) (popped : hands
       → AreIdle new row
   rest_idle new parked level = record {
     parked = parked;
-    idle = level (free_hands row) (let now = whole.idle in let more = free_with_last row hand in omega (arith, now, more));
+    idle = level (free_hands row) (let now = whole.idle in let more = free_pushed row hand in omega (arith, now, more));
     jobless = λ n held found. whole.jobless n held (early_at row (hand ∷ []) n (Holds held) found);
   }

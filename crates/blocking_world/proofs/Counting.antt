@@ -6,28 +6,31 @@ use Rattle.std.proofs.lemmas.Bool.Decides.{nat_tests}
 use Rattle.blocking_core.specs.Counts.{Counts, limit_of, busier}
 use Rattle.blocking_core.specs.Growth.{greatest, Growth, IsGrowth, StartAnswer, grown, limit_after, number_after}
 use Rattle.blocking_core.specs.Jobs.{JobNumber}
+use Rattle.blocking_core.specs.Lists.{is_in, IsOnce}
 use Rattle.blocking_core.specs.PoolAnswers.{must_stop, is_empty}
 use Rattle.blocking_core.specs.declared.pool.answer.Refusal.{Refusal}
 use Rattle.blocking_core.specs.declared.pool.answer.Refusal.TheVariants.{Memory, NoWorker, Numbers}
 use Rattle.blocking_core.specs.declared.pool.standing.Standing.{Standing}
 use Rattle.blocking_core.specs.declared.pool.standing.Standing.TheVariants.{Queued, Running}
 use Rattle.blocking_core.specs.declared.pool.token.WorkerPass.{WorkerPass}
-use Rattle.blocking_laws.specs.Seen.{among}
-use Rattle.blocking_laws.specs.Jobs.{standing}
+use Rattle.blocking_core.proofs.Lists.{IsOnce-push, IsOnce-without}
+use Rattle.blocking_laws.specs.Jobs.{is_queued, is_running, standing}
 use Rattle.blocking_laws.specs.Queue.{queue, running}
 use Rattle.blocking_laws.specs.Counts.{added, starts, refused_starts, arrivals, stops, workers, limit}
 use Rattle.blocking_laws.specs.Growth.{IsMarked, known_limit, has_limit}
+use Rattle.blocking_world.proofs.Entries.{comes_in}
 use Rattle.blocking_world.proofs.Growing.{numbers_last}
 use Rattle.blocking_world.proofs.Hands.{at_free, free_set}
 use Rattle.blocking_world.proofs.Lookups.{JobsAlone, called_alone, wake_alone, cancel_alone}
 use Rattle.blocking_world.proofs.Quiet.{seen_at, JobsStay, CountsStay, may_grow, jobs_stay, ungrown, counts_stay, moves_job, moves_count, jobs_stay_at, counts_stay_at}
-use Rattle.blocking_world.proofs.Rows.{among_end, once_end, front_among, one_out, once_without, among_without}
+use Rattle.blocking_world.proofs.Rows.{in_end, front_in, one_out, in_without}
 use Rattle.blocking_world.proofs.Tied.{fresh, held_runs}
 use Rattle.blocking_world.specs.Crews.{no_growth, GrowsBy}
 use Rattle.blocking_world.specs.Worlds.{Worlded, CallPool, hand_at, outcome_of, owner_at}
-use Rattle.blocking_world.specs.Machine.{wait_act, after_wait}
+use Rattle.blocking_laws.specs.Answers.{wait_act}
+use Rattle.blocking_world.specs.Machine.{after_wait}
 use Rattle.blocking_world.specs.Moves.{Move, Begins, Calls, Arrives, TakesJob, TakesNone, IsAnswered, Finishes, GivesUp, CallsWaker, EndsTurn, HasWaited, SetsLimit, IsWoken, IsStruck, May, moment_of, after, wakes_as, cancels_as}
-use Rattle.blocking_world.specs.Ties.{is_queued_as, Filed, IsOnce, is_running_as, Counted, Handed, Tied}
+use Rattle.blocking_world.specs.Ties.{Filed, Counted, Handed, Tied}
 use Rattle.blocking_world.specs.declared.call.CallJob.{CallJob}
 use Rattle.blocking_laws.specs.declared.event.Act.TheVariants.{Refused, Stays, Stopped}
 use Rattle.blocking_laws.specs.declared.event.Moment.{Moment}
@@ -102,7 +105,7 @@ still_counted setting w w' past now counts line hands jobs s c =
       positive = subst (λ n. 0 < n) (sym s.most) c.positive;
       next_is = ap (λ (k : Counts). k.next_worker) counts ∙ c.next_is ∙ ap₂ (λ a b. min (1 + a + b) greatest) (sym s.started) (sym s.refusals);
       once = subst IsOnce (sym jobs.busy) c.once;
-      each = λ n. ap (λ ns. among ns n) jobs.busy ∙ c.each n ∙ ap is_running_as (sym (jobs.stands n));
+      each = λ n. ap (is_in n) jobs.busy ∙ c.each n ∙ ap is_running (sym (jobs.stands n));
       served = λ e. line ∙ c.served (sym cw ∙ e);
     }
 
@@ -168,7 +171,7 @@ AreGrown old growth new = record new { bell = (grown old growth).bell } ≡ grow
 grown_counted : (setting : ℕ) (marks : List Bool) (w w' : Worlded) (past later : List Moment) (ready free : ℕ) (growth : Growth) → Counted setting w past
     → GrowsBy (IsMarked marks) ready (record w.pool.counts { idle = free }) growth → AreGrown (record w.pool.counts { idle = free }) growth w'.pool.counts → length w'.hands ≡ length w.hands
     → GrewIn setting past later growth → w.pool.counts.workers ≡ free + length (running later) → IsOnce (running later)
-    → ((s : ℕ) → among (running later) s ≡ is_running_as (standing later s)) → (w.pool.counts.workers + growth.started ≡ 0 → w'.pool.queue ≡ []) → Counted setting w' later
+    → ((s : ℕ) → is_in s (running later) ≡ is_running (standing later s)) → (w.pool.counts.workers + growth.started ≡ 0 → w'.pool.queue ≡ []) → Counted setting w' later
 grown_counted setting marks w w' past later ready free growth c starting counts hands grew idle once each served =
     let g = growth.started in
     let more = added_is (starts past) g in
@@ -196,7 +199,7 @@ grown_counted setting marks w w' past later ready free growth c starting counts 
 -- ---- a new job
 
 -- a job that enters or is taken runs or doesn't, by whether it is this one
-entered_each : (b r : Bool) (st : Option Standing) → r ≡ is_running_as st → (b ≡ true → r ≡ false) → r ≡ is_running_as (if b then Some Queued else st)
+entered_each : (b r : Bool) (st : Option Standing) → r ≡ is_running st → (b ≡ true → r ≡ false) → r ≡ is_running (if b then Some Queued else st)
 entered_each true r st e out = out refl
 entered_each false r st e out = e
 
@@ -212,8 +215,8 @@ begins_counted setting marks w past (Ok number) growth pool t m =
     let staffed = m.staffed in
     grown_counted setting marks w (after w (Begins (Ok number) growth pool)) past _ (length w.pool.queue + 1) w.pool.counts.idle growth t.counted m.starts (ap (λ (p : CallPool). record p.counts { bell = (grown w.pool.counts growth).bell }) m.after_is) refl
     (record { began = refl; gone = refl; came = refl; refusals = refused_more growth.refused _ _; most = refl; told = refl }) t.counted.idle_are t.counted.once
-    (λ s. entered_each (number.serial == s) (among (running past) s) (standing past s) (t.counted.each s)
-    (λ same. t.counted.each s ∙ ap (λ n. is_running_as (standing past n)) (sym (eqb-true number.serial s same) ∙ m.serial) ∙ ap is_running_as (fresh w past t.numbered)))
+    (λ s. entered_each (number.serial == s) (is_in s (running past)) (standing past s) (t.counted.each s)
+    (λ same. t.counted.each s ∙ ap (λ n. is_running (standing past n)) (sym (eqb-true number.serial s same) ∙ m.serial) ∙ ap is_running (fresh w past t.numbered)))
     (λ none. absurd (omega (arith, staffed, none)))
 begins_counted setting marks w past (Err NoWorker) growth pool t m =
     grown_counted setting marks w (after w (Begins (Err NoWorker) growth pool)) past _ (length w.pool.queue + 1) w.pool.counts.idle growth t.counted m.starts (ap (λ (p : CallPool). record p.counts { bell = (grown w.pool.counts growth).bell }) m.after_is) refl
@@ -231,19 +234,15 @@ idle_some w past v pass h e =
     let all = h.ready.idle in
     omega (arith, one, all)
 
-queued_idle : (o : Option Standing) → is_queued_as o ≡ true → is_running_as o ≡ false
+queued_idle : (o : Option Standing) → is_queued o ≡ true → is_running o ≡ false
 queued_idle (Some Running) e = absurd cc
 queued_idle _ e = refl
 
 -- the front of the queue isn't running
-pub front_idle : (setting : ℕ) (w : Worlded) (past : List Moment) (s : ℕ) (rest : List ℕ) → Tied setting w past → w.pool.queue ≡ s ∷ rest → among (running past) s ≡ false
+pub front_idle : (setting : ℕ) (w : Worlded) (past : List Moment) (s : ℕ) (rest : List ℕ) → Tied setting w past → w.pool.queue ≡ s ∷ rest → is_in s (running past) ≡ false
 front_idle setting w past s rest t front =
-    let there : among (queue past) s ≡ true = front_among (queue past) s rest (sym t.lined.same ∙ front) in
+    let there : is_in s (queue past) ≡ true = front_in (queue past) s rest (sym t.lined.same ∙ front) in
     t.counted.each s ∙ queued_idle (standing past s) (sym (t.lined.each s) ∙ there)
-
-runs_now : (b r : Bool) (st : Option Standing) → r ≡ is_running_as st → (b || r) ≡ is_running_as (if b then Some Running else st)
-runs_now true r st e = refl
-runs_now false r st e = e
 
 taken_counted : (setting : ℕ) (marks : List Bool) (w w' : Worlded) (past later : List Moment) (s : ℕ) (rest : List ℕ) (growth : Growth)
     → Tied setting w past → 0 < w.pool.counts.idle → w.pool.queue ≡ s ∷ rest → GrowsBy (IsMarked marks) (length rest) (busier w.pool.counts) growth
@@ -254,8 +253,8 @@ taken_counted setting marks w w' past later s rest growth t some front starting 
     let idle_are = c.idle_are in
     let longer : length (running later) ≡ length (running past) + 1 = ap length busy ∙ length-append (running past) (s ∷ []) in
     grown_counted setting marks w w' past later (length rest) (w.pool.counts.idle - 1) growth c starting counts hands grew (omega (arith, idle_are, longer, some))
-    (subst IsOnce (sym busy) (once_end (running past) s (front_idle setting w past s rest t front) c.once))
-    (λ n. ap (λ ns. among ns n) busy ∙ among_end (running past) s n ∙ runs_now (s == n) (among (running past) n) (standing past n) (c.each n) ∙ ap is_running_as (sym (stands n)))
+    (subst IsOnce (sym busy) (IsOnce-push (running past) s c.once (front_idle setting w past s rest t front)))
+    (λ n. ap (is_in n) busy ∙ in_end (running past) s n ∙ comes_in is_running (s == n) (is_in n (running past)) (standing past n) (Some Running) refl (c.each n) ∙ ap is_running (sym (stands n)))
     (λ none. absurd (omega (arith, none, idle_are, some)))
 
 takes_counted : (setting : ℕ) (marks : List Bool) (w : Worlded) (past : List Moment) (v : ℕ) (old : WorkerPass) (to_drop : Bool) (turn : JobNumber) (job : CallJob) (growth : Growth) (pool : CallPool)
@@ -273,14 +272,14 @@ takes_counted setting marks w past v old false turn job growth pool t m =
 -- ---- a turn ends
 
 -- the job in a hand is among those that run
-pub held_busy : (setting : ℕ) (w : Worlded) (past : List Moment) (v : ℕ) (held : Held) → Tied setting w past → hand_at w.hands v ≡ Holds held → among (running past) held.turn.serial ≡ true
-held_busy setting w past v held t e = t.counted.each held.turn.serial ∙ ap is_running_as (held_runs w past v held t.filed t.handed.ready e)
+pub held_busy : (setting : ℕ) (w : Worlded) (past : List Moment) (v : ℕ) (held : Held) → Tied setting w past → hand_at w.hands v ≡ Holds held → is_in held.turn.serial (running past) ≡ true
+held_busy setting w past v held t e = t.counted.each held.turn.serial ∙ ap is_running (held_runs w past v held t.filed t.handed.ready e)
 
-over_idle : (at : Stage) → is_running_as (Some (outcome_of at)) ≡ false
+over_idle : (at : Stage) → is_running (Some (outcome_of at)) ≡ false
 over_idle stage.Runs = refl
 over_idle _ = refl
 
-ended_runs : (b r : Bool) (st : Option Standing) (how : Standing) → is_running_as (Some how) ≡ false → r ≡ is_running_as st → (not b && r) ≡ is_running_as (if b then Some how else st)
+ended_runs : (b r : Bool) (st : Option Standing) (how : Standing) → is_running (Some how) ≡ false → r ≡ is_running st → (not b && r) ≡ is_running (if b then Some how else st)
 ended_runs true r st how over e = sym over
 ended_runs false r st how over e = e
 
@@ -303,8 +302,8 @@ ends_counted setting marks w past v held pass t m =
       known_is = c.known_is;
       positive = c.positive;
       next_is = c.next_is;
-      once = once_without s (running past) c.once;
-      each = λ n. among_without s (running past) n ∙ ended_runs (s == n) (among (running past) n) (standing past n) (outcome_of held.stage) (over_idle held.stage) (c.each n);
+      once = IsOnce-without s (running past) c.once;
+      each = λ n. in_without s (running past) n ∙ ended_runs (s == n) (is_in n (running past)) (standing past n) (outcome_of held.stage) (over_idle held.stage) (c.each n);
       served = c.served;
     }
 
@@ -339,7 +338,7 @@ stops_counted setting w past v pass late step who first t free must =
       positive = c.positive;
       next_is = c.next_is;
       once = c.once;
-      each = λ n. c.each n ∙ ap is_running_as (sym ((jobs_stay w past t.filed step who None (Stopped v late) first no_growth refl).stands n));
+      each = λ n. c.each n ∙ ap is_running (sym ((jobs_stay w past t.filed step who None (Stopped v late) first no_growth refl).stands n));
       served = λ none. queue_none (nat_lt (limit_of w.pool.counts) w.pool.counts.workers) late w.pool.queue must (one_left (limit_of w.pool.counts) (limit setting past) w.pool.counts.workers c.limit_is c.positive none);
     }
 

@@ -6,6 +6,7 @@ use Rattle.blocking_core.specs.declared.job.Action.{Action}
 use Rattle.blocking_core.specs.declared.job.Action.TheVariants as action
 use Rattle.blocking_core.specs.declared.pool.standing.Standing.{Standing}
 use Rattle.blocking_core.specs.declared.pool.standing.Standing.TheVariants.{Queued, Running, Parked, Done, Dropped}
+use Rattle.blocking_core.proofs.Standings.{running_is}
 use Rattle.blocking_world.specs.Crews.{marked}
 use Rattle.blocking_laws.specs.Seen.{joined}
 use Rattle.blocking_laws.specs.Jobs.{is_parked, ends_for_good}
@@ -41,11 +42,7 @@ filed_stands (Some entry) stand wake cancel mark ended acts filed there = ap is_
 -- a running job stands so
 pub filed_runs : (found : Option (Entry CallJob)) (stand : Option Standing) (wake cancel mark ended : Bool) (acts : List Act) → FiledAs found stand wake cancel mark ended acts → is_running_job found ≡ true → stand ≡ Some Running
 filed_runs None stand wake cancel mark ended acts filed runs = absurd cc
-filed_runs (Some entry) stand wake cancel mark ended acts filed runs = filed.0 ∙ ap Some (by entry.standing runs)
-  where
-    by : (standing : Standing) → is_running standing ≡ true → standing ≡ Running
-    by Running is = refl
-    by _ is = absurd cc
+filed_runs (Some entry) stand wake cancel mark ended acts filed runs = filed.0 ∙ ap Some (running_is entry.standing runs)
 
 -- ---- each kind of change; the Bool is whether it is this job
 
@@ -176,3 +173,8 @@ sweep_enters false swept ns none = refl
 pub stands_over : (b : Bool) (new : Standing) (stand : Option Standing) → (b ≡ true → is_some stand ≡ true) → is_some (if b then Some new else stand) ≡ is_some stand
 stands_over true new stand some = sym (some refl)
 stands_over false new stand some = refl
+
+-- a job that newly stands as a test asks comes to those that stood so
+pub comes_in : (test : Option Standing → Bool) (b was : Bool) (stand new : Option Standing) → test new ≡ true → was ≡ test stand → (b || was) ≡ test (if b then new else stand)
+comes_in test true was stand new is e = sym is
+comes_in test false was stand new is e = e

@@ -17,7 +17,8 @@ use Rattle.blocking_world.specs.Crews.{Accepts, TakesFront, no_growth, marked_in
 use Rattle.blocking_laws.specs.Growth.{IsMarked}
 use Rattle.blocking_laws.specs.Jobs.{tasks, holder, is_holder, standing, is_parked, is_woken, is_cancelled, is_marked, has_ended}
 use Rattle.blocking_laws.specs.JobTable.{has_finished, has_given_up}
-use Rattle.blocking_world.specs.Machine.{IsReady, seen, next_start, wait_act, after_wait}
+use Rattle.blocking_laws.specs.Answers.{wait_act}
+use Rattle.blocking_world.specs.Machine.{IsReady, seen, next_start, after_wait}
 use Rattle.blocking_world.specs.Moves.{Move, Begins, Calls, TakesJob, IsAnswered, Finishes, GivesUp, CallsWaker, EndsTurn, HasWaited, Sweeps, IsWoken, IsStruck, May, after, moment_of, event_of, wait_step, took, wakes_as, cancels_as}
 use Rattle.blocking_laws.specs.Seen.{events, acts_of, is_of_job}
 use Rattle.blocking_world.specs.Ties.{Tied, Numbered, Filed, FiledAs, holder_of}

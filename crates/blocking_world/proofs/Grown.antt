@@ -8,7 +8,7 @@ use Rattle.blocking_core.specs.PoolAnswers.{must_stop}
 use Rattle.blocking_core.specs.declared.pool.answer.Refusal.{Refusal}
 use Rattle.blocking_core.specs.declared.pool.answer.Refusal.TheVariants.{Memory, NoWorker, Numbers}
 use Rattle.blocking_core.specs.declared.pool.token.WorkerPass.{WorkerPass}
-use Rattle.blocking_laws.specs.Seen.{without}
+use Rattle.blocking_core.specs.Lists.{without}
 use Rattle.blocking_laws.specs.Queue.{queue, running}
 use Rattle.blocking_laws.specs.Counts.{starts, refused_starts, workers, idle, limit}
 use Rattle.blocking_laws.specs.Growth.{IsMarked, StartsRightly, GrowthLaw}
@@ -27,7 +27,7 @@ use Rattle.blocking_world.proofs.Counting.{workers_now, idle_some}
 use Rattle.blocking_world.proofs.Lookups.{by_unentered}
 use Rattle.blocking_world.proofs.Polls.{by_call}
 use Rattle.blocking_world.proofs.Quiet.{by_wait, seen_at, may_grow, ungrown}
-use Rattle.blocking_world.proofs.Rows.{one_out, front_among}
+use Rattle.blocking_world.proofs.Rows.{one_out, front_in}
 use Rattle.blocking_world.proofs.Tied.{never_woken, never_struck}
 
 -- ---- no growth
@@ -102,14 +102,14 @@ begin_law setting marks w past (Err Numbers) growth pool t m =
 -- the numbers by which the pool grows at a take
 take_growth : (setting : ℕ) (marks : List Bool) (w : Worlded) (past : List Moment) (s : ℕ) (rest : List ℕ) (growth : Growth) → Tied setting w past → 0 < w.pool.counts.idle → w.pool.queue ≡ s ∷ rest
     → GrowsBy (IsMarked marks) (length rest) (busier w.pool.counts) growth
-    → IsGrowth (StartAnswer (IsMarked marks)) (length (without (s ∷ []) (queue past)) + 0) (workers past - length (running past ++ s ∷ [])) (workers past) (limit setting past)
+    → IsGrowth (StartAnswer (IsMarked marks)) (length (without s (queue past)) + 0) (workers past - length (running past ++ s ∷ [])) (workers past) (limit setting past)
     w.pool.counts.next_worker growth
 take_growth setting marks w past s rest growth t some front starting =
     let c = t.counted in
     let all = workers_now setting w past c in
     let line : queue past ≡ s ∷ rest = sym t.lined.same ∙ front in
     let long : length (queue past) ≡ length rest + 1 = ap length line ∙ omega arith in
-    let fewer = one_out s (queue past) t.lined.once (front_among (queue past) s rest line) in
+    let fewer = one_out s (queue past) t.lined.once (front_in (queue past) s rest line) in
     let longer = length-append (running past) (s ∷ []) in
     let idle_are = c.idle_are in
     same_growth marks _ _ _ _ _ _ _ _ _ growth (omega (arith, long, fewer)) (omega (arith, all, longer, idle_are)) all c.limit_is starting

@@ -8,6 +8,7 @@ use Rattle.std.proofs.lemmas.List.{length-set}
 use Rattle.std.proofs.lemmas.Option.{slice_get_within}
 use Rattle.blocking_core.specs.Growth.{Growth}
 use Rattle.blocking_core.specs.Jobs.{Job, Jobs, JobNumber, is_running, is_running_job, running, if_at, is_running_as, new_job}
+use Rattle.blocking_core.specs.Lists.{is_in}
 use Rattle.blocking_core.specs.PoolAnswers.{must_stop}
 use Rattle.blocking_core.specs.declared.job.Action.{Action}
 use Rattle.blocking_core.specs.declared.job.Action.TheVariants as action
@@ -20,17 +21,18 @@ use Rattle.blocking_core.specs.declared.pool.standing.Standing.{Standing}
 use Rattle.blocking_core.specs.declared.pool.standing.Standing.TheVariants.{Queued}
 use Rattle.blocking_core.specs.declared.pool.token.WorkerPass.{WorkerPass}
 use Rattle.blocking_core.specs.Cores.{call_after}
-use Rattle.blocking_laws.specs.Seen.{events, acts_of, among}
-use Rattle.blocking_laws.specs.Jobs.{tasks, holder, is_holder, standing, cancels, is_woken, is_cancelled, is_marked, has_ended}
+use Rattle.blocking_laws.specs.Seen.{events, acts_of}
+use Rattle.blocking_laws.specs.Jobs.{tasks, holder, is_holder, is_queued, is_running as runs_as, standing, cancels, is_woken, is_cancelled, is_marked, has_ended}
 use Rattle.blocking_laws.specs.Growth.{IsMarked}
 use Rattle.blocking_laws.specs.Queue.{queue, running as running_jobs}
 use Rattle.blocking_laws.specs.Steps.{IsPolled}
 use Rattle.blocking_laws.specs.Turns.{Turn, HasGivenUp, turn, hand, TurnLaw, HoldsOne, is_giving_up, FitsTurn}
 use Rattle.blocking_world.specs.Worlds.{Worlded, CallPool, new_call, duty_at, duty_of, answered, finished, given_up, woke_at, woke, hand_at, has_let_go, may_be, poll_of, new_owner, owner_at, with_owner}
 use Rattle.blocking_world.specs.Crews.{Accepts, AddsTo, TakesFront, no_growth, after_wake, after_cancel}
-use Rattle.blocking_world.specs.Machine.{free_hands, seen, next_start, called, pool_called, wait_act, after_wait, with_held}
+use Rattle.blocking_laws.specs.Answers.{wait_act}
+use Rattle.blocking_world.specs.Machine.{free_hands, seen, next_start, called, pool_called, after_wait, with_held}
 use Rattle.blocking_world.specs.Moves.{Move, Begins, Calls, Arrives, TakesJob, TakesNone, IsAnswered, Finishes, GivesUp, CallsWaker, EndsTurn, HasWaited, IsWoken, IsStruck, May, moment_of, after, wakes_as, cancels_as, finish_wakes, giving_up_wakes, first_stage, wait_step}
-use Rattle.blocking_world.specs.Ties.{Tied, Numbered, FiledAs, ValueAs, Handed, HeldAs, ActedAs, RanAs, turn_of, let_go_in, is_queued_as, is_running_as as runs_as}
+use Rattle.blocking_world.specs.Ties.{Tied, Numbered, FiledAs, ValueAs, Handed, HeldAs, ActedAs, RanAs, turn_of, let_go_in}
 use Rattle.blocking_world.specs.declared.call.CallJob.{CallJob}
 use Rattle.blocking_laws.specs.declared.event.Act.{Act}
 use Rattle.blocking_laws.specs.declared.event.Act.TheVariants.{Accepted, Refused, JobWoken, JobCancelled, Waits, TaskGot, TaskGotNone, Answered, Finished, GaveUp, HolderWoken}
@@ -49,10 +51,10 @@ use Rattle.blocking_laws.specs.declared.step.TaskCall.{TaskCall}
 use Rattle.blocking_laws.specs.declared.step.TaskCall.TheVariants.{Poll, Cancel, Detach, Drop}
 use Rattle.blocking_world.specs.declared.task.Owner.{Owner}
 use Rattle.blocking_world.proofs.Cutting.{acts_more}
-use Rattle.blocking_world.proofs.Lookups.{job_put}
+use Rattle.blocking_world.proofs.Lookups.{taken_runs}
 use Rattle.blocking_world.proofs.Polls.{polled_so, called_stays}
 use Rattle.blocking_world.proofs.Quiet.{by_wait}
-use Rattle.blocking_world.proofs.Rows.{got_same}
+use Rattle.blocking_world.proofs.Rows.{got_same, front_in}
 use Rattle.blocking_world.proofs.Tied.{held_within, hand_seen}
 use Rattle.blocking_world.proofs.Alike.{insert_unparked, remove_unparked, insert_runs, remove_runs, wake_kept, cancel_kept, called_kept}
 use Rattle.blocking_world.proofs.Sights.{let_go_same, let_go_stays, let_go_pushed, let_go_owner, HeldHere, Known, job_acts, was_let_go, sight, KnownOf, known, handed, parts_known, kept_known, own_known, taken, take_known, end_known, idle_known, stop_known, arrive_known}
@@ -110,7 +112,7 @@ woke_turn stage.GaveUp held = refl
 
 -- ---- the front of the queue
 
-queued_is : (st : Option Standing) → is_queued_as st ≡ true → st ≡ Some Queued
+queued_is : (st : Option Standing) → is_queued st ≡ true → st ≡ Some Queued
 queued_is (Some Queued) e = refl
 queued_is _ e = absurd (cc)
 
@@ -133,8 +135,7 @@ fronted : (setting : ℕ) (may_answer : ℕ → Bool → Type 0) (w : Worlded) (
 fronted setting may_answer w past number value to_drop growth new t f =
     let s = number.serial in
     let line : queue past ≡ s ∷ f.rest = sym t.lined.same ∙ f.front in
-    let first : among (s ∷ f.rest) s ≡ true = ap (λ b. b || among f.rest s) (eq-eqb s s refl) in
-    let stands : standing past s ≡ Some Queued = queued_is (standing past s) (sym (t.lined.each s) ∙ ap (λ (q : List ℕ). among q s) line ∙ first) in
+    let stands : standing past s ≡ Some Queued = queued_is (standing past s) (sym (t.lined.each s) ∙ front_in (queue past) s f.rest line) in
     let filed : FiledAs (Some f.job) (standing past s) (is_woken past s) (is_cancelled past s) (is_marked past s) (has_ended past s) (acts_of s (events past)) =
     subst (λ (o : Option (Job CallJob)). FiledAs o (standing past s) (is_woken past s) (is_cancelled past s) (is_marked past s) (has_ended past s) (acts_of s (events past))) f.found (t.filed s) in
     let both : Some f.job.standing ≡ Some Queued = sym filed.0 ∙ stands in
@@ -162,12 +163,6 @@ queued_rests_at : (jobs : Jobs CallJob) (number other : JobNumber) (entry : Job 
 queued_rests_at jobs number other entry found stands same runs =
     rests_by (entry.place == other.place) entry stands
     (ap (λ (o : Option (Job CallJob)). is_running_job (if_at other.place o)) (sym (ap (get jobs) (sym same) ∙ found)) ∙ runs)
-
--- the taken job runs
-taken_runs : (jobs : Jobs CallJob) (number : JobNumber) (entry : Job CallJob) → entry.place ≡ number.place → is_running_as (insert jobs number.serial (running entry)) number ≡ true
-taken_runs jobs number entry place =
-    ap (λ (o : Option (Job CallJob)). is_running_job (if_at number.place o)) (job_put jobs number.serial (running entry) number.serial true (eq-eqb number.serial number.serial refl))
-    ∙ ap (λ (b : Bool). is_running_job (if b then Some (running entry) else None)) (ap (λ (n : ℕ). n == number.place) place ∙ eq-eqb number.place number.place refl)
 
 -- ---- each move, by what is known
 
@@ -458,7 +453,7 @@ acts_in_turn : (past : List Moment) (v : ℕ) (held : Held) (act : Act) → InHa
 acts_in_turn past v held act i f = (i.its_job, subst (λ x. FitsTurn x act) (sym i.its_turn) f)
 
 taken_once : (setting : ℕ) (may_answer : ℕ → Bool → Type 0) (w : Worlded) (past : List Moment) (v : ℕ) (pass : WorkerPass) (number : JobNumber) (value : CallJob) (to_drop : Bool) (growth : Growth) (new : CallPool)
-    → Tied setting w past → hand_at w.hands v ≡ Free pass → TakesFront may_answer w.pool number value to_drop growth new → (hand past v ≡ None) × (among (running_jobs past) number.serial ≡ false)
+    → Tied setting w past → hand_at w.hands v ≡ Free pass → TakesFront may_answer w.pool number value to_drop growth new → (hand past v ≡ None) × (is_in number.serial (running_jobs past) ≡ false)
 taken_once setting may_answer w past v pass number value to_drop growth new t e f =
     let front = fronted setting may_answer w past number value to_drop growth new t f in
     ((hand_seen w past v (Free pass) t.handed e).1, t.counted.each number.serial ∙ ap runs_as front.stands_is)

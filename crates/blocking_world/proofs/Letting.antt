@@ -1,5 +1,5 @@
 -- What an idle worker, or one whose job is over, does with what comes out of its hand.
-use Rattle.std.proofs.Common.{◌≡◌, ◌<◌, ◌≤◌, ℕ, Bool, true, false, List, [], ◌∷◌, zero, suc, ◌-◌, slice_get, Option, Some, None, if◌then◌else◌, ap, sym, subst, refl, arith, ◌∙◌}
+use Rattle.std.proofs.Common.{◌≡◌, ◌<◌, ℕ, Bool, true, false, List, ◌-◌, Option, Some, None, if◌then◌else◌, ap, sym, subst, refl, arith, ◌∙◌}
 use Rattle.std.specs.Prelude.{not}
 use Rattle.std.proofs.lemmas.List.{set-set}
 use Rattle.blocking_core.specs.Growth.{Growth}
@@ -11,7 +11,8 @@ use Rattle.blocking_core.specs.declared.pool.answer.Waited.TheVariants.{Stay, St
 use Rattle.blocking_core.specs.declared.pool.standing.Standing.{Standing}
 use Rattle.blocking_core.specs.declared.pool.token.WorkerPass.{WorkerPass}
 use Rattle.blocking_world.specs.Worlds.{Worlded, CallPool, hand_at, hand_of, with_hand, duty_of, outcome_of, pass_in, over_in, over_by}
-use Rattle.blocking_world.specs.Machine.{IsReady, IsHeld, TakesWith, Takes, WaitsWith, EndsWith, Ends, took_job, took_act, took_hand, wait_act, after_wait, DoesNothing, nothing, seen, next_start, one_if_free, free_hands}
+use Rattle.blocking_laws.specs.Answers.{wait_act}
+use Rattle.blocking_world.specs.Machine.{IsReady, IsHeld, TakesWith, Takes, WaitsWith, EndsWith, Ends, took_job, took_act, took_hand, after_wait, DoesNothing, nothing, seen, next_start}
 use Rattle.blocking_world.specs.Crews.{TakesTo, no_growth}
 use Rattle.blocking_world.specs.declared.call.CallJob.{CallJob}
 use Rattle.blocking_laws.specs.declared.event.Act.{Act}
@@ -23,22 +24,17 @@ use Rattle.blocking_world.specs.declared.hand.Duty.TheVariants as duty
 use Rattle.blocking_world.specs.declared.hand.Hand.{Hand}
 use Rattle.blocking_world.specs.declared.hand.Hand.TheVariants.{Out, Free, Holds}
 use Rattle.blocking_world.specs.declared.hand.Held.{Held}
-use Rattle.blocking_world.proofs.Hands.{at_free, at_held}
+use Rattle.blocking_world.proofs.Hands.{at_free, at_held, free_set}
 use Rattle.blocking_world.proofs.Passing.{pass_is, over_is, is_out, nothing_done}
 
 -- ---- what came out
-
-free_from : (hands : List Hand) (place : ℕ) (hand : Hand) → slice_get hands place ≡ Some hand → one_if_free hand ≤ free_hands hands
-free_from [] place hand is = absurd cc
-free_from (x ∷ row) zero hand is = let same : x ≡ hand = cc in let one = ap one_if_free same in omega (arith, one)
-free_from (x ∷ row) (suc n) hand is = let rest = free_from row n hand is in omega (arith, rest)
 
 -- a pass is that of an idle worker that has arrived
 pub pass_ready : (w : Worlded) (v : ℕ) {pass : WorkerPass} → IsReady w → Some pass ≡ pass_in (hand_at w.hands v) → w.pool.counts.arriving < w.pool.counts.idle
 pass_ready w v {pass} ready is =
     let at = at_free w.hands v pass (pass_is (hand_at w.hands v) pass is) in
     let idle = ready.idle in
-    let some = free_from w.hands (v - 1) (Free pass) at.got in
+    let some = free_set w.hands (v - 1) (Free pass) Out at.got in
     omega (arith, idle, some)
 
 -- a job that is over runs

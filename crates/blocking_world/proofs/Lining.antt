@@ -1,25 +1,28 @@
 -- Each move keeps the queue the past's, and jobs are taken in the order in which they entered.
 use Rattle.std.proofs.Common.{◌≡◌, ◌==◌, ◌||◌, ℕ, Bool, true, false, if◌then◌else◌, List, [], ◌∷◌, ◌++◌, refl, sym, ap, ap₂, ◌∙◌, subst, append_assoc, Option, Some, None, Ok, Err}
 use Rattle.blocking_core.specs.Growth.{Growth}
+use Rattle.blocking_core.specs.Lists.{is_in, IsOnce, without}
 use Rattle.blocking_core.specs.PoolAnswers.{must_stop}
 use Rattle.blocking_core.specs.declared.pool.standing.Standing.{Standing}
 use Rattle.blocking_core.specs.declared.pool.standing.Standing.TheVariants.{Queued, Running}
 use Rattle.blocking_core.specs.declared.pool.token.WorkerPass.{WorkerPass}
-use Rattle.blocking_laws.specs.Seen.{among, without, joined}
-use Rattle.blocking_laws.specs.Jobs.{standing}
+use Rattle.blocking_core.proofs.Lists.{turned, IsOnce-push, without-first}
+use Rattle.blocking_laws.specs.Seen.{joined}
+use Rattle.blocking_laws.specs.Jobs.{is_queued, standing}
 use Rattle.blocking_laws.specs.Queue.{queue, entries, takes, entered_by, InOrder}
 use Rattle.blocking_laws.specs.Growth.{IsMarked}
+use Rattle.blocking_world.proofs.Entries.{comes_in}
 use Rattle.blocking_world.proofs.Lookups.{called_alone, wake_alone, cancel_alone}
 use Rattle.blocking_world.proofs.Numbering.{refused_alone}
 use Rattle.blocking_world.proofs.Quiet.{seen_at, JobsStay, moves_job, jobs_stay_at}
-use Rattle.blocking_world.proofs.Rows.{among_end, once_end, front_leaves}
+use Rattle.blocking_world.proofs.Rows.{in_end}
 use Rattle.blocking_world.proofs.Tied.{fresh, held_runs}
 use Rattle.std.proofs.lemmas.Bool.{eqb-true}
 use Rattle.blocking_world.specs.Worlds.{Worlded, CallPool, outcome_of, owner_at}
 use Rattle.blocking_world.specs.Crews.{no_growth}
 use Rattle.blocking_world.specs.Machine.{after_wait}
 use Rattle.blocking_world.specs.Moves.{Move, Begins, Calls, TakesJob, EndsTurn, HasWaited, IsWoken, IsStruck, May, after, moment_of, wakes_as, cancels_as}
-use Rattle.blocking_world.specs.Ties.{Tied, Lined, IsOnce, is_queued_as}
+use Rattle.blocking_world.specs.Ties.{Tied, Lined}
 use Rattle.blocking_laws.specs.declared.event.Act.TheVariants.{Accepted, Ended}
 use Rattle.blocking_laws.specs.declared.event.Moment.{Moment}
 use Rattle.blocking_laws.specs.declared.event.Party.{Party}
@@ -33,7 +36,7 @@ quiet : (w w' : Worlded) (past : List Moment) (now : Moment) → w'.pool.queue �
 quiet w w' past now q stay l = record {
   same = q ∙ l.same ∙ sym stay.line;
   once = subst IsOnce (sym stay.line) l.once;
-  each = λ s. ap (λ (ns : List ℕ). among ns s) stay.line ∙ l.each s ∙ ap is_queued_as (sym (stay.stands s));
+  each = λ s. ap (is_in s) stay.line ∙ l.each s ∙ ap is_queued (sym (stay.stands s));
   order = stay.entered ∙ l.order ∙ ap₂ (λ (a b : List ℕ). a ++ b) (sym stay.taken) (sym stay.line);
 }
 
@@ -54,38 +57,34 @@ line_stays may_answer w move may moves = refl
 
 -- ---- a new job
 
-new_each : (b : Bool) (was : Bool) (stand : Option Standing) → was ≡ is_queued_as stand → (b || was) ≡ is_queued_as (if b then Some Queued else stand)
-new_each true was stand e = refl
-new_each false was stand e = e
-
 new_lined : (w w' : Worlded) (past : List Moment) (step : Step) (who : Party) (job : Option ℕ) (t first : ℕ) (growth : Growth)
     → w'.pool.queue ≡ w.pool.queue ++ t ∷ [] → standing past t ≡ None → Lined w past → Lined w' (seen_at step who job (Accepted t) first growth ∷ past)
 new_lined w w' past step who job t first growth q out l = record {
   same = q ∙ ap (λ (ns : List ℕ). ns ++ t ∷ []) l.same;
-  once = once_end (queue past) t (l.each t ∙ ap is_queued_as out) l.once;
-  each = λ s. among_end (queue past) t s ∙ new_each (t == s) (among (queue past) s) (standing past s) (l.each s);
+  once = IsOnce-push (queue past) t l.once (l.each t ∙ ap is_queued out);
+  each = λ s. in_end (queue past) t s ∙ comes_in is_queued (t == s) (is_in s (queue past)) (standing past s) (Some Queued) refl (l.each s);
   order = ap (λ (ns : List ℕ). ns ++ t ∷ []) l.order ∙ append_assoc (takes past) (queue past) (t ∷ []);
 }
 
 -- ---- a take
 
-took_each : (b : Bool) (t s : ℕ) (rest : List ℕ) (stand : Option Standing) → (t == s) ≡ b → among rest t ≡ false → (b || among rest s) ≡ is_queued_as stand
-    → among rest s ≡ is_queued_as (if b then Some Running else stand)
-took_each true t s rest stand e out was = ap (among rest) (sym (eqb-true t s e)) ∙ out
+took_each : (b : Bool) (t s : ℕ) (rest : List ℕ) (stand : Option Standing) → (t == s) ≡ b → is_in t rest ≡ false → (b || is_in s rest) ≡ is_queued stand
+    → is_in s rest ≡ is_queued (if b then Some Running else stand)
+took_each true t s rest stand e out was = ap (λ n. is_in n rest) (sym (eqb-true t s e)) ∙ out
 took_each false t s rest stand e out was = was
 
 took_by : (w w' : Worlded) (past : List Moment) (now : Moment) (t : ℕ) (rest : List ℕ) → w'.pool.queue ≡ rest → w.pool.queue ≡ t ∷ rest
-    → queue (now ∷ past) ≡ without (t ∷ []) (queue past) → entries (now ∷ past) ≡ entries past → takes (now ∷ past) ≡ takes past ++ t ∷ []
+    → queue (now ∷ past) ≡ without t (queue past) → entries (now ∷ past) ≡ entries past → takes (now ∷ past) ≡ takes past ++ t ∷ []
     → ((s : ℕ) → standing (now ∷ past) s ≡ (if t == s then Some Running else standing past s)) → Lined w past → Lined w' (now ∷ past)
 took_by w w' past now t rest q front qs es ts st l =
     let was : queue past ≡ t ∷ rest = sym l.same ∙ front in
     let once : IsOnce (t ∷ rest) = subst IsOnce was l.once in
-    let left : queue (now ∷ past) ≡ rest = qs ∙ ap (without (t ∷ [])) was ∙ front_leaves t rest once.0 in
+    let left : queue (now ∷ past) ≡ rest = qs ∙ ap (without t) was ∙ without-first t rest once.0 in
     record {
       same = q ∙ sym left;
       once = subst IsOnce (sym left) once.1;
-      each = λ s. ap (λ (ns : List ℕ). among ns s) left ∙ took_each (t == s) t s rest (standing past s) refl once.0 (ap (λ (ns : List ℕ). among ns s) (sym was) ∙ l.each s)
-          ∙ ap is_queued_as (sym (st s));
+      each = λ s. ap (is_in s) left ∙ took_each (t == s) t s rest (standing past s) refl once.0 (ap (λ b. b || is_in s rest) (turned t s) ∙ ap (is_in s) (sym was) ∙ l.each s)
+          ∙ ap is_queued (sym (st s));
       order = es ∙ l.order ∙ ap (λ (ns : List ℕ). takes past ++ ns) was ∙ sym (append_assoc (takes past) (t ∷ []) rest) ∙ ap₂ (λ (a b : List ℕ). a ++ b) (sym ts) (sym left);
     }
 
@@ -95,13 +94,13 @@ ended_enters : (past : List Moment) (t : ℕ) (at : Stage) → entered_by past (
 ended_enters past t stage.Runs = refl
 ended_enters past t _ = refl
 
-outcome_unqueued : (at : Stage) → is_queued_as (Some (outcome_of at)) ≡ false
+outcome_unqueued : (at : Stage) → is_queued (Some (outcome_of at)) ≡ false
 outcome_unqueued stage.Runs = refl
 outcome_unqueued _ = refl
 
-ended_each : (b : Bool) (t s : ℕ) (ns : List ℕ) (how : Standing) (stand : Option Standing) → (t == s) ≡ b → is_queued_as (Some how) ≡ false → among ns t ≡ false
-    → among ns s ≡ is_queued_as stand → among ns s ≡ is_queued_as (if b then Some how else stand)
-ended_each true t s ns how stand e over out was = ap (among ns) (sym (eqb-true t s e)) ∙ out ∙ sym over
+ended_each : (b : Bool) (t s : ℕ) (ns : List ℕ) (how : Standing) (stand : Option Standing) → (t == s) ≡ b → is_queued (Some how) ≡ false → is_in t ns ≡ false
+    → is_in s ns ≡ is_queued stand → is_in s ns ≡ is_queued (if b then Some how else stand)
+ended_each true t s ns how stand e over out was = ap (λ n. is_in n ns) (sym (eqb-true t s e)) ∙ out ∙ sym over
 ended_each false t s ns how stand e over out was = was
 
 ended_lined : (w w' : Worlded) (past : List Moment) (step : Step) (who : Party) (job : Option ℕ) (t first : ℕ) (left : Stage) (growth : Growth)
@@ -111,7 +110,7 @@ ended_lined w w' past step who job t first left growth q runs l =
     record {
       same = q ∙ l.same ∙ sym as_was;
       once = subst IsOnce (sym as_was) l.once;
-      each = λ s. ap (λ (ns : List ℕ). among ns s) as_was ∙ ended_each (t == s) t s (queue past) (outcome_of left) (standing past s) refl (outcome_unqueued left) (l.each t ∙ ap is_queued_as runs) (l.each s);
+      each = λ s. ap (is_in s) as_was ∙ ended_each (t == s) t s (queue past) (outcome_of left) (standing past s) refl (outcome_unqueued left) (l.each t ∙ ap is_queued runs) (l.each s);
       order = ap (joined (entries past)) (ended_enters past t left) ∙ l.order ∙ ap (λ (ns : List ℕ). takes past ++ ns) (sym as_was);
     }
 

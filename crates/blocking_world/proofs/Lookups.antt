@@ -1,13 +1,13 @@
 -- Look-ups of a job in the pool, after a change of that job or of another.
-use Rattle.std.proofs.Common.{◌≡◌, ℕ, ◌==◌, cond, Bool, true, false, refl, sym, ap, ◌∙◌, arith, if◌then◌else◌, Option, Some, None}
+use Rattle.std.proofs.Common.{◌≡◌, ℕ, ◌==◌, cond, Bool, true, false, refl, sym, ap, ◌∙◌, if◌then◌else◌, Option, Some, None}
 use Rattle.std.specs.Prelude.{option_map, is_some}
 use Rattle.std.specs.Ordering.{eq_by_cmp, nat_cmp}
 use Rattle.std.specs.Cmp.{nat_cmp_total}
 use Rattle.std.specs.FinMap.{get, insert, remove, get-insert, get-remove}
 use Rattle.std.proofs.lemmas.Bool.{eqb-true, eq-eqb}
-use Rattle.std.proofs.lemmas.Bool.Decides.{nat_tests}
-use Rattle.blocking_core.specs.Jobs.{Job as Entry, Jobs, JobNumber, changed, amend, if_at, job_of, value_at, is_running_job, is_parked_job, valued, is_parked}
+use Rattle.blocking_core.specs.Jobs.{Job as Entry, Jobs, JobNumber, changed, amend, if_at, job_of, value_at, is_running_job, is_running_as, is_parked_job, running, valued, is_parked}
 use Rattle.blocking_core.specs.Wakes.{wake_of, cancel_of}
+use Rattle.blocking_core.proofs.Lists.{eq_by_nat_cmp, turned}
 use Rattle.blocking_core.specs.declared.pool.answer.Woke.{Woke}
 use Rattle.blocking_core.specs.declared.pool.answer.Woke.TheVariants.{Entered, Marked, Nothing}
 use Rattle.blocking_core.specs.declared.pool.standing.Standing.{Standing}
@@ -23,7 +23,7 @@ use Rattle.blocking_laws.specs.declared.step.TaskCall.TheVariants.{Poll, Cancel,
 
 -- the order of serials tells whether they are the same
 by_order : (t s : ℕ) → eq_by_cmp nat_cmp s t ≡ (t == s)
-by_order t s = grind (arith, nat_tests)
+by_order t s = eq_by_nat_cmp s t ∙ turned s t
 
 -- the jobs after one was put in
 pub job_put : (jobs : Jobs CallJob) (t : ℕ) (entry : Entry CallJob) (s : ℕ) (b : Bool) → (t == s) ≡ b → get (insert jobs t entry) s ≡ (if b then Some entry else get jobs s)
@@ -81,6 +81,12 @@ pub job_marked : (pool : CallPool) (number : JobNumber) (s : ℕ) (b : Bool) →
     → get (marked_in pool number).jobs s ≡ (if b then option_map mark_in (get pool.jobs s) else get pool.jobs s)
 job_marked pool number s b is placed =
     marked_where pool number s b (get pool.jobs number.serial) is refl placed ∙ there pool.jobs number.serial mark_in s b is
+
+-- a job that was taken up runs
+pub taken_runs : (jobs : Jobs CallJob) (number : JobNumber) (entry : Entry CallJob) → entry.place ≡ number.place → is_running_as (insert jobs number.serial (running entry)) number ≡ true
+taken_runs jobs number entry place =
+    ap (λ (o : Option (Entry CallJob)). is_running_job (if_at number.place o)) (job_put jobs number.serial (running entry) number.serial true (eq-eqb number.serial number.serial refl))
+    ∙ ap (λ (b : Bool). is_running_job (if b then Some (running entry) else None)) (eq-eqb entry.place number.place place)
 
 -- ---- calls that change the jobs of a pool alone
 

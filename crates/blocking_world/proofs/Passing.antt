@@ -1,5 +1,5 @@
 -- What is in the hand of a worker, comes out of it and is put into it.
-use Rattle.std.proofs.Common.{◌≡◌, ◌-◌, ◌==◌, ℕ, Bool, true, false, List, [], ◌∷◌, zero, suc, slice_get, slice_set, Option, Some, None, if◌then◌else◌, ap, sym, subst, refl, arith, ◌∙◌}
+use Rattle.std.proofs.Common.{◌≡◌, ◌-◌, ◌==◌, ℕ, Bool, true, false, List, slice_get, Option, Some, None, if◌then◌else◌, ap, sym, subst, refl, arith, ◌∙◌}
 use Rattle.std.specs.Prelude.{OnSome}
 use Rattle.std.proofs.lemmas.Bool.Decides.{nat_tests}
 use Rattle.blocking_core.specs.declared.pool.token.WorkerPass.{WorkerPass}
@@ -13,7 +13,7 @@ use Rattle.blocking_world.specs.declared.hand.Hand.{Hand}
 use Rattle.blocking_world.specs.declared.hand.Hand.TheVariants.{Out, Free, Holds}
 use Rattle.blocking_world.specs.declared.hand.Held.{Held}
 use Rattle.blocking_world.proofs.Hands.{IsAt, at_held}
-use Rattle.blocking_world.proofs.Rows.{got_same}
+use Rattle.blocking_world.proofs.Rows.{got_same, set_same}
 
 -- ---- one hand
 
@@ -51,11 +51,6 @@ hand_by false found = refl
 -- the hand of a worker is the one that it has, if it is there
 pub hand_is : (row : List Hand) (v : ℕ) → hand_at row v ≡ hand_in (hand_of row v)
 hand_is row v = hand_by (v == 0) (slice_get row (v - 1))
-
-set_same : (row : List Hand) (n : ℕ) (hand : Hand) → slice_get row n ≡ Some hand → slice_set row n hand ≡ row
-set_same [] n hand is = refl
-set_same (x ∷ row) zero hand is = let same : hand ≡ x = cc in ap (λ y. y ∷ row) same
-set_same (x ∷ row) (suc n) hand is = ap (λ more. x ∷ more) (set_same row n hand is)
 
 of_by : (b : Bool) (found : Option Hand) (hand : Hand) → (if b then None else found) ≡ Some hand → found ≡ Some hand
 of_by true found hand is = absurd cc

@@ -11,7 +11,8 @@ use Rattle.blocking_laws.specs.Queue.{queue, entries, takes, running, to_sweep}
 use Rattle.blocking_laws.specs.Counts.{starts, stops, arrivals, refused_starts, limit}
 use Rattle.blocking_laws.specs.Growth.{known_limit, has_limit, grows, HasWorker}
 use Rattle.blocking_world.specs.Crews.{no_growth}
-use Rattle.blocking_world.specs.Machine.{seen, wait_act}
+use Rattle.blocking_laws.specs.Answers.{wait_act}
+use Rattle.blocking_world.specs.Machine.{seen}
 use Rattle.blocking_world.specs.Moves.{Move, Begins, Calls, Arrives, TakesJob, EndsTurn, HasWaited, SetsLimit, IsWoken, IsStruck, moment_of, wakes_as, cancels_as}
 use Rattle.blocking_world.specs.Ties.{Filed, Tied}
 use Rattle.blocking_world.specs.Worlds.{Worlded}

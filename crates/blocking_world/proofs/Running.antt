@@ -1,10 +1,10 @@
 -- A run: what it has added to a world so far.
-use Rattle.std.proofs.Common.{◌≡◌, ◌<◌, ◌+◌, ℕ, List, [], ◌∷◌, ◌++◌, length, map, take, drop, ap, sym, refl, ◌∙◌, arith}
-use Rattle.std.proofs.lemmas.List.{map-append, reverse-append, length-map, length-take-le, take_all, take-append-drop}
+use Rattle.std.proofs.Common.{◌≡◌, ◌<◌, ◌+◌, ℕ, List, [], ◌∷◌, ◌++◌, length, map, take, drop, ap, sym, ◌∙◌, arith}
+use Rattle.std.proofs.lemmas.List.{map-append, reverse-append, length-map, length-take-le, take-append-drop}
 use Rattle.blocking_laws.specs.declared.event.Event.{Event}
 use Rattle.blocking_laws.specs.declared.event.Moment.{Moment}
 use Rattle.blocking_laws.specs.declared.step.Step.{Step}
-use Rattle.blocking_world.specs.Runs.{History, Follow, Adds, StopsShort}
+use Rattle.blocking_world.specs.Runs.{History, Follow, StopsShort}
 
 -- so many of the steps were taken, with these events
 pub record Taken (steps : List Step) (count : ℕ) (events : List Event) (old new : History) : Type 0 where
@@ -12,10 +12,6 @@ pub record Taken (steps : List Step) (count : ℕ) (events : List Event) (old ne
   pub steps_are : map (λ moment. moment.step) moments ≡ take count steps
   pub events_are : map (λ moment. moment.event) moments ≡ events
   pub follow : Follow moments old new
-
--- at first none
-pub taken_none : (steps : List Step) (old : History) → Taken steps 0 [] old old
-taken_none steps old = record { moments = []; steps_are = refl; events_are = refl; follow = refl }
 
 -- one more
 pub taken_more : (steps : List Step) (count : ℕ) (events : List Event) (old now new : History) (step : Step) (event : Event) → Taken steps count events old now
@@ -30,16 +26,6 @@ taken_more steps count events old now new step event t next is =
       follow =
           is ∙ ap (λ (h : History). record h { past = moment ∷ h.past }) t.follow
           ∙ ap (λ xs. record old { past = xs ++ old.past }) (sym (reverse-append t.moments (moment ∷ [])));
-    }
-
--- all were taken
-pub taken_all : (steps : List Step) (count : ℕ) (events : List Event) (old new : History) → Taken steps count events old new → count ≡ length steps → Adds steps events old new
-taken_all steps count events old new t all =
-    record {
-      moments = t.moments;
-      steps_are = t.steps_are ∙ ap (λ n. take n steps) all ∙ take_all (length steps) steps (omega arith);
-      events_are = t.events_are;
-      follow = t.follow;
     }
 
 -- fewer were taken than there are

@@ -2,17 +2,18 @@
 use Rattle.std.proofs.Common.{◌≡◌, ℕ, ◌+◌, ◌-◌, List, [], ◌∷◌, Bool, true, false, length, length-append, refl, sym, ap, ◌∙◌, arith, Option, Some, None, zero, suc}
 use Rattle.std.specs.Prelude.{◌&&◌, slice_get, Ok, is_some, is_none}
 use Rattle.blocking_core.specs.Growth.{Growth}
-use Rattle.blocking_core.specs.Jobs.{JobNumber}
+use Rattle.blocking_core.specs.Jobs.{JobNumber, one_if}
 use Rattle.blocking_core.specs.PoolAnswers.{must_stop}
 use Rattle.blocking_core.specs.declared.pool.token.WorkerPass.{WorkerPass}
 use Rattle.blocking_laws.specs.Queue.{running}
 use Rattle.blocking_laws.specs.Growth.{IsMarked}
 use Rattle.blocking_laws.specs.Steps.{is_there, is_free}
 use Rattle.blocking_laws.specs.Turns.{hand}
-use Rattle.blocking_laws.specs.Staffed.{one_where, count_to, passes, turns, AreStaffed}
+use Rattle.blocking_laws.specs.Staffed.{count_to, passes, turns, AreStaffed}
 use Rattle.blocking_world.specs.Crews.{no_growth}
 use Rattle.blocking_world.specs.Worlds.{Worlded, CallPool, hand_at, with_hand, answered, finished, given_up, woke}
-use Rattle.blocking_world.specs.Machine.{next_start, one_if_free, free_hands, one_if_held, held_hands, wait_act, after_wait}
+use Rattle.blocking_laws.specs.Answers.{wait_act}
+use Rattle.blocking_world.specs.Machine.{next_start, one_if_free, free_hands, one_if_held, held_hands, after_wait}
 use Rattle.blocking_world.specs.Moves.{Move, Begins, Calls, Arrives, TakesJob, TakesNone, IsAnswered, Finishes, GivesUp, CallsWaker, EndsTurn, HasWaited, May, moment_of, after, finish_wakes, giving_up_wakes, first_stage, wait_step}
 use Rattle.blocking_world.specs.Ties.{HandAs, Handed, Tied, Holding}
 use Rattle.blocking_world.specs.declared.call.CallJob.{CallJob}
@@ -38,36 +39,36 @@ sum_held [] = refl
 sum_held (h ∷ row) = ap (λ n. one_if_held h + n) (sum_held row)
 
 -- a count by its first worker
-count_first : (test : ℕ → Bool) (n : ℕ) → count_to test (suc n) ≡ one_where (test 1) + count_to (λ v. test (v + 1)) n
+count_first : (test : ℕ → Bool) (n : ℕ) → count_to test (suc n) ≡ one_if (test 1) + count_to (λ v. test (v + 1)) n
 count_first test zero = omega arith
 count_first test (suc n) =
     let below = count_first test n in
-    let same : one_where (test (suc n + 1)) ≡ one_where (test (n + 1 + 1)) = ap (λ m. one_where (test m)) (omega arith) in
+    let same : one_if (test (suc n + 1)) ≡ one_if (test (n + 1 + 1)) = ap (λ m. one_if (test m)) (omega arith) in
     omega (arith, below, same)
 
 -- the test tells what each hand adds
 abbrev Tells : (Hand → ℕ) → (ℕ → Bool) → List Hand → Type 0
-Tells one test row = (n : ℕ) (h : Hand) → slice_get row n ≡ Some h → one_where (test (n + 1)) ≡ one h
+Tells one test row = (n : ℕ) (h : Hand) → slice_get row n ≡ Some h → one_if (test (n + 1)) ≡ one h
 
 count_is : (one : Hand → ℕ) (test : ℕ → Bool) (row : List Hand) → Tells one test row → count_to test (length row) ≡ sum_of one row
 count_is one test [] tells = refl
 count_is one test (h ∷ row) tells =
-    let first : one_where (test 1) ≡ one h = tells 0 h refl in
-    let shifted : Tells one (λ v. test (v + 1)) row = λ n g e. ap (λ m. one_where (test m)) (omega arith) ∙ tells (suc n) g e in
+    let first : one_if (test 1) ≡ one h = tells 0 h refl in
+    let shifted : Tells one (λ v. test (v + 1)) row = λ n g e. ap (λ m. one_if (test m)) (omega arith) ∙ tells (suc n) g e in
     let rest = count_is one (λ v. test (v + 1)) row shifted in
     let split = count_first test (length row) in
     omega (arith, first, rest, split)
 
 -- a hand by what was seen of its worker
-free_tells : (h : Hand) (there : Bool) (job : Option ℕ) → HandAs h there job → one_where (there && is_none job) ≡ one_if_free h
-free_tells Out there job tied = ap (λ b. one_where (b && is_none job)) tied.0
-free_tells (Free pass) there job tied = ap (λ b. one_where (b && is_none job)) tied.0 ∙ ap (λ j. one_where (is_none j)) tied.1
-free_tells (Holds held) there job tied = ap (λ b. one_where (b && is_none job)) tied.0 ∙ ap (λ j. one_where (is_none j)) tied.1
+free_tells : (h : Hand) (there : Bool) (job : Option ℕ) → HandAs h there job → one_if (there && is_none job) ≡ one_if_free h
+free_tells Out there job tied = ap (λ b. one_if (b && is_none job)) tied.0
+free_tells (Free pass) there job tied = ap (λ b. one_if (b && is_none job)) tied.0 ∙ ap (λ j. one_if (is_none j)) tied.1
+free_tells (Holds held) there job tied = ap (λ b. one_if (b && is_none job)) tied.0 ∙ ap (λ j. one_if (is_none j)) tied.1
 
-held_tells : (h : Hand) (there : Bool) (job : Option ℕ) → HandAs h there job → one_where (is_some job) ≡ one_if_held h
-held_tells Out there job tied = ap (λ j. one_where (is_some j)) tied.1
-held_tells (Free pass) there job tied = ap (λ j. one_where (is_some j)) tied.1
-held_tells (Holds held) there job tied = ap (λ j. one_where (is_some j)) tied.1
+held_tells : (h : Hand) (there : Bool) (job : Option ℕ) → HandAs h there job → one_if (is_some job) ≡ one_if_held h
+held_tells Out there job tied = ap (λ j. one_if (is_some j)) tied.1
+held_tells (Free pass) there job tied = ap (λ j. one_if (is_some j)) tied.1
+held_tells (Holds held) there job tied = ap (λ j. one_if (is_some j)) tied.1
 
 -- the hand in a place, by what was seen of its worker
 seen_hand : (w : Worlded) (past : List Moment) (n : ℕ) (h : Hand) → Handed w past → slice_get w.hands n ≡ Some h → HandAs h (is_there past (n + 1)) (hand past (n + 1))

@@ -22,7 +22,8 @@ use Rattle.blocking_laws.specs.JobTable.{Calling, AskCall, Finish, WakeHolder, n
 use Rattle.blocking_laws.specs.TaskLaws.{is_gone, was_cancelled, is_let_go}
 use Rattle.blocking_laws.specs.Steps.{is_there, Work, NoWork, Does, GivesUp as MustGive, EndsTurn as MustEnd, work_in, work_with, work, is_job_work, is_answered_work, is_turn_end, is_for_cancelled, may_call, may_cancel, has_action, named, party, job_of, IsOfTask, IsBegun, Fits, Happens, StepLaw}
 use Rattle.blocking_world.specs.Worlds.{Worlded, CallPool, outcome_of, duty_of, duty_at, hand_at, may_be, has_let_go, owner_at, is_free_hand}
-use Rattle.blocking_world.specs.Machine.{seen, next_start, was_accepted, added_act, task_act, wait_act}
+use Rattle.blocking_laws.specs.Answers.{wait_act}
+use Rattle.blocking_world.specs.Machine.{seen, next_start, was_accepted, added_act, task_act}
 use Rattle.blocking_world.specs.Moves.{Move, Idles, Begins, Calls, Arrives, TakesJob, TakesNone, IsAnswered, Finishes, GivesUp, CallsWaker, EndsTurn, HasWaited, SetsLimit, Sweeps, IsWoken, IsStruck, May, has_act, duty_in, is_own, is_awaiting, is_ending, may_call_in, wait_step, finish_wakes, giving_up_wakes, wakes_as, cancels_as, moment_of}
 use Rattle.blocking_world.specs.Ties.{Tied, Numbered, Handed, Tasked, TaskAs, HandAs, HeldAs, ActedAs, turn_of, is_gone_as, CancelAs}
 use Rattle.blocking_laws.specs.declared.event.Act.{Act}

@@ -3,6 +3,7 @@ use Rattle.std.proofs.Common.{◌≡◌, ℕ, List, [], ◌∷◌, Bool, true, f
 use Rattle.std.specs.Prelude.{◌⊎◌, ◌||◌, not, is_some}
 use Rattle.std.proofs.lemmas.Bool.{or_from, or_left, or_right, eq-eqb}
 use Rattle.blocking_core.specs.Jobs.{JobNumber}
+use Rattle.blocking_core.specs.SlotAnswers.{IsPending}
 use Rattle.blocking_core.specs.Slots.{Content, Empty, Full, GivenUp, Abandoned, without_owner, full_with, slot_after, answer_of, slot_without_job, waker_out_of, after_put, put_in, after_give_up, waker_of_give_up}
 use Rattle.blocking_laws.specs.Seen.{own, acts_of, is_of_pool, is_nothing}
 use Rattle.blocking_laws.specs.JobTable.{Calling, WakeHolder, next_of_job, action_after, is_over, number, has_finished, has_given_up}
@@ -13,7 +14,7 @@ use Rattle.blocking_laws.specs.Wakes.{was_woken, is_waiting}
 use Rattle.blocking_world.specs.Crews.{no_growth}
 use Rattle.blocking_world.specs.Worlds.{may_be, has_let_go, poll_of, polled, cancelled, detached, dropped}
 use Rattle.blocking_world.specs.Machine.{seen, task_act, called}
-use Rattle.blocking_world.specs.Ties.{TaskAs, SlotAs, CancelAs, IsPending}
+use Rattle.blocking_world.specs.Ties.{TaskAs, SlotAs, CancelAs}
 use Rattle.blocking_laws.specs.declared.event.Act.{Act}
 use Rattle.blocking_laws.specs.declared.event.Act.TheVariants.{Waits, TaskGot, TaskGotNone, TaskCancelled, TaskDetached, HolderDropped, Answered, Finished, GaveUp, HolderWoken}
 use Rattle.blocking_laws.specs.declared.event.Event.{Event}
@@ -82,7 +83,7 @@ held_got place content left seat found None s k first cut law over t =
     record { law = (t.gone, law); tie = record { gone = refl; cancel = tt; let_go = t.let_go; seat = t.seat; slot = λ idle. absurd (cc); told = λ w. absurd (cc) } }
 
 -- an abandoned slot is pending while its job goes on
-pending : (over done : Bool) → done ≡ over → done ≡ false → IsPending (Abandoned over)
+pending : (over done : Bool) → done ≡ over → done ≡ false → IsPending {T = ℕ} (Abandoned over)
 pending true done is idle = absurd (cc)
 pending false done is idle = tt
 

@@ -19,7 +19,8 @@ use Rattle.blocking_laws.specs.Growth.{IsMarked}
 use Rattle.blocking_laws.specs.TaskLaws.{TaskLaw, TaskLaws, is_in_time}
 use Rattle.blocking_world.specs.Crews.{AddsTo, no_growth}
 use Rattle.blocking_world.specs.Worlds.{Worlded, CallPool, duty_at, hand_at, may_be, has_let_go, new_owner, owner_at, with_owner}
-use Rattle.blocking_world.specs.Machine.{IsHeld, after_wait, seen, next_start, task_act, called, wait_act}
+use Rattle.blocking_laws.specs.Answers.{wait_act}
+use Rattle.blocking_world.specs.Machine.{IsHeld, after_wait, seen, next_start, task_act, called}
 use Rattle.blocking_world.specs.Moves.{Move, wait_step, Begins, Calls, TakesJob, IsAnswered, Finishes, GivesUp, CallsWaker, HasWaited, May, after, moment_of, event_of, took, finish_wakes, giving_up_wakes}
 use Rattle.blocking_world.specs.Ties.{Tied, Tasked, TaskAs, ActedAs, holder_of, let_go_in}
 use Rattle.blocking_laws.specs.declared.event.Act.{Act}

@@ -15,8 +15,9 @@ use Rattle.blocking_core.specs.declared.pool.token.WorkerPass.{WorkerPass}
 use Rattle.blocking_world.specs.Crews.{AddsTo, TakesTo, NoneParked, no_growth, marked_in, after_wake, after_cancel}
 use Rattle.blocking_world.specs.Worlds.{Worlded, CallPool, duty_of, outcome_of, answered, finished, given_up, woke, hand_at, with_hand, new_owner, may_be, has_let_go, poll_of, polled, cancelled, detached, dropped, owner_at, with_owner}
 use Rattle.blocking_world.specs.declared.call.CallJob.{CallJob}
+use Rattle.blocking_laws.specs.Answers.{wait_act}
 use Rattle.blocking_laws.specs.declared.event.Act.{Act}
-use Rattle.blocking_laws.specs.declared.event.Act.TheVariants.{Accepted, Refused, JobWoken, JobCancelled, LimitSet, Swept, TaskCancelled, TaskDetached, HolderDropped, Arrived, Took as TookToRun, TookDropped, TookNone, Stays, Stopped, Ended, Answered, Finished, GaveUp, HolderWoken, NoAction}
+use Rattle.blocking_laws.specs.declared.event.Act.TheVariants.{Accepted, Refused, JobWoken, JobCancelled, LimitSet, Swept, TaskCancelled, TaskDetached, HolderDropped, Arrived, Took as TookToRun, TookDropped, TookNone, Ended, Answered, Finished, GaveUp, HolderWoken, NoAction}
 use Rattle.blocking_laws.specs.declared.event.Event.{Event}
 use Rattle.blocking_laws.specs.declared.event.Party.{Party}
 use Rattle.blocking_laws.specs.declared.event.Party.TheVariants.{Task, Worker, Pool}
@@ -160,11 +161,6 @@ pub record Takes (may_answer : ℕ → Bool → Type 0) (w : Worlded) (v : ℕ) 
 abbrev pub TakesWith : Hand → (ℕ → Bool → Type 0) → Worlded → ℕ → Event → Worlded → Type 0
 TakesWith (Free pass) may_answer w v e w' = Takes may_answer w v e w'
 TakesWith _ may_answer w v e w' = DoesNothing (Worker v) w e w'
-
--- what is seen of a wait
-abbrev pub wait_act : ℕ → Bool → Bool → Act
-wait_act v late true = Stopped v late
-wait_act v late false = Stays v late
 
 -- the parts after a wait: a worker that stops leaves
 abbrev pub after_wait : Worlded → ℕ → WorkerPass → Bool → Worlded

@@ -13,7 +13,8 @@ use Rattle.blocking_core.specs.declared.pool.answer.Woke.{Woke}
 use Rattle.blocking_core.specs.declared.pool.token.WorkerPass.{WorkerPass}
 use Rattle.blocking_world.specs.Crews.{AddsTo, TakesFront, no_growth, after_wake, after_cancel}
 use Rattle.blocking_world.specs.Worlds.{Worlded, CallPool, duty_of, outcome_of, answered, finished, given_up, woke, hand_at, with_hand, is_free_hand, may_be, has_let_go, owner_at, with_owner}
-use Rattle.blocking_world.specs.Machine.{next_start, seen, nothing, added_act, added_tasks, task_act, called, pool_called, wait_act, after_wait, with_held, was_accepted}
+use Rattle.blocking_laws.specs.Answers.{wait_act}
+use Rattle.blocking_world.specs.Machine.{next_start, seen, nothing, added_act, added_tasks, task_act, called, pool_called, after_wait, with_held, was_accepted}
 use Rattle.blocking_laws.specs.Steps.{named}
 use Rattle.blocking_world.specs.declared.call.CallJob.{CallJob}
 use Rattle.blocking_laws.specs.declared.event.Act.{Act}

@@ -4,13 +4,15 @@ use Rattle.std.specs.FinMap.{get}
 use Rattle.blocking_core.specs.Counts.{limit_of}
 use Rattle.blocking_core.specs.Growth.{greatest}
 use Rattle.blocking_core.specs.Jobs.{Job as Entry}
+use Rattle.blocking_core.specs.Lists.{is_in, IsOnce}
+use Rattle.blocking_core.specs.SlotAnswers.{IsPending}
 use Rattle.blocking_core.specs.Slots.{Content, Empty, Full, GivenUp, Abandoned}
 use Rattle.blocking_core.specs.declared.job.Action.{Action}
 use Rattle.blocking_core.specs.declared.job.Action.TheVariants as action
 use Rattle.blocking_core.specs.declared.pool.standing.Standing.{Standing}
 use Rattle.blocking_core.specs.declared.pool.standing.Standing.TheVariants.{Queued, Running, Parked, Done, Dropped}
-use Rattle.blocking_laws.specs.Seen.{events, acts_of, own, task_cut, among}
-use Rattle.blocking_laws.specs.Jobs.{accepted_jobs, tasks, holder, standing, is_woken, is_cancelled, is_marked, has_ended}
+use Rattle.blocking_laws.specs.Seen.{events, acts_of, own, task_cut}
+use Rattle.blocking_laws.specs.Jobs.{accepted_jobs, tasks, holder, is_queued, is_running, standing, is_woken, is_cancelled, is_marked, has_ended}
 use Rattle.blocking_laws.specs.Queue.{queue, entries, takes, running}
 use Rattle.blocking_laws.specs.Counts.{starts, stops, refused_starts, arrivals, limit}
 use Rattle.blocking_laws.specs.Growth.{known_limit}
@@ -91,26 +93,13 @@ Filed w past =
 
 -- ---- the queue
 
--- no number stands twice
-abbrev pub IsOnce : List ℕ → Type 0
-IsOnce [] = Unit {0}
-IsOnce (number ∷ numbers) = (among numbers number ≡ false) × IsOnce numbers
-
-abbrev pub is_queued_as : Option Standing → Bool
-is_queued_as (Some Queued) = true
-is_queued_as _ = false
-
 pub record Lined (w : Worlded) (past : List Moment) : Type 0 where
   pub same : w.pool.queue ≡ queue past
   pub once : IsOnce (queue past)
-  pub each : (s : ℕ) → among (queue past) s ≡ is_queued_as (standing past s)
+  pub each : (s : ℕ) → is_in s (queue past) ≡ is_queued (standing past s)
   pub order : entries past ≡ takes past ++ queue past
 
 -- ---- the counts
-
-abbrev pub is_running_as : Option Standing → Bool
-is_running_as (Some Running) = true
-is_running_as _ = false
 
 pub record Counted (setting : ℕ) (w : Worlded) (past : List Moment) : Type 0 where
   pub workers_are : starts past ≡ w.pool.counts.workers + stops past
@@ -123,7 +112,7 @@ pub record Counted (setting : ℕ) (w : Worlded) (past : List Moment) : Type 0 w
   pub positive : 0 < limit setting past
   pub next_is : w.pool.counts.next_worker ≡ min (1 + starts past + refused_starts past) greatest
   pub once : IsOnce (running past)
-  pub each : (s : ℕ) → among (running past) s ≡ is_running_as (standing past s)
+  pub each : (s : ℕ) → is_in s (running past) ≡ is_running (standing past s)
   -- a job is queued only where somebody is there for it
   pub served : w.pool.counts.workers ≡ 0 → w.pool.queue ≡ []
 
@@ -176,12 +165,6 @@ pub record Handed (w : Worlded) (past : List Moment) : Type 0 where
   pub marks : (s : ℕ) → is_marked past s || is_cancelled past s ≡ true → let_go_in (slice_get w.tasks (s - 1)) ≡ true
 
 -- ---- the tasks
-
--- nothing came of the call yet
-abbrev pub IsPending : Content ℕ → Type 0
-IsPending Empty = Unit {0}
-IsPending (Abandoned false) = Unit {0}
-IsPending _ = ⊥
 
 -- what a task that is awaited finds in its slot, by whether its job finished or gave up, whether that was in time, and the number
 abbrev pub AwaitedAs : Content ℕ → Bool → Bool → Bool → ℕ → Type 0

@@ -77,7 +77,8 @@ impl Model for Crew {
 
     ghost view = { λ c. c.pool };
 
-    ghost invariant = { λ c. (c.setting ≡ c.pool.counts.setting) × (c.next_start ≡ c.pool.counts.next_worker) };
+    ghost invariant = { λ c. (c.setting ≡ c.pool.counts.setting)
+        × (c.next_start ≡ c.pool.counts.next_worker) };
 }
 
 // The workers of a pool before a call that lets it grow, and the limit that the growth goes by.
@@ -236,7 +237,8 @@ impl Crew {
         requires parked { NoneParked self.old.jobs }
         requires free { self.old.counts.arriving < self.old.counts.idle }
         ensures parked { NoneParked self.new.jobs }
-        ensures left { (rest : ℕ) → self.old.counts.idle ≡ self.old.counts.arriving + rest + 1 → self.new.counts.idle ≡ self.new.counts.arriving + rest }
+        ensures left { (rest : ℕ) → self.old.counts.idle ≡ self.old.counts.arriving + rest + 1 →
+            self.new.counts.idle ≡ self.new.counts.arriving + rest }
     {
         let pass = self.clear_queue(pass, starter);
         match self.after_wait(pass, true, starter) {
@@ -301,7 +303,8 @@ impl Crew {
 fn growth_since(pool: &Pool<CallJob>, before: Before, ready: usize) -> Grown
     requires { before.workers ≤ pool.now.counts.workers }
     ensures started { result.started ≡ pool.now.counts.workers - before.workers }
-    ensures refused { result.refused ≡ is_due ready pool.now.counts.idle pool.now.counts.workers before.limit 0 }
+    ensures refused { result.refused ≡
+        is_due ready pool.now.counts.idle pool.now.counts.workers before.limit 0 }
     ensures order { pool.now.counts.idle ≤ pool.now.counts.workers }
 {
     let workers = pool.thread_count();

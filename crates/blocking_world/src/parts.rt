@@ -57,7 +57,8 @@ impl Parts {
         starter: &mut S,
     ) -> Result<Event, AllocError>
         requires { IsReady self.old }
-        ensures ok { IfOk result (λ e. StepDoes (S.may_answer starter.old) step self.old e self.new) }
+        ensures ok { IfOk result
+            (λ e. StepDoes (S.may_answer starter.old) step self.old e self.new) }
         ensures err { OnErr result (self.new ≡ self.old) }
     {
         match step {
@@ -131,7 +132,8 @@ impl Parts {
 
     /// A started worker arrives.
     pub(crate) fn arrive(&mut self) -> Result<Event, AllocError>
-        ensures ok { IfOk result (λ e. ArrivesIf (nat_lt 0 self.old.pool.counts.arriving) self.old e self.new) }
+        ensures ok { IfOk result
+            (λ e. ArrivesIf (nat_lt 0 self.old.pool.counts.arriving) self.old e self.new) }
         ensures err { OnErr result (self.new ≡ self.old) }
     {
         let first = self.crew.next_start();
@@ -145,7 +147,8 @@ impl Parts {
     /// A worker takes a job.
     pub(crate) fn take<S: Starter>(&mut self, worker: usize, starter: &mut S) -> Event
         requires { IsReady self.old }
-        ensures { TakesWith (hand_at self.old.hands worker) (S.may_answer starter.old) self.old worker result self.new }
+        ensures { TakesWith (hand_at self.old.hands worker) (S.may_answer starter.old)
+            self.old worker result self.new }
     {
         let first = self.crew.next_start();
         let party = Party::Worker(worker);
@@ -192,7 +195,8 @@ impl Parts {
 
     /// The call of a worker's job is answered.
     pub(crate) fn io(&mut self, worker: usize, answer: Answer) -> Event
-        ensures { AnswersWith (hand_at self.old.hands worker) self.old worker answer result self.new }
+        ensures { AnswersWith (hand_at self.old.hands worker)
+            self.old worker answer result self.new }
     {
         let first = self.crew.next_start();
         let party = Party::Worker(worker);
@@ -307,7 +311,9 @@ impl Parts {
     /// A job whose task let it go is cancelled in the pool.
     pub(crate) fn strike<S: Starter>(&mut self, serial: u64, starter: &mut S) -> Event
         requires { IsReady self.old }
-        ensures { StrikesIf (was_accepted self.old serial && has_let_go (owner_at self.old.tasks serial).stage) self.old serial result self.new }
+        ensures { StrikesIf
+            (was_accepted self.old serial && has_let_go (owner_at self.old.tasks serial).stage)
+            self.old serial result self.new }
     {
         let first = self.crew.next_start();
         let Some(task) = self.task_of(serial) else {

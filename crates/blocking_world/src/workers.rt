@@ -52,7 +52,8 @@ impl Workers {
     /// The pass of this worker, if it is idle. Its hand is out then.
     pub(crate) fn pass(&mut self, worker: usize) -> Option<WorkerPass>
         ensures pass { result ≡ pass_in (hand_at self.old worker) }
-        ensures after { self.new ≡ (if is_some result then with_hand self.old worker Hand.Out else self.old) }
+        ensures after { self.new ≡
+            (if is_some result then with_hand self.old worker Hand.Out else self.old) }
     {
         self.at(worker)?.pass()
     }
@@ -60,7 +61,8 @@ impl Workers {
     /// The job of this worker that has nothing left to do, if it has one. Its hand is out then.
     pub(crate) fn over(&mut self, worker: usize) -> Option<Held>
         ensures job { result ≡ over_in (hand_at self.old worker) }
-        ensures after { self.new ≡ (if is_some result then with_hand self.old worker Hand.Out else self.old) }
+        ensures after { self.new ≡
+            (if is_some result then with_hand self.old worker Hand.Out else self.old) }
     {
         self.at(worker)?.over()
     }

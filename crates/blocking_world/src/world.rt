@@ -35,9 +35,14 @@ impl Model for World {
 
     ghost Value = { History };
 
-    ghost view = { λ w. record { setting = w.parts.pool.counts.setting; starts = w.starts.items; past = reverse w.trace.items } };
+    ghost view = { λ w. record {
+      setting = w.parts.pool.counts.setting;
+      starts = w.starts.items;
+      past = reverse w.trace.items;
+    } };
 
-    ghost invariant = { λ w. IsLawful w.parts.pool.counts.setting w.starts.items w.parts (reverse w.trace.items) };
+    ghost invariant = { λ w. IsLawful w.parts.pool.counts.setting w.starts.items w.parts
+        (reverse w.trace.items) };
 }
 
 impl World {
@@ -48,7 +53,11 @@ impl World {
     /// A world in which nothing has happened. The setting is the text of a limit, and the starts say which starts of workers
     /// are refused: the first mark is that of start 1, and after the marks none is. Takes no memory.
     pub fn new(alloc: Global, setting: Option<&str>, starts: Vec<bool>) -> World
-        ensures begins { result ≡ record { setting = limit_of_setting (option_map (λ text. text.now) setting.entry); starts = starts.items; past = [] } }
+        ensures begins { result ≡ record {
+          setting = limit_of_setting (option_map (λ text. text.now) setting.entry);
+          starts = starts.items;
+          past = [];
+        } }
         ensures legal { Legal result.setting result.starts result.past }
     {
         World {
@@ -60,7 +69,8 @@ impl World {
 
     // Takes one step.
     fn step(&mut self, step: Step) -> Result<Event, AllocError>
-        ensures ok { IfOk result (λ e. self.new ≡ record self.old { past = record { step = step; event = e } ∷ self.old.past }) }
+        ensures ok { IfOk result (λ e.
+            self.new ≡ record self.old { past = record { step = step; event = e } ∷ self.old.past }) }
         ensures err { OnErr result (self.new ≡ self.old) }
     {
         self.trace.reserve(1)?;

@@ -1,6 +1,6 @@
 //! A list of places in which a place is added at the end and taken out anywhere, each at the same cost.
 ghost use Rattle.std.specs.Prelude.{◌≡◌, ◌+◌, ◌-◌, ◌<◌, ◌≤◌, ◌++◌, ◌∷◌, [], true, false, length, vec_len, is_some, IfSome, OnOk, OnErr, slice_index_or};
-ghost use Rattle.blocking_core.specs.Chain.{is_in, without, first_of, rest_after, IsOnce};
+ghost use Rattle.blocking_core.specs.Lists.{is_in, without, first_of, rest_after, IsOnce};
 ghost use Rattle.blocking_core.specs.Rings.{node_after, node_before, Joins, IsInserted};
 
 use std::alloc::{AllocError, Global};
@@ -32,7 +32,10 @@ impl Model for Chain {
 
     ghost use Rattle.blocking_core.specs.Rings.{walk, IsRing};
 
-    ghost view = { λ c. record { places = walk c.links.items c.len 0; room = length c.links.items - 1 } };
+    ghost view = { λ c. record {
+      places = walk c.links.items c.len 0;
+      room = length c.links.items - 1;
+    } };
 
     ghost invariant = { λ c. IsRing c.links.items c.len };
 }

@@ -1,7 +1,7 @@
 //! The table of the jobs that aren't over, their queue, and the order in which they were accepted.
 ghost use Rattle.std.specs.Prelude.{◌≡◌, ◌+◌, ◌<◌, ◌++◌, ◌∷◌, [], ℕ, true, false, length, option_map, OnOk, IsSome, Some, None};
 ghost use Rattle.std.specs.FinMap as map;
-ghost use Rattle.blocking_core.specs.Chain.{first_of, rest_after, is_in, without, IsOnce};
+ghost use Rattle.blocking_core.specs.Lists.{first_of, rest_after, is_in, without, IsOnce};
 ghost use Rattle.slab.specs.Slab.{get};
 ghost use Rattle.blocking_core.specs.Jobs.{JobNumber, new_job, job_of, standing_of, is_running_as, amend, queued_again, parked_with, woken, cancelled, has_value, value_at};
 ghost use Rattle.std.specs.Option.{option_copied_mut};
@@ -106,7 +106,8 @@ impl<J: Drop> Table<J> {
         ensures serial { result.serial ≡ serial }
         ensures queue { self.new.queue ≡ self.old.queue ++ serial ∷ [] }
         ensures accepted { self.new.accepted ≡ self.old.accepted ++ serial ∷ [] }
-        ensures jobs { self.new.jobs ≡ map.insert self.old.jobs serial (new_job result.place value) }
+        ensures jobs { self.new.jobs ≡
+            map.insert self.old.jobs serial (new_job result.place value) }
     {
         let place = self.entries.insert_reserved(Entry {
             serial,
@@ -189,7 +190,8 @@ impl<J: Drop> Table<J> {
     /// Marks a job as cancelled.
     pub(crate) fn mark_cancelled(&mut self, no: JobNo)
         requires { IsSome (job_of self.old.jobs no) }
-        ensures { Becomes self.old self.new self.old.queue (amend self.old.jobs no.serial cancelled) }
+        ensures { Becomes self.old self.new self.old.queue
+            (amend self.old.jobs no.serial cancelled) }
     {
         let Some(entry) = self.entries.get_mut(no.place()) else {
             unreachable!()
@@ -200,7 +202,8 @@ impl<J: Drop> Table<J> {
     /// Lets a running job wait for a wake, with its value.
     pub(crate) fn park(&mut self, no: JobNo, value: J)
         requires { is_running_as self.old.jobs no ≡ true }
-        ensures { Becomes self.old self.new self.old.queue (amend self.old.jobs no.serial (parked_with value)) }
+        ensures { Becomes self.old self.new self.old.queue
+            (amend self.old.jobs no.serial (parked_with value)) }
     {
         let Some(entry) = self.entries.get_mut(no.place()) else {
             unreachable!()
@@ -234,7 +237,8 @@ impl<J: Drop> Table<J> {
     /// Lets a parked job stand at the queue's end again.
     pub(crate) fn enter_again(&mut self, no: JobNo)
         requires { standing_of self.old.jobs no ≡ Some Parked }
-        ensures { Becomes self.old self.new (self.old.queue ++ no.serial ∷ []) (amend self.old.jobs no.serial queued_again) }
+        ensures { Becomes self.old self.new (self.old.queue ++ no.serial ∷ [])
+            (amend self.old.jobs no.serial queued_again) }
     {
         self.queue.push_back(no.place());
         let Some(entry) = self.entries.get_mut(no.place()) else {
@@ -265,7 +269,8 @@ impl<J: Drop> Table<J> {
     /// The job that was accepted after this one.
     pub(crate) fn accepted_after(&self, no: JobNo) -> Option<JobNo>
         requires { IsSome (job_of self.now.jobs no) }
-        ensures { IsNumberOf self.now.jobs (first_of (rest_after no.serial self.now.accepted)) result }
+        ensures { IsNumberOf self.now.jobs
+            (first_of (rest_after no.serial self.now.accepted)) result }
     {
         number_at(&self.entries, self.accepted.after(no.place())?)
     }
@@ -273,7 +278,8 @@ impl<J: Drop> Table<J> {
 
 // The number of the job at a place.
 fn number_at<J: Drop>(entries: &Slab<Entry<J>>, place: usize) -> Option<JobNo>
-    ensures { result ≡ option_map (λ entry. record { place = place; serial = entry.serial }) (get entries.now place) }
+    ensures { result ≡
+        option_map (λ entry. record { place = place; serial = entry.serial }) (get entries.now place) }
 {
     let entry = entries.get(place)?;
     Some(JobNo::new(place, entry.serial))

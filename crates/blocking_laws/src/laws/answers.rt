@@ -150,7 +150,8 @@ pub fn sweeps()
     // accepted 1 +1 / dropped / arrived 1 / swept 0: the job is marked, and not parked
     ensures accepts_queued_left { Legal 1 [] (dropped ▸ moment Sweep Pool None (Swept 0) 2) }
     // .. / ended 1 parked / swept 0: the job is parked, and bears no mark
-    ensures accepts_unmarked_left { IsPooled 1 [] (one_parked ▸ moment Sweep Pool None (Swept 0) 2) }
+    ensures accepts_unmarked_left { IsPooled 1 []
+        (one_parked ▸ moment Sweep Pool None (Swept 0) 2) }
     // .. / ended 1 parked / dropped / swept 1 / took 1 dropped
     ensures accepts_marked { IsPooled 1 [] (dropped_parked
         ▸ moment Sweep Pool None (Swept 1) 2
@@ -273,9 +274,11 @@ pub fn numbers()
     // refused memory
     ensures accepts_want_of_memory { Legal 1 [] ([] ▸ moment Spawn Pool None (Refused Memory) 1) }
     // where the greatest number would be next no short trace ends: refused numbers, and not refused memory
-    ensures accepts_end_of_numbers { (past : List Moment) → 1 + length (accepted_jobs past) ≡ greatest →
+    ensures accepts_end_of_numbers { (past : List Moment) →
+        1 + length (accepted_jobs past) ≡ greatest →
         AnswerLaw 1 past (moment Spawn Pool None (Refused Numbers) 2) }
-    ensures refuses_memory_at_end_of_numbers { (past : List Moment) → 1 + length (accepted_jobs past) ≡ greatest →
+    ensures refuses_memory_at_end_of_numbers { (past : List Moment) →
+        1 + length (accepted_jobs past) ≡ greatest →
         Refuses (AnswerLaw 1) past (moment Spawn Pool None (Refused Memory) 2) }
     // accepted 1 +1 / arrived 2
     ensures refuses_worker_left_out { Refuses (AnswerLaw 1) one_queued

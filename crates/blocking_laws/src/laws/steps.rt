@@ -32,8 +32,10 @@ pub fn nothing_at_the_pool()
         (moment (Stray 1) Pool None NoAction 2) }
     ensures refuses_no_cancel { Refuses StepLaw dropped (moment (Strike 1) Pool None NoAction 2) }
     // where there is none
-    ensures refuses_arrival_of_nobody { Refuses StepLaw [] (moment Arrive (Worker 1) None (Arrived 1) 1) }
-    ensures refuses_limit_of_zero { Refuses StepLaw [] (moment (SetLimit 0) Pool None (LimitSet 0) 1) }
+    ensures refuses_arrival_of_nobody { Refuses StepLaw []
+        (moment Arrive (Worker 1) None (Arrived 1) 1) }
+    ensures refuses_limit_of_zero { Refuses StepLaw []
+        (moment (SetLimit 0) Pool None (LimitSet 0) 1) }
     ensures refuses_wake_of_no_job { Refuses StepLaw []
         (moment (Stray 1) Pool None (JobWoken 1 Nothing) 1) }
     ensures refuses_cancel_of_held_job { Refuses StepLaw one_arrived
@@ -130,7 +132,8 @@ pub fn events()
     ensures refuses_other_wait { Refuses StepLaw one_arrived
         (moment (Wait 1) (Worker 1) None (Stays 1 true) 2) }
     // limit 3, of a limit 2
-    ensures refuses_other_limit { Refuses StepLaw [] (moment (SetLimit 2) Pool None (LimitSet 3) 1) }
+    ensures refuses_other_limit { Refuses StepLaw []
+        (moment (SetLimit 2) Pool None (LimitSet 3) 1) }
     // accepted 1 +1 / cancelled, of a poll
     ensures refuses_other_call { Refuses StepLaw one_queued
         (moment (OfTask 0 Poll) (Task 0) None TaskCancelled 2) }

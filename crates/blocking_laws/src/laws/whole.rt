@@ -41,13 +41,17 @@ pub fn one_event()
 /// The order of entry is the takes and then the queue; and the queue and the running jobs are those that stand so, each once.
 /// This holds of each trace that keeps the pool's law, as each legal one does.
 pub fn queue_and_running()
-    ensures entered { (setting : ℕ) (marks : List Bool) (past : List Moment) → IsPooled setting marks past →
+    ensures entered { (setting : ℕ) (marks : List Bool) (past : List Moment) →
+        IsPooled setting marks past →
         entries past ≡ takes past ++ queue past }
-    ensures count { (setting : ℕ) (marks : List Bool) (past : List Moment) → IsPooled setting marks past →
+    ensures count { (setting : ℕ) (marks : List Bool) (past : List Moment) →
+        IsPooled setting marks past →
         length (queue past) ≡ length (entries past) - length (takes past) }
-    ensures queued { (setting : ℕ) (marks : List Bool) (past : List Moment) → IsPooled setting marks past →
+    ensures queued { (setting : ℕ) (marks : List Bool) (past : List Moment) →
+        IsPooled setting marks past →
         AreThose (λ s. is_queued (standing past s)) (queue past) }
-    ensures running { (setting : ℕ) (marks : List Bool) (past : List Moment) → IsPooled setting marks past →
+    ensures running { (setting : ℕ) (marks : List Bool) (past : List Moment) →
+        IsPooled setting marks past →
         AreThose (λ s. is_running (standing past s)) (running past) }
 {}
 

@@ -1,4 +1,3 @@
-use Rattle.std.proofs.Common.{subst}
 use Rattle.blocking.proofs.Weaker.{takes_weaker}
 use Rattle.blocking.proofs.held.Held.after_wait.Goals as goal
 

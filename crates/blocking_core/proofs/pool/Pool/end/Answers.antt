@@ -1,6 +1,6 @@
 use Rattle.std.proofs.Common.{sym, ap, ◌∙◌}
 use Rattle.std.specs.FinMap.{remove}
-use Rattle.blocking_core.specs.Chain.{without}
+use Rattle.blocking_core.specs.Lists.{without}
 use Rattle.blocking_core.specs.Jobs.{is_running_as}
 use Rattle.blocking_core.proofs.PoolLemmas.{running_busy, left_whole}
 use Rattle.blocking_core.proofs.pool.Pool.end.Goals as goal

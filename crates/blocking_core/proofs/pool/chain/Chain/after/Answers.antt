@@ -1,5 +1,5 @@
 use Rattle.std.proofs.Common.{◌≡◌, ◌<◌, ◌+◌, true, sym, subst, ap, ◌∙◌, arith, length, add-one}
-use Rattle.blocking_core.specs.Chain.{is_in}
+use Rattle.blocking_core.specs.Lists.{is_in}
 use Rattle.blocking_core.proofs.RingLemmas.{neighbours_within, place_of, read_after, node_place}
 use Rattle.blocking_core.proofs.pool.chain.Chain.after.Goals as goal
 

@@ -1,6 +1,6 @@
 use Rattle.std.proofs.Common.{◌≡◌, ◌-◌, sym, subst, ap, ◌∙◌, arith, Some}
 use Rattle.std.proofs.lemmas.List.{get_or_read}
-use Rattle.blocking_core.specs.Chain.{first_of, IsOnce}
+use Rattle.blocking_core.specs.Lists.{first_of, IsOnce}
 use Rattle.blocking_core.specs.Rings.{loose, node_after}
 use Rattle.blocking_core.proofs.RingLemmas.{ring_some, ring_first, ring_walk}
 use Rattle.blocking_core.proofs.pool.chain.Chain.first.Goals as goal

@@ -1,6 +1,6 @@
 use Rattle.std.proofs.Common.{◌≡◌, ◌<◌, ◌-◌, ◌+◌, ◌++◌, ◌∷◌, [], false, sym, subst, ap, ◌∙◌, arith, length, add-one}
 use Rattle.std.proofs.lemmas.List.{with_items_is}
-use Rattle.blocking_core.specs.Chain.{is_in}
+use Rattle.blocking_core.specs.Lists.{is_in}
 use Rattle.blocking_core.specs.Rings.{node_before, walk, IsRing, IsInserted}
 use Rattle.blocking_core.proofs.RingLemmas.{IsPushed, pushed, count_within, last_within, same_chain}
 use Rattle.blocking_core.proofs.pool.chain.Chain.push_back.Goals as goal

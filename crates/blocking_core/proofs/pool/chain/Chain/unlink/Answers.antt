@@ -1,6 +1,6 @@
 use Rattle.std.proofs.Common.{◌≡◌, ◌<◌, ◌-◌, ◌+◌, true, sym, subst, ap, ◌∙◌, arith, length, add-one}
 use Rattle.std.proofs.lemmas.List.{with_items_is}
-use Rattle.blocking_core.specs.Chain.{is_in, without}
+use Rattle.blocking_core.specs.Lists.{is_in, without}
 use Rattle.blocking_core.specs.Rings.{node_before, node_after, walk, IsRing, Joins}
 use Rattle.blocking_core.proofs.RingLemmas.{IsUnlinked, unlinked, neighbours_within, same_chain}
 use Rattle.blocking_core.proofs.pool.chain.Chain.unlink.Goals as goal

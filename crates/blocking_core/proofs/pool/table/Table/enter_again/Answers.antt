@@ -1,6 +1,7 @@
 use Rattle.std.proofs.Common.{◌++◌, ◌∷◌, [], sym, ap, ◌∙◌}
 use Rattle.blocking_core.specs.declared.pool.standing.Standing.TheVariants.{Parked}
-use Rattle.blocking_core.proofs.RollLemmas.{standing_job, not_vacant, enters, enters_room}
+use Rattle.blocking_core.proofs.RollLemmas.{not_vacant, enters, enters_room}
+use Rattle.blocking_core.proofs.Standings.{standing_job}
 use Rattle.blocking_core.proofs.pool.table.Table.enter_again.Goals as goal
 
 pub push_back-requires-clause-room : goal.push_back-requires-clause-room

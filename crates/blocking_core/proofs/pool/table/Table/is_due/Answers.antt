@@ -1,10 +1,10 @@
 use Rattle.std.proofs.Common.{sym}
-use Rattle.blocking_core.proofs.RollLemmas.{some_job, not_vacant, found_there, unasked, asked, parked_held}
+use Rattle.blocking_core.proofs.RollLemmas.{some_of, not_vacant, found_there, unasked, asked, parked_held}
 use Rattle.blocking_core.proofs.pool.table.Table.is_due.Goals as goal
 
 pub unreachable-requires : goal.unreachable-requires
 unreachable-requires g c =
-    let job = some_job _ c.requires in
+    let job = some_of _ c.requires in
     not_vacant c.self.inside.entries c.self.inside.queue c.self.inside.accepted c.args.self.now c.args.no job.0 c.place.result c.self.invariant c.self.view_is job.1 c.place.ensures (sym c.in_default.ensures)
 
 pub unreachable-requires-in-None : goal.unreachable-requires-in-None

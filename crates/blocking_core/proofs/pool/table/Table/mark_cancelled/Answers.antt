@@ -1,11 +1,11 @@
 use Rattle.std.proofs.Common.{refl, sym, true}
 use Rattle.blocking_core.specs.Jobs.{cancelled}
-use Rattle.blocking_core.proofs.RollLemmas.{some_job, not_vacant, marks}
+use Rattle.blocking_core.proofs.RollLemmas.{some_of, not_vacant, marks}
 use Rattle.blocking_core.proofs.pool.table.Table.mark_cancelled.Goals as goal
 
 pub unreachable-requires : goal.unreachable-requires
 unreachable-requires g c =
-    let job = some_job _ c.requires in
+    let job = some_of _ c.requires in
     not_vacant c.self.inside.entries c.self.inside.queue c.self.inside.accepted c.args.self.now c.args.no job.0 c.place.result c.self.invariant c.self.view_is job.1 c.place.ensures (sym c.in_default.ensures.value)
 
 pub invariant_of-self : goal.invariant_of-self

@@ -1,5 +1,6 @@
 use Rattle.std.proofs.Common.{sym}
-use Rattle.blocking_core.proofs.RollLemmas.{running_job, not_vacant, parks}
+use Rattle.blocking_core.proofs.RollLemmas.{not_vacant, parks}
+use Rattle.blocking_core.proofs.Standings.{running_job}
 use Rattle.blocking_core.proofs.pool.table.Table.park.Goals as goal
 
 pub unreachable-requires : goal.unreachable-requires

@@ -1,4 +1,5 @@
-use Rattle.blocking_core.proofs.RollLemmas.{running_job, is_accepted, Leaves, leaves}
+use Rattle.blocking_core.proofs.RollLemmas.{is_accepted, Leaves, leaves}
+use Rattle.blocking_core.proofs.Standings.{running_job}
 use Rattle.blocking_core.proofs.pool.table.Table.remove.Goals as goal
 
 pub unlink-requires : goal.unlink-requires
