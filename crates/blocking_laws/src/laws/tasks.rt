@@ -9,7 +9,7 @@ ghost use Rattle.blocking_laws.specs.Steps.{IsPolled, is_answered};
 ghost use Rattle.blocking_laws.specs.Legal.{Legal};
 ghost use Rattle.blocking_laws.specs.Traces.{◌▸◌, moment, Refuses, Keeps, FirstTaskLaw, LawOfTask};
 ghost use Rattle.blocking_laws.specs.Traces.{one_queued, one_taken, one_answered, one_finished, one_done, one_got};
-ghost use Rattle.blocking_laws.specs.Traces.{awaited, awaited_finished, untold_finished};
+ghost use Rattle.blocking_laws.specs.Traces.{awaited, awaited_finished, untold_finished, untold_given_up};
 ghost use Rattle.blocking_laws.specs.Traces.{dropped_taken, cancelled_finished, cancelled_given_up};
 ghost use Rattle.blocking_laws.specs.declared.event.Event.{Event};
 ghost use Rattle.blocking_laws.specs.declared.event.Act.TheVariants.{Accepted, Waits, TaskGot, TaskGotNone, TaskCancelled, TaskDetached, HolderDropped, Ended, JobParked, Finished, GaveUp, HolderWoken};
@@ -174,6 +174,9 @@ pub fn wakes()
     // .. / waits / .. / answered 5 / finished / ended 1 done
     ensures refuses_wait_for_done { Refuses (Keeps NoLostWake) untold_finished
         (moment (End 1) (Worker 1) (Some 1) (Ended 1 Done) 2) }
+    // accepted 1 +1 / cancelled / waits / arrived 1 / took 1 dropped / gave up / ended 1 dropped
+    ensures refuses_wait_for_dropped { Refuses (Keeps NoLostWake) untold_given_up
+        (moment (End 1) (Worker 1) (Some 1) (Ended 1 Dropped) 2) }
     // .. / finished wake owner / waits / ended 1 done: the wake came before the wait
     ensures refuses_earlier_wake { Refuses (Keeps NoLostWake) (awaited_finished
         ▸ moment (OfTask 0 Poll) (Task 0) None Waits 2)
