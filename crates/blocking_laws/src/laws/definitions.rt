@@ -11,7 +11,7 @@ ghost use Rattle.blocking_laws.specs.Queue.{entries, takes, queue, running};
 ghost use Rattle.blocking_laws.specs.Counts.{workers, idle, limit};
 ghost use Rattle.blocking_laws.specs.Growth.{known_limit};
 ghost use Rattle.blocking_laws.specs.Traces.{◌▸◌, moment};
-ghost use Rattle.blocking_laws.specs.Traces.{one_queued, one_taken, one_answered, one_done, two_workers, two_queued, late_queued};
+ghost use Rattle.blocking_laws.specs.Traces.{one_queued, one_arrived, one_taken, one_answered, one_done, two_workers, two_queued, late_queued};
 ghost use Rattle.blocking_laws.specs.Traces.{awaited, awaited_finished, cancelled_given_up, detached, dropped, dropped_over, start_refused, second_refused};
 ghost use Rattle.blocking_laws.specs.Traces.{one_parked, woken_waits, dropped_parked, two_dropped, front_dropped, second_dropped, queued_again};
 ghost use Rattle.blocking_laws.specs.declared.event.Act.TheVariants.{Accepted, Refused, JobWoken, JobCancelled, LimitSet, Swept, TaskCancelled, HolderDropped, Took, TookDropped, Stopped, Ended, NoAction};
@@ -69,6 +69,9 @@ pub fn standings()
     // .. / gave up / ended 1 dropped
     ensures dropped { standing dropped_over 1 ≡ Some Dropped }
     ensures over { has_ended dropped_over 1 ≡ true }
+    // .. / ended 1 done, .. / ended 1 dropped: another job isn't over
+    ensures not_over_by_done { has_ended one_done 2 ≡ false }
+    ensures not_over_by_dropped { has_ended dropped_over 2 ≡ false }
 {}
 
 /// Who holds a job, and what was done to it.
@@ -83,6 +86,19 @@ pub fn flags()
         ▸ moment (Job 1) (Worker 1) (Some 1) (Accepted 2) 2) ≡ 1 }
     // .. / took 1 / delivered 1 marked / parked
     ensures woken { is_woken woken_waits 1 ≡ true }
+    // accepted 1 +1 / arrived 1 / delivered 1 nothing, .. / ended 1 parked / delivered 1 entered: it didn't run
+    ensures unwoken_in_queue { is_woken (one_arrived
+        ▸ moment (Stray 1) Pool None (JobWoken 1 Nothing) 2) 1 ≡ false }
+    ensures unwoken_when_parked { is_woken (one_parked
+        ▸ moment (Stray 1) Pool None (JobWoken 1 Entered) 2) 1 ≡ false }
+    // .. / took 1 +2 / arrived 2 / delivered 1 marked / took 2: the take of another job leaves it woken
+    ensures woken_beside_take { is_woken (two_workers
+        ▸ moment (Stray 1) Pool None (JobWoken 1 Marked) 3
+        ▸ moment (Take 2) (Worker 2) (Some 2) (Took 2) 3) 1 ≡ true }
+    // .. / took 1 +2 / arrived 2 / took 2 / delivered 2 marked: the wake of another job
+    ensures unwoken_by_other { is_woken (two_workers
+        ▸ moment (Take 2) (Worker 2) (Some 2) (Took 2) 3
+        ▸ moment (Stray 2) Pool None (JobWoken 2 Marked) 3) 1 ≡ false }
     // .. / took 1 / delivered 1 marked / parked / ended 1 queued / took 1: a wake counts for one run
     ensures woken_before { is_woken (woken_waits
         ▸ moment (End 1) (Worker 1) (Some 1) (Ended 1 Queued) 2
@@ -111,6 +127,15 @@ pub fn flags()
     // accepted 1 +1 / dropped / arrived 1 / cancelled 1 marked
     ensures cancelled { is_cancelled (dropped
         ▸ moment (Strike 1) Pool None (JobCancelled 1 Marked) 2) 1 ≡ true }
+    // .. / accepted 2 / dropped (of job 2) / cancelled 2 marked: the cancel of another job
+    ensures uncancelled_by_other { is_cancelled (second_dropped
+        ▸ moment (Strike 2) Pool None (JobCancelled 2 Marked) 2) 1 ≡ false }
+    // .. / ended 1 parked / dropped / cancelled 1 entered
+    ensures cancelled_when_parked { is_cancelled (dropped_parked
+        ▸ moment (Strike 1) Pool None (JobCancelled 1 Entered) 2) 1 ≡ true }
+    // .. / gave up / ended 1 dropped / cancelled 1 nothing: it was over
+    ensures cancelled_late { is_cancelled (dropped_over
+        ▸ moment (Strike 1) Pool None (JobCancelled 1 Nothing) 2) 1 ≡ false }
 {}
 
 /// Whether a task's waker is seated.

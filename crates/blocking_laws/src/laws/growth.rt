@@ -4,7 +4,7 @@ ghost use Rattle.blocking_core.specs.declared.pool.answer.Refusal.TheVariants.{M
 ghost use Rattle.blocking_core.specs.declared.pool.standing.Standing.TheVariants.{Queued};
 ghost use Rattle.blocking_core.specs.declared.pool.answer.Woke.TheVariants.{Entered};
 ghost use Rattle.blocking_laws.specs.Growth.{GrowthLaw};
-ghost use Rattle.blocking_laws.specs.Served.{IsServed};
+ghost use Rattle.blocking_laws.specs.Served.{IsServed, last_refused};
 ghost use Rattle.blocking_laws.specs.Legal.{Legal};
 ghost use Rattle.blocking_laws.specs.Traces.{◌▸◌, moment, starting, refusing, Refuses, Keeps, IsPooled};
 ghost use Rattle.blocking_laws.specs.Traces.{one_queued, one_arrived, two_queued, five_queued, start_refused};
@@ -134,6 +134,12 @@ pub fn service()
     ensures accepts_later_moment { IsServed (unstaffed_parked
         ▸ refusing (moment (Stray 1) Pool None (JobWoken 1 Entered) 2)
         ▸ moment (Take 1) (Worker 1) None NoAction 3) }
+    // refused worker -1 / nothing / accepted 1 +2: the last start was made
+    ensures last_was_made { last_refused (still_unstaffed
+        ▸ starting 1 (moment Spawn Pool None (Accepted 1) 2)) ≡ false }
+    // accepted 1 +1 -2: one start was made, and then one was refused
+    ensures last_was_refused { last_refused ([]
+        ▸ refusing (starting 1 (moment Spawn Pool None (Accepted 1) 1))) ≡ true }
     ensures accepts_refused_start_in_pool { IsPooled 1 (false ∷ true ∷ []) (unstaffed_parked
         ▸ refusing (moment (Stray 1) Pool None (JobWoken 1 Entered) 2)) }
     // .. / ended 1 parked / stopped 1 / delivered 1 entered +2

@@ -42,6 +42,9 @@ pub fn jobs_of_calls()
     // accepted 1 +1 / arrived 1 / took 1 / parked: a call never waits
     ensures refuses_parking_of_call { Refuses FirstTaskLaw one_taken
         (moment (Job 1) (Worker 1) (Some 1) JobParked 2) }
+    // .. / answered 5 / cancelled / finished / gave up: it is over
+    ensures refuses_giving_up_of_finished { Refuses FirstTaskLaw cancelled_finished
+        (moment (Job 1) (Worker 1) (Some 1) (GaveUp false) 2) }
     // .. / took 1 / answered 5 / gave up: nobody let it go
     ensures refuses_giving_up_unasked { Refuses FirstTaskLaw one_answered
         (moment (Job 1) (Worker 1) (Some 1) (GaveUp false) 2) }
@@ -63,6 +66,9 @@ pub fn calls_of_tasks()
     // .. / got 5 / dropped
     ensures refuses_drop_of_gone_task { Refuses FirstTaskLaw one_got
         (moment (OfTask 0 Drop) (Task 0) None HolderDropped 2) }
+    // .. / answered 5 / cancelled / finished / detached
+    ensures refuses_detaching_after_cancel { Refuses FirstTaskLaw cancelled_finished
+        (moment (OfTask 0 Detach) (Task 0) None TaskDetached 2) }
     // .. / cancelled / .. / cancelled
     ensures refuses_cancel_twice { Refuses FirstTaskLaw cancelled_given_up
         (moment (OfTask 0 Cancel) (Task 0) None TaskCancelled 2) }
