@@ -26,7 +26,7 @@ pub(crate) struct Ending {
 impl Ending {
     // How the pool of a world stands.
     fn of(world: &World) -> Ending
-        ensures { result ≡ ending_of world.now }
+        ensures { result ≡ ending_of world.now.history }
     {
         Ending {
             workers: world.thread_count(),
@@ -118,7 +118,7 @@ fn text_of(setting: &Option<String>) -> Option<&str>
 
 // Takes the steps of these lines, and answers what is seen of each step.
 fn play(alloc: Global, world: &mut World, lines: &[Line]) -> Result<Vec<Event>, AllocError>
-    ensures { IfOk result (λ events. Takes (PlaysLines lines.now) world.old world.new [] events.items) }
+    ensures { IfOk result (λ events. Takes (PlaysLines lines.now) world.old.history world.new.history [] events.items) }
 {
     let mut events = Vec::new(alloc);
     for line in lines {
@@ -134,7 +134,7 @@ fn play_line(
     line: Line,
     events: &mut Vec<Event>,
 ) -> Result<(), AllocError>
-    ensures { OnOk result (Takes (PlaysLine line) world.old world.new events.old.items events.new.items) }
+    ensures { OnOk result (Takes (PlaysLine line) world.old.history world.new.history events.old.items events.new.items) }
 {
     match line {
         Line::One(step) => take(alloc, world, step, events),
@@ -149,7 +149,7 @@ fn take(
     step: Step,
     events: &mut Vec<Event>,
 ) -> Result<(), AllocError>
-    ensures { OnOk result (Takes (PlaysLine (deed.One step)) world.old world.new events.old.items events.new.items) }
+    ensures { OnOk result (Takes (PlaysLine (deed.One step)) world.old.history world.new.history events.old.items events.new.items) }
 {
     let seen = run(alloc, world, &[step])?;
     events.extend_from_slice(seen.as_slice())
@@ -162,7 +162,7 @@ fn take_all(
     worker: usize,
     events: &mut Vec<Event>,
 ) -> Result<(), AllocError>
-    ensures { OnOk result (Takes (PlaysLine (deed.JobAll worker)) world.old world.new events.old.items events.new.items) }
+    ensures { OnOk result (Takes (PlaysLine (deed.JobAll worker)) world.old.history world.new.history events.old.items events.new.items) }
 {
     take(alloc, world, Step::Job(worker), events)?;
     // (It ends, since each action is an event more, and no list has room for endless ones.)

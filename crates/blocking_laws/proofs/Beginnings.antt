@@ -57,7 +57,7 @@ keeps_by (Accepted t) s jobs new p held next within h = keeps_new (t == s) t s (
 keeps_by _ s jobs new p held next within h = h
 
 -- a holder stays
-keeps : (setting : ℕ) (marks : List Bool) (past : List Moment) (now : Moment) → EachMayFollow (PoolLaw setting marks) (now ∷ past) → (s : ℕ) (p : Party) → holder past s ≡ Some p → holder (now ∷ past) s ≡ Some p
+pub keeps : (setting : ℕ) (marks : List Bool) (past : List Moment) (now : Moment) → EachMayFollow (PoolLaw setting marks) (now ∷ past) → (s : ℕ) (p : Party) → holder past s ≡ Some p → holder (now ∷ past) s ≡ Some p
 keeps setting marks past now laws s p h =
     keeps_by now.event.act s (accepted_jobs past) (newcomer past now.event.party) p (holder past s)
     (accepts_next setting past now now.event.act laws.0.answers) (known setting marks past laws.1 s p h) h

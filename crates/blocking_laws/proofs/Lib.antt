@@ -3,3 +3,5 @@ pub mod Growths
 pub mod OneAnswer
 pub mod OneAct
 pub mod Queues
+pub mod Holders
+pub mod OneEvent

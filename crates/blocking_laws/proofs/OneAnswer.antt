@@ -212,7 +212,7 @@ same_events : (event other : Event) → event.party ≡ other.party → event.ow
     → event.started ≡ other.started → event.start_refused ≡ other.start_refused → event ≡ other
 same_events event other party owner job act first started refused = λ i. record { party = party i; owner = owner i; job = job i; act = act i; first = first i; started = started i; start_refused = refused i }
 
-same_step : (setting : ℕ) (marks : List Bool) (past : List Moment) (now other : Moment) → now.step ≡ other.step → now.event.act ≡ other.event.act
+pub same_step : (setting : ℕ) (marks : List Bool) (past : List Moment) (now other : Moment) → now.step ≡ other.step → now.event.act ≡ other.event.act
     → StepLaw past now → StepLaw past other → PoolLaw setting marks past now → PoolLaw setting marks past other → now.event ≡ other.event
 same_step setting marks past now other step act of_step of_other law other_law =
     let starts = same_event setting marks past now other act law.growth other_law.growth in

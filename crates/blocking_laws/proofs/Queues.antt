@@ -29,7 +29,10 @@ use Rattle.blocking_laws.specs.declared.event.Party.TheVariants.{Worker}
 
 -- ---- how often a number stands in a list
 
-times_both : (s : ℕ) (xs ys : List ℕ) → times s (xs ++ ys) ≡ times s xs + times s ys
+pub same_self : (n : ℕ) → (n == n) ≡ true
+same_self n = grind (arith, nat_tests)
+
+pub times_both : (s : ℕ) (xs ys : List ℕ) → times s (xs ++ ys) ≡ times s xs + times s ys
 times_both s xs ys = ap length (filter-append (λ m. m == s) xs ys) ∙ length-append (filter (λ m. m == s) xs) (filter (λ m. m == s) ys)
 
 more_if : (b : Bool) (n : ℕ) (ns : List ℕ) → length (cond b (n ∷ ns) ns) ≡ one_if b + length ns
@@ -39,7 +42,7 @@ more_if false n ns = omega arith
 times_more : (s n : ℕ) (ns : List ℕ) → times s (n ∷ ns) ≡ one_if (n == s) + times s ns
 times_more s n ns = more_if (n == s) n (filter (λ m. m == s) ns)
 
-times_one : (s n : ℕ) → times s (n ∷ []) ≡ one_if (n == s)
+pub times_one : (s n : ℕ) → times s (n ∷ []) ≡ one_if (n == s)
 times_one s n = times_more s n [] ∙ add-zero (one_if (n == s))
 
 times_joined : (s : ℕ) (xs ys : List ℕ) → times s (joined xs ys) ≡ times s xs + times s ys
@@ -501,3 +504,11 @@ queued_so setting marks past laws = (sound_of setting marks past laws).queued
 
 pub runs_so : (setting : ℕ) (marks : List Bool) (past : List Moment) → EachMayFollow (PoolLaw setting marks) past → (s : ℕ) → times s (running past) ≡ one_if (is_running (standing past s))
 runs_so setting marks past laws = (sound_of setting marks past laws).runs
+
+-- what is in a hand runs
+pub held_so : (setting : ℕ) (marks : List Bool) (past : List Moment) → EachMayFollow (PoolLaw setting marks) past → (w s : ℕ) → hand past w ≡ Some s → standing past s ≡ Some Running
+held_so setting marks past laws = (sound_of setting marks past laws).hands.held
+
+-- what stands somewhere was accepted, once
+pub known_so : (setting : ℕ) (marks : List Bool) (past : List Moment) → EachMayFollow (PoolLaw setting marks) past → (s : ℕ) → times s (accepted_jobs past) ≡ (if is_some (standing past s) then 1 else 0)
+known_so setting marks past laws = (sound_of setting marks past laws).accepted

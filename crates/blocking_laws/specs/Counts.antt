@@ -1,6 +1,6 @@
 -- The counts of workers, and the limit.
 use Rattle.std.specs.Prelude.{ℕ, ◌+◌, ◌-◌, Bool, true, false, List, [], ◌∷◌, length, filter, zero, suc}
-use Rattle.blocking_core.specs.Growth.{limit_after}
+use Rattle.blocking_laws.specs.Core.{limit_after}
 use Rattle.blocking_laws.specs.Queue.{running}
 use Rattle.blocking_laws.specs.declared.event.Act.{Act}
 use Rattle.blocking_laws.specs.declared.event.Act.TheVariants.{Arrived, Stopped, LimitSet}

@@ -1,4 +1,5 @@
 pub mod Texts
+pub mod Core
 pub mod Seen
 pub mod Jobs
 pub mod Queue

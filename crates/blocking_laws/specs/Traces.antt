@@ -1,21 +1,21 @@
 -- Short traces, for the theorems that show what each law accepts and what it refuses. They are written with the oldest moment
 -- first; above each stand the texts of its events.
 use Rattle.std.specs.Prelude.{ℕ, Bool, true, false, List, [], ◌∷◌, Option, Some, None}
-use Rattle.blocking_core.specs.declared.pool.answer.Refusal.TheVariants.{NoWorker}
+use Rattle.blocking_core.specs.declared.pool.answer.Refusal.TheVariants.{Memory, NoWorker}
 use Rattle.blocking_core.specs.declared.pool.answer.Woke.TheVariants.{Marked}
-use Rattle.blocking_core.specs.declared.pool.standing.Standing.TheVariants.{Queued, Parked, Done}
+use Rattle.blocking_core.specs.declared.pool.standing.Standing.TheVariants.{Queued, Parked, Done, Dropped}
 use Rattle.blocking_laws.specs.Seen.{EachMayFollow, events, task_cut}
 use Rattle.blocking_laws.specs.TaskLaws.{TaskLaw}
 use Rattle.blocking_laws.specs.Legal.{PoolLaw}
 use Rattle.blocking_laws.specs.declared.event.Act.{Act}
-use Rattle.blocking_laws.specs.declared.event.Act.TheVariants.{Accepted, Refused, JobWoken, LimitSet, Stopped, Waits, TaskGot, TaskCancelled, HolderDropped, Arrived, Took, TookDropped, Ended, Answered, JobParked, Finished, GaveUp, NoAction}
+use Rattle.blocking_laws.specs.declared.event.Act.TheVariants.{Accepted, Refused, JobWoken, LimitSet, Swept, Stopped, Waits, TaskGot, TaskCancelled, TaskDetached, HolderDropped, Arrived, Took, TookDropped, Ended, Answered, JobParked, Finished, GaveUp, NoAction}
 use Rattle.blocking_laws.specs.declared.event.Moment.{Moment}
 use Rattle.blocking_laws.specs.declared.event.Party.{Party}
 use Rattle.blocking_laws.specs.declared.event.Party.TheVariants.{Task, Worker, Pool}
 use Rattle.blocking_laws.specs.declared.step.Answer.TheVariants.{Number}
 use Rattle.blocking_laws.specs.declared.step.Step.{Step}
-use Rattle.blocking_laws.specs.declared.step.Step.TheVariants.{Spawn, OfTask, Arrive, Take, Job, Io, End, Late, SetLimit, Stray}
-use Rattle.blocking_laws.specs.declared.step.TaskCall.TheVariants.{Poll, Cancel, Drop}
+use Rattle.blocking_laws.specs.declared.step.Step.TheVariants.{Spawn, OfTask, Arrive, Take, Job, Io, End, Late, SetLimit, Sweep, Stray}
+use Rattle.blocking_laws.specs.declared.step.TaskCall.TheVariants.{Poll, Cancel, Detach, Drop}
 
 -- ---- how they are written
 
@@ -127,6 +127,10 @@ dropped_taken = dropped ▸ moment (Take 1) (Worker 1) (Some 1) (TookDropped 1) 
 abbrev pub dropped_given_up : List Moment
 dropped_given_up = dropped_taken ▸ moment (Job 1) (Worker 1) (Some 1) (GaveUp false) 2
 
+-- accepted 1 +1 / dropped / arrived 1 / took 1 dropped / gave up / ended 1 dropped
+abbrev pub dropped_over : List Moment
+dropped_over = dropped_given_up ▸ moment (End 1) (Worker 1) (Some 1) (Ended 1 Dropped) 2
+
 -- accepted 1 +1 / arrived 1 / took 1 / dropped
 abbrev pub dropped_running : List Moment
 dropped_running = one_taken ▸ moment (OfTask 0 Drop) (Task 0) None HolderDropped 2
@@ -146,6 +150,19 @@ cancelled_given_up = one_queued
     ▸ moment (Take 1) (Worker 1) (Some 1) (TookDropped 1) 2
     ▸ moment (Job 1) (Worker 1) (Some 1) (GaveUp true) 2
 
+-- accepted 1 +1 / cancelled / waits / arrived 1 / took 1 dropped / gave up
+abbrev pub untold_given_up : List Moment
+untold_given_up = one_queued
+    ▸ moment (OfTask 0 Cancel) (Task 0) None TaskCancelled 2
+    ▸ moment (OfTask 0 Poll) (Task 0) None Waits 2
+    ▸ moment Arrive (Worker 1) None (Arrived 1) 2
+    ▸ moment (Take 1) (Worker 1) (Some 1) (TookDropped 1) 2
+    ▸ moment (Job 1) (Worker 1) (Some 1) (GaveUp false) 2
+
+-- accepted 1 +1 / detached
+abbrev pub detached : List Moment
+detached = one_queued ▸ moment (OfTask 0 Detach) (Task 0) None TaskDetached 2
+
 -- ---- several jobs
 
 -- accepted 1 +1 / arrived 1 / accepted 2
@@ -155,6 +172,10 @@ two_queued = one_arrived ▸ moment Spawn Pool None (Accepted 2) 2
 -- accepted 1 +1 / arrived 1 / accepted 2 / dropped (of job 1)
 abbrev pub front_dropped : List Moment
 front_dropped = two_queued ▸ moment (OfTask 0 Drop) (Task 0) None HolderDropped 2
+
+-- accepted 1 +1 / arrived 1 / accepted 2 / dropped (of job 2)
+abbrev pub second_dropped : List Moment
+second_dropped = two_queued ▸ moment (OfTask 1 Drop) (Task 1) None HolderDropped 2
 
 -- accepted 1 +1 / arrived 1 / accepted 2 / took 1 +2 / arrived 2, at limit 2
 abbrev pub two_workers : List Moment
@@ -183,6 +204,16 @@ still_unstaffed = start_refused ▸ moment Arrive Pool None NoAction 2
 -- accepted 1 +1 / accepted 2 / accepted 3 / accepted 4 / accepted 5 / accepted 6 -2
 abbrev pub second_refused : List Moment
 second_refused = five_queued ▸ refusing (moment Spawn Pool None (Accepted 6) 2)
+
+-- ---- what the pool did before the first call
+
+-- limit 2 / refused memory / swept 0 / accepted 1 +1
+abbrev pub late_queued : List Moment
+late_queued = []
+    ▸ moment (SetLimit 2) Pool None (LimitSet 2) 1
+    ▸ moment Spawn Pool None (Refused Memory) 1
+    ▸ moment Sweep Pool None (Swept 0) 1
+    ▸ starting 1 (moment Spawn Pool None (Accepted 1) 1)
 
 -- ---- jobs that wait: no call does, and so these keep the pool's law alone
 

@@ -18,8 +18,9 @@ use Rattle.blocking_world.proofs.Grown.{growth_after}
 use Rattle.blocking_world.proofs.Handing.{handed_after, turn_after}
 use Rattle.blocking_world.proofs.Tasking.{tasked_after}
 use Rattle.blocking_world.proofs.TaskLawful.{tasks_after, no_lost_wake}
-use Rattle.blocking_world.proofs.Staffing.{holding_after, staffed}
-use Rattle.blocking_laws.specs.Staffed.{AreStaffed}
+use Rattle.blocking_world.proofs.Staffing.{holding_after, staffed, as_seen}
+use Rattle.blocking_laws.specs.Staffed.{IsStaffed, AreAsSeen}
+use Rattle.blocking_world.specs.Machine.{free_hands, held_hands}
 use Rattle.blocking_world.proofs.Moving.{moved}
 use Rattle.blocking_world.proofs.Stepping.{step_after}
 
@@ -83,6 +84,10 @@ pub same_setting : (setting : ℕ) (marks : List Bool) (w w' : Worlded) (past : 
     → StepDoes (IsMarked marks) step w e w' → w'.pool.counts.setting ≡ setting
 same_setting setting marks w w' past step e lawful does = (stays_lawful setting marks w w' past step e lawful does).tied.counted.setting_is
 
--- the workers of a lawful world are where they can be
-pub staffed_now : (setting : ℕ) (marks : List Bool) (w : Worlded) (past : List Moment) → IsLawful setting marks w past → AreStaffed past
+-- what the workers of a lawful world hold accounts for them
+pub staffed_now : (setting : ℕ) (marks : List Bool) (w : Worlded) (past : List Moment) → IsLawful setting marks w past → IsStaffed (free_hands w.hands) (held_hands w.hands) past
 staffed_now setting marks w past lawful = staffed setting w past lawful.tied lawful.holding
+
+-- and is what they were seen to hold
+pub held_now : (setting : ℕ) (marks : List Bool) (w : Worlded) (past : List Moment) → IsLawful setting marks w past → AreAsSeen (free_hands w.hands) (held_hands w.hands) past
+held_now setting marks w past lawful = as_seen w past lawful.holding

@@ -9,7 +9,7 @@ use Rattle.blocking_laws.specs.Queue.{running}
 use Rattle.blocking_laws.specs.Growth.{IsMarked}
 use Rattle.blocking_laws.specs.Steps.{is_there, is_free}
 use Rattle.blocking_laws.specs.Turns.{hand}
-use Rattle.blocking_laws.specs.Staffed.{count_to, passes, turns, AreStaffed}
+use Rattle.blocking_laws.specs.Staffed.{count_to, passes, turns, IsStaffed, AreAsSeen}
 use Rattle.blocking_world.specs.Crews.{no_growth}
 use Rattle.blocking_world.specs.Worlds.{Worlded, CallPool, hand_at, with_hand, answered, finished, given_up, woke}
 use Rattle.blocking_laws.specs.Answers.{wait_act}
@@ -96,20 +96,24 @@ holding setting w past t same =
       jobs_are = same;
     }
 
--- So the workers are where they belong.
-pub staffed : (setting : ℕ) (w : Worlded) (past : List Moment) → Tied setting w past → Holding w past → AreStaffed past
+-- So what the hands hold accounts for the workers.
+pub staffed : (setting : ℕ) (w : Worlded) (past : List Moment) → Tied setting w past → Holding w past → IsStaffed (free_hands w.hands) (held_hands w.hands) past
 staffed setting w past t held =
     let all_now = (counts_are setting w past t).0 in
     let idle_now = (counts_are setting w past t).1 in
-    let free = held.passes_are in
-    let same = held.jobs_are in
+    let same : held_hands w.hands ≡ length (running past) = held.turns_are ∙ held.jobs_are in
     let idle_free = t.handed.ready.idle in
     let idle_are = t.counted.idle_are in
     let arriving_are = t.counted.arriving_are in
     record {
-      all_are = omega (arith, all_now, free, idle_free, idle_are, arriving_are, same);
-      idle_are = omega (arith, idle_now, free, idle_free, arriving_are);
+      all_are = omega (arith, all_now, idle_free, idle_are, arriving_are, same);
+      idle_are = omega (arith, idle_now, idle_free, arriving_are);
+      jobs_are = same;
     }
+
+-- And it is what was seen.
+pub as_seen : (w : Worlded) (past : List Moment) → Holding w past → AreAsSeen (free_hands w.hands) (held_hands w.hands) past
+as_seen w past held = record { passes_are = held.passes_are; turns_are = held.turns_are }
 
 -- ---- each move
 

@@ -4,11 +4,17 @@ use Rattle.blocking_laws.specs.declared.event.Event.{Event}
 use Rattle.blocking_laws.specs.declared.event.Moment.{Moment}
 use Rattle.blocking_laws.specs.declared.step.Step.{Step}
 
--- a world: the number of its setting, which of its starts are refused, and what was seen so far, the newest first
+-- the history of a world: the number of its setting, which of its starts are refused, and what was seen so far, the newest first
 pub record History : Type 0 where
   pub setting : ℕ
   pub starts : List Bool
   pub past : List Moment
+
+-- a world: its history, and how many passes and how many turns its workers hold
+pub record WorldValue : Type 0 where
+  pub history : History
+  pub passes : ℕ
+  pub turns : ℕ
 
 -- these moments came after what was seen before
 abbrev pub Follow : List Moment → History → History → Type 0

@@ -8,7 +8,7 @@ ghost use Rattle.blocking_world.specs.Machine.{IsReady, StepDoes};
 ghost use Rattle.blocking_laws.specs.Queue.{queue};
 ghost use Rattle.blocking_world.specs.Runs.{Adds, StopsShort};
 ghost use Rattle.blocking_laws.specs.Served.{IsServed};
-ghost use Rattle.blocking_laws.specs.Staffed.{AreStaffed};
+ghost use Rattle.blocking_laws.specs.Staffed.{IsStaffed, AreAsSeen};
 
 use crate::parts::Parts;
 use crate::starts::{MarkedStarts, NoStarts};
@@ -30,15 +30,20 @@ pub struct World {
 
 impl Model for World {
     ghost use Rattle.std.specs.Prelude.{reverse};
-    ghost use Rattle.blocking_world.specs.Runs.{History};
+    ghost use Rattle.blocking_world.specs.Machine.{free_hands, held_hands};
+    ghost use Rattle.blocking_world.specs.Runs.{WorldValue};
     ghost use Rattle.blocking_world.specs.Ties.{IsLawful};
 
-    ghost Value = { History };
+    ghost Value = { WorldValue };
 
     ghost view = { λ w. record {
-      setting = w.parts.pool.counts.setting;
-      starts = w.starts.items;
-      past = reverse w.trace.items;
+      history = record {
+        setting = w.parts.pool.counts.setting;
+        starts = w.starts.items;
+        past = reverse w.trace.items;
+      };
+      passes = free_hands w.parts.hands;
+      turns = held_hands w.parts.hands;
     } };
 
     ghost invariant = { λ w. IsLawful w.parts.pool.counts.setting w.starts.items w.parts
@@ -54,11 +59,15 @@ impl World {
     /// are refused: the first mark is that of start 1, and after the marks none is. Takes no memory.
     pub fn new(alloc: Global, setting: Option<&str>, starts: Vec<bool>) -> World
         ensures begins { result ≡ record {
-          setting = limit_of_setting (option_map (λ text. text.now) setting.entry);
-          starts = starts.items;
-          past = [];
+          history = record {
+            setting = limit_of_setting (option_map (λ text. text.now) setting.entry);
+            starts = starts.items;
+            past = [];
+          };
+          passes = 0;
+          turns = 0;
         } }
-        ensures legal { Legal result.setting result.starts result.past }
+        ensures legal { Legal result.history.setting result.history.starts result.history.past }
     {
         World {
             parts: Parts::new(alloc, setting),
@@ -69,8 +78,9 @@ impl World {
 
     // Takes one step.
     fn step(&mut self, step: Step) -> Result<Event, AllocError>
-        ensures ok { IfOk result (λ e.
-            self.new ≡ record self.old { past = record { step = step; event = e } ∷ self.old.past }) }
+        ensures ok { IfOk result (λ e. self.new.history ≡ record self.old.history {
+          past = record { step = step; event = e } ∷ self.old.history.past;
+        }) }
         ensures err { OnErr result (self.new ≡ self.old) }
     {
         self.trace.reserve(1)?;
@@ -91,35 +101,35 @@ impl World {
 
     /// How many workers were started and haven't stopped, arrived or not.
     pub fn thread_count(&self) -> usize
-        ensures { result ≡ workers self.now.past }
+        ensures { result ≡ workers self.now.history.past }
     {
         self.parts.crew.pool().thread_count()
     }
 
     /// How many of the workers run no job, arrived or not.
     pub fn idle_count(&self) -> usize
-        ensures { result ≡ idle self.now.past }
+        ensures { result ≡ idle self.now.history.past }
     {
         self.parts.crew.pool().idle_count()
     }
 
     /// How many jobs are queued.
     pub fn queue_len(&self) -> usize
-        ensures { result ≡ length (queue self.now.past) }
+        ensures { result ≡ length (queue self.now.history.past) }
     {
         self.parts.crew.pool().queue_len()
     }
 
     /// The limit of workers; None before the first growth, unless it was set.
     pub fn limit(&self) -> Option<usize>
-        ensures { result ≡ known_limit self.now.setting self.now.past }
+        ensures { result ≡ known_limit self.now.history.setting self.now.history.past }
     {
         self.parts.crew.pool().limit()
     }
 
     /// Whether the worker of this number has a job whose next action is that job's own to take: the step `Job` has an action.
     pub fn has_job_action(&self, worker: usize) -> bool
-        ensures { result ≡ has_action self.now.past (step.Job worker) }
+        ensures { result ≡ has_action self.now.history.past (step.Job worker) }
     {
         self.parts.has_job_action(worker)
     }
@@ -158,13 +168,14 @@ fn close_with<L: Ledger>(parts: Parts, blank: Blank)
 ///
 /// Err where there was no room for the world's own lists: the world is then where the steps so far left it. The room for a
 /// step and its event is had before the step acts.
-#[tactic(auto, using(crate::proofs::Grown::served, crate::proofs::Lawful::staffed_now))]
+#[tactic(auto, using(crate::proofs::Grown::served, crate::proofs::Lawful::staffed_now, crate::proofs::Lawful::held_now))]
 pub fn run(alloc: Global, world: &mut World, steps: &[Step]) -> Result<Vec<Event>, AllocError>
-    ensures ok { IfOk result (λ events. Adds steps.now events.items world.old world.new) }
-    ensures err { OnErr result (StopsShort steps.now world.old world.new) }
-    ensures legal { Legal world.new.setting world.new.starts world.new.past }
-    ensures served { IsServed world.new.past }
-    ensures staffed { AreStaffed world.new.past }
+    ensures ok { IfOk result (λ events. Adds steps.now events.items world.old.history world.new.history) }
+    ensures err { OnErr result (StopsShort steps.now world.old.history world.new.history) }
+    ensures legal { Legal world.new.history.setting world.new.history.starts world.new.history.past }
+    ensures served { IsServed world.new.history.past }
+    ensures staffed { IsStaffed world.new.passes world.new.turns world.new.history.past }
+    ensures held { AreAsSeen world.new.passes world.new.turns world.new.history.past }
 {
     let outcome = take_all(alloc, world, steps);
     // Opens the value, so that what it keeps is known.
@@ -174,8 +185,8 @@ pub fn run(alloc: Global, world: &mut World, steps: &[Step]) -> Result<Vec<Event
 
 // Takes all steps.
 fn take_all(alloc: Global, world: &mut World, steps: &[Step]) -> Result<Vec<Event>, AllocError>
-    ensures ok { IfOk result (λ events. Adds steps.now events.items world.old world.new) }
-    ensures err { OnErr result (StopsShort steps.now world.old world.new) }
+    ensures ok { IfOk result (λ events. Adds steps.now events.items world.old.history world.new.history) }
+    ensures err { OnErr result (StopsShort steps.now world.old.history world.new.history) }
 {
     if steps.is_empty() {
         return Ok(Vec::new(alloc));

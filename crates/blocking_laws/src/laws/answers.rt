@@ -3,20 +3,20 @@ ghost use Rattle.std.specs.Prelude.{◌≡◌, ◌+◌, List, [], length, Some, 
 ghost use Rattle.blocking_core.specs.declared.pool.answer.Refusal.TheVariants.{Memory, Numbers};
 ghost use Rattle.blocking_core.specs.declared.pool.answer.Woke.TheVariants.{Entered, Marked, Nothing};
 ghost use Rattle.blocking_core.specs.declared.pool.standing.Standing.TheVariants.{Queued, Parked, Done, Dropped};
-ghost use Rattle.blocking_core.specs.Growth.{greatest};
+ghost use Rattle.blocking_laws.specs.Core.{greatest};
 ghost use Rattle.blocking_laws.specs.Jobs.{accepted_jobs};
 ghost use Rattle.blocking_laws.specs.Queue.{InOrder};
 ghost use Rattle.blocking_laws.specs.Answers.{AnswerLaw};
 ghost use Rattle.blocking_laws.specs.Legal.{Legal};
 ghost use Rattle.blocking_laws.specs.Traces.{◌▸◌, moment, Refuses, Keeps, IsPooled};
 ghost use Rattle.blocking_laws.specs.Traces.{one_queued, one_arrived, one_taken, one_finished, one_done};
-ghost use Rattle.blocking_laws.specs.Traces.{dropped, dropped_running, dropped_given_up, two_queued, two_workers};
+ghost use Rattle.blocking_laws.specs.Traces.{dropped, dropped_running, dropped_given_up, dropped_over, two_queued, front_dropped, second_dropped, two_workers};
 ghost use Rattle.blocking_laws.specs.Traces.{one_waits, one_parked, woken_waits, dropped_waits, dropped_parked};
 ghost use Rattle.blocking_laws.specs.Traces.{two_parked, two_dropped, queued_again};
 ghost use Rattle.blocking_laws.specs.declared.event.Moment.{Moment};
-ghost use Rattle.blocking_laws.specs.declared.event.Act.TheVariants.{Accepted, Refused, JobWoken, JobCancelled, LimitSet, Swept, TaskCancelled, HolderDropped, Arrived, Took, TookDropped, TookNone, Stays, Stopped, Ended, HandedOut};
+ghost use Rattle.blocking_laws.specs.declared.event.Act.TheVariants.{Accepted, Refused, JobWoken, JobCancelled, LimitSet, Swept, TaskCancelled, HolderDropped, Arrived, Took, TookDropped, TookNone, Stays, Stopped, Ended, HandedOut, GaveUp};
 ghost use Rattle.blocking_laws.specs.declared.event.Party.TheVariants.{Task, Worker, Pool};
-ghost use Rattle.blocking_laws.specs.declared.step.Step.TheVariants.{Spawn, OfTask, Arrive, Take, End, Wait, Late, SetLimit, Sweep, Stray, Strike};
+ghost use Rattle.blocking_laws.specs.declared.step.Step.TheVariants.{Spawn, OfTask, Arrive, Take, Job, End, Wait, Late, SetLimit, Sweep, Stray, Strike};
 ghost use Rattle.blocking_laws.specs.declared.step.TaskCall.TheVariants.{Cancel, Drop};
 
 /// A take gives the job at the front, to be dropped where it was let go; it finds none only where none is queued.
@@ -33,9 +33,14 @@ pub fn takes()
     ensures accepts_front_before_woken { IsPooled 1 [] (queued_again
         ▸ moment (Take 1) (Worker 1) (Some 2) (Took 2) 2) }
     // accepted 1 +1 / arrived 1 / accepted 2 / dropped (of job 2) / took 1
-    ensures accepts_front_beside_dropped { Legal 1 [] (two_queued
-        ▸ moment (OfTask 1 Drop) (Task 1) None HolderDropped 2
+    ensures accepts_front_beside_dropped { Legal 1 [] (second_dropped
         ▸ moment (Take 1) (Worker 1) (Some 1) (Took 1) 2) }
+    // .. / accepted 2 / dropped (of job 1) / took 1 dropped / gave up / ended 1 dropped / took 2
+    ensures accepts_next_beside_dropped { Legal 1 [] (front_dropped
+        ▸ moment (Take 1) (Worker 1) (Some 1) (TookDropped 1) 2
+        ▸ moment (Job 1) (Worker 1) (Some 1) (GaveUp false) 2
+        ▸ moment (End 1) (Worker 1) (Some 1) (Ended 1 Dropped) 2
+        ▸ moment (Take 1) (Worker 1) (Some 2) (Took 2) 2) }
     // accepted 1 +1 / arrived 1 / accepted 2 / took 2
     ensures refuses_queue_jumper { Refuses (AnswerLaw 1) two_queued
         (moment (Take 1) (Worker 1) (Some 2) (Took 2) 2) }
@@ -55,8 +60,7 @@ pub fn takes()
     ensures refuses_drop_unasked { Refuses (AnswerLaw 1) one_arrived
         (moment (Take 1) (Worker 1) (Some 1) (TookDropped 1) 2) }
     // accepted 1 +1 / arrived 1 / accepted 2 / dropped (of job 2) / took 1 dropped
-    ensures refuses_drop_of_other { Refuses (AnswerLaw 1) (two_queued
-        ▸ moment (OfTask 1 Drop) (Task 1) None HolderDropped 2)
+    ensures refuses_drop_of_other { Refuses (AnswerLaw 1) second_dropped
         (moment (Take 1) (Worker 1) (Some 1) (TookDropped 1) 2) }
 {}
 
@@ -91,6 +95,9 @@ pub fn wakes()
     // .. / ended 1 done / delivered 1 nothing
     ensures accepts_done { Legal 1 [] (one_done
         ▸ moment (Stray 1) Pool None (JobWoken 1 Nothing) 2) }
+    // .. / gave up / ended 1 dropped / delivered 1 nothing
+    ensures accepts_dropped { Legal 1 [] (dropped_over
+        ▸ moment (Stray 1) Pool None (JobWoken 1 Nothing) 2) }
     // accepted 1 +1 / arrived 1 / took 1 / delivered 1 entered
     ensures refuses_queuing_while_it_runs { Refuses (AnswerLaw 1) one_taken
         (moment (Stray 1) Pool None (JobWoken 1 Entered) 2) }
@@ -105,6 +112,9 @@ pub fn wakes()
         (moment (Stray 1) Pool None (JobWoken 1 Marked) 2) }
     // .. / ended 1 done / delivered 1 entered
     ensures refuses_stale_wake { Refuses (AnswerLaw 1) one_done
+        (moment (Stray 1) Pool None (JobWoken 1 Entered) 2) }
+    // .. / gave up / ended 1 dropped / delivered 1 entered
+    ensures refuses_stale_wake_of_dropped { Refuses (AnswerLaw 1) dropped_over
         (moment (Stray 1) Pool None (JobWoken 1 Entered) 2) }
 {}
 
@@ -134,6 +144,9 @@ pub fn cancels()
     ensures accepts_done { Legal 1 [] (one_done
         ▸ moment (OfTask 0 Drop) (Task 0) None HolderDropped 2
         ▸ moment (Strike 1) Pool None (JobCancelled 1 Nothing) 2) }
+    // .. / gave up / ended 1 dropped / cancelled 1 nothing
+    ensures accepts_dropped { Legal 1 [] (dropped_over
+        ▸ moment (Strike 1) Pool None (JobCancelled 1 Nothing) 2) }
     // accepted 1 +1 / dropped / arrived 1 / cancelled 1 entered
     ensures refuses_queuing_twice { Refuses (AnswerLaw 1) dropped
         (moment (Strike 1) Pool None (JobCancelled 1 Entered) 2) }
@@ -142,6 +155,9 @@ pub fn cancels()
         (moment (Strike 1) Pool None (JobCancelled 1 Entered) 2) }
     // .. / ended 1 parked / dropped / cancelled 1 marked
     ensures refuses_parked_left { Refuses (AnswerLaw 1) dropped_parked
+        (moment (Strike 1) Pool None (JobCancelled 1 Marked) 2) }
+    // .. / gave up / ended 1 dropped / cancelled 1 marked
+    ensures refuses_stale_cancel { Refuses (AnswerLaw 1) dropped_over
         (moment (Strike 1) Pool None (JobCancelled 1 Marked) 2) }
 {}
 

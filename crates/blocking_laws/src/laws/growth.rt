@@ -1,10 +1,10 @@
 //! Growth: which starts there are.
 ghost use Rattle.std.specs.Prelude.{◌≡◌, ℕ, Bool, List, [], ◌∷◌, Some, None, true, false};
-ghost use Rattle.blocking_core.specs.declared.pool.answer.Refusal.TheVariants.{NoWorker};
+ghost use Rattle.blocking_core.specs.declared.pool.answer.Refusal.TheVariants.{Memory, NoWorker};
 ghost use Rattle.blocking_core.specs.declared.pool.standing.Standing.TheVariants.{Queued};
 ghost use Rattle.blocking_core.specs.declared.pool.answer.Woke.TheVariants.{Entered};
 ghost use Rattle.blocking_laws.specs.Growth.{GrowthLaw};
-ghost use Rattle.blocking_laws.specs.Served.{IsServed};
+ghost use Rattle.blocking_laws.specs.Served.{IsServed, last_refused};
 ghost use Rattle.blocking_laws.specs.Legal.{Legal};
 ghost use Rattle.blocking_laws.specs.Traces.{◌▸◌, moment, starting, refusing, Refuses, Keeps, IsPooled};
 ghost use Rattle.blocking_laws.specs.Traces.{one_queued, one_arrived, two_queued, five_queued, start_refused};
@@ -107,10 +107,16 @@ pub fn refused_starts()
         (refusing (moment Spawn Pool None (Accepted 6) 2)) }
 {}
 
-/// A new job is accepted exactly where a worker is there after its growth.
+/// A new job is accepted only where a worker is counted after its growth, and refused for want of one only where none is. Want of
+/// memory may be told in either case.
 pub fn staffed_jobs()
     // refused worker -1
     ensures accepts_refusal { Legal 1 (true ∷ []) start_refused }
+    // refused memory, where start 1 would be refused
+    ensures accepts_want_of_memory { Legal 1 (true ∷ []) ([] ▸ moment Spawn Pool None (Refused Memory) 1) }
+    // accepted 1 +1 / refused memory
+    ensures accepts_want_of_memory_beside_worker { Legal 1 [] (one_queued
+        ▸ moment Spawn Pool None (Refused Memory) 2) }
     // accepted 1 -1
     ensures refuses_job_without_worker { Refuses (GrowthLaw 1 (true ∷ [])) []
         (refusing (moment Spawn Pool None (Accepted 1) 1)) }
@@ -128,6 +134,12 @@ pub fn service()
     ensures accepts_later_moment { IsServed (unstaffed_parked
         ▸ refusing (moment (Stray 1) Pool None (JobWoken 1 Entered) 2)
         ▸ moment (Take 1) (Worker 1) None NoAction 3) }
+    // refused worker -1 / nothing / accepted 1 +2: the last start was made
+    ensures last_was_made { last_refused (still_unstaffed
+        ▸ starting 1 (moment Spawn Pool None (Accepted 1) 2)) ≡ false }
+    // accepted 1 +1 -2: one start was made, and then one was refused
+    ensures last_was_refused { last_refused ([]
+        ▸ refusing (starting 1 (moment Spawn Pool None (Accepted 1) 1))) ≡ true }
     ensures accepts_refused_start_in_pool { IsPooled 1 (false ∷ true ∷ []) (unstaffed_parked
         ▸ refusing (moment (Stray 1) Pool None (JobWoken 1 Entered) 2)) }
     // .. / ended 1 parked / stopped 1 / delivered 1 entered +2

@@ -1,12 +1,13 @@
 //! Steps and their events.
-ghost use Rattle.std.specs.Prelude.{[], Some, None, true, false};
+ghost use Rattle.std.specs.Prelude.{[], ◌∷◌, Some, None, true, false};
 ghost use Rattle.blocking_core.specs.declared.pool.answer.Woke.TheVariants.{Marked, Nothing};
 ghost use Rattle.blocking_laws.specs.Steps.{StepLaw};
 ghost use Rattle.blocking_laws.specs.Legal.{Legal};
-ghost use Rattle.blocking_laws.specs.Traces.{◌▸◌, moment, of_owner, Refuses};
+ghost use Rattle.blocking_laws.specs.Traces.{◌▸◌, moment, starting, of_owner, Refuses};
 ghost use Rattle.blocking_laws.specs.Traces.{one_queued, one_arrived, one_taken, one_answered, one_finished, one_done};
-ghost use Rattle.blocking_laws.specs.Traces.{one_got, dropped, cancelled_finished, cancelled_given_up};
-ghost use Rattle.blocking_laws.specs.declared.event.Act.TheVariants.{JobWoken, JobCancelled, LimitSet, Swept, Waits, TaskGotNone, TaskCancelled, TaskDetached, Arrived, Took, TookNone, Stays, Stopped, Answered, Finished, NoAction};
+ghost use Rattle.blocking_laws.specs.Traces.{one_got, awaited, detached, dropped, cancelled_finished, cancelled_given_up};
+ghost use Rattle.blocking_laws.specs.Traces.{second_dropped, start_refused, late_queued};
+ghost use Rattle.blocking_laws.specs.declared.event.Act.TheVariants.{Accepted, JobWoken, JobCancelled, LimitSet, Swept, Waits, TaskGotNone, TaskCancelled, TaskDetached, HolderDropped, Arrived, Took, TookNone, Stays, Stopped, Answered, Finished, NoAction};
 ghost use Rattle.blocking_laws.specs.declared.event.Party.TheVariants.{Task, Worker, Pool};
 ghost use Rattle.blocking_laws.specs.declared.step.Answer.TheVariants.{Number};
 ghost use Rattle.blocking_laws.specs.declared.step.Step.TheVariants.{Spawn, OfTask, Arrive, Take, Job, Io, End, Wait, Late, SetLimit, Sweep, Stray, Strike};
@@ -40,6 +41,61 @@ pub fn nothing_at_the_pool()
         (moment (Stray 1) Pool None (JobWoken 1 Nothing) 1) }
     ensures refuses_cancel_of_held_job { Refuses StepLaw one_arrived
         (moment (Strike 1) Pool None (JobCancelled 1 Marked) 2) }
+{}
+
+/// A job is cancelled in the pool exactly where its own task was cancelled or dropped, and so never where it was never accepted.
+pub fn strikes()
+    // nothing (no job was accepted)
+    ensures accepts_no_job { Legal 1 [] ([] ▸ moment (Strike 1) Pool None NoAction 1) }
+    // accepted 1 +1 / waits / .. / answered 5 / nothing (its task waits for it)
+    ensures accepts_awaited { Legal 1 [] (awaited ▸ moment (Strike 1) Pool None NoAction 2) }
+    // accepted 1 +1 / detached / nothing (its task let it run on)
+    ensures accepts_detached { Legal 1 [] (detached ▸ moment (Strike 1) Pool None NoAction 2) }
+    // .. / got 5 / nothing (its task was answered)
+    ensures accepts_answered { Legal 1 [] (one_got ▸ moment (Strike 1) Pool None NoAction 2) }
+    // accepted 1 +1 / arrived 1 / accepted 2 / dropped (of job 2) / nothing / cancelled 2 marked
+    ensures accepts_own_task { Legal 1 [] (second_dropped
+        ▸ moment (Strike 1) Pool None NoAction 2
+        ▸ moment (Strike 2) Pool None (JobCancelled 2 Marked) 2) }
+    // cancelled 1 nothing, where no job was accepted
+    ensures refuses_no_job { Refuses StepLaw []
+        (moment (Strike 1) Pool None (JobCancelled 1 Nothing) 1) }
+    // .. / waits / .. / answered 5 / cancelled 1 marked
+    ensures refuses_awaited { Refuses StepLaw awaited
+        (moment (Strike 1) Pool None (JobCancelled 1 Marked) 2) }
+    // accepted 1 +1 / detached / cancelled 1 marked
+    ensures refuses_detached { Refuses StepLaw detached
+        (moment (Strike 1) Pool None (JobCancelled 1 Marked) 2) }
+    // .. / got 5 / cancelled 1 nothing
+    ensures refuses_answered { Refuses StepLaw one_got
+        (moment (Strike 1) Pool None (JobCancelled 1 Nothing) 2) }
+    // .. / accepted 2 / dropped (of job 2) / cancelled 1 marked
+    ensures refuses_other_task { Refuses StepLaw second_dropped
+        (moment (Strike 1) Pool None (JobCancelled 1 Marked) 2) }
+{}
+
+/// Tasks are numbered by the new jobs that were accepted: what else the pool did doesn't count, nor what anybody else did.
+pub fn numbers_of_tasks()
+    // limit 2 / refused memory / swept 0 / accepted 1 +1 / waits
+    ensures accepts_first_task { Legal 1 [] (late_queued
+        ▸ moment (OfTask 0 Poll) (Task 0) None Waits 2) }
+    // limit 2 / refused memory / swept 0 / accepted 1 +1 / nothing: there is one task
+    ensures accepts_no_second_task { Legal 1 [] (late_queued
+        ▸ moment (OfTask 1 Poll) (Task 1) None NoAction 2) }
+    // refused worker -1 / accepted 1 +2 / waits: a refused job brings no task
+    ensures accepts_task_after_refused_job { Legal 1 (true ∷ []) (start_refused
+        ▸ starting 1 (moment Spawn Pool None (Accepted 1) 2)
+        ▸ moment (OfTask 0 Poll) (Task 0) None Waits 3) }
+    // limit 2 / refused memory / swept 0 / accepted 1 +1 / nothing, of task 0
+    ensures refuses_task_left_out { Refuses StepLaw late_queued
+        (moment (OfTask 0 Poll) (Task 0) None NoAction 2) }
+    // limit 2 / refused memory / swept 0 / accepted 1 +1 / waits, of task 1
+    ensures refuses_task_of_no_job { Refuses StepLaw late_queued
+        (moment (OfTask 1 Poll) (Task 1) None Waits 2) }
+    // .. / took 1 / accepted 2, by worker 1 / waits, of task 1
+    ensures refuses_task_of_workers_job { Refuses StepLaw (one_taken
+        ▸ moment (Job 1) (Worker 1) (Some 1) (Accepted 2) 2)
+        (moment (OfTask 1 Poll) (Task 1) None Waits 2) }
 {}
 
 /// Nothing is done by a task exactly where it isn't there, or was cancelled and is neither polled nor dropped.
@@ -134,6 +190,15 @@ pub fn events()
     // limit 3, of a limit 2
     ensures refuses_other_limit { Refuses StepLaw []
         (moment (SetLimit 2) Pool None (LimitSet 3) 1) }
+    // accepted 1 +1 / detached, of a cancel
+    ensures refuses_cancel_told_as_detaching { Refuses StepLaw one_queued
+        (moment (OfTask 0 Cancel) (Task 0) None TaskDetached 2) }
+    // accepted 1 +1 / dropped, of a detaching
+    ensures refuses_detaching_told_as_drop { Refuses StepLaw one_queued
+        (moment (OfTask 0 Detach) (Task 0) None HolderDropped 2) }
+    // accepted 1 +1 / detached, of a drop
+    ensures refuses_drop_told_as_detaching { Refuses StepLaw one_queued
+        (moment (OfTask 0 Drop) (Task 0) None TaskDetached 2) }
     // accepted 1 +1 / cancelled, of a poll
     ensures refuses_other_call { Refuses StepLaw one_queued
         (moment (OfTask 0 Poll) (Task 0) None TaskCancelled 2) }

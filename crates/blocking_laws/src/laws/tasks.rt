@@ -9,7 +9,7 @@ ghost use Rattle.blocking_laws.specs.Steps.{IsPolled, is_answered};
 ghost use Rattle.blocking_laws.specs.Legal.{Legal};
 ghost use Rattle.blocking_laws.specs.Traces.{◌▸◌, moment, Refuses, Keeps, FirstTaskLaw, LawOfTask};
 ghost use Rattle.blocking_laws.specs.Traces.{one_queued, one_taken, one_answered, one_finished, one_done, one_got};
-ghost use Rattle.blocking_laws.specs.Traces.{awaited, awaited_finished, untold_finished};
+ghost use Rattle.blocking_laws.specs.Traces.{awaited, awaited_finished, untold_finished, untold_given_up};
 ghost use Rattle.blocking_laws.specs.Traces.{dropped_taken, cancelled_finished, cancelled_given_up};
 ghost use Rattle.blocking_laws.specs.declared.event.Event.{Event};
 ghost use Rattle.blocking_laws.specs.declared.event.Act.TheVariants.{Accepted, Waits, TaskGot, TaskGotNone, TaskCancelled, TaskDetached, HolderDropped, Ended, JobParked, Finished, GaveUp, HolderWoken};
@@ -42,6 +42,9 @@ pub fn jobs_of_calls()
     // accepted 1 +1 / arrived 1 / took 1 / parked: a call never waits
     ensures refuses_parking_of_call { Refuses FirstTaskLaw one_taken
         (moment (Job 1) (Worker 1) (Some 1) JobParked 2) }
+    // .. / answered 5 / cancelled / finished / gave up: it is over
+    ensures refuses_giving_up_of_finished { Refuses FirstTaskLaw cancelled_finished
+        (moment (Job 1) (Worker 1) (Some 1) (GaveUp false) 2) }
     // .. / took 1 / answered 5 / gave up: nobody let it go
     ensures refuses_giving_up_unasked { Refuses FirstTaskLaw one_answered
         (moment (Job 1) (Worker 1) (Some 1) (GaveUp false) 2) }
@@ -63,6 +66,9 @@ pub fn calls_of_tasks()
     // .. / got 5 / dropped
     ensures refuses_drop_of_gone_task { Refuses FirstTaskLaw one_got
         (moment (OfTask 0 Drop) (Task 0) None HolderDropped 2) }
+    // .. / answered 5 / cancelled / finished / detached
+    ensures refuses_detaching_after_cancel { Refuses FirstTaskLaw cancelled_finished
+        (moment (OfTask 0 Detach) (Task 0) None TaskDetached 2) }
     // .. / cancelled / .. / cancelled
     ensures refuses_cancel_twice { Refuses FirstTaskLaw cancelled_given_up
         (moment (OfTask 0 Cancel) (Task 0) None TaskCancelled 2) }
@@ -174,6 +180,9 @@ pub fn wakes()
     // .. / waits / .. / answered 5 / finished / ended 1 done
     ensures refuses_wait_for_done { Refuses (Keeps NoLostWake) untold_finished
         (moment (End 1) (Worker 1) (Some 1) (Ended 1 Done) 2) }
+    // accepted 1 +1 / cancelled / waits / arrived 1 / took 1 dropped / gave up / ended 1 dropped
+    ensures refuses_wait_for_dropped { Refuses (Keeps NoLostWake) untold_given_up
+        (moment (End 1) (Worker 1) (Some 1) (Ended 1 Dropped) 2) }
     // .. / finished wake owner / waits / ended 1 done: the wake came before the wait
     ensures refuses_earlier_wake { Refuses (Keeps NoLostWake) (awaited_finished
         ▸ moment (OfTask 0 Poll) (Task 0) None Waits 2)

@@ -27,10 +27,15 @@ pub fn beginnings()
         Legal setting marks (past ▸ now) → Legal setting marks past }
 {}
 
-/// A step that the pool answers has one event: whatever differs from it in anything is refused. The laws leave one thing
-/// open, whether there is memory for a new job.
+/// A step has one event: whatever differs from it in anything is refused. The laws leave one thing open, whether there is
+/// memory for a new job.
 pub fn one_event()
-    ensures { (setting : ℕ) (marks : List Bool) (past : List Moment) (now other : Moment) →
+    // after a legal past, by all the laws
+    ensures everywhere { (setting : ℕ) (marks : List Bool) (past : List Moment) (now other : Moment) →
+        now.step ≡ other.step → is_out_of_memory now.event.act ≡ is_out_of_memory other.event.act →
+        Legal setting marks (past ▸ now) → Legal setting marks (past ▸ other) → now.event ≡ other.event }
+    // at the pool after any past, by the laws of steps and of the pool alone
+    ensures at_pool { (setting : ℕ) (marks : List Bool) (past : List Moment) (now other : Moment) →
         now.step ≡ other.step → is_pool_step now.step ≡ true →
         is_out_of_memory now.event.act ≡ false → is_out_of_memory other.event.act ≡ false →
         StepLaw past now → StepLaw past other →

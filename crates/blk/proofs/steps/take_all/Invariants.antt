@@ -5,7 +5,7 @@ use Rattle.blk.specs.Plays.{Repeats, Takes}
 use Rattle.blk.proofs.steps.take_all.Given as goal
 
 abbrev pub invariant-loop-alloc : goal.invariant-loop-alloc
-invariant-loop-alloc l = Takes (Repeats (Job l.worker)) l.fn.world l.world l.fn.events.items l.events.items
+invariant-loop-alloc l = Takes (Repeats (Job l.worker)) l.fn.world.history l.world.history l.fn.events.items l.events.items
 
 abbrev pub decreases-loop-alloc : goal.decreases-loop-alloc
 decreases-loop-alloc l = 2 ^ 64 - vec_len l.events

@@ -16,8 +16,8 @@ pub returns-in_err-event-clause-err : goal.returns-in_err-event-clause-err
 returns-in_err-event-clause-err c =
     let p = err_from_is_err_and c.from_residual-in_err-event.result c.from_residual-in_err-event.ensures.1 in
     let less = c.loop-step-test.true in
-    rw (p.1) (subst (λ world. StopsShort c.args.steps.now c.args.world.now world) (sym c.in_err-event.ensures.err)
-    (taken_fewer c.args.steps.now c.loop-step.step-index c.loop-step.events.items c.args.world.now c.loop-step.world c.loop-step.invariant.0 less))
+    rw (p.1) (subst (λ world. StopsShort c.args.steps.now c.args.world.now.history world.history) (sym c.in_err-event.ensures.err)
+    (taken_fewer c.args.steps.now c.loop-step.step-index c.loop-step.events.items c.args.world.now.history c.loop-step.world.history c.loop-step.invariant.0 less))
 
 -- one step more was taken
 pub loop-step-preserved : goal.loop-step-preserved
@@ -30,8 +30,8 @@ loop-step-preserved c =
     let fits = c.push.ensures.succeeds (omega (arith, less, many, room, filled)) in
     let pushed = put_at_end c.push.result c.loop-step.events.items c.push.new.self.items c.in_ok-event.event fits c.push.ensures.items in
     let longer = ap length pushed ∙ length-append c.loop-step.events.items (c.in_ok-event.event ∷ []) in (
-      subst (λ events. Taken c.args.steps.now (c.loop-step.step-index + 1) events c.args.world.now c.step.new.self) (sym pushed)
-          (taken_more c.args.steps.now c.loop-step.step-index c.loop-step.events.items c.args.world.now c.loop-step.world c.step.new.self
+      subst (λ events. Taken c.args.steps.now (c.loop-step.step-index + 1) events c.args.world.now.history c.step.new.self.history) (sym pushed)
+          (taken_more c.args.steps.now c.loop-step.step-index c.loop-step.events.items c.args.world.now.history c.loop-step.world.history c.step.new.self.history
           (slice_index_or c.args.steps.now c.loop-step.step-index Spawn) c.in_ok-event.event c.loop-step.invariant.0
           (take_more c.args.steps.now c.loop-step.step-index Spawn less) c.in_ok-event.ensures.ok),
       omega (arith, longer, many),

@@ -8,6 +8,9 @@ never told = cc
 pub returns-clause-refuses_wait_for_done : goal.returns-clause-refuses_wait_for_done
 returns-clause-refuses_wait_for_done c = λ law. never (law.tasks 0 1 refl refl refl)
 
+pub returns-clause-refuses_wait_for_dropped : goal.returns-clause-refuses_wait_for_dropped
+returns-clause-refuses_wait_for_dropped c = λ law. never (law.tasks 0 1 refl refl refl)
+
 pub returns-clause-refuses_wait_for_parked : goal.returns-clause-refuses_wait_for_parked
 returns-clause-refuses_wait_for_parked c = λ law. never (law.tasks 0 1 refl refl refl)
 

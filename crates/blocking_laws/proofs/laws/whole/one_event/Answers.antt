@@ -1,6 +1,10 @@
--- What the pool answers leaves no choice.
+-- What the pool answers leaves no choice, nor does what tasks and jobs do.
 use Rattle.blocking_laws.proofs.OneAnswer.{one_event}
+use Rattle.blocking_laws.proofs.OneEvent.{one_legal_event}
 use Rattle.blocking_laws.proofs.laws.whole.one_event.Goals as goal
 
-pub returns : goal.returns
-returns c = one_event
+pub returns-clause-at_pool : goal.returns-clause-at_pool
+returns-clause-at_pool c = one_event
+
+pub returns-clause-everywhere : goal.returns-clause-everywhere
+returns-clause-everywhere c = one_legal_event
