@@ -69,8 +69,8 @@ impl World {
 
     // Takes one step.
     fn step(&mut self, step: Step) -> Result<Event, AllocError>
-        ensures ok { IfOk result (λ e.
-            self.new ≡ record self.old { past = record { step = step; event = e } ∷ self.old.past }) }
+        ensures ok { IfOk result (λ e. self.new ≡
+            record self.old { past = record { step = step; event = e } ∷ self.old.past }) }
         ensures err { OnErr result (self.new ≡ self.old) }
     {
         self.trace.reserve(1)?;
