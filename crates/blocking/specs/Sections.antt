@@ -4,6 +4,7 @@ use Rattle.std.specs.Prelude.{◌≡◌, ℕ, Bool, Option, Some, None, Result, 
 use Rattle.std.specs.Borrow.{Bor}
 use Rattle.blocking_core.specs.Jobs.{JobNumber}
 use Rattle.blocking_core.specs.Counts.{limited, silenced}
+use Rattle.blocking_core.specs.Growth.{Asking, RefusesNone}
 use Rattle.blocking_core.specs.Pools.{Pool}
 use Rattle.blocking_core.specs.PoolAnswers as pool
 use Rattle.blocking_core.specs.declared.pool.bell.BellKind.{BellKind}
@@ -28,42 +29,43 @@ module _ {J : Type 0} where
   Starts setting new = new ≡ pool.pool_of setting 1 1
 
   -- a job is added
-  abbrev pub Adds : (ℕ → Bool → Type 0) → ℕ → ℕ → Pool J → J → Result JobNumber (Refused J) → Pool J → BellKind → Type 0
-  Adds may_answer before after old job answer new bell =
-      (added : Pool J) × pool.Adds may_answer before after old job answer added × Rings added bell new
+  abbrev pub Adds : Asking → Pool J → J → Result JobNumber (Refused J) → Pool J → BellKind → Type 0
+  Adds asking old job answer new bell =
+      (added : Pool J) × pool.Adds asking old job answer added × Rings added bell new
 
   -- a wake reaches its job
-  abbrev pub Wakes : (ℕ → Bool → Type 0) → ℕ → ℕ → Pool J → JobNumber → Woke → Pool J → BellKind → Type 0
-  Wakes may_answer before after old number woke new bell = (woken : Pool J) × pool.Wakes may_answer before after old number woke woken × Rings woken bell new
+  abbrev pub Wakes : Asking → Pool J → JobNumber → Woke → Pool J → BellKind → Type 0
+  Wakes asking old number woke new bell = (woken : Pool J) × pool.Wakes asking old number woke woken × Rings woken bell new
 
   -- the parked jobs that bear a mark are put back
-  abbrev pub Sweeps : (J → Bool → Type 0) → (ℕ → Bool → Type 0) → ℕ → ℕ → Pool J → ℕ → Pool J → BellKind → Type 0
-  Sweeps may_mark may_answer before after old count new bell = (swept : Pool J) × pool.Sweeps may_mark may_answer before after old count swept × Rings swept bell new
+  abbrev pub Sweeps : (J → Bool → Type 0) → Asking → Pool J → ℕ → Pool J → BellKind → Type 0
+  Sweeps may_mark asking old count new bell = (swept : Pool J) × pool.Sweeps may_mark asking old count swept × Rings swept bell new
 
   -- a worker arrives, and takes
-  abbrev pub ArrivesAndTakes : (J → Bool → Type 0) → (ℕ → Bool → Type 0) → ℕ → ℕ → Pool J → Option (Took J) → Pool J → BellKind → Type 0
-  ArrivesAndTakes may_mark may_answer before after old None new bell = pool.Arrives old None old × Rings old bell new × (after ≡ before)
-  ArrivesAndTakes may_mark may_answer before after old (Some took) new bell =
+  abbrev pub ArrivesAndTakes : (J → Bool → Type 0) → Asking → Pool J → Option (Took J) → Pool J → BellKind → Type 0
+  ArrivesAndTakes may_mark asking old None new bell = pool.Arrives old None old × Rings old bell new × RefusesNone asking
+  ArrivesAndTakes may_mark asking old (Some took) new bell =
       (pass : WorkerPass) × (arrived : Pool J) × (taken : Pool J)
-      × pool.Arrives old (Some pass) arrived × pool.Takes may_mark may_answer before after arrived took taken × Rings taken bell new
+      × pool.Arrives old (Some pass) arrived × pool.Takes may_mark asking arrived took taken × Rings taken bell new
 
   -- a turn ends, and its worker takes; or its job is handed out to be dropped; or it is a stranger's
-  abbrev pub EndsAndTakes : (J → Bool → Type 0) → (ℕ → Bool → Type 0) → ℕ → ℕ → Pool J → JobNumber → Finish J → Ended J → Pool J → BellKind → Type 0
-  EndsAndTakes may_mark may_answer before after old turn finish (ended.Took took) new bell =
+  abbrev pub EndsAndTakes : (J → Bool → Type 0) → Asking → Pool J → JobNumber → Finish J → Ended J → Pool J → BellKind → Type 0
+  EndsAndTakes may_mark asking old turn finish (ended.Took took) new bell =
       (pass : WorkerPass) × (free : Pool J) × (taken : Pool J)
-      × pool.Ends may_mark old turn finish (Free pass) free × pool.Takes may_mark may_answer before after free took taken × Rings taken bell new
-  EndsAndTakes may_mark may_answer before after old turn finish (ended.Drop back job) new bell =
-      pool.Ends may_mark old turn finish (HandOut back job) old × Rings old bell new × (after ≡ before)
-  EndsAndTakes may_mark may_answer before after old turn finish (ended.Stranger back job) new bell =
-      pool.Ends may_mark old turn finish (Stranger back job) old × Rings old bell new × (after ≡ before)
+      × pool.Ends may_mark old turn finish (Free pass) free × pool.Takes may_mark asking free took taken × Rings taken bell new
+  EndsAndTakes may_mark asking old turn finish (ended.Drop back job) new bell =
+      pool.Ends may_mark old turn finish (HandOut back job) old × Rings old bell new × RefusesNone asking
+  EndsAndTakes may_mark asking old turn finish (ended.Stranger back job) new bell =
+      pool.Ends may_mark old turn finish (Stranger back job) old × Rings old bell new × RefusesNone asking
 
   -- a worker has waited, and takes or stops; where the wait timed out it sweeps first
-  abbrev pub WaitsAndTakes : (J → Bool → Type 0) → (ℕ → Bool → Type 0) → ℕ → ℕ → Bool → Pool J → Option (Took J) → Pool J → BellKind → Type 0
-  WaitsAndTakes may_mark may_answer before after timed_out old None new bell =
-      (stopped : Pool J) × pool.Waits may_mark may_answer before after timed_out old Stop stopped × Rings stopped bell new
-  WaitsAndTakes may_mark may_answer before after timed_out old (Some took) new bell =
+  abbrev pub WaitsAndTakes : (J → Bool → Type 0) → Asking → Bool → Pool J → Option (Took J) → Pool J → BellKind → Type 0
+  WaitsAndTakes may_mark asking timed_out old None new bell =
+      (stopped : Pool J) × pool.Waits may_mark asking timed_out old Stop stopped × Rings stopped bell new
+  WaitsAndTakes may_mark asking timed_out old (Some took) new bell =
       (pass : WorkerPass) × (stayed : Pool J) × (taken : Pool J) × (between : ℕ)
-      × pool.Waits may_mark may_answer before between timed_out old (Stay pass) stayed × pool.Takes may_mark may_answer between after stayed took taken × Rings taken bell new
+      × pool.Waits may_mark (record asking { refusals_after = between }) timed_out old (Stay pass) stayed
+      × pool.Takes may_mark (record asking { refusals_before = between }) stayed took taken × Rings taken bell new
 
   -- the limit is set
   abbrev pub SetsLimit : ℕ → Pool J → Pool J → BellKind → Type 0

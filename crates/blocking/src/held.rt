@@ -26,6 +26,7 @@ pub enum Ended<J> {
 }
 
 impl<J: Job> Held<J> {
+    ghost use Rattle.blocking_core.specs.Starters.{asked};
     ghost use Rattle.blocking.specs.Sections.{Adds, Starts, Wakes, Sweeps, ArrivesAndTakes, EndsAndTakes, WaitsAndTakes, SetsLimit};
 
     pub fn new(alloc: Global, setting: Option<&str>) -> Held<J>
@@ -38,7 +39,8 @@ impl<J: Job> Held<J> {
 
     /// Adds a job.
     pub fn add<S: Starter>(&mut self, job: J, starter: &mut S) -> (Result<JobNo, Refused<J>>, Bell)
-        ensures { Adds (S.may_answer starter.old) (S.refusals starter.old) (S.refusals starter.new) self.old.pool job result.0 self.new.pool result.1 }
+        ensures { Adds (asked S.Starter starter.old starter.new)
+            self.old.pool job result.0 self.new.pool result.1 }
     {
         let answer = self.pool.add(job, starter);
         (answer, self.pool.bell())
@@ -46,7 +48,8 @@ impl<J: Job> Held<J> {
 
     /// A wake reaches its job.
     pub fn wake<S: Starter>(&mut self, note: WakeNote, starter: &mut S) -> (Woke, Bell)
-        ensures { Wakes (S.may_answer starter.old) (S.refusals starter.old) (S.refusals starter.new) self.old.pool note result.0 self.new.pool result.1 }
+        ensures { Wakes (asked S.Starter starter.old starter.new)
+            self.old.pool note result.0 self.new.pool result.1 }
     {
         let woke = self.pool.wake(note, starter);
         (woke, self.pool.bell())
@@ -54,7 +57,8 @@ impl<J: Job> Held<J> {
 
     /// Puts the parked jobs that bear a mark back, and answers how many they were.
     pub fn sweep<S: Starter>(&mut self, starter: &mut S) -> (usize, Bell)
-        ensures { Sweeps J.may_answer (S.may_answer starter.old) (S.refusals starter.old) (S.refusals starter.new) self.old.pool result.0 self.new.pool result.1 }
+        ensures { Sweeps J.may_answer (asked S.Starter starter.old starter.new)
+            self.old.pool result.0 self.new.pool result.1 }
     {
         let count = self.pool.sweep(starter);
         (count, self.pool.bell())
@@ -62,7 +66,8 @@ impl<J: Job> Held<J> {
 
     /// A started worker arrives and takes; None where every started worker has arrived.
     pub fn arrive<S: Starter>(&mut self, starter: &mut S) -> (Option<Took<J>>, Bell)
-        ensures { ArrivesAndTakes J.may_answer (S.may_answer starter.old) (S.refusals starter.old) (S.refusals starter.new) self.old.pool result.0 self.new.pool result.1 }
+        ensures { ArrivesAndTakes J.may_answer (asked S.Starter starter.old starter.new)
+            self.old.pool result.0 self.new.pool result.1 }
     {
         let Some(pass) = self.pool.arrive() else {
             return (None, self.pool.bell());
@@ -78,7 +83,8 @@ impl<J: Job> Held<J> {
         finish: Finish<J>,
         starter: &mut S,
     ) -> (Ended<J>, Bell)
-        ensures { EndsAndTakes J.may_answer (S.may_answer starter.old) (S.refusals starter.old) (S.refusals starter.new) self.old.pool turn finish result.0 self.new.pool result.1 }
+        ensures { EndsAndTakes J.may_answer (asked S.Starter starter.old starter.new)
+            self.old.pool turn finish result.0 self.new.pool result.1 }
     {
         match self.pool.end(turn, finish) {
             Gone::Free(pass) => {
@@ -112,7 +118,8 @@ impl<J: Job> Held<J> {
         starter: &mut S,
     ) -> (Option<Took<J>>, Bell)
         requires { self.old.pool.counts.arriving < self.old.pool.counts.idle }
-        ensures { WaitsAndTakes J.may_answer (S.may_answer starter.old) (S.refusals starter.old) (S.refusals starter.new) timed_out self.old.pool result.0 self.new.pool result.1 }
+        ensures { WaitsAndTakes J.may_answer (asked S.Starter starter.old starter.new)
+            timed_out self.old.pool result.0 self.new.pool result.1 }
     {
         match self.pool.after_wait(pass, timed_out, starter) {
             Waited::Stay(pass) => {

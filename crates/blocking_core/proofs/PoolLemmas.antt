@@ -14,7 +14,7 @@ use Rattle.blocking_core.specs.declared.pool.answer.Waited.{Waited}
 use Rattle.blocking_core.specs.declared.pool.table.Front.{Front}
 use Rattle.blocking_core.specs.Jobs.{Job, Jobs, JobNumber, is_queued, is_running, is_parked, new_job, running, is_running_job, is_parked_job, one_if, running_below, is_running_as, job_of, standing_of, changed, amend, queued_again, parked_with, cancelled, valued, all_queued_again}
 use Rattle.blocking_core.specs.Counts.{Counts, busier, freer, rung, AreInOrder}
-use Rattle.blocking_core.specs.Growth.{Growth, Grows, grown}
+use Rattle.blocking_core.specs.Growth.{Asking, RefusesNone, Growth, Grows, grown}
 use Rattle.blocking_core.specs.Pools.{Pool, is_queued_job, IsSound, EnterAgain, with_job, empty_pool}
 use Rattle.blocking_core.specs.TableLends.{IfLent}
 use Rattle.blocking_core.specs.declared.pool.standing.Standing.{Standing}
@@ -617,17 +617,17 @@ module _ {J : Type 0} where
       ∙ length-append old.queue (swept old.jobs sweep.marked (serials_below next)) ∙ ap (λ n. n + length (swept old.jobs sweep.marked (serials_below next))) (sym before)
 
   -- a sweep that puts nothing back
-  pub swept_none : (may_mark : J → Bool → Type 0) (may_answer : ℕ → Bool → Type 0) (refusals : ℕ) (old new : Table J) (counts : Counts) (next was now : ℕ) (before : Pool J) → IsWhole old counts next
+  pub swept_none : (may_mark : J → Bool → Type 0) (asking : Asking) (old new : Table J) (counts : Counts) (next was now : ℕ) (before : Pool J) → RefusesNone asking → IsWhole old counts next
       → SweepsAll may_mark old old.accepted new → was ≡ length old.queue → now ≡ length new.queue → now - was ≡ 0
       → record { queue = old.queue; jobs = old.jobs; counts = counts; next_serial = next } ≡ before
-      → Sweeps may_mark may_answer refusals refusals before 0 (record { queue = new.queue; jobs = new.jobs; counts = counts; next_serial = next })
-  swept_none may_mark may_answer refusals old new counts next was now before whole sweep before_is after_is nil seen =
-      subst (λ p. Sweeps may_mark may_answer refusals refusals p 0 (record { queue = new.queue; jobs = new.jobs; counts = counts; next_serial = next })) seen
+      → Sweeps may_mark asking before 0 (record { queue = new.queue; jobs = new.jobs; counts = counts; next_serial = next })
+  swept_none may_mark asking old new counts next was now before none whole sweep before_is after_is nil seen =
+      subst (λ p. Sweeps may_mark asking p 0 (record { queue = new.queue; jobs = new.jobs; counts = counts; next_serial = next })) seen
       (record {
         marked = sweep.marked;
         asked = all_asked may_mark old new counts next sweep whole;
         counted = sym (ap length nothing);
-        effect = subst (λ ss. SweepsTo may_answer refusals refusals (record { queue = old.queue; jobs = old.jobs; counts = counts; next_serial = next }) ss (record { queue = new.queue; jobs = new.jobs; counts = counts; next_serial = next })) (sym nothing) (same, refl);
+        effect = subst (λ ss. SweepsTo asking (record { queue = old.queue; jobs = old.jobs; counts = counts; next_serial = next }) ss (record { queue = new.queue; jobs = new.jobs; counts = counts; next_serial = next })) (sym nothing) (same, none);
       })
     where
       nothing : swept old.jobs sweep.marked (serials_below next) ≡ []
@@ -641,27 +641,27 @@ module _ {J : Type 0} where
           ap (λ q. record { queue = q; jobs = new.jobs; counts = counts; next_serial = next }) (becomes.queue_is ∙ append-nil old.queue)
           ∙ ap (λ js. record { queue = old.queue; jobs = js; counts = counts; next_serial = next }) becomes.jobs_are
 
-  effect_of : (may_answer : ℕ → Bool → Type 0) (refused after : ℕ) (old new : Pool J) (serials : List ℕ) → (length serials ≡ 0 → ⊥) → EnterAgain may_answer refused after old serials new → SweepsTo may_answer refused after old serials new
-  effect_of may_answer refused after old new [] some enter = absurd (some refl)
-  effect_of may_answer refused after old new (s ∷ serials) some enter = enter
+  effect_of : (asking : Asking) (old new : Pool J) (serials : List ℕ) → (length serials ≡ 0 → ⊥) → EnterAgain asking old serials new → SweepsTo asking old serials new
+  effect_of asking old new [] some enter = absurd (some refl)
+  effect_of asking old new (s ∷ serials) some enter = enter
 
   -- a sweep that puts jobs back, and the pool grows
-  pub swept_some : (may_mark : J → Bool → Type 0) (may_answer : ℕ → Bool → Type 0) (refused after : ℕ) (old new : Table J) (counts numbers told : Counts) (growth : Growth) (next was now ready : ℕ) (before : Pool J) → IsWhole old counts next
+  pub swept_some : (may_mark : J → Bool → Type 0) (asking : Asking) (old new : Table J) (counts numbers told : Counts) (growth : Growth) (next was now ready : ℕ) (before : Pool J) → IsWhole old counts next
       → SweepsAll may_mark old old.accepted new → was ≡ length old.queue → now ≡ length new.queue → (now - was ≡ 0 → ⊥) → ready ≡ length new.queue
-      → Grows may_answer refused after ready counts numbers growth → told ≡ rung One numbers
+      → Grows asking ready counts numbers growth → told ≡ rung One numbers
       → record { queue = old.queue; jobs = old.jobs; counts = counts; next_serial = next } ≡ before
-      → Sweeps may_mark may_answer refused after before (now - was) (record { queue = new.queue; jobs = new.jobs; counts = told; next_serial = next })
-  swept_some may_mark may_answer refused after old new counts numbers told growth next was now ready before whole sweep before_is after_is some ready_is grows rings seen =
-      subst (λ p. Sweeps may_mark may_answer refused after p (now - was) (record { queue = new.queue; jobs = new.jobs; counts = told; next_serial = next })) seen
+      → Sweeps may_mark asking before (now - was) (record { queue = new.queue; jobs = new.jobs; counts = told; next_serial = next })
+  swept_some may_mark asking old new counts numbers told growth next was now ready before whole sweep before_is after_is some ready_is grows rings seen =
+      subst (λ p. Sweeps may_mark asking p (now - was) (record { queue = new.queue; jobs = new.jobs; counts = told; next_serial = next })) seen
       (record {
         marked = sweep.marked;
         asked = all_asked may_mark old new counts next sweep whole;
         counted = omega (arith, count);
-        effect = effect_of may_answer refused after _ _ serials (λ e. some (omega (arith, count, e)))
+        effect = effect_of asking _ _ serials (λ e. some (omega (arith, count, e)))
             (record {
               growth = growth;
               counts = numbers;
-              grows = subst (λ n. Grows may_answer refused after n counts numbers growth) (ready_is ∙ ap length becomes.queue_is) grows;
+              grows = subst (λ n. Grows asking n counts numbers growth) (ready_is ∙ ap length becomes.queue_is) grows;
               after_is =
                   ap (λ q. record { queue = q; jobs = new.jobs; counts = told; next_serial = next }) becomes.queue_is
                   ∙ ap (λ js. record { queue = old.queue ++ serials; jobs = js; counts = told; next_serial = next }) becomes.jobs_are
@@ -688,16 +688,16 @@ module _ {J : Type 0} where
       whole (swept_becomes may_mark old new counts next sweep whole) is
 
   -- a wait without a timeout doesn't sweep
-  pub waits_on : (may_mark : J → Bool → Type 0) (may_answer : ℕ → Bool → Type 0) (refused : ℕ) (timed_out : Bool) (old new : Pool J) (waited : Waited) → timed_out ≡ false → StaysOrStops false old waited new
-      → Waits may_mark may_answer refused refused timed_out old waited new
-  waits_on may_mark may_answer refused timed_out old new waited is answer =
-      subst (λ b. Waits may_mark may_answer refused refused b old waited new) (sym is) (record { between = old; sweep = (refl, refl); answer = answer })
+  pub waits_on : (may_mark : J → Bool → Type 0) (asking : Asking) (timed_out : Bool) (old new : Pool J) (waited : Waited) → RefusesNone asking → timed_out ≡ false → StaysOrStops false old waited new
+      → Waits may_mark asking timed_out old waited new
+  waits_on may_mark asking timed_out old new waited none is answer =
+      subst (λ b. Waits may_mark asking b old waited new) (sym is) (record { between = old; sweep = (refl, none); answer = answer })
 
   -- a wait with a timeout sweeps first
-  pub waits_out : (may_mark : J → Bool → Type 0) (may_answer : ℕ → Bool → Type 0) (refused after : ℕ) (timed_out : Bool) (old between new : Pool J) (count : ℕ) (waited : Waited) → timed_out ≡ true
-      → Sweeps may_mark may_answer refused after old count between → StaysOrStops true between waited new → Waits may_mark may_answer refused after timed_out old waited new
-  waits_out may_mark may_answer refused after timed_out old between new count waited is sweeps answer =
-      subst (λ b. Waits may_mark may_answer refused after b old waited new) (sym is) (record { between = between; sweep = (count, sweeps); answer = answer })
+  pub waits_out : (may_mark : J → Bool → Type 0) (asking : Asking) (timed_out : Bool) (old between new : Pool J) (count : ℕ) (waited : Waited) → timed_out ≡ true
+      → Sweeps may_mark asking old count between → StaysOrStops true between waited new → Waits may_mark asking timed_out old waited new
+  waits_out may_mark asking timed_out old between new count waited is sweeps answer =
+      subst (λ b. Waits may_mark asking b old waited new) (sym is) (record { between = between; sweep = (count, sweeps); answer = answer })
 
   -- a table that is as it was
   pub same_whole : (old new : Table J) (counts : Counts) (next : ℕ) → IsWhole old counts next → Becomes old new old.queue old.jobs → IsWhole new counts next

@@ -196,11 +196,16 @@ module _ {J : Type 0} where
         once = IsOnce-push chain.places place table.once (table.queued place was found ∙ before);
       }
 
+  -- what a change of an entry makes of the table: it is kept, with this queue, and one job has changed so
+  abbrev pub IsAmended : Slab (Entry J) → Chain → Chain → ℕ → Entry J → Table J → List ℕ → JobNumber → (Job J → Job J) → Type 0
+  IsAmended old queue accepted place is before line number change =
+      IsKept (with_value old place is) queue accepted × Becomes before (table_of (with_value old place is) queue accepted) line (amend before.jobs number.serial change)
+
   -- what a change of a job makes of the table, where the queue stays
   pub becomes_kept : (old : Slab (Entry J)) (queue accepted : Chain) (place : ℕ) (was is : Entry J) (number : JobNumber) (change : Job J → Job J) (before : Table J) → IsKept old queue accepted
       → get old place ≡ Some was → place ≡ number.place → was.serial ≡ number.serial → is.serial ≡ was.serial → is_queued is.standing ≡ is_queued was.standing → is_some is.value ≡ not (is_running is.standing)
       → job_at place is ≡ change (job_at place was) → table_of old queue accepted ≡ before
-      → IsKept (with_value old place is) queue accepted × Becomes before (table_of (with_value old place is) queue accepted) before.queue (amend before.jobs number.serial change)
+      → IsAmended old queue accepted place is before before.queue number change
   becomes_kept old queue accepted place was is number change before kept found here serial same alike held changes seen =
       let done = amends old queue queue accepted place was is kept found same (stays queue old place was is kept.table found alike held) in (
         done.kept,
@@ -218,10 +223,10 @@ module _ {J : Type 0} where
   pub becomes_pushed : (old : Slab (Entry J)) (queue next accepted : Chain) (place : ℕ) (was is : Entry J) (number : JobNumber) (change : Job J → Job J) (before : Table J) → IsKept old queue accepted
       → get old place ≡ Some was → place ≡ number.place → was.serial ≡ number.serial → is.serial ≡ was.serial → is_queued was.standing ≡ false → is_queued is.standing ≡ true → is_some is.value ≡ not (is_running is.standing)
       → job_at place is ≡ change (job_at place was) → next ≡ record queue { places = queue.places ++ place ∷ [] } → table_of old queue accepted ≡ before
-      → IsKept (with_value old place is) next accepted × Becomes before (table_of (with_value old place is) next accepted) (before.queue ++ number.serial ∷ []) (amend before.jobs number.serial change)
+      → IsAmended old next accepted place is before (before.queue ++ number.serial ∷ []) number change
   becomes_pushed old queue next accepted place was is number change before kept found here serial same unqueued queued held changes longer seen =
       let done = amends old queue (record queue { places = queue.places ++ place ∷ [] }) accepted place was is kept found same (pushed queue old place was is kept.table found unqueued queued held) in
-      subst (λ row. IsKept new row accepted × Becomes before (table_of new row accepted) (before.queue ++ number.serial ∷ []) (amend before.jobs number.serial change)) (sym longer) (
+      subst (λ row. IsAmended old row accepted place is before (before.queue ++ number.serial ∷ []) number change) (sym longer) (
         done.kept,
         subst (λ t. Becomes t (table_of new (record queue { places = queue.places ++ place ∷ [] }) accepted) (t.queue ++ number.serial ∷ []) (amend t.jobs number.serial change)) seen
             (record {
@@ -255,7 +260,7 @@ module _ {J : Type 0} where
   pub marks : (old : Slab (Entry J)) (queue accepted : Chain) (before : Table J) (number : JobNumber) (place : ℕ) (was is : Entry J) (change : Job J → Job J) → IsKept old queue accepted → table_of old queue accepted ≡ before
       → IsSome (job_of before.jobs number) → place ≡ number.place → get old place ≡ Some was
       → is.serial ≡ was.serial → is.standing ≡ was.standing → is.value ≡ was.value → job_at place is ≡ change (job_at place was)
-      → IsKept (with_value old place is) queue accepted × Becomes before (table_of (with_value old place is) queue accepted) before.queue (amend before.jobs number.serial change)
+      → IsAmended old queue accepted place is before before.queue number change
   marks old queue accepted before number place was is change kept seen present here found same alike equal changes =
       let job = some_of (job_of before.jobs number) present in
       becomes_kept old queue accepted place was is number change before kept found here (leads_to old queue accepted before number job.0 place was kept seen job.1 here found).0
@@ -264,8 +269,7 @@ module _ {J : Type 0} where
   -- a running job is parked
   pub parks : (old : Slab (Entry J)) (queue accepted : Chain) (before : Table J) (number : JobNumber) (place : ℕ) (was : Entry J) (value : J) → IsKept old queue accepted → table_of old queue accepted ≡ before
       → is_running_as before.jobs number ≡ true → place ≡ number.place → get old place ≡ Some was
-      → IsKept (with_value old place (record was { standing = Parked; value = Some value })) queue accepted
-      × Becomes before (table_of (with_value old place (record was { standing = Parked; value = Some value })) queue accepted) before.queue (amend before.jobs number.serial (parked_with value))
+      → IsAmended old queue accepted place (record was { standing = Parked; value = Some value }) before before.queue number (parked_with value)
   parks old queue accepted before number place was value kept seen runs here found =
       let job = running_job (job_of before.jobs number) runs in
       let own = leads_to old queue accepted before number job.0 place was kept seen job.1 here found in
@@ -275,8 +279,7 @@ module _ {J : Type 0} where
   -- a parked job is queued
   pub enters : (old : Slab (Entry J)) (queue next accepted : Chain) (before : Table J) (number : JobNumber) (place : ℕ) (was : Entry J) → IsKept old queue accepted → table_of old queue accepted ≡ before
       → standing_of before.jobs number ≡ Some Parked → place ≡ number.place → get old place ≡ Some was → next ≡ record queue { places = queue.places ++ place ∷ [] }
-      → IsKept (with_value old place (record was { standing = Queued })) next accepted
-      × Becomes before (table_of (with_value old place (record was { standing = Queued })) next accepted) (before.queue ++ number.serial ∷ []) (amend before.jobs number.serial queued_again)
+      → IsAmended old next accepted place (record was { standing = Queued }) before (before.queue ++ number.serial ∷ []) number queued_again
   enters old queue next accepted before number place was kept seen parked here found longer =
       let job = standing_job (job_of before.jobs number) Parked parked in
       let own = leads_to old queue accepted before number job.0 place was kept seen job.1 here found in
@@ -490,8 +493,7 @@ module _ {J : Type 0} where
   -- a job that doesn't run has another value
   pub revalues : (old : Slab (Entry J)) (queue accepted : Chain) (before : Table J) (number : JobNumber) (place : ℕ) (was : Entry J) (value : J) → IsKept old queue accepted → table_of old queue accepted ≡ before
       → has_value (job_of before.jobs number) ≡ true → place ≡ number.place → get old place ≡ Some was
-      → IsKept (with_value old place (record was { value = Some value })) queue accepted
-      × Becomes before (table_of (with_value old place (record was { value = Some value })) queue accepted) before.queue (amend before.jobs number.serial (valued value))
+      → IsAmended old queue accepted place (record was { value = Some value }) before before.queue number (valued value)
   revalues old queue accepted before number place was value kept seen idle here found =
       let job = valued_job (job_of before.jobs number) idle in
       let own = leads_to old queue accepted before number job.0 place was kept seen job.1 here found in

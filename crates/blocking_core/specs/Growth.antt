@@ -13,6 +13,21 @@ greatest = 18446744073709551615
 abbrev pub is_due : ℕ → ℕ → ℕ → ℕ → ℕ → Bool
 is_due ready idle workers limit m = nat_lt (5 * (idle + m)) ready && nat_lt (workers + m) limit
 
+-- What is asked of a starter: how it may answer the start of each number (true: it is refused), and how many starts it
+-- had refused before, and has refused after.
+pub record Asking : Type 1 where
+  pub may_answer : ℕ → Bool → Type 0
+  pub refusals_before : ℕ
+  pub refusals_after : ℕ
+
+-- no start was refused that was asked for
+abbrev pub RefusesNone : Asking → Type 0
+RefusesNone asking = asking.refusals_after ≡ asking.refusals_before
+
+-- each start that may be answered so now might have been answered so before
+abbrev pub Narrows : (ℕ → Bool → Type 0) → (ℕ → Bool → Type 0) → Type 0
+Narrows may_answer may_still = (number : ℕ) (refused : Bool) → may_still number refused → may_answer number refused
+
 -- how the start of this number may be answered (true: it is refused): the greatest number is always refused
 abbrev pub StartAnswer : (ℕ → Bool → Type 0) → ℕ → Bool → Type 0
 StartAnswer may_answer number refused = MatchBool (number == greatest) (refused ≡ true) (may_answer number refused)
@@ -66,10 +81,10 @@ abbrev pub was_asked : Counts → Growth → Bool
 was_asked counts growth = growth.refused && not (counts.next_worker + growth.started == greatest)
 
 -- What a growth does for so many ready jobs.
-pub record Grows (may_answer : ℕ → Bool → Type 0) (before after : ℕ) (ready : ℕ) (old new : Counts) (growth : Growth) : Type 0 where
-  pub starts : IsGrowth (StartAnswer may_answer) ready old.idle old.workers (limit_of old) old.next_worker growth
+pub record Grows (asking : Asking) (ready : ℕ) (old new : Counts) (growth : Growth) : Type 0 where
+  pub starts : IsGrowth (StartAnswer asking.may_answer) ready old.idle old.workers (limit_of old) old.next_worker growth
   pub counts : new ≡ grown old growth
-  pub refusals : Refusals (was_asked old growth) before after
+  pub refusals : Refusals (was_asked old growth) asking.refusals_before asking.refusals_after
 
 -- one worker more, not arrived yet; all are notified
 abbrev pub one_more : Counts → Counts

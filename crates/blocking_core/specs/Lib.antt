@@ -14,6 +14,7 @@ pub mod Pools
 pub mod Rings
 pub mod SlotAnswers
 pub mod Slots
+pub mod Starters
 pub mod Sweeps
 pub mod TableLends
 pub mod Tables

@@ -5,6 +5,7 @@ use Rattle.blocking_core.specs.Pools.{Pool, empty_pool, Enters, IsRefused, IsToD
 use Rattle.blocking_core.specs.Sweeps.{AreAsked, serials_below, swept}
 use Rattle.blocking_core.specs.Wakes.{wake_of, cancel_of}
 use Rattle.blocking_core.specs.Counts.{limit_of, arrived, stopped}
+use Rattle.blocking_core.specs.Growth.{Asking, RefusesNone}
 use Rattle.std.specs.Borrow.{Bor}
 use Rattle.blocking_core.specs.Limits.{limit_of_setting}
 use Rattle.blocking_core.specs.declared.pool.answer.Refused.{Refused}
@@ -31,9 +32,9 @@ module _ {J : Type 0} where
   pool_of setting serial worker = empty_pool (limit_of_setting (option_map (λ text. text.now) setting)) serial worker
 
   -- a new job is accepted, or comes back
-  abbrev pub Adds : (ℕ → Bool → Type 0) → ℕ → ℕ → Pool J → J → Result JobNumber (Refused J) → Pool J → Type 0
-  Adds may_answer before after old value (Ok number) new = Enters may_answer before after old value number new
-  Adds may_answer before after old value (Err refused) new = (refused.back ≡ value) × IsRefused may_answer before after old refused.why new
+  abbrev pub Adds : Asking → Pool J → J → Result JobNumber (Refused J) → Pool J → Type 0
+  Adds asking old value (Ok number) new = Enters asking old value number new
+  Adds asking old value (Err refused) new = (refused.back ≡ value) × IsRefused asking old refused.why new
 
   -- a worker arrives, where one was started and hasn't arrived
   abbrev pub Arrives : Pool J → Option WorkerPass → Pool J → Type 0
@@ -41,49 +42,49 @@ module _ {J : Type 0} where
   Arrives old (Some pass) new = (0 < old.counts.arriving) × (new ≡ record old { counts = arrived old.counts }) × (new.counts.arriving < new.counts.idle)
 
   -- a worker takes the front job, to run it or to drop it, or finds none
-  abbrev pub Takes : (J → Bool → Type 0) → (ℕ → Bool → Type 0) → ℕ → ℕ → Pool J → Took J → Pool J → Type 0
-  Takes may_mark may_answer before after old (Run turn value) new = TakesFront may_mark may_answer before after old turn value false new
-  Takes may_mark may_answer before after old (Drop turn value) new = TakesFront may_mark may_answer before after old turn value true new
-  Takes may_mark may_answer before after old (Idle pass) new = (old.queue ≡ []) × (new ≡ old) × (after ≡ before)
+  abbrev pub Takes : (J → Bool → Type 0) → Asking → Pool J → Took J → Pool J → Type 0
+  Takes may_mark asking old (Run turn value) new = TakesFront may_mark asking old turn value false new
+  Takes may_mark asking old (Drop turn value) new = TakesFront may_mark asking old turn value true new
+  Takes may_mark asking old (Idle pass) new = (old.queue ≡ []) × (new ≡ old) × RefusesNone asking
 
   -- what a wake leaves: the job enters again, or is marked as woken
-  abbrev pub WakesTo : (ℕ → Bool → Type 0) → ℕ → ℕ → Pool J → ℕ → Woke → Pool J → Type 0
-  WakesTo may_answer before after old serial Entered new = EnterAgain may_answer before after old (serial ∷ []) new
-  WakesTo may_answer before after old serial Marked new = (new ≡ with_job old serial woken) × (after ≡ before)
-  WakesTo may_answer before after old serial Nothing new = (new ≡ old) × (after ≡ before)
+  abbrev pub WakesTo : Asking → Pool J → ℕ → Woke → Pool J → Type 0
+  WakesTo asking old serial Entered new = EnterAgain asking old (serial ∷ []) new
+  WakesTo asking old serial Marked new = (new ≡ with_job old serial woken) × RefusesNone asking
+  WakesTo asking old serial Nothing new = (new ≡ old) × RefusesNone asking
 
   -- what a cancel leaves: the job is flagged, and enters again if it was parked
-  abbrev pub CancelsTo : (ℕ → Bool → Type 0) → ℕ → ℕ → Pool J → ℕ → Woke → Pool J → Type 0
-  CancelsTo may_answer before after old serial Entered new = EnterAgain may_answer before after (with_job old serial cancelled) (serial ∷ []) new
-  CancelsTo may_answer before after old serial Marked new = (new ≡ with_job old serial cancelled) × (after ≡ before)
-  CancelsTo may_answer before after old serial Nothing new = (new ≡ old) × (after ≡ before)
+  abbrev pub CancelsTo : Asking → Pool J → ℕ → Woke → Pool J → Type 0
+  CancelsTo asking old serial Entered new = EnterAgain asking (with_job old serial cancelled) (serial ∷ []) new
+  CancelsTo asking old serial Marked new = (new ≡ with_job old serial cancelled) × RefusesNone asking
+  CancelsTo asking old serial Nothing new = (new ≡ old) × RefusesNone asking
 
   -- a wake, by how its job stands
-  pub record Wakes (may_answer : ℕ → Bool → Type 0) (before after : ℕ) (old : Pool J) (number : JobNumber) (woke : Woke) (new : Pool J) : Type 0 where
+  pub record Wakes (asking : Asking) (old : Pool J) (number : JobNumber) (woke : Woke) (new : Pool J) : Type 0 where
     pub answer : woke ≡ wake_of (standing_of old.jobs number)
-    pub effect : WakesTo may_answer before after old number.serial woke new
+    pub effect : WakesTo asking old number.serial woke new
 
   -- a cancel, by how its job stands
-  pub record Cancels (may_answer : ℕ → Bool → Type 0) (before after : ℕ) (old : Pool J) (number : JobNumber) (woke : Woke) (new : Pool J) : Type 0 where
+  pub record Cancels (asking : Asking) (old : Pool J) (number : JobNumber) (woke : Woke) (new : Pool J) : Type 0 where
     pub answer : woke ≡ cancel_of (standing_of old.jobs number)
-    pub effect : CancelsTo may_answer before after old number.serial woke new
+    pub effect : CancelsTo asking old number.serial woke new
 
   -- the jobs that a sweep puts back enter again, if there are any
-  abbrev pub SweepsTo : (ℕ → Bool → Type 0) → ℕ → ℕ → Pool J → List ℕ → Pool J → Type 0
-  SweepsTo may_answer before after old [] new = (new ≡ old) × (after ≡ before)
-  SweepsTo may_answer before after old (serial ∷ serials) new = EnterAgain may_answer before after old (serial ∷ serials) new
+  abbrev pub SweepsTo : Asking → Pool J → List ℕ → Pool J → Type 0
+  SweepsTo asking old [] new = (new ≡ old) × RefusesNone asking
+  SweepsTo asking old (serial ∷ serials) new = EnterAgain asking old (serial ∷ serials) new
 
   -- A sweep: the parked jobs that bear a mark enter again, in the order in which they were accepted.
-  pub record Sweeps (may_mark : J → Bool → Type 0) (may_answer : ℕ → Bool → Type 0) (before after : ℕ) (old : Pool J) (count : ℕ) (new : Pool J) : Type 0 where
+  pub record Sweeps (may_mark : J → Bool → Type 0) (asking : Asking) (old : Pool J) (count : ℕ) (new : Pool J) : Type 0 where
     pub marked : ℕ → Bool
     pub asked : AreAsked may_mark old.jobs marked
     pub counted : count ≡ length (swept old.jobs marked (serials_below old.next_serial))
-    pub effect : SweepsTo may_answer before after old (swept old.jobs marked (serials_below old.next_serial)) new
+    pub effect : SweepsTo asking old (swept old.jobs marked (serials_below old.next_serial)) new
 
   -- a wait that timed out sweeps first
-  abbrev pub SweepsIf : Bool → (J → Bool → Type 0) → (ℕ → Bool → Type 0) → ℕ → ℕ → Pool J → Pool J → Type 0
-  SweepsIf false may_mark may_answer before after old new = (new ≡ old) × (after ≡ before)
-  SweepsIf true may_mark may_answer before after old new = (count : ℕ) × Sweeps may_mark may_answer before after old count new
+  abbrev pub SweepsIf : Bool → (J → Bool → Type 0) → Asking → Pool J → Pool J → Type 0
+  SweepsIf false may_mark asking old new = (new ≡ old) × RefusesNone asking
+  SweepsIf true may_mark asking old new = (count : ℕ) × Sweeps may_mark asking old count new
 
   -- whether a worker must stop after a wait: there are more workers than the limit, or the wait timed out with an empty queue
   abbrev pub must_stop : Bool → Pool J → Bool
@@ -95,9 +96,9 @@ module _ {J : Type 0} where
   StaysOrStops timed_out old Stop new = (must_stop timed_out old ≡ true) × (new ≡ record old { counts = stopped (not (is_empty old.queue)) old.counts })
 
   -- a worker has waited: it sweeps if the wait timed out, and then it stays or stops
-  pub record Waits (may_mark : J → Bool → Type 0) (may_answer : ℕ → Bool → Type 0) (before after : ℕ) (timed_out : Bool) (old : Pool J) (waited : Waited) (new : Pool J) : Type 0 where
+  pub record Waits (may_mark : J → Bool → Type 0) (asking : Asking) (timed_out : Bool) (old : Pool J) (waited : Waited) (new : Pool J) : Type 0 where
     pub between : Pool J
-    pub sweep : SweepsIf timed_out may_mark may_answer before after old between
+    pub sweep : SweepsIf timed_out may_mark asking old between
     pub answer : StaysOrStops timed_out between waited new
 
   -- the job that comes with the end of a turn

@@ -5,7 +5,7 @@ use Rattle.std.specs.Coded.{Coded, code_by, coded×, coded_ℕ, coded_list}
 use Rattle.blocking_core.specs.Lists.{is_in, IsOnce}
 use Rattle.blocking_core.specs.Jobs.{Job, Jobs, JobNumber, jobs_code, is_queued, new_job, running, running_below, parked_with, queued_again, amend, all_queued_again}
 use Rattle.blocking_core.specs.Counts.{Counts, counts_code, no_workers, busier, freer, rung, AreInOrder}
-use Rattle.blocking_core.specs.Growth.{Growth, Grows, greatest}
+use Rattle.blocking_core.specs.Growth.{Asking, RefusesNone, Growth, Grows, greatest}
 use Rattle.blocking_core.specs.declared.pool.answer.Refusal.{Refusal}
 use Rattle.blocking_core.specs.declared.pool.answer.Refusal.TheVariants.{Memory, NoWorker, Numbers}
 use Rattle.blocking_core.specs.declared.pool.bell.BellKind.TheVariants.{One}
@@ -57,30 +57,30 @@ module _ {J : Type 0} where
         next_serial = pool.next_serial + 1;
       }
 
-  -- What becomes of a new job. The starter may answer so, and counts its refusals: so many before, and so many after.
-  pub record Enters (may_answer : ℕ → Bool → Type 0) (before after : ℕ) (old : Pool J) (value : J) (number : JobNumber) (new : Pool J) : Type 0 where
+  -- What becomes of a new job.
+  pub record Enters (asking : Asking) (old : Pool J) (value : J) (number : JobNumber) (new : Pool J) : Type 0 where
     pub serial : number.serial ≡ old.next_serial
     pub left : old.next_serial < greatest
     pub growth : Growth
     pub counts : Counts
-    pub grows : Grows may_answer before after (length old.queue + 1) old.counts counts growth
+    pub grows : Grows asking (length old.queue + 1) old.counts counts growth
     pub staffed : 0 < counts.workers
     pub after_is : new ≡ entered old number.place value counts
 
   -- the job is handed back, for want of a worker: nothing stays of it but the counts of its growth
-  pub record FindsNobody (may_answer : ℕ → Bool → Type 0) (before after : ℕ) (old new : Pool J) : Type 0 where
+  pub record FindsNobody (asking : Asking) (old new : Pool J) : Type 0 where
     pub left : old.next_serial < greatest
     pub growth : Growth
     pub counts : Counts
-    pub grows : Grows may_answer before after (length old.queue + 1) old.counts counts growth
+    pub grows : Grows asking (length old.queue + 1) old.counts counts growth
     pub unstaffed : counts.workers ≡ 0
     pub after_is : new ≡ record old { counts = counts }
 
   -- why a job is refused, in the order in which it is tested
-  abbrev pub IsRefused : (ℕ → Bool → Type 0) → ℕ → ℕ → Pool J → Refusal → Pool J → Type 0
-  IsRefused may_answer before after old Numbers new = (old.next_serial ≡ greatest) × (new ≡ old) × (after ≡ before)
-  IsRefused may_answer before after old Memory new = (old.next_serial < greatest) × (new ≡ old) × (after ≡ before)
-  IsRefused may_answer before after old NoWorker new = FindsNobody may_answer before after old new
+  abbrev pub IsRefused : Asking → Pool J → Refusal → Pool J → Type 0
+  IsRefused asking old Numbers new = (old.next_serial ≡ greatest) × (new ≡ old) × RefusesNone asking
+  IsRefused asking old Memory new = (old.next_serial < greatest) × (new ≡ old) × RefusesNone asking
+  IsRefused asking old NoWorker new = FindsNobody asking old new
 
   -- Whether a job is to be dropped: it was cancelled, or bears a mark. It was asked for its mark, and may answer so.
   abbrev pub IsToDrop : (J → Bool → Type 0) → Bool → J → Bool → Type 0
@@ -88,7 +88,7 @@ module _ {J : Type 0} where
 
   -- The front job is taken, to be run or to be dropped: its value comes out, and the pool grows by the jobs that are left
   -- in the queue.
-  pub record TakesFront (may_mark : J → Bool → Type 0) (may_answer : ℕ → Bool → Type 0) (before after : ℕ) (old : Pool J) (number : JobNumber) (value : J) (to_drop : Bool) (new : Pool J) : Type 0 where
+  pub record TakesFront (may_mark : J → Bool → Type 0) (asking : Asking) (old : Pool J) (number : JobNumber) (value : J) (to_drop : Bool) (new : Pool J) : Type 0 where
     pub rest : List ℕ
     pub front : old.queue ≡ number.serial ∷ rest
     pub job : Job J
@@ -98,7 +98,7 @@ module _ {J : Type 0} where
     pub wanted : IsToDrop may_mark job.cancelled value to_drop
     pub growth : Growth
     pub counts : Counts
-    pub grows : Grows may_answer before after (length rest) (busier old.counts) counts growth
+    pub grows : Grows asking (length rest) (busier old.counts) counts growth
     pub after_is : new ≡ record { queue = rest; jobs = map.insert old.jobs number.serial (running job); counts = counts; next_serial = old.next_serial }
 
   -- jobs stand at the queue's end again, in this order, and one worker is notified
@@ -112,10 +112,10 @@ module _ {J : Type 0} where
       }
 
   -- Jobs that were parked enter again, and the pool grows once, by all jobs that are queued then.
-  pub record EnterAgain (may_answer : ℕ → Bool → Type 0) (before after : ℕ) (old : Pool J) (serials : List ℕ) (new : Pool J) : Type 0 where
+  pub record EnterAgain (asking : Asking) (old : Pool J) (serials : List ℕ) (new : Pool J) : Type 0 where
     pub growth : Growth
     pub counts : Counts
-    pub grows : Grows may_answer before after (length (old.queue ++ serials)) old.counts counts growth
+    pub grows : Grows asking (length (old.queue ++ serials)) old.counts counts growth
     pub after_is : new ≡ requeued old serials counts
 
   -- the pool, in which the job of this serial has changed so

@@ -3,6 +3,7 @@
 //! docs/RULES.md states the rules that the calls follow, under the names that are cited here.
 ghost use Rattle.std.specs.Prelude.{◌≡◌, ◌<◌, ◌≤◌, ◌∷◌, [], ℕ, Bool, true, length, Some};
 ghost use Rattle.blocking_core.specs.Growth.{greatest};
+ghost use Rattle.blocking_core.specs.Starters.{asked, IsSteady};
 
 mod answer;
 mod bell;
@@ -96,8 +97,9 @@ impl<J: Job> Pool<J> {
     /// serials are used up, `Memory` where there was no room for one more job, `NoWorker` where no worker is there after
     /// the growth. This is the one call of the pool that takes memory.
     pub fn add<S: Starter>(&mut self, job: J, starter: &mut S) -> Result<JobNo, Refused<J>>
-        ensures answer { Adds (S.may_answer starter.old) (S.refusals starter.old) (S.refusals starter.new) self.old job result self.new }
-        ensures steady { (n : ℕ) (answer : Bool) → S.may_answer starter.new n answer → S.may_answer starter.old n answer }
+        ensures answer { Adds (asked S.Starter starter.old starter.new)
+            self.old job result self.new }
+        ensures steady { IsSteady S.Starter starter.old starter.new }
     {
         if self.next_serial == u64::MAX {
             return refuse(job, Refusal::Numbers);
@@ -130,8 +132,9 @@ impl<J: Job> Pool<J> {
     /// cancelled, or that bears a mark, is handed out to be dropped, and counts as running until its turn ends.
     pub fn take<S: Starter>(&mut self, pass: WorkerPass, starter: &mut S) -> Took<J>
         requires { self.old.counts.arriving < self.old.counts.idle }
-        ensures answer { Takes J.may_answer (S.may_answer starter.old) (S.refusals starter.old) (S.refusals starter.new) self.old result self.new }
-        ensures steady { (n : ℕ) (answer : Bool) → S.may_answer starter.new n answer → S.may_answer starter.old n answer }
+        ensures answer { Takes J.may_answer (asked S.Starter starter.old starter.new)
+            self.old result self.new }
+        ensures steady { IsSteady S.Starter starter.old starter.new }
     {
         let Some(front) = self.table.take_first() else {
             return Took::Idle(pass);
@@ -156,8 +159,9 @@ impl<J: Job> Pool<J> {
     /// so that it goes back to the queue where its run ends waiting. Any other job is as it was, and so is the pool where
     /// the number is no job's.
     pub fn wake<S: Starter>(&mut self, note: WakeNote, starter: &mut S) -> Woke
-        ensures answer { Wakes (S.may_answer starter.old) (S.refusals starter.old) (S.refusals starter.new) self.old note result self.new }
-        ensures steady { (n : ℕ) (answer : Bool) → S.may_answer starter.new n answer → S.may_answer starter.old n answer }
+        ensures answer { Wakes (asked S.Starter starter.old starter.new)
+            self.old note result self.new }
+        ensures steady { IsSteady S.Starter starter.old starter.new }
     {
         let no = note.spend();
         match self.table.standing(no) {
@@ -176,8 +180,9 @@ impl<J: Job> Pool<J> {
     /// Cancels a job: nobody wants it to be run any more. A parked job stands at the queue's end again, and the pool grows; a
     /// queued or running one is flagged. It is handed out to be dropped when it is taken next, or when its run ends waiting.
     pub fn cancel<S: Starter>(&mut self, no: JobNo, starter: &mut S) -> Woke
-        ensures answer { Cancels (S.may_answer starter.old) (S.refusals starter.old) (S.refusals starter.new) self.old no result self.new }
-        ensures steady { (n : ℕ) (answer : Bool) → S.may_answer starter.new n answer → S.may_answer starter.old n answer }
+        ensures answer { Cancels (asked S.Starter starter.old starter.new)
+            self.old no result self.new }
+        ensures steady { IsSteady S.Starter starter.old starter.new }
     {
         match self.table.standing(no) {
             Some(Standing::Parked) => {
@@ -196,8 +201,9 @@ impl<J: Job> Pool<J> {
     // Lets a parked job enter again, and the pool grow.
     fn enter_again<S: Starter>(&mut self, no: JobNo, starter: &mut S)
         requires { standing_of self.old.jobs no ≡ Some Parked }
-        ensures again { EnterAgain (S.may_answer starter.old) (S.refusals starter.old) (S.refusals starter.new) self.old (no.serial ∷ []) self.new }
-        ensures steady { (n : ℕ) (answer : Bool) → S.may_answer starter.new n answer → S.may_answer starter.old n answer }
+        ensures again { EnterAgain (asked S.Starter starter.old starter.new)
+            self.old (no.serial ∷ []) self.new }
+        ensures steady { IsSteady S.Starter starter.old starter.new }
     {
         self.table.enter_again(no);
         self.counts.grow(self.table.queue_len(), starter);
@@ -207,8 +213,9 @@ impl<J: Job> Pool<J> {
     /// Puts the parked jobs that bear a mark back at the queue's end, in the order in which they were accepted, and answers
     /// how many they were. Where there were any, the pool grows once. This is the one call that goes through all jobs.
     pub fn sweep<S: Starter>(&mut self, starter: &mut S) -> usize
-        ensures answer { Sweeps J.may_answer (S.may_answer starter.old) (S.refusals starter.old) (S.refusals starter.new) self.old result self.new }
-        ensures steady { (n : ℕ) (answer : Bool) → S.may_answer starter.new n answer → S.may_answer starter.old n answer }
+        ensures answer { Sweeps J.may_answer (asked S.Starter starter.old starter.new)
+            self.old result self.new }
+        ensures steady { IsSteady S.Starter starter.old starter.new }
     {
         let before = self.table.queue_len();
         self.table.sweep();
@@ -274,8 +281,9 @@ impl<J: Job> Pool<J> {
         starter: &mut S,
     ) -> Waited
         requires { self.old.counts.arriving < self.old.counts.idle }
-        ensures answer { Waits J.may_answer (S.may_answer starter.old) (S.refusals starter.old) (S.refusals starter.new) timed_out self.old result self.new }
-        ensures steady { (n : ℕ) (answer : Bool) → S.may_answer starter.new n answer → S.may_answer starter.old n answer }
+        ensures answer { Waits J.may_answer (asked S.Starter starter.old starter.new)
+            timed_out self.old result self.new }
+        ensures steady { IsSteady S.Starter starter.old starter.new }
     {
         if !timed_out {
             return self.stay_or_stop(pass, false);

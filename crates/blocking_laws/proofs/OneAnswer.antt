@@ -10,7 +10,7 @@ use Rattle.blocking_laws.specs.Queue.{queue, running, to_sweep}
 use Rattle.blocking_laws.specs.Counts.{workers, limit}
 use Rattle.blocking_laws.specs.Growth.{GrowthLaw, IsMarked, StartsRightly, grows}
 use Rattle.blocking_laws.specs.Turns.{hand}
-use Rattle.blocking_laws.specs.Answers.{take_answer, end_answer, must_stop, wait_act, PoolAnswers}
+use Rattle.blocking_laws.specs.Answers.{take_answer, end_answer, wait_act, PoolAnswers}
 use Rattle.blocking_laws.specs.Steps.{StepLaw, Fits, Happens, has_action, is_pool_step, is_out_of_memory, is_take, IsBegun, IsEndOf, IsWaitOf, IsSweep, IsWakeOf, IsCancelOf, named, party, job_of, owner_of}
 use Rattle.blocking_laws.specs.Legal.{PoolLaw}
 use Rattle.blocking_laws.proofs.Growths.{same_event, same_by, same_starts, growth_of}
@@ -64,24 +64,19 @@ stops_by setting past late started refused =
 abbrev with_act : Moment → Act → Moment
 with_act now act = record now { event = record now.event { act = act } }
 
-staying : (setting : ℕ) (past : List Moment) (now : Moment) (w v : ℕ) (late timed_out : Bool) → v ≡ w → timed_out ≡ late → must_stop setting past (with_act now (Stays v timed_out)) timed_out ≡ false
-    → Stays v timed_out ≡ wait_act w late (stops_by setting past late now.event.started now.event.start_refused)
-staying setting past now w v late timed_out same time answer =
-    subst (λ u. Stays v timed_out ≡ wait_act u late (stops_by setting past late now.event.started now.event.start_refused)) same
-    (subst (λ t. Stays v timed_out ≡ wait_act v t (stops_by setting past t now.event.started now.event.start_refused)) time
-    (ap (wait_act v timed_out) (sym answer)))
-
-stopping : (setting : ℕ) (past : List Moment) (now : Moment) (w v : ℕ) (late timed_out : Bool) → v ≡ w → timed_out ≡ late → must_stop setting past (with_act now (Stopped v timed_out)) timed_out ≡ true
-    → Stopped v timed_out ≡ wait_act w late (stops_by setting past late now.event.started now.event.start_refused)
-stopping setting past now w v late timed_out same time answer =
-    subst (λ u. Stopped v timed_out ≡ wait_act u late (stops_by setting past late now.event.started now.event.start_refused)) same
-    (subst (λ t. Stopped v timed_out ≡ wait_act v t (stops_by setting past t now.event.started now.event.start_refused)) time
-    (ap (wait_act v timed_out) (sym answer)))
+-- whichever it is, the worker and what was asked of it are the same
+waited : (stop : Bool) (setting : ℕ) (past : List Moment) (now : Moment) (w v : ℕ) (late timed_out : Bool) → v ≡ w → timed_out ≡ late
+    → stops_by setting past timed_out now.event.started now.event.start_refused ≡ stop
+    → wait_act v timed_out stop ≡ wait_act w late (stops_by setting past late now.event.started now.event.start_refused)
+waited stop setting past now w v late timed_out same time answer =
+    ap (wait_act v timed_out) (sym answer)
+    ∙ ap (λ u. wait_act u timed_out (stops_by setting past timed_out now.event.started now.event.start_refused)) same
+    ∙ ap (λ t. wait_act w t (stops_by setting past t now.event.started now.event.start_refused)) time
 
 wait_is : (setting : ℕ) (past : List Moment) (now : Moment) (w : ℕ) (late : Bool) (act : Act) → IsWaitOf w late act → PoolAnswers setting past (with_act now act) act
     → act ≡ wait_act w late (stops_by setting past late now.event.started now.event.start_refused)
-wait_is setting past now w late (Stays v timed_out) kind answer = staying setting past now w v late timed_out kind.0 kind.1 answer
-wait_is setting past now w late (Stopped v timed_out) kind answer = stopping setting past now w v late timed_out kind.0 kind.1 answer
+wait_is setting past now w late (Stays v timed_out) kind answer = waited false setting past now w v late timed_out kind.0 kind.1 answer
+wait_is setting past now w late (Stopped v timed_out) kind answer = waited true setting past now w v late timed_out kind.0 kind.1 answer
 wait_is setting past now w late _ kind answer = absurd kind
 
 -- whether a wait stays or stops, its growth is the same

@@ -1,11 +1,11 @@
 -- What a pool of calls has grown, read off its counts before and after.
-use Rattle.std.proofs.Common.{◌≡◌, ℕ, ◌+◌, ◌-◌, ◌<◌, ◌≤◌, Bool, true, false, [], ◌∷◌, ◌++◌, length, arith, ap, ◌∙◌, subst, sym, refl, inl, inr, add-zero, length-append}
+use Rattle.std.proofs.Common.{◌≡◌, ℕ, ◌+◌, ◌-◌, ◌<◌, ◌≤◌, Bool, true, false, [], ◌∷◌, ◌++◌, length, arith, ap, ◌∙◌, subst, sym, refl, inl, inr, length-append}
 use Rattle.std.proofs.lemmas.Bool.{cases_lt}
 use Rattle.std.proofs.lemmas.Bool.Decides.{nat_tests}
 use Rattle.std.specs.Prelude.{nat_lt}
 use Rattle.blocking_core.specs.Counts.{Counts, limit_of, busier, rung}
 use Rattle.blocking_core.specs.declared.pool.bell.BellKind.TheVariants.{One}
-use Rattle.blocking_core.specs.Growth.{greatest, is_due, StartAnswer, Growth, IsGrowth, Grows, grown, number_after}
+use Rattle.blocking_core.specs.Growth.{Asking, greatest, is_due, StartAnswer, Growth, IsGrowth, Grows, grown, number_after}
 use Rattle.blocking_core.specs.Pools.{Enters, IsRefused, FindsNobody, entered, TakesFront as CoreTakesFront}
 use Rattle.blocking_core.specs.Jobs.{JobNumber}
 use Rattle.blocking_core.specs.declared.pool.answer.Refusal.{Refusal}
@@ -14,6 +14,7 @@ use Rattle.blocking_core.specs.PoolAnswers.{Takes}
 use Rattle.blocking_core.specs.declared.pool.answer.Took.{Took}
 use Rattle.blocking_core.specs.declared.pool.answer.Took.TheVariants.{Run, Drop, Idle}
 use Rattle.blocking_core.specs.declared.pool.token.WorkerPass.{WorkerPass}
+use Rattle.blocking_core.proofs.GrowthLemmas.{due_after}
 use Rattle.blocking_world.specs.Crews.{Accepts, FindsNoWorker, TakesFront, TakesTo}
 use Rattle.blocking_world.specs.Worlds.{CallPool, new_call}
 use Rattle.blocking_world.specs.declared.call.CallJob.{CallJob}
@@ -21,10 +22,6 @@ use Rattle.blocking_world.specs.declared.call.CallJob.{CallJob}
 -- what a call answers where it is asked for its mark
 abbrev is_marked_so : CallJob → Bool → Type 0
 is_marked_so job marked = job.is_marked ≡ marked
-
--- a start is due after others where one is with these counted
-due_later : (ready idle workers limit m : ℕ) → is_due ready idle workers limit m ≡ is_due ready (idle + m) (workers + m) limit 0
-due_later ready idle workers limit m = rw (add-zero (idle + m), add-zero (workers + m)) refl
 
 -- the start of the greatest number is refused
 never_greatest : (may_answer : ℕ → Bool → Type 0) (n : ℕ) → n ≡ greatest → StartAnswer may_answer n false → ⊥
@@ -51,16 +48,16 @@ numbers_last may_answer ready idle workers limit first growth starts within =
       | inr under ↦ under
     ]
 
-pub told : (may_answer : ℕ → Bool → Type 0) (before after ready : ℕ) (old new : Counts) (growth : Growth)
-    → Grows may_answer before after ready old new growth → Told ready old new growth
-told may_answer before after ready old new growth grows = record {
+pub told : (asking : Asking) (ready : ℕ) (old new : Counts) (growth : Growth)
+    → Grows asking ready old new growth → Told ready old new growth
+told asking ready old new growth grows = record {
   workers = workers;
   idle = idle;
   arriving = ap (λ (c : Counts). c.arriving) grows.counts;
   setting = ap (λ (c : Counts). c.setting) grows.counts;
   next = ap (λ (c : Counts). c.next_worker) grows.counts;
-  refused = rw (idle, workers) (sym grows.starts.next ∙ due_later ready old.idle old.workers (limit_of old) growth.started);
-  numbers = numbers_last may_answer ready old.idle old.workers (limit_of old) old.next_worker growth grows.starts;
+  refused = rw (idle, workers) (sym grows.starts.next ∙ sym (due_after ready old.idle old.workers (limit_of old) growth.started));
+  numbers = numbers_last asking.may_answer ready old.idle old.workers (limit_of old) old.next_worker growth grows.starts;
 }
   where
     workers : new.workers ≡ old.workers + growth.started
@@ -95,23 +92,23 @@ record Reads (may_answer : ℕ → Bool → Type 0) (ready : ℕ) (old new : Cou
   pub counts : new ≡ grown old seen
   pub numbers : old.next_worker ≤ greatest → old.next_worker + seen.started ≤ greatest
 
-reads : (may_answer : ℕ → Bool → Type 0) (before after ready : ℕ) (old new : Counts) (growth seen : Growth)
-    → Grows may_answer before after ready old new growth → IsRead ready old.workers (limit_of old) new seen → Reads may_answer ready old new seen
-reads may_answer before after ready old new growth seen grows read =
-    let is_told = told may_answer before after ready old new growth grows in
-    subst (λ (g : Growth). Reads may_answer ready old new g) (read_is ready old new growth seen is_told read)
+reads : (asking : Asking) (ready : ℕ) (old new : Counts) (growth seen : Growth)
+    → Grows asking ready old new growth → IsRead ready old.workers (limit_of old) new seen → Reads asking.may_answer ready old new seen
+reads asking ready old new growth seen grows read =
+    let is_told = told asking ready old new growth grows in
+    subst (λ (g : Growth). Reads asking.may_answer ready old new g) (read_is ready old new growth seen is_told read)
     (record { starts = grows.starts; counts = grows.counts; numbers = is_told.numbers })
 
 -- a job that is taken is taken so, with the growth that was read
-module _ (may_answer : ℕ → Bool → Type 0) (before after : ℕ) (old new : CallPool) (seen : Growth) (read : IsRead (length new.queue) old.counts.workers (limit_of old.counts) new.counts seen) where
-  taken_reads : (number : JobNumber) (value : CallJob) (to_drop : Bool) (taken : CoreTakesFront is_marked_so may_answer before after old number value to_drop new)
-      → Reads may_answer (length taken.rest) (busier old.counts) taken.counts seen
+module _ (asking : Asking) (old new : CallPool) (seen : Growth) (read : IsRead (length new.queue) old.counts.workers (limit_of old.counts) new.counts seen) where
+  taken_reads : (number : JobNumber) (value : CallJob) (to_drop : Bool) (taken : CoreTakesFront is_marked_so asking old number value to_drop new)
+      → Reads asking.may_answer (length taken.rest) (busier old.counts) taken.counts seen
   taken_reads number value to_drop taken =
-      reads may_answer before after (length taken.rest) (busier old.counts) taken.counts taken.growth seen taken.grows
+      reads asking (length taken.rest) (busier old.counts) taken.counts taken.growth seen taken.grows
       (subst (λ (p : CallPool). IsRead (length p.queue) old.counts.workers (limit_of old.counts) p.counts seen) taken.after_is read)
 
-  takes_front : (number : JobNumber) (value : CallJob) (to_drop : Bool) → CoreTakesFront is_marked_so may_answer before after old number value to_drop new
-      → TakesFront may_answer old number value to_drop seen new
+  takes_front : (number : JobNumber) (value : CallJob) (to_drop : Bool) → CoreTakesFront is_marked_so asking old number value to_drop new
+      → TakesFront asking.may_answer old number value to_drop seen new
   takes_front number value to_drop taken = record {
     rest = taken.rest;
     front = taken.front;
@@ -124,14 +121,14 @@ module _ (may_answer : ℕ → Bool → Type 0) (before after : ℕ) (old new : 
     after_is = let counts = (taken_reads number value to_drop taken).counts in cc (taken.after_is, counts);
   }
 
-  taken_numbers : (took : Took CallJob) → ((pass : WorkerPass) → took ≡ Idle pass → ⊥) → Takes is_marked_so may_answer before after old took new
+  taken_numbers : (took : Took CallJob) → ((pass : WorkerPass) → took ≡ Idle pass → ⊥) → Takes is_marked_so asking old took new
       → old.counts.next_worker ≤ greatest → old.counts.next_worker + seen.started ≤ greatest
   taken_numbers (Run turn value) some taken within = (taken_reads turn value false taken).numbers within
   taken_numbers (Drop turn value) some taken within = (taken_reads turn value true taken).numbers within
   taken_numbers (Idle pass) some taken within = absurd (some pass refl)
 
-  takes_to : (took : Took CallJob) → ((pass : WorkerPass) → took ≡ Idle pass → ⊥) → Takes is_marked_so may_answer before after old took new
-      → TakesTo may_answer old took seen new
+  takes_to : (took : Took CallJob) → ((pass : WorkerPass) → took ≡ Idle pass → ⊥) → Takes is_marked_so asking old took new
+      → TakesTo asking.may_answer old took seen new
   takes_to (Run turn value) some taken = takes_front turn value false taken
   takes_to (Drop turn value) some taken = takes_front turn value true taken
   takes_to (Idle pass) some taken = absurd (some pass refl)
@@ -141,28 +138,28 @@ pub record TookSo (may_answer : ℕ → Bool → Type 0) (old : CallPool) (took 
   pub takes : TakesTo may_answer old took seen new
   pub numbers : old.counts.next_worker ≤ greatest → old.counts.next_worker + seen.started ≤ greatest
 
-pub took_so : (may_answer : ℕ → Bool → Type 0) (before after : ℕ) (inside old new : CallPool) (took : Took CallJob) (seen : Growth)
+pub took_so : (asking : Asking) (inside old new : CallPool) (took : Took CallJob) (seen : Growth)
     → IsRead (length new.queue) old.counts.workers (limit_of old.counts) new.counts seen → inside ≡ old → ((pass : WorkerPass) → took ≡ Idle pass → ⊥)
-    → Takes is_marked_so may_answer before after inside took new → TookSo may_answer old took seen new
-took_so may_answer before after inside old new took seen read same some taken_inside =
-    let taken = subst (λ (p : CallPool). Takes is_marked_so may_answer before after p took new) same taken_inside in
+    → Takes is_marked_so asking inside took new → TookSo asking.may_answer old took seen new
+took_so asking inside old new took seen read same some taken_inside =
+    let taken = subst (λ (p : CallPool). Takes is_marked_so asking p took new) same taken_inside in
     record {
-      takes = takes_to may_answer before after old new seen read took some taken;
-      numbers = taken_numbers may_answer before after old new seen read took some taken;
+      takes = takes_to asking old new seen read took some taken;
+      numbers = taken_numbers asking old new seen read took some taken;
     }
 
 -- a call that is accepted is accepted so
-module _ (may_answer : ℕ → Bool → Type 0) (before after : ℕ) (inside old new : CallPool) (job : CallJob) (number : JobNumber) (seen : Growth)
-    (same : inside ≡ old) (fresh : job ≡ new_call) (enters_inside : Enters may_answer before after inside job number new)
+module _ (asking : Asking) (inside old new : CallPool) (job : CallJob) (number : JobNumber) (seen : Growth)
+    (same : inside ≡ old) (fresh : job ≡ new_call) (enters_inside : Enters asking inside job number new)
     (read : IsRead (length new.queue) old.counts.workers (limit_of old.counts) new.counts seen) where
-  enters : Enters may_answer before after old new_call number new
+  enters : Enters asking old new_call number new
   enters =
-      subst (λ (p : CallPool). Enters may_answer before after p new_call number new) same
-      (subst (λ (value : CallJob). Enters may_answer before after inside value number new) fresh enters_inside)
+      subst (λ (p : CallPool). Enters asking p new_call number new) same
+      (subst (λ (value : CallJob). Enters asking inside value number new) fresh enters_inside)
 
-  entered_reads : Reads may_answer (length old.queue + 1) old.counts enters.counts seen
+  entered_reads : Reads asking.may_answer (length old.queue + 1) old.counts enters.counts seen
   entered_reads =
-      reads may_answer before after (length old.queue + 1) old.counts enters.counts enters.growth seen enters.grows
+      reads asking (length old.queue + 1) old.counts enters.counts enters.growth seen enters.grows
       (subst (λ (n : ℕ). IsRead n old.counts.workers (limit_of old.counts) enters.counts seen) ready (record { started = there.started; refused = there.refused }))
     where
       ready : length (old.queue ++ old.next_serial ∷ []) ≡ length old.queue + 1
@@ -174,7 +171,7 @@ module _ (may_answer : ℕ → Bool → Type 0) (before after : ℕ) (inside old
   pub entered_numbers : old.counts.next_worker ≤ greatest → old.counts.next_worker + seen.started ≤ greatest
   entered_numbers within = entered_reads.numbers within
 
-  pub accepts : Accepts may_answer old number seen new
+  pub accepts : Accepts asking.may_answer old number seen new
   accepts = record {
     serial = enters.serial;
     left = enters.left;
@@ -188,17 +185,17 @@ due_unstaffed : (ready idle workers limit : ℕ) → idle ≡ 0 → workers ≡ 
 due_unstaffed ready idle workers limit none nobody = let some : nat_lt 0 (ready + 1) ≡ true = grind (arith, nat_tests) in rw (none, nobody, some) refl
 
 -- a call that finds no worker finds none so
-module _ (may_answer : ℕ → Bool → Type 0) (before after : ℕ) (inside old new : CallPool) (why : Refusal) (seen : Growth) (order : new.counts.idle ≤ new.counts.workers)
-    (same : inside ≡ old) (nobody : why ≡ NoWorker) (refused_inside : IsRefused may_answer before after inside why new)
+module _ (asking : Asking) (inside old new : CallPool) (why : Refusal) (seen : Growth) (order : new.counts.idle ≤ new.counts.workers)
+    (same : inside ≡ old) (nobody : why ≡ NoWorker) (refused_inside : IsRefused asking inside why new)
     (read : IsRead 1 old.counts.workers (limit_of old.counts) new.counts seen) where
-  finds : FindsNobody may_answer before after old new
+  finds : FindsNobody asking old new
   finds =
-      subst (λ (p : CallPool). FindsNobody may_answer before after p new) same
-      (subst (λ (w : Refusal). IsRefused may_answer before after inside w new) nobody refused_inside)
+      subst (λ (p : CallPool). FindsNobody asking p new) same
+      (subst (λ (w : Refusal). IsRefused asking inside w new) nobody refused_inside)
 
-  unstaffed_reads : Reads may_answer (length old.queue + 1) old.counts finds.counts seen
+  unstaffed_reads : Reads asking.may_answer (length old.queue + 1) old.counts finds.counts seen
   unstaffed_reads =
-      reads may_answer before after (length old.queue + 1) old.counts finds.counts finds.growth seen finds.grows
+      reads asking (length old.queue + 1) old.counts finds.counts finds.growth seen finds.grows
       (record { started = started; refused = refused ∙ due_unstaffed (length old.queue) finds.counts.idle finds.counts.workers (limit_of old.counts) none finds.unstaffed })
     where
       counts : new.counts ≡ finds.counts
@@ -213,7 +210,7 @@ module _ (may_answer : ℕ → Bool → Type 0) (before after : ℕ) (inside old
       refused : seen.refused ≡ is_due 1 finds.counts.idle finds.counts.workers (limit_of old.counts) 0
       refused = subst (λ (c : Counts). seen.refused ≡ is_due 1 c.idle c.workers (limit_of old.counts) 0) counts read.refused
 
-  pub finds_no_worker : FindsNoWorker may_answer old seen new
+  pub finds_no_worker : FindsNoWorker asking.may_answer old seen new
   finds_no_worker = record {
     left = finds.left;
     starts = unstaffed_reads.starts;

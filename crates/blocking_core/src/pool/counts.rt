@@ -2,6 +2,7 @@
 ghost use Rattle.std.specs.Prelude.{◌≡◌, ◌<◌, ◌≤◌, ◌+◌, ◌-◌, ◌==◌, not, IsTrue, true, false, Some, None, ℕ, Bool};
 ghost use Rattle.blocking_core.specs.Counts.{limit_of, no_workers, rung, busier, freer, arrived, stopped, limited, silenced, AreInOrder};
 ghost use Rattle.blocking_core.specs.Growth.{Growth, Grows, StartAnswer, Refusals, is_due, one_more, none_more, greatest};
+ghost use Rattle.blocking_core.specs.Starters.{asked, IsSteady};
 ghost use Rattle.std.specs.Bool.{OnTrue, OnFalse};
 ghost use Rattle.std.specs.Prelude.{◌&&◌, nat_lt};
 
@@ -169,8 +170,9 @@ impl Counts {
         ensures started { OnTrue result (self.new ≡ one_more self.old) }
         ensures refused { OnFalse result (self.new ≡ none_more self.old) }
         ensures answer { StartAnswer (S.may_answer starter.old) self.old.next_worker (not result) }
-        ensures steady { (n : ℕ) (answer : Bool) → S.may_answer starter.new n answer → S.may_answer starter.old n answer }
-        ensures refusals { Refusals (not result && not (self.old.next_worker == greatest)) (S.refusals starter.old) (S.refusals starter.new) }
+        ensures steady { IsSteady S.Starter starter.old starter.new }
+        ensures refusals { Refusals (not result && not (self.old.next_worker == greatest))
+            (S.refusals starter.old) (S.refusals starter.new) }
     {
         let number = self.next_worker;
         if number == u64::MAX {
@@ -192,8 +194,9 @@ impl Counts {
     /// Starts workers while so many ready jobs are more than five times the idle workers, up to the limit that held
     /// when this began, and ends at the first start that is refused.
     pub(crate) fn grow<S: Starter>(&mut self, ready: usize, starter: &mut S)
-        ensures growth { (growth : Growth) × Grows (S.may_answer starter.old) (S.refusals starter.old) (S.refusals starter.new) ready self.old self.new growth }
-        ensures steady { (n : ℕ) (answer : Bool) → S.may_answer starter.new n answer → S.may_answer starter.old n answer }
+        ensures growth { (growth : Growth) ×
+            Grows (asked S.Starter starter.old starter.new) ready self.old self.new growth }
+        ensures steady { IsSteady S.Starter starter.old starter.new }
     {
         let limit = self.limit.unwrap_or(self.setting);
         self.limit = Some(limit);

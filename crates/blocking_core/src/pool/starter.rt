@@ -1,5 +1,6 @@
 //! What starts workers.
 ghost use Rattle.std.specs.Prelude.{◌≡◌, ◌<◌, ℕ, Bool, OnOk, OnErr, is_err};
+ghost use Rattle.blocking_core.specs.Growth.{Narrows};
 
 /// Starts workers for a pool, each by its number.
 pub trait Starter {
@@ -16,7 +17,7 @@ pub trait Starter {
         ensures started { OnOk result (refusals self.new ≡ refusals self.old) }
         ensures refused { OnErr result (refusals self.old < refusals self.new) }
         ensures answered { may_answer self.old number (is_err result) }
-        ensures steady { (n : ℕ) (answer : Bool) → may_answer self.new n answer → may_answer self.old n answer };
+        ensures steady { Narrows (may_answer self.old) (may_answer self.new) };
 }
 
 /// A worker couldn't be started.

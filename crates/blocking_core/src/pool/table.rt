@@ -279,7 +279,8 @@ impl<J: Drop> Table<J> {
 // The number of the job at a place.
 fn number_at<J: Drop>(entries: &Slab<Entry<J>>, place: usize) -> Option<JobNo>
     ensures { result ≡
-        option_map (λ entry. record { place = place; serial = entry.serial }) (get entries.now place) }
+        option_map (λ entry. record { place = place; serial = entry.serial })
+        (get entries.now place) }
 {
     let entry = entries.get(place)?;
     Some(JobNo::new(place, entry.serial))

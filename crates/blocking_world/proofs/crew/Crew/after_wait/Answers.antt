@@ -1,11 +1,12 @@
 use Rattle.std.proofs.Common.{ap, ◌∙◌, sym}
+use Rattle.blocking_core.specs.Starters.{asked}
 use Rattle.blocking_world.specs.Worlds.{CallPool}
 use Rattle.blocking_world.proofs.Unparked.{waits_plainly, waited_counts}
 use Rattle.blocking_world.proofs.crew.Crew.after_wait.Goals as goal
 
 pub returns : goal.returns
 returns g c =
-    waits_plainly _ (g.S.Starter.may_answer c.args.starter.now) (g.S.Starter.refusals c.args.starter.now) (g.S.Starter.refusals c.after_wait.new.starter) c.args.timed_out c.self.inside.pool c.args.self.now
+    waits_plainly _ (asked g.S.Starter c.args.starter.now c.after_wait.new.starter) c.args.timed_out c.self.inside.pool c.args.self.now
     c.after_wait.new.self c.after_wait.result c.self.view_is c.requires.parked c.after_wait.ensures.answer
 
 pub invariant_of-self : goal.invariant_of-self

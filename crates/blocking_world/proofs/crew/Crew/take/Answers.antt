@@ -1,4 +1,5 @@
 use Rattle.std.proofs.Common.{◌≡◌, ap, ◌∙◌, arith}
+use Rattle.blocking_core.specs.Starters.{asked}
 use Rattle.blocking_world.specs.Worlds.{CallPool}
 use Rattle.blocking_world.proofs.Growing.{read_as, took_so}
 use Rattle.blocking_world.proofs.crew.Crew.take.Goals as goal
@@ -9,7 +10,7 @@ next_after-self-inside-requires g c =
     read_as c.take.new.self.counts c.growth_since-growth.result c.queue_len-left.ensures.value c.before-before.ensures.workers c.before-before.ensures.limit
     c.growth_since-growth.ensures.started c.growth_since-growth.ensures.refused in
     let took =
-    took_so (g.S.Starter.may_answer c.args.starter.now) (g.S.Starter.refusals c.args.starter.now) (g.S.Starter.refusals c.take.new.starter)
+    took_so (asked g.S.Starter c.args.starter.now c.take.new.starter)
     c.self.inside.pool c.args.self.now c.take.new.self c.take.result c.growth_since-growth.result read c.self.view_is c.in_default.not-Idle c.take.ensures.answer in
     let next : c.self.inside.next_start ≡ c.args.self.now.counts.next_worker = c.self.invariant.1 ∙ ap (λ (p : CallPool). p.counts.next_worker) c.self.view_is in
     omega (arith, took.numbers, next)
@@ -20,6 +21,6 @@ returns g c =
     read_as c.take.new.self.counts c.growth_since-growth.result c.queue_len-left.ensures.value c.before-before.ensures.workers c.before-before.ensures.limit
     c.growth_since-growth.ensures.started c.growth_since-growth.ensures.refused in
     let took =
-    took_so (g.S.Starter.may_answer c.args.starter.now) (g.S.Starter.refusals c.args.starter.now) (g.S.Starter.refusals c.take.new.starter)
+    took_so (asked g.S.Starter c.args.starter.now c.take.new.starter)
     c.self.inside.pool c.args.self.now c.take.new.self c.take.result c.growth_since-growth.result read c.self.view_is c.in_default.not-Idle c.take.ensures.answer in
     took.takes

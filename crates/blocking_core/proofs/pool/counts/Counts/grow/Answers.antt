@@ -1,6 +1,7 @@
-use Rattle.std.proofs.Common.{◌≡◌, ℕ, sym, ap, ◌∙◌}
+use Rattle.std.proofs.Common.{◌≡◌, ℕ, refl, sym, ap, ◌∙◌}
 use Rattle.blocking_core.specs.Counts.{Counts, limit_of}
 use Rattle.blocking_core.specs.Growth.{is_due}
+use Rattle.blocking_core.specs.Starters.{asked}
 use Rattle.blocking_core.proofs.GrowthLemmas.{grows_more, grows_enough, grows_no_more}
 use Rattle.blocking_core.proofs.pool.counts.Counts.grow.Goals as goal
 
@@ -10,23 +11,20 @@ due_by ready limit counts old same = ap (λ l. is_due ready counts.idle counts.w
 
 pub starts-preserved : goal.starts-preserved
 starts-preserved g c =
-    grows_more (g.S.Starter.may_answer c.args.starter.now) (g.S.Starter.may_answer c.starts.starter) (g.S.Starter.may_answer c.start.new.starter)
-    (g.S.Starter.refusals c.args.starter.now) (g.S.Starter.refusals c.starts.starter) (g.S.Starter.refusals c.start.new.starter)
+    grows_more (asked g.S.Starter c.args.starter.now c.starts.starter) (asked g.S.Starter c.starts.starter c.start.new.starter) (g.S.Starter.may_answer c.start.new.starter)
     c.args.ready c.args.self.now c.starts.self c.start.new.self
     (due_by c.args.ready c.unwrap_or-limit.result c.starts.self c.args.self.now (c.unwrap_or-limit.ensures ∙ ap limit_of c.self.view_is) ∙ sym c.starts-test.ensures)
-    c.if-not-start.ensures.started c.if-not-start.ensures.answer c.start.ensures.steady c.if-not-start.ensures.refusals c.starts.invariant
+    c.if-not-start.ensures.started c.if-not-start.ensures.answer c.start.ensures.steady refl c.if-not-start.ensures.refusals c.starts.invariant
 
 pub returns-clause-growth : goal.returns-clause-growth
 returns-clause-growth g c =
-    grows_enough (g.S.Starter.may_answer c.args.starter.now) (g.S.Starter.may_answer c.starts.starter)
-    (g.S.Starter.refusals c.args.starter.now) (g.S.Starter.refusals c.starts.starter) c.args.ready c.args.self.now c.starts.self
+    grows_enough (asked g.S.Starter c.args.starter.now c.starts.starter) (g.S.Starter.may_answer c.starts.starter) c.args.ready c.args.self.now c.starts.self
     (due_by c.args.ready c.unwrap_or-limit.result c.starts.self c.args.self.now (c.unwrap_or-limit.ensures ∙ ap limit_of c.self.view_is) ∙ sym c.starts-test.ensures)
     c.starts.invariant
 
 pub returns-then-not-start-clause-growth : goal.returns-then-not-start-clause-growth
 returns-then-not-start-clause-growth g c =
-    grows_no_more (g.S.Starter.may_answer c.args.starter.now) (g.S.Starter.may_answer c.starts.starter)
-    (g.S.Starter.refusals c.args.starter.now) (g.S.Starter.refusals c.starts.starter) (g.S.Starter.refusals c.start.new.starter)
+    grows_no_more (asked g.S.Starter c.args.starter.now c.starts.starter) (asked g.S.Starter c.starts.starter c.start.new.starter)
     c.args.ready c.args.self.now c.starts.self c.start.new.self
     (due_by c.args.ready c.unwrap_or-limit.result c.starts.self c.args.self.now (c.unwrap_or-limit.ensures ∙ ap limit_of c.self.view_is) ∙ sym c.starts-test.ensures)
-    c.if-not-start.ensures.refused c.if-not-start.ensures.answer c.if-not-start.ensures.refusals c.starts.invariant
+    c.if-not-start.ensures.refused c.if-not-start.ensures.answer refl c.if-not-start.ensures.refusals c.starts.invariant

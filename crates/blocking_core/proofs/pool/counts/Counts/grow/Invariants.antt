@@ -1,10 +1,11 @@
 use Rattle.std.proofs.Common.{◌-◌}
+use Rattle.blocking_core.specs.Starters.{asked}
 use Rattle.blocking_core.proofs.GrowthLemmas.{IsGrowing}
 use Rattle.blocking_core.proofs.pool.counts.Counts.grow.Given as goal
 
 abbrev pub invariant-starts : goal.invariant-starts
 invariant-starts g l =
-    IsGrowing (g.S.Starter.may_answer l.fn.starter) (g.S.Starter.may_answer l.starter) (g.S.Starter.refusals l.fn.starter) (g.S.Starter.refusals l.starter) l.ready l.fn.self l.self
+    IsGrowing (asked g.S.Starter l.fn.starter l.starter) (g.S.Starter.may_answer l.starter) l.ready l.fn.self l.self
 
 abbrev pub decreases-starts : goal.decreases-starts
 decreases-starts g l = l.limit - l.self.workers

@@ -1,5 +1,7 @@
-use Rattle.std.proofs.Common.{sym}
-use Rattle.blocking_core.proofs.RollLemmas.{not_vacant, parks}
+use Rattle.std.proofs.Common.{Some, sym}
+use Rattle.blocking_core.specs.Jobs.{parked_with}
+use Rattle.blocking_core.specs.declared.pool.standing.Standing.TheVariants.{Parked}
+use Rattle.blocking_core.proofs.RollLemmas.{not_vacant, IsAmended, parks}
 use Rattle.blocking_core.proofs.Standings.{running_job}
 use Rattle.blocking_core.proofs.pool.table.Table.park.Goals as goal
 
@@ -8,12 +10,15 @@ unreachable-requires g c =
     let job = running_job _ c.requires in
     not_vacant c.self.inside.entries c.self.inside.queue c.self.inside.accepted c.args.self.now c.args.no job.0 c.place.result c.self.invariant c.self.view_is job.1 c.place.ensures (sym c.in_default.ensures.value)
 
+done : (g : _) (c : goal.Joined-entry g)
+    → IsAmended c.self.inside.entries c.self.inside.queue c.self.inside.accepted c.place.result (record c.in-Some.entry.now { standing = Parked; value = Some c.args.value })
+    c.args.self.now c.args.self.now.queue c.args.no (parked_with c.args.value)
+done g c =
+    parks c.self.inside.entries c.self.inside.queue c.self.inside.accepted c.args.self.now c.args.no c.place.result c.in-Some.entry.now c.args.value
+    c.self.invariant c.self.view_is c.requires c.place.ensures (sym c.in-Some.ensures.value)
+
 pub invariant_of-self : goal.invariant_of-self
-invariant_of-self g c =
-    (parks c.self.inside.entries c.self.inside.queue c.self.inside.accepted c.args.self.now c.args.no c.place.result c.in-Some.entry.now c.args.value
-    c.self.invariant c.self.view_is c.requires c.place.ensures (sym c.in-Some.ensures.value)).0
+invariant_of-self g c = (done g c).0
 
 pub returns : goal.returns
-returns g c =
-    (parks c.self.inside.entries c.self.inside.queue c.self.inside.accepted c.args.self.now c.args.no c.place.result c.in-Some.entry.now c.args.value
-    c.self.invariant c.self.view_is c.requires c.place.ensures (sym c.in-Some.ensures.value)).1
+returns g c = (done g c).1
