@@ -6,7 +6,7 @@ use Rattle.blk.specs.declared.fault.CommandFault.{CommandFault}
 use Rattle.blk.specs.declared.fault.CommandFault.TheVariants.{Failed, NotText, NotAStep}
 use Rattle.blk.specs.declared.script.ScriptFault.{ScriptFault}
 use Rattle.blk.specs.declared.script.ScriptFault.TheVariants as script_fault
-use Rattle.blocking_core.specs.declared.pool.answer.Refusal.TheVariants.{Memory, NoWorker, Numbers}
+use Rattle.blocking_pool.specs.declared.pool.answer.Refusal.TheVariants.{Memory, NoWorker, Numbers}
 
 -- the text of a failure
 abbrev pub fault_text : BlkFault → List ℕ

@@ -1,7 +1,7 @@
 -- What a script makes happen, and what is shown of it.
 use Rattle.std.specs.Prelude.{◌≡◌, ℕ, ◌<◌, Bool, true, false, List, [], ◌∷◌, ◌++◌, length, map, reverse, take, codes, decimal, Option, Some, None}
 use Rattle.std.specs.List.{All, flat_map}
-use Rattle.blocking_core.specs.Limits.{limit_of_setting}
+use Rattle.blocking_pool.specs.Limits.{limit_of_setting}
 use Rattle.blocking_laws.specs.Counts.{idle, workers}
 use Rattle.blocking_laws.specs.Growth.{known_limit}
 use Rattle.blocking_laws.specs.Legal.{Legal}

@@ -5,7 +5,7 @@ use Rattle.blk.specs.Numbers.{number_of}
 use Rattle.blk.specs.declared.request.Request.{Request}
 use Rattle.blk.specs.declared.request.Request.TheVariants.{Call, Limit, Steps}
 use Rattle.std.specs.Borrow.{Bor}
-use Rattle.blocking_core.specs.Limits.{limit_of_setting}
+use Rattle.blocking_pool.specs.Limits.{limit_of_setting}
 
 -- the text of a setting, if there is one
 abbrev pub text_of : Option (Bor (List ℕ)) → Option (List ℕ)

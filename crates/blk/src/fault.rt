@@ -2,7 +2,7 @@
 ghost use Rattle.std.specs.Prelude.{◌≡◌, Some};
 ghost use Rattle.blk.specs.declared.fault.BlkFault.TheVariants as blk_fault;
 ghost use Rattle.blk.specs.declared.fault.CommandFault.TheVariants as command_fault;
-ghost use Rattle.blocking_core.specs.declared.pool.answer.Refusal.TheVariants.{Memory};
+ghost use Rattle.blocking_pool.specs.declared.pool.answer.Refusal.TheVariants.{Memory};
 ghost use Rattle.blk.specs.Faults.{command_fault_text, fault_status, fault_text, told_of};
 
 use crate::script::ScriptFault;

@@ -4,7 +4,7 @@ ghost use Rattle.blk.specs.Outcomes.{ReadsText, Shows};
 ghost use Rattle.blk.specs.Plays.{PlaysLine, PlaysLines, ShowsScript, Takes, ending_of, ending_text, shown_text};
 ghost use Rattle.blk.specs.declared.fault.BlkFault.TheVariants as blk_fault;
 ghost use Rattle.blk.specs.declared.line.Line.TheVariants as deed;
-ghost use Rattle.blocking_core.specs.declared.pool.answer.Refusal.TheVariants.{Memory};
+ghost use Rattle.blocking_pool.specs.declared.pool.answer.Refusal.TheVariants.{Memory};
 
 use crate::fault::{BlkFault, CommandFault};
 use crate::line::Line;

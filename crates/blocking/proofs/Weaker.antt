@@ -1,13 +1,13 @@
 -- What holds by a starter's later answers holds by those that it might have given before.
 use Rattle.std.proofs.Common.{ℕ, Bool, true, false}
-use Rattle.blocking_core.specs.Counts.{Counts}
-use Rattle.blocking_core.specs.Growth.{Asking, Narrows, Growth, Grows}
-use Rattle.blocking_core.specs.Jobs.{JobNumber}
-use Rattle.blocking_core.specs.Pools.{Pool, TakesFront}
-use Rattle.blocking_core.specs.PoolAnswers.{Takes}
-use Rattle.blocking_core.specs.declared.pool.answer.Took.{Took}
-use Rattle.blocking_core.specs.declared.pool.answer.Took.TheVariants.{Run, Drop, Idle}
-use Rattle.blocking_core.proofs.GrowthLemmas.{answer_before}
+use Rattle.blocking_pool.specs.Counts.{Counts}
+use Rattle.blocking_pool.specs.Growth.{Asking, Narrows, Growth, Grows}
+use Rattle.blocking_pool.specs.Jobs.{JobNumber}
+use Rattle.blocking_pool.specs.Pools.{Pool, TakesFront}
+use Rattle.blocking_pool.specs.PoolAnswers.{Takes}
+use Rattle.blocking_pool.specs.declared.pool.answer.Took.{Took}
+use Rattle.blocking_pool.specs.declared.pool.answer.Took.TheVariants.{Run, Drop, Idle}
+use Rattle.blocking_pool.proofs.GrowthLemmas.{answer_before}
 
 module _ (asking : Asking) (later : ℕ → Bool → Type 0) (steady : Narrows asking.may_answer later) where
   grows_weaker : (ready : ℕ) (old new : Counts) (growth : Growth) → Grows (record asking { may_answer = later }) ready old new growth → Grows asking ready old new growth

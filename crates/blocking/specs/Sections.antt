@@ -2,19 +2,19 @@
 -- bell is asked.
 use Rattle.std.specs.Prelude.{◌≡◌, ℕ, Bool, Option, Some, None, Result, List}
 use Rattle.std.specs.Borrow.{Bor}
-use Rattle.blocking_core.specs.Jobs.{JobNumber}
-use Rattle.blocking_core.specs.Counts.{limited, silenced}
-use Rattle.blocking_core.specs.Growth.{Asking, RefusesNone}
-use Rattle.blocking_core.specs.Pools.{Pool}
-use Rattle.blocking_core.specs.PoolAnswers as pool
-use Rattle.blocking_core.specs.declared.pool.bell.BellKind.{BellKind}
-use Rattle.blocking_core.specs.declared.pool.answer.Refused.{Refused}
-use Rattle.blocking_core.specs.declared.pool.answer.Took.{Took}
-use Rattle.blocking_core.specs.declared.pool.answer.Woke.{Woke}
-use Rattle.blocking_core.specs.declared.pool.answer.Finish.{Finish}
-use Rattle.blocking_core.specs.declared.pool.answer.Gone.TheVariants.{Free, Stranger, Drop as HandOut}
-use Rattle.blocking_core.specs.declared.pool.answer.Waited.TheVariants.{Stay, Stop}
-use Rattle.blocking_core.specs.declared.pool.token.WorkerPass.{WorkerPass}
+use Rattle.blocking_pool.specs.Jobs.{JobNumber}
+use Rattle.blocking_pool.specs.Counts.{limited, silenced}
+use Rattle.blocking_pool.specs.Growth.{Asking, RefusesNone}
+use Rattle.blocking_pool.specs.Pools.{Pool}
+use Rattle.blocking_pool.specs.PoolAnswers as pool
+use Rattle.blocking_pool.specs.declared.pool.bell.BellKind.{BellKind}
+use Rattle.blocking_pool.specs.declared.pool.answer.Refused.{Refused}
+use Rattle.blocking_pool.specs.declared.pool.answer.Took.{Took}
+use Rattle.blocking_pool.specs.declared.pool.answer.Woke.{Woke}
+use Rattle.blocking_pool.specs.declared.pool.answer.Finish.{Finish}
+use Rattle.blocking_pool.specs.declared.pool.answer.Gone.TheVariants.{Free, Stranger, Drop as HandOut}
+use Rattle.blocking_pool.specs.declared.pool.answer.Waited.TheVariants.{Stay, Stop}
+use Rattle.blocking_pool.specs.declared.pool.token.WorkerPass.{WorkerPass}
 use Rattle.blocking.specs.declared.held.Ended.{Ended}
 use Rattle.blocking.specs.declared.held.Ended.TheVariants as ended
 

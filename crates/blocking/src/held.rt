@@ -1,6 +1,6 @@
 //! The pool as its lock holds it: each section is one call, which answers whom to notify.
 ghost use Rattle.std.specs.Prelude.{◌≡◌, ◌<◌, ◌↔◌, true, length};
-ghost use Rattle.blocking_core.specs.declared.pool.bell.BellKind.TheVariants.{Silent};
+ghost use Rattle.blocking_pool.specs.declared.pool.bell.BellKind.TheVariants.{Silent};
 
 use blocking_core::pool::{
     Bell, Finish, Gone, Job, JobNo, Pool, Refused, Starter, Took, Turn, Waited, WakeNote, Woke,
@@ -26,7 +26,7 @@ pub enum Ended<J> {
 }
 
 impl<J: Job> Held<J> {
-    ghost use Rattle.blocking_core.specs.Starters.{asked};
+    ghost use Rattle.blocking_pool.specs.Starters.{asked};
     ghost use Rattle.blocking.specs.Sections.{Adds, Starts, Wakes, Sweeps, ArrivesAndTakes, EndsAndTakes, WaitsAndTakes, SetsLimit};
 
     pub fn new(alloc: Global, setting: Option<&str>) -> Held<J>

@@ -1,6 +1,6 @@
 -- What the calls of a pipe answer, and what each leaves.
 use Rattle.std.specs.Prelude.{◌≡◌, ℕ, ◌<◌, min, List, [], ◌∷◌, ◌++◌, length, take, drop, Option, Some, None}
-use Rattle.blocking_core.specs.Jobs.{JobNumber}
+use Rattle.blocking_pool.specs.Jobs.{JobNumber}
 use Rattle.blocking_core.specs.Pipes.{Pipe, room}
 use Rattle.blocking_core.specs.Places.{Served, Waiting, Closed, drain, receive, fill, find_room, hand_in, peek}
 use Rattle.blocking_core.specs.declared.pipe.Room.{Room}

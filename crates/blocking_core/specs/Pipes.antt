@@ -2,7 +2,7 @@
 use Rattle.std.specs.Prelude.{ℕ, ◌-◌, ◌<◌, ◌≤◌, Bool, true, List, [], length, Option, None, refl}
 use Rattle.std.specs.Coded.{Coded, code_by, coded×, coded_ℕ, coded_bool, coded_list, coded_option}
 use Rattle.circular_buffer.specs.Buffer.{Buffer}
-use Rattle.blocking_core.specs.Jobs.{JobNumber}
+use Rattle.blocking_pool.specs.Jobs.{JobNumber}
 
 -- A pipe: what is inside, first the item that goes first; how many items it holds at most; which ends are open; and who is
 -- seated: the owner by its waker, the job by its number.

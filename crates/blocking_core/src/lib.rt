@@ -2,7 +2,7 @@
 #![tactic(auto)]
 
 pub mod job;
-pub mod limit;
 pub mod pipe;
-pub mod pool;
 pub mod task;
+
+pub use blocking_pool::{limit, pool};

@@ -4,8 +4,8 @@ ghost use Rattle.std.specs.Prelude.{◌≡◌, ◌<◌, ◌≤◌, ◌++◌, fal
 #[cfg(test)]
 mod tests;
 
-use crate::pool::{JobNo, WakeNote};
 use crate::task::Seat;
+use blocking_pool::pool::{JobNo, WakeNote};
 use circular_buffer::HeapCircularBuffer;
 use std::alloc::{AllocError, Global};
 use std::marker::Model;

@@ -2,7 +2,7 @@
 use Rattle.std.proofs.Common.{◌≡◌, ℕ, ◌+◌, ◌-◌, ◌<◌, ◌==◌, Bool, true, false, List, length, get_or, arith, ap, ◌∙◌}
 use Rattle.std.specs.Prelude.{MatchBool}
 use mathlib.Core.Path.{subst, sym}
-use Rattle.blocking_core.specs.Growth.{greatest, is_due, StartAnswer, Growth, IsGrowth}
+use Rattle.blocking_pool.specs.Growth.{greatest, is_due, StartAnswer, Growth, IsGrowth}
 use Rattle.blocking_laws.specs.Seen.{joined, without_all}
 use Rattle.blocking_laws.specs.Queue.{queue, running, entered_by, taken_by, ended_by}
 use Rattle.blocking_laws.specs.Counts.{workers, limit}

@@ -1,9 +1,9 @@
 -- To a step that the pool answers there is one event.
 use Rattle.std.proofs.Common.{◌≡◌, refl, ℕ, ◌+◌, ◌-◌, ◌∷◌, ◌++◌, arith, length-append, ◌||◌, ◌&&◌, ◌==◌, if◌then◌else◌, nat_lt, Bool, true, false, List, [], length, Option, Some, None, ap, ◌∙◌}
 use mathlib.Core.Path.{subst, sym}
-use Rattle.blocking_core.specs.Growth.{limit_after, StartAnswer, IsGrowth}
-use Rattle.blocking_core.specs.declared.pool.answer.Refusal.TheVariants.{Memory, NoWorker, Numbers}
-use Rattle.blocking_core.specs.Wakes.{wake_of, cancel_of}
+use Rattle.blocking_pool.specs.Growth.{limit_after, StartAnswer, IsGrowth}
+use Rattle.blocking_pool.specs.declared.pool.answer.Refusal.TheVariants.{Memory, NoWorker, Numbers}
+use Rattle.blocking_pool.specs.Wakes.{wake_of, cancel_of}
 use Rattle.blocking_laws.specs.Seen.{joined, is_nothing}
 use Rattle.blocking_laws.specs.Jobs.{standing}
 use Rattle.blocking_laws.specs.Queue.{queue, running, to_sweep}

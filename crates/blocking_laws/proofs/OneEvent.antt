@@ -2,7 +2,7 @@
 use Rattle.std.proofs.Common.{◌≡◌, refl, ℕ, ◌<◌, ◌&&◌, if◌then◌else◌, nat_lt, Bool, true, false, List, ◌∷◌, Some, ap, ◌∙◌, arith}
 use Rattle.std.proofs.lemmas.Bool.Decides.{nat_tests}
 use mathlib.Core.Path.{subst, sym}
-use Rattle.blocking_core.specs.declared.pool.answer.Refusal.TheVariants.{Memory}
+use Rattle.blocking_pool.specs.declared.pool.answer.Refusal.TheVariants.{Memory}
 use Rattle.blocking_laws.specs.Seen.{events, task_cut, acts_of_task, is_some_worker, is_nothing}
 use Rattle.blocking_laws.specs.Jobs.{tasks, holder}
 use Rattle.blocking_laws.specs.Turns.{Turn, GoesOn, IsWaiting, MustGiveUp, HasGivenUp, turn, hand, is_giving_up, FitsTurn, FitsTurnOf, ActsInTurn, is_job_act, TurnLaw}

@@ -6,13 +6,13 @@ use Rattle.std.proofs.lemmas.Bool.Decides.{nat_tests}
 use Rattle.std.proofs.lemmas.List.{append_assoc}
 use Rattle.std.proofs.lemmas.List.Elements.{filter-append}
 use mathlib.Core.Path.{subst, sym}
-use Rattle.blocking_core.specs.Jobs.{one_if}
-use Rattle.blocking_core.specs.Lists.{is_in, without}
-use Rattle.blocking_core.specs.Wakes.{wake_of, cancel_of}
-use Rattle.blocking_core.proofs.Lists.{turned, without-first}
-use Rattle.blocking_core.specs.declared.pool.answer.Woke.TheVariants.{Entered}
-use Rattle.blocking_core.specs.declared.pool.standing.Standing.{Standing}
-use Rattle.blocking_core.specs.declared.pool.standing.Standing.TheVariants.{Queued, Running, Parked, Done, Dropped}
+use Rattle.blocking_pool.specs.Jobs.{one_if}
+use Rattle.blocking_pool.specs.Lists.{is_in, without}
+use Rattle.blocking_pool.specs.Wakes.{wake_of, cancel_of}
+use Rattle.blocking_pool.proofs.Lists.{turned, without-first}
+use Rattle.blocking_pool.specs.declared.pool.answer.Woke.TheVariants.{Entered}
+use Rattle.blocking_pool.specs.declared.pool.standing.Standing.{Standing}
+use Rattle.blocking_pool.specs.declared.pool.standing.Standing.TheVariants.{Queued, Running, Parked, Done, Dropped}
 use Rattle.blocking_laws.specs.Seen.{EachMayFollow, without_all, joined, is_worker}
 use Rattle.blocking_laws.specs.Jobs.{accepted_by, accepted_jobs, standing, stands_by, sweeps, is_queued, is_running, is_parked, is_marked, is_to_drop, is_woken}
 use Rattle.blocking_laws.specs.Queue.{to_sweep, entered_by, taken_by, ended_by, entries, takes, queue, running, times}

@@ -1,7 +1,7 @@
 -- What the pool answers: to new jobs, takes, wakes, cancels, sweeps, ends of turns, arrivals and waits.
 use Rattle.std.specs.Prelude.{◌≡◌, ℕ, ◌+◌, ◌<◌, ◌≤◌, nat_lt, ◌==◌, ◌&&◌, ◌||◌, if◌then◌else◌, Bool, true, false, List, [], ◌∷◌, length}
-use Rattle.blocking_core.specs.declared.pool.answer.Refusal.TheVariants.{Memory, NoWorker, Numbers}
-use Rattle.blocking_core.specs.declared.pool.standing.Standing.TheVariants.{Queued, Parked, Done, Dropped}
+use Rattle.blocking_pool.specs.declared.pool.answer.Refusal.TheVariants.{Memory, NoWorker, Numbers}
+use Rattle.blocking_pool.specs.declared.pool.standing.Standing.TheVariants.{Queued, Parked, Done, Dropped}
 use Rattle.blocking_laws.specs.Core.{greatest, wake_of, cancel_of}
 use Rattle.blocking_laws.specs.Jobs.{accepted_jobs, standing, is_to_drop, is_woken}
 use Rattle.blocking_laws.specs.Queue.{to_sweep, ready, queue}

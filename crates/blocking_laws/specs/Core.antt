@@ -3,6 +3,6 @@
 
 -- The greatest number of 64 bits; whether one more start is due; how a start may be answered; the starts of a growth; and the
 -- limit that it leaves.
-pub use Rattle.blocking_core.specs.Growth.{greatest, is_due, StartAnswer, Growth, IsGrowth, limit_after}
+pub use Rattle.blocking_pool.specs.Growth.{greatest, is_due, StartAnswer, Growth, IsGrowth, limit_after}
 -- What a wake and a cancel do to a job, by how it stands.
-pub use Rattle.blocking_core.specs.Wakes.{wake_of, cancel_of}
+pub use Rattle.blocking_pool.specs.Wakes.{wake_of, cancel_of}

@@ -1,6 +1,6 @@
 -- Growth: when the pool grows, which starts are due and which are refused.
 use Rattle.std.specs.Prelude.{◌≡◌, ℕ, ◌+◌, ◌-◌, ◌<◌, min, ◌==◌, not, Bool, true, false, List, [], ◌∷◌, length, get_or, ◌||◌, if◌then◌else◌, Option, Some, None}
-use Rattle.blocking_core.specs.declared.pool.answer.Refusal.TheVariants.{NoWorker}
+use Rattle.blocking_pool.specs.declared.pool.answer.Refusal.TheVariants.{NoWorker}
 use Rattle.blocking_laws.specs.Core.{greatest, StartAnswer, IsGrowth}
 use Rattle.blocking_laws.specs.Queue.{entered_by, ready, running}
 use Rattle.blocking_laws.specs.Counts.{starts, refused_starts, workers, limit}

@@ -1,7 +1,7 @@
 -- The queue: what entered it, and what was taken out of it.
 use Rattle.std.specs.Prelude.{◌≡◌, ℕ, ◌==◌, ◌&&◌, if◌then◌else◌, Bool, List, [], ◌∷◌, length, filter}
-use Rattle.blocking_core.specs.declared.pool.answer.Woke.TheVariants.{Entered}
-use Rattle.blocking_core.specs.declared.pool.standing.Standing.TheVariants.{Queued}
+use Rattle.blocking_pool.specs.declared.pool.answer.Woke.TheVariants.{Entered}
+use Rattle.blocking_pool.specs.declared.pool.standing.Standing.TheVariants.{Queued}
 use Rattle.blocking_laws.specs.Seen.{IsBeginning, without_all, joined}
 use Rattle.blocking_laws.specs.Jobs.{accepted_jobs, standing, is_parked, is_marked, sweeps}
 use Rattle.blocking_laws.specs.declared.event.Act.{Act}

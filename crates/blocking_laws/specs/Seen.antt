@@ -1,6 +1,6 @@
 -- What was seen. A past is the list of the moments so far, the newest first: a beginning of the trace is a tail of it.
 use Rattle.std.specs.Prelude.{◌≡◌, ℕ, ◌==◌, ◌&&◌, ◌||◌, not, Bool, true, false, List, [], ◌∷◌, ◌++◌, map, filter, Option, Some, None}
-use Rattle.blocking_core.specs.Lists.{without}
+use Rattle.blocking_pool.specs.Lists.{without}
 use Rattle.blocking_laws.specs.declared.event.Act.{Act}
 use Rattle.blocking_laws.specs.declared.event.Act.TheVariants.{Took, TookDropped, Ended, HandedOut, NoAction}
 use Rattle.blocking_laws.specs.declared.event.Event.{Event}

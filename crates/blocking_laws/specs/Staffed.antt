@@ -1,6 +1,6 @@
 -- What the workers hold: each that arrived and hasn't stopped holds a pass, and is idle, or the turn of a job that runs.
 use Rattle.std.specs.Prelude.{◌≡◌, ℕ, zero, suc, ◌+◌, ◌-◌, Bool, List, length, is_some}
-use Rattle.blocking_core.specs.Jobs.{one_if}
+use Rattle.blocking_pool.specs.Jobs.{one_if}
 use Rattle.blocking_laws.specs.Counts.{starts, arrivals, workers, idle}
 use Rattle.blocking_laws.specs.Queue.{running}
 use Rattle.blocking_laws.specs.Steps.{is_free}

@@ -1,6 +1,6 @@
 -- Steps and their events: which steps have an action, and what is seen of them.
 use Rattle.std.specs.Prelude.{◌≡◌, ℕ, ◌+◌, nat_lt, ◌&&◌, ◌||◌, ◌==◌, not, if◌then◌else◌, Bool, true, false, List, [], ◌∷◌, Option, Some, None, is_some, is_none}
-use Rattle.blocking_core.specs.declared.pool.answer.Refusal.TheVariants.{Memory}
+use Rattle.blocking_pool.specs.declared.pool.answer.Refusal.TheVariants.{Memory}
 use Rattle.blocking_laws.specs.Seen.{events, acts_of, acts_of_task, is_of_pool, is_nothing}
 use Rattle.blocking_laws.specs.Jobs.{tasks, holder, as_owner}
 use Rattle.blocking_laws.specs.Counts.{starts, arrivals}

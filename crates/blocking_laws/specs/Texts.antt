@@ -1,11 +1,11 @@
 -- The texts of events, as lists of bytes.
 use Rattle.std.specs.Prelude.{ℕ, zero, suc, ◌+◌, Bool, true, false, List, [], ◌++◌, codes, decimal}
-use Rattle.blocking_core.specs.declared.pool.answer.Refusal.{Refusal}
-use Rattle.blocking_core.specs.declared.pool.answer.Refusal.TheVariants.{Memory, NoWorker, Numbers}
-use Rattle.blocking_core.specs.declared.pool.answer.Woke.{Woke}
-use Rattle.blocking_core.specs.declared.pool.answer.Woke.TheVariants.{Entered, Marked, Nothing}
-use Rattle.blocking_core.specs.declared.pool.standing.Standing.{Standing}
-use Rattle.blocking_core.specs.declared.pool.standing.Standing.TheVariants.{Queued, Running, Parked, Done, Dropped}
+use Rattle.blocking_pool.specs.declared.pool.answer.Refusal.{Refusal}
+use Rattle.blocking_pool.specs.declared.pool.answer.Refusal.TheVariants.{Memory, NoWorker, Numbers}
+use Rattle.blocking_pool.specs.declared.pool.answer.Woke.{Woke}
+use Rattle.blocking_pool.specs.declared.pool.answer.Woke.TheVariants.{Entered, Marked, Nothing}
+use Rattle.blocking_pool.specs.declared.pool.standing.Standing.{Standing}
+use Rattle.blocking_pool.specs.declared.pool.standing.Standing.TheVariants.{Queued, Running, Parked, Done, Dropped}
 use Rattle.blocking_laws.specs.declared.step.Answer.TheVariants.{Number}
 use Rattle.blocking_laws.specs.declared.event.Act.{Act}
 use Rattle.blocking_laws.specs.declared.event.Act.TheVariants.{Accepted, Refused, JobWoken, JobCancelled, LimitSet, Swept, Waits, TaskGot, TaskGotNone, TaskCancelled, TaskDetached, HolderDropped, Arrived, Took, TookDropped, TookNone, Stays, Stopped, Ended, HandedOut, Answered, JobParked, Finished, GaveUp, HolderWoken, NoAction}

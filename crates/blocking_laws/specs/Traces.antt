@@ -1,9 +1,9 @@
 -- Short traces, for the theorems that show what each law accepts and what it refuses. They are written with the oldest moment
 -- first; above each stand the texts of its events.
 use Rattle.std.specs.Prelude.{ℕ, Bool, true, false, List, [], ◌∷◌, Option, Some, None}
-use Rattle.blocking_core.specs.declared.pool.answer.Refusal.TheVariants.{Memory, NoWorker}
-use Rattle.blocking_core.specs.declared.pool.answer.Woke.TheVariants.{Marked}
-use Rattle.blocking_core.specs.declared.pool.standing.Standing.TheVariants.{Queued, Parked, Done, Dropped}
+use Rattle.blocking_pool.specs.declared.pool.answer.Refusal.TheVariants.{Memory, NoWorker}
+use Rattle.blocking_pool.specs.declared.pool.answer.Woke.TheVariants.{Marked}
+use Rattle.blocking_pool.specs.declared.pool.standing.Standing.TheVariants.{Queued, Parked, Done, Dropped}
 use Rattle.blocking_laws.specs.Seen.{EachMayFollow, events, task_cut}
 use Rattle.blocking_laws.specs.TaskLaws.{TaskLaw}
 use Rattle.blocking_laws.specs.Legal.{PoolLaw}

@@ -1,6 +1,6 @@
 -- Turns: which worker has which job in hand, and what the job may do there.
 use Rattle.std.specs.Prelude.{◌≡◌, ℕ, ◌==◌, ◌&&◌, not, if◌then◌else◌, Bool, true, false, List, [], ◌∷◌, Option, Some, None}
-use Rattle.blocking_core.specs.Lists.{is_in}
+use Rattle.blocking_pool.specs.Lists.{is_in}
 use Rattle.blocking_laws.specs.Seen.{is_worker, is_of_job, is_of_pool}
 use Rattle.blocking_laws.specs.Queue.{running}
 use Rattle.blocking_laws.specs.declared.event.Act.{Act}

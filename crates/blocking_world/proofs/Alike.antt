@@ -2,9 +2,9 @@
 use Rattle.std.proofs.Common.{◌≡◌, ℕ, ◌==◌, Bool, true, false, cond, refl, sym, ap, ◌∙◌, if◌then◌else◌, Option, Some, None}
 use Rattle.std.specs.FinMap.{get, insert, remove}
 use Rattle.std.proofs.lemmas.Bool.{eqb-true}
-use Rattle.blocking_core.specs.Jobs.{Job, Jobs, JobNumber, is_parked, is_running, is_running_job, is_parked_job, if_at, job_of, is_running_as, changed, amend, value_at, woken, cancelled, valued}
-use Rattle.blocking_core.specs.declared.pool.answer.Woke.{Woke}
-use Rattle.blocking_core.specs.declared.pool.answer.Woke.TheVariants.{Marked}
+use Rattle.blocking_pool.specs.Jobs.{Job, Jobs, JobNumber, is_parked, is_running, is_running_job, is_parked_job, if_at, job_of, is_running_as, changed, amend, value_at, woken, cancelled, valued}
+use Rattle.blocking_pool.specs.declared.pool.answer.Woke.{Woke}
+use Rattle.blocking_pool.specs.declared.pool.answer.Woke.TheVariants.{Marked}
 use Rattle.blocking_world.specs.Worlds.{CallPool}
 use Rattle.blocking_world.specs.Crews.{NoneParked, mark_value, after_wake, after_cancel}
 use Rattle.blocking_world.specs.Machine.{pool_called}

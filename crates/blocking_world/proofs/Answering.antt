@@ -3,15 +3,15 @@ use Rattle.std.proofs.Common.{◌≡◌, ◌<◌, ◌≤◌, ◌==◌, ◌+◌, 
 use Rattle.std.proofs.lemmas.Bool.{eq-eqb}
 use Rattle.std.proofs.lemmas.Bool.Decides.{nat_tests}
 use Rattle.std.specs.FinMap.{get}
-use Rattle.blocking_core.specs.Growth.{Growth, greatest}
-use Rattle.blocking_core.specs.Jobs.{Job as Entry, JobNumber, if_at, standing_of}
-use Rattle.blocking_core.specs.PoolAnswers.{is_empty, must_stop}
-use Rattle.blocking_core.specs.Wakes.{wake_of, cancel_of}
-use Rattle.blocking_core.specs.declared.pool.answer.Refusal.{Refusal}
-use Rattle.blocking_core.specs.declared.pool.answer.Refusal.TheVariants.{Memory, NoWorker, Numbers}
-use Rattle.blocking_core.specs.declared.pool.answer.Woke.{Woke}
-use Rattle.blocking_core.specs.declared.pool.standing.Standing.{Standing}
-use Rattle.blocking_core.specs.declared.pool.standing.Standing.TheVariants.{Queued, Running, Parked, Done, Dropped}
+use Rattle.blocking_pool.specs.Growth.{Growth, greatest}
+use Rattle.blocking_pool.specs.Jobs.{Job as Entry, JobNumber, if_at, standing_of}
+use Rattle.blocking_pool.specs.PoolAnswers.{is_empty, must_stop}
+use Rattle.blocking_pool.specs.Wakes.{wake_of, cancel_of}
+use Rattle.blocking_pool.specs.declared.pool.answer.Refusal.{Refusal}
+use Rattle.blocking_pool.specs.declared.pool.answer.Refusal.TheVariants.{Memory, NoWorker, Numbers}
+use Rattle.blocking_pool.specs.declared.pool.answer.Woke.{Woke}
+use Rattle.blocking_pool.specs.declared.pool.standing.Standing.{Standing}
+use Rattle.blocking_pool.specs.declared.pool.standing.Standing.TheVariants.{Queued, Running, Parked, Done, Dropped}
 use Rattle.blocking_laws.specs.Seen.{joined, events, acts_of}
 use Rattle.blocking_laws.specs.Jobs.{accepted_jobs, standing, is_woken, is_cancelled, is_marked, is_to_drop, has_ended}
 use Rattle.blocking_laws.specs.Queue.{queue, to_sweep}

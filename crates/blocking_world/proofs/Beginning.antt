@@ -2,9 +2,9 @@
 use Rattle.std.proofs.Common.{◌≡◌, ◌<◌, ◌==◌, ℕ, Bool, true, false, List, [], Option, Some, None, if◌then◌else◌, ap, sym, subst, refl, arith}
 use Rattle.std.specs.FinMap as map
 use Rattle.std.specs.Ordering.{nat_cmp}
-use Rattle.blocking_core.specs.Jobs.{is_parked_job}
-use Rattle.blocking_core.specs.Limits.{limit_of_setting, limit_by, number_of}
-use Rattle.blocking_core.specs.Pools.{empty_pool}
+use Rattle.blocking_pool.specs.Jobs.{is_parked_job}
+use Rattle.blocking_pool.specs.Limits.{limit_of_setting, limit_by, number_of}
+use Rattle.blocking_pool.specs.Pools.{empty_pool}
 use Rattle.blocking_world.specs.Worlds.{Worlded, hand_at, hand_in}
 use Rattle.blocking_world.specs.Machine.{IsReady}
 use Rattle.blocking_world.specs.Ties.{Numbered, FiledAs, Counted, Handed, HandAs, Tied, IsLawful}

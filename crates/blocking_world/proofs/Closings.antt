@@ -3,9 +3,9 @@ use Rattle.std.proofs.Common.{◌≡◌, ◌≢◌, ℕ, zero, suc, ◌+◌, ◌
 use Rattle.std.proofs.lemmas.Bool.{cases_eq, ne_eqb}
 use Rattle.std.proofs.lemmas.Option.{slice_get_within}
 use Rattle.std.specs.FinMap.{remove}
-use Rattle.blocking_core.specs.Jobs.{Jobs, JobNumber, is_running_as}
-use Rattle.blocking_core.specs.Pools.{without_job}
-use Rattle.blocking_core.specs.declared.pool.token.WorkerPass.{WorkerPass}
+use Rattle.blocking_pool.specs.Jobs.{Jobs, JobNumber, is_running_as}
+use Rattle.blocking_pool.specs.Pools.{without_job}
+use Rattle.blocking_pool.specs.declared.pool.token.WorkerPass.{WorkerPass}
 use Rattle.blocking_world.specs.Closing.{RunsIn, EndsTurn, AreLeft, AreIdle}
 use Rattle.blocking_world.specs.Crews.{NoneParked}
 use Rattle.blocking_world.specs.Machine.{one_if_free, free_hands}

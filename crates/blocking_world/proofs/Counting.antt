@@ -3,17 +3,17 @@ use Rattle.std.proofs.Common.{◌≡◌, ◌≢◌, ℕ, ◌<◌, ◌≤◌, ◌
 use Rattle.std.specs.Prelude.{◌&&◌, ◌||◌, not, nat_lt, Result, Ok, Err}
 use Rattle.std.proofs.lemmas.Bool.{or_from, eqb-true, eqb-false}
 use Rattle.std.proofs.lemmas.Bool.Decides.{nat_tests}
-use Rattle.blocking_core.specs.Counts.{Counts, limit_of, busier}
-use Rattle.blocking_core.specs.Growth.{greatest, Growth, IsGrowth, StartAnswer, grown, limit_after, number_after}
-use Rattle.blocking_core.specs.Jobs.{JobNumber}
-use Rattle.blocking_core.specs.Lists.{is_in, IsOnce}
-use Rattle.blocking_core.specs.PoolAnswers.{must_stop, is_empty}
-use Rattle.blocking_core.specs.declared.pool.answer.Refusal.{Refusal}
-use Rattle.blocking_core.specs.declared.pool.answer.Refusal.TheVariants.{Memory, NoWorker, Numbers}
-use Rattle.blocking_core.specs.declared.pool.standing.Standing.{Standing}
-use Rattle.blocking_core.specs.declared.pool.standing.Standing.TheVariants.{Queued, Running}
-use Rattle.blocking_core.specs.declared.pool.token.WorkerPass.{WorkerPass}
-use Rattle.blocking_core.proofs.Lists.{IsOnce-push, IsOnce-without}
+use Rattle.blocking_pool.specs.Counts.{Counts, limit_of, busier}
+use Rattle.blocking_pool.specs.Growth.{greatest, Growth, IsGrowth, StartAnswer, grown, limit_after, number_after}
+use Rattle.blocking_pool.specs.Jobs.{JobNumber}
+use Rattle.blocking_pool.specs.Lists.{is_in, IsOnce}
+use Rattle.blocking_pool.specs.PoolAnswers.{must_stop, is_empty}
+use Rattle.blocking_pool.specs.declared.pool.answer.Refusal.{Refusal}
+use Rattle.blocking_pool.specs.declared.pool.answer.Refusal.TheVariants.{Memory, NoWorker, Numbers}
+use Rattle.blocking_pool.specs.declared.pool.standing.Standing.{Standing}
+use Rattle.blocking_pool.specs.declared.pool.standing.Standing.TheVariants.{Queued, Running}
+use Rattle.blocking_pool.specs.declared.pool.token.WorkerPass.{WorkerPass}
+use Rattle.blocking_pool.proofs.Lists.{IsOnce-push, IsOnce-without}
 use Rattle.blocking_laws.specs.Jobs.{is_queued, is_running, standing}
 use Rattle.blocking_laws.specs.Queue.{queue, running}
 use Rattle.blocking_laws.specs.Counts.{added, starts, refused_starts, arrivals, stops, workers, limit}

@@ -1,12 +1,12 @@
 -- A free worker passes over the jobs of a queue.
 use Rattle.std.proofs.Common.{◌≡◌, ◌⊎◌, ℕ, ◌+◌, ◌-◌, ◌<◌, Bool, true, false, ap, ◌∙◌, subst, sym, refl, inl, inr, arith}
 use Rattle.std.specs.FinMap.{insert, remove}
-use Rattle.blocking_core.specs.Counts.{Counts, busier, freer}
-use Rattle.blocking_core.specs.Growth.{Growth, grown}
-use Rattle.blocking_core.specs.Jobs.{Jobs, JobNumber, is_running_as, running}
-use Rattle.blocking_core.specs.Pools.{without_job}
-use Rattle.blocking_core.specs.declared.pool.answer.Took.{Took}
-use Rattle.blocking_core.specs.declared.pool.answer.Took.TheVariants.{Run, Drop}
+use Rattle.blocking_pool.specs.Counts.{Counts, busier, freer}
+use Rattle.blocking_pool.specs.Growth.{Growth, grown}
+use Rattle.blocking_pool.specs.Jobs.{Jobs, JobNumber, is_running_as, running}
+use Rattle.blocking_pool.specs.Pools.{without_job}
+use Rattle.blocking_pool.specs.declared.pool.answer.Took.{Took}
+use Rattle.blocking_pool.specs.declared.pool.answer.Took.TheVariants.{Run, Drop}
 use Rattle.blocking_world.specs.Crews.{NoneParked, PassesOver, TakesFront, TakesTo}
 use Rattle.blocking_world.specs.Worlds.{CallPool}
 use Rattle.blocking_world.specs.declared.call.CallJob.{CallJob}

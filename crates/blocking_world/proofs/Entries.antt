@@ -1,12 +1,12 @@
 -- An entry of the pool by what was seen of its job, over plain values: what it tells, and each kind of change.
 use Rattle.std.proofs.Common.{◌≡◌, inl, inr, ℕ, ◌==◌, cond, List, [], ◌∷◌, map, Bool, true, false, refl, sym, ap, ◌∙◌, subst, if◌then◌else◌, Option, Some, None, ◌&&◌, ◌||◌, not}
 use Rattle.std.specs.Prelude.{option_map, is_some}
-use Rattle.blocking_core.specs.Jobs.{Job as Entry, new_job, running, woken, cancelled, is_running_job, is_running}
+use Rattle.blocking_pool.specs.Jobs.{Job as Entry, new_job, running, woken, cancelled, is_running_job, is_running}
 use Rattle.blocking_core.specs.declared.job.Action.{Action}
 use Rattle.blocking_core.specs.declared.job.Action.TheVariants as action
-use Rattle.blocking_core.specs.declared.pool.standing.Standing.{Standing}
-use Rattle.blocking_core.specs.declared.pool.standing.Standing.TheVariants.{Queued, Running, Parked, Done, Dropped}
-use Rattle.blocking_core.proofs.Standings.{running_is}
+use Rattle.blocking_pool.specs.declared.pool.standing.Standing.{Standing}
+use Rattle.blocking_pool.specs.declared.pool.standing.Standing.TheVariants.{Queued, Running, Parked, Done, Dropped}
+use Rattle.blocking_pool.proofs.Standings.{running_is}
 use Rattle.blocking_world.specs.Crews.{marked}
 use Rattle.blocking_laws.specs.Seen.{joined}
 use Rattle.blocking_laws.specs.Jobs.{is_parked, ends_for_good}

@@ -5,14 +5,14 @@ use Rattle.std.specs.FinMap.{get}
 use Rattle.std.proofs.lemmas.Option.{slice_get_within}
 use Rattle.std.proofs.lemmas.Bool.{and_parts, ltb-true, eqb-true}
 use Rattle.std.proofs.lemmas.Bool.Decides.{nat_tests}
-use Rattle.blocking_core.specs.Growth.{Growth}
-use Rattle.blocking_core.specs.Jobs.{Job as Entry, JobNumber, new_job, running, woken, cancelled, amend, is_running_job}
-use Rattle.blocking_core.specs.PoolAnswers.{must_stop}
-use Rattle.blocking_core.specs.Wakes.{wake_of, cancel_of}
-use Rattle.blocking_core.specs.declared.pool.answer.Woke.{Woke}
-use Rattle.blocking_core.specs.declared.pool.answer.Woke.TheVariants.{Entered, Marked, Nothing}
-use Rattle.blocking_core.specs.declared.pool.standing.Standing.TheVariants.{Queued, Running}
-use Rattle.blocking_core.specs.declared.pool.token.WorkerPass.{WorkerPass}
+use Rattle.blocking_pool.specs.Growth.{Growth}
+use Rattle.blocking_pool.specs.Jobs.{Job as Entry, JobNumber, new_job, running, woken, cancelled, amend, is_running_job}
+use Rattle.blocking_pool.specs.PoolAnswers.{must_stop}
+use Rattle.blocking_pool.specs.Wakes.{wake_of, cancel_of}
+use Rattle.blocking_pool.specs.declared.pool.answer.Woke.{Woke}
+use Rattle.blocking_pool.specs.declared.pool.answer.Woke.TheVariants.{Entered, Marked, Nothing}
+use Rattle.blocking_pool.specs.declared.pool.standing.Standing.TheVariants.{Queued, Running}
+use Rattle.blocking_pool.specs.declared.pool.token.WorkerPass.{WorkerPass}
 use Rattle.blocking_world.specs.Crews.{Accepts, TakesFront, no_growth, marked_in, after_wake, after_cancel}
 use Rattle.blocking_laws.specs.Growth.{IsMarked}
 use Rattle.blocking_laws.specs.Jobs.{tasks, holder, is_holder, standing, is_parked, is_woken, is_cancelled, is_marked, has_ended}

@@ -3,18 +3,18 @@ use Rattle.std.proofs.Common.{◌≡◌, ℕ, ◌+◌, ◌-◌, ◌<◌, ◌≤�
 use Rattle.std.proofs.lemmas.Bool.{cases_lt}
 use Rattle.std.proofs.lemmas.Bool.Decides.{nat_tests}
 use Rattle.std.specs.Prelude.{nat_lt}
-use Rattle.blocking_core.specs.Counts.{Counts, limit_of, busier, rung}
-use Rattle.blocking_core.specs.declared.pool.bell.BellKind.TheVariants.{One}
-use Rattle.blocking_core.specs.Growth.{Asking, greatest, is_due, StartAnswer, Growth, IsGrowth, Grows, grown, number_after}
-use Rattle.blocking_core.specs.Pools.{Enters, IsRefused, FindsNobody, entered, TakesFront as CoreTakesFront}
-use Rattle.blocking_core.specs.Jobs.{JobNumber}
-use Rattle.blocking_core.specs.declared.pool.answer.Refusal.{Refusal}
-use Rattle.blocking_core.specs.declared.pool.answer.Refusal.TheVariants.{NoWorker}
-use Rattle.blocking_core.specs.PoolAnswers.{Takes}
-use Rattle.blocking_core.specs.declared.pool.answer.Took.{Took}
-use Rattle.blocking_core.specs.declared.pool.answer.Took.TheVariants.{Run, Drop, Idle}
-use Rattle.blocking_core.specs.declared.pool.token.WorkerPass.{WorkerPass}
-use Rattle.blocking_core.proofs.GrowthLemmas.{due_after}
+use Rattle.blocking_pool.specs.Counts.{Counts, limit_of, busier, rung}
+use Rattle.blocking_pool.specs.declared.pool.bell.BellKind.TheVariants.{One}
+use Rattle.blocking_pool.specs.Growth.{Asking, greatest, is_due, StartAnswer, Growth, IsGrowth, Grows, grown, number_after}
+use Rattle.blocking_pool.specs.Pools.{Enters, IsRefused, FindsNobody, entered, TakesFront as CoreTakesFront}
+use Rattle.blocking_pool.specs.Jobs.{JobNumber}
+use Rattle.blocking_pool.specs.declared.pool.answer.Refusal.{Refusal}
+use Rattle.blocking_pool.specs.declared.pool.answer.Refusal.TheVariants.{NoWorker}
+use Rattle.blocking_pool.specs.PoolAnswers.{Takes}
+use Rattle.blocking_pool.specs.declared.pool.answer.Took.{Took}
+use Rattle.blocking_pool.specs.declared.pool.answer.Took.TheVariants.{Run, Drop, Idle}
+use Rattle.blocking_pool.specs.declared.pool.token.WorkerPass.{WorkerPass}
+use Rattle.blocking_pool.proofs.GrowthLemmas.{due_after}
 use Rattle.blocking_world.specs.Crews.{Accepts, FindsNoWorker, TakesFront, TakesTo}
 use Rattle.blocking_world.specs.Worlds.{CallPool, new_call}
 use Rattle.blocking_world.specs.declared.call.CallJob.{CallJob}

@@ -1,14 +1,14 @@
 -- Each move grows as the law of growth says; and who serves a queued job.
 use Rattle.std.proofs.Common.{◌≡◌, ℕ, ◌<◌, ◌+◌, ◌-◌, min, List, [], ◌∷◌, ◌++◌, Bool, true, false, length, length-append, refl, sym, ap, ◌∙◌, subst, arith, Option, None}
 use Rattle.std.specs.Prelude.{Result, Ok, Err}
-use Rattle.blocking_core.specs.Counts.{busier}
-use Rattle.blocking_core.specs.Growth.{greatest, Growth, IsGrowth, StartAnswer}
-use Rattle.blocking_core.specs.Jobs.{JobNumber}
-use Rattle.blocking_core.specs.PoolAnswers.{must_stop}
-use Rattle.blocking_core.specs.declared.pool.answer.Refusal.{Refusal}
-use Rattle.blocking_core.specs.declared.pool.answer.Refusal.TheVariants.{Memory, NoWorker, Numbers}
-use Rattle.blocking_core.specs.declared.pool.token.WorkerPass.{WorkerPass}
-use Rattle.blocking_core.specs.Lists.{without}
+use Rattle.blocking_pool.specs.Counts.{busier}
+use Rattle.blocking_pool.specs.Growth.{greatest, Growth, IsGrowth, StartAnswer}
+use Rattle.blocking_pool.specs.Jobs.{JobNumber}
+use Rattle.blocking_pool.specs.PoolAnswers.{must_stop}
+use Rattle.blocking_pool.specs.declared.pool.answer.Refusal.{Refusal}
+use Rattle.blocking_pool.specs.declared.pool.answer.Refusal.TheVariants.{Memory, NoWorker, Numbers}
+use Rattle.blocking_pool.specs.declared.pool.token.WorkerPass.{WorkerPass}
+use Rattle.blocking_pool.specs.Lists.{without}
 use Rattle.blocking_laws.specs.Queue.{queue, running}
 use Rattle.blocking_laws.specs.Counts.{starts, refused_starts, workers, idle, limit}
 use Rattle.blocking_laws.specs.Growth.{IsMarked, StartsRightly, GrowthLaw}

@@ -2,14 +2,14 @@
 use Rattle.std.proofs.Common.{◌≡◌, ◌<◌, ℕ, Bool, true, false, List, ◌-◌, Option, Some, None, if◌then◌else◌, ap, sym, subst, refl, arith, ◌∙◌}
 use Rattle.std.specs.Prelude.{not}
 use Rattle.std.proofs.lemmas.List.{set-set}
-use Rattle.blocking_core.specs.Growth.{Growth}
-use Rattle.blocking_core.specs.PoolAnswers.{is_empty, StaysOrStops}
-use Rattle.blocking_core.specs.Pools.{without_job}
-use Rattle.blocking_core.specs.declared.pool.answer.Took.{Took}
-use Rattle.blocking_core.specs.declared.pool.answer.Waited.{Waited}
-use Rattle.blocking_core.specs.declared.pool.answer.Waited.TheVariants.{Stay, Stop}
-use Rattle.blocking_core.specs.declared.pool.standing.Standing.{Standing}
-use Rattle.blocking_core.specs.declared.pool.token.WorkerPass.{WorkerPass}
+use Rattle.blocking_pool.specs.Growth.{Growth}
+use Rattle.blocking_pool.specs.PoolAnswers.{is_empty, StaysOrStops}
+use Rattle.blocking_pool.specs.Pools.{without_job}
+use Rattle.blocking_pool.specs.declared.pool.answer.Took.{Took}
+use Rattle.blocking_pool.specs.declared.pool.answer.Waited.{Waited}
+use Rattle.blocking_pool.specs.declared.pool.answer.Waited.TheVariants.{Stay, Stop}
+use Rattle.blocking_pool.specs.declared.pool.standing.Standing.{Standing}
+use Rattle.blocking_pool.specs.declared.pool.token.WorkerPass.{WorkerPass}
 use Rattle.blocking_world.specs.Worlds.{Worlded, CallPool, hand_at, hand_of, with_hand, duty_of, outcome_of, pass_in, over_in, over_by}
 use Rattle.blocking_laws.specs.Answers.{wait_act}
 use Rattle.blocking_world.specs.Machine.{IsReady, IsHeld, TakesWith, Takes, WaitsWith, EndsWith, Ends, took_job, took_act, took_hand, after_wait, DoesNothing, nothing, seen, next_start}

@@ -1,12 +1,12 @@
 -- Each move keeps the queue the past's, and jobs are taken in the order in which they entered.
 use Rattle.std.proofs.Common.{◌≡◌, ◌==◌, ◌||◌, ℕ, Bool, true, false, if◌then◌else◌, List, [], ◌∷◌, ◌++◌, refl, sym, ap, ap₂, ◌∙◌, subst, append_assoc, Option, Some, None, Ok, Err}
-use Rattle.blocking_core.specs.Growth.{Growth}
-use Rattle.blocking_core.specs.Lists.{is_in, IsOnce, without}
-use Rattle.blocking_core.specs.PoolAnswers.{must_stop}
-use Rattle.blocking_core.specs.declared.pool.standing.Standing.{Standing}
-use Rattle.blocking_core.specs.declared.pool.standing.Standing.TheVariants.{Queued, Running}
-use Rattle.blocking_core.specs.declared.pool.token.WorkerPass.{WorkerPass}
-use Rattle.blocking_core.proofs.Lists.{turned, IsOnce-push, without-first}
+use Rattle.blocking_pool.specs.Growth.{Growth}
+use Rattle.blocking_pool.specs.Lists.{is_in, IsOnce, without}
+use Rattle.blocking_pool.specs.PoolAnswers.{must_stop}
+use Rattle.blocking_pool.specs.declared.pool.standing.Standing.{Standing}
+use Rattle.blocking_pool.specs.declared.pool.standing.Standing.TheVariants.{Queued, Running}
+use Rattle.blocking_pool.specs.declared.pool.token.WorkerPass.{WorkerPass}
+use Rattle.blocking_pool.proofs.Lists.{turned, IsOnce-push, without-first}
 use Rattle.blocking_laws.specs.Seen.{joined}
 use Rattle.blocking_laws.specs.Jobs.{is_queued, standing}
 use Rattle.blocking_laws.specs.Queue.{queue, entries, takes, entered_by, InOrder}

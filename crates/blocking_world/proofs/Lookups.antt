@@ -5,13 +5,13 @@ use Rattle.std.specs.Ordering.{eq_by_cmp, nat_cmp}
 use Rattle.std.specs.Cmp.{nat_cmp_total}
 use Rattle.std.specs.FinMap.{get, insert, remove, get-insert, get-remove}
 use Rattle.std.proofs.lemmas.Bool.{eqb-true, eq-eqb}
-use Rattle.blocking_core.specs.Jobs.{Job as Entry, Jobs, JobNumber, changed, amend, if_at, job_of, value_at, is_running_job, is_running_as, is_parked_job, running, valued, is_parked}
-use Rattle.blocking_core.specs.Wakes.{wake_of, cancel_of}
-use Rattle.blocking_core.proofs.Lists.{eq_by_nat_cmp, turned}
-use Rattle.blocking_core.specs.declared.pool.answer.Woke.{Woke}
-use Rattle.blocking_core.specs.declared.pool.answer.Woke.TheVariants.{Entered, Marked, Nothing}
-use Rattle.blocking_core.specs.declared.pool.standing.Standing.{Standing}
-use Rattle.blocking_core.specs.declared.pool.standing.Standing.TheVariants.{Parked}
+use Rattle.blocking_pool.specs.Jobs.{Job as Entry, Jobs, JobNumber, changed, amend, if_at, job_of, value_at, is_running_job, is_running_as, is_parked_job, running, valued, is_parked}
+use Rattle.blocking_pool.specs.Wakes.{wake_of, cancel_of}
+use Rattle.blocking_pool.proofs.Lists.{eq_by_nat_cmp, turned}
+use Rattle.blocking_pool.specs.declared.pool.answer.Woke.{Woke}
+use Rattle.blocking_pool.specs.declared.pool.answer.Woke.TheVariants.{Entered, Marked, Nothing}
+use Rattle.blocking_pool.specs.declared.pool.standing.Standing.{Standing}
+use Rattle.blocking_pool.specs.declared.pool.standing.Standing.TheVariants.{Parked}
 use Rattle.blocking_world.specs.Crews.{mark_value, marked_in, marked, after_wake, after_cancel}
 use Rattle.blocking_world.specs.Machine.{pool_called}
 use Rattle.blocking_world.specs.Worlds.{CallPool}

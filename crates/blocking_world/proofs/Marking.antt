@@ -2,8 +2,8 @@
 use Rattle.std.proofs.Common.{◌≡◌, Option, Some, None, ap, ◌∙◌, subst}
 use Rattle.std.specs.Prelude.{OnSome}
 use Rattle.std.specs.Borrow.{MutBor}
-use Rattle.blocking_core.specs.Jobs.{JobNumber, job_of, value_at, valued}
-use Rattle.blocking_core.specs.Pools.{with_job}
+use Rattle.blocking_pool.specs.Jobs.{JobNumber, job_of, value_at, valued}
+use Rattle.blocking_pool.specs.Pools.{with_job}
 use Rattle.blocking_world.specs.Crews.{marked, mark_value, marked_in}
 use Rattle.blocking_world.specs.Worlds.{CallPool}
 use Rattle.blocking_world.specs.declared.call.CallJob.{CallJob}

@@ -3,10 +3,10 @@ use Rattle.std.proofs.Common.{◌≡◌, ℕ, Bool, true, false, refl, ap, ◌�
 use Rattle.std.proofs.lemmas.Bool.{and_parts}
 use Rattle.std.proofs.lemmas.Bool.Decides.{nat_tests}
 use Rattle.std.specs.Prelude.{◌&&◌, nat_lt, not, ◌==◌, slice_get}
-use Rattle.blocking_core.specs.Growth.{Growth}
-use Rattle.blocking_core.specs.declared.pool.answer.Took.{Took}
-use Rattle.blocking_core.specs.declared.pool.answer.Took.TheVariants.{Run, Drop as TakeToDrop, Idle}
-use Rattle.blocking_core.specs.declared.pool.token.WorkerPass.{WorkerPass}
+use Rattle.blocking_pool.specs.Growth.{Growth}
+use Rattle.blocking_pool.specs.declared.pool.answer.Took.{Took}
+use Rattle.blocking_pool.specs.declared.pool.answer.Took.TheVariants.{Run, Drop as TakeToDrop, Idle}
+use Rattle.blocking_pool.specs.declared.pool.token.WorkerPass.{WorkerPass}
 use Rattle.blocking_world.specs.Crews.{TakesTo, no_growth}
 use Rattle.blocking_world.specs.Worlds.{Worlded, CallPool, duty_of, hand_at, with_hand, may_be, has_let_go, owner_at, is_free_hand}
 use Rattle.blocking_world.specs.Machine.{StepDoes, Does, DoesNothing, seen, next_start, CallsIf, CallsOf, ArrivesIf, TakesWith, took_act, took_job, took_hand, WaitsWith, Works, WorksWith, Answers, AnswersWith, Ends, EndsWith, LimitsIf, was_accepted, StraysIf, StrikesIf}

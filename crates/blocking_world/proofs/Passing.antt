@@ -2,7 +2,7 @@
 use Rattle.std.proofs.Common.{◌≡◌, ◌-◌, ◌==◌, ℕ, Bool, true, false, List, slice_get, Option, Some, None, if◌then◌else◌, ap, sym, subst, refl, arith, ◌∙◌}
 use Rattle.std.specs.Prelude.{OnSome}
 use Rattle.std.proofs.lemmas.Bool.Decides.{nat_tests}
-use Rattle.blocking_core.specs.declared.pool.token.WorkerPass.{WorkerPass}
+use Rattle.blocking_pool.specs.declared.pool.token.WorkerPass.{WorkerPass}
 use Rattle.blocking_world.specs.Machine.{DoesNothing, nothing, next_start}
 use Rattle.blocking_laws.specs.declared.event.Event.{Event}
 use Rattle.blocking_laws.specs.declared.event.Party.TheVariants.{Worker}

@@ -2,10 +2,10 @@
 -- changes none.
 use Rattle.std.proofs.Common.{◌≡◌, ℕ, ◌==◌, ◌||◌, List, [], ◌∷◌, length, not, Bool, true, false, refl, ap, if◌then◌else◌, Option, Some, None}
 use Rattle.std.specs.Prelude.{Ok}
-use Rattle.blocking_core.specs.Growth.{Growth}
-use Rattle.blocking_core.specs.PoolAnswers.{must_stop}
-use Rattle.blocking_core.specs.declared.pool.answer.Refusal.TheVariants.{NoWorker}
-use Rattle.blocking_core.specs.declared.pool.answer.Woke.TheVariants.{Entered}
+use Rattle.blocking_pool.specs.Growth.{Growth}
+use Rattle.blocking_pool.specs.PoolAnswers.{must_stop}
+use Rattle.blocking_pool.specs.declared.pool.answer.Refusal.TheVariants.{NoWorker}
+use Rattle.blocking_pool.specs.declared.pool.answer.Woke.TheVariants.{Entered}
 use Rattle.blocking_laws.specs.Jobs.{accepted_by, accepts, standing, sweeps, is_marked}
 use Rattle.blocking_laws.specs.Queue.{queue, entries, takes, running, to_sweep}
 use Rattle.blocking_laws.specs.Counts.{starts, stops, arrivals, refused_starts, limit}

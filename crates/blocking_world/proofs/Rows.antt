@@ -3,8 +3,8 @@ use Rattle.std.proofs.Common.{◌≡◌, ◌⊎◌, inl, inr, ⊎_elim, ℕ, zer
 use Rattle.std.specs.Prelude.{slice_get, slice_set}
 use Rattle.std.proofs.lemmas.Bool.{eqb-true, eqb-false}
 use Rattle.std.proofs.lemmas.Bool.Decides.{nat_tests}
-use Rattle.blocking_core.specs.Lists.{is_in, IsOnce, without}
-use Rattle.blocking_core.proofs.Lists.{by_eq, is_in-first, is_in-last, is_in-push, is_in-without, is_in-without_itself, length-without}
+use Rattle.blocking_pool.specs.Lists.{is_in, IsOnce, without}
+use Rattle.blocking_pool.proofs.Lists.{by_eq, is_in-first, is_in-last, is_in-push, is_in-without, is_in-without_itself, length-without}
 
 -- ---- places
 

@@ -2,8 +2,8 @@
 use Rattle.std.proofs.Common.{◌≡◌, ℕ, ◌+◌, ◌-◌, ◌<◌, ◌≤◌, ◌==◌, List, [], ◌∷◌, ◌++◌, Bool, true, false, length, refl, sym, ap, ◌∙◌, subst, arith, if◌then◌else◌, Option, Some, None, zero, suc, ◌&&◌, ◌||◌, not}
 use Rattle.std.specs.Prelude.{slice_get, slice_set}
 use Rattle.std.proofs.lemmas.Bool.{eqb-true, eqb-false, eq-eqb, ne_eqb}
-use Rattle.blocking_core.specs.Jobs.{Jobs, JobNumber, is_running_as}
-use Rattle.blocking_core.specs.declared.pool.token.WorkerPass.{WorkerPass}
+use Rattle.blocking_pool.specs.Jobs.{Jobs, JobNumber, is_running_as}
+use Rattle.blocking_pool.specs.declared.pool.token.WorkerPass.{WorkerPass}
 use Rattle.blocking_laws.specs.Seen.{events, acts_of}
 use Rattle.blocking_laws.specs.Jobs.{is_cancelled, is_marked}
 use Rattle.blocking_laws.specs.Steps.{is_there}

@@ -1,9 +1,9 @@
 -- What a new call does to the parts.
 use Rattle.std.proofs.Common.{◌≡◌, ◌++◌, ℕ, Bool, true, List, [], ◌∷◌, None, Result, Ok, Err, if◌then◌else◌, ap, sym, subst, ◌∙◌}
 use Rattle.std.specs.Prelude.{is_ok}
-use Rattle.blocking_core.specs.Growth.{Growth}
-use Rattle.blocking_core.specs.Jobs.{JobNumber}
-use Rattle.blocking_core.specs.declared.pool.answer.Refusal.{Refusal}
+use Rattle.blocking_pool.specs.Growth.{Growth}
+use Rattle.blocking_pool.specs.Jobs.{JobNumber}
+use Rattle.blocking_pool.specs.declared.pool.answer.Refusal.{Refusal}
 use Rattle.blocking_world.specs.Crews.{AddsTo}
 use Rattle.blocking_world.specs.Machine.{Spawns, added_act, added_tasks, seen, next_start}
 use Rattle.blocking_world.specs.Worlds.{Worlded, CallPool, new_owner}

@@ -4,15 +4,15 @@ use Rattle.std.proofs.lemmas.Bool.{ltb-true, lt-ltb}
 use Rattle.std.proofs.lemmas.Bool.Decides.{nat_tests}
 use Rattle.std.proofs.lemmas.Option.{slice_get_within}
 use Rattle.std.specs.Prelude.{◌&&◌, ◌||◌, nat_lt, not, ◌==◌, slice_get, is_some, is_none, if◌then◌else◌}
-use Rattle.blocking_core.specs.Growth.{Growth}
-use Rattle.blocking_core.specs.PoolAnswers.{must_stop}
+use Rattle.blocking_pool.specs.Growth.{Growth}
+use Rattle.blocking_pool.specs.PoolAnswers.{must_stop}
 use Rattle.blocking_core.specs.declared.job.Action.{Action}
 use Rattle.blocking_core.specs.declared.job.Action.TheVariants as action
-use Rattle.blocking_core.specs.declared.pool.answer.Refusal.{Refusal}
-use Rattle.blocking_core.specs.declared.pool.token.WorkerPass.{WorkerPass}
+use Rattle.blocking_pool.specs.declared.pool.answer.Refusal.{Refusal}
+use Rattle.blocking_pool.specs.declared.pool.token.WorkerPass.{WorkerPass}
 use Rattle.blocking_world.specs.Crews.{no_growth}
 use Rattle.blocking_world.specs.declared.call.CallJob.{CallJob}
-use Rattle.blocking_core.specs.Jobs.{JobNumber}
+use Rattle.blocking_pool.specs.Jobs.{JobNumber}
 use Rattle.blocking_laws.specs.Seen.{events, acts_of, acts_of_task, own, task_cut, is_nothing}
 use Rattle.blocking_laws.specs.Jobs.{tasks, holder}
 use Rattle.blocking_laws.specs.Counts.{starts, arrivals}

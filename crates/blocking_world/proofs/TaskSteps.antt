@@ -2,7 +2,7 @@
 use Rattle.std.proofs.Common.{◌≡◌, ℕ, List, [], ◌∷◌, Bool, true, false, refl, sym, ap, ◌∙◌, subst, Option, Some, None, inl, inr}
 use Rattle.std.specs.Prelude.{◌⊎◌, ◌||◌, not, is_some}
 use Rattle.std.proofs.lemmas.Bool.{or_from, or_left, or_right, eq-eqb}
-use Rattle.blocking_core.specs.Jobs.{JobNumber}
+use Rattle.blocking_pool.specs.Jobs.{JobNumber}
 use Rattle.blocking_core.specs.SlotAnswers.{IsPending}
 use Rattle.blocking_core.specs.Slots.{Content, Empty, Full, GivenUp, Abandoned, without_owner, full_with, slot_after, answer_of, slot_without_job, waker_out_of, after_put, put_in, after_give_up, waker_of_give_up}
 use Rattle.blocking_laws.specs.Seen.{own, acts_of, is_of_pool, is_nothing}

@@ -5,11 +5,11 @@ use Rattle.std.specs.FinMap.{get}
 use Rattle.std.proofs.lemmas.Option.{slice_get-get_or}
 use Rattle.std.proofs.lemmas.Bool.{and_right, and_parts, ltb-true, lt-ltb}
 use Rattle.std.proofs.lemmas.Bool.Decides.{nat_tests}
-use Rattle.blocking_core.specs.Jobs.{Job as Entry, is_running_job}
-use Rattle.blocking_core.specs.Wakes.{wake_of, cancel_of}
-use Rattle.blocking_core.specs.declared.pool.answer.Woke.TheVariants.{Entered}
-use Rattle.blocking_core.specs.declared.pool.standing.Standing.{Standing}
-use Rattle.blocking_core.specs.declared.pool.standing.Standing.TheVariants.{Running}
+use Rattle.blocking_pool.specs.Jobs.{Job as Entry, is_running_job}
+use Rattle.blocking_pool.specs.Wakes.{wake_of, cancel_of}
+use Rattle.blocking_pool.specs.declared.pool.answer.Woke.TheVariants.{Entered}
+use Rattle.blocking_pool.specs.declared.pool.standing.Standing.{Standing}
+use Rattle.blocking_pool.specs.declared.pool.standing.Standing.TheVariants.{Running}
 use Rattle.blocking_laws.specs.Jobs.{accepted_jobs, tasks, standing, is_parked, is_marked}
 use Rattle.blocking_laws.specs.Queue.{to_sweep}
 use Rattle.blocking_laws.specs.Steps.{is_there}

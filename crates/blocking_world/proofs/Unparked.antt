@@ -1,11 +1,11 @@
 -- A pool of calls in which no job is parked: a sweep does nothing there.
 use Rattle.std.proofs.Common.{◌≡◌, ℕ, ◌&&◌, Bool, true, false, cond, List, [], ◌∷◌, length, ap, ◌∙◌, subst, refl}
-use Rattle.blocking_core.specs.Growth.{Asking}
-use Rattle.blocking_core.specs.Jobs.{Jobs}
-use Rattle.blocking_core.specs.PoolAnswers.{SweepsTo, Sweeps, SweepsIf, StaysOrStops, Waits}
-use Rattle.blocking_core.specs.Sweeps.{swept, serials_below}
-use Rattle.blocking_core.specs.declared.pool.answer.Waited.{Waited}
-use Rattle.blocking_core.specs.declared.pool.answer.Waited.TheVariants.{Stay, Stop}
+use Rattle.blocking_pool.specs.Growth.{Asking}
+use Rattle.blocking_pool.specs.Jobs.{Jobs}
+use Rattle.blocking_pool.specs.PoolAnswers.{SweepsTo, Sweeps, SweepsIf, StaysOrStops, Waits}
+use Rattle.blocking_pool.specs.Sweeps.{swept, serials_below}
+use Rattle.blocking_pool.specs.declared.pool.answer.Waited.{Waited}
+use Rattle.blocking_pool.specs.declared.pool.answer.Waited.TheVariants.{Stay, Stop}
 use Rattle.blocking_world.specs.Crews.{NoneParked}
 use Rattle.blocking_world.specs.Worlds.{CallPool}
 use Rattle.blocking_world.specs.declared.call.CallJob.{CallJob}

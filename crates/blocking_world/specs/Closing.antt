@@ -1,10 +1,10 @@
 -- How turns end, and what is known of the hands while a world ends.
 use Rattle.std.specs.Prelude.{◌≡◌, ◌≢◌, ◌+◌, ℕ, Bool, true, List, slice_get, Some}
-use Rattle.blocking_core.specs.Jobs.{Jobs, is_running_as}
-use Rattle.blocking_core.specs.Pools.{without_job}
-use Rattle.blocking_core.specs.declared.pool.standing.Standing.{Standing}
-use Rattle.blocking_core.specs.declared.pool.standing.Standing.TheVariants.{Done, Dropped}
-use Rattle.blocking_core.specs.declared.pool.token.WorkerPass.{WorkerPass}
+use Rattle.blocking_pool.specs.Jobs.{Jobs, is_running_as}
+use Rattle.blocking_pool.specs.Pools.{without_job}
+use Rattle.blocking_pool.specs.declared.pool.standing.Standing.{Standing}
+use Rattle.blocking_pool.specs.declared.pool.standing.Standing.TheVariants.{Done, Dropped}
+use Rattle.blocking_pool.specs.declared.pool.token.WorkerPass.{WorkerPass}
 use Rattle.blocking_world.specs.Crews.{NoneParked}
 use Rattle.blocking_world.specs.Machine.{free_hands}
 use Rattle.blocking_world.specs.Worlds.{CallPool}

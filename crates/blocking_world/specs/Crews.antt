@@ -1,16 +1,16 @@
 -- What the calls of a pool of calls answer, with the growth that each has: no call ever parks.
 use Rattle.std.specs.Prelude.{◌≡◌, ◌<◌, ℕ, ◌+◌, Bool, true, false, ◌||◌, List, [], ◌∷◌, length, Option, Some, None, Result, Ok, Err}
 use Rattle.std.specs.FinMap as map
-use Rattle.blocking_core.specs.Counts.{Counts, limit_of, busier}
-use Rattle.blocking_core.specs.Growth.{Growth, IsGrowth, StartAnswer, grown, greatest}
-use Rattle.blocking_core.specs.Jobs.{Job, Jobs, JobNumber, is_parked_job, running, woken, cancelled, valued, job_of, value_at}
-use Rattle.blocking_core.specs.Pools.{entered, with_job}
-use Rattle.blocking_core.specs.declared.pool.answer.Refusal.{Refusal}
-use Rattle.blocking_core.specs.declared.pool.answer.Refusal.TheVariants.{Memory, NoWorker, Numbers}
-use Rattle.blocking_core.specs.declared.pool.answer.Took.{Took}
-use Rattle.blocking_core.specs.declared.pool.answer.Took.TheVariants.{Run, Drop, Idle}
-use Rattle.blocking_core.specs.declared.pool.answer.Woke.{Woke}
-use Rattle.blocking_core.specs.declared.pool.answer.Woke.TheVariants.{Marked}
+use Rattle.blocking_pool.specs.Counts.{Counts, limit_of, busier}
+use Rattle.blocking_pool.specs.Growth.{Growth, IsGrowth, StartAnswer, grown, greatest}
+use Rattle.blocking_pool.specs.Jobs.{Job, Jobs, JobNumber, is_parked_job, running, woken, cancelled, valued, job_of, value_at}
+use Rattle.blocking_pool.specs.Pools.{entered, with_job}
+use Rattle.blocking_pool.specs.declared.pool.answer.Refusal.{Refusal}
+use Rattle.blocking_pool.specs.declared.pool.answer.Refusal.TheVariants.{Memory, NoWorker, Numbers}
+use Rattle.blocking_pool.specs.declared.pool.answer.Took.{Took}
+use Rattle.blocking_pool.specs.declared.pool.answer.Took.TheVariants.{Run, Drop, Idle}
+use Rattle.blocking_pool.specs.declared.pool.answer.Woke.{Woke}
+use Rattle.blocking_pool.specs.declared.pool.answer.Woke.TheVariants.{Marked}
 use Rattle.blocking_world.specs.declared.call.CallJob.{CallJob}
 use Rattle.blocking_world.specs.Worlds.{CallPool, new_call}
 

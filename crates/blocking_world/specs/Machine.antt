@@ -1,17 +1,17 @@
 -- What each step does to the parts of a world, and what is seen of it.
 use Rattle.std.specs.Prelude.{◌≡◌, ◌<◌, ◌==◌, ◌+◌, ◌-◌, nat_lt, ℕ, Bool, true, false, ◌&&◌, if◌then◌else◌, List, [], ◌∷◌, ◌++◌, length, slice_get, slice_set, Option, Some, None, is_some, Result, Ok, Err}
-use Rattle.blocking_core.specs.Counts.{arrived, limited}
-use Rattle.blocking_core.specs.Growth.{Growth}
-use Rattle.blocking_core.specs.Jobs.{JobNumber, standing_of, is_running_as}
-use Rattle.blocking_core.specs.PoolAnswers.{must_stop, is_empty}
-use Rattle.blocking_core.specs.Counts.{stopped}
-use Rattle.blocking_core.specs.Pools.{without_job}
+use Rattle.blocking_pool.specs.Counts.{arrived, limited}
+use Rattle.blocking_pool.specs.Growth.{Growth}
+use Rattle.blocking_pool.specs.Jobs.{JobNumber, standing_of, is_running_as}
+use Rattle.blocking_pool.specs.PoolAnswers.{must_stop, is_empty}
+use Rattle.blocking_pool.specs.Counts.{stopped}
+use Rattle.blocking_pool.specs.Pools.{without_job}
 use Rattle.blocking_core.specs.Slots.{after_put, put_in, after_give_up, waker_of_give_up}
-use Rattle.blocking_core.specs.Wakes.{wake_of, cancel_of}
-use Rattle.blocking_core.specs.declared.pool.answer.Refusal.{Refusal}
-use Rattle.blocking_core.specs.declared.pool.answer.Took.{Took}
-use Rattle.blocking_core.specs.declared.pool.answer.Took.TheVariants.{Run, Drop as TakeToDrop, Idle}
-use Rattle.blocking_core.specs.declared.pool.token.WorkerPass.{WorkerPass}
+use Rattle.blocking_pool.specs.Wakes.{wake_of, cancel_of}
+use Rattle.blocking_pool.specs.declared.pool.answer.Refusal.{Refusal}
+use Rattle.blocking_pool.specs.declared.pool.answer.Took.{Took}
+use Rattle.blocking_pool.specs.declared.pool.answer.Took.TheVariants.{Run, Drop as TakeToDrop, Idle}
+use Rattle.blocking_pool.specs.declared.pool.token.WorkerPass.{WorkerPass}
 use Rattle.blocking_world.specs.Crews.{AddsTo, TakesTo, NoneParked, no_growth, marked_in, after_wake, after_cancel}
 use Rattle.blocking_world.specs.Worlds.{Worlded, CallPool, duty_of, outcome_of, answered, finished, given_up, woke, hand_at, with_hand, new_owner, may_be, has_let_go, poll_of, polled, cancelled, detached, dropped, owner_at, with_owner}
 use Rattle.blocking_world.specs.declared.call.CallJob.{CallJob}

@@ -1,16 +1,16 @@
 -- The moves of a world: each step that has an action is one of them, and each is seen as one event. A move bears what its
 -- event doesn't tell.
 use Rattle.std.specs.Prelude.{◌≡◌, ◌<◌, ◌==◌, ◌+◌, nat_lt, not, ℕ, Bool, true, false, ◌&&◌, [], ◌∷◌, ◌++◌, length, slice_get, slice_set, Option, Some, None, is_some, Result}
-use Rattle.blocking_core.specs.Counts.{arrived, limited}
-use Rattle.blocking_core.specs.Growth.{Growth}
-use Rattle.blocking_core.specs.Jobs.{JobNumber, standing_of}
-use Rattle.blocking_core.specs.PoolAnswers.{must_stop}
-use Rattle.blocking_core.specs.Pools.{without_job}
+use Rattle.blocking_pool.specs.Counts.{arrived, limited}
+use Rattle.blocking_pool.specs.Growth.{Growth}
+use Rattle.blocking_pool.specs.Jobs.{JobNumber, standing_of}
+use Rattle.blocking_pool.specs.PoolAnswers.{must_stop}
+use Rattle.blocking_pool.specs.Pools.{without_job}
 use Rattle.blocking_core.specs.Slots.{after_put, put_in, after_give_up, waker_of_give_up}
-use Rattle.blocking_core.specs.Wakes.{wake_of, cancel_of}
-use Rattle.blocking_core.specs.declared.pool.answer.Refusal.{Refusal}
-use Rattle.blocking_core.specs.declared.pool.answer.Woke.{Woke}
-use Rattle.blocking_core.specs.declared.pool.token.WorkerPass.{WorkerPass}
+use Rattle.blocking_pool.specs.Wakes.{wake_of, cancel_of}
+use Rattle.blocking_pool.specs.declared.pool.answer.Refusal.{Refusal}
+use Rattle.blocking_pool.specs.declared.pool.answer.Woke.{Woke}
+use Rattle.blocking_pool.specs.declared.pool.token.WorkerPass.{WorkerPass}
 use Rattle.blocking_world.specs.Crews.{AddsTo, TakesFront, no_growth, after_wake, after_cancel}
 use Rattle.blocking_world.specs.Worlds.{Worlded, CallPool, duty_of, outcome_of, answered, finished, given_up, woke, hand_at, with_hand, is_free_hand, may_be, has_let_go, owner_at, with_owner}
 use Rattle.blocking_laws.specs.Answers.{wait_act}

@@ -1,16 +1,16 @@
 -- How the parts of a world hang together with what was seen.
 use Rattle.std.specs.Prelude.{◌≡◌, ◌<◌, ◌≤◌, ◌+◌, ◌-◌, nat_lt, min, ℕ, Bool, true, false, ◌&&◌, ◌||◌, ◌⊎◌, if◌then◌else◌, List, [], ◌∷◌, ◌++◌, length, slice_get, Option, Some, None, is_some}
 use Rattle.std.specs.FinMap.{get}
-use Rattle.blocking_core.specs.Counts.{limit_of}
-use Rattle.blocking_core.specs.Growth.{greatest}
-use Rattle.blocking_core.specs.Jobs.{Job as Entry}
-use Rattle.blocking_core.specs.Lists.{is_in, IsOnce}
+use Rattle.blocking_pool.specs.Counts.{limit_of}
+use Rattle.blocking_pool.specs.Growth.{greatest}
+use Rattle.blocking_pool.specs.Jobs.{Job as Entry}
+use Rattle.blocking_pool.specs.Lists.{is_in, IsOnce}
 use Rattle.blocking_core.specs.SlotAnswers.{IsPending}
 use Rattle.blocking_core.specs.Slots.{Content, Empty, Full, GivenUp, Abandoned}
 use Rattle.blocking_core.specs.declared.job.Action.{Action}
 use Rattle.blocking_core.specs.declared.job.Action.TheVariants as action
-use Rattle.blocking_core.specs.declared.pool.standing.Standing.{Standing}
-use Rattle.blocking_core.specs.declared.pool.standing.Standing.TheVariants.{Queued, Running, Parked, Done, Dropped}
+use Rattle.blocking_pool.specs.declared.pool.standing.Standing.{Standing}
+use Rattle.blocking_pool.specs.declared.pool.standing.Standing.TheVariants.{Queued, Running, Parked, Done, Dropped}
 use Rattle.blocking_laws.specs.Seen.{events, acts_of, own, task_cut}
 use Rattle.blocking_laws.specs.Jobs.{accepted_jobs, tasks, holder, is_queued, is_running, standing, is_woken, is_cancelled, is_marked, has_ended}
 use Rattle.blocking_laws.specs.Queue.{queue, entries, takes, running}

@@ -2,15 +2,15 @@
 use Rattle.std.specs.Prelude.{ℕ, Bool, true, false, ◌==◌, ◌-◌, if◌then◌else◌, List, slice_get, slice_set, refl, Option, Some, None}
 use Rattle.std.specs.Coded.{Coded, code_by, coded×, coded_list}
 use Rattle.blocking_core.specs.Cores.{call_after}
-use Rattle.blocking_core.specs.Jobs.{JobNumber}
-use Rattle.blocking_core.specs.Pools.{Pool, pool_code}
+use Rattle.blocking_pool.specs.Jobs.{JobNumber}
+use Rattle.blocking_pool.specs.Pools.{Pool, pool_code}
 use Rattle.blocking_core.specs.Slots.{Content, Empty, Full, GivenUp, Abandoned, empty_slot, after_abandon, value_in}
 use Rattle.blocking_core.specs.declared.job.Action.{Action}
 use Rattle.blocking_core.specs.declared.job.Action.TheVariants as action
 use Rattle.blocking_core.specs.declared.job.Answer.TheVariants as answer
-use Rattle.blocking_core.specs.declared.pool.standing.Standing.{Standing}
-use Rattle.blocking_core.specs.declared.pool.standing.Standing.TheVariants.{Done, Dropped}
-use Rattle.blocking_core.specs.declared.pool.token.WorkerPass.{WorkerPass}
+use Rattle.blocking_pool.specs.declared.pool.standing.Standing.{Standing}
+use Rattle.blocking_pool.specs.declared.pool.standing.Standing.TheVariants.{Done, Dropped}
+use Rattle.blocking_pool.specs.declared.pool.token.WorkerPass.{WorkerPass}
 use Rattle.blocking_world.specs.contracts.call.CallJob.{the_row as calls}
 use Rattle.blocking_world.specs.contracts.hand.Hand.{the_row as hands}
 use Rattle.blocking_world.specs.contracts.task.Owner.{the_row as owners}

@@ -1,7 +1,7 @@
 //! A pool of calls, with what is told of its growth.
 ghost use Rattle.std.specs.Prelude.{◌≡◌, ◌<◌, ◌≤◌, ◌+◌, ◌-◌, length, [], ℕ, Bool, true, false};
-ghost use Rattle.blocking_core.specs.Growth.{is_due, greatest, number_after};
-ghost use Rattle.blocking_core.specs.Counts.{limit_of};
+ghost use Rattle.blocking_pool.specs.Growth.{is_due, greatest, number_after};
+ghost use Rattle.blocking_pool.specs.Counts.{limit_of};
 
 use crate::call::CallJob;
 use blocking_core::limit::max_threads;
@@ -20,7 +20,7 @@ pub(crate) struct Grown {
 }
 
 impl Model for Grown {
-    ghost use Rattle.blocking_core.specs.Growth.{Growth};
+    ghost use Rattle.blocking_pool.specs.Growth.{Growth};
 
     ghost Value = { Growth };
 
@@ -89,11 +89,11 @@ struct Before {
 }
 
 impl Crew {
-    ghost use Rattle.blocking_core.specs.PoolAnswers.{Arrives, StaysOrStops, pool_of};
-    ghost use Rattle.blocking_core.specs.Jobs.{is_running_as, standing_of};
-    ghost use Rattle.blocking_core.specs.Pools.{without_job};
-    ghost use Rattle.blocking_core.specs.Counts.{limited};
-    ghost use Rattle.blocking_core.specs.Wakes.{wake_of, cancel_of};
+    ghost use Rattle.blocking_pool.specs.PoolAnswers.{Arrives, StaysOrStops, pool_of};
+    ghost use Rattle.blocking_pool.specs.Jobs.{is_running_as, standing_of};
+    ghost use Rattle.blocking_pool.specs.Pools.{without_job};
+    ghost use Rattle.blocking_pool.specs.Counts.{limited};
+    ghost use Rattle.blocking_pool.specs.Wakes.{wake_of, cancel_of};
     ghost use Rattle.blocking_world.specs.Crews.{AddsTo, TakesTo, NoneParked, PassesOver, marked_in, after_wake, after_cancel};
 
     /// A pool with no job and no worker.

@@ -32,7 +32,7 @@ impl Model for Parts {
 
 impl Parts {
     ghost use Rattle.std.specs.Prelude.{nat_lt, ◌==◌, ◌-◌, ◌+◌, ◌&&◌, if◌then◌else◌, slice_get};
-    ghost use Rattle.blocking_core.specs.PoolAnswers.{pool_of};
+    ghost use Rattle.blocking_pool.specs.PoolAnswers.{pool_of};
     ghost use Rattle.blocking_world.specs.Closing.{RefusesAll};
     ghost use Rattle.blocking_world.specs.Worlds.{hand_at, is_free_hand, has_let_go, owner_at};
     ghost use Rattle.blocking_world.specs.Machine.{IsReady, StepDoes, Spawns, CallsOf, ArrivesIf, TakesWith, WorksWith, AnswersWith, EndsWith, WaitsWith, LimitsIf, StraysIf, StrikesIf, Does, DoesNothing, was_accepted};

@@ -1,6 +1,6 @@
 //! A world that keeps what was seen of it.
 ghost use Rattle.std.specs.Prelude.{◌≡◌, ◌<◌, ◌∷◌, [], length, IfOk, OnErr};
-ghost use Rattle.blocking_core.specs.Limits.{limit_of_setting};
+ghost use Rattle.blocking_pool.specs.Limits.{limit_of_setting};
 ghost use Rattle.blocking_laws.specs.Counts.{workers, idle};
 ghost use Rattle.blocking_laws.specs.Growth.{IsMarked, known_limit};
 ghost use Rattle.blocking_laws.specs.Legal.{Legal};

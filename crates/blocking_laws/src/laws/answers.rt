@@ -1,8 +1,8 @@
 //! What the pool answers.
 ghost use Rattle.std.specs.Prelude.{◌≡◌, ◌+◌, List, [], length, Some, None, true, false};
-ghost use Rattle.blocking_core.specs.declared.pool.answer.Refusal.TheVariants.{Memory, Numbers};
-ghost use Rattle.blocking_core.specs.declared.pool.answer.Woke.TheVariants.{Entered, Marked, Nothing};
-ghost use Rattle.blocking_core.specs.declared.pool.standing.Standing.TheVariants.{Queued, Parked, Done, Dropped};
+ghost use Rattle.blocking_pool.specs.declared.pool.answer.Refusal.TheVariants.{Memory, Numbers};
+ghost use Rattle.blocking_pool.specs.declared.pool.answer.Woke.TheVariants.{Entered, Marked, Nothing};
+ghost use Rattle.blocking_pool.specs.declared.pool.standing.Standing.TheVariants.{Queued, Parked, Done, Dropped};
 ghost use Rattle.blocking_laws.specs.Core.{greatest};
 ghost use Rattle.blocking_laws.specs.Jobs.{accepted_jobs};
 ghost use Rattle.blocking_laws.specs.Queue.{InOrder};

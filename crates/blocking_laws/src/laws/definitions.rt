@@ -1,8 +1,8 @@
 //! What the definitions say of short traces.
 ghost use Rattle.std.specs.Prelude.{◌≡◌, [], ◌∷◌, Some, None, true, false};
-ghost use Rattle.blocking_core.specs.declared.pool.answer.Refusal.TheVariants.{Memory};
-ghost use Rattle.blocking_core.specs.declared.pool.answer.Woke.TheVariants.{Entered, Marked, Nothing};
-ghost use Rattle.blocking_core.specs.declared.pool.standing.Standing.TheVariants.{Queued, Running, Parked, Done, Dropped};
+ghost use Rattle.blocking_pool.specs.declared.pool.answer.Refusal.TheVariants.{Memory};
+ghost use Rattle.blocking_pool.specs.declared.pool.answer.Woke.TheVariants.{Entered, Marked, Nothing};
+ghost use Rattle.blocking_pool.specs.declared.pool.standing.Standing.TheVariants.{Queued, Running, Parked, Done, Dropped};
 ghost use Rattle.blocking_laws.specs.Core.{is_due, limit_after, wake_of, cancel_of};
 ghost use Rattle.blocking_laws.specs.Seen.{events, task_cut};
 ghost use Rattle.blocking_laws.specs.Seats.{task_seat};

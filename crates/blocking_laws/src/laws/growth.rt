@@ -1,8 +1,8 @@
 //! Growth: which starts there are.
 ghost use Rattle.std.specs.Prelude.{◌≡◌, ℕ, Bool, List, [], ◌∷◌, Some, None, true, false};
-ghost use Rattle.blocking_core.specs.declared.pool.answer.Refusal.TheVariants.{Memory, NoWorker};
-ghost use Rattle.blocking_core.specs.declared.pool.standing.Standing.TheVariants.{Queued};
-ghost use Rattle.blocking_core.specs.declared.pool.answer.Woke.TheVariants.{Entered};
+ghost use Rattle.blocking_pool.specs.declared.pool.answer.Refusal.TheVariants.{Memory, NoWorker};
+ghost use Rattle.blocking_pool.specs.declared.pool.standing.Standing.TheVariants.{Queued};
+ghost use Rattle.blocking_pool.specs.declared.pool.answer.Woke.TheVariants.{Entered};
 ghost use Rattle.blocking_laws.specs.Growth.{GrowthLaw};
 ghost use Rattle.blocking_laws.specs.Served.{IsServed, last_refused};
 ghost use Rattle.blocking_laws.specs.Legal.{Legal};

@@ -1,6 +1,6 @@
 //! Steps and their events.
 ghost use Rattle.std.specs.Prelude.{[], ◌∷◌, Some, None, true, false};
-ghost use Rattle.blocking_core.specs.declared.pool.answer.Woke.TheVariants.{Marked, Nothing};
+ghost use Rattle.blocking_pool.specs.declared.pool.answer.Woke.TheVariants.{Marked, Nothing};
 ghost use Rattle.blocking_laws.specs.Steps.{StepLaw};
 ghost use Rattle.blocking_laws.specs.Legal.{Legal};
 ghost use Rattle.blocking_laws.specs.Traces.{◌▸◌, moment, starting, of_owner, Refuses};

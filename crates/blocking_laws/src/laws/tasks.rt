@@ -1,6 +1,6 @@
 //! Tasks and the jobs of their calls.
 ghost use Rattle.std.specs.Prelude.{◌≡◌, ℕ, List, [], Some, None, true, false};
-ghost use Rattle.blocking_core.specs.declared.pool.standing.Standing.TheVariants.{Parked, Done, Dropped};
+ghost use Rattle.blocking_pool.specs.declared.pool.standing.Standing.TheVariants.{Parked, Done, Dropped};
 ghost use Rattle.blocking_laws.specs.Seen.{is_some_worker};
 ghost use Rattle.blocking_laws.specs.Turns.{is_giving_up};
 ghost use Rattle.blocking_laws.specs.TaskLaws.{TaskLaw};

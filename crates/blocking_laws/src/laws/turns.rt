@@ -1,7 +1,7 @@
 //! Turns: which worker has which job in hand, and what the job may do there.
 ghost use Rattle.std.specs.Prelude.{◌≡◌, [], Some, None, false, true};
-ghost use Rattle.blocking_core.specs.declared.pool.standing.Standing.TheVariants.{Done};
-ghost use Rattle.blocking_core.specs.declared.pool.answer.Woke.TheVariants.{Entered};
+ghost use Rattle.blocking_pool.specs.declared.pool.standing.Standing.TheVariants.{Done};
+ghost use Rattle.blocking_pool.specs.declared.pool.answer.Woke.TheVariants.{Entered};
 ghost use Rattle.blocking_laws.specs.Staffed.{IsStaffed, passes, turns, unarrived};
 ghost use Rattle.blocking_laws.specs.Turns.{TurnLaw};
 ghost use Rattle.blocking_laws.specs.Legal.{Legal};

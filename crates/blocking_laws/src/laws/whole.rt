@@ -16,7 +16,7 @@ ghost use Rattle.blocking_laws.specs.declared.event.Party.TheVariants.{Task, Wor
 ghost use Rattle.blocking_laws.specs.declared.step.Answer.TheVariants.{Number};
 ghost use Rattle.blocking_laws.specs.declared.step.Step.TheVariants.{Spawn, OfTask, Arrive, Take, Job, Io, End, Late};
 ghost use Rattle.blocking_laws.specs.declared.step.TaskCall.TheVariants.{Poll};
-ghost use Rattle.blocking_core.specs.declared.pool.standing.Standing.TheVariants.{Done};
+ghost use Rattle.blocking_pool.specs.declared.pool.standing.Standing.TheVariants.{Done};
 
 /// A past is legal exactly where the laws hold at every beginning of it. `Legal` says so step by step: each moment may follow
 /// those before it.

@@ -1,4 +1,4 @@
-use Rattle.blocking_core.specs.Starters.{asked}
+use Rattle.blocking_pool.specs.Starters.{asked}
 use Rattle.blocking.proofs.Weaker.{takes_weaker}
 use Rattle.blocking.proofs.held.Held.after_wait.Goals as goal
 

@@ -1,6 +1,6 @@
 use Rattle.std.proofs.Common.{◌≡◌, length, ap, ◌∙◌, refl, arith}
-use Rattle.blocking_core.specs.Counts.{limit_of}
-use Rattle.blocking_core.specs.Starters.{asked}
+use Rattle.blocking_pool.specs.Counts.{limit_of}
+use Rattle.blocking_pool.specs.Starters.{asked}
 use Rattle.blocking_world.specs.Worlds.{CallPool}
 use Rattle.blocking_world.proofs.Growing.{IsRead, read_as, accepts, entered_numbers, finds_no_worker, unstaffed_next, unstaffed_setting}
 use Rattle.blocking_world.proofs.crew.Crew.add.Goals as goal

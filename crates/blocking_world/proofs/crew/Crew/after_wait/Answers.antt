@@ -1,5 +1,5 @@
 use Rattle.std.proofs.Common.{ap, ◌∙◌, sym}
-use Rattle.blocking_core.specs.Starters.{asked}
+use Rattle.blocking_pool.specs.Starters.{asked}
 use Rattle.blocking_world.specs.Worlds.{CallPool}
 use Rattle.blocking_world.proofs.Unparked.{waits_plainly, waited_counts}
 use Rattle.blocking_world.proofs.crew.Crew.after_wait.Goals as goal

@@ -1,5 +1,5 @@
 use Rattle.std.proofs.Common.{◌≡◌, ap, ◌∙◌, arith}
-use Rattle.blocking_core.specs.Starters.{asked}
+use Rattle.blocking_pool.specs.Starters.{asked}
 use Rattle.blocking_world.specs.Worlds.{CallPool}
 use Rattle.blocking_world.proofs.Growing.{read_as, took_so}
 use Rattle.blocking_world.proofs.crew.Crew.take.Goals as goal

@@ -1,5 +1,5 @@
 use Rattle.std.proofs.Common.{option_map, reverse, subst, sym}
-use Rattle.blocking_core.specs.Limits.{limit_of_setting}
+use Rattle.blocking_pool.specs.Limits.{limit_of_setting}
 use Rattle.blocking_world.specs.Ties.{IsLawful}
 use Rattle.blocking_world.proofs.Beginning.{begun, positive_limit}
 use Rattle.blocking_world.proofs.world.World.new.Goals as goal

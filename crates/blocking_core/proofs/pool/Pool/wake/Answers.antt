@@ -1,8 +1,0 @@
-use Rattle.std.proofs.Common.{refl}
-use Rattle.blocking_core.specs.Jobs.{woken}
-use Rattle.blocking_core.proofs.PoolLemmas.{marked_whole}
-use Rattle.blocking_core.proofs.pool.Pool.wake.Goals as goal
-
-pub invariant_of-self : goal.invariant_of-self
-invariant_of-self g c =
-    marked_whole c.self.inside.table c.mark_woken.new.self c.self.inside.counts c.self.inside.next_serial c.spend-no.result.serial woken (λ j. refl) c.self.invariant c.mark_woken.ensures

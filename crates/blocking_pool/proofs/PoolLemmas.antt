@@ -1,0 +1,736 @@
+-- What each call of a pool keeps.
+use Rattle.std.proofs.Common.{◌≡◌, ◌≢◌, ℕ, zero, suc, ◌+◌, ◌-◌, ◌<◌, ◌≤◌, Bool, true, false, cond, not, eqb, ◌||◌, ◌&&◌, List, [], ◌∷◌, ◌++◌, length, filter, Option, Some, None, is_some, option_map, OnSome, refl, sym, ap, ◌∙◌, subst, inl, inr, arith, add-one}
+use Rattle.std.proofs.lemmas.Bool.{eqb-true, eq-eqb, ne_eqb, cases_eq, cases_lt, or_right, and_parts, false≢true}
+use Rattle.std.proofs.Math.Bool.{and-false, and-true}
+use Rattle.std.proofs.lemmas.List.{append-nil, append_assoc, length-append}
+use Rattle.std.proofs.lemmas.List.Elements.{filter_agree, filter-append}
+use Rattle.std.specs.FinMap.{get, insert, remove, empty, get-empty}
+use Rattle.std.specs.Ordering.{nat_cmp}
+use Rattle.blocking_pool.specs.Lists.{is_in, IsOnce, without}
+use Rattle.blocking_pool.specs.Sweeps.{AreAsked, is_due, swept, serials_below}
+use Rattle.blocking_pool.specs.Tables.{Table, Becomes, TakesFirst, SweepsAll, IsRollOf, IsWhole}
+use Rattle.blocking_pool.specs.PoolAnswers.{Sweeps, SweepsTo, StaysOrStops, Waits}
+use Rattle.blocking_pool.specs.declared.pool.answer.Waited.{Waited}
+use Rattle.blocking_pool.specs.declared.pool.table.Front.{Front}
+use Rattle.blocking_pool.specs.Jobs.{Job, Jobs, JobNumber, is_queued, is_running, is_parked, new_job, running, is_running_job, is_parked_job, one_if, running_below, is_running_as, job_of, standing_of, changed, amend, queued_again, parked_with, cancelled, valued, all_queued_again}
+use Rattle.blocking_pool.specs.Counts.{Counts, busier, freer, rung, AreInOrder}
+use Rattle.blocking_pool.specs.Growth.{Asking, RefusesNone, Growth, Grows, grown}
+use Rattle.blocking_pool.specs.Pools.{Pool, is_queued_job, IsSound, EnterAgain, with_job, empty_pool}
+use Rattle.blocking_pool.specs.TableLends.{IfLent}
+use Rattle.blocking_pool.specs.declared.pool.standing.Standing.{Standing}
+use Rattle.blocking_pool.specs.declared.pool.standing.Standing.TheVariants.{Running, Parked}
+use Rattle.blocking_pool.specs.declared.pool.bell.BellKind.TheVariants.{One}
+use Rattle.blocking_pool.proofs.Lists.{by_eq, is_in-first, is_in-last, is_in-push, IsOnce-push, length-le_below}
+use Rattle.blocking_pool.proofs.Standings.{queued_is, running_is, standing_job, running_job, parked_job}
+use Rattle.blocking_pool.proofs.SweepLemmas.{filter_same, job_of_found, job_of_amend, at_changed}
+use Rattle.blocking_pool.proofs.TableLemmas.{at_insert_same, at_insert_other, at_remove_same, at_remove_other, amend_found}
+
+-- a growth keeps the order of the counts, and the number of those that run a job
+pub grown_order : (counts : Counts) (growth : Growth) → AreInOrder counts → AreInOrder (grown counts growth)
+grown_order counts growth order = record { arriving = omega (arith, order.arriving); idle = omega (arith, order.idle) }
+
+-- two tests, one after the other
+filter_twice : (p q r : ℕ → Bool) (xs : List ℕ) → ((x : ℕ) → r x ≡ (p x && q x)) → filter q (filter p xs) ≡ filter r xs
+filter_twice p q r [] both = refl
+filter_twice p q r (x ∷ xs) both =
+    let rest = filter_twice p q r xs both in
+    by_test (p x) rest ∙ ap (λ b. cond b (x ∷ filter r xs) (filter r xs)) (sym (both x))
+  where
+    by_test : (b : Bool) → filter q (filter p xs) ≡ filter r xs → filter q (cond b (x ∷ filter p xs) (filter p xs)) ≡ cond (b && q x) (x ∷ filter r xs) (filter r xs)
+    by_test true rest = ap (λ ys. cond (q x) (x ∷ ys) ys) rest
+    by_test false rest = rest
+
+-- the serials below one are below it
+below : (s next : ℕ) → is_in s (serials_below next) ≡ true → s < next
+below s zero found = absurd (false≢true found)
+below s (suc next) found =
+    elim (cases_eq s next) [
+      | inl same ↦ omega (arith, same)
+      | inr far ↦
+          let rest = sym (is_in-push s next (serials_below next) far) ∙ found in
+          omega (arith, below s next rest)
+    ]
+
+-- each serial below one stands among them
+pub stands_below : (s next : ℕ) → s < next → is_in s (serials_below next) ≡ true
+stands_below s zero is = absurd (omega arith)
+stands_below s (suc next) is =
+    elim (cases_eq s next) [
+      | inl same ↦ is_in-last s next (serials_below next) same
+      | inr far ↦ is_in-push s next (serials_below next) far ∙ stands_below s next (omega (arith, far))
+    ]
+
+once_below : (next : ℕ) → IsOnce (serials_below next)
+once_below zero = tt
+once_below (suc next) = IsOnce-push (serials_below next) next (once_below next) (absent (is_in next (serials_below next)) refl)
+  where
+    absent : (b : Bool) → is_in next (serials_below next) ≡ b → is_in next (serials_below next) ≡ false
+    absent false is = is
+    absent true is = absurd (omega (arith, below next next is))
+
+none_of : (serials : List ℕ) → length serials ≡ 0 → serials ≡ []
+none_of [] is = refl
+none_of (s ∷ serials) is = absurd (omega (arith, is))
+
+-- what is kept of a list stood in it, and passes the test
+pub kept_in : (p : ℕ → Bool) (s : ℕ) (xs : List ℕ) → is_in s (filter p xs) ≡ true → (is_in s xs ≡ true) × (p s ≡ true)
+kept_in p s [] found = absurd (false≢true found)
+kept_in p s (x ∷ xs) found = by_test (p x) refl found (λ f. kept_in p s xs f)
+  where
+    by_test : (b : Bool) → p x ≡ b → is_in s (cond b (x ∷ filter p xs) (filter p xs)) ≡ true → (is_in s (filter p xs) ≡ true → (is_in s xs ≡ true) × (p s ≡ true)) → (is_in s (x ∷ xs) ≡ true) × (p s ≡ true)
+    by_test true is f rest =
+        by_eq s x (λ b. (b || is_in s (filter p xs)) ≡ true → ((b || is_in s xs) ≡ true) × (p s ≡ true))
+        (λ same g. (refl, ap p same ∙ is)) (λ far g. rest g) f
+    by_test false is f rest = (or_right (eqb s x) (is_in s xs) (rest f).0, (rest f).1)
+
+-- what stands in a list and passes the test is kept
+pub in_kept : (p : ℕ → Bool) (s : ℕ) (xs : List ℕ) → is_in s xs ≡ true → p s ≡ true → is_in s (filter p xs) ≡ true
+in_kept p s [] found is = absurd (false≢true found)
+in_kept p s (x ∷ xs) found is = by_test (p x) refl found (λ f. in_kept p s xs f is)
+  where
+    by_test : (b : Bool) → p x ≡ b → is_in s (x ∷ xs) ≡ true → (is_in s xs ≡ true → is_in s (filter p xs) ≡ true) → is_in s (cond b (x ∷ filter p xs) (filter p xs)) ≡ true
+    by_test true here f rest =
+        by_eq s x (λ b. (b || is_in s xs) ≡ true → (b || is_in s (filter p xs)) ≡ true) (λ same g. refl) (λ far g. rest g) f
+    by_test false here f rest =
+        by_eq s x (λ b. (b || is_in s xs) ≡ true → is_in s (filter p xs) ≡ true) (λ same g. absurd (false≢true (sym here ∙ ap p (sym same) ∙ is))) (λ far g. rest g) f
+
+pub once_kept : (p : ℕ → Bool) (xs : List ℕ) → IsOnce xs → IsOnce (filter p xs)
+once_kept p [] once = tt
+once_kept p (x ∷ xs) once = by_test (p x) (once_kept p xs once.1)
+  where
+    absent : (b : Bool) → is_in x (filter p xs) ≡ b → is_in x (filter p xs) ≡ false
+    absent false is = is
+    absent true is = absurd (false≢true (sym once.0 ∙ (kept_in p x xs is).0))
+
+    by_test : (b : Bool) → IsOnce (filter p xs) → IsOnce (cond b (x ∷ filter p xs) (filter p xs))
+    by_test true rest = (absent (is_in x (filter p xs)) refl, rest)
+    by_test false rest = rest
+
+module _ {J : Type 0} where
+  -- jobs that differ at one serial
+  same_below : (old new : Jobs J) (serial next : ℕ) → ((other : ℕ) → other ≢ serial → get new other ≡ get old other) → next ≤ serial → running_below new next ≡ running_below old next
+  same_below old new serial zero same below = refl
+  same_below old new serial (suc next) same below =
+      let rest = same_below old new serial next same (omega arith) in
+      let here = ap is_running_job (same next (λ e. omega arith)) in
+      cc
+
+  pub counted_below : (old new : Jobs J) (serial next : ℕ) → ((other : ℕ) → other ≢ serial → get new other ≡ get old other) → serial < next
+      → running_below new next + one_if (is_running_job (get old serial)) ≡ running_below old next + one_if (is_running_job (get new serial))
+  counted_below old new serial zero same below = absurd (omega arith)
+  counted_below old new serial (suc next) same below =
+      elim (cases_eq next serial) [
+        | inl here ↦
+            let rest = same_below old new serial next same (omega arith) in
+            let was = ap (λ s. one_if (is_running_job (get old s))) here in
+            let is = ap (λ s. one_if (is_running_job (get new s))) here in
+            omega (arith, rest, was, is)
+        | inr far ↦
+            let rest = counted_below old new serial next same (omega arith) in
+            let here = ap (λ j. one_if (is_running_job j)) (same next far) in
+            omega (arith, rest, here)
+      ]
+
+  -- a running job is counted
+  pub some_below : (jobs : Jobs J) (serial next : ℕ) → serial < next → is_running_job (get jobs serial) ≡ true → 0 < running_below jobs next
+  some_below jobs serial zero below runs = absurd (omega arith)
+  some_below jobs serial (suc next) below runs =
+      elim (cases_eq next serial) [
+        | inl here ↦
+            let one : one_if (is_running_job (get jobs next)) ≡ 1 = ap (λ s. one_if (is_running_job (get jobs s))) here ∙ ap (λ b. one_if b) runs in
+            omega (arith, one)
+        | inr far ↦ omega (arith, some_below jobs serial next (omega arith) runs)
+      ]
+
+  -- a queued job's serial was used
+  pub queued_below : (pool : Pool J) → IsSound pool → (serial : ℕ) → is_in serial pool.queue ≡ true → serial < pool.next_serial
+  queued_below pool sound serial queued =
+      elim (cases_lt serial pool.next_serial) [
+        | inl below ↦ below
+        | inr past ↦ absurd (false≢true (sym (ap is_queued_job (sound.unused serial past)) ∙ sym (sound.queue.each serial) ∙ queued))
+      ]
+
+  -- the queue is no longer than there were serials
+  pub queue_within : (pool : Pool J) → IsSound pool → length pool.queue ≤ pool.next_serial
+  queue_within pool sound = length-le_below pool.queue pool.next_serial sound.queue.once (queued_below pool sound)
+
+  pub empty_sound : (setting serial worker : ℕ) → IsSound {J = J} (empty_pool setting serial worker)
+  empty_sound setting serial worker =
+      record {
+        queue = record { once = tt; each = λ s. sym (ap is_queued_job (get-empty nat_cmp s)) };
+        running = omega (arith, none_below serial);
+        order = record { arriving = omega arith; idle = omega arith };
+        unused = λ s past. get-empty nat_cmp s;
+      }
+    where
+      none_below : (next : ℕ) → running_below {J = J} empty next ≡ 0
+      none_below zero = refl
+      none_below (suc next) =
+          let rest = none_below next in
+          let here : one_if (is_running_job {J = J} (get empty next)) ≡ 0 = ap (λ j. one_if (is_running_job j)) (get-empty nat_cmp next) in
+          omega (arith, rest, here)
+
+  pub grown_sound : (pool : Pool J) (growth : Growth) → IsSound pool → IsSound (record pool { counts = grown pool.counts growth })
+  grown_sound pool growth sound =
+      record { queue = sound.queue; running = omega (arith, sound.running); order = grown_order pool.counts growth sound.order; unused = sound.unused }
+
+  pub rung_sound : (pool : Pool J) → IsSound pool → IsSound (record pool { counts = rung One pool.counts })
+  rung_sound pool sound =
+      record { queue = sound.queue; running = sound.running; order = record { arriving = sound.order.arriving; idle = sound.order.idle }; unused = sound.unused }
+
+  -- a new job at the queue's end
+  pub entered_sound : (pool : Pool J) (place : ℕ) (value : J) → IsSound pool
+      → IsSound (record { queue = pool.queue ++ pool.next_serial ∷ []; jobs = insert pool.jobs pool.next_serial (new_job place value); counts = pool.counts; next_serial = pool.next_serial + 1 })
+  entered_sound pool place value sound =
+      record {
+        queue = record {
+          once = IsOnce-push pool.queue serial sound.queue.once absent;
+          each = λ s. elim (cases_eq s serial) [
+            | inl same ↦ is_in-last s serial pool.queue same ∙ sym (ap is_queued_job (ap (get jobs) same ∙ at_insert_same pool.jobs serial (new_job place value)))
+            | inr far ↦ is_in-push s serial pool.queue far ∙ sound.queue.each s ∙ sym (ap is_queued_job (at_insert_other pool.jobs serial (new_job place value) s far))
+          ];
+        };
+        running =
+            let counted = counted_below pool.jobs jobs serial (serial + 1) others (omega arith) in
+            let fresh : one_if (is_running_job (get pool.jobs serial)) ≡ 0 = ap (λ j. one_if (is_running_job j)) none in
+            let queued : one_if (is_running_job (get jobs serial)) ≡ 0 = ap (λ j. one_if (is_running_job j)) (at_insert_same pool.jobs serial (new_job place value)) in
+            let more : running_below pool.jobs (serial + 1) ≡ running_below pool.jobs serial = ap (running_below pool.jobs) (add-one serial) ∙ omega (arith, fresh) in
+            omega (arith, sound.running, counted, fresh, queued, more);
+        order = sound.order;
+        unused = λ s past. at_insert_other pool.jobs serial (new_job place value) s (λ e. omega arith) ∙ sound.unused s (omega arith);
+      }
+    where
+      serial : ℕ
+      serial = pool.next_serial
+
+      jobs : Jobs J
+      jobs = insert pool.jobs pool.next_serial (new_job place value)
+
+      none : get pool.jobs serial ≡ None
+      none = sound.unused serial (omega arith)
+
+      others : (other : ℕ) → other ≢ serial → get jobs other ≡ get pool.jobs other
+      others = at_insert_other pool.jobs serial (new_job place value)
+
+      absent : is_in serial pool.queue ≡ false
+      absent = sound.queue.each serial ∙ ap is_queued_job none
+
+  -- the front job is taken up by an idle worker
+  pub taken_sound : (pool : Pool J) (serial : ℕ) (rest : List ℕ) (job : Job J) → pool.queue ≡ serial ∷ rest → get pool.jobs serial ≡ Some job → pool.counts.arriving < pool.counts.idle → IsSound pool
+      → IsSound (record { queue = rest; jobs = insert pool.jobs serial (running job); counts = busier pool.counts; next_serial = pool.next_serial })
+  taken_sound pool serial rest job front found free sound =
+      record {
+        queue = record {
+          once = once.1;
+          each = λ s. elim (cases_eq s serial) [
+            | inl same ↦ ap (λ n. is_in n rest) same ∙ once.0 ∙ sym (ap is_queued_job (ap (get jobs) same ∙ at_insert_same pool.jobs serial (running job)))
+            | inr far ↦ sym (ap (λ b. b || is_in s rest) (ne_eqb s serial far)) ∙ ap (is_in s) (sym front) ∙ sound.queue.each s
+                ∙ sym (ap is_queued_job (at_insert_other pool.jobs serial (running job) s far))
+          ];
+        };
+        running =
+            let counted = counted_below pool.jobs jobs serial pool.next_serial (at_insert_other pool.jobs serial (running job)) below in
+            let one : one_if (is_running_job (get jobs serial)) ≡ 1 = ap (λ j. one_if (is_running_job j)) (at_insert_same pool.jobs serial (running job)) in
+            omega (arith, sound.running, counted, waited, one, free);
+        order = record { arriving = omega (arith, free); idle = omega (arith, sound.order.idle) };
+        unused = λ s past. at_insert_other pool.jobs serial (running job) s (λ e. omega (arith, below)) ∙ sound.unused s past;
+      }
+    where
+      jobs : Jobs J
+      jobs = insert pool.jobs serial (running job)
+
+      once : IsOnce (serial ∷ rest)
+      once = subst IsOnce front sound.queue.once
+
+      queued : is_in serial pool.queue ≡ true
+      queued = ap (is_in serial) front ∙ is_in-first serial rest
+
+      below : serial < pool.next_serial
+      below = queued_below pool sound serial queued
+
+      waited : one_if (is_running_job (get pool.jobs serial)) ≡ 0
+      waited = idle (get pool.jobs serial) (sym (sound.queue.each serial) ∙ queued)
+        where
+          idle : (j : Option (Job J)) → is_queued_job j ≡ true → one_if (is_running_job j) ≡ 0
+          idle None q = absurd (false≢true q)
+          idle (Some j) q = ap (λ s. one_if (is_running s)) (queued_is j.standing q)
+
+  -- the number of a running job names a running job
+  runs_running : (jobs : Jobs J) (number : JobNumber) → is_running_as jobs number ≡ true → is_running_job (get jobs number.serial) ≡ true
+  runs_running jobs number runs =
+      let job = running_job (job_of jobs number) runs in
+      ap is_running_job ((job_of_found jobs number job.0 job.1).0) ∙ ap (λ s. is_running s) job.2
+
+  not_queued : (job : Option (Job J)) → is_running_job job ≡ true → is_queued_job job ≡ false
+  not_queued None runs = refl
+  not_queued (Some job) runs = ap is_queued (running_is job.standing runs)
+
+  running_used : (pool : Pool J) (serial : ℕ) → IsSound pool → is_running_job (get pool.jobs serial) ≡ true → serial < pool.next_serial
+  running_used pool serial sound runs =
+      elim (cases_lt serial pool.next_serial) [
+        | inl below ↦ below
+        | inr past ↦ absurd (false≢true (sym (ap is_running_job (sound.unused serial past)) ∙ runs))
+      ]
+
+  -- where a job runs, a worker isn't idle
+  pub running_busy : (pool : Pool J) (number : JobNumber) → IsSound pool → is_running_as pool.jobs number ≡ true → pool.counts.idle < pool.counts.workers
+  running_busy pool number sound runs =
+      let runs_there = runs_running pool.jobs number runs in
+      omega (arith, sound.running, some_below pool.jobs number.serial pool.next_serial (running_used pool number.serial sound runs_there) runs_there)
+
+  -- a running job leaves
+  pub removed_sound : (pool : Pool J) (number : JobNumber) → is_running_as pool.jobs number ≡ true → IsSound pool
+      → IsSound (record { queue = pool.queue; jobs = remove pool.jobs number.serial; counts = freer pool.counts; next_serial = pool.next_serial })
+  removed_sound pool number runs sound =
+      record {
+        queue = record {
+          once = sound.queue.once;
+          each = λ s. elim (cases_eq s serial) [
+            | inl same ↦ ap (λ n. is_in n pool.queue) same ∙ sound.queue.each serial ∙ not_queued (get pool.jobs serial) runs_there
+                ∙ sym (ap is_queued_job (ap (get jobs) same ∙ gone))
+            | inr far ↦ sound.queue.each s ∙ sym (ap is_queued_job (at_remove_other pool.jobs serial s far))
+          ];
+        };
+        running =
+            let counted = counted_below pool.jobs jobs serial pool.next_serial (at_remove_other pool.jobs serial) (running_used pool serial sound runs_there) in
+            let one : one_if (is_running_job (get pool.jobs serial)) ≡ 1 = ap (λ b. one_if b) runs_there in
+            let none : one_if (is_running_job (get jobs serial)) ≡ 0 = ap (λ j. one_if (is_running_job j)) gone in
+            omega (arith, sound.running, counted, one, none);
+        order = record { arriving = omega (arith, sound.order.arriving); idle = omega (arith, running_busy pool number sound runs) };
+        unused = λ s past. elim (cases_eq s serial) [
+          | inl same ↦ ap (get jobs) same ∙ gone
+          | inr far ↦ at_remove_other pool.jobs serial s far ∙ sound.unused s past
+        ];
+      }
+    where
+      serial : ℕ
+      serial = number.serial
+
+      jobs : Jobs J
+      jobs = remove pool.jobs number.serial
+
+      runs_there : is_running_job (get pool.jobs number.serial) ≡ true
+      runs_there = runs_running pool.jobs number runs
+
+      gone : get jobs serial ≡ None
+      gone = at_remove_same pool.jobs number.serial
+
+  -- jobs that run in the one and in the other
+  running_same : (old new : Jobs J) (next : ℕ) → ((s : ℕ) → is_running_job (get new s) ≡ is_running_job (get old s)) → running_below new next ≡ running_below old next
+  running_same old new zero same = refl
+  running_same old new (suc next) same =
+      let rest = running_same old new next same in
+      let here = ap one_if (same next) in
+      omega (arith, rest, here)
+
+  -- a job of this serial changes, and no other
+  pub amend_same : (jobs : Jobs J) (serial : ℕ) (change : Job J → Job J) (job : Job J) → get jobs serial ≡ Some job → get (amend jobs serial change) serial ≡ Some (change job)
+  amend_same jobs serial change job found = ap (λ js. get js serial) (amend_found jobs serial change job found) ∙ at_insert_same jobs serial (change job)
+
+  pub amend_other : (jobs : Jobs J) (serial : ℕ) (change : Job J → Job J) (other : ℕ) → other ≢ serial → get (amend jobs serial change) other ≡ get jobs other
+  amend_other jobs serial change other differs = at_changed jobs serial other change differs
+
+  -- what is said of each job, where one changes for which it is said too
+  amend_each : (P : Option (Job J) → Option (Job J) → Type 0) (jobs : Jobs J) (serial : ℕ) (change : Job J → Job J) → ((j : Option (Job J)) → P j j) → ((j : Job J) → P (Some (change j)) (Some j)) → (s : ℕ) → P (get (amend jobs serial change) s) (get jobs s)
+  amend_each P jobs serial change alike changes s = by_job (get jobs serial) refl
+    where
+      by_job : (found : Option (Job J)) → get jobs serial ≡ found → P (get (amend jobs serial change) s) (get jobs s)
+      by_job None there = subst (λ js. P (get js s) (get jobs s)) (sym (ap (changed jobs serial change) there)) (alike (get jobs s))
+      by_job (Some job) there =
+          elim (cases_eq s serial) [
+            | inl same ↦ subst (λ n. P (get (amend jobs serial change) n) (get jobs n)) (sym same)
+                (subst (λ j. P j (get jobs serial)) (sym (amend_same jobs serial change job there)) (subst (P (Some (change job))) (sym there) (changes job)))
+            | inr differs ↦ subst (λ j. P j (get jobs s)) (sym (amend_other jobs serial change s differs)) (alike (get jobs s))
+          ]
+
+  -- the same serials have jobs
+  pub amend_there : (jobs : Jobs J) (serial : ℕ) (change : Job J → Job J) (s : ℕ) → is_some (get (amend jobs serial change) s) ≡ is_some (get jobs s)
+  amend_there jobs serial change = amend_each (λ new old. is_some new ≡ is_some old) jobs serial change (λ j. refl) (λ j. refl)
+
+  none_there : (j : Option (Job J)) → is_some j ≡ false → j ≡ None
+  none_there None is = refl
+  none_there (Some j) is = absurd (false≢true (sym is))
+
+  -- a job changes, and stands as it did
+  pub marked_sound : (pool : Pool J) (serial : ℕ) (change : Job J → Job J) → ((j : Job J) → (change j).standing ≡ j.standing) → IsSound pool → IsSound (record pool { jobs = amend pool.jobs serial change })
+  marked_sound pool serial change alike sound =
+      record {
+        queue = record {
+          once = sound.queue.once;
+          each = λ s. sound.queue.each s ∙ sym (amend_each (λ new old. is_queued_job new ≡ is_queued_job old) pool.jobs serial change (λ j. refl) (λ j. ap is_queued (alike j)) s);
+        };
+        running = sound.running ∙ ap (λ n. pool.counts.idle + n) (sym (running_same pool.jobs (amend pool.jobs serial change) pool.next_serial
+            (amend_each (λ new old. is_running_job new ≡ is_running_job old) pool.jobs serial change (λ j. refl) (λ j. ap is_running (alike j)))));
+        order = sound.order;
+        unused = λ s past. none_there _ (amend_there pool.jobs serial change s ∙ ap is_some (sound.unused s past));
+      }
+
+  -- a parked job stands at the queue's end
+  again_sound : (pool : Pool J) (serial : ℕ) (job : Job J) → get pool.jobs serial ≡ Some job → job.standing ≡ Parked → IsSound pool
+      → IsSound (record pool { queue = pool.queue ++ serial ∷ []; jobs = amend pool.jobs serial queued_again })
+  again_sound pool serial job found parked sound =
+      record {
+        queue = record {
+          once = IsOnce-push pool.queue serial sound.queue.once (sound.queue.each serial ∙ ap is_queued_job found ∙ ap is_queued parked);
+          each = λ s. elim (cases_eq s serial) [
+            | inl same ↦ is_in-last s serial pool.queue same ∙ sym (ap is_queued_job (ap (get (amend pool.jobs serial queued_again)) same ∙ amend_same pool.jobs serial queued_again job found))
+            | inr far ↦ is_in-push s serial pool.queue far ∙ sound.queue.each s ∙ sym (ap is_queued_job (amend_other pool.jobs serial queued_again s far))
+          ];
+        };
+        running = sound.running ∙ ap (λ n. pool.counts.idle + n) (sym (running_same pool.jobs (amend pool.jobs serial queued_again) pool.next_serial (λ s. elim (cases_eq s serial) [
+          | inl same ↦ ap is_running_job (ap (get (amend pool.jobs serial queued_again)) same ∙ amend_same pool.jobs serial queued_again job found)
+              ∙ sym (ap is_running_job (ap (get pool.jobs) same ∙ found) ∙ ap is_running parked)
+          | inr far ↦ ap is_running_job (amend_other pool.jobs serial queued_again s far)
+        ])));
+        order = sound.order;
+        unused = λ s past. none_there _ (amend_there pool.jobs serial queued_again s ∙ ap is_some (sound.unused s past));
+      }
+
+  -- parked jobs stand at the queue's end
+  pub requeued_sound : (pool : Pool J) (serials : List ℕ) → IsOnce serials → ((s : ℕ) → is_in s serials ≡ true → is_parked_job (get pool.jobs s) ≡ true) → IsSound pool
+      → IsSound (record pool { queue = pool.queue ++ serials; jobs = all_queued_again pool.jobs serials })
+  requeued_sound pool [] once parked sound = subst (λ queue. IsSound (record pool { queue = queue })) (sym (append-nil pool.queue)) sound
+  requeued_sound pool (serial ∷ serials) once parked sound =
+      let job = parked_job (get pool.jobs serial) (parked serial (is_in-first serial serials)) in
+      subst (λ queue. IsSound (record pool { queue = queue; jobs = all_queued_again (amend pool.jobs serial queued_again) serials })) (append_assoc pool.queue (serial ∷ []) serials)
+      (requeued_sound (record pool { queue = pool.queue ++ serial ∷ []; jobs = amend pool.jobs serial queued_again }) serials once.1
+      (λ s found.
+      let far : s ≢ serial = λ e. false≢true (sym once.0 ∙ ap (λ n. is_in n serials) (sym e) ∙ found) in
+      ap is_parked_job (amend_other pool.jobs serial queued_again s far) ∙ parked s (or_right (eqb s serial) (is_in s serials) found))
+      (again_sound pool serial job.0 job.1 job.2 sound))
+
+  -- a running job waits, and its worker is free
+  pub parked_sound : (pool : Pool J) (number : JobNumber) (value : J) → is_running_as pool.jobs number ≡ true → IsSound pool
+      → IsSound (record { queue = pool.queue; jobs = amend pool.jobs number.serial (parked_with value); counts = freer pool.counts; next_serial = pool.next_serial })
+  parked_sound pool number value runs sound =
+      record {
+        queue = record {
+          once = sound.queue.once;
+          each = λ s. elim (cases_eq s serial) [
+            | inl same ↦ ap (λ n. is_in n pool.queue) same ∙ sound.queue.each serial ∙ not_queued (get pool.jobs serial) runs_there
+                ∙ sym (ap is_queued_job (ap (get jobs) same ∙ there))
+            | inr far ↦ sound.queue.each s ∙ sym (ap is_queued_job (amend_other pool.jobs serial (parked_with value) s far))
+          ];
+        };
+        running =
+            let counted = counted_below pool.jobs jobs serial pool.next_serial (amend_other pool.jobs serial (parked_with value)) (running_used pool serial sound runs_there) in
+            let one : one_if (is_running_job (get pool.jobs serial)) ≡ 1 = ap (λ b. one_if b) runs_there in
+            let none : one_if (is_running_job (get jobs serial)) ≡ 0 = ap (λ j. one_if (is_running_job j)) there in
+            omega (arith, sound.running, counted, one, none);
+        order = record { arriving = omega (arith, sound.order.arriving); idle = omega (arith, running_busy pool number sound runs) };
+        unused = λ s past. none_there _ (amend_there pool.jobs serial (parked_with value) s ∙ ap is_some (sound.unused s past));
+      }
+    where
+      serial : ℕ
+      serial = number.serial
+
+      jobs : Jobs J
+      jobs = amend pool.jobs number.serial (parked_with value)
+
+      runs_there : is_running_job (get pool.jobs number.serial) ≡ true
+      runs_there = runs_running pool.jobs number runs
+
+      job : (job : Job J) × (job_of pool.jobs number ≡ Some job) × (job.standing ≡ Running)
+      job = running_job (job_of pool.jobs number) runs
+
+      there : get jobs serial ≡ Some (parked_with value job.0)
+      there = amend_same pool.jobs number.serial (parked_with value) job.0 (job_of_found pool.jobs number job.0 job.1).0
+
+  -- which serials have jobs tells the order of acceptance
+  pub roll_same : (accepted : List ℕ) (old new : Jobs J) (next : ℕ) → ((s : ℕ) → is_some (get new s) ≡ is_some (get old s)) → IsRollOf accepted old next → IsRollOf accepted new next
+  roll_same accepted old new next same roll = roll ∙ filter_agree (λ s. is_some (get old s)) (λ s. is_some (get new s)) (λ s. sym (same s)) (serials_below next)
+
+  pub again_there : (jobs : Jobs J) (serials : List ℕ) (s : ℕ) → is_some (get (all_queued_again jobs serials) s) ≡ is_some (get jobs s)
+  again_there jobs [] s = refl
+  again_there jobs (serial ∷ serials) s = again_there (amend jobs serial queued_again) serials s ∙ amend_there jobs serial queued_again s
+
+  pub taken_there : (jobs : Jobs J) (serial : ℕ) (job is : Job J) → get jobs serial ≡ Some job → (s : ℕ) → is_some (get (insert jobs serial is) s) ≡ is_some (get jobs s)
+  taken_there jobs serial job is found s =
+      elim (cases_eq s serial) [
+        | inl same ↦ ap is_some (ap (get (insert jobs serial is)) same ∙ at_insert_same jobs serial is) ∙ sym (ap is_some (ap (get jobs) same ∙ found))
+        | inr far ↦ ap is_some (at_insert_other jobs serial is s far)
+      ]
+
+  pub roll_entered : (accepted : List ℕ) (jobs : Jobs J) (next : ℕ) (job : Job J) → IsRollOf accepted jobs next → IsRollOf (accepted ++ next ∷ []) (insert jobs next job) (next + 1)
+  roll_entered accepted jobs next job roll =
+      ap (λ ss. ss ++ next ∷ []) (roll ∙ filter_same (λ s. is_some (get jobs s)) there (serials_below next)
+      (λ s found. sym (ap is_some (at_insert_other jobs next job s (λ e. omega (arith, below s next found))))))
+      ∙ ap (λ ss. filter there (serials_below next) ++ ss) (sym (ap (λ j. cond (is_some j) (next ∷ []) []) (at_insert_same jobs next job)))
+      ∙ sym (filter-append there (serials_below next) (next ∷ []))
+      ∙ ap (λ n. filter there (serials_below n)) (sym (add-one next))
+    where
+      there : ℕ → Bool
+      there s = is_some (get (insert jobs next job) s)
+
+  pub roll_left : (accepted : List ℕ) (jobs : Jobs J) (serial next : ℕ) → IsRollOf accepted jobs next → IsRollOf (without serial accepted) (remove jobs serial) next
+  roll_left accepted jobs serial next roll = ap (without serial) roll ∙ both (serials_below next)
+    where
+      both : (ss : List ℕ) → without serial (filter (λ s. is_some (get jobs s)) ss) ≡ filter (λ s. is_some (get (remove jobs serial) s)) ss
+      both ss = filter_twice (λ s. is_some (get jobs s)) (λ s. not (eqb serial s)) (λ s. is_some (get (remove jobs serial) s)) ss at_each
+        where
+          at_each : (s : ℕ) → is_some (get (remove jobs serial) s) ≡ (is_some (get jobs s) && not (eqb serial s))
+          at_each s =
+              elim (cases_eq s serial) [
+                | inl same ↦ ap is_some (ap (get (remove jobs serial)) same ∙ at_remove_same jobs serial) ∙ sym (ap (λ b. is_some (get jobs s) && not b) (eq-eqb serial s (sym same)) ∙ and-false (is_some (get jobs s)))
+                | inr far ↦ ap is_some (at_remove_other jobs serial s far) ∙ sym (ap (λ b. is_some (get jobs s) && not b) (ne_eqb serial s (λ e. far (sym e))) ∙ and-true (is_some (get jobs s)))
+              ]
+
+  -- a sound pool, as its parts are told
+  pub sound_as : (queue row : List ℕ) (jobs others : Jobs J) (counts numbers : Counts) (next : ℕ) → row ≡ queue → others ≡ jobs → numbers ≡ counts
+      → IsSound (record { queue = queue; jobs = jobs; counts = counts; next_serial = next }) → IsSound (record { queue = row; jobs = others; counts = numbers; next_serial = next })
+  sound_as queue row jobs others counts numbers next same alike equal sound =
+      subst (λ q. IsSound (record { queue = q; jobs = others; counts = numbers; next_serial = next })) (sym same)
+      (subst (λ j. IsSound (record { queue = queue; jobs = j; counts = numbers; next_serial = next })) (sym alike)
+      (subst (λ c. IsSound (record { queue = queue; jobs = jobs; counts = c; next_serial = next })) (sym equal) sound))
+
+  -- what a table and counts keep, as their parts are told
+  pub whole_as : (table : Table J) (queue accepted : List ℕ) (jobs : Jobs J) (counts numbers : Counts) (next : ℕ) → table.queue ≡ queue → table.accepted ≡ accepted → table.jobs ≡ jobs → numbers ≡ counts
+      → IsSound (record { queue = queue; jobs = jobs; counts = counts; next_serial = next }) → IsRollOf accepted jobs next → IsWhole table numbers next
+  whole_as table queue accepted jobs counts numbers next same order alike equal sound roll =
+      record {
+        sound = sound_as queue table.queue jobs table.jobs counts numbers next same alike equal sound;
+        roll = subst (λ a. IsRollOf a table.jobs next) (sym order) (subst (λ js. IsRollOf accepted js next) (sym alike) roll);
+      }
+
+  -- the front job is taken, and the pool grows
+  pub taken_whole : (old new : Table J) (front : Front J) (counts after : Counts) (growth : Growth) (next : ℕ) → IsWhole old counts next → TakesFirst old (Some front) new → counts.arriving < counts.idle
+      → after ≡ grown (busier counts) growth → IsWhole new after next
+  taken_whole old new front counts after growth next whole takes free is =
+      whole_as new new.queue old.accepted (insert old.jobs front.no.serial (running takes.1)) (grown (busier counts) growth) after next
+      refl takes.6.accepted_is takes.6.jobs_are is
+      (grown_sound _ growth (taken_sound _ front.no.serial new.queue takes.1 takes.0 takes.2 free whole.sound))
+      (roll_same old.accepted old.jobs (insert old.jobs front.no.serial (running takes.1)) next (taken_there old.jobs front.no.serial takes.1 (running takes.1) takes.2) whole.roll)
+
+  -- a job is marked
+  pub marked_whole : (old new : Table J) (counts : Counts) (next serial : ℕ) (change : Job J → Job J) → ((j : Job J) → (change j).standing ≡ j.standing) → IsWhole old counts next
+      → Becomes old new old.queue (amend old.jobs serial change) → IsWhole new counts next
+  marked_whole old new counts next serial change alike whole becomes =
+      whole_as new old.queue old.accepted (amend old.jobs serial change) counts counts next
+      becomes.queue_is becomes.accepted_is becomes.jobs_are refl
+      (marked_sound _ serial change alike whole.sound)
+      (roll_same old.accepted old.jobs (amend old.jobs serial change) next (amend_there old.jobs serial change) whole.roll)
+
+  -- parked jobs enter again, and the pool grows
+  pub requeued_whole : (old new : Table J) (counts after : Counts) (growth : Growth) (next : ℕ) (serials : List ℕ) → IsOnce serials → ((s : ℕ) → is_in s serials ≡ true → is_parked_job (get old.jobs s) ≡ true) → IsWhole old counts next
+      → Becomes old new (old.queue ++ serials) (all_queued_again old.jobs serials) → after ≡ rung One (grown counts growth) → IsWhole new after next
+  requeued_whole old new counts after growth next serials once parked whole becomes is =
+      whole_as new (old.queue ++ serials) old.accepted (all_queued_again old.jobs serials) (rung One (grown counts growth)) after next
+      becomes.queue_is becomes.accepted_is becomes.jobs_are is
+      (rung_sound _ (grown_sound _ growth (requeued_sound _ serials once parked whole.sound)))
+      (roll_same old.accepted old.jobs (all_queued_again old.jobs serials) next (again_there old.jobs serials) whole.roll)
+
+  -- the job of a number that stands parked
+  pub parked_one : (jobs : Jobs J) (number : JobNumber) → standing_of jobs number ≡ Some Parked → (s : ℕ) → is_in s (number.serial ∷ []) ≡ true → is_parked_job (get jobs s) ≡ true
+  parked_one jobs number parked s found =
+      let job = standing_job (job_of jobs number) Parked parked in
+      let same : s ≡ number.serial = eqb-true s number.serial (or_alone (eqb s number.serial) found) in
+      ap (λ n. is_parked_job (get jobs n)) same ∙ ap is_parked_job (job_of_found jobs number job.0 job.1).0 ∙ ap is_parked job.2
+    where
+      or_alone : (b : Bool) → (b || false) ≡ true → b ≡ true
+      or_alone true is = refl
+      or_alone false is = is
+
+  -- a cancelled job stands as it did
+  pub cancelled_stands : (jobs : Jobs J) (number : JobNumber) (standing : Standing) → standing_of jobs number ≡ Some standing → standing_of (amend jobs number.serial cancelled) number ≡ Some standing
+  cancelled_stands jobs number standing is =
+      let job = standing_job (job_of jobs number) standing is in
+      ap (λ j. option_map (λ found. found.standing) j) (job_of_amend jobs number job.0 cancelled (λ j. refl) job.1) ∙ ap Some job.2
+
+  -- a job that was parked just now stands parked
+  pub parked_stands : (jobs : Jobs J) (number : JobNumber) (value : J) → is_running_as jobs number ≡ true → standing_of (amend jobs number.serial (parked_with value)) number ≡ Some Parked
+  parked_stands jobs number value runs =
+      let job = running_job (job_of jobs number) runs in
+      ap (λ j. option_map (λ found. found.standing) j) (job_of_amend jobs number job.0 (parked_with value) (λ j. refl) job.1)
+
+  -- a running job is over
+  pub left_whole : (old new : Table J) (number : JobNumber) (counts after : Counts) (next : ℕ) → is_running_as old.jobs number ≡ true → IsWhole old counts next
+      → new.queue ≡ old.queue → new.accepted ≡ without number.serial old.accepted → new.jobs ≡ remove old.jobs number.serial → after ≡ freer counts → IsWhole new after next
+  left_whole old new number counts after next runs whole queue accepted jobs is =
+      whole_as new old.queue (without number.serial old.accepted) (remove old.jobs number.serial) (freer counts) after next queue accepted jobs is
+      (removed_sound _ number runs whole.sound) (roll_left old.accepted old.jobs number.serial next whole.roll)
+
+  -- a running job waits
+  pub parked_whole : (old new : Table J) (number : JobNumber) (value : J) (counts after : Counts) (next : ℕ) → is_running_as old.jobs number ≡ true → IsWhole old counts next
+      → Becomes old new old.queue (amend old.jobs number.serial (parked_with value)) → after ≡ freer counts → IsWhole new after next
+  parked_whole old new number value counts after next runs whole becomes is =
+      whole_as new old.queue old.accepted (amend old.jobs number.serial (parked_with value)) (freer counts) after next
+      becomes.queue_is becomes.accepted_is becomes.jobs_are is
+      (parked_sound _ number value runs whole.sound)
+      (roll_same old.accepted old.jobs (amend old.jobs number.serial (parked_with value)) next (amend_there old.jobs number.serial (parked_with value)) whole.roll)
+
+  -- a job that was parked now is queued, and one worker is notified
+  pub returned_whole : (old new : Table J) (number : JobNumber) (counts after : Counts) (next : ℕ) → standing_of old.jobs number ≡ Some Parked → IsWhole old counts next
+      → Becomes old new (old.queue ++ number.serial ∷ []) (amend old.jobs number.serial queued_again) → after ≡ rung One counts → IsWhole new after next
+  returned_whole old new number counts after next parked whole becomes is =
+      whole_as new (old.queue ++ number.serial ∷ []) old.accepted (amend old.jobs number.serial queued_again) (rung One counts) after next
+      becomes.queue_is becomes.accepted_is becomes.jobs_are is
+      (rung_sound _ (requeued_sound _ (number.serial ∷ []) (refl, tt) (parked_one old.jobs number parked) whole.sound))
+      (roll_same old.accepted old.jobs (amend old.jobs number.serial queued_again) next (amend_there old.jobs number.serial queued_again) whole.roll)
+
+  -- a running job waits, and goes back to the queue at once; one worker is notified
+  pub returned_at_once : (old mid new : Table J) (number : JobNumber) (value : J) (counts free after : Counts) (next : ℕ) → is_running_as old.jobs number ≡ true → IsWhole old counts next
+      → Becomes old mid old.queue (amend old.jobs number.serial (parked_with value)) → Becomes mid new (mid.queue ++ number.serial ∷ []) (amend mid.jobs number.serial queued_again)
+      → free ≡ freer counts → after ≡ rung One free → IsWhole new after next
+  returned_at_once old mid new number value counts free after next runs whole parks enters frees rings =
+      returned_whole mid new number free after next (ap (λ js. standing_of js number) parks.jobs_are ∙ parked_stands old.jobs number value runs)
+      (parked_whole old mid number value counts free next runs whole parks frees) enters rings
+
+  -- no job is accepted twice
+  pub roll_once : (table : Table J) (counts : Counts) (next : ℕ) → IsWhole table counts next → IsOnce table.accepted
+  roll_once table counts next whole = subst IsOnce (sym whole.roll) (once_kept (λ s. is_some (get table.jobs s)) (serials_below next) (once_below next))
+
+  -- what a sweep finds in the order of acceptance it finds in the order of the serials
+  swept_is : (table : Table J) (counts : Counts) (next : ℕ) (marked : ℕ → Bool) → IsWhole table counts next → swept table.jobs marked table.accepted ≡ swept table.jobs marked (serials_below next)
+  swept_is table counts next marked whole =
+      ap (swept table.jobs marked) whole.roll
+      ∙ filter_twice (λ s. is_some (get table.jobs s)) (is_due table.jobs marked) (is_due table.jobs marked) (serials_below next) (λ s. both (get table.jobs s) (marked s))
+    where
+      both : (j : Option (Job J)) (b : Bool) → (is_parked_job j && b) ≡ (is_some j && (is_parked_job j && b))
+      both None b = refl
+      both (Some j) b = refl
+
+  -- each parked job was asked
+  all_asked : (may_answer : J → Bool → Type 0) (old new : Table J) (counts : Counts) (next : ℕ) (sweep : SweepsAll may_answer old old.accepted new) → IsWhole old counts next → AreAsked may_answer old.jobs sweep.marked
+  all_asked may_answer old new counts next sweep whole s job value found parked held =
+      sweep.asked s job value
+      (ap (is_in s) whole.roll ∙ in_kept (λ n. is_some (get old.jobs n)) s (serials_below next) (stands_below s next (used s job found)) (ap is_some found))
+      found parked held
+    where
+      used : (s : ℕ) (job : Job J) → get old.jobs s ≡ Some job → s < next
+      used s job found =
+          elim (cases_lt s next) [
+            | inl is ↦ is
+            | inr past ↦ absurd (let none = sym (whole.sound.unused s past) ∙ found in let e : None ≡ Some job = none in cc)
+          ]
+
+  -- what the table becomes by a sweep, told by the serials
+  swept_becomes : (may_answer : J → Bool → Type 0) (old new : Table J) (counts : Counts) (next : ℕ) (sweep : SweepsAll may_answer old old.accepted new) → IsWhole old counts next
+      → Becomes old new (old.queue ++ swept old.jobs sweep.marked (serials_below next)) (all_queued_again old.jobs (swept old.jobs sweep.marked (serials_below next)))
+  swept_becomes may_answer old new counts next sweep whole =
+      subst (λ ss. Becomes old new (old.queue ++ ss) (all_queued_again old.jobs ss)) (swept_is old counts next sweep.marked whole) sweep.becomes
+
+  -- how many jobs were put back, by the lengths of the queue
+  swept_count : (may_answer : J → Bool → Type 0) (old new : Table J) (counts : Counts) (next was now : ℕ) (sweep : SweepsAll may_answer old old.accepted new) → IsWhole old counts next
+      → was ≡ length old.queue → now ≡ length new.queue → now ≡ was + length (swept old.jobs sweep.marked (serials_below next))
+  swept_count may_answer old new counts next was now sweep whole before after =
+      after ∙ ap length (swept_becomes may_answer old new counts next sweep whole).queue_is
+      ∙ length-append old.queue (swept old.jobs sweep.marked (serials_below next)) ∙ ap (λ n. n + length (swept old.jobs sweep.marked (serials_below next))) (sym before)
+
+  -- a sweep that puts nothing back
+  pub swept_none : (may_mark : J → Bool → Type 0) (asking : Asking) (old new : Table J) (counts : Counts) (next was now : ℕ) (before : Pool J) → RefusesNone asking → IsWhole old counts next
+      → SweepsAll may_mark old old.accepted new → was ≡ length old.queue → now ≡ length new.queue → now - was ≡ 0
+      → record { queue = old.queue; jobs = old.jobs; counts = counts; next_serial = next } ≡ before
+      → Sweeps may_mark asking before 0 (record { queue = new.queue; jobs = new.jobs; counts = counts; next_serial = next })
+  swept_none may_mark asking old new counts next was now before none whole sweep before_is after_is nil seen =
+      subst (λ p. Sweeps may_mark asking p 0 (record { queue = new.queue; jobs = new.jobs; counts = counts; next_serial = next })) seen
+      (record {
+        marked = sweep.marked;
+        asked = all_asked may_mark old new counts next sweep whole;
+        counted = sym (ap length nothing);
+        effect = subst (λ ss. SweepsTo asking (record { queue = old.queue; jobs = old.jobs; counts = counts; next_serial = next }) ss (record { queue = new.queue; jobs = new.jobs; counts = counts; next_serial = next })) (sym nothing) (same, none);
+      })
+    where
+      nothing : swept old.jobs sweep.marked (serials_below next) ≡ []
+      nothing = none_of _ (omega (arith, swept_count may_mark old new counts next was now sweep whole before_is after_is, nil))
+
+      becomes : Becomes old new (old.queue ++ []) old.jobs
+      becomes = subst (λ ss. Becomes old new (old.queue ++ ss) (all_queued_again old.jobs ss)) nothing (swept_becomes may_mark old new counts next sweep whole)
+
+      same : ◌≡◌ {A = Pool J} (record { queue = new.queue; jobs = new.jobs; counts = counts; next_serial = next }) (record { queue = old.queue; jobs = old.jobs; counts = counts; next_serial = next })
+      same =
+          ap (λ q. record { queue = q; jobs = new.jobs; counts = counts; next_serial = next }) (becomes.queue_is ∙ append-nil old.queue)
+          ∙ ap (λ js. record { queue = old.queue; jobs = js; counts = counts; next_serial = next }) becomes.jobs_are
+
+  effect_of : (asking : Asking) (old new : Pool J) (serials : List ℕ) → (length serials ≡ 0 → ⊥) → EnterAgain asking old serials new → SweepsTo asking old serials new
+  effect_of asking old new [] some enter = absurd (some refl)
+  effect_of asking old new (s ∷ serials) some enter = enter
+
+  -- a sweep that puts jobs back, and the pool grows
+  pub swept_some : (may_mark : J → Bool → Type 0) (asking : Asking) (old new : Table J) (counts numbers told : Counts) (growth : Growth) (next was now ready : ℕ) (before : Pool J) → IsWhole old counts next
+      → SweepsAll may_mark old old.accepted new → was ≡ length old.queue → now ≡ length new.queue → (now - was ≡ 0 → ⊥) → ready ≡ length new.queue
+      → Grows asking ready counts numbers growth → told ≡ rung One numbers
+      → record { queue = old.queue; jobs = old.jobs; counts = counts; next_serial = next } ≡ before
+      → Sweeps may_mark asking before (now - was) (record { queue = new.queue; jobs = new.jobs; counts = told; next_serial = next })
+  swept_some may_mark asking old new counts numbers told growth next was now ready before whole sweep before_is after_is some ready_is grows rings seen =
+      subst (λ p. Sweeps may_mark asking p (now - was) (record { queue = new.queue; jobs = new.jobs; counts = told; next_serial = next })) seen
+      (record {
+        marked = sweep.marked;
+        asked = all_asked may_mark old new counts next sweep whole;
+        counted = omega (arith, count);
+        effect = effect_of asking _ _ serials (λ e. some (omega (arith, count, e)))
+            (record {
+              growth = growth;
+              counts = numbers;
+              grows = subst (λ n. Grows asking n counts numbers growth) (ready_is ∙ ap length becomes.queue_is) grows;
+              after_is =
+                  ap (λ q. record { queue = q; jobs = new.jobs; counts = told; next_serial = next }) becomes.queue_is
+                  ∙ ap (λ js. record { queue = old.queue ++ serials; jobs = js; counts = told; next_serial = next }) becomes.jobs_are
+                  ∙ ap (λ c. record { queue = old.queue ++ serials; jobs = all_queued_again old.jobs serials; counts = c; next_serial = next }) rings;
+            });
+      })
+    where
+      serials : List ℕ
+      serials = swept old.jobs sweep.marked (serials_below next)
+
+      count : now ≡ was + length serials
+      count = swept_count may_mark old new counts next was now sweep whole before_is after_is
+
+      becomes : Becomes old new (old.queue ++ serials) (all_queued_again old.jobs serials)
+      becomes = swept_becomes may_mark old new counts next sweep whole
+
+  -- the pool is whole after a sweep
+  pub swept_whole : (may_mark : J → Bool → Type 0) (old new : Table J) (counts after : Counts) (growth : Growth) (next : ℕ) → IsWhole old counts next → SweepsAll may_mark old old.accepted new
+      → after ≡ rung One (grown counts growth) → IsWhole new after next
+  swept_whole may_mark old new counts after growth next whole sweep is =
+      requeued_whole old new counts after growth next (swept old.jobs sweep.marked (serials_below next))
+      (once_kept (is_due old.jobs sweep.marked) (serials_below next) (once_below next))
+      (λ s found. (and_parts (is_parked_job (get old.jobs s)) (sweep.marked s) (kept_in (is_due old.jobs sweep.marked) s (serials_below next) found).1).0)
+      whole (swept_becomes may_mark old new counts next sweep whole) is
+
+  -- a wait without a timeout doesn't sweep
+  pub waits_on : (may_mark : J → Bool → Type 0) (asking : Asking) (timed_out : Bool) (old new : Pool J) (waited : Waited) → RefusesNone asking → timed_out ≡ false → StaysOrStops false old waited new
+      → Waits may_mark asking timed_out old waited new
+  waits_on may_mark asking timed_out old new waited none is answer =
+      subst (λ b. Waits may_mark asking b old waited new) (sym is) (record { between = old; sweep = (refl, none); answer = answer })
+
+  -- a wait with a timeout sweeps first
+  pub waits_out : (may_mark : J → Bool → Type 0) (asking : Asking) (timed_out : Bool) (old between new : Pool J) (count : ℕ) (waited : Waited) → timed_out ≡ true
+      → Sweeps may_mark asking old count between → StaysOrStops true between waited new → Waits may_mark asking timed_out old waited new
+  waits_out may_mark asking timed_out old between new count waited is sweeps answer =
+      subst (λ b. Waits may_mark asking b old waited new) (sym is) (record { between = between; sweep = (count, sweeps); answer = answer })
+
+  -- a table that is as it was
+  pub same_whole : (old new : Table J) (counts : Counts) (next : ℕ) → IsWhole old counts next → Becomes old new old.queue old.jobs → IsWhole new counts next
+  same_whole old new counts next whole becomes =
+      whole_as new old.queue old.accepted old.jobs counts counts next becomes.queue_is becomes.accepted_is becomes.jobs_are refl whole.sound whole.roll
+
+  -- a value that may have been lent, whatever was left there
+  pub lent_whole : {X : Type 0} (lent : Option X) (old new : Table J) (counts : Counts) (next serial : ℕ) (value : J) → IsWhole old counts next
+      → IfLent lent (Becomes old new old.queue (amend old.jobs serial (valued value))) (Becomes old new old.queue old.jobs) → IsWhole new counts next
+  lent_whole None old new counts next serial value whole becomes = same_whole old new counts next whole becomes
+  lent_whole (Some x) old new counts next serial value whole becomes = marked_whole old new counts next serial (valued value) (λ j. refl) whole becomes
+
+  -- the pool, as its table is told
+  pub pool_as : (old new : Table J) (counts : Counts) (next : ℕ) (jobs : Jobs J) → Becomes old new old.queue jobs
+      → ◌≡◌ {A = Pool J} (record { queue = new.queue; jobs = new.jobs; counts = counts; next_serial = next }) (record { queue = old.queue; jobs = jobs; counts = counts; next_serial = next })
+  pool_as old new counts next jobs becomes =
+      ap (λ q. record { queue = q; jobs = new.jobs; counts = counts; next_serial = next }) becomes.queue_is
+      ∙ ap (λ js. record { queue = old.queue; jobs = js; counts = counts; next_serial = next }) becomes.jobs_are
+
+  -- the pool with another value of a job
+  pub lent_pool : {X : Type 0} (lent : Option X) (old new : Table J) (counts : Counts) (next serial : ℕ) (value : J) (before : Pool J) → record { queue = old.queue; jobs = old.jobs; counts = counts; next_serial = next } ≡ before
+      → IfLent lent (Becomes old new old.queue (amend old.jobs serial (valued value))) (Becomes old new old.queue old.jobs)
+      → OnSome lent (record { queue = new.queue; jobs = new.jobs; counts = counts; next_serial = next } ≡ with_job before serial (valued value))
+  lent_pool None old new counts next serial value before seen becomes = tt
+  lent_pool (Some x) old new counts next serial value before seen becomes =
+      pool_as old new counts next (amend old.jobs serial (valued value)) becomes ∙ ap (λ p. with_job p serial (valued value)) seen
+
+pub roll_empty : (J : Type 0) (next : ℕ) → IsRollOf {J = J} [] empty next
+roll_empty J zero = refl
+roll_empty J (suc next) =
+    roll_empty J next ∙ sym (append-nil (filter there (serials_below next)))
+    ∙ ap (λ ss. filter there (serials_below next) ++ ss) (sym (ap (λ j. cond (is_some j) (next ∷ []) []) (get-empty {X = Job J} nat_cmp next)))
+    ∙ sym (filter-append there (serials_below next) (next ∷ []))
+  where
+    there : ℕ → Bool
+    there s = is_some (get (empty {X = Job J} {R = nat_cmp}) s)

@@ -1,0 +1,24 @@
+use Rattle.std.proofs.Common.{Some, sym}
+use Rattle.blocking_pool.specs.Jobs.{parked_with}
+use Rattle.blocking_pool.specs.declared.pool.standing.Standing.TheVariants.{Parked}
+use Rattle.blocking_pool.proofs.RollLemmas.{not_vacant, IsAmended, parks}
+use Rattle.blocking_pool.proofs.Standings.{running_job}
+use Rattle.blocking_pool.proofs.pool.table.Table.park.Goals as goal
+
+pub unreachable-requires : goal.unreachable-requires
+unreachable-requires g c =
+    let job = running_job _ c.requires in
+    not_vacant c.self.inside.entries c.self.inside.queue c.self.inside.accepted c.args.self.now c.args.no job.0 c.place.result c.self.invariant c.self.view_is job.1 c.place.ensures (sym c.in_default.ensures.value)
+
+done : (g : _) (c : goal.Joined-entry g)
+    → IsAmended c.self.inside.entries c.self.inside.queue c.self.inside.accepted c.place.result (record c.in-Some.entry.now { standing = Parked; value = Some c.args.value })
+    c.args.self.now c.args.self.now.queue c.args.no (parked_with c.args.value)
+done g c =
+    parks c.self.inside.entries c.self.inside.queue c.self.inside.accepted c.args.self.now c.args.no c.place.result c.in-Some.entry.now c.args.value
+    c.self.invariant c.self.view_is c.requires c.place.ensures (sym c.in-Some.ensures.value)
+
+pub invariant_of-self : goal.invariant_of-self
+invariant_of-self g c = (done g c).0
+
+pub returns : goal.returns
+returns g c = (done g c).1

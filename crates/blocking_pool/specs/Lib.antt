@@ -1,0 +1,15 @@
+pub mod Chain
+pub mod Counts
+pub mod Growth
+pub mod Jobs
+pub mod Limits
+pub mod Lists
+pub mod PoolAnswers
+pub mod PoolLends
+pub mod Pools
+pub mod Rings
+pub mod Starters
+pub mod Sweeps
+pub mod TableLends
+pub mod Tables
+pub mod Wakes

@@ -1,0 +1,55 @@
+//! Whom a call of the pool has to notify.
+use std::marker::Model;
+use std::sync::Condvar;
+
+/// Whom a ring notifies.
+#[derive(Clone, Copy, Debug, PartialEq, Eq)]
+pub enum BellKind {
+    /// Nobody.
+    Silent,
+    /// One waiting worker.
+    One,
+    /// All waiting workers.
+    All,
+}
+
+/// A ring that is due to the workers that wait. It has no `Drop`: it has to be spent by [`Bell::ring`].
+pub struct Bell {
+    kind: BellKind,
+}
+
+impl Model for Bell {
+    ghost use Rattle.blocking_pool.specs.declared.pool.bell.BellKind.{BellKind};
+
+    ghost Value = { BellKind };
+
+    ghost view = { λ bell. bell.kind };
+}
+
+impl Bell {
+    ghost use Rattle.std.specs.Prelude.{◌≡◌};
+
+    pub(crate) fn new(kind: BellKind) -> Bell
+        ensures { result ≡ kind }
+    {
+        Bell { kind }
+    }
+
+    /// Whom it notifies.
+    pub fn kind(&self) -> BellKind
+        ensures { result ≡ self.now }
+    {
+        self.kind
+    }
+
+    /// Notifies the threads that wait at this condition variable: none, one or all of them. Best after the pool's lock is
+    /// let go, since a thread that wakes wants it.
+    pub fn ring(self, condvar: &Condvar) {
+        let Bell { kind } = self;
+        match kind {
+            BellKind::Silent => {}
+            BellKind::One => condvar.notify_one(),
+            BellKind::All => condvar.notify_all(),
+        }
+    }
+}
