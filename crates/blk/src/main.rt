@@ -1,23 +1,9 @@
 //! Runs blocking calls from the command line.
 #![tactic(auto)]
 
-mod call;
-mod command;
-mod fault;
-mod host;
-mod line;
-mod number;
-mod request;
-mod script;
-mod steps;
-mod tell;
-#[cfg(test)]
-mod tests;
-mod words;
-
-use crate::command::command;
-use crate::fault::BlkFault;
-use crate::words::words;
+use blk_commands::command::command;
+use blk_commands::fault::BlkFault;
+use blk_commands::words::words;
 use blocking_core::limit::MAX_THREADS_ENV;
 use std::alloc::AllocError;
 use std::env;

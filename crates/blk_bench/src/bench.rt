@@ -1,8 +1,8 @@
 //! The benchmarks by their names.
 use crate::calls::Calls;
 use crate::figures::{Figures, Request};
-use crate::host::Host;
 use crate::pipe;
+use blocking::Host;
 use std::io;
 
 /// What is measured.
@@ -53,7 +53,7 @@ impl Bench {
     }
 
     /// Does the work once cold and then as often as is asked. The limit of `burst_limited` comes with the setting.
-    pub(crate) fn run<R: Host + 'static>(
+    pub(crate) fn run<R: Host>(
         self,
         rt: HostRuntime,
         host: R,

@@ -1,7 +1,6 @@
 //! The benchmarks of calls.
 use crate::figures::{Figures, Request};
-use crate::host::Host;
-use blocking::{CallJob, Executor, Task, unblock};
+use blocking::{CallJob, Executor, Host, Task, unblock};
 use blocking_core::task::Call;
 use futures::executor::{block_on, block_on_queue};
 use futures::task::{Doorbell, Queue};
@@ -70,7 +69,7 @@ impl Calls {
     }
 
     /// Does the work once cold and then as often as is asked. The limit of `burst_limited` comes with the setting.
-    pub(crate) fn run<R: Host + 'static>(
+    pub(crate) fn run<R: Host>(
         self,
         rt: HostRuntime,
         host: R,

@@ -6,7 +6,6 @@
 mod bench;
 mod calls;
 mod figures;
-mod host;
 mod pipe;
 
 use crate::bench::Bench;

@@ -13,5 +13,5 @@ mod tests;
 
 pub use executor::{Executor, set_max_blocking_threads};
 pub use job::CallJob;
-pub use runtime::Runtime;
+pub use runtime::{Host, Runtime};
 pub use task::{Cancel, Task, unblock};

@@ -1,9 +1,17 @@
-//! What polls and workers need of the system.
+//! What polls, workers and a pool need of the system.
 use std::alloc::AllocGlobal;
+use std::random::RandomSource;
 use std::sync::Wait;
+use std::thread::Threads;
 use std::time::Clock;
 
 /// The handles that polls and workers need: to lock, to wait for a time and to allocate.
 pub trait Runtime: Wait + Clock + AllocGlobal + Copy {}
 
 impl<R: Wait + Clock + AllocGlobal + Copy> Runtime for R {}
+
+/// The handles of who makes a pool of its own and awaits its calls: a [`Runtime`] that also starts threads and that
+/// `block_on` takes.
+pub trait Host: Runtime + Threads + RandomSource + Send + Sync + 'static {}
+
+impl<R: Runtime + Threads + RandomSource + Send + Sync + 'static> Host for R {}

@@ -1,7 +1,0 @@
--- So far the lines were played.
-use Rattle.std.proofs.Common.{[], take}
-use Rattle.blk.specs.Plays.{PlaysLines, Takes}
-use Rattle.blk.proofs.steps.play.Given as goal
-
-abbrev pub invariant-loop-line : goal.invariant-loop-line
-invariant-loop-line l = Takes (PlaysLines (take l.line-index l.lines)) l.fn.world.history l.world.history [] l.events.items

@@ -1,0 +1,13 @@
+//! The commands of the program `blk`, over a reader and two writers.
+#![tactic(auto)]
+
+mod call;
+pub mod command;
+pub mod fault;
+pub mod line;
+mod number;
+mod request;
+pub mod script;
+mod steps;
+mod tell;
+pub mod words;

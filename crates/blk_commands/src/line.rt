@@ -1,0 +1,172 @@
+//! What one line of a script says.
+ghost use Rattle.std.specs.Prelude.{◌≡◌, IfOk, map};
+ghost use Rattle.std.specs.List.{after_first, list_all};
+ghost use Rattle.blk_commands.specs.Lines.{answer_step, call_named, is_mark, is_marks, is_minus, is_silent, is_space, line_of, longer_line, numbered_step, plain_step, saying_of, words_of};
+
+use crate::number::{count, number};
+use blocking_world::{Answer, Step, TaskCall};
+use std::alloc::{AllocError, Global};
+
+/// What a line has the script do.
+#[derive(Clone, Copy, Debug)]
+pub enum Line {
+    /// One step.
+    One(Step),
+    /// The next action of this worker's job, and then again while it has one that is its own to take.
+    JobAll(usize),
+}
+
+/// What a line says by itself.
+#[derive(Clone, Copy, Debug)]
+pub(crate) enum Saying {
+    /// Nothing: it is empty, or a comment.
+    Nothing,
+    /// The text of the setting.
+    Setting,
+    /// Which starts are refused.
+    Starts,
+    /// What is to be done.
+    Does(Line),
+}
+
+/// What a line says; None where it is no line of a script.
+pub(crate) fn saying_of(alloc: Global, line: &str) -> Result<Option<Saying>, AllocError>
+    ensures { IfOk result (λ saying. saying ≡ saying_of line.now) }
+{
+    if is_silent(line) {
+        return Ok(Some(Saying::Nothing));
+    }
+    match line.split_once(' ') {
+        Some(("setting", _)) => Ok(Some(Saying::Setting)),
+        Some(("starts", marks)) => Ok(is_marks(marks).then_some(Saying::Starts)),
+        _ => Ok(deed_of(alloc, line)?.map(Saying::Does)),
+    }
+}
+
+/// What stands behind the first space of a line.
+pub(crate) fn text_of(line: &str) -> &str
+    ensures { result.now ≡ after_first is_space line.now }
+{
+    line.split_once(' ').map_or("", |(_, text)| text)
+}
+
+/// Whether each of these marks is that of a start that is refused.
+pub(crate) fn marks_of(alloc: Global, text: &str) -> Result<Vec<bool>, AllocError>
+    ensures { IfOk result (λ marks. marks.items ≡ map is_minus text.now) }
+{
+    text.bytes().map(|byte| byte == b'-').collect(alloc)
+}
+
+// Whether a line says nothing.
+fn is_silent(line: &str) -> bool
+    ensures { result ≡ is_silent line.now }
+{
+    line.is_empty() || line.starts_with('#')
+}
+
+// Whether a text is marks alone, and at least one.
+fn is_marks(text: &str) -> bool
+    ensures { result ≡ is_marks text.now }
+{
+    !text.is_empty() && are_marks(text)
+}
+
+// Whether each byte of a text is the mark of a start.
+fn are_marks(text: &str) -> bool
+    ensures { result ≡ list_all is_mark text.now }
+{
+    text.bytes().all(is_mark)
+}
+
+// Whether a byte is the mark of a start.
+fn is_mark(byte: u8) -> bool
+    ensures { result ≡ is_mark byte }
+{
+    byte == b'+' || byte == b'-'
+}
+
+// What a line asks for by its words.
+fn deed_of(alloc: Global, line: &str) -> Result<Option<Line>, AllocError>
+    ensures { IfOk result (λ deed. deed ≡ line_of (words_of line.now)) }
+{
+    let words: Vec<&str> = line.split(' ').collect(alloc)?;
+    Ok(line_of(words.as_slice()))
+}
+
+// What the words of a line ask for.
+fn line_of(words: &[&str]) -> Option<Line>
+    ensures { result ≡ line_of (map (λ word. word.now) words.now) }
+{
+    match *words {
+        [name] => plain_step(name).map(Line::One),
+        [name, word] => numbered_step(name, word).map(Line::One),
+        [name, number, call] => longer_line(name, number, call),
+        [name, worker, kind, number] => answer_step(name, worker, kind, number).map(Line::One),
+        _ => None,
+    }
+}
+
+// The step that one word asks for.
+fn plain_step(name: &str) -> Option<Step>
+    ensures { result ≡ plain_step name.now }
+{
+    match name {
+        "spawn" => Some(Step::Spawn),
+        "arrive" => Some(Step::Arrive),
+        "sweep" => Some(Step::Sweep),
+        _ => None,
+    }
+}
+
+// The step that a word and a number ask for.
+fn numbered_step(name: &str, word: &str) -> Option<Step>
+    ensures { result ≡ numbered_step name.now word.now }
+{
+    match name {
+        "take" => count(word).map(Step::Take),
+        "job" => count(word).map(Step::Job),
+        "end" => count(word).map(Step::End),
+        "wait" => count(word).map(Step::Wait),
+        "late" => count(word).map(Step::Late),
+        "limit" => count(word).map(Step::SetLimit),
+        "stray" => number(word).map(Step::Stray),
+        "strike" => number(word).map(Step::Strike),
+        _ => None,
+    }
+}
+
+// What three words ask for: a call of a task, or all the actions of a worker's job.
+fn longer_line(name: &str, word: &str, what: &str) -> Option<Line>
+    ensures { result ≡ longer_line name.now word.now what.now }
+{
+    if name == "job" && what == "*" {
+        return count(word).map(Line::JobAll);
+    }
+    if name != "task" {
+        return None;
+    }
+    Some(Line::One(Step::OfTask(count(word)?, call_named(what)?)))
+}
+
+// The call of a task that has this name.
+fn call_named(name: &str) -> Option<TaskCall>
+    ensures { result ≡ call_named name.now }
+{
+    match name {
+        "poll" => Some(TaskCall::Poll),
+        "cancel" => Some(TaskCall::Cancel),
+        "detach" => Some(TaskCall::Detach),
+        "drop" => Some(TaskCall::Drop),
+        _ => None,
+    }
+}
+
+// The step that four words ask for: an answer to a worker's job.
+fn answer_step(name: &str, worker: &str, kind: &str, word: &str) -> Option<Step>
+    ensures { result ≡ answer_step name.now worker.now kind.now word.now }
+{
+    if name != "io" || kind != "n" {
+        return None;
+    }
+    Some(Step::Io(count(worker)?, Answer::Number(number(word)?)))
+}

@@ -1,0 +1,68 @@
+//! Reads and writes that fail.
+use crate::doubles::{Broken, Full, Lossy};
+use crate::play::{CALL, STEPS, status_of};
+use blocking::Host;
+use std::io::Write;
+use std::process::Abort;
+use std::test::Fail;
+
+// A command with these words can't write to this output, and tells that.
+fn fails_to_write<H: Host + Abort, W: Write>(
+    rt: H,
+    words: &[Option<&str>],
+    input: &str,
+    output: &mut W,
+) -> Result<(), Fail> {
+    let mut faults = Vec::new(rt.alloc());
+    let mut input = input.as_bytes();
+    let status = status_of(rt, words, None, &mut input, output, &mut faults)?;
+    assert_eq!(rt; status, 1, "at {words:?}");
+    assert_eq!(rt;
+        faults.as_slice(),
+        b"blk: writing failed\n".as_slice(),
+        "at {words:?}"
+    );
+    Ok(())
+}
+
+#[test]
+fn failed_writes_are_told(rt: HostRuntime) -> Result<(), Fail> {
+    fails_to_write(rt, CALL, "", &mut Full)?;
+    fails_to_write(rt, CALL, "", &mut Lossy)?;
+    fails_to_write(rt, STEPS, "limit 3", &mut Full)?;
+    fails_to_write(rt, STEPS, "limit 3", &mut Lossy)
+}
+
+#[test]
+fn untold_faults_change_nothing_else(rt: HostRuntime) -> Result<(), Fail> {
+    let mut input = b"".as_slice();
+    let mut output = Vec::new(rt.alloc());
+    let wrong = [Some("call")];
+    assert_eq!(rt;
+        status_of(rt, &wrong, None, &mut input, &mut output, &mut Full)?,
+        2
+    );
+    assert_eq!(rt;
+        status_of(rt, CALL, None, &mut input, &mut Full, &mut Full)?,
+        1
+    );
+    assert_eq!(rt;
+        status_of(rt, CALL, None, &mut input, &mut output, &mut Full)?,
+        0
+    );
+    assert_eq!(rt; output.as_slice(), b"42\n".as_slice());
+    Ok(())
+}
+
+#[test]
+fn failed_read_is_told(rt: HostRuntime) -> Result<(), Fail> {
+    let mut input = Broken { is_read: false };
+    let mut output = Vec::new(rt.alloc());
+    let mut faults = Vec::new(rt.alloc());
+    let status = status_of(rt, STEPS, None, &mut input, &mut output, &mut faults)?;
+    assert_eq!(rt; status, 1);
+    assert!(rt; output.is_empty());
+    assert_eq!(rt; faults.as_slice(), b"blk: reading failed\n".as_slice());
+    assert!(rt; input.is_read);
+    Ok(())
+}

@@ -1,0 +1,48 @@
+//! How scripts are read.
+use blk_commands::script::{ScriptFault, read_script};
+use std::test::Fail;
+
+// Scripts, with the setting, the marks of the starts, and the number of lines that do something.
+const SCRIPTS: &[(&str, Option<&str>, &[bool], usize)] = &[
+    ("", None, &[], 0),
+    (
+        "setting 7\nstarts +-\nspawn\njob 1 *\n",
+        Some("7"),
+        &[false, true],
+        2,
+    ),
+    (
+        "# one\nstarts -\n\nsetting a  b \n# two\nsweep",
+        Some("a  b "),
+        &[true],
+        1,
+    ),
+    ("setting \n", Some(""), &[], 0),
+];
+
+#[test]
+fn scripts_are_read(rt: HostRuntime) -> Result<(), Fail> {
+    for (text, setting, starts, lines) in SCRIPTS {
+        match read_script(rt.alloc(), text) {
+            Ok(script) => {
+                assert_eq!(rt;
+                    script.setting.as_ref().map(|text| text.as_str()),
+                    *setting,
+                    "of {text:?}"
+                );
+                assert_eq!(rt; script.starts.as_slice(), *starts, "of {text:?}");
+                assert_eq!(rt; script.lines.len(), *lines, "of {text:?}");
+            }
+            Err(_) => assert!(rt; false, "of {text:?}"),
+        }
+    }
+    Ok(())
+}
+
+#[test]
+fn first_line_that_is_no_step_is_counted(rt: HostRuntime) {
+    assert_eq!(rt;
+        read_script(rt.alloc(), "spawn\nspawn 1\n").err(),
+        Some(ScriptFault::NotAStep(2))
+    );
+}
