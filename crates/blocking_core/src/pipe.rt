@@ -1,9 +1,6 @@
 //! The bounded pipe through which bytes or items cross between a job and its owner.
 ghost use Rattle.std.specs.Prelude.{◌≡◌, ◌<◌, ◌≤◌, ◌++◌, false, length, min, take, drop, IfOk, Some, None};
 
-#[cfg(test)]
-mod tests;
-
 use crate::pool::{JobNo, WakeNote};
 use crate::task::Seat;
 use circular_buffer::HeapCircularBuffer;

@@ -13,8 +13,6 @@ mod number;
 mod standing;
 mod starter;
 mod table;
-#[cfg(test)]
-mod tests;
 mod token;
 
 use crate::limit::max_threads;
