@@ -75,24 +75,3 @@ impl CallCore {
         *self = CallCore { next };
     }
 }
-
-#[cfg(test)]
-mod tests {
-    use super::*;
-
-    #[test]
-    fn call_wakes_the_owner_who_waits(rt: HostRuntime) {
-        let mut core = CallCore::new();
-        for (action, answer) in [
-            (Action::Call, Answer::Returned),
-            (Action::Finish, Answer::Put { woke: true }),
-            (Action::Deliver, Answer::Delivered),
-        ] {
-            assert_eq!(rt; core.next(), action);
-            core.answer(answer);
-        }
-        assert_eq!(rt; core.next(), Action::Done);
-        core.answer(Answer::Returned);
-        assert_eq!(rt; core.next(), Action::Done);
-    }
-}

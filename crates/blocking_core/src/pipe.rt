@@ -1,9 +1,6 @@
 //! The bounded pipe through which bytes or items cross between a job and its owner.
 ghost use Rattle.std.specs.Prelude.{◌≡◌, ◌<◌, ◌≤◌, ◌++◌, false, length, min, take, drop, IfOk, Some, None};
 
-#[cfg(test)]
-mod tests;
-
 use crate::task::Seat;
 use blocking_pool::pool::{JobNo, WakeNote};
 use circular_buffer::HeapCircularBuffer;

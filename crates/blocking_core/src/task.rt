@@ -17,7 +17,7 @@ pub trait Call {
         ensures { may_give result };
 }
 
-#[derive(Drop)]
+#[derive(Debug, Drop)]
 enum Content<T: Drop> {
     Empty,
     Full(T),
@@ -29,7 +29,7 @@ enum Content<T: Drop> {
 /// The place where a job leaves its value for its owner, with a seat for the owner's waker.
 ///
 /// The value is put once and polled once. The owner may abandon the slot, and the job may give it up.
-#[derive(Drop)]
+#[derive(Debug, Drop)]
 pub struct Slot<T: Drop, W: Drop> {
     content: Content<T>,
     seat: Option<W>,
@@ -200,203 +200,6 @@ impl<T: Drop, W: Drop> Slot<T, W> {
                 self.content = Content::Abandoned(is_over);
                 None
             }
-        }
-    }
-}
-
-#[cfg(test)]
-mod tests {
-    use super::*;
-
-    #[test]
-    fn value_is_put_and_polled_once(rt: HostRuntime) {
-        let mut slot: Slot<u32, u8> = Slot::new();
-        let first = slot.poll(1);
-        assert!(rt; matches!(first.answer, Slotted::Waits(_)));
-        assert_eq!(rt; first.spare, None);
-        let second = slot.poll(2);
-        assert!(rt; matches!(second.answer, Slotted::Waits(_)));
-        assert_eq!(rt; second.spare, Some(1));
-        let put = slot.put(7);
-        assert_eq!(rt; put.back, None);
-        assert_eq!(rt; put.wake, Some(2));
-        let again = slot.put(8);
-        assert_eq!(rt; again.back, Some(8));
-        assert_eq!(rt; again.wake, None);
-        let third = slot.poll(3);
-        assert!(rt; matches!(third.answer, Slotted::Value(7)));
-        assert_eq!(rt; third.spare, Some(3));
-        assert!(rt; matches!(slot.poll(4).answer, Slotted::Waits(_)));
-        assert!(rt; matches!(slot.look(), Looked::Seat(Some(4))));
-        assert!(rt; matches!(slot.look(), Looked::Seat(None)));
-        let _ = slot.put(9);
-        assert!(rt; matches!(slot.look(), Looked::Value(9)));
-    }
-
-    #[test]
-    fn dropped_job_wakes_its_owner_once(rt: HostRuntime) {
-        let mut slot: Slot<u32, u8> = Slot::new();
-        let _ = slot.poll(1);
-        assert_eq!(rt; slot.give_up(), Some(1));
-        assert_eq!(rt; slot.give_up(), None);
-        assert_eq!(rt; slot.put(7).back, Some(7));
-        let polled = slot.poll(2);
-        assert!(rt; matches!(polled.answer, Slotted::Gone));
-        assert_eq!(rt; polled.spare, Some(2));
-    }
-
-    #[test]
-    fn value_for_an_owner_who_left_comes_back(rt: HostRuntime) {
-        let mut slot: Slot<u32, u8> = Slot::new();
-        let _ = slot.poll(1);
-        assert_eq!(rt; slot.abandon(), None);
-        assert_eq!(rt; slot.abandon(), None);
-        assert_eq!(rt; slot.poll(2).spare, Some(1));
-        let put = slot.put(7);
-        assert_eq!(rt; put.back, Some(7));
-        assert_eq!(rt; put.wake, Some(2));
-        let again = slot.put(8);
-        assert_eq!(rt; again.back, Some(8));
-        assert_eq!(rt; again.wake, None);
-        assert!(rt; matches!(slot.poll(3).answer, Slotted::Gone));
-    }
-
-    // What stands in a slot. (over: abandoned, and its job is over)
-    #[derive(Clone, Copy, Debug, PartialEq, Eq)]
-    enum Standing {
-        Empty,
-        Full,
-        GivenUp,
-        Abandoned,
-        Over,
-    }
-
-    fn standing_of(slot: &Slot<u32, u8>) -> Standing {
-        match slot.content {
-            Content::Empty => Standing::Empty,
-            Content::Full(_) => Standing::Full,
-            Content::GivenUp => Standing::GivenUp,
-            Content::Abandoned(false) => Standing::Abandoned,
-            Content::Abandoned(true) => Standing::Over,
-        }
-    }
-
-    // A slot that stands so. The waker 1 was seated before, and the value is 7.
-    fn slot_in(standing: Standing) -> Slot<u32, u8> {
-        let mut slot = Slot::new();
-        let _ = slot.poll(1);
-        match standing {
-            Standing::Empty => {}
-            Standing::Full => {
-                let _ = slot.put(7);
-            }
-            Standing::GivenUp => {
-                let _ = slot.give_up();
-            }
-            Standing::Abandoned => {
-                let _ = slot.abandon();
-            }
-            Standing::Over => {
-                let _ = slot.abandon();
-                let _ = slot.give_up();
-            }
-        }
-        slot
-    }
-
-    #[test]
-    fn put_by_standing(rt: HostRuntime) {
-        for (from, back, wake, to) in [
-            (Standing::Empty, None, Some(1), Standing::Full),
-            (Standing::Full, Some(8), None, Standing::Full),
-            (Standing::GivenUp, Some(8), None, Standing::GivenUp),
-            (Standing::Abandoned, Some(8), Some(1), Standing::Over),
-            (Standing::Over, Some(8), None, Standing::Over),
-        ] {
-            let mut slot = slot_in(from);
-            assert_eq!(rt; standing_of(&slot), from);
-            let put = slot.put(8);
-            assert_eq!(rt; put.back, back, "{from:?}");
-            assert_eq!(rt; put.wake, wake, "{from:?}");
-            assert_eq!(rt; standing_of(&slot), to, "{from:?}");
-        }
-    }
-
-    #[test]
-    fn give_up_by_standing(rt: HostRuntime) {
-        for (from, wake, to) in [
-            (Standing::Empty, Some(1), Standing::GivenUp),
-            (Standing::Full, None, Standing::Full),
-            (Standing::GivenUp, None, Standing::GivenUp),
-            (Standing::Abandoned, Some(1), Standing::Over),
-            (Standing::Over, None, Standing::Over),
-        ] {
-            let mut slot = slot_in(from);
-            assert_eq!(rt; slot.give_up(), wake, "{from:?}");
-            assert_eq!(rt; standing_of(&slot), to, "{from:?}");
-            assert_eq!(rt; slot.give_up(), None, "{from:?}");
-            assert_eq!(rt; standing_of(&slot), to, "{from:?}");
-        }
-    }
-
-    #[test]
-    fn abandon_by_standing(rt: HostRuntime) {
-        for (from, value, seat, to) in [
-            (Standing::Empty, None, Some(1), Standing::Abandoned),
-            (Standing::Full, Some(7), None, Standing::Over),
-            (Standing::GivenUp, None, None, Standing::Over),
-            (Standing::Abandoned, None, Some(1), Standing::Abandoned),
-            (Standing::Over, None, None, Standing::Over),
-        ] {
-            let mut slot = slot_in(from);
-            assert_eq!(rt; slot.abandon(), value, "{from:?}");
-            assert_eq!(rt; standing_of(&slot), to, "{from:?}");
-            assert_eq!(rt; slot.abandon(), None, "{from:?}");
-            assert_eq!(rt; standing_of(&slot), to, "{from:?}");
-            assert_eq!(rt; slot.seat, seat, "{from:?}");
-        }
-    }
-
-    #[test]
-    fn poll_by_standing(rt: HostRuntime) {
-        for (from, spare, seat, to) in [
-            (Standing::Empty, Some(1), Some(2), Standing::Empty),
-            (Standing::Full, Some(2), None, Standing::Empty),
-            (Standing::GivenUp, Some(2), None, Standing::GivenUp),
-            (Standing::Abandoned, Some(1), Some(2), Standing::Abandoned),
-            (Standing::Over, Some(2), None, Standing::Over),
-        ] {
-            let mut slot = slot_in(from);
-            let polled = slot.poll(2);
-            let is_as_said = match polled.answer {
-                Slotted::Value(value) => from == Standing::Full && value == 7,
-                Slotted::Gone => from == Standing::GivenUp || from == Standing::Over,
-                Slotted::Waits(_) => from == Standing::Empty || from == Standing::Abandoned,
-            };
-            assert!(rt; is_as_said, "{from:?}");
-            assert_eq!(rt; polled.spare, spare, "{from:?}");
-            assert_eq!(rt; slot.seat, seat, "{from:?}");
-            assert_eq!(rt; standing_of(&slot), to, "{from:?}");
-        }
-    }
-
-    #[test]
-    fn look_by_standing(rt: HostRuntime) {
-        for (from, seat, to) in [
-            (Standing::Empty, Some(1), Standing::Empty),
-            (Standing::Full, None, Standing::Empty),
-            (Standing::GivenUp, None, Standing::GivenUp),
-            (Standing::Abandoned, Some(1), Standing::Abandoned),
-            (Standing::Over, None, Standing::Over),
-        ] {
-            let mut slot = slot_in(from);
-            let is_as_said = match slot.look() {
-                Looked::Value(value) => from == Standing::Full && value == 7,
-                Looked::Seat(waker) => from != Standing::Full && waker == seat,
-            };
-            assert!(rt; is_as_said, "{from:?}");
-            assert_eq!(rt; slot.seat, None, "{from:?}");
-            assert_eq!(rt; standing_of(&slot), to, "{from:?}");
         }
     }
 }

@@ -32,30 +32,3 @@ fn number(text: &str) -> Option<usize>
 {
     text.parse().ok()
 }
-
-#[cfg(test)]
-mod tests {
-    use super::*;
-
-    #[test]
-    fn texts_of_limits(rt: HostRuntime) {
-        for (text, limit) in [
-            ("100", 100),
-            ("0", 1),
-            ("50000", 10000),
-            ("", 500),
-            ("NOTINT", 500),
-            ("10001", 10000),
-            ("+7", 7),
-            ("007", 7),
-            ("-0", 500),
-            ("+", 500),
-            (" 7", 500),
-            ("18446744073709551615", 10000),
-            ("18446744073709551616", 500),
-        ] {
-            assert_eq!(rt; max_threads(Some(text)), limit, "of {text:?}");
-        }
-        assert_eq!(rt; max_threads(None), 500);
-    }
-}

@@ -14,8 +14,6 @@ mod number;
 mod standing;
 mod starter;
 mod table;
-#[cfg(test)]
-mod tests;
 mod token;
 
 use crate::limit::max_threads;

@@ -1,0 +1,14 @@
+//! The worked rows of `blocking_core`: which calls are made, and what each has to answer. There is nothing here but tests, since a
+//! crate that has tests is proved a second time with them.
+#![tactic(auto)]
+
+#[cfg(test)]
+mod call_core;
+#[cfg(test)]
+mod limit;
+#[cfg(test)]
+mod pipe;
+#[cfg(test)]
+mod pool;
+#[cfg(test)]
+mod slot;

@@ -1,0 +1,8 @@
+//! The worked rows of the pool.
+mod bench;
+mod growth;
+mod limits;
+mod marks;
+mod step;
+mod turns;
+mod waiting;
