@@ -8,8 +8,6 @@
 pub mod event;
 pub mod laws;
 pub mod step;
-#[cfg(test)]
-mod tests;
 mod text;
 
 pub use event::{Act, Event, Moment, Party};

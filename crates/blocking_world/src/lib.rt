@@ -9,8 +9,6 @@ mod hand;
 mod parts;
 mod starts;
 mod task;
-#[cfg(test)]
-mod tests;
 mod workers;
 mod world;
 

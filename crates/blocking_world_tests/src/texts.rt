@@ -1,7 +1,7 @@
 //! The texts of events.
-use crate::event::{Act, Event, Party};
-use crate::step::Answer;
 use blocking_core::pool::{Refusal, Standing, Woke};
+use blocking_laws::event::{Act, Event, Party};
+use blocking_laws::step::Answer;
 use std::process::Abort;
 use std::test::Fail;
 

@@ -1,12 +1,12 @@
 //! Steps that have no action.
-use super::world::{counts, sees, world};
-use crate::world::World;
+use crate::world::{counts, sees, world};
 use blocking_laws::step::Answer::Number;
 use blocking_laws::step::Step;
 use blocking_laws::step::Step::{
     Arrive, End, Io, Job, Late, OfTask, SetLimit, Spawn, Stray, Strike, Take, Wait,
 };
 use blocking_laws::step::TaskCall::{Cancel, Detach, Drop as Release, Poll};
+use blocking_world::World;
 use std::alloc::AllocGlobal;
 use std::process::Abort;
 

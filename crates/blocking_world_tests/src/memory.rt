@@ -1,13 +1,13 @@
 //! Worlds whose memory is refused. `rt try --test --fail-alloc N` refuses the Nth piece that a test asks for: the test here
 //! ends as without, whichever it is, and says what came of it.
-use super::world::counts;
-use crate::world::{World, run};
+use crate::world::counts;
 use blocking_core::pool::Refusal;
 use blocking_laws::event::{Act, Event};
 use blocking_laws::step::Answer::Number;
 use blocking_laws::step::Step;
 use blocking_laws::step::Step::{Arrive, End, Io, Job, Late, OfTask, Spawn, Take};
 use blocking_laws::step::TaskCall::Poll;
+use blocking_world::{World, run};
 use std::alloc::AllocGlobal;
 use std::fmt::Write;
 use std::process::Abort;

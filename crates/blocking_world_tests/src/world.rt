@@ -1,16 +1,16 @@
 //! Worlds, step by step.
-use crate::world::{World, run};
 use blocking_laws::step::Answer::Number;
 use blocking_laws::step::Step;
 use blocking_laws::step::Step::{
     Arrive, End, Io, Job, Late, OfTask, SetLimit, Spawn, Stray, Sweep, Take, Wait,
 };
 use blocking_laws::step::TaskCall::{Cancel, Poll};
+use blocking_world::{World, run};
 use std::alloc::AllocGlobal;
 use std::process::Abort;
 
 // A world with this setting, of which the marked starts are refused.
-pub(super) fn world<R: AllocGlobal + Abort>(
+pub(crate) fn world<R: AllocGlobal + Abort>(
     rt: &R,
     setting: Option<&str>,
     marks: &[bool],
@@ -20,7 +20,7 @@ pub(super) fn world<R: AllocGlobal + Abort>(
 }
 
 // How many workers there are, how many of them are idle, how many jobs are queued, and the limit.
-pub(super) fn counts(world: &World) -> (usize, usize, usize, Option<usize>) {
+pub(crate) fn counts(world: &World) -> (usize, usize, usize, Option<usize>) {
     (
         world.thread_count(),
         world.idle_count(),
@@ -30,7 +30,7 @@ pub(super) fn counts(world: &World) -> (usize, usize, usize, Option<usize>) {
 }
 
 // Runs the steps that stand left, all at once: their events have the texts that stand right.
-pub(super) fn sees<R: AllocGlobal + Abort>(rt: &R, world: &mut World, script: &[(Step, &str)]) {
+pub(crate) fn sees<R: AllocGlobal + Abort>(rt: &R, world: &mut World, script: &[(Step, &str)]) {
     let mut steps = Vec::new(rt.alloc());
     for (step, _) in script {
         steps.push(*step).expect(rt, "memory");

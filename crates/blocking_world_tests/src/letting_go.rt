@@ -1,5 +1,5 @@
 //! Tasks that let their calls go, and worlds that end, at each stage.
-use super::world::{counts, sees, world};
+use crate::world::{counts, sees, world};
 use blocking_laws::step::Answer::Number;
 use blocking_laws::step::Step::{Arrive, End, Io, Job, OfTask, Spawn, Stray, Strike, Take};
 use blocking_laws::step::TaskCall::{Cancel, Detach, Drop as Release, Poll};
