@@ -16,7 +16,7 @@ ghost use Rattle.blocking_laws.specs.Traces.{awaited, awaited_finished, cancelle
 ghost use Rattle.blocking_laws.specs.Traces.{one_parked, woken_waits, dropped_parked, two_dropped, front_dropped, second_dropped, queued_again};
 ghost use Rattle.blocking_laws.specs.declared.event.Act.TheVariants.{Accepted, Refused, JobWoken, JobCancelled, LimitSet, Swept, TaskCancelled, HolderDropped, Took, TookDropped, Stopped, Ended, NoAction};
 ghost use Rattle.blocking_laws.specs.declared.event.Party.TheVariants.{Task, Worker, Pool};
-ghost use Rattle.blocking_laws.specs.declared.step.Step.TheVariants.{Spawn, OfTask, Arrive, Take, Job, End, Late, SetLimit, Sweep, Stray, Strike};
+ghost use Rattle.blocking_laws.specs.declared.step.Step.TheVariants.{Spawn, OfTask, Arrive, Take, Job, End, Wait, Late, SetLimit, Sweep, Stray, Strike};
 ghost use Rattle.blocking_laws.specs.declared.step.TaskCall.TheVariants.{Cancel, Drop};
 
 /// The words that the laws take from the pool: what a wake and a cancel do, when a start is due, and the limit that one leaves.
@@ -177,6 +177,10 @@ pub fn counts()
     // .. / ended 1 done / stopped 1
     ensures stopped { workers (one_done
         ▸ moment (Late 1) (Worker 1) None (Stopped 1 true) 2) ≡ 0 }
+    // .. / arrived 2 / limit 1 / stopped 2: over the limit, and before its time was up
+    ensures stopped_over_limit { workers (two_workers
+        ▸ moment (SetLimit 1) Pool None (LimitSet 1) 3
+        ▸ moment (Wait 2) (Worker 2) None (Stopped 2 false) 3) ≡ 1 }
     // the setting's number, which isn't told before the first growth
     ensures setting { limit 4 [] ≡ 4 }
     ensures untold { known_limit 4 [] ≡ None }
