@@ -10,6 +10,7 @@ pub mod Places
 pub mod PoolAnswers
 pub mod PoolLends
 pub mod Pools
+pub mod Refusals
 pub mod Rings
 pub mod SlotAnswers
 pub mod Slots
