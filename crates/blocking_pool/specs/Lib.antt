@@ -7,6 +7,7 @@ pub mod Lists
 pub mod PoolAnswers
 pub mod PoolLends
 pub mod Pools
+pub mod Refusals
 pub mod Rings
 pub mod Starters
 pub mod Sweeps

@@ -1,5 +1,10 @@
 //! What the pool answers.
+ghost use Rattle.std.specs.Prelude.{Some};
+ghost use Rattle.blocking_pool.specs.Refusals.{reason_text};
+
 use crate::pool::token::{Turn, WorkerPass};
+use std::error::Error;
+use std::fmt;
 
 /// Why a job was refused.
 #[derive(Clone, Copy, Debug, PartialEq, Eq)]
@@ -12,12 +17,41 @@ pub enum Refusal {
     Numbers,
 }
 
+impl fmt::Display for Refusal {
+    ghost output = { λ why. Some (reason_text why) };
+
+    fn fmt<W: fmt::Write>(&self, f: &mut fmt::Formatter<W>) -> fmt::Result {
+        match *self {
+            Refusal::Memory => f.write_str("no memory"),
+            Refusal::NoWorker => f.write_str("no worker could be started"),
+            Refusal::Numbers => f.write_str("the numbers are used up"),
+        }
+    }
+}
+
+impl Error for Refusal {}
+
 /// What was refused, handed back, and why.
-#[derive(Debug, Drop)]
+///
+/// It shows its reason alone, so that any job and any call can be refused with an error that a `?` passes on. That lets what
+/// came back go: who wants it takes it out first.
+#[derive(Drop)]
+#[derive_where(Debug)]
 pub struct Refused<X: Drop> {
+    #[derive_where(skip)]
     pub back: X,
     pub why: Refusal,
 }
+
+impl<X: Drop> fmt::Display for Refused<X> {
+    ghost output = { λ refused. Some (reason_text refused.why) };
+
+    fn fmt<W: fmt::Write>(&self, f: &mut fmt::Formatter<W>) -> fmt::Result {
+        write!(f, "{}", self.why)
+    }
+}
+
+impl<X: Drop> Error for Refused<X> {}
 
 /// What a wake or a cancel did to its job.
 #[derive(Clone, Copy, Debug, PartialEq, Eq)]

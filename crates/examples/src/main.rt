@@ -1,0 +1,54 @@
+//! Uses of the crate `blocking`: one call here, and more in the modules. What they print is always the same.
+#![tactic(auto)]
+
+mod host;
+mod own_job;
+mod refusal;
+mod two_kinds;
+
+use crate::host::Host;
+use anyhow::Result;
+use blocking::{CallJob, Executor, unblock};
+use blocking_core::task::Call;
+use futures::executor::block_on;
+use std::{fs, io};
+
+// A call is a value of a named type. This one reads a file, for which its thread may have to wait.
+#[derive(Drop)]
+struct ReadText {
+    rt: HostRuntime,
+    path: &'static str,
+}
+
+impl Call for ReadText {
+    type Out = io::Result<String>;
+
+    // What such a call may give: any text and any error.
+    ghost may_give = { λ _. Unit {0} };
+
+    fn call(self) -> io::Result<String> {
+        fs::read_to_string(&self.rt, self.path)
+    }
+}
+
+type Readers = Executor<CallJob<ReadText, HostRuntime>, HostRuntime>;
+
+fn main(rt: HostRuntime) -> Result<()> {
+    // At most eight threads, and none before there is a call.
+    let executor: Readers = Executor::new(rt, Some("8"))?;
+    let path = "/proc/sys/kernel/ostype";
+    let task = unblock(&executor, ReadText { rt, path })?;
+    // (here this thread may do something else)
+    let text = block_on(&rt, task)??;
+    print!(rt; "{path}: {text}")?;
+    more(rt)
+}
+
+// The examples of the modules.
+fn more<H: Host>(rt: H) -> Result<()> {
+    let (square, is_even) = two_kinds::answers(rt)?;
+    println!(rt; "12 squared is {square}; 12 is even: {is_even}")?;
+    let serial = own_job::woken(rt)?;
+    println!(rt; "job {serial} waited, and was woken")?;
+    refusal::show(rt)
+}
