@@ -1,5 +1,6 @@
-//! Worlds, event by event, and the texts of events. There is nothing here but tests, since a crate that has tests is proved a second
-//! time with them.
+//! Tests of `blocking_laws` and `blocking_world`: rows of steps, with what is seen of each.
+//!
+//! They stand in a crate of their own, since a crate that has tests is proved a second time with them.
 #![tactic(auto)]
 
 #[cfg(test)]
@@ -9,6 +10,8 @@ mod memory;
 #[cfg(test)]
 mod no_action;
 #[cfg(test)]
+mod row;
+#[cfg(test)]
 mod texts;
 #[cfg(test)]
-mod world;
+mod worlds;

@@ -1,26 +1,16 @@
 //! Steps that have no action.
-use crate::world::{counts, sees, world};
+use crate::row::Line::{Counts, Futile, Sees};
+use crate::row::{NO_SETTING, Row, play};
 use blocking_laws::step::Answer::Number;
 use blocking_laws::step::Step;
 use blocking_laws::step::Step::{
     Arrive, End, Io, Job, Late, OfTask, SetLimit, Spawn, Stray, Strike, Take, Wait,
 };
 use blocking_laws::step::TaskCall::{Cancel, Detach, Drop as Release, Poll};
-use blocking_world::World;
-use std::alloc::AllocGlobal;
-use std::process::Abort;
-
-// Each of these steps has no action, and leaves the counts as they were.
-fn sees_nothing<R: AllocGlobal + Abort>(rt: &R, world: &mut World, steps: &[Step]) {
-    let before = counts(world);
-    for step in steps {
-        sees(rt, world, &[(*step, "nothing")]);
-        assert_eq!(rt; counts(world), before, "at {step:?}");
-    }
-}
+use std::test::Fail;
 
 // Steps of those whom nobody knows, and a limit that is none.
-const STRANGERS: [Step; 23] = [
+const STRANGERS: &[Step] = &[
     OfTask(9, Poll),
     OfTask(9, Cancel),
     OfTask(usize::MAX, Detach),
@@ -47,7 +37,7 @@ const STRANGERS: [Step; 23] = [
 ];
 
 // Steps of the first worker, which has no action before it arrives and after it stops.
-const ABSENT_WORKER: [Step; 7] = [
+const ABSENT_WORKER: &[Step] = &[
     Take(1),
     Job(1),
     Io(1, Number(1)),
@@ -57,106 +47,90 @@ const ABSENT_WORKER: [Step; 7] = [
     Arrive,
 ];
 
-// A step in the life of a call, and steps that have no action after it.
-#[derive(Clone, Copy)]
-struct Stage {
-    step: Step,
-    text: &'static str,
-    futile: &'static [Step],
-}
-
-// The life of a call, from its entry to the end of its worker.
-const LIFE: [Stage; 8] = [
-    Stage {
-        step: Spawn,
-        text: "accepted 1 +1",
-        futile: &[Take(1), Strike(1), Stray(2), OfTask(1, Poll)],
-    },
-    Stage {
-        step: Arrive,
-        text: "arrived 1",
-        futile: &[Job(1), Io(1, Number(1)), End(1), Arrive, Strike(1)],
-    },
-    Stage {
-        step: Take(1),
-        text: "took 1",
-        futile: &[Take(1), Wait(1), Late(1), Job(1), End(1), Strike(1)],
-    },
-    Stage {
-        step: Io(1, Number(3)),
-        text: "answered 3",
-        futile: &[
-            Take(1),
-            Wait(1),
-            Late(1),
-            Io(1, Number(4)),
-            End(1),
-            Strike(1),
+// The life of a call, from its entry to the end of its worker, and what is futile at each stage of it.
+const ROWS: &[Row] = &[
+    Row {
+        name: "strangers have no action",
+        lines: &[
+            Futile(STRANGERS),
+            Counts(0, 0, 0, None),
+            Sees(Spawn, "accepted 1 +1"),
+            Futile(STRANGERS),
+            Sees(Arrive, "arrived 1"),
+            Futile(STRANGERS),
+            Sees(Take(1), "took 1"),
+            Futile(STRANGERS),
+            Sees(Io(1, Number(3)), "answered 3"),
+            Futile(STRANGERS),
+            Sees(Job(1), "finished"),
+            Futile(STRANGERS),
+            Sees(End(1), "ended 1 done"),
+            Futile(STRANGERS),
+            Sees(OfTask(0, Poll), "got 3"),
+            Futile(STRANGERS),
+            Sees(Late(1), "stopped 1"),
+            Futile(STRANGERS),
+            Counts(0, 0, 0, Some(500)),
         ],
+        ..NO_SETTING
     },
-    Stage {
-        step: Job(1),
-        text: "finished",
-        futile: &[
-            Take(1),
-            Wait(1),
-            Late(1),
-            Job(1),
-            Io(1, Number(4)),
-            Strike(1),
+    Row {
+        name: "steps out of turn have no action",
+        lines: &[
+            Futile(ABSENT_WORKER),
+            Counts(0, 0, 0, None),
+            Sees(Spawn, "accepted 1 +1"),
+            Futile(&[Take(1), Strike(1), Stray(2), OfTask(1, Poll)]),
+            Sees(Arrive, "arrived 1"),
+            Futile(&[Job(1), Io(1, Number(1)), End(1), Arrive, Strike(1)]),
+            Sees(Take(1), "took 1"),
+            Futile(&[Take(1), Wait(1), Late(1), Job(1), End(1), Strike(1)]),
+            Sees(Io(1, Number(3)), "answered 3"),
+            Futile(&[
+                Take(1),
+                Wait(1),
+                Late(1),
+                Io(1, Number(4)),
+                End(1),
+                Strike(1),
+            ]),
+            Sees(Job(1), "finished"),
+            Futile(&[
+                Take(1),
+                Wait(1),
+                Late(1),
+                Job(1),
+                Io(1, Number(4)),
+                Strike(1),
+            ]),
+            Sees(End(1), "ended 1 done"),
+            Futile(&[Job(1), Io(1, Number(1)), End(1), Arrive, Strike(1)]),
+            Sees(OfTask(0, Poll), "got 3"),
+            Futile(&[
+                Job(1),
+                Io(1, Number(1)),
+                End(1),
+                OfTask(0, Poll),
+                Strike(1),
+                OfTask(0, Cancel),
+                Strike(1),
+                OfTask(0, Detach),
+                Strike(1),
+                OfTask(0, Release),
+                Strike(1),
+            ]),
+            Sees(Late(1), "stopped 1"),
+            Futile(ABSENT_WORKER),
+            Counts(0, 0, 0, Some(500)),
         ],
-    },
-    Stage {
-        step: End(1),
-        text: "ended 1 done",
-        futile: &[Job(1), Io(1, Number(1)), End(1), Arrive, Strike(1)],
-    },
-    Stage {
-        step: OfTask(0, Poll),
-        text: "got 3",
-        futile: &[
-            Job(1),
-            Io(1, Number(1)),
-            End(1),
-            OfTask(0, Poll),
-            Strike(1),
-            OfTask(0, Cancel),
-            Strike(1),
-            OfTask(0, Detach),
-            Strike(1),
-            OfTask(0, Release),
-            Strike(1),
-        ],
-    },
-    Stage {
-        step: Late(1),
-        text: "stopped 1",
-        futile: &ABSENT_WORKER,
+        ..NO_SETTING
     },
 ];
 
 #[test]
-fn strangers_have_no_action(rt: HostRuntime) {
-    let mut world = world(&rt, None, &[]);
-    sees_nothing(&rt, &mut world, &STRANGERS);
-    assert_eq!(rt; counts(&world), (0, 0, 0, None));
-    for stage in LIFE {
-        sees(&rt, &mut world, &[(stage.step, stage.text)]);
-        sees_nothing(&rt, &mut world, &STRANGERS);
+fn no_action(rt: HostRuntime) -> Result<(), Fail> {
+    for row in ROWS {
+        play(rt.alloc(), row)?;
     }
-    assert_eq!(rt; counts(&world), (0, 0, 0, Some(500)));
-    world.close();
-}
-
-#[test]
-fn steps_out_of_turn_have_no_action(rt: HostRuntime) {
-    let mut world = world(&rt, None, &[]);
-    sees_nothing(&rt, &mut world, &ABSENT_WORKER);
-    assert_eq!(rt; counts(&world), (0, 0, 0, None));
-    for stage in LIFE {
-        sees(&rt, &mut world, &[(stage.step, stage.text)]);
-        sees_nothing(&rt, &mut world, stage.futile);
-    }
-    assert_eq!(rt; counts(&world), (0, 0, 0, Some(500)));
-    world.close();
+    Ok(())
 }

@@ -1,0 +1,178 @@
+//! Rows: steps, with what is seen of each. And how they are played.
+use blocking_laws::step::Step;
+use blocking_world::{World, run};
+use std::alloc::{AllocError, Global};
+use std::test::Fail;
+
+// A line of a row: a step, or what is seen of the world where the line stands.
+#[derive(Clone, Copy)]
+pub(crate) enum Line {
+    // this step has an event of this text
+    Sees(Step, &'static str),
+    // none of these steps has an action, and each leaves the counts as they were
+    Futile(&'static [Step]),
+    // so many workers there are, so many of them are idle, so many jobs are queued, and the limit is this
+    Counts(usize, usize, usize, Option<usize>),
+    // whether the job of this worker has an action that is its own to take
+    HasAction(usize, bool),
+}
+
+// What is seen, line by line, of a world with this setting, of which the marked starts are refused.
+#[derive(Clone, Copy)]
+pub(crate) struct Row {
+    pub(crate) name: &'static str,
+    pub(crate) setting: Option<&'static str>,
+    pub(crate) starts: &'static [bool],
+    pub(crate) lines: &'static [Line],
+}
+
+// What rows have in common: no setting, and no marked start.
+pub(crate) const NO_SETTING: Row = Row {
+    name: "",
+    setting: None,
+    starts: &[],
+    lines: &[],
+};
+
+// Where in a row: behind so many of its lines.
+#[derive(Clone, Copy)]
+pub(crate) struct Place<'a> {
+    pub(crate) row: &'a str,
+    pub(crate) lines: usize,
+}
+
+// What was seen at this place is what was to be seen there.
+pub(crate) fn agree(place: Place, seen: &str, text: &str) -> Result<(), Fail> {
+    if seen == text {
+        return Ok(());
+    }
+    Err(Fail::new(format_args!(
+        "{}, after {} lines: '{seen}' in place of '{text}'",
+        place.row, place.lines
+    )))
+}
+
+// How many workers there are, how many of them are idle, how many jobs are queued, and the limit.
+pub(crate) fn counts(world: &World) -> (usize, usize, usize, Option<usize>) {
+    (
+        world.thread_count(),
+        world.idle_count(),
+        world.queue_len(),
+        world.limit(),
+    )
+}
+
+// This step has one event, of this text.
+fn sees(
+    alloc: Global,
+    world: &mut World,
+    place: Place,
+    step: Step,
+    text: &str,
+) -> Result<(), Fail> {
+    let events = run(alloc, world, &[step])?;
+    let [event] = events.as_slice() else {
+        return agree(place, "not one event", text);
+    };
+    let seen = format!(in alloc; "{event}")?;
+    agree(place, seen.as_str(), text)
+}
+
+// None of these steps has an action, and each leaves the counts as they were.
+fn are_futile(alloc: Global, world: &mut World, place: Place, steps: &[Step]) -> Result<(), Fail> {
+    for step in steps {
+        let before = counts(world);
+        sees(alloc, world, place, *step, "nothing")?;
+        if counts(world) != before {
+            return agree(place, "other counts", "nothing");
+        }
+    }
+    Ok(())
+}
+
+// What the line says is seen of the world.
+fn holds(alloc: Global, world: &mut World, place: Place, line: &Line) -> Result<(), Fail> {
+    match *line {
+        Line::Sees(step, text) => sees(alloc, world, place, step, text),
+        Line::Futile(steps) => are_futile(alloc, world, place, steps),
+        Line::Counts(workers, idle, queued, limit) => {
+            if counts(world) == (workers, idle, queued, limit) {
+                Ok(())
+            } else {
+                agree(place, "other counts", "")
+            }
+        }
+        Line::HasAction(worker, has_action) => {
+            if world.has_job_action(worker) == has_action {
+                Ok(())
+            } else {
+                agree(place, "other action", "")
+            }
+        }
+    }
+}
+
+// What the lines say is seen of the world.
+fn all_hold(alloc: Global, world: &mut World, row: &Row, lines: &[Line]) -> Result<(), Fail> {
+    for (count, line) in lines.iter().enumerate() {
+        let place = Place {
+            row: row.name,
+            lines: count,
+        };
+        holds(alloc, world, place, line)?;
+    }
+    Ok(())
+}
+
+// The world of a row, as it is before any line.
+fn world(alloc: Global, row: &Row) -> Result<World, AllocError> {
+    let starts = row.starts.to_vec(alloc)?;
+    Ok(World::new(alloc, row.setting, starts))
+}
+
+// Plays these lines one after the other, and ends their world.
+fn play_step_by_step(alloc: Global, row: &Row, lines: &[Line]) -> Result<(), Fail> {
+    let mut world = world(alloc, row)?;
+    let outcome = all_hold(alloc, &mut world, row, lines);
+    world.close();
+    outcome
+}
+
+// The texts of the events of these steps, all taken at once, each with a line feed.
+fn texts(alloc: Global, world: &mut World, steps: &[Step]) -> Result<String, AllocError> {
+    let mut texts = String::new(alloc);
+    for event in &run(alloc, world, steps)? {
+        texts.push_str(format!(in alloc; "{event}\n")?.as_str())?;
+    }
+    Ok(texts)
+}
+
+// Plays the steps of these lines at once, and ends their world.
+fn play_at_once(alloc: Global, row: &Row, lines: &[Line]) -> Result<(), Fail> {
+    let mut steps = Vec::new(alloc);
+    let mut text = String::new(alloc);
+    for line in lines {
+        if let Line::Sees(step, event) = *line {
+            steps.push(step)?;
+            text.push_str(format!(in alloc; "{event}\n")?.as_str())?;
+        }
+    }
+    let mut world = world(alloc, row)?;
+    let seen = texts(alloc, &mut world, &steps);
+    world.close();
+    let place = Place {
+        row: row.name,
+        lines: 0,
+    };
+    agree(place, seen?.as_str(), text.as_str())
+}
+
+// Plays a row, and each beginning of it too: a world ends wherever it stands.
+pub(crate) fn play(alloc: Global, row: &Row) -> Result<(), Fail> {
+    for count in 0..=row.lines.len() {
+        let lines = row.lines.get(..count).unwrap_or(&[]);
+        play_step_by_step(alloc, row, lines)?;
+        play_at_once(alloc, row, lines)?;
+    }
+    Ok(())
+}
