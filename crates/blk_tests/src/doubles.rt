@@ -1,5 +1,4 @@
-//! Writers and readers that fail, and the arguments of a process.
-use std::env::{Env, FillError};
+//! Writers and readers that fail.
 use std::io;
 use std::io::{ErrorKind, Read, Write};
 
@@ -45,34 +44,5 @@ impl Read for Broken {
         self.is_read = true;
         buf[..8].copy_from_slice(b"limit 3\n");
         Ok(8)
-    }
-}
-
-/// The arguments of a process: its name, a word, one that isn't UTF-8, and a long one.
-#[derive(Drop)]
-pub(crate) struct Arguments;
-
-impl Env for Arguments {
-    fn arg(&self, i: usize, buf: &mut [u8]) -> Result<usize, FillError> {
-        let word = match i {
-            0 => b"blk".as_slice(),
-            1 => b"call".as_slice(),
-            2 => b"\xff".as_slice(),
-            3 => [b'7'; 300].as_slice(),
-            _ => return Err(FillError::NotPresent),
-        };
-        if word.len() > buf.len() {
-            return Err(FillError::TooLong);
-        }
-        buf[..word.len()].copy_from_slice(word);
-        Ok(word.len())
-    }
-
-    fn var(&self, _name: &str, _buf: &mut [u8]) -> Result<usize, FillError> {
-        Err(FillError::NotPresent)
-    }
-
-    fn var_at(&self, _i: usize, _buf: &mut [u8]) -> Result<usize, FillError> {
-        Err(FillError::NotPresent)
     }
 }

@@ -1,4 +1,4 @@
-//! The tests of `blk`'s commands: tables of command lines, each played by one function.
+//! What of `blk`'s commands its stored runs can't show: writers and readers that fail, and how scripts and words are read.
 #![tactic(auto)]
 
 #[cfg(test)]
@@ -6,12 +6,6 @@ mod doubles;
 #[cfg(test)]
 mod failing;
 #[cfg(test)]
-mod line;
-#[cfg(test)]
-mod play;
-#[cfg(test)]
 mod reading;
 #[cfg(test)]
-mod script;
-#[cfg(test)]
-mod stored;
+mod words;
