@@ -2,8 +2,9 @@
 use crate::figures::{Figures, Request};
 use blocking::{CallJob, Executor, Host, Task, unblock};
 use blocking_core::task::Call;
+use futures::Future;
 use futures::executor::{block_on, block_on_queue};
-use futures::task::{Doorbell, Queue};
+use futures::task::{Context, Doorbell, Poll, Queue};
 use std::time::{Duration, Instant};
 use std::{io, thread};
 
@@ -169,20 +170,43 @@ fn roundtrip_await<R: Host>(host: R, executor: &Workers<R>, size: usize) -> io::
     Ok(())
 }
 
-// All calls first, then each answer in order.
+// Tasks that are polled to their ends in order: the one that is next, by its place, is to answer one more than that.
+#[derive(Drop)]
+struct InOrder<R: Host> {
+    tasks: Vec<Task<Work, R>>,
+    next: usize,
+}
+
+impl<R: Host> Future for InOrder<R> {
+    type Output = io::Result<()>;
+
+    fn poll(&mut self, cx: &mut Context<'_>) -> Poll<io::Result<()>> {
+        for _ in self.next..self.tasks.len() {
+            let Some(task) = self.tasks.get_mut(self.next) else {
+                break;
+            };
+            if task.is_taken() {
+                return Poll::Ready(Err(failed()));
+            }
+            let Poll::Ready(answer) = task.poll(cx) else {
+                return Poll::Pending;
+            };
+            self.next = self.next.saturating_add(1);
+            if answer != self.next as u64 {
+                return Poll::Ready(Err(failed()));
+            }
+        }
+        Poll::Ready(Ok(()))
+    }
+}
+
+// All calls first, then each answer in order, in one `block_on`.
 fn burst<R: Host>(host: R, executor: &Workers<R>, size: usize) -> io::Result<()> {
     let mut tasks = Vec::with_capacity(host.alloc(), size)?;
     for n in 0..size {
         tasks.push(begun(executor, Work::Succeed(n as u64))?)?;
     }
-    let queue = Queue::new(&host, Doorbell::parking())?;
-    let _hold = queue.hold()?;
-    let mut wanted = 0u64;
-    for task in tasks {
-        wanted = wanted.wrapping_add(1);
-        check(answer_by(host, &queue, task)?, wanted)?;
-    }
-    Ok(())
+    block_on(&host, InOrder { tasks, next: 0 })?
 }
 
 // Calls that sleep, all at once.
