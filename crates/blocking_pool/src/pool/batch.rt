@@ -31,7 +31,7 @@ impl Batch {
         }
     }
 
-    /// Makes room for so many numbers, of which none is here.
+    /// Lets go of all numbers, and makes room for so many.
     pub(crate) fn make_room(&mut self, count: usize) -> Result<(), AllocError>
         ensures kept { self.old.room ≤ self.new.room }
         ensures room { OnOk result (count ≤ self.new.room) }
