@@ -1,9 +1,9 @@
 pub mod GrowthLemmas
 pub mod LimitLemmas
 pub mod Lists
+pub mod ParkLemmas
 pub mod PoolLemmas
 pub mod RingLemmas
-pub mod RollLemmas
 pub mod Standings
 pub mod SweepLemmas
 pub mod TableLemmas

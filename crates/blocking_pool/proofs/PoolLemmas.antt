@@ -1,14 +1,13 @@
 -- What each call of a pool keeps.
-use Rattle.std.proofs.Common.{◌≡◌, ◌≢◌, ℕ, zero, suc, ◌+◌, ◌-◌, ◌<◌, ◌≤◌, Bool, true, false, cond, not, eqb, ◌||◌, ◌&&◌, List, [], ◌∷◌, ◌++◌, length, filter, Option, Some, None, is_some, option_map, OnSome, refl, sym, ap, ◌∙◌, subst, inl, inr, arith, add-one}
-use Rattle.std.proofs.lemmas.Bool.{eqb-true, eq-eqb, ne_eqb, cases_eq, cases_lt, or_right, and_parts, false≢true}
-use Rattle.std.proofs.Math.Bool.{and-false, and-true}
+use Rattle.std.proofs.Common.{◌≡◌, ◌≢◌, ℕ, zero, suc, ◌+◌, ◌-◌, ◌<◌, ◌≤◌, Bool, true, false, eqb, ◌||◌, List, [], ◌∷◌, ◌++◌, length, Option, Some, None, is_some, option_map, OnSome, refl, sym, ap, ◌∙◌, subst, inl, inr, arith, add-one}
+use Rattle.std.proofs.lemmas.Bool.{eqb-true, ne_eqb, cases_eq, cases_lt, or_right, and_parts, false≢true}
 use Rattle.std.proofs.lemmas.List.{append-nil, append_assoc, length-append}
-use Rattle.std.proofs.lemmas.List.Elements.{filter_agree, filter-append}
 use Rattle.std.specs.FinMap.{get, insert, remove, empty, get-empty}
 use Rattle.std.specs.Ordering.{nat_cmp}
-use Rattle.blocking_pool.specs.Lists.{is_in, IsOnce, without}
-use Rattle.blocking_pool.specs.Sweeps.{AreAsked, is_due, swept, serials_below}
-use Rattle.blocking_pool.specs.Tables.{Table, Becomes, TakesFirst, SweepsAll, IsRollOf, IsWhole}
+use Rattle.blocking_pool.specs.Batch.{IsRising}
+use Rattle.blocking_pool.specs.Lists.{is_in, IsOnce}
+use Rattle.blocking_pool.specs.Sweeps.{is_due, swept, serials_below}
+use Rattle.blocking_pool.specs.Tables.{Table, Becomes, TakesFirst, SweepsAll, IsWhole}
 use Rattle.blocking_pool.specs.PoolAnswers.{Sweeps, SweepsTo, StaysOrStops, Waits}
 use Rattle.blocking_pool.specs.declared.pool.answer.Waited.{Waited}
 use Rattle.blocking_pool.specs.declared.pool.table.Front.{Front}
@@ -20,91 +19,18 @@ use Rattle.blocking_pool.specs.TableLends.{IfLent}
 use Rattle.blocking_pool.specs.declared.pool.standing.Standing.{Standing}
 use Rattle.blocking_pool.specs.declared.pool.standing.Standing.TheVariants.{Running, Parked}
 use Rattle.blocking_pool.specs.declared.pool.bell.BellKind.TheVariants.{One}
-use Rattle.blocking_pool.proofs.Lists.{by_eq, is_in-first, is_in-last, is_in-push, IsOnce-push, length-le_below}
+use Rattle.blocking_pool.proofs.Lists.{is_in-first, is_in-last, is_in-push, IsOnce-push, length-le_below}
 use Rattle.blocking_pool.proofs.Standings.{queued_is, running_is, standing_job, running_job, parked_job}
-use Rattle.blocking_pool.proofs.SweepLemmas.{filter_same, job_of_found, job_of_amend, at_changed}
+use Rattle.blocking_pool.proofs.SweepLemmas.{kept_in, once_rising, job_of_found, job_of_amend, at_changed, swept_serials}
 use Rattle.blocking_pool.proofs.TableLemmas.{at_insert_same, at_insert_other, at_remove_same, at_remove_other, amend_found}
 
 -- a growth keeps the order of the counts, and the number of those that run a job
 pub grown_order : (counts : Counts) (growth : Growth) → AreInOrder counts → AreInOrder (grown counts growth)
 grown_order counts growth order = record { arriving = omega (arith, order.arriving); idle = omega (arith, order.idle) }
 
--- two tests, one after the other
-filter_twice : (p q r : ℕ → Bool) (xs : List ℕ) → ((x : ℕ) → r x ≡ (p x && q x)) → filter q (filter p xs) ≡ filter r xs
-filter_twice p q r [] both = refl
-filter_twice p q r (x ∷ xs) both =
-    let rest = filter_twice p q r xs both in
-    by_test (p x) rest ∙ ap (λ b. cond b (x ∷ filter r xs) (filter r xs)) (sym (both x))
-  where
-    by_test : (b : Bool) → filter q (filter p xs) ≡ filter r xs → filter q (cond b (x ∷ filter p xs) (filter p xs)) ≡ cond (b && q x) (x ∷ filter r xs) (filter r xs)
-    by_test true rest = ap (λ ys. cond (q x) (x ∷ ys) ys) rest
-    by_test false rest = rest
-
--- the serials below one are below it
-below : (s next : ℕ) → is_in s (serials_below next) ≡ true → s < next
-below s zero found = absurd (false≢true found)
-below s (suc next) found =
-    elim (cases_eq s next) [
-      | inl same ↦ omega (arith, same)
-      | inr far ↦
-          let rest = sym (is_in-push s next (serials_below next) far) ∙ found in
-          omega (arith, below s next rest)
-    ]
-
--- each serial below one stands among them
-pub stands_below : (s next : ℕ) → s < next → is_in s (serials_below next) ≡ true
-stands_below s zero is = absurd (omega arith)
-stands_below s (suc next) is =
-    elim (cases_eq s next) [
-      | inl same ↦ is_in-last s next (serials_below next) same
-      | inr far ↦ is_in-push s next (serials_below next) far ∙ stands_below s next (omega (arith, far))
-    ]
-
-once_below : (next : ℕ) → IsOnce (serials_below next)
-once_below zero = tt
-once_below (suc next) = IsOnce-push (serials_below next) next (once_below next) (absent (is_in next (serials_below next)) refl)
-  where
-    absent : (b : Bool) → is_in next (serials_below next) ≡ b → is_in next (serials_below next) ≡ false
-    absent false is = is
-    absent true is = absurd (omega (arith, below next next is))
-
 none_of : (serials : List ℕ) → length serials ≡ 0 → serials ≡ []
 none_of [] is = refl
 none_of (s ∷ serials) is = absurd (omega (arith, is))
-
--- what is kept of a list stood in it, and passes the test
-pub kept_in : (p : ℕ → Bool) (s : ℕ) (xs : List ℕ) → is_in s (filter p xs) ≡ true → (is_in s xs ≡ true) × (p s ≡ true)
-kept_in p s [] found = absurd (false≢true found)
-kept_in p s (x ∷ xs) found = by_test (p x) refl found (λ f. kept_in p s xs f)
-  where
-    by_test : (b : Bool) → p x ≡ b → is_in s (cond b (x ∷ filter p xs) (filter p xs)) ≡ true → (is_in s (filter p xs) ≡ true → (is_in s xs ≡ true) × (p s ≡ true)) → (is_in s (x ∷ xs) ≡ true) × (p s ≡ true)
-    by_test true is f rest =
-        by_eq s x (λ b. (b || is_in s (filter p xs)) ≡ true → ((b || is_in s xs) ≡ true) × (p s ≡ true))
-        (λ same g. (refl, ap p same ∙ is)) (λ far g. rest g) f
-    by_test false is f rest = (or_right (eqb s x) (is_in s xs) (rest f).0, (rest f).1)
-
--- what stands in a list and passes the test is kept
-pub in_kept : (p : ℕ → Bool) (s : ℕ) (xs : List ℕ) → is_in s xs ≡ true → p s ≡ true → is_in s (filter p xs) ≡ true
-in_kept p s [] found is = absurd (false≢true found)
-in_kept p s (x ∷ xs) found is = by_test (p x) refl found (λ f. in_kept p s xs f is)
-  where
-    by_test : (b : Bool) → p x ≡ b → is_in s (x ∷ xs) ≡ true → (is_in s xs ≡ true → is_in s (filter p xs) ≡ true) → is_in s (cond b (x ∷ filter p xs) (filter p xs)) ≡ true
-    by_test true here f rest =
-        by_eq s x (λ b. (b || is_in s xs) ≡ true → (b || is_in s (filter p xs)) ≡ true) (λ same g. refl) (λ far g. rest g) f
-    by_test false here f rest =
-        by_eq s x (λ b. (b || is_in s xs) ≡ true → is_in s (filter p xs) ≡ true) (λ same g. absurd (false≢true (sym here ∙ ap p (sym same) ∙ is))) (λ far g. rest g) f
-
-pub once_kept : (p : ℕ → Bool) (xs : List ℕ) → IsOnce xs → IsOnce (filter p xs)
-once_kept p [] once = tt
-once_kept p (x ∷ xs) once = by_test (p x) (once_kept p xs once.1)
-  where
-    absent : (b : Bool) → is_in x (filter p xs) ≡ b → is_in x (filter p xs) ≡ false
-    absent false is = is
-    absent true is = absurd (false≢true (sym once.0 ∙ (kept_in p x xs is).0))
-
-    by_test : (b : Bool) → IsOnce (filter p xs) → IsOnce (cond b (x ∷ filter p xs) (filter p xs))
-    by_test true rest = (absent (is_in x (filter p xs)) refl, rest)
-    by_test false rest = rest
 
 module _ {J : Type 0} where
   -- jobs that differ at one serial
@@ -436,45 +362,6 @@ module _ {J : Type 0} where
       there : get jobs serial ≡ Some (parked_with value job.0)
       there = amend_same pool.jobs number.serial (parked_with value) job.0 (job_of_found pool.jobs number job.0 job.1).0
 
-  -- which serials have jobs tells the order of acceptance
-  pub roll_same : (accepted : List ℕ) (old new : Jobs J) (next : ℕ) → ((s : ℕ) → is_some (get new s) ≡ is_some (get old s)) → IsRollOf accepted old next → IsRollOf accepted new next
-  roll_same accepted old new next same roll = roll ∙ filter_agree (λ s. is_some (get old s)) (λ s. is_some (get new s)) (λ s. sym (same s)) (serials_below next)
-
-  pub again_there : (jobs : Jobs J) (serials : List ℕ) (s : ℕ) → is_some (get (all_queued_again jobs serials) s) ≡ is_some (get jobs s)
-  again_there jobs [] s = refl
-  again_there jobs (serial ∷ serials) s = again_there (amend jobs serial queued_again) serials s ∙ amend_there jobs serial queued_again s
-
-  pub taken_there : (jobs : Jobs J) (serial : ℕ) (job is : Job J) → get jobs serial ≡ Some job → (s : ℕ) → is_some (get (insert jobs serial is) s) ≡ is_some (get jobs s)
-  taken_there jobs serial job is found s =
-      elim (cases_eq s serial) [
-        | inl same ↦ ap is_some (ap (get (insert jobs serial is)) same ∙ at_insert_same jobs serial is) ∙ sym (ap is_some (ap (get jobs) same ∙ found))
-        | inr far ↦ ap is_some (at_insert_other jobs serial is s far)
-      ]
-
-  pub roll_entered : (accepted : List ℕ) (jobs : Jobs J) (next : ℕ) (job : Job J) → IsRollOf accepted jobs next → IsRollOf (accepted ++ next ∷ []) (insert jobs next job) (next + 1)
-  roll_entered accepted jobs next job roll =
-      ap (λ ss. ss ++ next ∷ []) (roll ∙ filter_same (λ s. is_some (get jobs s)) there (serials_below next)
-      (λ s found. sym (ap is_some (at_insert_other jobs next job s (λ e. omega (arith, below s next found))))))
-      ∙ ap (λ ss. filter there (serials_below next) ++ ss) (sym (ap (λ j. cond (is_some j) (next ∷ []) []) (at_insert_same jobs next job)))
-      ∙ sym (filter-append there (serials_below next) (next ∷ []))
-      ∙ ap (λ n. filter there (serials_below n)) (sym (add-one next))
-    where
-      there : ℕ → Bool
-      there s = is_some (get (insert jobs next job) s)
-
-  pub roll_left : (accepted : List ℕ) (jobs : Jobs J) (serial next : ℕ) → IsRollOf accepted jobs next → IsRollOf (without serial accepted) (remove jobs serial) next
-  roll_left accepted jobs serial next roll = ap (without serial) roll ∙ both (serials_below next)
-    where
-      both : (ss : List ℕ) → without serial (filter (λ s. is_some (get jobs s)) ss) ≡ filter (λ s. is_some (get (remove jobs serial) s)) ss
-      both ss = filter_twice (λ s. is_some (get jobs s)) (λ s. not (eqb serial s)) (λ s. is_some (get (remove jobs serial) s)) ss at_each
-        where
-          at_each : (s : ℕ) → is_some (get (remove jobs serial) s) ≡ (is_some (get jobs s) && not (eqb serial s))
-          at_each s =
-              elim (cases_eq s serial) [
-                | inl same ↦ ap is_some (ap (get (remove jobs serial)) same ∙ at_remove_same jobs serial) ∙ sym (ap (λ b. is_some (get jobs s) && not b) (eq-eqb serial s (sym same)) ∙ and-false (is_some (get jobs s)))
-                | inr far ↦ ap is_some (at_remove_other jobs serial s far) ∙ sym (ap (λ b. is_some (get jobs s) && not b) (ne_eqb serial s (λ e. far (sym e))) ∙ and-true (is_some (get jobs s)))
-              ]
-
   -- a sound pool, as its parts are told
   pub sound_as : (queue row : List ℕ) (jobs others : Jobs J) (counts numbers : Counts) (next : ℕ) → row ≡ queue → others ≡ jobs → numbers ≡ counts
       → IsSound (record { queue = queue; jobs = jobs; counts = counts; next_serial = next }) → IsSound (record { queue = row; jobs = others; counts = numbers; next_serial = next })
@@ -484,40 +371,38 @@ module _ {J : Type 0} where
       (subst (λ c. IsSound (record { queue = queue; jobs = jobs; counts = c; next_serial = next })) (sym equal) sound))
 
   -- what a table and counts keep, as their parts are told
-  pub whole_as : (table : Table J) (queue accepted : List ℕ) (jobs : Jobs J) (counts numbers : Counts) (next : ℕ) → table.queue ≡ queue → table.accepted ≡ accepted → table.jobs ≡ jobs → numbers ≡ counts
-      → IsSound (record { queue = queue; jobs = jobs; counts = counts; next_serial = next }) → IsRollOf accepted jobs next → IsWhole table numbers next
-  whole_as table queue accepted jobs counts numbers next same order alike equal sound roll =
-      record {
-        sound = sound_as queue table.queue jobs table.jobs counts numbers next same alike equal sound;
-        roll = subst (λ a. IsRollOf a table.jobs next) (sym order) (subst (λ js. IsRollOf accepted js next) (sym alike) roll);
-      }
+  pub whole_as : (table : Table J) (queue : List ℕ) (jobs : Jobs J) (counts numbers : Counts) (next room : ℕ) → table.queue ≡ queue → table.jobs ≡ jobs → numbers ≡ counts → table.room ≤ room
+      → IsSound (record { queue = queue; jobs = jobs; counts = counts; next_serial = next }) → IsWhole table numbers next room
+  whole_as table queue jobs counts numbers next room same alike equal within sound =
+      record { sound = sound_as queue table.queue jobs table.jobs counts numbers next same alike equal sound; room = within }
+
+  -- where a table becomes another, what had room has room
+  room_as : (old new : Table J) (queue : List ℕ) (jobs : Jobs J) (room : ℕ) → Becomes old new queue jobs → old.room ≤ room → new.room ≤ room
+  room_as old new queue jobs room becomes within = omega (arith, becomes.room_is, within)
 
   -- the front job is taken, and the pool grows
-  pub taken_whole : (old new : Table J) (front : Front J) (counts after : Counts) (growth : Growth) (next : ℕ) → IsWhole old counts next → TakesFirst old (Some front) new → counts.arriving < counts.idle
-      → after ≡ grown (busier counts) growth → IsWhole new after next
-  taken_whole old new front counts after growth next whole takes free is =
-      whole_as new new.queue old.accepted (insert old.jobs front.no.serial (running takes.1)) (grown (busier counts) growth) after next
-      refl takes.6.accepted_is takes.6.jobs_are is
+  pub taken_whole : (old new : Table J) (front : Front J) (counts after : Counts) (growth : Growth) (next room : ℕ) → IsWhole old counts next room → TakesFirst old (Some front) new → counts.arriving < counts.idle
+      → after ≡ grown (busier counts) growth → IsWhole new after next room
+  taken_whole old new front counts after growth next room whole takes free is =
+      whole_as new new.queue (insert old.jobs front.no.serial (running takes.1)) (grown (busier counts) growth) after next room
+      refl takes.6.jobs_are is (room_as _ _ _ _ room takes.6 whole.room)
       (grown_sound _ growth (taken_sound _ front.no.serial new.queue takes.1 takes.0 takes.2 free whole.sound))
-      (roll_same old.accepted old.jobs (insert old.jobs front.no.serial (running takes.1)) next (taken_there old.jobs front.no.serial takes.1 (running takes.1) takes.2) whole.roll)
 
   -- a job is marked
-  pub marked_whole : (old new : Table J) (counts : Counts) (next serial : ℕ) (change : Job J → Job J) → ((j : Job J) → (change j).standing ≡ j.standing) → IsWhole old counts next
-      → Becomes old new old.queue (amend old.jobs serial change) → IsWhole new counts next
-  marked_whole old new counts next serial change alike whole becomes =
-      whole_as new old.queue old.accepted (amend old.jobs serial change) counts counts next
-      becomes.queue_is becomes.accepted_is becomes.jobs_are refl
+  pub marked_whole : (old new : Table J) (counts : Counts) (next room serial : ℕ) (change : Job J → Job J) → ((j : Job J) → (change j).standing ≡ j.standing) → IsWhole old counts next room
+      → Becomes old new old.queue (amend old.jobs serial change) → IsWhole new counts next room
+  marked_whole old new counts next room serial change alike whole becomes =
+      whole_as new old.queue (amend old.jobs serial change) counts counts next room
+      becomes.queue_is becomes.jobs_are refl (room_as _ _ _ _ room becomes whole.room)
       (marked_sound _ serial change alike whole.sound)
-      (roll_same old.accepted old.jobs (amend old.jobs serial change) next (amend_there old.jobs serial change) whole.roll)
 
   -- parked jobs enter again, and the pool grows
-  pub requeued_whole : (old new : Table J) (counts after : Counts) (growth : Growth) (next : ℕ) (serials : List ℕ) → IsOnce serials → ((s : ℕ) → is_in s serials ≡ true → is_parked_job (get old.jobs s) ≡ true) → IsWhole old counts next
-      → Becomes old new (old.queue ++ serials) (all_queued_again old.jobs serials) → after ≡ rung One (grown counts growth) → IsWhole new after next
-  requeued_whole old new counts after growth next serials once parked whole becomes is =
-      whole_as new (old.queue ++ serials) old.accepted (all_queued_again old.jobs serials) (rung One (grown counts growth)) after next
-      becomes.queue_is becomes.accepted_is becomes.jobs_are is
+  pub requeued_whole : (old new : Table J) (counts after : Counts) (growth : Growth) (next room : ℕ) (serials : List ℕ) → IsOnce serials → ((s : ℕ) → is_in s serials ≡ true → is_parked_job (get old.jobs s) ≡ true) → IsWhole old counts next room
+      → Becomes old new (old.queue ++ serials) (all_queued_again old.jobs serials) → after ≡ rung One (grown counts growth) → IsWhole new after next room
+  requeued_whole old new counts after growth next room serials once parked whole becomes is =
+      whole_as new (old.queue ++ serials) (all_queued_again old.jobs serials) (rung One (grown counts growth)) after next room
+      becomes.queue_is becomes.jobs_are is (room_as _ _ _ _ room becomes whole.room)
       (rung_sound _ (grown_sound _ growth (requeued_sound _ serials once parked whole.sound)))
-      (roll_same old.accepted old.jobs (all_queued_again old.jobs serials) next (again_there old.jobs serials) whole.roll)
 
   -- the job of a number that stands parked
   pub parked_one : (jobs : Jobs J) (number : JobNumber) → standing_of jobs number ≡ Some Parked → (s : ℕ) → is_in s (number.serial ∷ []) ≡ true → is_parked_job (get jobs s) ≡ true
@@ -543,98 +428,68 @@ module _ {J : Type 0} where
       ap (λ j. option_map (λ found. found.standing) j) (job_of_amend jobs number job.0 (parked_with value) (λ j. refl) job.1)
 
   -- a running job is over
-  pub left_whole : (old new : Table J) (number : JobNumber) (counts after : Counts) (next : ℕ) → is_running_as old.jobs number ≡ true → IsWhole old counts next
-      → new.queue ≡ old.queue → new.accepted ≡ without number.serial old.accepted → new.jobs ≡ remove old.jobs number.serial → after ≡ freer counts → IsWhole new after next
-  left_whole old new number counts after next runs whole queue accepted jobs is =
-      whole_as new old.queue (without number.serial old.accepted) (remove old.jobs number.serial) (freer counts) after next queue accepted jobs is
-      (removed_sound _ number runs whole.sound) (roll_left old.accepted old.jobs number.serial next whole.roll)
+  pub left_whole : (old new : Table J) (number : JobNumber) (counts after : Counts) (next room : ℕ) → is_running_as old.jobs number ≡ true → IsWhole old counts next room
+      → new.queue ≡ old.queue → new.jobs ≡ remove old.jobs number.serial → new.room ≡ old.room → after ≡ freer counts → IsWhole new after next room
+  left_whole old new number counts after next room runs whole queue jobs as_wide is =
+      whole_as new old.queue (remove old.jobs number.serial) (freer counts) after next room queue jobs is (omega (arith, as_wide, whole.room))
+      (removed_sound _ number runs whole.sound)
 
   -- a running job waits
-  pub parked_whole : (old new : Table J) (number : JobNumber) (value : J) (counts after : Counts) (next : ℕ) → is_running_as old.jobs number ≡ true → IsWhole old counts next
-      → Becomes old new old.queue (amend old.jobs number.serial (parked_with value)) → after ≡ freer counts → IsWhole new after next
-  parked_whole old new number value counts after next runs whole becomes is =
-      whole_as new old.queue old.accepted (amend old.jobs number.serial (parked_with value)) (freer counts) after next
-      becomes.queue_is becomes.accepted_is becomes.jobs_are is
+  pub parked_whole : (old new : Table J) (number : JobNumber) (value : J) (counts after : Counts) (next room : ℕ) → is_running_as old.jobs number ≡ true → IsWhole old counts next room
+      → Becomes old new old.queue (amend old.jobs number.serial (parked_with value)) → after ≡ freer counts → IsWhole new after next room
+  parked_whole old new number value counts after next room runs whole becomes is =
+      whole_as new old.queue (amend old.jobs number.serial (parked_with value)) (freer counts) after next room
+      becomes.queue_is becomes.jobs_are is (room_as _ _ _ _ room becomes whole.room)
       (parked_sound _ number value runs whole.sound)
-      (roll_same old.accepted old.jobs (amend old.jobs number.serial (parked_with value)) next (amend_there old.jobs number.serial (parked_with value)) whole.roll)
 
   -- a job that was parked now is queued, and one worker is notified
-  pub returned_whole : (old new : Table J) (number : JobNumber) (counts after : Counts) (next : ℕ) → standing_of old.jobs number ≡ Some Parked → IsWhole old counts next
-      → Becomes old new (old.queue ++ number.serial ∷ []) (amend old.jobs number.serial queued_again) → after ≡ rung One counts → IsWhole new after next
-  returned_whole old new number counts after next parked whole becomes is =
-      whole_as new (old.queue ++ number.serial ∷ []) old.accepted (amend old.jobs number.serial queued_again) (rung One counts) after next
-      becomes.queue_is becomes.accepted_is becomes.jobs_are is
+  pub returned_whole : (old new : Table J) (number : JobNumber) (counts after : Counts) (next room : ℕ) → standing_of old.jobs number ≡ Some Parked → IsWhole old counts next room
+      → Becomes old new (old.queue ++ number.serial ∷ []) (amend old.jobs number.serial queued_again) → after ≡ rung One counts → IsWhole new after next room
+  returned_whole old new number counts after next room parked whole becomes is =
+      whole_as new (old.queue ++ number.serial ∷ []) (amend old.jobs number.serial queued_again) (rung One counts) after next room
+      becomes.queue_is becomes.jobs_are is (room_as _ _ _ _ room becomes whole.room)
       (rung_sound _ (requeued_sound _ (number.serial ∷ []) (refl, tt) (parked_one old.jobs number parked) whole.sound))
-      (roll_same old.accepted old.jobs (amend old.jobs number.serial queued_again) next (amend_there old.jobs number.serial queued_again) whole.roll)
 
   -- a running job waits, and goes back to the queue at once; one worker is notified
-  pub returned_at_once : (old mid new : Table J) (number : JobNumber) (value : J) (counts free after : Counts) (next : ℕ) → is_running_as old.jobs number ≡ true → IsWhole old counts next
+  pub returned_at_once : (old mid new : Table J) (number : JobNumber) (value : J) (counts free after : Counts) (next room : ℕ) → is_running_as old.jobs number ≡ true → IsWhole old counts next room
       → Becomes old mid old.queue (amend old.jobs number.serial (parked_with value)) → Becomes mid new (mid.queue ++ number.serial ∷ []) (amend mid.jobs number.serial queued_again)
-      → free ≡ freer counts → after ≡ rung One free → IsWhole new after next
-  returned_at_once old mid new number value counts free after next runs whole parks enters frees rings =
-      returned_whole mid new number free after next (ap (λ js. standing_of js number) parks.jobs_are ∙ parked_stands old.jobs number value runs)
-      (parked_whole old mid number value counts free next runs whole parks frees) enters rings
+      → free ≡ freer counts → after ≡ rung One free → IsWhole new after next room
+  returned_at_once old mid new number value counts free after next room runs whole parks enters frees rings =
+      returned_whole mid new number free after next room (ap (λ js. standing_of js number) parks.jobs_are ∙ parked_stands old.jobs number value runs)
+      (parked_whole old mid number value counts free next room runs whole parks frees) enters rings
 
-  -- no job is accepted twice
-  pub roll_once : (table : Table J) (counts : Counts) (next : ℕ) → IsWhole table counts next → IsOnce table.accepted
-  roll_once table counts next whole = subst IsOnce (sym whole.roll) (once_kept (λ s. is_some (get table.jobs s)) (serials_below next) (once_below next))
-
-  -- what a sweep finds in the order of acceptance it finds in the order of the serials
-  swept_is : (table : Table J) (counts : Counts) (next : ℕ) (marked : ℕ → Bool) → IsWhole table counts next → swept table.jobs marked table.accepted ≡ swept table.jobs marked (serials_below next)
-  swept_is table counts next marked whole =
-      ap (swept table.jobs marked) whole.roll
-      ∙ filter_twice (λ s. is_some (get table.jobs s)) (is_due table.jobs marked) (is_due table.jobs marked) (serials_below next) (λ s. both (get table.jobs s) (marked s))
-    where
-      both : (j : Option (Job J)) (b : Bool) → (is_parked_job j && b) ≡ (is_some j && (is_parked_job j && b))
-      both None b = refl
-      both (Some j) b = refl
-
-  -- each parked job was asked
-  all_asked : (may_answer : J → Bool → Type 0) (old new : Table J) (counts : Counts) (next : ℕ) (sweep : SweepsAll may_answer old old.accepted new) → IsWhole old counts next → AreAsked may_answer old.jobs sweep.marked
-  all_asked may_answer old new counts next sweep whole s job value found parked held =
-      sweep.asked s job value
-      (ap (is_in s) whole.roll ∙ in_kept (λ n. is_some (get old.jobs n)) s (serials_below next) (stands_below s next (used s job found)) (ap is_some found))
-      found parked held
-    where
-      used : (s : ℕ) (job : Job J) → get old.jobs s ≡ Some job → s < next
-      used s job found =
-          elim (cases_lt s next) [
-            | inl is ↦ is
-            | inr past ↦ absurd (let none = sym (whole.sound.unused s past) ∙ found in let e : None ≡ Some job = none in cc)
-          ]
-
-  -- what the table becomes by a sweep, told by the serials
-  swept_becomes : (may_answer : J → Bool → Type 0) (old new : Table J) (counts : Counts) (next : ℕ) (sweep : SweepsAll may_answer old old.accepted new) → IsWhole old counts next
+  -- what the table becomes by a sweep, told by the serials in the order of acceptance
+  swept_becomes : (may_answer : J → Bool → Type 0) (old new : Table J) (counts : Counts) (next room : ℕ) (sweep : SweepsAll may_answer old new) → IsWhole old counts next room
       → Becomes old new (old.queue ++ swept old.jobs sweep.marked (serials_below next)) (all_queued_again old.jobs (swept old.jobs sweep.marked (serials_below next)))
-  swept_becomes may_answer old new counts next sweep whole =
-      subst (λ ss. Becomes old new (old.queue ++ ss) (all_queued_again old.jobs ss)) (swept_is old counts next sweep.marked whole) sweep.becomes
+  swept_becomes may_answer old new counts next room sweep whole =
+      subst (λ ss. Becomes old new (old.queue ++ ss) (all_queued_again old.jobs ss)) (swept_serials may_answer old new next sweep whole.sound.unused) sweep.becomes
 
   -- how many jobs were put back, by the lengths of the queue
-  swept_count : (may_answer : J → Bool → Type 0) (old new : Table J) (counts : Counts) (next was now : ℕ) (sweep : SweepsAll may_answer old old.accepted new) → IsWhole old counts next
+  swept_count : (may_answer : J → Bool → Type 0) (old new : Table J) (counts : Counts) (next room was now : ℕ) (sweep : SweepsAll may_answer old new) → IsWhole old counts next room
       → was ≡ length old.queue → now ≡ length new.queue → now ≡ was + length (swept old.jobs sweep.marked (serials_below next))
-  swept_count may_answer old new counts next was now sweep whole before after =
-      after ∙ ap length (swept_becomes may_answer old new counts next sweep whole).queue_is
+  swept_count may_answer old new counts next room was now sweep whole before after =
+      after ∙ ap length (swept_becomes may_answer old new counts next room sweep whole).queue_is
       ∙ length-append old.queue (swept old.jobs sweep.marked (serials_below next)) ∙ ap (λ n. n + length (swept old.jobs sweep.marked (serials_below next))) (sym before)
 
   -- a sweep that puts nothing back
-  pub swept_none : (may_mark : J → Bool → Type 0) (asking : Asking) (old new : Table J) (counts : Counts) (next was now : ℕ) (before : Pool J) → RefusesNone asking → IsWhole old counts next
-      → SweepsAll may_mark old old.accepted new → was ≡ length old.queue → now ≡ length new.queue → now - was ≡ 0
+  pub swept_none : (may_mark : J → Bool → Type 0) (asking : Asking) (old new : Table J) (counts : Counts) (next room was now : ℕ) (before : Pool J) → RefusesNone asking → IsWhole old counts next room
+      → SweepsAll may_mark old new → was ≡ length old.queue → now ≡ length new.queue → now - was ≡ 0
       → record { queue = old.queue; jobs = old.jobs; counts = counts; next_serial = next } ≡ before
       → Sweeps may_mark asking before 0 (record { queue = new.queue; jobs = new.jobs; counts = counts; next_serial = next })
-  swept_none may_mark asking old new counts next was now before none whole sweep before_is after_is nil seen =
+  swept_none may_mark asking old new counts next room was now before none whole sweep before_is after_is nil seen =
       subst (λ p. Sweeps may_mark asking p 0 (record { queue = new.queue; jobs = new.jobs; counts = counts; next_serial = next })) seen
       (record {
         marked = sweep.marked;
-        asked = all_asked may_mark old new counts next sweep whole;
+        asked = sweep.asked;
         counted = sym (ap length nothing);
         effect = subst (λ ss. SweepsTo asking (record { queue = old.queue; jobs = old.jobs; counts = counts; next_serial = next }) ss (record { queue = new.queue; jobs = new.jobs; counts = counts; next_serial = next })) (sym nothing) (same, none);
       })
     where
       nothing : swept old.jobs sweep.marked (serials_below next) ≡ []
-      nothing = none_of _ (omega (arith, swept_count may_mark old new counts next was now sweep whole before_is after_is, nil))
+      nothing = none_of _ (omega (arith, swept_count may_mark old new counts next room was now sweep whole before_is after_is, nil))
 
       becomes : Becomes old new (old.queue ++ []) old.jobs
-      becomes = subst (λ ss. Becomes old new (old.queue ++ ss) (all_queued_again old.jobs ss)) nothing (swept_becomes may_mark old new counts next sweep whole)
+      becomes = subst (λ ss. Becomes old new (old.queue ++ ss) (all_queued_again old.jobs ss)) nothing (swept_becomes may_mark old new counts next room sweep whole)
 
       same : ◌≡◌ {A = Pool J} (record { queue = new.queue; jobs = new.jobs; counts = counts; next_serial = next }) (record { queue = old.queue; jobs = old.jobs; counts = counts; next_serial = next })
       same =
@@ -646,16 +501,16 @@ module _ {J : Type 0} where
   effect_of asking old new (s ∷ serials) some enter = enter
 
   -- a sweep that puts jobs back, and the pool grows
-  pub swept_some : (may_mark : J → Bool → Type 0) (asking : Asking) (old new : Table J) (counts numbers told : Counts) (growth : Growth) (next was now ready : ℕ) (before : Pool J) → IsWhole old counts next
-      → SweepsAll may_mark old old.accepted new → was ≡ length old.queue → now ≡ length new.queue → (now - was ≡ 0 → ⊥) → ready ≡ length new.queue
+  pub swept_some : (may_mark : J → Bool → Type 0) (asking : Asking) (old new : Table J) (counts numbers told : Counts) (growth : Growth) (next room was now ready : ℕ) (before : Pool J) → IsWhole old counts next room
+      → SweepsAll may_mark old new → was ≡ length old.queue → now ≡ length new.queue → (now - was ≡ 0 → ⊥) → ready ≡ length new.queue
       → Grows asking ready counts numbers growth → told ≡ rung One numbers
       → record { queue = old.queue; jobs = old.jobs; counts = counts; next_serial = next } ≡ before
       → Sweeps may_mark asking before (now - was) (record { queue = new.queue; jobs = new.jobs; counts = told; next_serial = next })
-  swept_some may_mark asking old new counts numbers told growth next was now ready before whole sweep before_is after_is some ready_is grows rings seen =
+  swept_some may_mark asking old new counts numbers told growth next room was now ready before whole sweep before_is after_is some ready_is grows rings seen =
       subst (λ p. Sweeps may_mark asking p (now - was) (record { queue = new.queue; jobs = new.jobs; counts = told; next_serial = next })) seen
       (record {
         marked = sweep.marked;
-        asked = all_asked may_mark old new counts next sweep whole;
+        asked = sweep.asked;
         counted = omega (arith, count);
         effect = effect_of asking _ _ serials (λ e. some (omega (arith, count, e)))
             (record {
@@ -673,19 +528,19 @@ module _ {J : Type 0} where
       serials = swept old.jobs sweep.marked (serials_below next)
 
       count : now ≡ was + length serials
-      count = swept_count may_mark old new counts next was now sweep whole before_is after_is
+      count = swept_count may_mark old new counts next room was now sweep whole before_is after_is
 
       becomes : Becomes old new (old.queue ++ serials) (all_queued_again old.jobs serials)
-      becomes = swept_becomes may_mark old new counts next sweep whole
+      becomes = swept_becomes may_mark old new counts next room sweep whole
 
-  -- the pool is whole after a sweep
-  pub swept_whole : (may_mark : J → Bool → Type 0) (old new : Table J) (counts after : Counts) (growth : Growth) (next : ℕ) → IsWhole old counts next → SweepsAll may_mark old old.accepted new
-      → after ≡ rung One (grown counts growth) → IsWhole new after next
-  swept_whole may_mark old new counts after growth next whole sweep is =
-      requeued_whole old new counts after growth next (swept old.jobs sweep.marked (serials_below next))
-      (once_kept (is_due old.jobs sweep.marked) (serials_below next) (once_below next))
+  -- the pool is whole after a sweep, which may have more room for what it gathers
+  pub swept_whole : (may_mark : J → Bool → Type 0) (old new : Table J) (counts after : Counts) (growth : Growth) (next room more : ℕ) → IsWhole old counts next room → SweepsAll may_mark old new → room ≤ more
+      → after ≡ rung One (grown counts growth) → IsWhole new after next more
+  swept_whole may_mark old new counts after growth next room more whole sweep kept is =
+      requeued_whole old new counts after growth next more (swept old.jobs sweep.marked (serials_below next))
+      (once_rising _ (subst IsRising (swept_serials may_mark old new next sweep whole.sound.unused) sweep.rising))
       (λ s found. (and_parts (is_parked_job (get old.jobs s)) (sweep.marked s) (kept_in (is_due old.jobs sweep.marked) s (serials_below next) found).1).0)
-      whole (swept_becomes may_mark old new counts next sweep whole) is
+      (record { sound = whole.sound; room = omega (arith, whole.room, kept) }) (swept_becomes may_mark old new counts next room sweep whole) is
 
   -- a wait without a timeout doesn't sweep
   pub waits_on : (may_mark : J → Bool → Type 0) (asking : Asking) (timed_out : Bool) (old new : Pool J) (waited : Waited) → RefusesNone asking → timed_out ≡ false → StaysOrStops false old waited new
@@ -700,15 +555,15 @@ module _ {J : Type 0} where
       subst (λ b. Waits may_mark asking b old waited new) (sym is) (record { between = between; sweep = (count, sweeps); answer = answer })
 
   -- a table that is as it was
-  pub same_whole : (old new : Table J) (counts : Counts) (next : ℕ) → IsWhole old counts next → Becomes old new old.queue old.jobs → IsWhole new counts next
-  same_whole old new counts next whole becomes =
-      whole_as new old.queue old.accepted old.jobs counts counts next becomes.queue_is becomes.accepted_is becomes.jobs_are refl whole.sound whole.roll
+  pub same_whole : (old new : Table J) (counts : Counts) (next room : ℕ) → IsWhole old counts next room → Becomes old new old.queue old.jobs → IsWhole new counts next room
+  same_whole old new counts next room whole becomes =
+      whole_as new old.queue old.jobs counts counts next room becomes.queue_is becomes.jobs_are refl (room_as _ _ _ _ room becomes whole.room) whole.sound
 
   -- a value that may have been lent, whatever was left there
-  pub lent_whole : {X : Type 0} (lent : Option X) (old new : Table J) (counts : Counts) (next serial : ℕ) (value : J) → IsWhole old counts next
-      → IfLent lent (Becomes old new old.queue (amend old.jobs serial (valued value))) (Becomes old new old.queue old.jobs) → IsWhole new counts next
-  lent_whole None old new counts next serial value whole becomes = same_whole old new counts next whole becomes
-  lent_whole (Some x) old new counts next serial value whole becomes = marked_whole old new counts next serial (valued value) (λ j. refl) whole becomes
+  pub lent_whole : {X : Type 0} (lent : Option X) (old new : Table J) (counts : Counts) (next room serial : ℕ) (value : J) → IsWhole old counts next room
+      → IfLent lent (Becomes old new old.queue (amend old.jobs serial (valued value))) (Becomes old new old.queue old.jobs) → IsWhole new counts next room
+  lent_whole None old new counts next room serial value whole becomes = same_whole old new counts next room whole becomes
+  lent_whole (Some x) old new counts next room serial value whole becomes = marked_whole old new counts next room serial (valued value) (λ j. refl) whole becomes
 
   -- the pool, as its table is told
   pub pool_as : (old new : Table J) (counts : Counts) (next : ℕ) (jobs : Jobs J) → Becomes old new old.queue jobs
@@ -724,13 +579,3 @@ module _ {J : Type 0} where
   lent_pool None old new counts next serial value before seen becomes = tt
   lent_pool (Some x) old new counts next serial value before seen becomes =
       pool_as old new counts next (amend old.jobs serial (valued value)) becomes ∙ ap (λ p. with_job p serial (valued value)) seen
-
-pub roll_empty : (J : Type 0) (next : ℕ) → IsRollOf {J = J} [] empty next
-roll_empty J zero = refl
-roll_empty J (suc next) =
-    roll_empty J next ∙ sym (append-nil (filter there (serials_below next)))
-    ∙ ap (λ ss. filter there (serials_below next) ++ ss) (sym (ap (λ j. cond (is_some j) (next ∷ []) []) (get-empty {X = Job J} nat_cmp next)))
-    ∙ sym (filter-append there (serials_below next) (next ∷ []))
-  where
-    there : ℕ → Bool
-    there s = is_some (get (empty {X = Job J} {R = nat_cmp}) s)

@@ -1,17 +1,25 @@
--- Sweeps: jobs that are swept one after the other, and what they come to together.
-use Rattle.std.proofs.Common.{◌≡◌, ◌≢◌, ◌<◌, ℕ, arith, Bool, true, false, cond, eqb, ◌||◌, ◌&&◌, List, [], ◌∷◌, ◌++◌, length, filter, Option, Some, None, IsSome, option_map, refl, sym, ap, ◌∙◌, subst, inl, inr}
-use Rattle.std.proofs.lemmas.Bool.{eq-eqb, ne_eqb, cases_eq, or_right, and_parts, false≢true}
-use Rattle.std.proofs.lemmas.List.{append-nil, append_assoc}
+-- Sweeps: what is gathered of the parked jobs, the order in which it is put back, and what that makes of the table.
+use Rattle.std.proofs.Common.{◌≡◌, ◌≢◌, ◌<◌, ◌≤◌, ℕ, zero, suc, arith, Bool, true, false, cond, eqb, ◌||◌, ◌&&◌, List, [], ◌∷◌, ◌++◌, length, filter, map, take, get_or, Option, Some, None, option_map, refl, sym, ap, ◌∙◌, subst, inl, inr}
+use Rattle.std.proofs.lemmas.Bool.{eq-eqb, ne_eqb, cases_eq, or_left, or_right, or_from, or_parts, and_parts, eqb-false, cases_lt, false≢true}
+use Rattle.std.proofs.lemmas.List.{append-nil, append_assoc, length-append, map_push}
+use Rattle.std.proofs.lemmas.List.Elements.{filter-append, All-cons, All-nil, All-get_or}
+use Rattle.std.proofs.lemmas.List.Sorted.{All-permutation, IsPermutation-map, list_any-IsPermutation}
+use Rattle.std.proofs.lemmas.Map.Keys.{IsDistinct-IsPermutation}
 use Rattle.std.specs.FinMap.{get as at, insert}
+use Rattle.std.specs.List.{All, AllByRecursion, IsDistinct}
+use Rattle.std.specs.List.Sorted.{IsPermutation, IsNonDecreasingBy}
+use Rattle.slab.specs.Slab.{Slab, get}
+use Rattle.blocking_pool.specs.Batch.{serials_of, IsRising}
+use Rattle.blocking_pool.specs.Chain.{Chain}
 use Rattle.blocking_pool.specs.Lists.{is_in, IsOnce, first_of, rest_after}
-use Rattle.blocking_pool.specs.Jobs.{Job, Jobs, JobNumber, is_parked_job, if_at, job_of, queued_again, amend, all_queued_again}
-use Rattle.blocking_pool.specs.Sweeps.{is_due, swept}
-use Rattle.blocking_pool.specs.Tables.{Table, Becomes, IsNumberOf, IsAsked, SweepsOne, SweepsAll}
+use Rattle.blocking_pool.specs.Jobs.{Job, Jobs, JobNumber, is_parked, is_parked_job, if_at, job_of, standing_of, queued_again, amend, all_queued_again}
+use Rattle.blocking_pool.specs.Sweeps.{is_due, swept, serials_below}
+use Rattle.blocking_pool.specs.Tables.{Table, job_at, serial_or_zero, serials_at, is_parked_entry, HoldsParked, Becomes, number_at, IsAskedAt, GathersAt, Gathers, SweepsAll}
 use Rattle.blocking_pool.specs.declared.pool.standing.Standing.TheVariants.{Parked}
-use Rattle.blocking_pool.proofs.Lists.{by_eq, is_in-first}
-use Rattle.blocking_pool.proofs.RollLemmas.{some_of, among_rest}
-use Rattle.blocking_pool.proofs.Standings.{parked_is}
-use Rattle.blocking_pool.proofs.TableLemmas.{at_insert_same, at_insert_other, amend_found}
+use Rattle.blocking_pool.specs.declared.pool.table.Entry.{Entry}
+use Rattle.blocking_pool.proofs.Lists.{by_eq, is_in-append, is_in-first, is_in-last, is_in-push, IsDistinct-once, length-le_below, turned}
+use Rattle.blocking_pool.proofs.Standings.{parked_is, parked_job}
+use Rattle.blocking_pool.proofs.TableLemmas.{jobs_of, AreApart, tabled, from_there, job_here, at_insert_same, at_insert_other, amend_found}
 
 -- tests that agree on a list keep the same of it
 pub filter_same : (p q : ℕ → Bool) (xs : List ℕ) → ((x : ℕ) → is_in x xs ≡ true → p x ≡ q x) → filter p xs ≡ filter q xs
@@ -21,8 +29,131 @@ filter_same p q (x ∷ xs) same =
     let here = same x (is_in-first x xs) in
     ap (λ b. cond b (x ∷ filter p xs) (filter p xs)) here ∙ ap (λ ys. cond (q x) (x ∷ ys) ys) rest
 
+-- what is kept of a list stood in it, and passes the test
+pub kept_in : (p : ℕ → Bool) (s : ℕ) (xs : List ℕ) → is_in s (filter p xs) ≡ true → (is_in s xs ≡ true) × (p s ≡ true)
+kept_in p s [] found = absurd (false≢true found)
+kept_in p s (x ∷ xs) found = by_test (p x) refl found (λ f. kept_in p s xs f)
+  where
+    by_test : (b : Bool) → p x ≡ b → is_in s (cond b (x ∷ filter p xs) (filter p xs)) ≡ true → (is_in s (filter p xs) ≡ true → (is_in s xs ≡ true) × (p s ≡ true)) → (is_in s (x ∷ xs) ≡ true) × (p s ≡ true)
+    by_test true is f rest =
+        by_eq s x (λ b. (b || is_in s (filter p xs)) ≡ true → ((b || is_in s xs) ≡ true) × (p s ≡ true))
+        (λ same g. (refl, ap p same ∙ is)) (λ far g. rest g) f
+    by_test false is f rest = (or_right (eqb s x) (is_in s xs) (rest f).0, (rest f).1)
+
+-- what stands in a list and passes the test is kept
+pub in_kept : (p : ℕ → Bool) (s : ℕ) (xs : List ℕ) → is_in s xs ≡ true → p s ≡ true → is_in s (filter p xs) ≡ true
+in_kept p s [] found is = absurd (false≢true found)
+in_kept p s (x ∷ xs) found is = by_test (p x) refl found (λ f. in_kept p s xs f is)
+  where
+    by_test : (b : Bool) → p x ≡ b → is_in s (x ∷ xs) ≡ true → (is_in s xs ≡ true → is_in s (filter p xs) ≡ true) → is_in s (cond b (x ∷ filter p xs) (filter p xs)) ≡ true
+    by_test true here f rest =
+        by_eq s x (λ b. (b || is_in s xs) ≡ true → (b || is_in s (filter p xs)) ≡ true) (λ same g. refl) (λ far g. rest g) f
+    by_test false here f rest =
+        by_eq s x (λ b. (b || is_in s xs) ≡ true → is_in s (filter p xs) ≡ true) (λ same g. absurd (false≢true (sym here ∙ ap p (sym same) ∙ is))) (λ far g. rest g) f
+
+absent_in : (x : ℕ) (xs : List ℕ) → (is_in x xs ≡ true → ⊥) → is_in x xs ≡ false
+absent_in x xs never = by_test (is_in x xs) refl
+  where
+    by_test : (b : Bool) → is_in x xs ≡ b → is_in x xs ≡ false
+    by_test false is = is
+    by_test true is = absurd (never is)
+
+pub once_kept : (p : ℕ → Bool) (xs : List ℕ) → IsOnce xs → IsOnce (filter p xs)
+once_kept p [] once = tt
+once_kept p (x ∷ xs) once = by_test (p x) (once_kept p xs once.1)
+  where
+    by_test : (b : Bool) → IsOnce (filter p xs) → IsOnce (cond b (x ∷ filter p xs) (filter p xs))
+    by_test true rest = (absent_in x (filter p xs) (λ is. false≢true (sym once.0 ∙ (kept_in p x xs is).0)), rest)
+    by_test false rest = rest
+
+-- two tests that follow from one another are one
+same_test : (a b : Bool) → (a ≡ true → b ≡ true) → (b ≡ true → a ≡ true) → a ≡ b
+same_test true b there back = sym (there refl)
+same_test false false there back = refl
+same_test false true there back = back refl
+
+both_true : (a b : Bool) → a ≡ true → b ≡ true → (a && b) ≡ true
+both_true a b is are = ap (λ x. x && b) is ∙ are
+
+-- Rising numbers.
+
+rising_kept : (p : ℕ → Bool) (xs : List ℕ) → IsRising xs → IsRising (filter p xs)
+rising_kept p [] rising = tt
+rising_kept p (x ∷ xs) rising = by_test (p x) (rising_kept p xs rising.1)
+  where
+    by_test : (b : Bool) → IsRising (filter p xs) → IsRising (cond b (x ∷ filter p xs) (filter p xs))
+    by_test true rest = (λ other found. rising.0 other (kept_in p other xs found).0, rest)
+    by_test false rest = rest
+
+rising_push : (xs : List ℕ) (y : ℕ) → ((x : ℕ) → is_in x xs ≡ true → x < y) → IsRising xs → IsRising (xs ++ y ∷ [])
+rising_push [] y below rising = (λ other found. absurd (false≢true found), tt)
+rising_push (x ∷ xs) y below rising = (
+  λ other found. elim (cases_eq other y) [
+    | inl same ↦ subst (λ n. x < n) (sym same) (below x (is_in-first x xs))
+    | inr far ↦ rising.0 other (sym (is_in-push other y xs far) ∙ found)
+  ],
+  rising_push xs y (λ n found. below n (or_right (eqb n x) (is_in n xs) found)) rising.1,
+)
+
+-- the serials below one are below it
+below : (s next : ℕ) → is_in s (serials_below next) ≡ true → s < next
+below s zero found = absurd (false≢true found)
+below s (suc next) found =
+    elim (cases_eq s next) [
+      | inl same ↦ omega (arith, same)
+      | inr far ↦
+          let rest = sym (is_in-push s next (serials_below next) far) ∙ found in
+          omega (arith, below s next rest)
+    ]
+
+-- each serial below one stands among them
+pub stands_below : (s next : ℕ) → s < next → is_in s (serials_below next) ≡ true
+stands_below s zero is = absurd (omega arith)
+stands_below s (suc next) is =
+    elim (cases_eq s next) [
+      | inl same ↦ is_in-last s next (serials_below next) same
+      | inr far ↦ is_in-push s next (serials_below next) far ∙ stands_below s next (omega (arith, far))
+    ]
+
+rising_below : (next : ℕ) → IsRising (serials_below next)
+rising_below zero = tt
+rising_below (suc next) = rising_push (serials_below next) next (λ x found. below x next found) (rising_below next)
+
+-- numbers that rise are there once
+pub once_rising : (xs : List ℕ) → IsRising xs → IsOnce xs
+once_rising [] rising = tt
+once_rising (x ∷ xs) rising = (absent_in x xs (λ is. absurd (omega (arith, rising.0 x is))), once_rising xs rising.1)
+
+-- two lists that rise and have the same numbers are one
+same_rising : (xs ys : List ℕ) → IsRising xs → IsRising ys → ((n : ℕ) → is_in n xs ≡ is_in n ys) → xs ≡ ys
+same_rising [] [] up rise same = refl
+same_rising [] (y ∷ ys) up rise same = absurd (false≢true (same y ∙ is_in-first y ys))
+same_rising (x ∷ xs) [] up rise same = absurd (false≢true (sym (same x) ∙ is_in-first x xs))
+same_rising (x ∷ xs) (y ∷ ys) up rise same =
+    let one : x ≡ y = heads in
+    ap (λ n. n ∷ xs) one ∙ ap (λ ns. y ∷ ns) (same_rising xs ys up.1 rise.1 (tails one))
+  where
+    heads : x ≡ y
+    heads =
+        elim (cases_eq x y) [
+          | inl e ↦ e
+          | inr far ↦
+              let more : x < y = up.0 y (sym (ap (λ b. b || is_in y xs) (ne_eqb y x (λ e. far (sym e)))) ∙ same y ∙ is_in-first y ys) in
+              let less : y < x = rise.0 x (sym (ap (λ b. b || is_in x ys) (ne_eqb x y far)) ∙ sym (same x) ∙ is_in-first x xs) in
+              absurd (omega (arith, more, less))
+        ]
+
+    tails : x ≡ y → (n : ℕ) → is_in n xs ≡ is_in n ys
+    tails one n =
+        elim (cases_eq n x) [
+          | inl here ↦ absent_in n xs (λ is. absurd (omega (arith, here, up.0 n is))) ∙ sym (absent_in n ys (λ is. absurd (omega (arith, here, one, rise.0 n is))))
+          | inr far ↦ sym (ap (λ b. b || is_in n xs) (ne_eqb n x far)) ∙ same n ∙ ap (λ b. b || is_in n ys) (ne_eqb n y (λ e. far (e ∙ sym one)))
+        ]
+
+-- The places that a sweep goes through.
+
 -- the first of what comes after one has after it what is left
-pub rest_again : (x y : ℕ) (xs ys : List ℕ) → IsOnce xs → rest_after x xs ≡ y ∷ ys → rest_after y xs ≡ ys
+rest_again : (x y : ℕ) (xs ys : List ℕ) → IsOnce xs → rest_after x xs ≡ y ∷ ys → rest_after y xs ≡ ys
 rest_again x y [] ys once is = absurd (cc)
 rest_again x y (z ∷ xs) ys once is =
     by_eq x z (λ b. cond b xs (rest_after x xs) ≡ y ∷ ys → cond (eqb y z) xs (rest_after y xs) ≡ ys)
@@ -36,10 +167,102 @@ rest_again x y (z ∷ xs) ys once is =
     apart : (z y : ℕ) (xs : List ℕ) → is_in z xs ≡ false → is_in y xs ≡ true → eqb y z ≡ false
     apart z y xs fresh found = ne_eqb y z (λ e. false≢true (sym fresh ∙ ap (λ n. is_in n xs) (sym e) ∙ found))
 
--- the serials from a number on, in a row
-abbrev pub rest_of : Option JobNumber → List ℕ → List ℕ
-rest_of None serials = []
-rest_of (Some number) serials = number.serial ∷ rest_after number.serial serials
+    -- what comes after a place stands in the same row
+    among_rest : (place q : ℕ) (places : List ℕ) → is_in q (rest_after place places) ≡ true → is_in q places ≡ true
+    among_rest place q [] found = found
+    among_rest place q (p ∷ places) found =
+        by_eq place p (λ b. is_in q (cond b places (rest_after place places)) ≡ true → is_in q (p ∷ places) ≡ true)
+        (λ same f. or_right (eqb q p) (is_in q places) f) (λ differs f. or_right (eqb q p) (is_in q places) (among_rest place q places f)) found
+
+-- the places from one on, in a row
+abbrev pub from_on : Option ℕ → List ℕ → List ℕ
+from_on None places = []
+from_on (Some place) places = place ∷ rest_after place places
+
+pub from_first : (places : List ℕ) → from_on (first_of places) places ≡ places
+from_first [] = refl
+from_first (place ∷ places) = ap (λ b. place ∷ cond b places (rest_after place places)) (eq-eqb place place refl)
+
+from_next : (place : ℕ) (all rest : List ℕ) → IsOnce all → rest_after place all ≡ rest → from_on (first_of rest) all ≡ rest
+from_next place all [] once is = refl
+from_next place all (q ∷ rest) once is = ap (λ qs. q ∷ qs) (rest_again place q all rest once is)
+
+-- the place stands in what is split before it
+in_middle : (place : ℕ) (done rest : List ℕ) → is_in place (done ++ place ∷ rest) ≡ true
+in_middle place done rest = is_in-append place done (place ∷ rest) ∙ or_right (is_in place done) (is_in place (place ∷ rest)) (is_in-first place rest)
+
+-- what stands before a place isn't the place
+not_before : (place : ℕ) (done rest : List ℕ) → IsOnce (done ++ place ∷ rest) → is_in place done ≡ false
+not_before place [] rest once = refl
+not_before place (p ∷ done) rest once =
+    by_eq place p (λ b. (b || is_in place done) ≡ false)
+    (λ same. absurd (false≢true (sym once.0 ∙ ap (λ n. is_in n (done ++ place ∷ rest)) (sym same) ∙ in_middle place done rest)))
+    (λ differs. not_before place done rest once.1)
+
+shorter : (p : ℕ → Bool) (xs : List ℕ) → length (filter p xs) ≤ length xs
+shorter p [] = omega arith
+shorter p (x ∷ xs) = by_test (p x) (shorter p xs)
+  where
+    by_test : (b : Bool) → length (filter p xs) ≤ length xs → length (cond b (x ∷ filter p xs) (filter p xs)) ≤ suc (length xs)
+    by_test true less = omega (arith, less)
+    by_test false less = omega (arith, less)
+
+-- The order of the serials.
+
+-- what was told apart stands once
+once_distinct : (xs : List ℕ) → IsDistinct eqb xs → IsOnce xs
+unfolding IsDistinct
+once_distinct [] apart = tt
+once_distinct (x ∷ xs) apart = (absent x xs apart.0, once_distinct xs apart.1)
+  where
+    absent : (x : ℕ) (xs : List ℕ) → AllByRecursion (λ y. eqb x y ≡ false) xs → is_in x xs ≡ false
+    absent x [] all = refl
+    absent x (y ∷ xs) all = or_from _ _ all.0 (absent x xs all.1)
+
+once_permuted : (xs ys : List ℕ) → IsPermutation xs ys → IsOnce xs → IsOnce ys
+once_permuted xs ys moved once = once_distinct ys (IsDistinct-IsPermutation eqb turned xs ys moved (IsDistinct-once xs once))
+
+sorted_rest : (x : JobNumber) (xs : List JobNumber) → IsNonDecreasingBy (λ no. no.serial) (x ∷ xs) → IsNonDecreasingBy (λ no. no.serial) xs
+sorted_rest x xs sorted i j d le lt = sorted (suc i) (suc j) d (omega (arith, le)) (omega (arith, lt))
+
+-- the first of numbers that don't fall is the least
+least : (x : JobNumber) (xs : List JobNumber) (s : ℕ) → IsNonDecreasingBy (λ no. no.serial) (x ∷ xs) → is_in s (serials_of xs) ≡ true → x.serial ≤ s
+least x [] s sorted found = absurd (false≢true found)
+least x (y ∷ xs) s sorted found =
+    let next : x.serial ≤ y.serial = sorted 0 1 x (omega arith) (omega arith) in
+    by_eq s y.serial (λ b. (b || is_in s (serials_of xs)) ≡ true → x.serial ≤ s)
+    (λ same f. omega (arith, same, next))
+    (λ far f. omega (arith, next, least y xs s (sorted_rest x (y ∷ xs) sorted) f)) found
+
+-- serials that don't fall, and stand once, rise
+pub sorted_rising : (numbers : List JobNumber) → IsNonDecreasingBy (λ no. no.serial) numbers → IsOnce (serials_of numbers) → IsRising (serials_of numbers)
+sorted_rising [] sorted once = tt
+sorted_rising (x ∷ xs) sorted once = (
+  λ s found. elim (cases_eq x.serial s) [
+    | inl same ↦ absurd (false≢true (sym once.0 ∙ ap (λ n. is_in n (serials_of xs)) same ∙ found))
+    | inr far ↦ omega (arith, far, least x xs s sorted found)
+  ],
+  sorted_rising xs (sorted_rest x xs sorted) once.1,
+)
+
+-- a number stands among the numbers, and not among those before it
+serial_there : (xs : List JobNumber) (i : ℕ) (d : JobNumber) → i < length xs → is_in (get_or xs i d).serial (serials_of xs) ≡ true
+serial_there [] i d is = absurd (omega (arith, is))
+serial_there (x ∷ xs) zero d is = is_in-first x.serial (serials_of xs)
+serial_there (x ∷ xs) (suc i) d is = or_right (eqb (get_or xs i d).serial x.serial) (is_in (get_or xs i d).serial (serials_of xs)) (serial_there xs i d (omega (arith, is)))
+
+pub not_taken : (xs : List JobNumber) (i : ℕ) (d : JobNumber) → i < length xs → IsOnce (serials_of xs) → is_in (get_or xs i d).serial (serials_of (take i xs)) ≡ false
+not_taken [] i d is once = absurd (omega (arith, is))
+not_taken (x ∷ xs) zero d is once = refl
+not_taken (x ∷ xs) (suc i) d is once =
+    or_from _ _
+    (ne_eqb (get_or xs i d).serial x.serial (λ same. false≢true (sym once.0 ∙ ap (λ n. is_in n (serials_of xs)) (sym same) ∙ serial_there xs i d (omega (arith, is)))))
+    (not_taken xs i d (omega (arith, is)) once.1)
+
+-- what was told of a place
+abbrev pub told : Option JobNumber → List JobNumber
+told None = []
+told (Some number) = number ∷ []
 
 module _ {J : Type 0} where
   -- what a number finds stands under its serial, at its place
@@ -67,154 +290,297 @@ module _ {J : Type 0} where
       by_job None there = ap (λ js. at js other) (ap (λ f. elim f [ None ↦ jobs | Some job ↦ insert jobs serial (change job) ]) there)
       by_job (Some job) there = ap (λ js. at js other) (amend_found jobs serial change job there) ∙ at_insert_other jobs serial (change job) other differs
 
-  -- a job that is put back was parked
-  pub due_parked : (may_answer : J → Bool → Type 0) (job : Option (Job J)) (put_back : Bool) → put_back ≡ true → IsAsked may_answer job put_back → option_map (λ j. j.standing) job ≡ Some Parked
-  due_parked may_answer job put_back is asked = by_job job (and_parts (is_parked_job job) asked.marked (sym asked.put_back_is ∙ is)).0
-    where
-      by_job : (found : Option (Job J)) → is_parked_job found ≡ true → option_map (λ j. j.standing) found ≡ Some Parked
-      by_job None never = absurd (false≢true never)
-      by_job (Some found) parked = ap Some (parked_is found.standing parked)
+  -- Gathering.
 
-  -- one job stays, or is put back
-  pub sweeps_none : (may_answer : J → Bool → Type 0) (old : Table J) (number : JobNumber) (put_back : Bool) → put_back ≡ false → IsAsked may_answer (job_of old.jobs number) put_back → SweepsOne may_answer old number old
-  sweeps_none may_answer old number put_back is asked =
-      record { put_back = false; asked = subst (IsAsked may_answer (job_of old.jobs number)) is asked; becomes = record { queue_is = refl; accepted_is = refl; jobs_are = refl } }
-
-  pub sweeps_back : (may_answer : J → Bool → Type 0) (old new : Table J) (number : JobNumber) (put_back : Bool) → put_back ≡ true → IsAsked may_answer (job_of old.jobs number) put_back
-      → Becomes old new (old.queue ++ number.serial ∷ []) (amend old.jobs number.serial queued_again) → SweepsOne may_answer old number new
-  sweeps_back may_answer old new number put_back is asked becomes =
-      record { put_back = true; asked = subst (IsAsked may_answer (job_of old.jobs number)) is asked; becomes = becomes }
-
-  -- a swept job is still there
-  pub still_there : (may_answer : J → Bool → Type 0) (old new : Table J) (number : JobNumber) → SweepsOne may_answer old number new → IsSome (job_of old.jobs number) → IsSome (job_of new.jobs number)
-  still_there may_answer old new number one present = by_test one.put_back one.becomes.jobs_are
-    where
-      by_test : (b : Bool) → new.jobs ≡ cond b (amend old.jobs number.serial queued_again) old.jobs → IsSome (job_of new.jobs number)
-      by_test true are =
-          let was = some_of (job_of old.jobs number) present in
-          subst IsSome (sym (ap (λ js. job_of js number) are ∙ job_of_amend old.jobs number was.0 queued_again (λ j. refl) was.1)) refl
-      by_test false are = subst (λ js. IsSome (job_of js number)) (sym are) present
-
-  -- Each of these jobs is swept in turn.
-  abbrev pub SweepsInTurn : (J → Bool → Type 0) → Table J → List ℕ → Table J → Type 0
-  SweepsInTurn may_answer old [] new = Becomes old new old.queue old.jobs
-  SweepsInTurn may_answer old (serial ∷ serials) new =
-      (number : JobNumber) × (mid : Table J) × (number.serial ≡ serial) × IsSome (job_of old.jobs number) × SweepsOne may_answer old number mid × SweepsInTurn may_answer mid serials new
-
-  -- The sweep so far: what it still does from the next job on completes it.
-  pub record IsSweeping (may_answer : J → Bool → Type 0) (first now : Table J) (next : Option JobNumber) : Type 0 where
-    pub completes : (last : Table J) → SweepsInTurn may_answer now (rest_of next first.accepted) last → SweepsInTurn may_answer first first.accepted last
-    pub same : now.accepted ≡ first.accepted
-    pub here : (number : JobNumber) → next ≡ Some number → IsSome (job_of now.jobs number)
-
-  rest_next : (serial : ℕ) (all rest : List ℕ) (next : Option JobNumber) (jobs : Jobs J) → IsOnce all → rest_after serial all ≡ rest → IsNumberOf jobs (first_of rest) next → rest_of next all ≡ rest
-  rest_next serial all [] None jobs once is number = refl
-  rest_next serial all [] (Some n) jobs once is number = absurd number
-  rest_next serial all (s ∷ rest) None jobs once is number = absurd number
-  rest_next serial all (s ∷ rest) (Some n) jobs once is number =
-      ap (λ k. k ∷ rest_after k all) number.0 ∙ ap (λ ks. s ∷ ks) (rest_again serial s all rest once is)
-
-  number_here : (jobs : Jobs J) (first next : Option ℕ) (found : Option JobNumber) → IsNumberOf jobs first found → (number : JobNumber) → found ≡ Some number → IsSome (job_of jobs number)
-  number_here jobs None next None is number some = absurd (let e : None ≡ Some number = some in cc)
-  number_here jobs None next (Some n) is number some = absurd is
-  number_here jobs (Some s) next None is number some = absurd is
-  number_here jobs (Some s) next (Some n) is number some = let one : n ≡ number = let e : Some n ≡ Some number = some in cc in subst (λ k. IsSome (job_of jobs k)) one is.1
-
-  pub sweep_goes_on : (may_answer : J → Bool → Type 0) (first now mid : Table J) (before next : Option JobNumber) (number : JobNumber) → IsOnce first.accepted → before ≡ Some number → IsSweeping may_answer first now before
-      → SweepsOne may_answer now number mid → IsNumberOf mid.jobs (first_of (rest_after number.serial mid.accepted)) next → IsSweeping may_answer first mid next
-  sweep_goes_on may_answer first now mid before next number once at_it sweeping one is =
+  -- one more place is asked
+  gathers_on : (may_answer : J → Bool → Type 0) (slab : Slab (Entry J)) (done : List ℕ) (numbers : List JobNumber) (place : ℕ) (found : Option JobNumber) → is_in place done ≡ false → GathersAt may_answer slab done numbers
+      → IsAskedAt may_answer slab place found → GathersAt may_answer slab (done ++ place ∷ []) (numbers ++ told found)
+  gathers_on may_answer slab done numbers place found fresh gathered one =
       record {
-        completes = λ last turns. sweeping.completes last
-            (subst (λ n. SweepsInTurn may_answer now (rest_of n first.accepted) last) (sym at_it)
-            (number, mid, refl, sweeping.here number at_it, one, subst (λ serials. SweepsInTurn may_answer mid serials last) (rest_next number.serial first.accepted (rest_after number.serial first.accepted) next mid.jobs once refl numbered) turns));
-        same = same;
-        here = number_here mid.jobs (first_of (rest_after number.serial mid.accepted)) None next is;
+        marked = marked;
+        asked = λ q entry value within there held. elim (cases_eq q place) [
+          | inl same ↦ subst (may_answer value) (sym (ap (λ b. cond b one.marked (gathered.marked q)) (eq-eqb q place same)))
+              (one.asked entry value (ap (get slab) (sym same) ∙ there) held)
+          | inr far ↦ subst (may_answer value) (sym (ap (λ b. cond b one.marked (gathered.marked q)) (ne_eqb q place far)))
+              (gathered.asked q entry value (sym (is_in-push q place done far) ∙ within) there held)
+        ];
+        numbers_are = ap (λ ns. ns ++ told found) (gathered.numbers_are ∙ ap (map (number_at slab)) before)
+            ∙ by_mark one.marked here one.number_is
+            ∙ ap (map (number_at slab)) (sym (filter-append marked done (place ∷ [])));
       }
     where
-      same : mid.accepted ≡ first.accepted
-      same = one.becomes.accepted_is ∙ sweeping.same
+      marked : ℕ → Bool
+      marked q = cond (eqb q place) one.marked (gathered.marked q)
 
-      numbered : IsNumberOf mid.jobs (first_of (rest_after number.serial first.accepted)) next
-      numbered = subst (λ serials. IsNumberOf mid.jobs (first_of (rest_after number.serial serials)) next) same is
+      here : marked place ≡ one.marked
+      here = ap (λ b. cond b one.marked (gathered.marked place)) (eq-eqb place place refl)
 
-  -- jobs that are swept in turn come to a sweep of them all
-  pub in_turn_all : (may_answer : J → Bool → Type 0) (old new : Table J) (serials : List ℕ) → IsOnce serials → SweepsInTurn may_answer old serials new → SweepsAll may_answer old serials new
-  in_turn_all may_answer old new [] once turns =
+      before : filter gathered.marked done ≡ filter marked done
+      before = filter_same gathered.marked marked done (λ q within.
+          sym (ap (λ b. cond b one.marked (gathered.marked q)) (ne_eqb q place (λ same. false≢true (sym fresh ∙ ap (λ n. is_in n done) (sym same) ∙ within)))))
+
+      by_mark : (b : Bool) → marked place ≡ b → found ≡ cond b (Some (number_at slab place)) None → map (number_at slab) (filter marked done) ++ told found ≡ map (number_at slab) (filter marked done ++ filter marked (place ∷ []))
+      by_mark true is are =
+          ap (λ f. map (number_at slab) (filter marked done) ++ told f) are
+          ∙ sym (map_push (number_at slab) (filter marked done) place)
+          ∙ ap (λ b. map (number_at slab) (filter marked done ++ cond b (place ∷ []) [])) (sym is)
+      by_mark false is are =
+          ap (λ f. map (number_at slab) (filter marked done) ++ told f) are
+          ∙ append-nil (map (number_at slab) (filter marked done))
+          ∙ ap (map (number_at slab)) (sym (append-nil (filter marked done)))
+          ∙ ap (λ b. map (number_at slab) (filter marked done ++ cond b (place ∷ []) [])) (sym is)
+
+  -- The gathering so far: the places before the next one were asked.
+  pub record IsGathering (may_answer : J → Bool → Type 0) (slab : Slab (Entry J)) (chain : Chain) (next : Option ℕ) (numbers : List JobNumber) : Type 0 where
+    pub done : List ℕ
+    pub split : done ++ from_on next chain.places ≡ chain.places
+    pub gathered : GathersAt may_answer slab done numbers
+    pub fits : length numbers ≤ length done
+
+  pub gathering_begins : (may_answer : J → Bool → Type 0) (slab : Slab (Entry J)) (chain : Chain) (next : Option ℕ) (numbers : List JobNumber) → next ≡ first_of chain.places → numbers ≡ [] → IsGathering may_answer slab chain next numbers
+  gathering_begins may_answer slab chain next numbers first none =
       record {
-        marked = λ n. false;
-        asked = λ s job value found. absurd (false≢true found);
-        becomes = record { queue_is = turns.queue_is ∙ sym (append-nil old.queue); accepted_is = turns.accepted_is; jobs_are = turns.jobs_are };
+        done = [];
+        split = ap (λ n. from_on n chain.places) first ∙ from_first chain.places;
+        gathered = record { marked = λ q. false; asked = λ q entry value within. absurd (false≢true within); numbers_are = none };
+        fits = omega (arith, ap length none);
       }
-  in_turn_all may_answer old new (serial ∷ serials) once turns =
-      joined (turns.0) (turns.1) turns.2 turns.3 turns.4 (in_turn_all may_answer turns.1 new serials once.1 turns.5)
+
+  -- the places before the next one, the next, and the rest
+  cut_at : (may_answer : J → Bool → Type 0) (slab : Slab (Entry J)) (chain : Chain) (next : Option ℕ) (numbers : List JobNumber) (place : ℕ) → next ≡ Some place → (gathering : IsGathering may_answer slab chain next numbers)
+      → gathering.done ++ place ∷ rest_after place chain.places ≡ chain.places
+  cut_at may_answer slab chain next numbers place at_it gathering = ap (λ n. gathering.done ++ from_on n chain.places) (sym at_it) ∙ gathering.split
+
+  -- each place of the chain is below its room
+  places_within : (slab : Slab (Entry J)) (chain : Chain) → HoldsParked slab chain → length chain.places ≤ chain.room
+  places_within slab chain holds = length-le_below chain.places chain.room holds.once (λ q within. by_entry q (get slab q) refl (sym (holds.each q) ∙ within))
     where
-      joined : (number : JobNumber) (mid : Table J) → number.serial ≡ serial → IsSome (job_of old.jobs number) → SweepsOne may_answer old number mid → SweepsAll may_answer mid serials new → SweepsAll may_answer old (serial ∷ serials) new
-      joined number mid is present one rest =
-          record {
-            marked = marked;
-            asked = λ s job value found there parked held. elim (cases_eq s serial) [
-              | inl same ↦ subst (may_answer value) (sym (ap (λ b. cond b one.asked.marked (rest.marked s)) (eq-eqb s serial same)))
-                  (one.asked.asked job value (here ∙ sym (ap (at old.jobs) (same ∙ sym is)) ∙ there) parked held)
-              | inr differs ↦ subst (may_answer value) (sym (ap (λ b. cond b one.asked.marked (rest.marked s)) (ne_eqb s serial differs)))
-                  (rest.asked s job value (sym (ap (λ b. b || is_in s serials) (ne_eqb s serial differs)) ∙ found) (others s differs ∙ there) parked held)
-            ];
-            becomes = by_test one.put_back due one.becomes;
-          }
-        where
-          marked : ℕ → Bool
-          marked s = cond (eqb s serial) one.asked.marked (rest.marked s)
+      by_entry : (q : ℕ) (found : Option (Entry J)) → get slab q ≡ found → is_parked_entry found ≡ true → q < chain.room
+      by_entry q None there never = absurd (false≢true never)
+      by_entry q (Some entry) there stands = holds.roomy q entry there
 
-          here : job_of old.jobs number ≡ at old.jobs number.serial
-          here = let was = some_of (job_of old.jobs number) present in was.1 ∙ sym (job_of_found old.jobs number was.0 was.1).0
+  -- one number more has room
+  pub gathering_fits : (may_answer : J → Bool → Type 0) (slab : Slab (Entry J)) (chain : Chain) (next : Option ℕ) (numbers : List JobNumber) (place first room : ℕ) → HoldsParked slab chain → next ≡ Some place
+      → IsGathering may_answer slab chain next numbers → chain.room ≤ first → first ≤ room → length numbers < room
+  gathering_fits may_answer slab chain next numbers place first room holds at_it gathering wide kept =
+      let long = sym (length-append gathering.done (place ∷ rest_after place chain.places)) ∙ ap length (cut_at may_answer slab chain next numbers place at_it gathering) in
+      omega (arith, gathering.fits, long, places_within slab chain holds, wide, kept)
 
-          due : is_due old.jobs marked serial ≡ one.put_back
-          due =
-              ap (λ b. is_parked_job (at old.jobs serial) && cond b one.asked.marked (rest.marked serial)) (eq-eqb serial serial refl)
-              ∙ ap (λ j. is_parked_job j && one.asked.marked) (ap (at old.jobs) (sym is) ∙ sym here)
-              ∙ sym one.asked.put_back_is
+  -- the gathering goes on behind a place that was asked
+  pub gathering_on : (may_answer : J → Bool → Type 0) (slab : Slab (Entry J)) (chain : Chain) (next after : Option ℕ) (numbers more : List JobNumber) (place : ℕ) (found : Option JobNumber) → HoldsParked slab chain → next ≡ Some place
+      → IsGathering may_answer slab chain next numbers → IsAskedAt may_answer slab place found → more ≡ numbers ++ told found → after ≡ first_of (rest_after place chain.places)
+      → IsGathering may_answer slab chain after more
+  gathering_on may_answer slab chain next after numbers more place found holds at_it gathering one are comes =
+      record {
+        done = gathering.done ++ place ∷ [];
+        split = ap (λ n. (gathering.done ++ place ∷ []) ++ from_on n chain.places) comes
+            ∙ ap (λ ps. (gathering.done ++ place ∷ []) ++ ps) (from_next place chain.places (rest_after place chain.places) holds.once refl)
+            ∙ append_assoc gathering.done (place ∷ []) (rest_after place chain.places) ∙ cut;
+        gathered = subst (GathersAt may_answer slab (gathering.done ++ place ∷ [])) (sym are)
+            (gathers_on may_answer slab gathering.done numbers place found (not_before place gathering.done (rest_after place chain.places) (subst IsOnce (sym cut) holds.once)) gathering.gathered one);
+        fits =
+            let long = ap length are ∙ length-append numbers (told found) in
+            let longer = length-append gathering.done (place ∷ []) in
+            omega (arith, long, longer, gathering.fits, at_most_one found);
+      }
+    where
+      cut : gathering.done ++ place ∷ rest_after place chain.places ≡ chain.places
+      cut = cut_at may_answer slab chain next numbers place at_it gathering
 
-          others : (s : ℕ) → s ≢ serial → at mid.jobs s ≡ at old.jobs s
-          others s differs = by_back one.put_back one.becomes.jobs_are
-            where
-              by_back : (b : Bool) → mid.jobs ≡ cond b (amend old.jobs number.serial queued_again) old.jobs → at mid.jobs s ≡ at old.jobs s
-              by_back true are = ap (λ js. at js s) are ∙ at_changed old.jobs number.serial s queued_again (λ e. differs (e ∙ is))
-              by_back false are = ap (λ js. at js s) are
-
-          -- the rest is swept as if it were swept first
-          agree : swept old.jobs marked serials ≡ swept mid.jobs rest.marked serials
-          agree = filter_same (is_due old.jobs marked) (is_due mid.jobs rest.marked) serials (λ s found.
-              let differs : s ≢ serial = λ e. false≢true (sym once.0 ∙ ap (λ n. is_in n serials) (sym e) ∙ found) in
-              ap (λ j. is_parked_job j && marked s) (sym (others s differs)) ∙ ap (λ b. is_parked_job (at mid.jobs s) && cond b one.asked.marked (rest.marked s)) (ne_eqb s serial differs))
-
-          by_test : (b : Bool) → is_due old.jobs marked serial ≡ b
-              → Becomes old mid (cond b (old.queue ++ number.serial ∷ []) old.queue) (cond b (amend old.jobs number.serial queued_again) old.jobs)
-              → Becomes old new (old.queue ++ swept old.jobs marked (serial ∷ serials)) (all_queued_again old.jobs (swept old.jobs marked (serial ∷ serials)))
-          by_test true is_so first =
-              subst (λ ss. Becomes old new (old.queue ++ ss) (all_queued_again old.jobs ss)) (sym (ap (λ b. cond b (serial ∷ swept old.jobs marked serials) (swept old.jobs marked serials)) is_so))
-              (record {
-                queue_is = rest.becomes.queue_is ∙ ap (λ q. q ++ swept mid.jobs rest.marked serials) (first.queue_is ∙ ap (λ s. old.queue ++ s ∷ []) is)
-                    ∙ append_assoc old.queue (serial ∷ []) (swept mid.jobs rest.marked serials) ∙ ap (λ ss. old.queue ++ serial ∷ ss) (sym agree);
-                accepted_is = rest.becomes.accepted_is ∙ first.accepted_is;
-                jobs_are = rest.becomes.jobs_are ∙ ap (λ js. all_queued_again js (swept mid.jobs rest.marked serials)) (first.jobs_are ∙ ap (λ s. amend old.jobs s queued_again) is)
-                    ∙ ap (all_queued_again (amend old.jobs serial queued_again)) (sym agree);
-              })
-          by_test false is_so first =
-              subst (λ ss. Becomes old new (old.queue ++ ss) (all_queued_again old.jobs ss)) (sym (ap (λ b. cond b (serial ∷ swept old.jobs marked serials) (swept old.jobs marked serials)) is_so))
-              (record {
-                queue_is = rest.becomes.queue_is ∙ ap (λ q. q ++ swept mid.jobs rest.marked serials) first.queue_is ∙ ap (λ ss. old.queue ++ ss) (sym agree);
-                accepted_is = rest.becomes.accepted_is ∙ first.accepted_is;
-                jobs_are = rest.becomes.jobs_are ∙ ap (λ js. all_queued_again js (swept mid.jobs rest.marked serials)) first.jobs_are ∙ ap (all_queued_again old.jobs) (sym agree);
-              })
+      at_most_one : (f : Option JobNumber) → length (told f) ≤ 1
+      at_most_one None = omega arith
+      at_most_one (Some n) = omega arith
 
   -- what is left gets shorter
-  pub sweep_shorter : (may_answer : J → Bool → Type 0) (first now mid : Table J) (before next : Option JobNumber) (number : JobNumber) → IsOnce first.accepted → before ≡ Some number → IsSweeping may_answer first now before
-      → SweepsOne may_answer now number mid → IsNumberOf mid.jobs (first_of (rest_after number.serial mid.accepted)) next → length (rest_of next first.accepted) < length (rest_of before first.accepted)
-  sweep_shorter may_answer first now mid before next number once at_it sweeping one is =
-      let numbered = subst (λ serials. IsNumberOf mid.jobs (first_of (rest_after number.serial serials)) next) (one.becomes.accepted_is ∙ sweeping.same) is in
-      let left = ap length (rest_next number.serial first.accepted (rest_after number.serial first.accepted) next mid.jobs once refl numbered) in
-      subst (λ n. length (rest_of next first.accepted) < length (rest_of n first.accepted)) (sym at_it) (omega (arith, left))
+  pub gathering_shorter : (slab : Slab (Entry J)) (chain : Chain) (next after : Option ℕ) (place : ℕ) → HoldsParked slab chain → next ≡ Some place → after ≡ first_of (rest_after place chain.places)
+      → length (from_on after chain.places) < length (from_on next chain.places)
+  gathering_shorter slab chain next after place holds at_it comes =
+      let left = ap length (ap (λ n. from_on n chain.places) comes ∙ from_next place chain.places (rest_after place chain.places) holds.once refl) in
+      let was = ap (λ n. length (from_on n chain.places)) at_it in
+      omega (arith, left, was)
 
-  pub sweep_ends : (may_answer : J → Bool → Type 0) (first now : Table J) (before : Option JobNumber) → before ≡ None → IsOnce first.accepted → IsSweeping may_answer first now before → SweepsAll may_answer first first.accepted now
-  sweep_ends may_answer first now before over once sweeping =
-      in_turn_all may_answer first now first.accepted once
-      (sweeping.completes now (subst (λ n. SweepsInTurn may_answer now (rest_of n first.accepted) now) (sym over) (record { queue_is = refl; accepted_is = refl; jobs_are = refl })))
+  -- What was gathered, by the jobs.
+
+  serials_numbers : (slab : Slab (Entry J)) (places : List ℕ) → serials_of (map (number_at slab) places) ≡ serials_at slab places
+  serials_numbers slab [] = refl
+  serials_numbers slab (place ∷ places) = ap (λ ss. serial_or_zero (get slab place) ∷ ss) (serials_numbers slab places)
+
+  -- a serial stands where its place stands
+  serial_in : (slab : Slab (Entry J)) (q : ℕ) (places : List ℕ) → is_in q places ≡ true → is_in (serial_or_zero (get slab q)) (serials_at slab places) ≡ true
+  serial_in slab q [] within = absurd (false≢true within)
+  serial_in slab q (place ∷ places) within =
+      by_eq q place (λ b. (b || is_in q places) ≡ true → is_in (serial_or_zero (get slab q)) (serials_at slab (place ∷ places)) ≡ true)
+      (λ same f. or_left _ _ (eq-eqb _ _ (ap (λ n. serial_or_zero (get slab n)) same)))
+      (λ far f. or_right _ _ (serial_in slab q places f)) within
+
+  serial_from : (slab : Slab (Entry J)) (s : ℕ) (places : List ℕ) → is_in s (serials_at slab places) ≡ true → (q : ℕ) × (is_in q places ≡ true) × (serial_or_zero (get slab q) ≡ s)
+  serial_from slab s [] within = absurd (false≢true within)
+  serial_from slab s (place ∷ places) within =
+      by_eq s (serial_or_zero (get slab place)) (λ b. (b || is_in s (serials_at slab places)) ≡ true → (q : ℕ) × (is_in q (place ∷ places) ≡ true) × (serial_or_zero (get slab q) ≡ s))
+      (λ same f. (place, is_in-first place places, sym same))
+      (λ far f. let there = serial_from slab s places f in (there.0, or_right (eqb there.0 place) (is_in there.0 places) there.1, there.2)) within
+
+  -- what holds of the number of each place holds of all numbers
+  all_numbers : (P : JobNumber → Type 0) (slab : Slab (Entry J)) (places : List ℕ) → ((q : ℕ) → is_in q places ≡ true → P (number_at slab q)) → All P (map (number_at slab) places)
+  all_numbers P slab [] each = All-nil P
+  all_numbers P slab (place ∷ places) each =
+      All-cons P (number_at slab place) (map (number_at slab) places) (each place (is_in-first place places)) (all_numbers P slab places (λ q within. each q (or_right (eqb q place) (is_in q places) within)))
+
+  -- the entry at a parked place
+  parked_there : (found : Option (Entry J)) → is_parked_entry found ≡ true → (entry : Entry J) × (found ≡ Some entry) × (entry.standing ≡ Parked)
+  parked_there None never = absurd (false≢true never)
+  parked_there (Some entry) stands = (entry, refl, parked_is entry.standing stands)
+
+  -- places of entries have serials of their own
+  once_serials : (slab : Slab (Entry J)) (places : List ℕ) → AreApart slab → IsOnce places → ((q : ℕ) → is_in q places ≡ true → is_parked_entry (get slab q) ≡ true) → IsOnce (serials_at slab places)
+  once_serials slab [] apart once each = tt
+  once_serials slab (place ∷ places) apart once each = (
+    absent_in (serial_or_zero (get slab place)) (serials_at slab places) (λ within.
+        let other = serial_from slab (serial_or_zero (get slab place)) places within in
+        let this = parked_there (get slab place) (each place (is_in-first place places)) in
+        let that = parked_there (get slab other.0) (each other.0 (or_right (eqb other.0 place) (is_in other.0 places) other.1)) in
+        let same : place ≡ other.0 = apart place other.0 this.0 that.0 this.1 that.1 (ap serial_or_zero (sym this.1) ∙ sym other.2 ∙ ap serial_or_zero that.1) in
+        false≢true (sym once.0 ∙ ap (λ n. is_in n places) same ∙ other.1)),
+    once_serials slab places apart once.1 (λ q within. each q (or_right (eqb q place) (is_in q places) within)),
+  )
+
+  -- the place of a job, where there is one
+  abbrev place_of : Option (Job J) → ℕ
+  place_of None = 0
+  place_of (Some job) = job.place
+
+  -- what was gathered at the places was gathered of the jobs
+  pub gathers : (may_answer : J → Bool → Type 0) (slab : Slab (Entry J)) (chain : Chain) (numbers : List JobNumber) → AreApart slab → HoldsParked slab chain → GathersAt may_answer slab chain.places numbers → Gathers may_answer (jobs_of slab) numbers
+  gathers may_answer slab chain numbers apart holds gathered =
+      record {
+        marked = marked;
+        asked = λ s job value found stands held.
+            let there = entry_at s job found stands in
+            subst (may_answer value) (sym (ap (λ j. gathered.marked (place_of j)) found))
+            (gathered.asked job.place there.0 value there.3 there.1 (ap (λ j. j.value) (sym there.4) ∙ held));
+        parked = subst (All (λ number. standing_of jobs number ≡ Some Parked)) (sym gathered.numbers_are)
+            (all_numbers (λ number. standing_of jobs number ≡ Some Parked) slab due (λ q within.
+            let there = parked_there (get slab q) (parked_place q within) in
+            ap (option_map (λ job. job.standing)) (job_here slab (number_at slab q) there.0 apart there.1 (sym (ap serial_or_zero there.1))) ∙ ap Some there.2));
+        once = subst IsOnce (sym serials_are) (once_serials slab due apart (once_kept gathered.marked chain.places holds.once) parked_place);
+        each = λ s. ap (is_in s) serials_are ∙ same_test _ _ (due_if s) (if_due s);
+      }
+    where
+      jobs : Jobs J
+      jobs = jobs_of slab
+
+      due : List ℕ
+      due = filter gathered.marked chain.places
+
+      marked : ℕ → Bool
+      marked s = gathered.marked (place_of (at jobs s))
+
+      parked_place : (q : ℕ) → is_in q due ≡ true → is_parked_entry (get slab q) ≡ true
+      parked_place q within = sym (holds.each q) ∙ (kept_in gathered.marked q chain.places within).0
+
+      serials_are : serials_of numbers ≡ serials_at slab due
+      serials_are = ap serials_of gathered.numbers_are ∙ serials_numbers slab due
+
+      entry_at : (s : ℕ) (job : Job J) → at jobs s ≡ Some job → job.standing ≡ Parked
+          → (entry : Entry J) × (get slab job.place ≡ Some entry) × (entry.serial ≡ s) × (is_in job.place chain.places ≡ true) × (job ≡ job_at job.place entry)
+      entry_at s job found stands =
+          let from = from_there slab jobs s job (tabled slab apart) found in
+          (from.0, from.1, from.2, holds.each job.place ∙ ap is_parked_entry from.1 ∙ ap is_parked (ap (λ j. j.standing) (sym from.3) ∙ stands), from.3)
+
+      due_if : (s : ℕ) → is_in s (serials_at slab due) ≡ true → is_due jobs marked s ≡ true
+      due_if s within =
+          let q = serial_from slab s due within in
+          let there = parked_there (get slab q.0) (parked_place q.0 q.1) in
+          let found : at jobs s ≡ Some (job_at q.0 there.0) =
+          ap (at jobs) (sym (sym (ap serial_or_zero there.1) ∙ q.2)) ∙ (tabled slab apart).here q.0 there.0 there.1 in
+          both_true (is_parked_job (at jobs s)) (marked s) (ap is_parked_job found ∙ ap is_parked there.2)
+          (ap (λ j. gathered.marked (place_of j)) found ∙ (kept_in gathered.marked q.0 chain.places q.1).1)
+
+      if_due : (s : ℕ) → is_due jobs marked s ≡ true → is_in s (serials_at slab due) ≡ true
+      if_due s is =
+          let parts = and_parts (is_parked_job (at jobs s)) (marked s) is in
+          let job = parked_job (at jobs s) parts.0 in
+          let there = entry_at s job.0 job.1 job.2 in
+          ap (λ n. is_in n (serials_at slab due)) (sym (ap serial_or_zero there.1 ∙ there.2))
+          ∙ serial_in slab job.0.place due (in_kept gathered.marked job.0.place chain.places there.3 (sym (ap (λ j. gathered.marked (place_of j)) job.1) ∙ parts.1))
+
+  -- numbers that were gathered, in another order
+  pub gathers_moved : (may_answer : J → Bool → Type 0) (jobs : Jobs J) (xs ys : List JobNumber) → IsPermutation xs ys → Gathers may_answer jobs xs → Gathers may_answer jobs ys
+  gathers_moved may_answer jobs xs ys moved gathered =
+      record {
+        marked = gathered.marked;
+        asked = gathered.asked;
+        parked = All-permutation (λ number. standing_of jobs number ≡ Some Parked) xs ys moved gathered.parked;
+        once = once_permuted (serials_of xs) (serials_of ys) serials_moved gathered.once;
+        each = λ s. sym (list_any-IsPermutation (λ other. eqb s other) (serials_of xs) (serials_of ys) serials_moved) ∙ gathered.each s;
+      }
+    where
+      serials_moved : IsPermutation (serials_of xs) (serials_of ys)
+      serials_moved = IsPermutation-map (λ number. number.serial) xs ys moved
+
+  -- Entering again.
+
+  again_elsewhere : (jobs : Jobs J) (serials : List ℕ) (s : ℕ) → is_in s serials ≡ false → at (all_queued_again jobs serials) s ≡ at jobs s
+  again_elsewhere jobs [] s absent = refl
+  again_elsewhere jobs (serial ∷ serials) s absent =
+      let parts = or_parts (eqb s serial) (is_in s serials) absent in
+      again_elsewhere (amend jobs serial queued_again) serials s parts.1 ∙ at_changed jobs serial s queued_again (eqb-false s serial parts.0)
+
+  again_push : (jobs : Jobs J) (serials : List ℕ) (s : ℕ) → all_queued_again jobs (serials ++ s ∷ []) ≡ amend (all_queued_again jobs serials) s queued_again
+  again_push jobs [] s = refl
+  again_push jobs (serial ∷ serials) s = again_push (amend jobs serial queued_again) serials s
+
+  -- the table, in which these jobs stand in the queue again
+  abbrev pub HasEntered : Table J → List JobNumber → Table J → Type 0
+  HasEntered old numbers new = Becomes old new (old.queue ++ serials_of numbers) (all_queued_again old.jobs (serials_of numbers))
+
+  -- a job that is yet to enter is parked
+  pub still_parked : (first now : Table J) (numbers : List JobNumber) (i : ℕ) (number : JobNumber) → i < length numbers → number ≡ get_or numbers i number → IsOnce (serials_of numbers)
+      → All (λ no. standing_of first.jobs no ≡ Some Parked) numbers → HasEntered first (take i numbers) now → standing_of now.jobs number ≡ Some Parked
+  still_parked first now numbers i number less is once parked entered =
+      ap (λ j. option_map (λ job. job.standing) (if_at number.place j))
+      (ap (λ js. at js number.serial) entered.jobs_are ∙ again_elsewhere first.jobs (serials_of (take i numbers)) number.serial
+      (subst (λ no. is_in no.serial (serials_of (take i numbers)) ≡ false) (sym is) (not_taken numbers i number less once)))
+      ∙ subst (λ no. standing_of first.jobs no ≡ Some Parked) (sym is) (All-get_or (λ no. standing_of first.jobs no ≡ Some Parked) numbers i number less parked)
+
+  -- one more has entered
+  pub one_entered : (first now new : Table J) (numbers more : List JobNumber) (number : JobNumber) → more ≡ numbers ++ number ∷ [] → HasEntered first numbers now
+      → Becomes now new (now.queue ++ number.serial ∷ []) (amend now.jobs number.serial queued_again) → HasEntered first more new
+  one_entered first now new numbers more number are entered becomes =
+      subst (λ ns. HasEntered first ns new) (sym are)
+      (subst (λ ss. Becomes first new (first.queue ++ ss) (all_queued_again first.jobs ss)) (sym (map_push (λ no. no.serial) numbers number))
+      (record {
+        queue_is = becomes.queue_is ∙ ap (λ q. q ++ number.serial ∷ []) entered.queue_is ∙ append_assoc first.queue (serials_of numbers) (number.serial ∷ []);
+        room_is = becomes.room_is ∙ entered.room_is;
+        jobs_are = becomes.jobs_are ∙ ap (λ js. amend js number.serial queued_again) entered.jobs_are ∙ sym (again_push first.jobs (serials_of numbers) number.serial);
+      }))
+
+  -- what was gathered, and stands in the order of the serials, has entered
+  pub sweeps_all : (may_answer : J → Bool → Type 0) (old new : Table J) (xs ys due : List JobNumber) → Gathers may_answer old.jobs xs → IsPermutation xs ys → IsNonDecreasingBy (λ no. no.serial) ys
+      → due ≡ ys → HasEntered old due new → SweepsAll may_answer old new
+  sweeps_all may_answer old new xs ys due gathered moved sorted are entered =
+      let all = gathers_moved may_answer old.jobs xs ys moved gathered in
+      record {
+        marked = all.marked;
+        asked = all.asked;
+        serials = serials_of ys;
+        rising = sorted_rising ys sorted all.once;
+        each = all.each;
+        becomes = subst (λ ns. HasEntered old ns new) are entered;
+      }
+
+  -- the serials of a sweep are those that it finds among all, as they were accepted
+  pub swept_serials : (may_answer : J → Bool → Type 0) (old new : Table J) (next : ℕ) (sweep : SweepsAll may_answer old new) → ((s : ℕ) → next ≤ s → at old.jobs s ≡ None) → sweep.serials ≡ swept old.jobs sweep.marked (serials_below next)
+  swept_serials may_answer old new next sweep unused =
+      same_rising sweep.serials (swept old.jobs sweep.marked (serials_below next)) sweep.rising
+      (rising_kept (is_due old.jobs sweep.marked) (serials_below next) (rising_below next))
+      (λ s. sweep.each s ∙ same_test _ _
+      (λ due. in_kept (is_due old.jobs sweep.marked) s (serials_below next) (stands_below s next (used s due)) due)
+      (λ within. (kept_in (is_due old.jobs sweep.marked) s (serials_below next) within).1))
+    where
+      used : (s : ℕ) → is_due old.jobs sweep.marked s ≡ true → s < next
+      used s due =
+          elim (cases_lt s next) [
+            | inl is ↦ is
+            | inr past ↦ absurd (false≢true (sym (ap is_parked_job (unused s past)) ∙ (and_parts (is_parked_job (at old.jobs s)) (sweep.marked s) due).0))
+          ]

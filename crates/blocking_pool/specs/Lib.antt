@@ -1,3 +1,4 @@
+pub mod Batch
 pub mod Chain
 pub mod Counts
 pub mod Growth

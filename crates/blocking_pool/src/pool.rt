@@ -6,6 +6,7 @@ ghost use Rattle.blocking_pool.specs.Growth.{greatest};
 ghost use Rattle.blocking_pool.specs.Starters.{asked, IsSteady};
 
 mod answer;
+mod batch;
 mod bell;
 mod chain;
 mod counts;
@@ -17,6 +18,7 @@ mod table;
 mod token;
 
 use crate::limit::max_threads;
+use crate::pool::batch::Batch;
 use crate::pool::counts::Counts;
 use crate::pool::table::{Front, Table};
 pub use answer::{Finish, Gone, Refusal, Refused, Took, Waited, Woke};
@@ -33,6 +35,8 @@ pub use token::{Turn, WakeNote, WorkerPass};
 #[derive(Drop)]
 pub struct Pool<J: Job> {
     table: Table<J>,
+    // What a sweep gathers. It has room for all jobs of the table.
+    due: Batch,
     counts: Counts,
     next_serial: u64,
 }
@@ -52,7 +56,7 @@ impl<J: Job> Model for Pool<J> {
       next_serial = p.next_serial;
     } };
 
-    ghost invariant = { λ p. IsWhole p.table p.counts p.next_serial };
+    ghost invariant = { λ p. IsWhole p.table p.counts p.next_serial p.due.room };
 }
 
 impl<J: Job> Pool<J> {
@@ -84,6 +88,7 @@ impl<J: Job> Pool<J> {
     {
         Pool {
             table: Table::new(alloc),
+            due: Batch::new(alloc),
             counts: Counts::new(max_threads(setting), worker),
             next_serial: serial,
         }
@@ -102,7 +107,7 @@ impl<J: Job> Pool<J> {
         if self.next_serial == u64::MAX {
             return refuse(job, Refusal::Numbers);
         }
-        if self.table.reserve().is_err() {
+        if self.table.reserve(&mut self.due).is_err() {
             return refuse(job, Refusal::Memory);
         }
         self.counts.grow(self.table.queue_len() + 1, starter);
@@ -209,14 +214,15 @@ impl<J: Job> Pool<J> {
     }
 
     /// Puts the parked jobs that bear a mark back at the queue's end, in the order in which they were accepted, and answers
-    /// how many they were. Where there were any, the pool grows once. This is the one call that goes through all jobs.
+    /// how many they were. Where there were any, the pool grows once. This is the one call that goes through many jobs: through
+    /// those that are parked.
     pub fn sweep<S: Starter>(&mut self, starter: &mut S) -> usize
         ensures answer { Sweeps J.may_answer (asked S.Starter starter.old starter.new)
             self.old result self.new }
         ensures steady { IsSteady S.Starter starter.old starter.new }
     {
         let before = self.table.queue_len();
-        self.table.sweep();
+        self.table.sweep(&mut self.due);
         let after = self.table.queue_len();
         let count = after - before;
         if count == 0 {

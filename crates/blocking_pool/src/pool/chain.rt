@@ -1,5 +1,5 @@
 //! A list of places in which a place is added at the end and taken out anywhere, each at the same cost.
-ghost use Rattle.std.specs.Prelude.{◌≡◌, ◌+◌, ◌-◌, ◌<◌, ◌≤◌, ◌++◌, ◌∷◌, [], true, false, length, vec_len, is_some, IfSome, OnOk, OnErr, slice_index_or};
+ghost use Rattle.std.specs.Prelude.{◌≡◌, ◌+◌, ◌-◌, ◌<◌, ◌≤◌, ◌++◌, ◌∷◌, [], true, false, length, vec_len, is_some, IfSome, max, OnOk, OnErr, slice_index_or};
 ghost use Rattle.blocking_pool.specs.Lists.{is_in, without, first_of, rest_after, IsOnce};
 ghost use Rattle.blocking_pool.specs.Rings.{node_after, node_before, Joins, IsInserted};
 
@@ -94,6 +94,7 @@ impl Chain {
     pub(crate) fn make_room(&mut self, place: usize) -> Result<(), AllocError>
         ensures places { self.new.places ≡ self.old.places }
         ensures kept { self.old.room ≤ self.new.room }
+        ensures most { self.new.room ≤ max self.old.room (place + 1) }
         ensures room { OnOk result (place < self.new.room) }
     {
         let wanted = place.checked_add(2).ok_or(AllocError)?;

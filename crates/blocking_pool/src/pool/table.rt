@@ -1,12 +1,15 @@
-//! The table of the jobs that aren't over, their queue, and the order in which they were accepted.
-ghost use Rattle.std.specs.Prelude.{◌≡◌, ◌+◌, ◌<◌, ◌++◌, ◌∷◌, [], ℕ, true, false, length, option_map, OnOk, IsSome, Some, None};
+//! The table of the jobs that aren't over, their queue, and those of them that are parked.
+ghost use Rattle.std.specs.Prelude.{◌≡◌, ◌+◌, ◌<◌, ◌≤◌, ◌++◌, ◌∷◌, [], ℕ, true, false, length, OnOk, IsSome, Some, None};
 ghost use Rattle.std.specs.FinMap as map;
-ghost use Rattle.blocking_pool.specs.Lists.{first_of, rest_after, is_in, without, IsOnce};
-ghost use Rattle.slab.specs.Slab.{get};
-ghost use Rattle.blocking_pool.specs.Jobs.{JobNumber, new_job, job_of, standing_of, is_running_as, amend, queued_again, parked_with, woken, cancelled, has_value, value_at};
+ghost use Rattle.blocking_pool.specs.Batch.{serials_of};
+ghost use Rattle.blocking_pool.specs.Lists.{IsOnce};
+ghost use Rattle.blocking_pool.specs.Jobs.{new_job, job_of, standing_of, is_running_as, amend, queued_again, all_queued_again, parked_with, woken, cancelled, has_value, value_at};
+ghost use Rattle.blocking_pool.specs.Tables.{HoldsParked, IsAskedAt, GathersAt};
+ghost use Rattle.std.specs.List.{All};
 ghost use Rattle.std.specs.Option.{option_copied_mut};
 ghost use Rattle.blocking_pool.specs.declared.pool.standing.Standing.TheVariants.{Parked};
 
+use crate::pool::batch::Batch;
 use crate::pool::chain::Chain;
 use crate::pool::job::Job;
 use crate::pool::number::JobNo;
@@ -42,13 +45,13 @@ pub(crate) struct Front<J: Drop> {
     pub cancelled: bool,
 }
 
-/// The jobs that aren't over, each at a place of its own. Two rows lead through the places: the queue, and all jobs in the
-/// order in which they were accepted.
+/// The jobs that aren't over, each at a place of its own. Two rows lead through the places: the queue, and the parked jobs
+/// in the order in which they parked.
 #[derive(Drop)]
 pub(crate) struct Table<J: Drop> {
     entries: Slab<Entry<J>>,
     queue: Chain,
-    accepted: Chain,
+    parked: Chain,
 }
 
 impl<J: Drop> Model for Table<J> {
@@ -58,26 +61,26 @@ impl<J: Drop> Model for Table<J> {
 
     ghost coded = { table_code J.code };
 
-    ghost view = { λ t. table_of t.entries t.queue t.accepted };
+    ghost view = { λ t. table_of t.entries t.queue t.parked };
 
-    ghost invariant = { λ t. IsKept t.entries t.queue t.accepted };
+    ghost invariant = { λ t. IsKept t.entries t.queue t.parked };
 }
 
 impl<J: Drop> Table<J> {
-    ghost use Rattle.blocking_pool.specs.Tables.{TakesFirst, Becomes, IsNumberOf, found_of};
+    ghost use Rattle.blocking_pool.specs.Tables.{TakesFirst, Becomes, found_of};
     ghost use Rattle.std.specs.Borrow.{sem};
     ghost use Rattle.blocking_pool.specs.TableLends.{lends_value};
 
     /// No job. Takes no memory.
     pub(crate) fn new(alloc: Global) -> Self
         ensures queue { result.queue ≡ [] }
-        ensures accepted { result.accepted ≡ [] }
         ensures jobs { result.jobs ≡ map.empty }
+        ensures room { result.room ≡ 0 }
     {
         Table {
             entries: Slab::new(alloc),
             queue: Chain::new(alloc),
-            accepted: Chain::new(alloc),
+            parked: Chain::new(alloc),
         }
     }
 
@@ -88,15 +91,19 @@ impl<J: Drop> Table<J> {
         self.queue.len()
     }
 
-    /// Makes room for one more job, so that nothing that may happen to it later takes memory.
-    pub(crate) fn reserve(&mut self) -> Result<(), AllocError>
-        ensures same { Becomes self.old self.new self.old.queue self.old.jobs }
+    /// Makes room for one more job, here and where a sweep gathers, so that nothing that may happen to it later takes memory.
+    pub(crate) fn reserve(&mut self, due: &mut Batch) -> Result<(), AllocError>
+        requires { self.old.room ≤ due.old.room }
+        ensures queue { self.new.queue ≡ self.old.queue }
+        ensures jobs { self.new.jobs ≡ self.old.jobs }
         ensures room { OnOk result (self.new.has_room ≡ true) }
+        ensures batch { self.new.room ≤ due.new.room }
     {
         self.entries.reserve(1)?;
         let place = self.entries.vacant_key();
+        due.make_room(place.checked_add(1).ok_or(AllocError)?)?;
         self.queue.make_room(place)?;
-        self.accepted.make_room(place)
+        self.parked.make_room(place)
     }
 
     /// Enters a new job at the queue's end.
@@ -105,9 +112,9 @@ impl<J: Drop> Table<J> {
         requires fresh { map.get self.old.jobs serial ≡ None }
         ensures serial { result.serial ≡ serial }
         ensures queue { self.new.queue ≡ self.old.queue ++ serial ∷ [] }
-        ensures accepted { self.new.accepted ≡ self.old.accepted ++ serial ∷ [] }
         ensures jobs { self.new.jobs ≡
             map.insert self.old.jobs serial (new_job result.place value) }
+        ensures same_room { self.new.room ≡ self.old.room }
     {
         let place = self.entries.insert_reserved(Entry {
             serial,
@@ -117,7 +124,6 @@ impl<J: Drop> Table<J> {
             value: Some(value),
         });
         self.queue.push_back(place);
-        self.accepted.push_back(place);
         JobNo::new(place, serial)
     }
 
@@ -205,7 +211,9 @@ impl<J: Drop> Table<J> {
         ensures { Becomes self.old self.new self.old.queue
             (amend self.old.jobs no.serial (parked_with value)) }
     {
-        let Some(entry) = self.entries.get_mut(no.place()) else {
+        let place = no.place();
+        self.parked.push_back(place);
+        let Some(entry) = self.entries.get_mut(place) else {
             unreachable!()
         };
         entry.standing = Standing::Parked;
@@ -240,8 +248,10 @@ impl<J: Drop> Table<J> {
         ensures { Becomes self.old self.new (self.old.queue ++ no.serial ∷ [])
             (amend self.old.jobs no.serial queued_again) }
     {
-        self.queue.push_back(no.place());
-        let Some(entry) = self.entries.get_mut(no.place()) else {
+        let place = no.place();
+        self.parked.unlink(place);
+        self.queue.push_back(place);
+        let Some(entry) = self.entries.get_mut(place) else {
             unreachable!()
         };
         entry.standing = Standing::Queued;
@@ -251,81 +261,73 @@ impl<J: Drop> Table<J> {
     pub(crate) fn remove(&mut self, no: JobNo)
         requires { is_running_as self.old.jobs no ≡ true }
         ensures queue { self.new.queue ≡ self.old.queue }
-        ensures accepted { self.new.accepted ≡ without no.serial self.old.accepted }
         ensures jobs { self.new.jobs ≡ map.remove self.old.jobs no.serial }
+        ensures same_room { self.new.room ≡ self.old.room }
     {
-        let place = no.place();
-        self.entries.try_remove(place);
-        self.accepted.unlink(place);
+        self.entries.try_remove(no.place());
     }
-
-    /// The job that was accepted first.
-    pub(crate) fn first_accepted(&self) -> Option<JobNo>
-        ensures { IsNumberOf self.now.jobs (first_of self.now.accepted) result }
-    {
-        number_at(&self.entries, self.accepted.first()?)
-    }
-
-    /// The job that was accepted after this one.
-    pub(crate) fn accepted_after(&self, no: JobNo) -> Option<JobNo>
-        requires { IsSome (job_of self.now.jobs no) }
-        ensures { IsNumberOf self.now.jobs
-            (first_of (rest_after no.serial self.now.accepted)) result }
-    {
-        number_at(&self.entries, self.accepted.after(no.place())?)
-    }
-}
-
-// The number of the job at a place.
-fn number_at<J: Drop>(entries: &Slab<Entry<J>>, place: usize) -> Option<JobNo>
-    ensures { result ≡
-        option_map (λ entry. record { place = place; serial = entry.serial })
-        (get entries.now place) }
-{
-    let entry = entries.get(place)?;
-    Some(JobNo::new(place, entry.serial))
 }
 
 impl<J: Job> Table<J> {
-    ghost use Rattle.blocking_pool.specs.Tables.{IsAsked, SweepsOne, SweepsAll};
+    ghost use Rattle.blocking_pool.specs.Tables.{Becomes, Gathers, SweepsAll};
 
-    // Whether the job of this number is parked and bears a mark.
-    fn is_due(&self, no: JobNo) -> bool
-        requires { IsSome (job_of self.now.jobs no) }
-        ensures { IsAsked J.may_answer (job_of self.now.jobs no) result }
+    // Gathers the parked jobs that bear a mark, in the order in which they parked.
+    fn gather_due(&self, due: &mut Batch)
+        requires { self.now.room ≤ due.old.room }
+        ensures gathered { Gathers J.may_answer self.now.jobs due.new.numbers }
+        ensures kept { due.old.room ≤ due.new.room }
     {
-        let Some(entry) = self.entries.get(no.place()) else {
-            unreachable!()
-        };
-        match entry.standing {
-            Standing::Parked => match &entry.value {
-                Some(value) => value.abandoned(),
-                None => unreachable!(),
-            },
-            _ => false,
-        }
+        gather(&self.entries, &self.parked, due);
     }
 
-    // Puts one job back that is parked and bears a mark.
-    fn sweep_one(&mut self, no: JobNo)
-        requires { IsSome (job_of self.old.jobs no) }
-        ensures { SweepsOne J.may_answer self.old no self.new }
+    // Lets parked jobs stand at the queue's end again, in this order.
+    fn enter_all(&mut self, due: &[JobNo])
+        requires once { IsOnce (serials_of due.now) }
+        requires parked { All (λ no. standing_of self.old.jobs no ≡ Some Parked) due.now }
+        ensures { Becomes self.old self.new (self.old.queue ++ serials_of due.now)
+            (all_queued_again self.old.jobs (serials_of due.now)) }
     {
-        if !self.is_due(no) {
-            return;
+        for no in due {
+            self.enter_again(*no);
         }
-        self.enter_again(no);
     }
 
     /// Puts the parked jobs that bear a mark back at the queue's end, in the order in which they were accepted.
-    pub(crate) fn sweep(&mut self)
-        requires { IsOnce self.old.accepted }
-        ensures { SweepsAll J.may_answer self.old self.old.accepted self.new }
+    pub(crate) fn sweep(&mut self, due: &mut Batch)
+        requires { self.old.room ≤ due.old.room }
+        ensures swept { SweepsAll J.may_answer self.old self.new }
+        ensures kept { due.old.room ≤ due.new.room }
     {
-        let mut next = self.first_accepted();
-        'jobs: while let Some(no) = next {
-            self.sweep_one(no);
-            next = self.accepted_after(no);
+        self.gather_due(due);
+        due.sort();
+        self.enter_all(due.numbers());
+    }
+}
+
+// The number of the job at a place, if the job bears a mark.
+fn marked_at<J: Job>(entries: &Slab<Entry<J>>, place: usize) -> Option<JobNo>
+    ensures { IsAskedAt J.may_answer entries.now place result }
+{
+    let entry = entries.get(place)?;
+    if !entry.value.as_ref()?.abandoned() {
+        return None;
+    }
+    Some(JobNo::new(place, entry.serial))
+}
+
+// Gathers the numbers of the jobs at the parked places that bear a mark.
+fn gather<J: Job>(entries: &Slab<Entry<J>>, parked: &Chain, due: &mut Batch)
+    requires parked { HoldsParked entries.now parked.now }
+    requires room { parked.now.room ≤ due.old.room }
+    ensures gathered { GathersAt J.may_answer entries.now parked.now.places due.new.numbers }
+    ensures kept { due.old.room ≤ due.new.room }
+{
+    due.clear();
+    let mut next = parked.first();
+    'places: while let Some(place) = next {
+        if let Some(no) = marked_at(entries, place) {
+            due.push(no);
         }
+        next = parked.after(place);
     }
 }

@@ -8,7 +8,7 @@ end_job-requires g c = running_busy _ c.args.turn c.self.invariant.sound (ap (λ
 
 pub invariant_of-self : goal.invariant_of-self
 invariant_of-self g c =
-    parked_whole c.self.inside.table c.park.new.self c.spend-no.result c.args.value c.self.inside.counts c.end_job.new.self c.self.inside.next_serial
+    parked_whole c.self.inside.table c.park.new.self c.spend-no.result c.args.value c.self.inside.counts c.end_job.new.self c.self.inside.next_serial c.self.inside.due.room
     (ap (is_running_as c.self.inside.table.jobs) c.spend-no.ensures ∙ ap (λ pool. is_running_as pool.jobs c.args.turn) c.self.view_is ∙ c.requires)
     c.self.invariant c.park.ensures c.end_job.ensures
 
@@ -20,6 +20,6 @@ enter_again-requires g c =
 
 pub invariant_of-self-2 : goal.invariant_of-self-2
 invariant_of-self-2 g c =
-    returned_at_once c.self.inside.table c.park.new.self c.enter_again.new.self c.spend-no.result c.args.value c.self.inside.counts c.end_job.new.self c.ring_one.new.self c.self.inside.next_serial
+    returned_at_once c.self.inside.table c.park.new.self c.enter_again.new.self c.spend-no.result c.args.value c.self.inside.counts c.end_job.new.self c.ring_one.new.self c.self.inside.next_serial c.self.inside.due.room
     (ap (is_running_as c.self.inside.table.jobs) c.spend-no.ensures ∙ ap (λ pool. is_running_as pool.jobs c.args.turn) c.self.view_is ∙ c.requires)
     c.self.invariant c.park.ensures c.enter_again.ensures c.end_job.ensures c.ring_one.ensures

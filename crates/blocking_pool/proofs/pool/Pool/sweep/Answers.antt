@@ -2,25 +2,25 @@ use Rattle.std.proofs.Common.{refl, ap, ◌∙◌}
 use Rattle.blocking_pool.specs.Counts.{rung}
 use Rattle.blocking_pool.specs.Starters.{asked}
 use Rattle.blocking_pool.specs.declared.pool.bell.BellKind.TheVariants.{One}
-use Rattle.blocking_pool.proofs.PoolLemmas.{roll_once, swept_none, swept_some, swept_whole}
+use Rattle.blocking_pool.proofs.PoolLemmas.{swept_none, swept_some, swept_whole}
 use Rattle.blocking_pool.proofs.pool.Pool.sweep.Goals as goal
 
 pub sweep-requires : goal.sweep-requires
-sweep-requires g c = roll_once c.self.inside.table c.self.inside.counts c.self.inside.next_serial c.self.invariant
+sweep-requires g c = c.self.invariant.room
 
 pub returns-then-count-eq0-clause-answer : goal.returns-then-count-eq0-clause-answer
 returns-then-count-eq0-clause-answer g c =
-    swept_none g.J.Job.may_answer (asked g.S.Starter c.args.starter.now c.args.starter.now) c.self.inside.table c.sweep.new.self c.self.inside.counts c.self.inside.next_serial
-    c.queue_len-before.result c.queue_len-after.result c.args.self.now refl c.self.invariant c.sweep.ensures c.queue_len-before.ensures c.queue_len-after.ensures c.if-count-eq0.true c.self.view_is
+    swept_none g.J.Job.may_answer (asked g.S.Starter c.args.starter.now c.args.starter.now) c.self.inside.table c.sweep.new.self c.self.inside.counts c.self.inside.next_serial c.self.inside.due.room
+    c.queue_len-before.result c.queue_len-after.result c.args.self.now refl c.self.invariant c.sweep.ensures.swept c.queue_len-before.ensures c.queue_len-after.ensures c.if-count-eq0.true c.self.view_is
 
 pub invariant_of-self-2 : goal.invariant_of-self-2
 invariant_of-self-2 g c =
-    swept_whole g.J.Job.may_answer c.self.inside.table c.sweep.new.self c.self.inside.counts c.ring_one.new.self c.grow.ensures.growth.0 c.self.inside.next_serial c.self.invariant c.sweep.ensures
+    swept_whole g.J.Job.may_answer c.self.inside.table c.sweep.new.self c.self.inside.counts c.ring_one.new.self c.grow.ensures.growth.0 c.self.inside.next_serial c.self.inside.due.room c.sweep.new.due.room c.self.invariant c.sweep.ensures.swept c.sweep.ensures.kept
     (c.ring_one.ensures ∙ ap (rung One) c.grow.ensures.growth.1.counts)
 
 pub returns-clause-answer : goal.returns-clause-answer
 returns-clause-answer g c =
     swept_some g.J.Job.may_answer (asked g.S.Starter c.args.starter.now c.grow.new.starter) c.self.inside.table c.sweep.new.self
-    c.self.inside.counts c.grow.new.self c.ring_one.new.self c.grow.ensures.growth.0 c.self.inside.next_serial
-    c.queue_len-before.result c.queue_len-after.result c.queue_len-after.result c.args.self.now c.self.invariant c.sweep.ensures c.queue_len-before.ensures c.queue_len-after.ensures c.if-count-eq0.false c.queue_len-after.ensures
+    c.self.inside.counts c.grow.new.self c.ring_one.new.self c.grow.ensures.growth.0 c.self.inside.next_serial c.self.inside.due.room
+    c.queue_len-before.result c.queue_len-after.result c.queue_len-after.result c.args.self.now c.self.invariant c.sweep.ensures.swept c.queue_len-before.ensures c.queue_len-after.ensures c.if-count-eq0.false c.queue_len-after.ensures
     c.grow.ensures.growth.1 c.ring_one.ensures c.self.view_is

@@ -1,18 +1,21 @@
-use Rattle.blocking_pool.proofs.SweepLemmas.{still_there, sweep_goes_on, sweep_shorter, sweep_ends}
+use Rattle.std.proofs.Common.{sym, subst}
+use Rattle.blocking_pool.specs.Tables.{Gathers}
+use Rattle.blocking_pool.proofs.SweepLemmas.{gathers_moved, sweeps_all}
 use Rattle.blocking_pool.proofs.pool.table.Table.sweep.Goals as goal
 
-pub accepted_after-next-requires : goal.accepted_after-next-requires
-accepted_after-next-requires g c = still_there g.J.Job.may_answer c.jobs.self c.sweep_one.new.self c.in-Some.no c.sweep_one.ensures (c.jobs.invariant.here c.in-Some.no c.in-Some.is)
+-- what was gathered, in the order of the serials
+sorted : (g : _) (c : goal.After-numbers g) → Gathers g.J.Job.may_answer c.args.self.now.jobs c.numbers.result.now
+sorted g c =
+    subst (Gathers g.J.Job.may_answer c.args.self.now.jobs) (sym c.numbers.ensures)
+    (gathers_moved g.J.Job.may_answer c.args.self.now.jobs c.gather_due.new.due.numbers c.sort.new.self.numbers c.sort.ensures.same c.gather_due.ensures.gathered)
 
-pub jobs-smaller : goal.jobs-smaller
-jobs-smaller g c =
-    sweep_shorter g.J.Job.may_answer c.args.self.now c.jobs.self c.sweep_one.new.self c.jobs.next c.accepted_after-next.result c.in-Some.no
-    c.requires c.in-Some.is c.jobs.invariant c.sweep_one.ensures c.accepted_after-next.ensures
+pub enter_all-requires-clause-once : goal.enter_all-requires-clause-once
+enter_all-requires-clause-once g c = (sorted g c).once
 
-pub jobs-preserved : goal.jobs-preserved
-jobs-preserved g c =
-    sweep_goes_on g.J.Job.may_answer c.args.self.now c.jobs.self c.sweep_one.new.self c.jobs.next c.accepted_after-next.result c.in-Some.no
-    c.requires c.in-Some.is c.jobs.invariant c.sweep_one.ensures c.accepted_after-next.ensures
+pub enter_all-requires-clause-parked : goal.enter_all-requires-clause-parked
+enter_all-requires-clause-parked g c = (sorted g c).parked
 
-pub returns : goal.returns
-returns g c = sweep_ends g.J.Job.may_answer c.args.self.now c.jobs.self c.jobs.next c.in_default.is c.requires c.jobs.invariant
+pub returns-clause-swept : goal.returns-clause-swept
+returns-clause-swept g c =
+    sweeps_all g.J.Job.may_answer c.args.self.now c.enter_all.new.self c.gather_due.new.due.numbers c.sort.new.self.numbers c.numbers.result.now
+    c.gather_due.ensures.gathered c.sort.ensures.same c.sort.ensures.sorted c.numbers.ensures c.enter_all.ensures
