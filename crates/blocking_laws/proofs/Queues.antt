@@ -458,8 +458,8 @@ entered_after setting past now act sound answers = enters_last (entries past) (t
 
 -- ---- each moment
 
-sound_after : (setting : ℕ) (marks : List Bool) (past : List Moment) (now : Moment) → Sound past → PoolLaw setting marks past now → Sound (now ∷ past)
-sound_after setting marks past now sound law =
+sound_after : (setting : ℕ) (plan : List Bool) (past : List Moment) (now : Moment) → Sound past → PoolLaw setting plan past now → Sound (now ∷ past)
+sound_after setting plan past now sound law =
     let act = now.event.act in
     let named : (s : ℕ) → Meets act s (standing past s) = λ s. meets setting past now act s sound law.answers law.turns.one in
     record {
@@ -480,8 +480,8 @@ sound_after setting marks past now sound law =
 no_hand : (s : ℕ) → None ≡ Some s → ⊥
 no_hand s e = cc
 
-sound_of : (setting : ℕ) (marks : List Bool) (past : List Moment) → EachMayFollow (PoolLaw setting marks) past → Sound past
-sound_of setting marks [] laws = record {
+sound_of : (setting : ℕ) (plan : List Bool) (past : List Moment) → EachMayFollow (PoolLaw setting plan) past → Sound past
+sound_of setting plan [] laws = record {
   accepted = λ s. refl;
   beyond = λ s over. refl;
   queued = λ s. refl;
@@ -489,26 +489,26 @@ sound_of setting marks [] laws = record {
   hands = record { held = λ w s e. absurd (no_hand s e); alone = λ v w s e f. absurd (no_hand s e) };
   entered = refl;
 }
-sound_of setting marks (now ∷ past) laws = sound_after setting marks past now (sound_of setting marks past laws.1) laws.0
+sound_of setting plan (now ∷ past) laws = sound_after setting plan past now (sound_of setting plan past laws.1) laws.0
 
-pub entered_so : (setting : ℕ) (marks : List Bool) (past : List Moment) → EachMayFollow (PoolLaw setting marks) past → entries past ≡ takes past ++ queue past
-entered_so setting marks past laws = (sound_of setting marks past laws).entered
+pub entered_so : (setting : ℕ) (plan : List Bool) (past : List Moment) → EachMayFollow (PoolLaw setting plan) past → entries past ≡ takes past ++ queue past
+entered_so setting plan past laws = (sound_of setting plan past laws).entered
 
-pub count_so : (setting : ℕ) (marks : List Bool) (past : List Moment) → EachMayFollow (PoolLaw setting marks) past → length (queue past) ≡ length (entries past) - length (takes past)
-count_so setting marks past laws =
-    let all : length (entries past) ≡ length (takes past) + length (queue past) = ap length (entered_so setting marks past laws) ∙ length-append (takes past) (queue past) in
+pub count_so : (setting : ℕ) (plan : List Bool) (past : List Moment) → EachMayFollow (PoolLaw setting plan) past → length (queue past) ≡ length (entries past) - length (takes past)
+count_so setting plan past laws =
+    let all : length (entries past) ≡ length (takes past) + length (queue past) = ap length (entered_so setting plan past laws) ∙ length-append (takes past) (queue past) in
     omega (arith, all)
 
-pub queued_so : (setting : ℕ) (marks : List Bool) (past : List Moment) → EachMayFollow (PoolLaw setting marks) past → (s : ℕ) → times s (queue past) ≡ one_if (is_queued (standing past s))
-queued_so setting marks past laws = (sound_of setting marks past laws).queued
+pub queued_so : (setting : ℕ) (plan : List Bool) (past : List Moment) → EachMayFollow (PoolLaw setting plan) past → (s : ℕ) → times s (queue past) ≡ one_if (is_queued (standing past s))
+queued_so setting plan past laws = (sound_of setting plan past laws).queued
 
-pub runs_so : (setting : ℕ) (marks : List Bool) (past : List Moment) → EachMayFollow (PoolLaw setting marks) past → (s : ℕ) → times s (running past) ≡ one_if (is_running (standing past s))
-runs_so setting marks past laws = (sound_of setting marks past laws).runs
+pub runs_so : (setting : ℕ) (plan : List Bool) (past : List Moment) → EachMayFollow (PoolLaw setting plan) past → (s : ℕ) → times s (running past) ≡ one_if (is_running (standing past s))
+runs_so setting plan past laws = (sound_of setting plan past laws).runs
 
 -- what is in a hand runs
-pub held_so : (setting : ℕ) (marks : List Bool) (past : List Moment) → EachMayFollow (PoolLaw setting marks) past → (w s : ℕ) → hand past w ≡ Some s → standing past s ≡ Some Running
-held_so setting marks past laws = (sound_of setting marks past laws).hands.held
+pub held_so : (setting : ℕ) (plan : List Bool) (past : List Moment) → EachMayFollow (PoolLaw setting plan) past → (w s : ℕ) → hand past w ≡ Some s → standing past s ≡ Some Running
+held_so setting plan past laws = (sound_of setting plan past laws).hands.held
 
 -- what stands somewhere was accepted, once
-pub known_so : (setting : ℕ) (marks : List Bool) (past : List Moment) → EachMayFollow (PoolLaw setting marks) past → (s : ℕ) → times s (accepted_jobs past) ≡ (if is_some (standing past s) then 1 else 0)
-known_so setting marks past laws = (sound_of setting marks past laws).accepted
+pub known_so : (setting : ℕ) (plan : List Bool) (past : List Moment) → EachMayFollow (PoolLaw setting plan) past → (s : ℕ) → times s (accepted_jobs past) ≡ (if is_some (standing past s) then 1 else 0)
+known_so setting plan past laws = (sound_of setting plan past laws).accepted

@@ -39,42 +39,42 @@ is_free past w = is_there past w && is_none (hand past w)
 abbrev pub kind_by : Option Party → Kind
 kind_by _ = Calling
 
--- What a worker has to do: nothing, an action of its job, to give the job up, or to end the turn.
-pub data Work : Type 0 where
-  NoWork : Work
-  Does : JobAction → Work
-  GivesUp : Work
-  EndsTurn : Work
+-- What a worker does next: nothing, an action of its job, giving the job up, or ending the turn.
+pub data WorkerAction : Type 0 where
+  NoNext : WorkerAction
+  Does : JobAction → WorkerAction
+  GivesUp : WorkerAction
+  EndsTurn : WorkerAction
 
--- what a worker has to do, by where its job is in its turn and by the job's next action
-abbrev pub work_in : Turn → JobAction → Work
-work_in IsWaiting action = EndsTurn
-work_in MustGiveUp action = GivesUp
-work_in GoesOn action = if is_over action then EndsTurn else Does action
-work_in HasGivenUp action = if is_over action then EndsTurn else Does action
+-- the next action of a worker, by where its job is in its turn and by the job's next action
+abbrev pub next_in_turn : Turn → JobAction → WorkerAction
+next_in_turn IsWaiting action = EndsTurn
+next_in_turn MustGiveUp action = GivesUp
+next_in_turn GoesOn action = if is_over action then EndsTurn else Does action
+next_in_turn HasGivenUp action = if is_over action then EndsTurn else Does action
 
--- what a worker has to do with the job in its hand
-abbrev pub work_with : Option ℕ → List Moment → Work
-work_with None past = NoWork
-work_with (Some s) past = work_in (turn past s) (next_of_job (kind_by (holder past s)) (acts_of s (events past)))
+-- the next action of a worker with this job in its hand
+abbrev pub next_with : Option ℕ → List Moment → WorkerAction
+next_with None past = NoNext
+next_with (Some s) past = next_in_turn (turn past s) (next_of_job (kind_by (holder past s)) (acts_of s (events past)))
 
--- what a worker has to do
-abbrev pub work : List Moment → ℕ → Work
-work past w = work_with (hand past w) past
+-- the next action of a worker
+abbrev pub next_of_worker : List Moment → ℕ → WorkerAction
+next_of_worker past w = next_with (hand past w) past
 
 -- whether that is an action of the job's own
-abbrev pub is_job_work : Work → Bool
-is_job_work (Does action) = not (is_asking action)
-is_job_work GivesUp = true
-is_job_work _ = false
+abbrev pub is_job_action : WorkerAction → Bool
+is_job_action (Does action) = not (is_asking action)
+is_job_action GivesUp = true
+is_job_action _ = false
 
--- whether it is to be answered so
-abbrev pub is_answered_work : Work → Answer → Bool
-is_answered_work (Does action) answer = is_asking action && is_answer action answer
-is_answered_work _ answer = false
+-- whether it is the job's question, and this an answer to it
+abbrev pub is_answered_action : WorkerAction → Answer → Bool
+is_answered_action (Does action) answer = is_asking action && is_answer action answer
+is_answered_action _ answer = false
 
--- whether it is to end the turn
-abbrev pub is_turn_end : Work → Bool
+-- whether it is the end of the turn
+abbrev pub is_turn_end : WorkerAction → Bool
 is_turn_end EndsTurn = true
 is_turn_end _ = false
 
@@ -103,9 +103,9 @@ has_action past Spawn = true
 has_action past (OfTask k c) = nat_lt k (tasks past) && may_call (acts_of_task k (events past)) c
 has_action past Arrive = nat_lt (arrivals past) (starts past)
 has_action past (Take w) = is_free past w
-has_action past (Job w) = is_job_work (work past w)
-has_action past (Io w answer) = is_answered_work (work past w) answer
-has_action past (End w) = is_turn_end (work past w)
+has_action past (Job w) = is_job_action (next_of_worker past w)
+has_action past (Io w answer) = is_answered_action (next_of_worker past w) answer
+has_action past (End w) = is_turn_end (next_of_worker past w)
 has_action past (Wait w) = is_free past w
 has_action past (Late w) = is_free past w
 has_action past (SetLimit n) = nat_lt 0 n

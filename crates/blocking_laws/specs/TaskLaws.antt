@@ -2,7 +2,7 @@
 use Rattle.std.specs.Prelude.{◌≡◌, ℕ, Bool, true, false, ◌||◌, not, List, [], ◌∷◌}
 use Rattle.blocking_laws.specs.Seen.{EachMayFollow, own, acts_of, is_some_worker}
 use Rattle.blocking_laws.specs.Jobs.{lets_go}
-use Rattle.blocking_laws.specs.JobTable.{Calling, JobAction, AskCall, Finish, WakeHolder, IsAnswerTo, action_after, next_of_job, is_over, number, has_finished, has_given_up}
+use Rattle.blocking_laws.specs.JobTable.{Calling, JobAction, AskCall, Finish, WakeHolder, IsAnswerTo, next_but_wake, next_of_job, is_over, number, has_finished, has_given_up}
 use Rattle.blocking_laws.specs.Places.{poll_task}
 use Rattle.blocking_laws.specs.Seats.{task_seat}
 use Rattle.blocking_laws.specs.declared.event.Act.{Act}
@@ -68,7 +68,7 @@ Calls cut _ act = ⊥
 -- takes the waker of its holder where one is seated.
 abbrev pub CallActs : ℕ → List Event → Act → Type 0
 CallActs s cut (GaveUp wake) =
-    (is_let_go (own cut) ≡ true) × (is_over (action_after Calling (acts_of s cut)) ≡ false) × (wake ≡ task_seat cut)
+    (is_let_go (own cut) ≡ true) × (is_over (next_but_wake Calling (acts_of s cut)) ≡ false) × (wake ≡ task_seat cut)
 CallActs s cut act = Calls cut (next_of_job Calling (acts_of s cut)) act
 
 -- an act of a worker is its job's; any other is the task's, which isn't gone

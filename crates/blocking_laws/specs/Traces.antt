@@ -53,7 +53,7 @@ Keeps Holds past now = Holds (past ▸ now)
 
 -- The pool's law holds at each moment.
 abbrev pub IsPooled : ℕ → List Bool → List Moment → Type 0
-IsPooled setting marks past = EachMayFollow (PoolLaw setting marks) past
+IsPooled setting plan past = EachMayFollow (PoolLaw setting plan) past
 
 -- the law of this task, whose job is the second number
 abbrev pub LawOfTask : ℕ → ℕ → List Moment → Moment → Type 0

@@ -144,7 +144,7 @@ module _ (w : Worlded) (past : List Moment) (filed : Filed w past) where
 abbrev pub moves_job : Move → Bool
 moves_job (Begins (Ok number) growth pool) = true
 moves_job (TakesJob v old to_drop turn job growth pool) = true
-moves_job (EndsTurn v held pass) = true
+moves_job (EndsTurn v in_hand pass) = true
 moves_job _ = false
 
 -- whether a move starts workers, lets one arrive or stop, or sets the limit
@@ -166,8 +166,8 @@ module _ (setting : ℕ) (w : Worlded) (past : List Moment) (tied : Tied setting
   pub jobs_stay_at : (move : Move) → moves_job move ≡ false → JobsStay past (moment_of w move)
   jobs_stay_at (Begins (Ok number) growth pool) moves = absurd cc
   jobs_stay_at (TakesJob v old to_drop turn job growth pool) moves = absurd cc
-  jobs_stay_at (EndsTurn v held pass) moves = absurd cc
-  jobs_stay_at (Calls k call owner) moves = jobs_stay w past tied.filed _ _ _ _ _ _ (by_call (λ act. moves_a_job act ≡ false) refl (λ n. refl) refl refl refl refl call owner)
+  jobs_stay_at (EndsTurn v in_hand pass) moves = absurd cc
+  jobs_stay_at (Calls k call task) moves = jobs_stay w past tied.filed _ _ _ _ _ _ (by_call (λ act. moves_a_job act ≡ false) refl (λ n. refl) refl refl refl refl call task)
   jobs_stay_at (HasWaited v pass late) moves = jobs_stay w past tied.filed _ _ _ _ _ _ (by_wait (λ act. moves_a_job act ≡ false) v late refl refl (must_stop late w.pool))
   jobs_stay_at (IsWoken s) moves =
       jobs_stay w past tied.filed _ _ _ _ _ _ (by_unentered (λ how. moves_a_job (JobWoken s how) ≡ false) refl refl (wakes_as w s) (never_woken w s tied.handed.ready))
@@ -182,8 +182,8 @@ module _ (setting : ℕ) (w : Worlded) (past : List Moment) (tied : Tied setting
   counts_stay_at (TakesJob v old to_drop turn job growth pool) moves = absurd cc
   counts_stay_at (HasWaited v pass late) moves = absurd cc
   counts_stay_at (SetsLimit n) moves = absurd cc
-  counts_stay_at (Calls k call owner) moves =
-      counts_stay w past tied.filed setting _ _ _ _ _ (by_call (λ act. may_grow act || changes_a_count act ≡ false) refl (λ n. refl) refl refl refl refl call owner)
+  counts_stay_at (Calls k call task) moves =
+      counts_stay w past tied.filed setting _ _ _ _ _ (by_call (λ act. may_grow act || changes_a_count act ≡ false) refl (λ n. refl) refl refl refl refl call task)
   counts_stay_at (IsWoken s) moves =
       counts_stay w past tied.filed setting _ _ _ _ _
       (by_unentered (λ how. may_grow (JobWoken s how) || changes_a_count (JobWoken s how) ≡ false) refl refl (wakes_as w s) (never_woken w s tied.handed.ready))

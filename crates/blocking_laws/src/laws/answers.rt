@@ -80,7 +80,7 @@ pub fn order()
         (moment (Take 1) (Worker 1) (Some 1) (Took 1) 2) }
 {}
 
-/// A wake puts a parked job back and marks a running one; any other it leaves as it is.
+/// A wake puts a parked job back and flags a running one as woken; any other it leaves as it is.
 pub fn wakes()
     // accepted 1 +1 / arrived 1 / delivered 1 nothing
     ensures accepts_queued { Legal 1 [] (one_arrived
@@ -118,7 +118,7 @@ pub fn wakes()
         (moment (Stray 1) Pool None (JobWoken 1 Entered) 2) }
 {}
 
-/// A cancel puts a parked job back and marks one that is queued or running; one that is over it leaves as it is.
+/// A cancel puts a parked job back and flags one that is queued or running; one that is over it leaves as it is.
 pub fn cancels()
     // accepted 1 +1 / cancelled 1 marked / arrived 1 / took 1 dropped: the cancel alone is enough
     ensures accepts_drop_of_cancelled { IsPooled 1 [] (one_queued

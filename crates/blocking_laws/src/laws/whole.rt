@@ -21,64 +21,64 @@ ghost use Rattle.blocking_pool.specs.declared.pool.standing.Standing.TheVariants
 /// A past is legal exactly where the laws hold at every beginning of it. `Legal` says so step by step: each moment may follow
 /// those before it.
 pub fn beginnings()
-    ensures both_forms { (setting : ℕ) (marks : List Bool) (past : List Moment) →
-        Legal setting marks past ↔ IsLegalThroughout setting marks past }
-    ensures each_beginning { (setting : ℕ) (marks : List Bool) (past : List Moment) (now : Moment) →
-        Legal setting marks (past ▸ now) → Legal setting marks past }
+    ensures both_forms { (setting : ℕ) (plan : List Bool) (past : List Moment) →
+        Legal setting plan past ↔ IsLegalThroughout setting plan past }
+    ensures each_beginning { (setting : ℕ) (plan : List Bool) (past : List Moment) (now : Moment) →
+        Legal setting plan (past ▸ now) → Legal setting plan past }
 {}
 
 /// A step has one event: whatever differs from it in anything is refused. The laws leave one thing open, whether there is
 /// memory for a new job.
 pub fn one_event()
     // after a legal past, by all the laws
-    ensures everywhere { (setting : ℕ) (marks : List Bool) (past : List Moment) (now other : Moment) →
+    ensures everywhere { (setting : ℕ) (plan : List Bool) (past : List Moment) (now other : Moment) →
         now.step ≡ other.step → is_out_of_memory now.event.act ≡ is_out_of_memory other.event.act →
-        Legal setting marks (past ▸ now) → Legal setting marks (past ▸ other) → now.event ≡ other.event }
+        Legal setting plan (past ▸ now) → Legal setting plan (past ▸ other) → now.event ≡ other.event }
     // at the pool after any past, by the laws of steps and of the pool alone
-    ensures at_pool { (setting : ℕ) (marks : List Bool) (past : List Moment) (now other : Moment) →
+    ensures at_pool { (setting : ℕ) (plan : List Bool) (past : List Moment) (now other : Moment) →
         now.step ≡ other.step → is_pool_step now.step ≡ true →
         is_out_of_memory now.event.act ≡ false → is_out_of_memory other.event.act ≡ false →
         StepLaw past now → StepLaw past other →
-        PoolLaw setting marks past now → PoolLaw setting marks past other →
+        PoolLaw setting plan past now → PoolLaw setting plan past other →
         now.event ≡ other.event }
 {}
 
 /// The order of entry is the takes and then the queue; and the queue and the running jobs are those that stand so, each once.
 /// This holds of each trace that keeps the pool's law, as each legal one does.
 pub fn queue_and_running()
-    ensures entered { (setting : ℕ) (marks : List Bool) (past : List Moment) →
-        IsPooled setting marks past →
+    ensures entered { (setting : ℕ) (plan : List Bool) (past : List Moment) →
+        IsPooled setting plan past →
         entries past ≡ takes past ++ queue past }
-    ensures count { (setting : ℕ) (marks : List Bool) (past : List Moment) →
-        IsPooled setting marks past →
+    ensures count { (setting : ℕ) (plan : List Bool) (past : List Moment) →
+        IsPooled setting plan past →
         length (queue past) ≡ length (entries past) - length (takes past) }
-    ensures queued { (setting : ℕ) (marks : List Bool) (past : List Moment) →
-        IsPooled setting marks past →
+    ensures queued { (setting : ℕ) (plan : List Bool) (past : List Moment) →
+        IsPooled setting plan past →
         AreThose (λ s. is_queued (standing past s)) (queue past) }
-    ensures running { (setting : ℕ) (marks : List Bool) (past : List Moment) →
-        IsPooled setting marks past →
+    ensures running { (setting : ℕ) (plan : List Bool) (past : List Moment) →
+        IsPooled setting plan past →
         AreThose (λ s. is_running (standing past s)) (running past) }
 {}
 
 /// What one law refuses is in no legal trace.
 pub fn refusals()
-    ensures by_step { (setting : ℕ) (marks : List Bool) (past : List Moment) (now : Moment) →
-        Refuses StepLaw past now → Legal setting marks (past ▸ now) → ⊥ }
-    ensures by_growth { (setting : ℕ) (marks : List Bool) (past : List Moment) (now : Moment) →
-        Refuses (GrowthLaw setting marks) past now → Legal setting marks (past ▸ now) → ⊥ }
-    ensures by_answer { (setting : ℕ) (marks : List Bool) (past : List Moment) (now : Moment) →
-        Refuses (AnswerLaw setting) past now → Legal setting marks (past ▸ now) → ⊥ }
-    ensures by_turn { (setting : ℕ) (marks : List Bool) (past : List Moment) (now : Moment) →
-        Refuses TurnLaw past now → Legal setting marks (past ▸ now) → ⊥ }
-    ensures by_order { (setting : ℕ) (marks : List Bool) (past : List Moment) (now : Moment) →
-        Refuses (Keeps InOrder) past now → Legal setting marks (past ▸ now) → ⊥ }
-    ensures by_wake { (setting : ℕ) (marks : List Bool) (past : List Moment) (now : Moment) →
-        Refuses (Keeps NoLostWake) past now → Legal setting marks (past ▸ now) → ⊥ }
+    ensures by_step { (setting : ℕ) (plan : List Bool) (past : List Moment) (now : Moment) →
+        Refuses StepLaw past now → Legal setting plan (past ▸ now) → ⊥ }
+    ensures by_growth { (setting : ℕ) (plan : List Bool) (past : List Moment) (now : Moment) →
+        Refuses (GrowthLaw setting plan) past now → Legal setting plan (past ▸ now) → ⊥ }
+    ensures by_answer { (setting : ℕ) (plan : List Bool) (past : List Moment) (now : Moment) →
+        Refuses (AnswerLaw setting) past now → Legal setting plan (past ▸ now) → ⊥ }
+    ensures by_turn { (setting : ℕ) (plan : List Bool) (past : List Moment) (now : Moment) →
+        Refuses TurnLaw past now → Legal setting plan (past ▸ now) → ⊥ }
+    ensures by_order { (setting : ℕ) (plan : List Bool) (past : List Moment) (now : Moment) →
+        Refuses (Keeps InOrder) past now → Legal setting plan (past ▸ now) → ⊥ }
+    ensures by_wake { (setting : ℕ) (plan : List Bool) (past : List Moment) (now : Moment) →
+        Refuses (Keeps NoLostWake) past now → Legal setting plan (past ▸ now) → ⊥ }
     // an event of this task or of its job
-    ensures by_task { (setting : ℕ) (marks : List Bool) (past : List Moment) (now : Moment) →
+    ensures by_task { (setting : ℕ) (plan : List Bool) (past : List Moment) (now : Moment) →
         (k s : ℕ) → holder (past ▸ now) s ≡ Some (Task k) →
         (is_by_task k now.event || is_of_job s now.event) ≡ true →
-        Refuses (LawOfTask k s) past now → Legal setting marks (past ▸ now) → ⊥ }
+        Refuses (LawOfTask k s) past now → Legal setting plan (past ▸ now) → ⊥ }
 {}
 
 /// Whole calls, from the first step to the last.
