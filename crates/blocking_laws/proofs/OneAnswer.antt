@@ -4,7 +4,7 @@ use mathlib.Core.Path.{subst, sym}
 use Rattle.blocking_pool.specs.Growth.{limit_after, StartAnswer, IsGrowth}
 use Rattle.blocking_pool.specs.declared.pool.answer.Refusal.TheVariants.{Memory, NoWorker, Numbers}
 use Rattle.blocking_pool.specs.Wakes.{wake_of, cancel_of}
-use Rattle.blocking_laws.specs.Seen.{joined, is_nothing}
+use Rattle.blocking_laws.specs.Seen.{joined, is_nothing, has_timed_out}
 use Rattle.blocking_laws.specs.Jobs.{standing}
 use Rattle.blocking_laws.specs.Queue.{queue, running, to_sweep}
 use Rattle.blocking_laws.specs.Counts.{workers, limit}
@@ -19,6 +19,8 @@ use Rattle.blocking_laws.specs.declared.event.Act.TheVariants.{Accepted, Refused
 use Rattle.blocking_laws.specs.declared.event.Event.{Event}
 use Rattle.blocking_laws.specs.declared.event.Moment.{Moment}
 use Rattle.blocking_laws.specs.declared.event.Party.{Party}
+use Rattle.blocking_laws.specs.declared.event.WaitEnd.{WaitEnd}
+use Rattle.blocking_laws.specs.declared.event.WaitEnd.TheVariants.{Woken, TimedOut}
 use Rattle.blocking_laws.specs.declared.step.Step.{Step}
 use Rattle.blocking_laws.specs.declared.step.Step.TheVariants.{Spawn, Arrive, Take, Io, End, Wait, Late, SetLimit, Sweep, Stray, Strike}
 
@@ -55,66 +57,66 @@ end_is setting past now held _ kind answer = absurd kind
 -- ---- waits
 
 -- what a wait is answered, by the starts of its growth
-abbrev stops_by : ℕ → List Moment → Bool → ℕ → Bool → Bool
-stops_by setting past late started refused =
+abbrev stops_by : ℕ → List Moment → WaitEnd → ℕ → Bool → Bool
+stops_by setting past end started refused =
     nat_lt (limit_after (limit setting past) (workers past + started) refused) (workers past + started)
-    || late && length (joined (queue past) (if late then to_sweep past else [])) == 0
+    || has_timed_out end && length (joined (queue past) (if has_timed_out end then to_sweep past else [])) == 0
 
 -- the same moment, with this act
 abbrev with_act : Moment → Act → Moment
 with_act now act = record now { event = record now.event { act = act } }
 
 -- whichever it is, the worker and what was asked of it are the same
-waited : (stop : Bool) (setting : ℕ) (past : List Moment) (now : Moment) (w v : ℕ) (late timed_out : Bool) → v ≡ w → timed_out ≡ late
-    → stops_by setting past timed_out now.event.started now.event.start_refused ≡ stop
-    → wait_act v timed_out stop ≡ wait_act w late (stops_by setting past late now.event.started now.event.start_refused)
-waited stop setting past now w v late timed_out same time answer =
-    ap (wait_act v timed_out) (sym answer)
-    ∙ ap (λ u. wait_act u timed_out (stops_by setting past timed_out now.event.started now.event.start_refused)) same
+waited : (stop : Bool) (setting : ℕ) (past : List Moment) (now : Moment) (w v : ℕ) (end told : WaitEnd) → v ≡ w → told ≡ end
+    → stops_by setting past told now.event.started now.event.start_refused ≡ stop
+    → wait_act v told stop ≡ wait_act w end (stops_by setting past end now.event.started now.event.start_refused)
+waited stop setting past now w v end told same time answer =
+    ap (wait_act v told) (sym answer)
+    ∙ ap (λ u. wait_act u told (stops_by setting past told now.event.started now.event.start_refused)) same
     ∙ ap (λ t. wait_act w t (stops_by setting past t now.event.started now.event.start_refused)) time
 
-wait_is : (setting : ℕ) (past : List Moment) (now : Moment) (w : ℕ) (late : Bool) (act : Act) → IsWaitOf w late act → PoolAnswers setting past (with_act now act) act
-    → act ≡ wait_act w late (stops_by setting past late now.event.started now.event.start_refused)
-wait_is setting past now w late (Stays v timed_out) kind answer = waited false setting past now w v late timed_out kind.0 kind.1 answer
-wait_is setting past now w late (Stopped v timed_out) kind answer = waited true setting past now w v late timed_out kind.0 kind.1 answer
-wait_is setting past now w late _ kind answer = absurd kind
+wait_is : (setting : ℕ) (past : List Moment) (now : Moment) (w : ℕ) (end : WaitEnd) (act : Act) → IsWaitOf w end act → PoolAnswers setting past (with_act now act) act
+    → act ≡ wait_act w end (stops_by setting past end now.event.started now.event.start_refused)
+wait_is setting past now w end (Stays v told) kind answer = waited false setting past now w v end told kind.0 kind.1 answer
+wait_is setting past now w end (Stopped v told) kind answer = waited true setting past now w v end told kind.0 kind.1 answer
+wait_is setting past now w end _ kind answer = absurd kind
 
 -- whether a wait stays or stops, its growth is the same
 abbrev WaitStarts : ℕ → List Bool → List Moment → Moment → Act → Type 0
 WaitStarts setting plan past now act = StartsRightly (grows past act) setting plan past (with_act now act)
 
-stay_starts : (b : Bool) (setting : ℕ) (plan : List Bool) (past : List Moment) (now : Moment) (w v : ℕ) (late : Bool)
-    → StartsRightly b setting plan past (with_act now (Stays v late)) → StartsRightly b setting plan past (with_act now (Stays w late))
-stay_starts true setting plan past now w v late starts = starts
-stay_starts false setting plan past now w v late starts = starts
+stay_starts : (b : Bool) (setting : ℕ) (plan : List Bool) (past : List Moment) (now : Moment) (w v : ℕ) (end : WaitEnd)
+    → StartsRightly b setting plan past (with_act now (Stays v end)) → StartsRightly b setting plan past (with_act now (Stays w end))
+stay_starts true setting plan past now w v end starts = starts
+stay_starts false setting plan past now w v end starts = starts
 
-stop_starts : (b : Bool) (setting : ℕ) (plan : List Bool) (past : List Moment) (now : Moment) (w v : ℕ) (late : Bool)
-    → StartsRightly b setting plan past (with_act now (Stopped v late)) → StartsRightly b setting plan past (with_act now (Stays w late))
-stop_starts true setting plan past now w v late starts = starts
-stop_starts false setting plan past now w v late starts = starts
+stop_starts : (b : Bool) (setting : ℕ) (plan : List Bool) (past : List Moment) (now : Moment) (w v : ℕ) (end : WaitEnd)
+    → StartsRightly b setting plan past (with_act now (Stopped v end)) → StartsRightly b setting plan past (with_act now (Stays w end))
+stop_starts true setting plan past now w v end starts = starts
+stop_starts false setting plan past now w v end starts = starts
 
-wait_starts : (setting : ℕ) (plan : List Bool) (past : List Moment) (now : Moment) (w : ℕ) (late : Bool) (act : Act) → IsWaitOf w late act
-    → WaitStarts setting plan past now act → WaitStarts setting plan past now (Stays w late)
-wait_starts setting plan past now w late (Stays v timed_out) kind starts =
+wait_starts : (setting : ℕ) (plan : List Bool) (past : List Moment) (now : Moment) (w : ℕ) (end : WaitEnd) (act : Act) → IsWaitOf w end act
+    → WaitStarts setting plan past now act → WaitStarts setting plan past now (Stays w end)
+wait_starts setting plan past now w end (Stays v told) kind starts =
     subst (λ t. WaitStarts setting plan past now (Stays w t)) kind.1
-    (stay_starts (grows past (Stays v timed_out)) setting plan past now w v timed_out starts)
-wait_starts setting plan past now w late (Stopped v timed_out) kind starts =
+    (stay_starts (grows past (Stays v told)) setting plan past now w v told starts)
+wait_starts setting plan past now w end (Stopped v told) kind starts =
     subst (λ t. WaitStarts setting plan past now (Stays w t)) kind.1
-    (stop_starts (grows past (Stopped v timed_out)) setting plan past now w v timed_out starts)
-wait_starts setting plan past now w late _ kind starts = absurd kind
+    (stop_starts (grows past (Stopped v told)) setting plan past now w v told starts)
+wait_starts setting plan past now w end _ kind starts = absurd kind
 
-same_wait : (setting : ℕ) (plan : List Bool) (past : List Moment) (now other : Moment) (w : ℕ) (late : Bool) → IsWaitOf w late now.event.act → IsWaitOf w late other.event.act
+same_wait : (setting : ℕ) (plan : List Bool) (past : List Moment) (now other : Moment) (w : ℕ) (end : WaitEnd) → IsWaitOf w end now.event.act → IsWaitOf w end other.event.act
     → PoolLaw setting plan past now → PoolLaw setting plan past other → now.event.act ≡ other.event.act
-same_wait setting plan past now other w late kind other_kind law other_law =
-    let starts = wait_starts setting plan past now w late now.event.act kind law.growth.starting in
-    let other_starts = wait_starts setting plan past other w late other.event.act other_kind other_law.growth.starting in
-    let same = same_by (grows past (Stays w late)) setting plan past (with_act now (Stays w late)) (with_act other (Stays w late)) refl
+same_wait setting plan past now other w end kind other_kind law other_law =
+    let starts = wait_starts setting plan past now w end now.event.act kind law.growth.starting in
+    let other_starts = wait_starts setting plan past other w end other.event.act other_kind other_law.growth.starting in
+    let same = same_by (grows past (Stays w end)) setting plan past (with_act now (Stays w end)) (with_act other (Stays w end)) refl
     (other_law.growth.first ∙ sym law.growth.first) starts other_starts in
-    let one = wait_is setting past now w late now.event.act kind law.answers in
-    let two = wait_is setting past other w late other.event.act other_kind other_law.answers in
-    let answers : stops_by setting past late now.event.started now.event.start_refused ≡ stops_by setting past late other.event.started other.event.start_refused =
+    let one = wait_is setting past now w end now.event.act kind law.answers in
+    let two = wait_is setting past other w end other.event.act other_kind other_law.answers in
+    let answers : stops_by setting past end now.event.started now.event.start_refused ≡ stops_by setting past end other.event.started other.event.start_refused =
     rw (same.0, same.1) refl in
-    one ∙ ap (wait_act w late) answers ∙ sym two
+    one ∙ ap (wait_act w end) answers ∙ sym two
 
 -- ---- new jobs
 
@@ -178,8 +180,8 @@ acts_of_kind setting plan past (Take w) now other of_pool memory other_memory ki
 acts_of_kind setting plan past (Io w answer) now other of_pool memory other_memory kind other_kind law other_law = kind ∙ sym other_kind
 acts_of_kind setting plan past (End w) now other of_pool memory other_memory kind other_kind law other_law =
     end_is setting past now (hand past w) now.event.act kind law.answers ∙ sym (end_is setting past other (hand past w) other.event.act other_kind other_law.answers)
-acts_of_kind setting plan past (Wait w) now other of_pool memory other_memory kind other_kind law other_law = same_wait setting plan past now other w false kind other_kind law other_law
-acts_of_kind setting plan past (Late w) now other of_pool memory other_memory kind other_kind law other_law = same_wait setting plan past now other w true kind other_kind law other_law
+acts_of_kind setting plan past (Wait w) now other of_pool memory other_memory kind other_kind law other_law = same_wait setting plan past now other w Woken kind other_kind law other_law
+acts_of_kind setting plan past (Late w) now other of_pool memory other_memory kind other_kind law other_law = same_wait setting plan past now other w TimedOut kind other_kind law other_law
 acts_of_kind setting plan past (SetLimit n) now other of_pool memory other_memory kind other_kind law other_law = kind ∙ sym other_kind
 acts_of_kind setting plan past Sweep now other of_pool memory other_memory kind other_kind law other_law =
     sweep_is setting past now now.event.act kind law.answers ∙ sym (sweep_is setting past other other.event.act other_kind other_law.answers)

@@ -26,6 +26,7 @@ use Rattle.blocking_laws.specs.declared.event.Event.{Event}
 use Rattle.blocking_laws.specs.declared.event.Moment.{Moment}
 use Rattle.blocking_laws.specs.declared.event.Party.{Party}
 use Rattle.blocking_laws.specs.declared.event.Party.TheVariants.{Worker}
+use Rattle.blocking_laws.specs.declared.event.WaitEnd.TheVariants.{Woken, TimedOut}
 
 -- ---- how often a number stands in a list
 
@@ -173,10 +174,10 @@ queued_after past (Took t) s st mark n sweep meets e = leaves is_queued t s st (
 queued_after past (TookDropped t) s st mark n sweep meets e = leaves is_queued t s st (Some Running) n refl e
 queued_after past (Ended t how) s st mark n sweep meets e = ended_queue past s t how st n meets.0 e
 queued_after past (Swept k) s st mark n sweep meets e = swept_queue past s st mark n sweep e
-queued_after past (Stays w true) s st mark n sweep meets e = swept_queue past s st mark n sweep e
-queued_after past (Stopped w true) s st mark n sweep meets e = swept_queue past s st mark n sweep e
-queued_after past (Stays w false) s st mark n sweep meets e = add-zero n ∙ e
-queued_after past (Stopped w false) s st mark n sweep meets e = add-zero n ∙ e
+queued_after past (Stays w TimedOut) s st mark n sweep meets e = swept_queue past s st mark n sweep e
+queued_after past (Stopped w TimedOut) s st mark n sweep meets e = swept_queue past s st mark n sweep e
+queued_after past (Stays w Woken) s st mark n sweep meets e = add-zero n ∙ e
+queued_after past (Stopped w Woken) s st mark n sweep meets e = add-zero n ∙ e
 queued_after past _ s st mark n sweep meets e = add-zero n ∙ e
 
 -- ---- what runs
@@ -192,10 +193,10 @@ running_after (TookDropped t) s st mark n meets e =
     ap (λ (k : ℕ). n + k) (times_one s t) ∙ comes is_running (t == s) st (Some Running) n (λ b. ap is_running (meets b)) refl e
 running_after (Ended t how) s st mark n meets e = leaves is_running t s st (Some how) n meets.1 e
 running_after (Swept k) s st mark n meets e = keeps is_running (is_parked st && mark) st (Some Queued) n (λ c. ap is_running (parked_is st mark c)) e
-running_after (Stays w true) s st mark n meets e = keeps is_running (is_parked st && mark) st (Some Queued) n (λ c. ap is_running (parked_is st mark c)) e
-running_after (Stopped w true) s st mark n meets e = keeps is_running (is_parked st && mark) st (Some Queued) n (λ c. ap is_running (parked_is st mark c)) e
-running_after (Stays w false) s st mark n meets e = add-zero n ∙ e
-running_after (Stopped w false) s st mark n meets e = add-zero n ∙ e
+running_after (Stays w TimedOut) s st mark n meets e = keeps is_running (is_parked st && mark) st (Some Queued) n (λ c. ap is_running (parked_is st mark c)) e
+running_after (Stopped w TimedOut) s st mark n meets e = keeps is_running (is_parked st && mark) st (Some Queued) n (λ c. ap is_running (parked_is st mark c)) e
+running_after (Stays w Woken) s st mark n meets e = add-zero n ∙ e
+running_after (Stopped w Woken) s st mark n meets e = add-zero n ∙ e
 running_after _ s st mark n meets e = add-zero n ∙ e
 
 -- ---- what was accepted
@@ -213,10 +214,10 @@ accepted_after (Took t) s st mark n meets e = keeps is_known (t == s) st (Some R
 accepted_after (TookDropped t) s st mark n meets e = keeps is_known (t == s) st (Some Running) n (λ b. ap is_known (meets b)) e
 accepted_after (Ended t how) s st mark n meets e = keeps is_known (t == s) st (Some how) n (λ b. ap is_known (meets.0 b)) e
 accepted_after (Swept k) s st mark n meets e = keeps is_known (is_parked st && mark) st (Some Queued) n (λ c. ap is_known (parked_is st mark c)) e
-accepted_after (Stays w true) s st mark n meets e = keeps is_known (is_parked st && mark) st (Some Queued) n (λ c. ap is_known (parked_is st mark c)) e
-accepted_after (Stopped w true) s st mark n meets e = keeps is_known (is_parked st && mark) st (Some Queued) n (λ c. ap is_known (parked_is st mark c)) e
-accepted_after (Stays w false) s st mark n meets e = add-zero n ∙ e
-accepted_after (Stopped w false) s st mark n meets e = add-zero n ∙ e
+accepted_after (Stays w TimedOut) s st mark n meets e = keeps is_known (is_parked st && mark) st (Some Queued) n (λ c. ap is_known (parked_is st mark c)) e
+accepted_after (Stopped w TimedOut) s st mark n meets e = keeps is_known (is_parked st && mark) st (Some Queued) n (λ c. ap is_known (parked_is st mark c)) e
+accepted_after (Stays w Woken) s st mark n meets e = add-zero n ∙ e
+accepted_after (Stopped w Woken) s st mark n meets e = add-zero n ∙ e
 accepted_after _ s st mark n meets e = add-zero n ∙ e
 
 -- no serial beyond the number of jobs was accepted
@@ -288,12 +289,12 @@ held_after past event (TookDropped t) w s hands meets one e = held_one (is_worke
 held_after past event (Ended t how) w s hands meets one e = ended_hand past hands event.party (is_worker w event.party) w t s how one refl e
 held_after past event (Swept n) w s hands meets one e =
     runs_on (is_parked (standing past s) && is_marked past s) (standing past s) (Some Parked) (Some Queued) (parked_is (standing past s) (is_marked past s)) refl (hands.held w s e)
-held_after past event (Stays v true) w s hands meets one e =
+held_after past event (Stays v TimedOut) w s hands meets one e =
     runs_on (is_parked (standing past s) && is_marked past s) (standing past s) (Some Parked) (Some Queued) (parked_is (standing past s) (is_marked past s)) refl (hands.held w s e)
-held_after past event (Stopped v true) w s hands meets one e =
+held_after past event (Stopped v TimedOut) w s hands meets one e =
     runs_on (is_parked (standing past s) && is_marked past s) (standing past s) (Some Parked) (Some Queued) (parked_is (standing past s) (is_marked past s)) refl (hands.held w s e)
-held_after past event (Stays v false) w s hands meets one e = hands.held w s e
-held_after past event (Stopped v false) w s hands meets one e = hands.held w s e
+held_after past event (Stays v Woken) w s hands meets one e = hands.held w s e
+held_after past event (Stopped v Woken) w s hands meets one e = hands.held w s e
 held_after past event _ w s hands meets one e = hands.held w s e
 
 same_worker : (party : Party) (v w : ℕ) → is_worker v party ≡ true → is_worker w party ≡ true → v ≡ w

@@ -2,6 +2,8 @@
 use Rattle.std.specs.Prelude.{◌≡◌, ℕ, Bool, true, false, List, [], ◌∷◌}
 use Rattle.blocking_laws.specs.declared.event.Act.{Act}
 use Rattle.blocking_laws.specs.declared.event.Act.TheVariants.{Answered, Finished, GaveUp}
+use Rattle.blocking_laws.specs.declared.event.HolderWaker.{HolderWaker}
+use Rattle.blocking_laws.specs.declared.event.HolderWaker.TheVariants.{Taken, Absent}
 use Rattle.blocking_laws.specs.declared.step.Answer.{Answer}
 use Rattle.blocking_laws.specs.declared.step.Answer.TheVariants.{Number}
 
@@ -28,14 +30,19 @@ next_after_answer action answer = Finish
 abbrev pub next_but_wake : Kind → List Act → JobAction
 next_but_wake kind [] = first_action kind
 next_but_wake kind (Answered answer ∷ past) = next_after_answer (next_but_wake kind past) answer
-next_but_wake kind (Finished wake ∷ past) = Over
-next_but_wake kind (GaveUp wake ∷ past) = Over
+next_but_wake kind (Finished waker ∷ past) = Over
+next_but_wake kind (GaveUp waker ∷ past) = Over
 next_but_wake kind (_ ∷ past) = next_but_wake kind past
+
+-- whether a waker was found in the holder's seat, and taken
+abbrev pub is_taken : HolderWaker → Bool
+is_taken Taken = true
+is_taken Absent = false
 
 -- whether an act took the holder's waker out of its seat
 abbrev pub takes_waker : Act → Bool
-takes_waker (Finished wake) = wake
-takes_waker (GaveUp wake) = wake
+takes_waker (Finished waker) = is_taken waker
+takes_waker (GaveUp waker) = is_taken waker
 takes_waker _ = false
 
 -- a waker that was taken is called before all else
@@ -81,11 +88,11 @@ number (_ ∷ past) = number past
 -- whether the job has put its result
 abbrev pub has_finished : List Act → Bool
 has_finished [] = false
-has_finished (Finished wake ∷ past) = true
+has_finished (Finished waker ∷ past) = true
 has_finished (_ ∷ past) = has_finished past
 
 -- whether the job gave up
 abbrev pub has_given_up : List Act → Bool
 has_given_up [] = false
-has_given_up (GaveUp wake ∷ past) = true
+has_given_up (GaveUp waker ∷ past) = true
 has_given_up (_ ∷ past) = has_given_up past

@@ -12,6 +12,8 @@ use Rattle.blocking_laws.specs.declared.event.Act.TheVariants.{Accepted, Refused
 use Rattle.blocking_laws.specs.declared.event.Moment.{Moment}
 use Rattle.blocking_laws.specs.declared.event.Party.{Party}
 use Rattle.blocking_laws.specs.declared.event.Party.TheVariants.{Task, Worker, Pool}
+use Rattle.blocking_laws.specs.declared.event.WaitEnd.{WaitEnd}
+use Rattle.blocking_laws.specs.declared.event.WaitEnd.TheVariants.{Woken, TimedOut}
 use Rattle.blocking_laws.specs.declared.step.Answer.{Answer}
 use Rattle.blocking_laws.specs.declared.step.Step.{Step}
 use Rattle.blocking_laws.specs.declared.step.Step.TheVariants.{Spawn, OfTask, Arrive, Take, Job, Io, End, Wait, Late, SetLimit, Sweep, Stray, Strike}
@@ -23,7 +25,7 @@ use Rattle.blocking_laws.specs.declared.step.TaskCall.TheVariants.{Poll, Cancel,
 -- whether worker w is there after an act
 abbrev pub is_there_by : Act → ℕ → Bool → Bool
 is_there_by (Arrived v) w before = v == w || before
-is_there_by (Stopped v late) w before = not (v == w) && before
+is_there_by (Stopped v end) w before = not (v == w) && before
 is_there_by _ w before = before
 
 -- whether the worker is there: it arrived and hasn't stopped
@@ -186,11 +188,11 @@ IsEndOf s (Ended t how) = s ≡ Some t
 IsEndOf s (HandedOut t) = s ≡ Some t
 IsEndOf s _ = ⊥
 
--- an answer to a wait of this worker
-abbrev pub IsWaitOf : ℕ → Bool → Act → Type 0
-IsWaitOf w late (Stays v timed_out) = (v ≡ w) × (timed_out ≡ late)
-IsWaitOf w late (Stopped v timed_out) = (v ≡ w) × (timed_out ≡ late)
-IsWaitOf w late _ = ⊥
+-- an answer to a wait of this worker that ended so
+abbrev pub IsWaitOf : ℕ → WaitEnd → Act → Type 0
+IsWaitOf w end (Stays v told) = (v ≡ w) × (told ≡ end)
+IsWaitOf w end (Stopped v told) = (v ≡ w) × (told ≡ end)
+IsWaitOf w end _ = ⊥
 
 -- a sweep
 abbrev pub IsSweep : Act → Type 0
@@ -216,8 +218,8 @@ Fits past (Take w) act = is_take act ≡ true
 Fits past (Job w) act = (is_of_pool act ≡ false) × (is_answered act ≡ false)
 Fits past (Io w answer) act = act ≡ Answered answer
 Fits past (End w) act = IsEndOf (hand past w) act
-Fits past (Wait w) act = IsWaitOf w false act
-Fits past (Late w) act = IsWaitOf w true act
+Fits past (Wait w) act = IsWaitOf w Woken act
+Fits past (Late w) act = IsWaitOf w TimedOut act
 Fits past (SetLimit n) act = act ≡ LimitSet n
 Fits past Sweep act = IsSweep act
 Fits past (Stray s) act = IsWakeOf s act

@@ -12,7 +12,7 @@ use Rattle.blocking_pool.specs.declared.pool.answer.Refusal.TheVariants.{Memory,
 use Rattle.blocking_pool.specs.declared.pool.answer.Woke.{Woke}
 use Rattle.blocking_pool.specs.declared.pool.standing.Standing.{Standing}
 use Rattle.blocking_pool.specs.declared.pool.standing.Standing.TheVariants.{Queued, Running, Parked, Done, Dropped}
-use Rattle.blocking_laws.specs.Seen.{joined, events, acts_of}
+use Rattle.blocking_laws.specs.Seen.{joined, events, acts_of, has_timed_out}
 use Rattle.blocking_laws.specs.Jobs.{accepted_jobs, standing, is_woken, is_cancelled, is_marked, is_to_drop, has_ended}
 use Rattle.blocking_laws.specs.Queue.{queue, to_sweep}
 use Rattle.blocking_laws.specs.Counts.{starts, arrivals, workers, limit}
@@ -30,6 +30,7 @@ use Rattle.blocking_laws.specs.declared.event.Act.TheVariants.{Took, TookDropped
 use Rattle.blocking_laws.specs.declared.event.Moment.{Moment}
 use Rattle.blocking_laws.specs.declared.event.Party.{Party}
 use Rattle.blocking_laws.specs.declared.event.Party.TheVariants.{Worker}
+use Rattle.blocking_laws.specs.declared.event.WaitEnd.{WaitEnd}
 use Rattle.blocking_world.specs.declared.hand.Stage.{Stage}
 use Rattle.blocking_world.specs.declared.hand.Stage.TheVariants as stage
 use Rattle.blocking_laws.specs.declared.step.Step.{Step}
@@ -116,10 +117,10 @@ stop_is setting w past late t =
     ap (λ (ns : List ℕ). length ns == 0) (sweep_enters late (to_sweep past) (queue past) swept) ∙ none_left (queue past) ∙ ap is_empty (sym t.lined.same) in
     ap₂ (λ (a b : Bool). a || late && b) (ap₂ nat_lt (sym t.counted.limit_is) (workers_is setting w past t.counted)) left
 
-waited_rightly : (setting : ℕ) (w : Worlded) (past : List Moment) (step : Step) (who : Party) (job : Option ℕ) (v first : ℕ) (late stop : Bool) → Tied setting w past
-    → must_stop late w.pool ≡ stop → AnswerLaw setting past (seen_at step who job (wait_act v late stop) first no_growth)
-waited_rightly setting w past step who job v first late false t e = stop_is setting w past late t ∙ e
-waited_rightly setting w past step who job v first late true t e = stop_is setting w past late t ∙ e
+waited_rightly : (setting : ℕ) (w : Worlded) (past : List Moment) (step : Step) (who : Party) (job : Option ℕ) (v first : ℕ) (end : WaitEnd) (stop : Bool) → Tied setting w past
+    → must_stop (has_timed_out end) w.pool ≡ stop → AnswerLaw setting past (seen_at step who job (wait_act v end stop) first no_growth)
+waited_rightly setting w past step who job v first end false t e = stop_is setting w past (has_timed_out end) t ∙ e
+waited_rightly setting w past step who job v first end true t e = stop_is setting w past (has_timed_out end) t ∙ e
 
 -- ---- wakes and cancels
 
@@ -174,8 +175,8 @@ answers_after setting plan w past (EndsTurn v in_hand pass) t may =
     let s = in_hand.turn.serial in
     let is = t.handed.in_hand v in_hand may.0 in
     end_is in_hand.stage (is_to_drop past s) (is_woken past s) s ∙ ap (λ (at : Turn). end_of at (is_to_drop past s) (is_woken past s) s) (sym is.turn_is)
-answers_after setting plan w past (HasWaited v pass late) t may =
-    waited_rightly setting w past (step_of (HasWaited v pass late)) (Worker v) None v (next_start w) late (must_stop late w.pool) t refl
+answers_after setting plan w past (HasWaited v pass end) t may =
+    waited_rightly setting w past (step_of (HasWaited v pass end)) (Worker v) None v (next_start w) end (must_stop (has_timed_out end) w.pool) t refl
 answers_after setting plan w past Sweeps t may = sym (ap length (nothing_to_sweep w past t.filed))
 answers_after setting plan w past (IsWoken s) t may = met_rightly wake_of setting w past s refl refl t may
 answers_after setting plan w past (IsStruck s) t may = met_rightly cancel_of setting w past s refl refl t may.0

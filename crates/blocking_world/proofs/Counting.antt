@@ -14,6 +14,7 @@ use Rattle.blocking_pool.specs.declared.pool.standing.Standing.{Standing}
 use Rattle.blocking_pool.specs.declared.pool.standing.Standing.TheVariants.{Queued, Running}
 use Rattle.blocking_pool.specs.declared.pool.token.WorkerPass.{WorkerPass}
 use Rattle.blocking_pool.proofs.Lists.{IsOnce-push, IsOnce-without}
+use Rattle.blocking_laws.specs.Seen.{has_timed_out}
 use Rattle.blocking_laws.specs.Jobs.{is_queued, is_running, standing}
 use Rattle.blocking_laws.specs.Queue.{queue, running}
 use Rattle.blocking_laws.specs.Counts.{added, starts, refused_starts, arrivals, stops, workers, limit}
@@ -35,6 +36,7 @@ use Rattle.blocking_world.specs.declared.call.CallJob.{CallJob}
 use Rattle.blocking_laws.specs.declared.event.Act.TheVariants.{Refused, Stays, Stopped}
 use Rattle.blocking_laws.specs.declared.event.Moment.{Moment}
 use Rattle.blocking_laws.specs.declared.event.Party.{Party}
+use Rattle.blocking_laws.specs.declared.event.WaitEnd.{WaitEnd}
 use Rattle.blocking_world.specs.declared.hand.Hand.TheVariants.{Out, Free, Holds}
 use Rattle.blocking_world.specs.declared.hand.JobInHand.{JobInHand}
 use Rattle.blocking_world.specs.declared.hand.Stage.{Stage}
@@ -116,7 +118,7 @@ alone_at w (Begins (Err why) growth pool) moves = absurd cc
 alone_at w (Arrives pass) moves = absurd cc
 alone_at w (TakesJob v old to_drop turn job growth pool) moves = absurd cc
 alone_at w (EndsTurn v in_hand pass) moves = absurd cc
-alone_at w (HasWaited v pass late) moves = absurd cc
+alone_at w (HasWaited v pass end) moves = absurd cc
 alone_at w (SetsLimit n) moves = absurd cc
 alone_at w (Calls k call task) moves = call_alone call w.pool task.number
 alone_at w (IsWoken s) moves = wake_alone (wakes_as w s) w.pool (task_at w.tasks s).number
@@ -127,7 +129,7 @@ alone_at w move moves = refl
 hands_at : (w : Worlded) (move : Move) → moves_count move ≡ false → length (after w move).hands ≡ length w.hands
 hands_at w (Arrives pass) moves = absurd cc
 hands_at w (TakesJob v old to_drop turn job growth pool) moves = absurd cc
-hands_at w (HasWaited v pass late) moves = absurd cc
+hands_at w (HasWaited v pass end) moves = absurd cc
 hands_at w (TakesNone v old pass) moves = length-set w.hands (v - 1) _
 hands_at w (IsAnswered v in_hand number) moves = length-set w.hands (v - 1) _
 hands_at w (Finishes v in_hand) moves = length-set w.hands (v - 1) _
@@ -318,9 +320,9 @@ queue_none false false (n ∷ q) e never = absurd cc
 one_left : (l most hired : ℕ) → l ≡ most → 0 < most → hired - 1 ≡ 0 → nat_lt l hired ≡ true → ⊥
 one_left l most hired same positive none e = grind (arith, nat_tests)
 
-stops_counted : (setting : ℕ) (w : Worlded) (past : List Moment) (v : ℕ) (pass : WorkerPass) (late : Bool) (step : Step) (who : Party) (first : ℕ)
-    → Tied setting w past → hand_at w.hands v ≡ Free pass → must_stop late w.pool ≡ true → Counted setting (after_wait w v pass true) (seen_at step who None (Stopped v late) first no_growth ∷ past)
-stops_counted setting w past v pass late step who first t free must =
+stops_counted : (setting : ℕ) (w : Worlded) (past : List Moment) (v : ℕ) (pass : WorkerPass) (end : WaitEnd) (step : Step) (who : Party) (first : ℕ)
+    → Tied setting w past → hand_at w.hands v ≡ Free pass → must_stop (has_timed_out end) w.pool ≡ true → Counted setting (after_wait w v pass true) (seen_at step who None (Stopped v end) first no_growth ∷ past)
+stops_counted setting w past v pass end step who first t free must =
     let c = t.counted in
     let some = idle_some w past v pass t.handed free in
     let workers_are = c.workers_are in
@@ -334,20 +336,20 @@ stops_counted setting w past v pass late step who first t free must =
       hands_are = length-set w.hands (v - 1) Out ∙ c.hands_are;
       setting_is = c.setting_is;
       limit_is = c.limit_is;
-      known_is = c.known_is ∙ sym (ap (λ b. if b || has_limit past then Some (limit setting past) else None) (ungrown w past t.filed (Stopped v late) refl).grows_not);
+      known_is = c.known_is ∙ sym (ap (λ b. if b || has_limit past then Some (limit setting past) else None) (ungrown w past t.filed (Stopped v end) refl).grows_not);
       positive = c.positive;
       next_is = c.next_is;
       once = c.once;
-      each = λ n. c.each n ∙ ap is_running (sym ((jobs_stay w past t.filed step who None (Stopped v late) first no_growth refl).stands n));
-      served = λ none. queue_none (nat_lt (limit_of w.pool.counts) w.pool.counts.workers) late w.pool.queue must (one_left (limit_of w.pool.counts) (limit setting past) w.pool.counts.workers c.limit_is c.positive none);
+      each = λ n. c.each n ∙ ap is_running (sym ((jobs_stay w past t.filed step who None (Stopped v end) first no_growth refl).stands n));
+      served = λ none. queue_none (nat_lt (limit_of w.pool.counts) w.pool.counts.workers) (has_timed_out end) w.pool.queue must (one_left (limit_of w.pool.counts) (limit setting past) w.pool.counts.workers c.limit_is c.positive none);
     }
 
-waits_counted : (setting : ℕ) (w : Worlded) (past : List Moment) (v : ℕ) (pass : WorkerPass) (late b : Bool) (step : Step) (who : Party) (first : ℕ)
-    → Tied setting w past → hand_at w.hands v ≡ Free pass → must_stop late w.pool ≡ b → Counted setting (after_wait w v pass b) (seen_at step who None (wait_act v late b) first no_growth ∷ past)
-waits_counted setting w past v pass late true step who first t free must = stops_counted setting w past v pass late step who first t free must
-waits_counted setting w past v pass late false step who first t free must =
+waits_counted : (setting : ℕ) (w : Worlded) (past : List Moment) (v : ℕ) (pass : WorkerPass) (end : WaitEnd) (b : Bool) (step : Step) (who : Party) (first : ℕ)
+    → Tied setting w past → hand_at w.hands v ≡ Free pass → must_stop (has_timed_out end) w.pool ≡ b → Counted setting (after_wait w v pass b) (seen_at step who None (wait_act v end b) first no_growth ∷ past)
+waits_counted setting w past v pass end true step who first t free must = stops_counted setting w past v pass end step who first t free must
+waits_counted setting w past v pass end false step who first t free must =
     still_counted setting w (after_wait w v pass false) past _ refl refl (length-set w.hands (v - 1) (Free pass))
-    (jobs_stay w past t.filed step who None (Stays v late) first no_growth refl) (counts_stay w past t.filed setting step who None (Stays v late) first refl) t.counted
+    (jobs_stay w past t.filed step who None (Stays v end) first no_growth refl) (counts_stay w past t.filed setting step who None (Stays v end) first refl) t.counted
 
 -- ---- arrivals and limits
 
@@ -399,7 +401,7 @@ counted_after setting plan w past (Begins answer growth pool) t m = begins_count
 counted_after setting plan w past (Arrives pass) t m = arrives_counted setting w past pass m t.counted
 counted_after setting plan w past (TakesJob v old to_drop turn job growth pool) t m = takes_counted setting plan w past v old to_drop turn job growth pool t m
 counted_after setting plan w past (EndsTurn v in_hand pass) t m = ends_counted setting plan w past v in_hand pass t m
-counted_after setting plan w past (HasWaited v pass late) t m = waits_counted setting w past v pass late (must_stop late w.pool) _ _ _ t m refl
+counted_after setting plan w past (HasWaited v pass end) t m = waits_counted setting w past v pass end (must_stop (has_timed_out end) w.pool) _ _ _ t m refl
 counted_after setting plan w past (SetsLimit n) t m = limits_counted setting w past n m t.counted
 counted_after setting plan w past move t m =
     let alone = alone_at w move refl in

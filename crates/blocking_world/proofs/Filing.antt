@@ -20,7 +20,7 @@ use Rattle.blocking_laws.specs.JobTable.{has_finished, has_given_up}
 use Rattle.blocking_laws.specs.Answers.{wait_act}
 use Rattle.blocking_world.specs.Machine.{IsReady, seen, next_start, after_wait}
 use Rattle.blocking_world.specs.Moves.{Move, Begins, Calls, TakesJob, IsAnswered, Finishes, GivesUp, CallsWaker, EndsTurn, HasWaited, Sweeps, IsWoken, IsStruck, May, after, moment_of, event_of, wait_step, took, wakes_as, cancels_as}
-use Rattle.blocking_laws.specs.Seen.{events, acts_of, is_of_job}
+use Rattle.blocking_laws.specs.Seen.{events, acts_of, is_of_job, has_timed_out}
 use Rattle.blocking_world.specs.Ties.{Tied, Numbered, Filed, FiledAs, holder_of}
 use Rattle.blocking_world.specs.Worlds.{Worlded, CallPool, new_call, hand_at, task_at, outcome_of}
 use Rattle.blocking_world.proofs.Entries.{new_filed, taken_filed, woken_filed, cancelled_filed, acted_filed, ended_filed, marked_filed, outcome_final, over_by, swept_same}
@@ -33,6 +33,7 @@ use Rattle.blocking_laws.specs.declared.event.Act.TheVariants.{JobWoken, JobCanc
 use Rattle.blocking_laws.specs.declared.event.Event.{Event}
 use Rattle.blocking_laws.specs.declared.event.Moment.{Moment}
 use Rattle.blocking_laws.specs.declared.event.Party.TheVariants.{Task as ByTask, Worker, Pool}
+use Rattle.blocking_laws.specs.declared.event.WaitEnd.{WaitEnd}
 use Rattle.blocking_world.specs.declared.hand.Hand.TheVariants.{Holds}
 use Rattle.blocking_world.specs.declared.hand.JobInHand.{JobInHand}
 use Rattle.blocking_laws.specs.declared.step.Step.TheVariants.{OfTask, Take, Stray, Strike}
@@ -154,10 +155,10 @@ swept_filed late w past s filed =
     subst (λ o. FiledAs (get w.pool.jobs s) o (is_woken past s) (is_cancelled past s) (is_marked past s) (has_ended past s) (acts_of s (events past)))
     (sym (swept_same late (is_marked past s) (standing past s) (unparked w past s filed))) (filed s)
 
-waited_filed : (late stops : Bool) (v : ℕ) (pass : WorkerPass) (w : Worlded) (past : List Moment) → Filed w past
-    → Filed (after_wait w v pass stops) (record { step = wait_step late v; event = seen (Worker v) None (wait_act v late stops) (next_start w) no_growth } ∷ past)
-waited_filed late true v pass w past filed s = swept_filed late w past s filed
-waited_filed late false v pass w past filed s = swept_filed late w past s filed
+waited_filed : (end : WaitEnd) (stops : Bool) (v : ℕ) (pass : WorkerPass) (w : Worlded) (past : List Moment) → Filed w past
+    → Filed (after_wait w v pass stops) (record { step = wait_step end v; event = seen (Worker v) None (wait_act v end stops) (next_start w) no_growth } ∷ past)
+waited_filed end true v pass w past filed s = swept_filed (has_timed_out end) w past s filed
+waited_filed end false v pass w past filed s = swept_filed (has_timed_out end) w past s filed
 
 -- ---- every move
 
@@ -184,7 +185,7 @@ filed_after setting plan w past (EndsTurn v in_hand pass) tied may s =
     (λ is. subst (λ n. has_finished (acts_of n (events past)) || has_given_up (acts_of n (events past)) ≡ true) (eqb-true in_hand.turn.serial s is)
     (over_by in_hand.stage in_hand.job.core in_hand.job.number (acts_of in_hand.turn.serial (events past)) known.acts_are may.1))
     (tied.filed s))
-filed_after setting plan w past (HasWaited v pass late) tied may s = waited_filed late (must_stop late w.pool) v pass w past tied.filed s
+filed_after setting plan w past (HasWaited v pass end) tied may s = waited_filed end (must_stop (has_timed_out end) w.pool) v pass w past tied.filed s
 filed_after setting plan w past Sweeps tied may s = swept_filed true w past s tied.filed
 filed_after setting plan w past (IsWoken t) tied may s =
     wake_filed (wakes_as w t) w past t (task_at w.tasks t).number (accepted_serial w past t tied.numbered may) (never_woken w t tied.handed.ready)

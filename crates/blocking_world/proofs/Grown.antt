@@ -9,6 +9,7 @@ use Rattle.blocking_pool.specs.declared.pool.answer.Refusal.{Refusal}
 use Rattle.blocking_pool.specs.declared.pool.answer.Refusal.TheVariants.{Memory, NoWorker, Numbers}
 use Rattle.blocking_pool.specs.declared.pool.token.WorkerPass.{WorkerPass}
 use Rattle.blocking_pool.specs.Lists.{without}
+use Rattle.blocking_laws.specs.Seen.{has_timed_out}
 use Rattle.blocking_laws.specs.Queue.{queue, running}
 use Rattle.blocking_laws.specs.Counts.{starts, refused_starts, workers, idle, limit}
 use Rattle.blocking_laws.specs.Growth.{IsPlanned, StartsRightly, GrowthLaw}
@@ -139,7 +140,7 @@ growth_after setting plan w past (Begins answer growth pool) t m = begin_law set
 growth_after setting plan w past (TakesJob v old to_drop turn job growth pool) t m = take_law setting plan w past v old to_drop turn job growth pool t m
 growth_after setting plan w past (Calls k call task) t m =
     plain_law setting plan w past _ _ _ _ _ t.filed t.counted.next_is (by_call (λ act. may_grow act ≡ false) refl (λ n. refl) refl refl refl refl call task)
-growth_after setting plan w past (HasWaited v pass late) t m = plain_law setting plan w past _ _ _ _ _ t.filed t.counted.next_is (by_wait (λ act. may_grow act ≡ false) v late refl refl (must_stop late w.pool))
+growth_after setting plan w past (HasWaited v pass end) t m = plain_law setting plan w past _ _ _ _ _ t.filed t.counted.next_is (by_wait (λ act. may_grow act ≡ false) v end refl refl (must_stop (has_timed_out end) w.pool))
 growth_after setting plan w past (IsWoken s) t m =
     plain_law setting plan w past _ _ _ _ _ t.filed t.counted.next_is (by_unentered (λ how. may_grow (JobWoken s how) ≡ false) refl refl (wakes_as w s) (never_woken w s t.handed.ready))
 growth_after setting plan w past (IsStruck s) t m =

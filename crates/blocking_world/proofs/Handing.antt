@@ -21,7 +21,8 @@ use Rattle.blocking_pool.specs.declared.pool.standing.Standing.{Standing}
 use Rattle.blocking_pool.specs.declared.pool.standing.Standing.TheVariants.{Queued}
 use Rattle.blocking_pool.specs.declared.pool.token.WorkerPass.{WorkerPass}
 use Rattle.blocking_core.specs.Cores.{call_after}
-use Rattle.blocking_laws.specs.Seen.{events, acts_of}
+use Rattle.blocking_laws.specs.Seats.{waker_in}
+use Rattle.blocking_laws.specs.Seen.{events, acts_of, has_timed_out}
 use Rattle.blocking_laws.specs.Jobs.{tasks, holder, is_holder, is_queued, is_running as runs_as, standing, cancels, is_woken, is_cancelled, is_marked, has_ended}
 use Rattle.blocking_laws.specs.Growth.{IsPlanned}
 use Rattle.blocking_laws.specs.Queue.{queue, running as running_jobs}
@@ -39,6 +40,9 @@ use Rattle.blocking_laws.specs.declared.event.Act.TheVariants.{Accepted, Refused
 use Rattle.blocking_laws.specs.declared.event.Event.{Event}
 use Rattle.blocking_laws.specs.declared.event.Moment.{Moment}
 use Rattle.blocking_laws.specs.declared.event.Party.TheVariants.{Task as ByTask, Worker, Pool}
+use Rattle.blocking_laws.specs.declared.event.HolderWaker.TheVariants.{Taken, Absent}
+use Rattle.blocking_laws.specs.declared.event.WaitEnd.{WaitEnd}
+use Rattle.blocking_laws.specs.declared.event.HolderWaker.{HolderWaker}
 use Rattle.blocking_world.specs.declared.hand.WorkerAction.TheVariants as worker_action
 use Rattle.blocking_world.specs.declared.hand.Hand.TheVariants.{Free, Holds}
 use Rattle.blocking_world.specs.declared.hand.JobInHand.{JobInHand}
@@ -65,14 +69,14 @@ answered_as : (st : Stage) (core : Action) (n m : ℕ) (acts new_acts : List Act
 answered_as stage.Runs action.Call n m acts new_acts d e a = e ∙ ap (λ (x : List Act). Answered (Number m) ∷ x) a
 answered_as _ _ n m acts new_acts d e a = absurd (cc)
 
-finished_as : (st : Stage) (core : Action) (n : ℕ) (wake : Bool) (acts new_acts : List Act) → next_at st core ≡ worker_action.Finish → new_acts ≡ Finished wake ∷ acts → ActedAs st core n acts → ActedAs st (call_after core (answer.Put wake)) n new_acts
-finished_as stage.Runs action.Finish n true acts new_acts d e a = e ∙ ap (λ (x : List Act). Finished true ∷ x) a
-finished_as stage.Runs action.Finish n false acts new_acts d e a = inl (e ∙ ap (λ (x : List Act). Finished false ∷ x) a)
+finished_as : (st : Stage) (core : Action) (n : ℕ) (wake : Bool) (acts new_acts : List Act) → next_at st core ≡ worker_action.Finish → new_acts ≡ Finished (waker_in wake) ∷ acts → ActedAs st core n acts → ActedAs st (call_after core (answer.Put wake)) n new_acts
+finished_as stage.Runs action.Finish n true acts new_acts d e a = e ∙ ap (λ (x : List Act). Finished Taken ∷ x) a
+finished_as stage.Runs action.Finish n false acts new_acts d e a = inl (e ∙ ap (λ (x : List Act). Finished Absent ∷ x) a)
 finished_as _ _ n wake acts new_acts d e a = absurd (cc)
 
-gave_up_as : (st : Stage) (core : Action) (n : ℕ) (wake : Bool) (acts new_acts : List Act) → next_at st core ≡ worker_action.GiveUp → new_acts ≡ GaveUp wake ∷ acts → ActedAs st core n acts → ActedAs (if wake then stage.MustWake else stage.GaveUp) core n new_acts
-gave_up_as stage.MustGiveUp core n true acts new_acts d e a = e ∙ ap (λ (x : List Act). GaveUp true ∷ x) a
-gave_up_as stage.MustGiveUp core n false acts new_acts d e a = inl (e ∙ ap (λ (x : List Act). GaveUp false ∷ x) a)
+gave_up_as : (st : Stage) (core : Action) (n : ℕ) (wake : Bool) (acts new_acts : List Act) → next_at st core ≡ worker_action.GiveUp → new_acts ≡ GaveUp (waker_in wake) ∷ acts → ActedAs st core n acts → ActedAs (if wake then stage.MustWake else stage.GaveUp) core n new_acts
+gave_up_as stage.MustGiveUp core n true acts new_acts d e a = e ∙ ap (λ (x : List Act). GaveUp Taken ∷ x) a
+gave_up_as stage.MustGiveUp core n false acts new_acts d e a = inl (e ∙ ap (λ (x : List Act). GaveUp Absent ∷ x) a)
 gave_up_as stage.Runs action.Call n wake acts new_acts d e a = absurd (cc)
 gave_up_as stage.Runs _ n wake acts new_acts d e a = absurd (cc)
 gave_up_as _ core n wake acts new_acts d e a = absurd (cc)
@@ -320,9 +324,9 @@ answer_known w past v in_hand number step first k e d =
     (λ x o. refl) (λ x o. acts_more x event (events past) false o) (λ n. refl) refl
 
 finish_known : (w : Worlded) (past : List Moment) (v : ℕ) (in_hand : JobInHand) (wake : Bool) (new : Task) (step : Step) (first : ℕ) → KnownOf w past → hand_at w.hands v ≡ Holds in_hand → next_of in_hand ≡ worker_action.Finish → has_let_go new.stage ≡ has_let_go (task_at w.tasks in_hand.turn.serial).stage
-    → KnownOf (record w { tasks = with_task w.tasks in_hand.turn.serial new; hands = with_in_hand w v (in_hand_after_finish in_hand wake) }) (at_step step (seen (Worker v) (Some in_hand.turn.serial) (Finished wake) first no_growth) ∷ past)
+    → KnownOf (record w { tasks = with_task w.tasks in_hand.turn.serial new; hands = with_in_hand w v (in_hand_after_finish in_hand wake) }) (at_step step (seen (Worker v) (Some in_hand.turn.serial) (Finished (waker_in wake)) first no_growth) ∷ past)
 finish_known w past v in_hand wake new step first k e d same =
-    let event : Event = seen (Worker v) (Some in_hand.turn.serial) (Finished wake) first no_growth in
+    let event : Event = seen (Worker v) (Some in_hand.turn.serial) (Finished (waker_in wake)) first no_growth in
     let h = (k.in_hand_are v in_hand e).as_is in
     own_known (sight w past) v in_hand (in_hand_after_finish in_hand wake) (with_task w.tasks in_hand.turn.serial new) (turn past) (job_acts (at_step step event ∷ past)) k e refl
     (record {
@@ -333,9 +337,9 @@ finish_known w past v in_hand wake new step first k e d same =
     (λ x o. refl) (λ x o. acts_more x event (events past) false o) (let_go_same w.tasks (in_hand.turn.serial - 1) new same) (length-set w.tasks (in_hand.turn.serial - 1) new)
 
 give_up_known : (w : Worlded) (past : List Moment) (v : ℕ) (in_hand : JobInHand) (wake : Bool) (new : Task) (step : Step) (first : ℕ) → KnownOf w past → hand_at w.hands v ≡ Holds in_hand → next_of in_hand ≡ worker_action.GiveUp → has_let_go new.stage ≡ has_let_go (task_at w.tasks in_hand.turn.serial).stage
-    → KnownOf (record w { tasks = with_task w.tasks in_hand.turn.serial new; hands = with_in_hand w v (in_hand_after_give_up in_hand wake) }) (at_step step (seen (Worker v) (Some in_hand.turn.serial) (GaveUp wake) first no_growth) ∷ past)
+    → KnownOf (record w { tasks = with_task w.tasks in_hand.turn.serial new; hands = with_in_hand w v (in_hand_after_give_up in_hand wake) }) (at_step step (seen (Worker v) (Some in_hand.turn.serial) (GaveUp (waker_in wake)) first no_growth) ∷ past)
 give_up_known w past v in_hand wake new step first k e d same =
-    let event : Event = seen (Worker v) (Some in_hand.turn.serial) (GaveUp wake) first no_growth in
+    let event : Event = seen (Worker v) (Some in_hand.turn.serial) (GaveUp (waker_in wake)) first no_growth in
     let h = (k.in_hand_are v in_hand e).as_is in
     let s = in_hand.turn.serial in
     own_known (sight w past) v in_hand (in_hand_after_give_up in_hand wake) (with_task w.tasks in_hand.turn.serial new) (λ x. if in_hand.turn.serial == x then HasGivenUp else turn past x) (job_acts (at_step step event ∷ past)) k e refl
@@ -357,10 +361,10 @@ wake_known w past v in_hand step first k e d =
 
 -- a worker has waited
 
-waited_known : (stops : Bool) (w : Worlded) (past : List Moment) (v : ℕ) (pass : WorkerPass) (late : Bool) (step : Step) (first : ℕ) → KnownOf w past → hand_at w.hands v ≡ Free pass
-    → KnownOf (after_wait w v pass stops) (at_step step (seen (Worker v) None (wait_act v late stops) first no_growth) ∷ past)
-waited_known true w past v pass late step first k e = stop_known (sight w past) v pass k e
-waited_known false w past v pass late step first k e = idle_known (sight w past) v pass pass k e
+waited_known : (stops : Bool) (w : Worlded) (past : List Moment) (v : ℕ) (pass : WorkerPass) (end : WaitEnd) (step : Step) (first : ℕ) → KnownOf w past → hand_at w.hands v ≡ Free pass
+    → KnownOf (after_wait w v pass stops) (at_step step (seen (Worker v) None (wait_act v end stops) first no_growth) ∷ past)
+waited_known true w past v pass end step first k e = stop_known (sight w past) v pass k e
+waited_known false w past v pass end step first k e = idle_known (sight w past) v pass pass k e
 
 -- a job is woken, or cancelled in the pool
 
@@ -409,7 +413,7 @@ known_after setting plan w past (EndsTurn v in_hand pass) t m =
     let k = known w past t.handed in
     end_known (sight w past) v in_hand pass (remove w.pool.jobs in_hand.turn.serial) k m.0
     (remove_runs w.pool.jobs in_hand.turn.serial) (remove_unparked w.pool.jobs in_hand.turn.serial k.parked_are)
-known_after setting plan w past (HasWaited v pass late) t m = waited_known (must_stop late w.pool) w past v pass late (wait_step late v) (next_start w) (known w past t.handed) m
+known_after setting plan w past (HasWaited v pass end) t m = waited_known (must_stop (has_timed_out end) w.pool) w past v pass end (wait_step end v) (next_start w) (known w past t.handed) m
 known_after setting plan w past (IsWoken s) t m = stirred_known (wakes_as w s) w past s (task_at w.tasks s).number (Stray s) (next_start w) (known w past t.handed)
 known_after setting plan w past (IsStruck s) t m = struck_known (cancels_as w s) w past s (task_at w.tasks s).number (Strike s) (next_start w) (known w past t.handed) m.1
 known_after setting plan w past move t m = known w past t.handed
@@ -428,7 +432,7 @@ fits_finish : (st : Stage) (core : Action) (act : Act) → next_at st core ≡ w
 fits_finish stage.Runs core act d g = g
 fits_finish _ core act d g = absurd (cc)
 
-fits_give_up : (st : Stage) (core : Action) (wake : Bool) → next_at st core ≡ worker_action.GiveUp → FitsTurn (turn_of st) (GaveUp wake)
+fits_give_up : (st : Stage) (core : Action) (waker : HolderWaker) → next_at st core ≡ worker_action.GiveUp → FitsTurn (turn_of st) (GaveUp waker)
 fits_give_up stage.MustGiveUp core wake d = refl
 fits_give_up stage.Runs action.Call wake d = absurd (cc)
 fits_give_up stage.Runs _ wake d = absurd (cc)
@@ -472,10 +476,10 @@ turn_after setting plan w past (TakesJob v old false number job growth pool) t m
 turn_after setting plan w past (TakesJob v old true number job growth pool) t m = record { one = taken_once setting (IsPlanned plan) w past v old number job true growth pool t m.0 m.1; acts = tt }
 turn_after setting plan w past (IsAnswered v in_hand number) t m = record { one = tt; acts = acts_in_turn past v in_hand (Answered (Number number)) (hand_tells w past v in_hand t.handed m.0) (fits_await in_hand.stage in_hand.job.core (Answered (Number number)) m.1 refl) }
 turn_after setting plan w past (Finishes v in_hand) t m =
-    record { one = tt; acts = acts_in_turn past v in_hand (Finished (finish_wakes w in_hand)) (hand_tells w past v in_hand t.handed m.0) (fits_finish in_hand.stage in_hand.job.core (Finished (finish_wakes w in_hand)) m.1 refl) }
+    record { one = tt; acts = acts_in_turn past v in_hand (Finished (waker_in (finish_wakes w in_hand))) (hand_tells w past v in_hand t.handed m.0) (fits_finish in_hand.stage in_hand.job.core (Finished (waker_in (finish_wakes w in_hand))) m.1 refl) }
 turn_after setting plan w past (GivesUp v in_hand) t m =
-    record { one = tt; acts = acts_in_turn past v in_hand (GaveUp (giving_up_wakes w in_hand)) (hand_tells w past v in_hand t.handed m.0) (fits_give_up in_hand.stage in_hand.job.core (giving_up_wakes w in_hand) m.1) }
+    record { one = tt; acts = acts_in_turn past v in_hand (GaveUp (waker_in (giving_up_wakes w in_hand))) (hand_tells w past v in_hand t.handed m.0) (fits_give_up in_hand.stage in_hand.job.core (waker_in (giving_up_wakes w in_hand)) m.1) }
 turn_after setting plan w past (CallsWaker v in_hand) t m = record { one = tt; acts = acts_in_turn past v in_hand HolderWoken (hand_tells w past v in_hand t.handed m.0) (fits_wake in_hand.stage in_hand.job.core m.1) }
 turn_after setting plan w past (EndsTurn v in_hand pass) t m = record { one = (hand_tells w past v in_hand t.handed m.0).its_job; acts = tt }
-turn_after setting plan w past (HasWaited v pass late) t m = record { one = by_wait (HoldsOne past (moment_of w (HasWaited v pass late)).event) v late tt tt (must_stop late w.pool); acts = tt }
+turn_after setting plan w past (HasWaited v pass end) t m = record { one = by_wait (HoldsOne past (moment_of w (HasWaited v pass end)).event) v end tt tt (must_stop (has_timed_out end) w.pool); acts = tt }
 turn_after setting plan w past move t m = record { one = tt; acts = tt }

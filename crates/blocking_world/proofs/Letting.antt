@@ -11,6 +11,7 @@ use Rattle.blocking_pool.specs.declared.pool.answer.Waited.TheVariants.{Stay, St
 use Rattle.blocking_pool.specs.declared.pool.standing.Standing.{Standing}
 use Rattle.blocking_pool.specs.declared.pool.token.WorkerPass.{WorkerPass}
 use Rattle.blocking_world.specs.Worlds.{Worlded, CallPool, hand_at, hand_of, with_hand, next_of, outcome_of, pass_in, over_in, over_by}
+use Rattle.blocking_laws.specs.Seen.{has_timed_out}
 use Rattle.blocking_laws.specs.Answers.{wait_act}
 use Rattle.blocking_world.specs.Machine.{IsReady, IsInHand, TakesWith, Takes, WaitsWith, EndsWith, Ends, took_job, took_act, hand_after_take, after_wait, DoesNothing, nothing, seen, next_start}
 use Rattle.blocking_world.specs.Crews.{TakesTo, no_growth}
@@ -19,6 +20,7 @@ use Rattle.blocking_laws.specs.declared.event.Act.{Act}
 use Rattle.blocking_laws.specs.declared.event.Act.TheVariants.{Ended, Stays, Stopped}
 use Rattle.blocking_laws.specs.declared.event.Event.{Event}
 use Rattle.blocking_laws.specs.declared.event.Party.TheVariants.{Worker}
+use Rattle.blocking_laws.specs.declared.event.WaitEnd.{WaitEnd}
 use Rattle.blocking_world.specs.declared.hand.WorkerAction.{WorkerAction}
 use Rattle.blocking_world.specs.declared.hand.WorkerAction.TheVariants as worker_action
 use Rattle.blocking_world.specs.declared.hand.Hand.{Hand}
@@ -83,39 +85,39 @@ one_pass : (p q : WorkerPass) → p ≡ q
 one_pass p q = refl
 
 -- the worker isn't idle
-pub wait_none : (w : Worlded) (v : ℕ) (late : Bool) (hand : Hand) {first : ℕ} {e : Event} {hands : List Hand} → None ≡ pass_in hand → hands ≡ w.hands
-    → first ≡ next_start w → e ≡ nothing (Worker v) first → WaitsWith hand w v late e (record w { hands = hands })
-wait_none w v late Out none same start event = nothing_done w v same start event
-wait_none w v late (Free pass) none same start event = absurd cc
-wait_none w v late (Holds in_hand) none same start event = nothing_done w v same start event
+pub wait_none : (w : Worlded) (v : ℕ) (end : WaitEnd) (hand : Hand) {first : ℕ} {e : Event} {hands : List Hand} → None ≡ pass_in hand → hands ≡ w.hands
+    → first ≡ next_start w → e ≡ nothing (Worker v) first → WaitsWith hand w v end e (record w { hands = hands })
+wait_none w v end Out none same start event = nothing_done w v same start event
+wait_none w v end (Free pass) none same start event = absurd cc
+wait_none w v end (Holds in_hand) none same start event = nothing_done w v same start event
 
 -- the worker stays
-pub wait_stays : (w : Worlded) (v : ℕ) (late : Bool) (waited : Waited) (pool : CallPool) {first : ℕ} {e : Event} {w' : Worlded} {act : Act} {pass back : WorkerPass} {between hands : List Hand}
-    → Some pass ≡ pass_in (hand_at w.hands v) → between ≡ with_hand w.hands v Out → StaysOrStops late w.pool waited pool
-    → waited ≡ Stay back → act ≡ Stays v late → hands ≡ with_hand between v (Free back) → w' ≡ record w { pool = pool; hands = hands }
-    → first ≡ next_start w → e ≡ seen (Worker v) None act first no_growth → WaitsWith (hand_at w.hands v) w v late e w'
-wait_stays w v late waited pool {first} {e} {w'} {act} {pass} {back} {between} {hands} is out waits stay acts put after start event =
-    let stays = subst (λ (r : Waited). StaysOrStops late w.pool r pool) stay waits in
+pub wait_stays : (w : Worlded) (v : ℕ) (end : WaitEnd) (waited : Waited) (pool : CallPool) {first : ℕ} {e : Event} {w' : Worlded} {act : Act} {pass back : WorkerPass} {between hands : List Hand}
+    → Some pass ≡ pass_in (hand_at w.hands v) → between ≡ with_hand w.hands v Out → StaysOrStops (has_timed_out end) w.pool waited pool
+    → waited ≡ Stay back → act ≡ Stays v end → hands ≡ with_hand between v (Free back) → w' ≡ record w { pool = pool; hands = hands }
+    → first ≡ next_start w → e ≡ seen (Worker v) None act first no_growth → WaitsWith (hand_at w.hands v) w v end e w'
+wait_stays w v end waited pool {first} {e} {w'} {act} {pass} {back} {between} {hands} is out waits stay acts put after start event =
+    let stays = subst (λ (r : Waited). StaysOrStops (has_timed_out end) w.pool r pool) stay waits in
     let same = stays.1 in
     let put_so : hands ≡ with_hand w.hands v (Free pass) = put_after w.hands between hands v (Free back) out put ∙ ap (λ p. with_hand w.hands v (Free p)) (one_pass back pass) in
-    let seen_so : e ≡ seen (Worker v) None (wait_act v late false) (next_start w) no_growth = cc in
+    let seen_so : e ≡ seen (Worker v) None (wait_act v end false) (next_start w) no_growth = cc in
     let left : w' ≡ after_wait w v pass false = cc in
-    subst (λ x. WaitsWith x w v late e w') (sym (pass_is (hand_at w.hands v) pass is))
-    (seen_so ∙ ap (λ (b : Bool). seen (Worker v) None (wait_act v late b) (next_start w) no_growth) (sym stays.0), left ∙ ap (after_wait w v pass) (sym stays.0))
+    subst (λ x. WaitsWith x w v end e w') (sym (pass_is (hand_at w.hands v) pass is))
+    (seen_so ∙ ap (λ (b : Bool). seen (Worker v) None (wait_act v end b) (next_start w) no_growth) (sym stays.0), left ∙ ap (after_wait w v pass) (sym stays.0))
 
 -- the worker stops
-pub wait_stops : (w : Worlded) (v : ℕ) (late : Bool) (waited : Waited) (pool : CallPool) {first : ℕ} {e : Event} {w' : Worlded} {act : Act} {pass : WorkerPass} {between : List Hand}
-    → Some pass ≡ pass_in (hand_at w.hands v) → between ≡ with_hand w.hands v Out → StaysOrStops late w.pool waited pool
-    → waited ≡ Stop → act ≡ Stopped v late → w' ≡ record w { pool = pool; hands = between }
-    → first ≡ next_start w → e ≡ seen (Worker v) None act first no_growth → WaitsWith (hand_at w.hands v) w v late e w'
-wait_stops w v late waited pool {first} {e} {w'} {act} {pass} is out waits stop acts after start event =
-    let stops = subst (λ (r : Waited). StaysOrStops late w.pool r pool) stop waits in
+pub wait_stops : (w : Worlded) (v : ℕ) (end : WaitEnd) (waited : Waited) (pool : CallPool) {first : ℕ} {e : Event} {w' : Worlded} {act : Act} {pass : WorkerPass} {between : List Hand}
+    → Some pass ≡ pass_in (hand_at w.hands v) → between ≡ with_hand w.hands v Out → StaysOrStops (has_timed_out end) w.pool waited pool
+    → waited ≡ Stop → act ≡ Stopped v end → w' ≡ record w { pool = pool; hands = between }
+    → first ≡ next_start w → e ≡ seen (Worker v) None act first no_growth → WaitsWith (hand_at w.hands v) w v end e w'
+wait_stops w v end waited pool {first} {e} {w'} {act} {pass} is out waits stop acts after start event =
+    let stops = subst (λ (r : Waited). StaysOrStops (has_timed_out end) w.pool r pool) stop waits in
     let counts = stops.1 in
     let empty = not_if (is_empty w.pool.queue) in
-    let seen_so : e ≡ seen (Worker v) None (wait_act v late true) (next_start w) no_growth = cc in
+    let seen_so : e ≡ seen (Worker v) None (wait_act v end true) (next_start w) no_growth = cc in
     let left : w' ≡ after_wait w v pass true = cc in
-    subst (λ x. WaitsWith x w v late e w') (sym (pass_is (hand_at w.hands v) pass is))
-    (seen_so ∙ ap (λ (b : Bool). seen (Worker v) None (wait_act v late b) (next_start w) no_growth) (sym stops.0), left ∙ ap (after_wait w v pass) (sym stops.0))
+    subst (λ x. WaitsWith x w v end e w') (sym (pass_is (hand_at w.hands v) pass is))
+    (seen_so ∙ ap (λ (b : Bool). seen (Worker v) None (wait_act v end b) (next_start w) no_growth) (sym stops.0), left ∙ ap (after_wait w v pass) (sym stops.0))
 
 -- ---- the end of a turn
 

@@ -7,7 +7,7 @@ use Rattle.blocking_pool.specs.declared.pool.standing.Standing.{Standing}
 use Rattle.blocking_pool.specs.declared.pool.standing.Standing.TheVariants.{Queued, Running}
 use Rattle.blocking_pool.specs.declared.pool.token.WorkerPass.{WorkerPass}
 use Rattle.blocking_pool.proofs.Lists.{turned, IsOnce-push, without-first}
-use Rattle.blocking_laws.specs.Seen.{joined}
+use Rattle.blocking_laws.specs.Seen.{joined, has_timed_out}
 use Rattle.blocking_laws.specs.Jobs.{is_queued, standing}
 use Rattle.blocking_laws.specs.Queue.{queue, entries, takes, entered_by, InOrder}
 use Rattle.blocking_laws.specs.Growth.{IsPlanned}
@@ -50,7 +50,7 @@ line_stays may_answer w (Begins (Ok number) growth pool) may moves = absurd cc
 line_stays may_answer w (TakesJob v old to_drop turn job growth pool) may moves = absurd cc
 line_stays may_answer w (Begins (Err why) growth pool) may moves = ap (λ (p : CallPool). p.queue) (refused_alone may_answer w.pool why growth pool may)
 line_stays may_answer w (Calls k call task) may moves = ap (λ (p : CallPool). p.queue) (call_alone call w.pool task.number)
-line_stays may_answer w (HasWaited v pass late) may moves = wait_queue w v pass (must_stop late w.pool)
+line_stays may_answer w (HasWaited v pass end) may moves = wait_queue w v pass (must_stop (has_timed_out end) w.pool)
 line_stays may_answer w (IsWoken s) may moves = ap (λ (p : CallPool). p.queue) (wake_alone (wakes_as w s) w.pool (task_at w.tasks s).number)
 line_stays may_answer w (IsStruck s) may moves = ap (λ (p : CallPool). p.queue) (cancel_alone (cancels_as w s) w.pool (task_at w.tasks s).number)
 line_stays may_answer w move may moves = refl

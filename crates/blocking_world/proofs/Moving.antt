@@ -15,6 +15,8 @@ use Rattle.blocking_laws.specs.Steps.{named}
 use Rattle.blocking_world.specs.declared.call.CallJob.{CallJob}
 use Rattle.blocking_laws.specs.declared.event.Event.{Event}
 use Rattle.blocking_laws.specs.declared.event.Party.TheVariants.{Worker}
+use Rattle.blocking_laws.specs.declared.event.WaitEnd.{WaitEnd}
+use Rattle.blocking_laws.specs.declared.event.WaitEnd.TheVariants.{Woken, TimedOut}
 use Rattle.blocking_world.specs.declared.hand.WorkerAction.{WorkerAction}
 use Rattle.blocking_world.specs.declared.hand.WorkerAction.TheVariants as worker_action
 use Rattle.blocking_world.specs.declared.hand.Hand.{Hand}
@@ -76,12 +78,12 @@ take_with may_answer w v e w' Out holds does = idle_move may_answer w e w' (Take
 take_with may_answer w v e w' (Free pass) holds does = take_by may_answer w v e w' pass holds does.took does.growth does.pool does.takes does.does
 take_with may_answer w v e w' (Holds in_hand) holds does = idle_move may_answer w e w' (Take v) (ap is_free_hand holds) does
 
-wait_with : (may_answer : ℕ → Bool → Type 0) (w : Worlded) (v : ℕ) (late : Bool) (e : Event) (w' : Worlded) (hand : Hand) → hand_at w.hands v ≡ hand → WaitsWith hand w v late e w' → Moves may_answer (wait_step late v) w e w'
-wait_with may_answer w v false e w' Out holds does = idle_move may_answer w e w' (Wait v) (ap is_free_hand holds) does
-wait_with may_answer w v true e w' Out holds does = idle_move may_answer w e w' (Late v) (ap is_free_hand holds) does
-wait_with may_answer w v late e w' (Free pass) holds does = moved_by may_answer w e w' (HasWaited v pass late) holds does
-wait_with may_answer w v false e w' (Holds in_hand) holds does = idle_move may_answer w e w' (Wait v) (ap is_free_hand holds) does
-wait_with may_answer w v true e w' (Holds in_hand) holds does = idle_move may_answer w e w' (Late v) (ap is_free_hand holds) does
+wait_with : (may_answer : ℕ → Bool → Type 0) (w : Worlded) (v : ℕ) (end : WaitEnd) (e : Event) (w' : Worlded) (hand : Hand) → hand_at w.hands v ≡ hand → WaitsWith hand w v end e w' → Moves may_answer (wait_step end v) w e w'
+wait_with may_answer w v Woken e w' Out holds does = idle_move may_answer w e w' (Wait v) (ap is_free_hand holds) does
+wait_with may_answer w v TimedOut e w' Out holds does = idle_move may_answer w e w' (Late v) (ap is_free_hand holds) does
+wait_with may_answer w v end e w' (Free pass) holds does = moved_by may_answer w e w' (HasWaited v pass end) holds does
+wait_with may_answer w v Woken e w' (Holds in_hand) holds does = idle_move may_answer w e w' (Wait v) (ap is_free_hand holds) does
+wait_with may_answer w v TimedOut e w' (Holds in_hand) holds does = idle_move may_answer w e w' (Late v) (ap is_free_hand holds) does
 
 -- ---- a job in hand
 
@@ -150,8 +152,8 @@ moved may_answer (Take v) w e w' does = take_with may_answer w v e w' (hand_at w
 moved may_answer (Job v) w e w' does = work_with may_answer w v e w' (hand_at w.hands v) refl does
 moved may_answer (Io v answer) w e w' does = answer_with may_answer w v answer e w' (hand_at w.hands v) refl does
 moved may_answer (End v) w e w' does = end_with may_answer w v e w' (hand_at w.hands v) refl does
-moved may_answer (Wait v) w e w' does = wait_with may_answer w v false e w' (hand_at w.hands v) refl does
-moved may_answer (Late v) w e w' does = wait_with may_answer w v true e w' (hand_at w.hands v) refl does
+moved may_answer (Wait v) w e w' does = wait_with may_answer w v Woken e w' (hand_at w.hands v) refl does
+moved may_answer (Late v) w e w' does = wait_with may_answer w v TimedOut e w' (hand_at w.hands v) refl does
 moved may_answer (SetLimit n) w e w' does = limit_if may_answer w n e w' (n == 0) refl does
 moved may_answer Sweep w e w' does = moved_by may_answer w e w' Sweeps tt does
 moved may_answer (Stray s) w e w' does = stray_if may_answer w s e w' (was_accepted w s) refl does

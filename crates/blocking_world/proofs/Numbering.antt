@@ -22,7 +22,7 @@ use Rattle.blocking_laws.specs.Growth.{IsPlanned}
 use Rattle.blocking_laws.specs.Jobs.{accepted_jobs, accepted_by, accepts, makes_a_task, tasks, holder, newcomer, standing, is_pool}
 use Rattle.blocking_world.specs.Machine.{after_wait, task_after_call, pool_after_call}
 use Rattle.blocking_world.specs.Moves.{Move, Begins, Calls, TakesJob, Finishes, GivesUp, EndsTurn, HasWaited, IsWoken, IsStruck, May, after, moment_of, wakes_as, cancels_as}
-use Rattle.blocking_laws.specs.Seen.{joined}
+use Rattle.blocking_laws.specs.Seen.{joined, has_timed_out}
 use Rattle.blocking_world.specs.Ties.{Tied, Numbered, Filed, holder_of}
 use Rattle.blocking_world.specs.Worlds.{Worlded, CallPool, new_call, new_task, with_task, task_at, task_in, outcome_of}
 use Rattle.blocking_world.proofs.Entries.{filed_stands, stands_over}
@@ -219,7 +219,7 @@ parts_stay may_answer w (TakesJob v old to_drop turn job growth pool) may brings
 parts_stay may_answer w (Finishes v in_hand) may brings = slot_changes w in_hand.turn.serial (after_put (task_at w.tasks in_hand.turn.serial).slot in_hand.job.number) _
 parts_stay may_answer w (GivesUp v in_hand) may brings = slot_changes w in_hand.turn.serial (after_give_up (task_at w.tasks in_hand.turn.serial).slot) _
 parts_stay may_answer w (EndsTurn v in_hand pass) may brings = pool_changes w _ _ refl (out_places w.pool.jobs in_hand.turn.serial)
-parts_stay may_answer w (HasWaited v pass late) may brings = wait_changes w v pass (must_stop late w.pool)
+parts_stay may_answer w (HasWaited v pass end) may brings = wait_changes w v pass (must_stop (has_timed_out end) w.pool)
 parts_stay may_answer w (IsWoken t) may brings =
     let number = (task_at w.tasks t).number in
     pool_changes w _ _ (ap (λ p. p.next_serial) (wake_alone (wakes_as w t) w.pool number)) (wake_places (wakes_as w t) w.pool number)

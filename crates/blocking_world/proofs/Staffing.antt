@@ -5,6 +5,7 @@ use Rattle.blocking_pool.specs.Growth.{Growth}
 use Rattle.blocking_pool.specs.Jobs.{JobNumber, one_if}
 use Rattle.blocking_pool.specs.PoolAnswers.{must_stop}
 use Rattle.blocking_pool.specs.declared.pool.token.WorkerPass.{WorkerPass}
+use Rattle.blocking_laws.specs.Seen.{has_timed_out}
 use Rattle.blocking_laws.specs.Queue.{running}
 use Rattle.blocking_laws.specs.Growth.{IsPlanned}
 use Rattle.blocking_laws.specs.Steps.{is_there, is_free}
@@ -20,6 +21,7 @@ use Rattle.blocking_world.specs.declared.call.CallJob.{CallJob}
 use Rattle.blocking_laws.specs.declared.event.Moment.{Moment}
 use Rattle.blocking_laws.specs.declared.event.Party.{Party}
 use Rattle.blocking_laws.specs.declared.event.Party.TheVariants.{Worker}
+use Rattle.blocking_laws.specs.declared.event.WaitEnd.{WaitEnd}
 use Rattle.blocking_world.specs.declared.hand.Hand.{Hand}
 use Rattle.blocking_world.specs.declared.hand.Hand.TheVariants.{Out, Free, Holds}
 use Rattle.blocking_world.specs.declared.hand.JobInHand.{JobInHand}
@@ -149,10 +151,10 @@ ends_busy setting w past v in_hand pass t holds same =
     let fewer = one_out in_hand.turn.serial (running past) t.counted.once (in_hand_busy setting w past v in_hand t holds) in
     omega (arith, changed, fewer, same)
 
-waits_busy : (w : Worlded) (past : List Moment) (v : ℕ) (pass : WorkerPass) (late stops : Bool) (step : Step) (who : Party) (first : ℕ) → hand_at w.hands v ≡ Free pass → AreBusy w past
-    → AreBusy (after_wait w v pass stops) (seen_at step who None (wait_act v late stops) first no_growth ∷ past)
-waits_busy w past v pass late true step who first free busy = hand_busy w past v (Free pass) Out (at_free w.hands v pass free) refl busy
-waits_busy w past v pass late false step who first free busy = hand_busy w past v (Free pass) (Free pass) (at_free w.hands v pass free) refl busy
+waits_busy : (w : Worlded) (past : List Moment) (v : ℕ) (pass : WorkerPass) (end : WaitEnd) (stops : Bool) (step : Step) (who : Party) (first : ℕ) → hand_at w.hands v ≡ Free pass → AreBusy w past
+    → AreBusy (after_wait w v pass stops) (seen_at step who None (wait_act v end stops) first no_growth ∷ past)
+waits_busy w past v pass end true step who first free busy = hand_busy w past v (Free pass) Out (at_free w.hands v pass free) refl busy
+waits_busy w past v pass end false step who first free busy = hand_busy w past v (Free pass) (Free pass) (at_free w.hands v pass free) refl busy
 
 arrives_busy : (w : Worlded) (past : List Moment) (pass : WorkerPass) → AreBusy w past → (let move = Arrives pass in AreBusy (after w move) (moment_of w move ∷ past))
 arrives_busy w past pass busy = let pushed = sum_pushed one_if_busy w.hands (Free pass) in omega (arith, pushed, busy)
@@ -173,7 +175,7 @@ busy_after setting plan w past (GivesUp v in_hand) t m same =
     hand_busy w past v (Holds in_hand) (Holds (in_hand_after_give_up in_hand (giving_up_wakes w in_hand))) (at_in_hand w.hands v in_hand m.0) refl same
 busy_after setting plan w past (CallsWaker v in_hand) t m same = hand_busy w past v (Holds in_hand) (Holds (in_hand_after_wake in_hand)) (at_in_hand w.hands v in_hand m.0) refl same
 busy_after setting plan w past (EndsTurn v in_hand pass) t m same = ends_busy setting w past v in_hand pass t m.0 same
-busy_after setting plan w past (HasWaited v pass late) t m same = waits_busy w past v pass late (must_stop late w.pool) (wait_step late v) (Worker v) (next_start w) m same
+busy_after setting plan w past (HasWaited v pass end) t m same = waits_busy w past v pass end (must_stop (has_timed_out end) w.pool) (wait_step end v) (Worker v) (next_start w) m same
 busy_after setting plan w past move t m same = same
 
 -- Each move leaves the workers with what was seen.

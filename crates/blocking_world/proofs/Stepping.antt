@@ -13,7 +13,8 @@ use Rattle.blocking_pool.specs.declared.pool.token.WorkerPass.{WorkerPass}
 use Rattle.blocking_world.specs.Crews.{no_growth}
 use Rattle.blocking_world.specs.declared.call.CallJob.{CallJob}
 use Rattle.blocking_pool.specs.Jobs.{JobNumber}
-use Rattle.blocking_laws.specs.Seen.{events, acts_of, acts_of_task, own, task_cut, is_nothing}
+use Rattle.blocking_laws.specs.Seats.{waker_in}
+use Rattle.blocking_laws.specs.Seen.{events, acts_of, acts_of_task, own, task_cut, is_nothing, has_timed_out}
 use Rattle.blocking_laws.specs.Jobs.{tasks, holder}
 use Rattle.blocking_laws.specs.Counts.{starts, arrivals}
 use Rattle.blocking_laws.specs.Growth.{IsPlanned}
@@ -32,6 +33,8 @@ use Rattle.blocking_laws.specs.declared.event.Event.{Event}
 use Rattle.blocking_laws.specs.declared.event.Moment.{Moment}
 use Rattle.blocking_laws.specs.declared.event.Party.{Party}
 use Rattle.blocking_laws.specs.declared.event.Party.TheVariants.{Task as ByTask, Worker}
+use Rattle.blocking_laws.specs.declared.event.WaitEnd.{WaitEnd}
+use Rattle.blocking_laws.specs.declared.event.WaitEnd.TheVariants.{Woken, TimedOut}
 use Rattle.blocking_world.specs.declared.hand.WorkerAction.{WorkerAction}
 use Rattle.blocking_world.specs.declared.hand.WorkerAction.TheVariants as worker_action
 use Rattle.blocking_world.specs.declared.hand.Hand.{Hand}
@@ -261,16 +264,16 @@ step_takes w past v old true turn job growth pool has = record { act = happened 
 step_takes_none : (w : Worlded) (past : List Moment) (v : ℕ) (old pass : WorkerPass) → has_action past (Take v) ≡ true → StepLaw past (moment_of w (TakesNone v old pass))
 step_takes_none w past v old pass has = record { act = happened past (Take v) TookNone has refl refl; by = refl; of = refl; owned = refl }
 
-step_waits : (w : Worlded) (past : List Moment) (v : ℕ) (late stops : Bool) → has_action past (wait_step late v) ≡ true
-    → StepLaw past (record { step = wait_step late v; event = seen (Worker v) None (wait_act v late stops) (next_start w) no_growth })
-step_waits w past v false false has = record { act = happened past (Wait v) (Stays v false) has refl (refl, refl); by = refl; of = refl; owned = refl }
-step_waits w past v false true has = record { act = happened past (Wait v) (Stopped v false) has refl (refl, refl); by = refl; of = refl; owned = refl }
-step_waits w past v true false has = record { act = happened past (Late v) (Stays v true) has refl (refl, refl); by = refl; of = refl; owned = refl }
-step_waits w past v true true has = record { act = happened past (Late v) (Stopped v true) has refl (refl, refl); by = refl; of = refl; owned = refl }
+step_waits : (w : Worlded) (past : List Moment) (v : ℕ) (end : WaitEnd) (stops : Bool) → has_action past (wait_step end v) ≡ true
+    → StepLaw past (record { step = wait_step end v; event = seen (Worker v) None (wait_act v end stops) (next_start w) no_growth })
+step_waits w past v Woken false has = record { act = happened past (Wait v) (Stays v Woken) has refl (refl, refl); by = refl; of = refl; owned = refl }
+step_waits w past v Woken true has = record { act = happened past (Wait v) (Stopped v Woken) has refl (refl, refl); by = refl; of = refl; owned = refl }
+step_waits w past v TimedOut false has = record { act = happened past (Late v) (Stays v TimedOut) has refl (refl, refl); by = refl; of = refl; owned = refl }
+step_waits w past v TimedOut true has = record { act = happened past (Late v) (Stopped v TimedOut) has refl (refl, refl); by = refl; of = refl; owned = refl }
 
-late_free : (w : Worlded) (v : ℕ) (late : Bool) → is_free_hand (hand_at w.hands v) ≡ true → has_action_in w (wait_step late v) ≡ true
-late_free w v false free = free
-late_free w v true free = free
+waiter_free : (w : Worlded) (v : ℕ) (end : WaitEnd) → is_free_hand (hand_at w.hands v) ≡ true → has_action_in w (wait_step end v) ≡ true
+waiter_free w v Woken free = free
+waiter_free w v TimedOut free = free
 
 -- a step that has an action by its worker's next one
 has_due : (setting : ℕ) (w : Worlded) (past : List Moment) → Tied setting w past → (step : Step) (v : ℕ) (in_hand : JobInHand) (test : Option WorkerAction → Bool) → has_action_in w step ≡ test (next_in (hand_at w.hands v))
@@ -292,15 +295,15 @@ step_after setting plan w past (TakesNone v old pass) tied may = step_takes_none
 step_after setting plan w past (IsAnswered v in_hand n) tied may =
     record { act = happened past (Io v (Number n)) (Answered (Number n)) (has_due setting w past tied (Io v (Number n)) v in_hand is_awaiting refl may.0 may.1) refl refl; by = refl; of = sym (hand_tells w past v in_hand tied.handed may.0); owned = refl }
 step_after setting plan w past (Finishes v in_hand) tied may =
-    record { act = happened past (Job v) (Finished (finish_wakes w in_hand)) (has_due setting w past tied (Job v) v in_hand is_own refl may.0 may.1) refl (refl, refl); by = refl; of = sym (hand_tells w past v in_hand tied.handed may.0); owned = refl }
+    record { act = happened past (Job v) (Finished (waker_in (finish_wakes w in_hand))) (has_due setting w past tied (Job v) v in_hand is_own refl may.0 may.1) refl (refl, refl); by = refl; of = sym (hand_tells w past v in_hand tied.handed may.0); owned = refl }
 step_after setting plan w past (GivesUp v in_hand) tied may =
-    record { act = happened past (Job v) (GaveUp (giving_up_wakes w in_hand)) (has_due setting w past tied (Job v) v in_hand is_own refl may.0 may.1) refl (refl, refl); by = refl; of = sym (hand_tells w past v in_hand tied.handed may.0); owned = refl }
+    record { act = happened past (Job v) (GaveUp (waker_in (giving_up_wakes w in_hand))) (has_due setting w past tied (Job v) v in_hand is_own refl may.0 may.1) refl (refl, refl); by = refl; of = sym (hand_tells w past v in_hand tied.handed may.0); owned = refl }
 step_after setting plan w past (CallsWaker v in_hand) tied may =
     record { act = happened past (Job v) HolderWoken (has_due setting w past tied (Job v) v in_hand is_own refl may.0 may.1) refl (refl, refl); by = refl; of = sym (hand_tells w past v in_hand tied.handed may.0); owned = refl }
 step_after setting plan w past (EndsTurn v in_hand pass) tied may =
     record { act = happened past (End v) (Ended in_hand.turn.serial (outcome_of in_hand.stage)) (has_due setting w past tied (End v) v in_hand is_ending refl may.0 may.1) refl (hand_tells w past v in_hand tied.handed may.0); by = refl; of = sym (hand_tells w past v in_hand tied.handed may.0); owned = refl }
-step_after setting plan w past (HasWaited v pass late) tied may =
-    step_waits w past v late (must_stop late w.pool) (sym (has_is setting w past tied (wait_step late v)) ∙ late_free w v late (ap is_free_hand may))
+step_after setting plan w past (HasWaited v pass end) tied may =
+    step_waits w past v end (must_stop (has_timed_out end) w.pool) (sym (has_is setting w past tied (wait_step end v)) ∙ waiter_free w v end (ap is_free_hand may))
 step_after setting plan w past (SetsLimit n) tied may =
     let has : nat_lt 0 n ≡ true = grind (arith, nat_tests) in
     record { act = happened past (SetLimit n) (LimitSet n) has refl refl; by = refl; of = refl; owned = refl }

@@ -6,9 +6,9 @@ use Rattle.blocking_pool.specs.Jobs.{JobNumber}
 use Rattle.blocking_core.specs.SlotAnswers.{IsPending}
 use Rattle.blocking_core.specs.Slots.{Content, Empty, Full, GivenUp, Abandoned, without_owner, full_with, slot_after, answer_of, slot_without_job, waker_out_of, after_put, put_in, after_give_up, waker_of_give_up}
 use Rattle.blocking_laws.specs.Seen.{own, acts_of, is_of_pool, is_nothing}
-use Rattle.blocking_laws.specs.JobTable.{Calling, WakeHolder, next_of_job, next_but_wake, is_over, number, has_finished, has_given_up}
+use Rattle.blocking_laws.specs.JobTable.{Calling, WakeHolder, next_of_job, next_but_wake, is_over, number, has_finished, has_given_up, is_taken}
 use Rattle.blocking_laws.specs.Places.{poll_task}
-use Rattle.blocking_laws.specs.Seats.{task_seat}
+use Rattle.blocking_laws.specs.Seats.{task_seat, waker_in}
 use Rattle.blocking_laws.specs.TaskLaws.{is_in_time, poll_answer, was_cancelled, TaskLaw, Calls}
 use Rattle.blocking_laws.specs.Wakes.{was_woken, is_waiting}
 use Rattle.blocking_world.specs.Crews.{no_growth}
@@ -238,9 +238,9 @@ wake_goes task v s first cut next t =
     }
 
 -- a task that waits is woken by the act that takes its waker
-woken_by : (wake woken seated over : Bool) → wake ≡ seated → (woken ≡ true) ⊎ ((seated ≡ true) × (over ≡ false)) → wake || woken ≡ true
-woken_by wake woken seated over same (inl is) = or_right wake woken is
-woken_by wake woken seated over same (inr is) = or_left wake woken (same ∙ is.0)
+woken_by : (wake woken seated over : Bool) → wake ≡ seated → (woken ≡ true) ⊎ ((seated ≡ true) × (over ≡ false)) → is_taken (waker_in wake) || woken ≡ true
+woken_by wake woken seated over same (inl is) = or_right (is_taken (waker_in wake)) woken is
+woken_by wake woken seated over same (inr is) = or_left (is_taken (waker_in wake)) woken (ap (λ (b : Bool). is_taken (waker_in b)) (same ∙ is.0))
 
 -- ---- finishing
 
@@ -287,11 +287,11 @@ puts _ _ seat _ cancel n p = absurd p
 
 -- the job puts its number
 pub finish_goes : (task : Task) (v s n first : ℕ) (cut : List Event) → acts_of s cut ≡ Answered (Number n) ∷ [] → (is_in_time cut ≡ true → has_finished (acts_of s cut) ≡ true) → TaskAs task s cut
-    → Goes (record task { slot = after_put task.slot n }) s cut (by_job v s (Finished (is_some (put_in task.slot n).wake)) first)
+    → Goes (record task { slot = after_put task.slot n }) s cut (by_job v s (Finished (waker_in (is_some (put_in task.slot n).wake))) first)
 finish_goes task v s n first cut acts timely t =
     let wake = is_some (put_in task.slot n).wake in
-    let e = by_job v s (Finished wake) first in
-    let more : acts_of s (e ∷ cut) ≡ Finished wake ∷ Answered (Number n) ∷ [] = acts_more v s (Finished wake) first cut refl refl ∙ ap (λ (l : List Act). Finished wake ∷ l) acts in
+    let e = by_job v s (Finished (waker_in wake)) first in
+    let more : acts_of s (e ∷ cut) ≡ Finished (waker_in wake) ∷ Answered (Number n) ∷ [] = acts_more v s (Finished (waker_in wake)) first cut refl refl ∙ ap (λ (l : List Act). Finished (waker_in wake) ∷ l) acts in
     let timely_now : is_in_time cut ≡ true → false ≡ true = subst (λ (l : List Act). is_in_time cut ≡ true → has_finished l ≡ true) acts timely in
     let slot : SlotBy task (is_in_time cut) (Answered (Number n) ∷ []) = subst (SlotBy task (is_in_time cut)) acts t.slot in
     let came = none_came task.stage task.slot.content task.found (was_cancelled (own cut)) (is_in_time cut) n timely_now t.cancel slot in
@@ -299,7 +299,7 @@ finish_goes task v s n first cut acts timely t =
     let new = record task { slot = after_put task.slot n } in
     let seated : wake ≡ task_seat cut = ap is_some put.wake ∙ sym t.seat in
     record {
-      law = subst (λ (l : List Act). Calls cut (next_of_job Calling l) (Finished wake)) (sym acts) (ap Finished seated);
+      law = subst (λ (l : List Act). Calls cut (next_of_job Calling l) (Finished (waker_in wake))) (sym acts) (ap (λ (b : Bool). Finished (waker_in b)) seated);
       tie = record {
         gone = t.gone;
         cancel = t.cancel;
@@ -330,11 +330,11 @@ ceases _ _ seat _ cancel in_time n slot p = absurd p
 
 -- the job gives up
 pub give_up_goes : (task : Task) (v s first : ℕ) (cut : List Event) → acts_of s cut ≡ [] → (is_in_time cut ≡ true → has_finished (acts_of s cut) ≡ true) → has_let_go task.stage ≡ true → TaskAs task s cut
-    → Goes (record task { slot = after_give_up task.slot }) s cut (by_job v s (GaveUp (is_some (waker_of_give_up task.slot))) first)
+    → Goes (record task { slot = after_give_up task.slot }) s cut (by_job v s (GaveUp (waker_in (is_some (waker_of_give_up task.slot)))) first)
 give_up_goes task v s first cut acts timely gone t =
     let wake = is_some (waker_of_give_up task.slot) in
-    let e = by_job v s (GaveUp wake) first in
-    let more : acts_of s (e ∷ cut) ≡ GaveUp wake ∷ [] = acts_more v s (GaveUp wake) first cut refl refl ∙ ap (λ (l : List Act). GaveUp wake ∷ l) acts in
+    let e = by_job v s (GaveUp (waker_in wake)) first in
+    let more : acts_of s (e ∷ cut) ≡ GaveUp (waker_in wake) ∷ [] = acts_more v s (GaveUp (waker_in wake)) first cut refl refl ∙ ap (λ (l : List Act). GaveUp (waker_in wake) ∷ l) acts in
     let timely_now : is_in_time cut ≡ true → false ≡ true = subst (λ (l : List Act). is_in_time cut ≡ true → has_finished l ≡ true) acts timely in
     let slot : SlotBy task (is_in_time cut) [] = subst (SlotBy task (is_in_time cut)) acts t.slot in
     let came = none_came task.stage task.slot.content task.found (was_cancelled (own cut)) (is_in_time cut) 0 timely_now t.cancel slot in
@@ -342,7 +342,7 @@ give_up_goes task v s first cut acts timely gone t =
     let new = record task { slot = after_give_up task.slot } in
     let seated : wake ≡ task_seat cut = ap is_some cease.wake ∙ sym t.seat in
     record {
-      law = (t.let_go ∙ gone, subst (λ (l : List Act). is_over (next_but_wake Calling l) ≡ false) (sym acts) refl, seated);
+      law = (t.let_go ∙ gone, subst (λ (l : List Act). is_over (next_but_wake Calling l) ≡ false) (sym acts) refl, ap waker_in seated);
       tie = record {
         gone = t.gone;
         cancel = t.cancel;

@@ -12,7 +12,8 @@ use Rattle.blocking_core.specs.declared.job.Action.{Action}
 use Rattle.blocking_core.specs.declared.job.Action.TheVariants as action
 use Rattle.blocking_pool.specs.declared.pool.answer.Refusal.{Refusal}
 use Rattle.blocking_pool.specs.declared.pool.token.WorkerPass.{WorkerPass}
-use Rattle.blocking_laws.specs.Seen.{events, acts_of, task_cut, is_by_task, is_of_job, is_of_pool, is_nothing}
+use Rattle.blocking_laws.specs.Seats.{waker_in}
+use Rattle.blocking_laws.specs.Seen.{events, acts_of, task_cut, is_by_task, is_of_job, is_of_pool, is_nothing, has_timed_out}
 use Rattle.blocking_laws.specs.Jobs.{accepts, holder, tasks, newcomer}
 use Rattle.blocking_laws.specs.JobTable.{Calling, WakeHolder, next_of_job, has_finished}
 use Rattle.blocking_laws.specs.Growth.{IsPlanned}
@@ -29,6 +30,7 @@ use Rattle.blocking_laws.specs.declared.event.Event.{Event}
 use Rattle.blocking_laws.specs.declared.event.Moment.{Moment}
 use Rattle.blocking_laws.specs.declared.event.Party.{Party}
 use Rattle.blocking_laws.specs.declared.event.Party.TheVariants.{Task as ByTask, Worker}
+use Rattle.blocking_laws.specs.declared.event.WaitEnd.{WaitEnd}
 use Rattle.blocking_world.specs.declared.hand.WorkerAction.TheVariants as worker_action
 use Rattle.blocking_world.specs.declared.hand.Hand.TheVariants.{Holds}
 use Rattle.blocking_world.specs.declared.hand.JobInHand.{JobInHand}
@@ -335,13 +337,13 @@ took_aside : (b : Bool) (v s first : ℕ) (growth : Growth) → Aside (seen (Wor
 took_aside true v s first growth = record { out = λ k j. refl; none_new = λ j. refl }
 took_aside false v s first growth = record { out = λ k j. refl; none_new = λ j. refl }
 
-waited : (b : Bool) (w : Worlded) (past : List Moment) (v : ℕ) (pass : WorkerPass) (late : Bool) → Tasked w past → AllLaws past
-    → TasksHold (after_wait w v pass b) (record { step = wait_step late v; event = seen (Worker v) None (wait_act v late b) (next_start w) no_growth } ∷ past)
-waited true w past v pass late t laws =
-    aside w (after_wait w v pass true) past (record { step = wait_step late v; event = seen (Worker v) None (wait_act v late true) (next_start w) no_growth })
+waited : (b : Bool) (w : Worlded) (past : List Moment) (v : ℕ) (pass : WorkerPass) (end : WaitEnd) → Tasked w past → AllLaws past
+    → TasksHold (after_wait w v pass b) (record { step = wait_step end v; event = seen (Worker v) None (wait_act v end b) (next_start w) no_growth } ∷ past)
+waited true w past v pass end t laws =
+    aside w (after_wait w v pass true) past (record { step = wait_step end v; event = seen (Worker v) None (wait_act v end true) (next_start w) no_growth })
     (record { out = λ k s. refl; none_new = λ s. refl }) refl t laws
-waited false w past v pass late t laws =
-    aside w (after_wait w v pass false) past (record { step = wait_step late v; event = seen (Worker v) None (wait_act v late false) (next_start w) no_growth })
+waited false w past v pass end t laws =
+    aside w (after_wait w v pass false) past (record { step = wait_step end v; event = seen (Worker v) None (wait_act v end false) (next_start w) no_growth })
     (record { out = λ k s. refl; none_new = λ s. refl }) refl t laws
 
 -- ---- each move
@@ -371,7 +373,7 @@ both_after setting plan w past (Finishes v in_hand) t laws may =
     let task = task_at w.tasks s in
     let acts = finish_acts in_hand.stage in_hand.job.core in_hand.job.number (acts_of s (held_cut past s)) may.1 i.acts in
     acts_on setting w past (Finishes v in_hand) t laws
-    (changes_keeps w past v (next_start w) in_hand (Finished (finish_wakes w in_hand)) (record task { slot = after_put task.slot in_hand.job.number }) i refl refl (λ j. refl)
+    (changes_keeps w past v (next_start w) in_hand (Finished (waker_in (finish_wakes w in_hand))) (record task { slot = after_put task.slot in_hand.job.number }) i refl refl (λ j. refl)
     (finish_goes task v s in_hand.job.number (next_start w) (held_cut past s) acts i.timely i.was))
 both_after setting plan w past (GivesUp v in_hand) t laws may =
     let i = hand_tells setting w past v in_hand t laws may.0 in
@@ -379,7 +381,7 @@ both_after setting plan w past (GivesUp v in_hand) t laws may =
     let task = task_at w.tasks s in
     let acts = give_up_acts in_hand.stage in_hand.job.core in_hand.job.number (acts_of s (held_cut past s)) may.1 i.acts in
     acts_on setting w past (GivesUp v in_hand) t laws
-    (changes_keeps w past v (next_start w) in_hand (GaveUp (giving_up_wakes w in_hand)) (record task { slot = after_give_up task.slot }) i refl refl (λ j. refl)
+    (changes_keeps w past v (next_start w) in_hand (GaveUp (waker_in (giving_up_wakes w in_hand))) (record task { slot = after_give_up task.slot }) i refl refl (λ j. refl)
     (give_up_goes task v s (next_start w) (held_cut past s) acts.1 i.timely (i.wanted acts.0) i.was))
 both_after setting plan w past (CallsWaker v in_hand) t laws may =
     let i = hand_tells setting w past v in_hand t laws may.0 in
@@ -388,7 +390,7 @@ both_after setting plan w past (CallsWaker v in_hand) t laws may =
     acts_on setting w past (CallsWaker v in_hand) t laws
     (stays_keeps w past v (next_start w) in_hand HolderWoken i refl refl (λ j. refl)
     (wake_goes (task_at w.tasks s) v s (next_start w) (held_cut past s) next i.was))
-both_after setting plan w past (HasWaited v pass late) t laws may = waited (must_stop late w.pool) w past v pass late t.tasked laws
+both_after setting plan w past (HasWaited v pass end) t laws may = waited (must_stop (has_timed_out end) w.pool) w past v pass end t.tasked laws
 both_after setting plan w past move t laws may = aside w (after w move) past (moment_of w move) (record { out = λ k s. refl; none_new = λ s. refl }) refl t.tasked laws
 
 -- each move keeps the tie of the tasks, where they kept their laws

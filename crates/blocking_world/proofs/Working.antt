@@ -21,6 +21,7 @@ use Rattle.blocking_world.specs.declared.hand.JobInHand.{JobInHand}
 use Rattle.blocking_world.specs.declared.task.Task.{Task}
 use Rattle.blocking_world.proofs.Hands.{at_in_hand}
 use Rattle.blocking_world.proofs.Passing.{in_hand_is, lent_as_was, nothing_done}
+use Rattle.blocking_laws.specs.Seats.{waker_in}
 
 -- what is in a hand is of a task that is there
 pub in_hand_there : (w : Worlded) (v : ℕ) (in_hand : JobInHand) → IsReady w → Some in_hand ≡ job_in (hand_at w.hands v) → IsInHand w in_hand
@@ -62,7 +63,7 @@ pub work_finishes : (w : Worlded) (v : ℕ) {first serial k number : ℕ} {e : E
     → Some in_hand ≡ job_in (hand_at w.hands v) → worker_action.Finish ≡ next_of in_hand
     → serial ≡ in_hand.turn.serial → number ≡ in_hand.job.number → k ≡ in_hand.turn.serial - 1 → k < length w.tasks → task ≡ slice_index_or w.tasks k task
     → wake ≡ is_some (put_in task.slot number).wake → task' ≡ record task { slot = after_put task.slot number } → in_hand' ≡ in_hand_after_finish in_hand wake
-    → hands ≡ with_hand w.hands v (Holds in_hand') → act ≡ Finished wake → w' ≡ record w { tasks = slice_set w.tasks k task'; hands = hands }
+    → hands ≡ with_hand w.hands v (Holds in_hand') → act ≡ Finished (waker_in wake) → w' ≡ record w { tasks = slice_set w.tasks k task'; hands = hands }
     → first ≡ next_start w → e ≡ seen (Worker v) (Some serial) act first no_growth → WorksWith (hand_at w.hands v) w v e w'
 work_finishes w v {first} {serial} {k} {number} {e} {w'} {act} {in_hand} {in_hand'} {wake} {task} holds is same numbers place within value wakes so left put acts after start event =
     let own : task_at w.tasks in_hand.turn.serial ≡ task = read_task w.tasks in_hand.turn.serial k task place within value in
@@ -73,7 +74,7 @@ pub work_gives_up : (w : Worlded) (v : ℕ) {first serial k : ℕ} {e : Event} {
     → Some in_hand ≡ job_in (hand_at w.hands v) → worker_action.GiveUp ≡ next_of in_hand
     → serial ≡ in_hand.turn.serial → k ≡ in_hand.turn.serial - 1 → k < length w.tasks → task ≡ slice_index_or w.tasks k task
     → wake ≡ is_some (waker_of_give_up task.slot) → task' ≡ record task { slot = after_give_up task.slot } → in_hand' ≡ in_hand_after_give_up in_hand wake
-    → hands ≡ with_hand w.hands v (Holds in_hand') → act ≡ GaveUp wake → w' ≡ record w { tasks = slice_set w.tasks k task'; hands = hands }
+    → hands ≡ with_hand w.hands v (Holds in_hand') → act ≡ GaveUp (waker_in wake) → w' ≡ record w { tasks = slice_set w.tasks k task'; hands = hands }
     → first ≡ next_start w → e ≡ seen (Worker v) (Some serial) act first no_growth → WorksWith (hand_at w.hands v) w v e w'
 work_gives_up w v {first} {serial} {k} {e} {w'} {act} {in_hand} {in_hand'} {wake} {task} holds is same place within value wakes so left put acts after start event =
     let own : task_at w.tasks in_hand.turn.serial ≡ task = read_task w.tasks in_hand.turn.serial k task place within value in

@@ -15,12 +15,16 @@ use Rattle.blocking_pool.specs.declared.pool.token.WorkerPass.{WorkerPass}
 use Rattle.blocking_world.specs.Crews.{AddsTo, TakesTo, NoneParked, no_growth, pool_after_mark, after_wake, after_cancel}
 use Rattle.blocking_world.specs.Worlds.{Worlded, CallPool, next_of, outcome_of, in_hand_after_answer, in_hand_after_finish, in_hand_after_give_up, in_hand_after_wake, hand_at, with_hand, new_task, may_be, has_let_go, poll_of, task_after_poll, task_after_cancel, task_after_detach, task_after_drop, task_at, with_task}
 use Rattle.blocking_world.specs.declared.call.CallJob.{CallJob}
+use Rattle.blocking_laws.specs.Seats.{waker_in}
+use Rattle.blocking_laws.specs.Seen.{has_timed_out}
 use Rattle.blocking_laws.specs.Answers.{wait_act}
 use Rattle.blocking_laws.specs.declared.event.Act.{Act}
 use Rattle.blocking_laws.specs.declared.event.Act.TheVariants.{Accepted, Refused, JobWoken, JobCancelled, LimitSet, Swept, TaskCancelled, TaskDetached, HolderDropped, Arrived, Took as TookToRun, TookDropped, TookNone, Ended, Answered, Finished, GaveUp, HolderWoken, NoAction}
 use Rattle.blocking_laws.specs.declared.event.Event.{Event}
 use Rattle.blocking_laws.specs.declared.event.Party.{Party}
 use Rattle.blocking_laws.specs.declared.event.Party.TheVariants.{Task as ByTask, Worker, Pool}
+use Rattle.blocking_laws.specs.declared.event.WaitEnd.{WaitEnd}
+use Rattle.blocking_laws.specs.declared.event.WaitEnd.TheVariants.{Woken, TimedOut}
 use Rattle.blocking_world.specs.declared.hand.WorkerAction.{WorkerAction}
 use Rattle.blocking_world.specs.declared.hand.WorkerAction.TheVariants as worker_action
 use Rattle.blocking_world.specs.declared.hand.Hand.{Hand}
@@ -169,10 +173,10 @@ after_wait w v pass true =
     record w { pool = record w.pool { counts = stopped (if is_empty w.pool.queue then false else true) w.pool.counts }; hands = with_hand w.hands v Out }
 
 -- an idle worker has waited: nothing is parked, so that it sweeps nothing
-abbrev pub WaitsWith : Hand → Worlded → ℕ → Bool → Event → Worlded → Type 0
-WaitsWith (Free pass) w v late e w' =
-    Does (seen (Worker v) None (wait_act v late (must_stop late w.pool)) (next_start w) no_growth) (after_wait w v pass (must_stop late w.pool)) e w'
-WaitsWith _ w v late e w' = DoesNothing (Worker v) w e w'
+abbrev pub WaitsWith : Hand → Worlded → ℕ → WaitEnd → Event → Worlded → Type 0
+WaitsWith (Free pass) w v end e w' =
+    Does (seen (Worker v) None (wait_act v end (must_stop (has_timed_out end) w.pool)) (next_start w) no_growth) (after_wait w v pass (must_stop (has_timed_out end) w.pool)) e w'
+WaitsWith _ w v end e w' = DoesNothing (Worker v) w e w'
 
 -- ---- a job in hand
 
@@ -187,7 +191,7 @@ Works worker_action.End w v in_hand e w' = DoesNothing (Worker v) w e w'
 Works worker_action.Finish w v in_hand e w' =
     (let task = task_at w.tasks in_hand.turn.serial in
     let wake = is_some (put_in task.slot in_hand.job.number).wake in
-    Does (seen (Worker v) (Some in_hand.turn.serial) (Finished wake) (next_start w) no_growth)
+    Does (seen (Worker v) (Some in_hand.turn.serial) (Finished (waker_in wake)) (next_start w) no_growth)
     (record w {
       tasks = with_task w.tasks in_hand.turn.serial (record task { slot = after_put task.slot in_hand.job.number });
       hands = with_in_hand w v (in_hand_after_finish in_hand wake);
@@ -195,7 +199,7 @@ Works worker_action.Finish w v in_hand e w' =
 Works worker_action.GiveUp w v in_hand e w' =
     (let task = task_at w.tasks in_hand.turn.serial in
     let wake = is_some (waker_of_give_up task.slot) in
-    Does (seen (Worker v) (Some in_hand.turn.serial) (GaveUp wake) (next_start w) no_growth)
+    Does (seen (Worker v) (Some in_hand.turn.serial) (GaveUp (waker_in wake)) (next_start w) no_growth)
     (record w {
       tasks = with_task w.tasks in_hand.turn.serial (record task { slot = after_give_up task.slot });
       hands = with_in_hand w v (in_hand_after_give_up in_hand wake);
@@ -268,8 +272,8 @@ StepDoes may_answer (Take v) w e w' = TakesWith (hand_at w.hands v) may_answer w
 StepDoes may_answer (Job v) w e w' = WorksWith (hand_at w.hands v) w v e w'
 StepDoes may_answer (Io v answer) w e w' = AnswersWith (hand_at w.hands v) w v answer e w'
 StepDoes may_answer (End v) w e w' = EndsWith (hand_at w.hands v) w v e w'
-StepDoes may_answer (Wait v) w e w' = WaitsWith (hand_at w.hands v) w v false e w'
-StepDoes may_answer (Late v) w e w' = WaitsWith (hand_at w.hands v) w v true e w'
+StepDoes may_answer (Wait v) w e w' = WaitsWith (hand_at w.hands v) w v Woken e w'
+StepDoes may_answer (Late v) w e w' = WaitsWith (hand_at w.hands v) w v TimedOut e w'
 StepDoes may_answer (SetLimit n) w e w' = LimitsIf (n == 0) w n e w'
 StepDoes may_answer Sweep w e w' = Does (seen Pool None (Swept 0) (next_start w) no_growth) w e w'
 StepDoes may_answer (Stray s) w e w' = StraysIf (was_accepted w s) w s e w'

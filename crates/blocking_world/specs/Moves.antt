@@ -13,6 +13,8 @@ use Rattle.blocking_pool.specs.declared.pool.answer.Woke.{Woke}
 use Rattle.blocking_pool.specs.declared.pool.token.WorkerPass.{WorkerPass}
 use Rattle.blocking_world.specs.Crews.{AddsTo, TakesFront, no_growth, after_wake, after_cancel}
 use Rattle.blocking_world.specs.Worlds.{Worlded, CallPool, next_of, outcome_of, in_hand_after_answer, in_hand_after_finish, in_hand_after_give_up, in_hand_after_wake, hand_at, with_hand, is_free_hand, may_be, has_let_go, task_at, with_task}
+use Rattle.blocking_laws.specs.Seats.{waker_in}
+use Rattle.blocking_laws.specs.Seen.{has_timed_out}
 use Rattle.blocking_laws.specs.Answers.{wait_act}
 use Rattle.blocking_world.specs.Machine.{next_start, seen, nothing, added_act, tasks_after_add, task_act, task_after_call, pool_after_call, after_wait, with_in_hand, was_accepted}
 use Rattle.blocking_laws.specs.Steps.{named}
@@ -22,6 +24,8 @@ use Rattle.blocking_laws.specs.declared.event.Act.TheVariants.{JobWoken, JobCanc
 use Rattle.blocking_laws.specs.declared.event.Event.{Event}
 use Rattle.blocking_laws.specs.declared.event.Moment.{Moment}
 use Rattle.blocking_laws.specs.declared.event.Party.TheVariants.{Task as ByTask, Worker, Pool}
+use Rattle.blocking_laws.specs.declared.event.WaitEnd.{WaitEnd}
+use Rattle.blocking_laws.specs.declared.event.WaitEnd.TheVariants.{Woken, TimedOut}
 use Rattle.blocking_world.specs.declared.hand.WorkerAction.{WorkerAction}
 use Rattle.blocking_world.specs.declared.hand.WorkerAction.TheVariants as worker_action
 use Rattle.blocking_world.specs.declared.hand.Hand.{Hand}
@@ -58,8 +62,8 @@ pub data Move : Type 0 where
   CallsWaker : ℕ → JobInHand → Move
   -- the turn of worker v's job ends
   EndsTurn : ℕ → JobInHand → WorkerPass → Move
-  -- worker v has waited, until its time was up (true) or not
-  HasWaited : ℕ → WorkerPass → Bool → Move
+  -- worker v has waited, and its wait ended so
+  HasWaited : ℕ → WorkerPass → WaitEnd → Move
   -- the limit is set
   SetsLimit : ℕ → Move
   -- a sweep finds no parked job
@@ -71,10 +75,10 @@ pub data Move : Type 0 where
 
 -- ---- which step it is, what is seen of it, and what it leaves
 
--- a wait, by whether its time was up
-abbrev pub wait_step : Bool → ℕ → Step
-wait_step false v = Wait v
-wait_step true v = Late v
+-- a wait, by how it ended
+abbrev pub wait_step : WaitEnd → ℕ → Step
+wait_step Woken v = Wait v
+wait_step TimedOut v = Late v
 
 -- the step of a move
 abbrev pub step_of : Move → Step
@@ -89,7 +93,7 @@ step_of (Finishes v in_hand) = Job v
 step_of (GivesUp v in_hand) = Job v
 step_of (CallsWaker v in_hand) = Job v
 step_of (EndsTurn v in_hand pass) = End v
-step_of (HasWaited v pass late) = wait_step late v
+step_of (HasWaited v pass end) = wait_step end v
 step_of (SetsLimit n) = SetLimit n
 step_of Sweeps = Sweep
 step_of (IsWoken s) = Stray s
@@ -130,11 +134,11 @@ event_of w (Arrives pass) = seen (Worker (length w.hands + 1)) None (Arrived (le
 event_of w (TakesJob v old to_drop turn job growth pool) = seen (Worker v) (Some turn.serial) (took to_drop turn.serial) (next_start w) growth
 event_of w (TakesNone v old pass) = seen (Worker v) None TookNone (next_start w) no_growth
 event_of w (IsAnswered v in_hand number) = seen (Worker v) (Some in_hand.turn.serial) (Answered (Number number)) (next_start w) no_growth
-event_of w (Finishes v in_hand) = seen (Worker v) (Some in_hand.turn.serial) (Finished (finish_wakes w in_hand)) (next_start w) no_growth
-event_of w (GivesUp v in_hand) = seen (Worker v) (Some in_hand.turn.serial) (GaveUp (giving_up_wakes w in_hand)) (next_start w) no_growth
+event_of w (Finishes v in_hand) = seen (Worker v) (Some in_hand.turn.serial) (Finished (waker_in (finish_wakes w in_hand))) (next_start w) no_growth
+event_of w (GivesUp v in_hand) = seen (Worker v) (Some in_hand.turn.serial) (GaveUp (waker_in (giving_up_wakes w in_hand))) (next_start w) no_growth
 event_of w (CallsWaker v in_hand) = seen (Worker v) (Some in_hand.turn.serial) HolderWoken (next_start w) no_growth
 event_of w (EndsTurn v in_hand pass) = seen (Worker v) (Some in_hand.turn.serial) (Ended in_hand.turn.serial (outcome_of in_hand.stage)) (next_start w) no_growth
-event_of w (HasWaited v pass late) = seen (Worker v) None (wait_act v late (must_stop late w.pool)) (next_start w) no_growth
+event_of w (HasWaited v pass end) = seen (Worker v) None (wait_act v end (must_stop (has_timed_out end) w.pool)) (next_start w) no_growth
 event_of w (SetsLimit n) = seen Pool None (LimitSet n) (next_start w) no_growth
 event_of w Sweeps = seen Pool None (Swept 0) (next_start w) no_growth
 event_of w (IsWoken s) = seen Pool None (JobWoken s (wakes_as w s)) (next_start w) no_growth
@@ -166,7 +170,7 @@ after w (GivesUp v in_hand) =
     }
 after w (CallsWaker v in_hand) = record w { hands = with_in_hand w v (in_hand_after_wake in_hand) }
 after w (EndsTurn v in_hand pass) = record w { pool = without_job w.pool in_hand.turn.serial; hands = with_hand w.hands v (Free pass) }
-after w (HasWaited v pass late) = after_wait w v pass (must_stop late w.pool)
+after w (HasWaited v pass end) = after_wait w v pass (must_stop (has_timed_out end) w.pool)
 after w (SetsLimit n) = record w { pool = record w.pool { counts = limited n w.pool.counts } }
 after w Sweeps = w
 after w (IsWoken s) = record w { pool = after_wake (wakes_as w s) w.pool (task_at w.tasks s).number }
@@ -235,7 +239,7 @@ May may_answer w (Finishes v in_hand) = (hand_at w.hands v ≡ Holds in_hand) ×
 May may_answer w (GivesUp v in_hand) = (hand_at w.hands v ≡ Holds in_hand) × (next_of in_hand ≡ worker_action.GiveUp)
 May may_answer w (CallsWaker v in_hand) = (hand_at w.hands v ≡ Holds in_hand) × (next_of in_hand ≡ worker_action.Wake)
 May may_answer w (EndsTurn v in_hand pass) = (hand_at w.hands v ≡ Holds in_hand) × (next_of in_hand ≡ worker_action.End)
-May may_answer w (HasWaited v pass late) = hand_at w.hands v ≡ Free pass
+May may_answer w (HasWaited v pass end) = hand_at w.hands v ≡ Free pass
 May may_answer w (SetsLimit n) = 0 < n
 May may_answer w Sweeps = Unit {0}
 May may_answer w (IsWoken s) = WasAccepted w s

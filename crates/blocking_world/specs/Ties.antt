@@ -33,6 +33,7 @@ use Rattle.blocking_laws.specs.declared.event.Event.{Event}
 use Rattle.blocking_laws.specs.declared.event.Moment.{Moment}
 use Rattle.blocking_laws.specs.declared.event.Party.{Party}
 use Rattle.blocking_laws.specs.declared.event.Party.TheVariants.{Task as ByTask}
+use Rattle.blocking_laws.specs.declared.event.HolderWaker.TheVariants.{Taken, Absent}
 use Rattle.blocking_world.specs.declared.hand.Hand.{Hand}
 use Rattle.blocking_world.specs.declared.hand.Hand.TheVariants.{Out, Free, Holds}
 use Rattle.blocking_world.specs.declared.hand.JobInHand.{JobInHand}
@@ -135,15 +136,15 @@ turn_of stage.GaveUp = HasGivenUp
 abbrev pub RanAs : Action → ℕ → List Act → Type 0
 RanAs action.Call n acts = acts ≡ []
 RanAs action.Finish n acts = acts ≡ Answered (Number n) ∷ []
-RanAs action.Deliver n acts = acts ≡ Finished true ∷ Answered (Number n) ∷ []
-RanAs action.Done n acts = (acts ≡ Finished false ∷ Answered (Number n) ∷ []) ⊎ (acts ≡ HolderWoken ∷ Finished true ∷ Answered (Number n) ∷ [])
+RanAs action.Deliver n acts = acts ≡ Finished Taken ∷ Answered (Number n) ∷ []
+RanAs action.Done n acts = (acts ≡ Finished Absent ∷ Answered (Number n) ∷ []) ⊎ (acts ≡ HolderWoken ∷ Finished Taken ∷ Answered (Number n) ∷ [])
 
 -- what a job in a hand has done so far
 abbrev pub ActedAs : Stage → Action → ℕ → List Act → Type 0
 ActedAs stage.Runs next n acts = RanAs next n acts
 ActedAs stage.MustGiveUp next n acts = acts ≡ []
-ActedAs stage.MustWake next n acts = acts ≡ GaveUp true ∷ []
-ActedAs stage.GaveUp next n acts = (acts ≡ GaveUp false ∷ []) ⊎ (acts ≡ HolderWoken ∷ GaveUp true ∷ [])
+ActedAs stage.MustWake next n acts = acts ≡ GaveUp Taken ∷ []
+ActedAs stage.GaveUp next n acts = (acts ≡ GaveUp Absent ∷ []) ⊎ (acts ≡ HolderWoken ∷ GaveUp Taken ∷ [])
 
 -- A job in a hand, by what was seen of it. One that is to be dropped was let go.
 pub record InHandAs (in_hand : JobInHand) (turns : Turn) (acts : List Act) (let_go : Bool) : Type 0 where

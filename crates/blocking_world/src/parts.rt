@@ -8,7 +8,7 @@ use crate::hand::{Hand, JobInHand, Stage, WorkerAction};
 use crate::task::Task;
 use crate::workers::Workers;
 use blocking_core::pool::{Starter, Took, Waited};
-use blocking_laws::event::{Act, Event, Party};
+use blocking_laws::event::{Act, Event, HolderWaker, Party, WaitEnd};
 use blocking_laws::step::{Answer, Step, TaskCall};
 use std::alloc::{AllocError, Global};
 use std::marker::Model;
@@ -69,8 +69,8 @@ impl Parts {
             Step::Job(worker) => Ok(self.job(worker)),
             Step::Io(worker, answer) => Ok(self.io(worker, answer)),
             Step::End(worker) => Ok(self.end(worker)),
-            Step::Wait(worker) => Ok(self.wait(worker, false, starter)),
-            Step::Late(worker) => Ok(self.wait(worker, true, starter)),
+            Step::Wait(worker) => Ok(self.wait(worker, WaitEnd::Woken, starter)),
+            Step::Late(worker) => Ok(self.wait(worker, WaitEnd::TimedOut, starter)),
             Step::SetLimit(limit) => Ok(self.set_limit(limit)),
             Step::Sweep => Ok(self.sweep(starter)),
             Step::Stray(serial) => Ok(self.stray(serial, starter)),
@@ -178,12 +178,12 @@ impl Parts {
             WorkerAction::Finish => {
                 let wake = self.tasks[task_number].finish(in_hand.number());
                 in_hand.finish(wake);
-                Act::Finished(wake)
+                Act::Finished(HolderWaker::in_seat(wake))
             }
             WorkerAction::GiveUp => {
                 let wake = self.tasks[task_number].give_up();
                 in_hand.give_up(wake);
-                Act::GaveUp(wake)
+                Act::GaveUp(HolderWaker::in_seat(wake))
             }
             WorkerAction::Wake => {
                 in_hand.wake();
@@ -235,22 +235,22 @@ impl Parts {
         seen(party, Some(serial), act, first, NO_GROWTH)
     }
 
-    /// An idle worker has waited.
-    pub(crate) fn wait<S: Starter>(&mut self, worker: usize, late: bool, starter: &mut S) -> Event
+    /// An idle worker has waited, and its wait ended so.
+    pub(crate) fn wait<S: Starter>(&mut self, worker: usize, end: WaitEnd, starter: &mut S) -> Event
         requires { IsReady self.old }
-        ensures { WaitsWith (hand_at self.old.hands worker) self.old worker late result self.new }
+        ensures { WaitsWith (hand_at self.old.hands worker) self.old worker end result self.new }
     {
         let first = self.crew.next_start();
         let party = Party::Worker(worker);
         let Some(pass) = self.workers.pass(worker) else {
             return nothing(party, first);
         };
-        let act = match self.crew.after_wait(pass, late, starter) {
+        let act = match self.crew.after_wait(pass, end.has_timed_out(), starter) {
             Waited::Stay(pass) => {
                 self.workers.put(worker, Hand::Free(pass));
-                Act::Stays(worker, late)
+                Act::Stays(worker, end)
             }
-            Waited::Stop => Act::Stopped(worker, late),
+            Waited::Stop => Act::Stopped(worker, end),
         };
         seen(party, None, act, first, NO_GROWTH)
     }

@@ -13,6 +13,8 @@ ghost use Rattle.blocking_laws.specs.Traces.{◌▸◌, moment, starting, Refuse
 ghost use Rattle.blocking_laws.specs.declared.event.Moment.{Moment};
 ghost use Rattle.blocking_laws.specs.declared.event.Act.TheVariants.{Accepted, TaskGot, Arrived, Took, Stopped, Ended, Answered, Finished, NoAction};
 ghost use Rattle.blocking_laws.specs.declared.event.Party.TheVariants.{Task, Worker, Pool};
+ghost use Rattle.blocking_laws.specs.declared.event.HolderWaker.TheVariants.{Absent};
+ghost use Rattle.blocking_laws.specs.declared.event.WaitEnd.TheVariants.{TimedOut};
 ghost use Rattle.blocking_laws.specs.declared.step.Answer.TheVariants.{Number};
 ghost use Rattle.blocking_laws.specs.declared.step.Step.TheVariants.{Spawn, OfTask, Arrive, Take, Job, Io, End, Late};
 ghost use Rattle.blocking_laws.specs.declared.step.TaskCall.TheVariants.{Poll};
@@ -89,10 +91,10 @@ pub fn calls()
         ▸ moment Arrive (Worker 1) None (Arrived 1) 2
         ▸ moment (Take 1) (Worker 1) (Some 1) (Took 1) 2
         ▸ moment (Io 1 (Number 5)) (Worker 1) (Some 1) (Answered (Number 5)) 2
-        ▸ moment (Job 1) (Worker 1) (Some 1) (Finished false) 2
+        ▸ moment (Job 1) (Worker 1) (Some 1) (Finished Absent) 2
         ▸ moment (End 1) (Worker 1) (Some 1) (Ended 1 Done) 2
         ▸ moment (OfTask 0 Poll) (Task 0) None (TaskGot 5) 2
-        ▸ moment (Late 1) (Worker 1) None (Stopped 1 true) 2) }
+        ▸ moment (Late 1) (Worker 1) None (Stopped 1 TimedOut) 2) }
     // refused worker -1 / accepted 1 +2 / arrived 1 / took 1 / answered 5 / finished / ended 1 done / got 5 / nothing /
     // stopped 1
     ensures accepts_call_after_refused_start { Legal 500 (true ∷ []) (start_refused
@@ -100,9 +102,9 @@ pub fn calls()
         ▸ moment Arrive (Worker 1) None (Arrived 1) 3
         ▸ moment (Take 1) (Worker 1) (Some 1) (Took 1) 3
         ▸ moment (Io 1 (Number 5)) (Worker 1) (Some 1) (Answered (Number 5)) 3
-        ▸ moment (Job 1) (Worker 1) (Some 1) (Finished false) 3
+        ▸ moment (Job 1) (Worker 1) (Some 1) (Finished Absent) 3
         ▸ moment (End 1) (Worker 1) (Some 1) (Ended 1 Done) 3
         ▸ moment (OfTask 0 Poll) (Task 0) None (TaskGot 5) 3
         ▸ moment (Take 2) (Worker 2) None NoAction 3
-        ▸ moment (Late 1) (Worker 1) None (Stopped 1 true) 3) }
+        ▸ moment (Late 1) (Worker 1) None (Stopped 1 TimedOut) 3) }
 {}

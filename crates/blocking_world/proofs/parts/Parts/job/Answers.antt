@@ -1,6 +1,7 @@
-use Rattle.std.proofs.Common.{sym, subst, arith}
+use Rattle.std.proofs.Common.{sym, subst, arith, ap, ◌∙◌}
 use Rattle.blocking_world.specs.Machine.{IsReady, WorksWith}
 use Rattle.blocking_world.specs.Worlds.{hand_at}
+use Rattle.blocking_laws.specs.declared.event.Act.TheVariants.{Finished, GaveUp}
 use Rattle.blocking_world.specs.contracts.parts.Parts.{the_view}
 use Rattle.blocking_world.proofs.Passing.{lent_hand}
 use Rattle.blocking_world.proofs.Working.{in_hand_there, task_within, work_none, work_rests, work_finishes, work_gives_up, work_wakes}
@@ -47,9 +48,9 @@ returns c =
     let event = c.seen.ensures in
     let done : WorksWith (hand_at w.hands v) w v c.seen.result c.match-next.self = elim c.match-next.branch [
       | in-Finish b ↦ work_finishes w v holds b.in-Finish.ensures same b.number.ensures place within b.index_mut.ensures.value b.finish-wake.ensures.wake b.finish-wake.ensures.after b.finish.ensures
-          (lent_hand c.in-Some.is (c.job_mut.follows.holds b.finish.new.self)) b.act-is b.self-is start event
+          (lent_hand c.in-Some.is (c.job_mut.follows.holds b.finish.new.self)) (b.act-is ∙ ap Finished b.in_seat.ensures) b.self-is start event
       | in-GiveUp b ↦ work_gives_up w v holds b.in-GiveUp.ensures same place within b.index_mut-in-GiveUp.ensures.value b.give_up-wake.ensures.wake b.give_up-wake.ensures.after b.give_up.ensures
-          (lent_hand c.in-Some.is (c.job_mut.follows.holds b.give_up.new.self)) b.act-is b.self-is start event
+          (lent_hand c.in-Some.is (c.job_mut.follows.holds b.give_up.new.self)) (b.act-is ∙ ap GaveUp b.in_seat-in-GiveUp.ensures) b.self-is start event
       | in-Wake b ↦ work_wakes w v holds b.in-Wake.ensures same b.wake.ensures (lent_hand c.in-Some.is (c.job_mut.follows.holds b.wake.new.self)) b.act-is b.self-is start event
     ] in
     rw (sym c.self.view_is) done
