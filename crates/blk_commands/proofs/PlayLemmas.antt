@@ -13,9 +13,9 @@ use Rattle.blocking_laws.specs.declared.event.Event.{Event}
 use Rattle.blocking_laws.specs.declared.event.Moment.{Moment}
 use Rattle.blocking_laws.specs.declared.step.Step.{Step}
 use Rattle.blocking_laws.specs.declared.step.Step.TheVariants.{Job}
-use Rattle.blk_commands.specs.Plays.{IsLegal, PlaysLine, PlaysLines, Repeats, ShowsScript, Takes, after, ending_of, new_history, shown_text}
-use Rattle.blk_commands.specs.declared.line.Line.{Line}
-use Rattle.blk_commands.specs.declared.line.Line.TheVariants.{One, JobAll}
+use Rattle.blk_commands.specs.Plays.{IsLegal, PlaysInstruction, PlaysInstructions, Repeats, ShowsScript, Takes, after, ending_of, new_history, shown_text}
+use Rattle.blk_commands.specs.declared.line.Instruction.{Instruction}
+use Rattle.blk_commands.specs.declared.line.Instruction.TheVariants.{One, JobAll}
 use Rattle.blk_commands.specs.declared.steps.Ending.{Ending}
 
 -- what comes after two rows of moments, one after the other
@@ -29,18 +29,18 @@ follows early late a b c first second =
     let at_past : List Moment → History = λ past. record a { past = past } in
     second ∙ (ap behind first ∙ ap at_past (sym (after-append early late a.past)))
 
--- one more line
-pub plays_more : (lines : List Line) (line : Line) (past early late : List Moment) → PlaysLines lines past early
-    → PlaysLine line (after early past) late → PlaysLines (lines ++ line ∷ []) past (early ++ late)
-plays_more [] line past early late none plays =
-    (late, [], ap (λ ms. ms ++ late) none ∙ sym (append-nil late), subst (λ ms. PlaysLine line (after ms past) late) none plays, refl)
-plays_more (first ∷ lines) line past early late played plays =
+-- one more instruction
+pub plays_more : (instructions : List Instruction) (instruction : Instruction) (past early late : List Moment) → PlaysInstructions instructions past early
+    → PlaysInstruction instruction (after early past) late → PlaysInstructions (instructions ++ instruction ∷ []) past (early ++ late)
+plays_more [] instruction past early late none plays =
+    (late, [], ap (λ ms. ms ++ late) none ∙ sym (append-nil late), subst (λ ms. PlaysInstruction instruction (after ms past) late) none plays, refl)
+plays_more (first ∷ instructions) instruction past early late played plays =
     let same : after early past ≡ after played.1 (after played.0 past) = ap (λ ms. after ms past) played.2 ∙ after-append played.0 played.1 past in (
       played.0,
       played.1 ++ late,
       ap (λ ms. ms ++ late) played.2 ∙ append_assoc played.0 played.1 late,
       played.3,
-      plays_more lines line (after played.0 past) played.1 late played.4 (subst (λ p. PlaysLine line p late) same plays),
+      plays_more instructions instruction (after played.0 past) played.1 late played.4 (subst (λ p. PlaysInstruction instruction p late) same plays),
     )
 
 -- one more action
@@ -85,8 +85,8 @@ joined_events early late e0 e1 e2 first second =
 
 -- one step was taken, and what was seen is added
 pub takes_step : (step : Step) (old new : History) (before seen now : List Event) (r : Result (Unit {0}) AllocError)
-    → Adds (step ∷ []) seen old new → Legal new.setting new.starts new.past → now ≡ (if is_ok r then before ++ seen else before)
-    → OnOk r (Takes (PlaysLine (One step)) old new before now)
+    → Adds (step ∷ []) seen old new → Legal new.setting new.plan new.past → now ≡ (if is_ok r then before ++ seen else before)
+    → OnOk r (Takes (PlaysInstruction (One step)) old new before now)
 takes_step step old new before seen now (Ok u) adds legal grown = record {
   moments = adds.moments;
   plays = one_moment step adds.moments adds.steps_are;
@@ -97,7 +97,7 @@ takes_step step old new before seen now (Ok u) adds legal grown = record {
 takes_step step old new before seen now (Err e) adds legal grown = tt
 
 -- the first action of a job
-pub takes_first : (worker : ℕ) (old new : History) (before now : List Event) → Takes (PlaysLine (One (Job worker))) old new before now
+pub takes_first : (worker : ℕ) (old new : History) (before now : List Event) → Takes (PlaysInstruction (One (Job worker))) old new before now
     → Takes (Repeats (Job worker)) old new before now
 takes_first worker old new before now took = record {
   moments = took.moments;
@@ -109,7 +109,7 @@ takes_first worker old new before now took = record {
 
 -- one more
 pub takes_next : (worker : ℕ) (a b c : History) (e0 e1 e2 : List Event) → Takes (Repeats (Job worker)) a b e0 e1
-    → has_action b.past (Job worker) ≡ true → Takes (PlaysLine (One (Job worker))) b c e1 e2 → Takes (Repeats (Job worker)) a c e0 e2
+    → has_action b.past (Job worker) ≡ true → Takes (PlaysInstruction (One (Job worker))) b c e1 e2 → Takes (Repeats (Job worker)) a c e0 e2
 takes_next worker a b c e0 e1 e2 early action late = record {
   moments = early.moments ++ late.moments;
   plays = subst (λ ms. Repeats (Job worker) a.past (early.moments ++ ms)) (sym late.plays.2)
@@ -121,7 +121,7 @@ takes_next worker a b c e0 e1 e2 early action late = record {
 }
 
 -- each action is an event more
-pub one_event_more : (step : Step) (old new : History) (before now : List Event) → Takes (PlaysLine (One step)) old new before now
+pub one_event_more : (step : Step) (old new : History) (before now : List Event) → Takes (PlaysInstruction (One step)) old new before now
     → length now ≡ length before + 1
 one_event_more step old new before now took =
     ap length took.events_are ∙ (length-append before (map (λ moment. moment.event) took.moments)
@@ -129,7 +129,7 @@ one_event_more step old new before now took =
 
 -- none is left
 pub takes_ended : (worker : ℕ) (old new : History) (before now : List Event) → Takes (Repeats (Job worker)) old new before now
-    → has_action new.past (Job worker) ≡ false → Takes (PlaysLine (JobAll worker)) old new before now
+    → has_action new.past (Job worker) ≡ false → Takes (PlaysInstruction (JobAll worker)) old new before now
 takes_ended worker old new before now took ended = record {
   moments = took.moments;
   plays = (took.plays, subst (λ past. has_action past (Job worker) ≡ false) (ap (λ h. h.past) took.follow) ended);
@@ -138,19 +138,19 @@ takes_ended worker old new before now took ended = record {
   legal = took.legal;
 }
 
--- ---- lines
+-- ---- instructions
 
--- no line
-pub takes_none : (history : History) → Takes (PlaysLines []) history history [] []
+-- no instruction
+pub takes_none : (history : History) → Takes (PlaysInstructions []) history history [] []
 takes_none history = record { moments = []; plays = refl; follow = refl; events_are = refl; legal = λ l. l }
 
--- one more line
-pub takes_line : (lines : List Line) (line : Line) (a b c : History) (e1 e2 : List Event) → Takes (PlaysLines lines) a b [] e1
-    → Takes (PlaysLine line) b c e1 e2 → Takes (PlaysLines (lines ++ line ∷ [])) a c [] e2
-takes_line lines line a b c e1 e2 early late = record {
+-- one more instruction
+pub takes_instruction : (instructions : List Instruction) (instruction : Instruction) (a b c : History) (e1 e2 : List Event) → Takes (PlaysInstructions instructions) a b [] e1
+    → Takes (PlaysInstruction instruction) b c e1 e2 → Takes (PlaysInstructions (instructions ++ instruction ∷ [])) a c [] e2
+takes_instruction instructions instruction a b c e1 e2 early late = record {
   moments = early.moments ++ late.moments;
-  plays = plays_more lines line a.past early.moments late.moments early.plays
-      (subst (λ past. PlaysLine line past late.moments) (ap (λ h. h.past) early.follow) late.plays);
+  plays = plays_more instructions instruction a.past early.moments late.moments early.plays
+      (subst (λ past. PlaysInstruction instruction past late.moments) (ap (λ h. h.past) early.follow) late.plays);
   follow = follows early.moments late.moments a b c early.follow late.follow;
   events_are = joined_events early.moments late.moments [] e1 e2 early.events_are late.events_are;
   legal = λ l. late.legal (early.legal l);
@@ -158,18 +158,18 @@ takes_line lines line a b c e1 e2 early late = record {
 
 -- ---- scripts
 
--- what the lines made happen in a new world is what the script shows
-pub shows_script : (setting : Option (List ℕ)) (starts : List Bool) (lines told : List Line) (a b : History) (events listed : List Event)
-    (ending : Ending) (r : Result (String Global) AllocError) → told ≡ lines → a ≡ new_history setting starts → IsLegal a
-    → Takes (PlaysLines told) a b [] events → ending ≡ ending_of b → listed ≡ events
-    → IfOk r (λ text. string_bytes text ≡ shown_text listed ending) → IfOk r (λ text. ShowsScript setting starts lines (string_bytes text))
-shows_script setting starts lines told a b events listed ending (Ok text) same_lines new begins took stands same_events shown = record {
+-- what the instructions made happen in a new world is what the script shows
+pub shows_script : (setting : Option (List ℕ)) (plan : List Bool) (instructions told : List Instruction) (a b : History) (events listed : List Event)
+    (ending : Ending) (r : Result (String Global) AllocError) → told ≡ instructions → a ≡ new_history setting plan → IsLegal a
+    → Takes (PlaysInstructions told) a b [] events → ending ≡ ending_of b → listed ≡ events
+    → IfOk r (λ text. string_bytes text ≡ shown_text listed ending) → IfOk r (λ text. ShowsScript setting plan instructions (string_bytes text))
+shows_script setting plan instructions told a b events listed ending (Ok text) same_lines new begins took stands same_events shown = record {
   moments = took.moments;
   end = b;
-  plays = subst (λ ls. PlaysLines ls [] took.moments) same_lines (subst (λ h. PlaysLines told h.past took.moments) new took.plays);
+  plays = subst (λ ls. PlaysInstructions ls [] took.moments) same_lines (subst (λ h. PlaysInstructions told h.past took.moments) new took.plays);
   follow = subst (λ h. Follow took.moments h b) new took.follow;
   legal = took.legal begins;
   shown = shown ∙ (ap (λ es. shown_text es ending) (same_events ∙ took.events_are)
       ∙ ap (λ en. shown_text (map (λ moment. moment.event) took.moments) en) stands);
 }
-shows_script setting starts lines told a b events listed ending (Err e) same_lines new begins took stands same_events shown = tt
+shows_script setting plan instructions told a b events listed ending (Err e) same_lines new begins took stands same_events shown = tt

@@ -9,10 +9,10 @@ use Rattle.std.specs.List.{after_first, cons_option, filter_map, flat_map}
 use Rattle.std.specs.Option.{option_map}
 use Rattle.std.specs.String.{string_bytes}
 use Rattle.blk_commands.specs.Lines.{is_minus, is_space, saying_of}
-use Rattle.blk_commands.specs.Scripts.{AddsLine, AllMayStand, IsScriptOf, Reads, deed_said, deeds_in, marks_in, marks_said, may_follow, may_say, setting_in, setting_said}
-use Rattle.blk_commands.specs.declared.line.Line.{Line}
+use Rattle.blk_commands.specs.Scripts.{AddsLine, AllMayStand, IsScriptOf, Reads, instruction_said, instructions_in, plan_in, plan_said, may_follow, may_say, setting_in, setting_said}
+use Rattle.blk_commands.specs.declared.line.Instruction.{Instruction}
 use Rattle.blk_commands.specs.declared.line.Saying.{Saying}
-use Rattle.blk_commands.specs.declared.line.Saying.TheVariants.{Nothing, Setting, Starts, Does}
+use Rattle.blk_commands.specs.declared.line.Saying.TheVariants.{Nothing, Setting, Plan, Does}
 use Rattle.blk_commands.specs.declared.script.Script.{Script}
 use Rattle.blk_commands.specs.declared.script.ScriptFault.{ScriptFault}
 use Rattle.blk_commands.specs.declared.script.ScriptFault.TheVariants.{NotAStep, Memory}
@@ -54,75 +54,75 @@ setting_kept : (before : List (List ℕ)) (line : List ℕ) (s : Option Saying) 
 setting_kept before line s e none =
     ap (λ xs. slice_get xs 0) (unfiltered (λ l. setting_said (saying_of l) l) before line (ap (λ t. setting_said t line) e ∙ none))
 
-marks_kept : (before : List (List ℕ)) (line : List ℕ) (s : Option Saying) → saying_of line ≡ s → marks_said s line ≡ []
-    → marks_in (before ++ line ∷ []) ≡ marks_in before
-marks_kept before line s e none =
-    flattened (λ l. marks_said (saying_of l) l) before line [] (ap (λ t. marks_said t line) e ∙ none) ∙ append-nil (marks_in before)
+plan_kept : (before : List (List ℕ)) (line : List ℕ) (s : Option Saying) → saying_of line ≡ s → plan_said s line ≡ []
+    → plan_in (before ++ line ∷ []) ≡ plan_in before
+plan_kept before line s e none =
+    flattened (λ l. plan_said (saying_of l) l) before line [] (ap (λ t. plan_said t line) e ∙ none) ∙ append-nil (plan_in before)
 
-deeds_kept : (before : List (List ℕ)) (line : List ℕ) (s : Option Saying) → saying_of line ≡ s → deed_said s ≡ None
-    → deeds_in (before ++ line ∷ []) ≡ deeds_in before
-deeds_kept before line s e none =
-    unfiltered (λ l. deed_said (saying_of l)) before line (ap deed_said e ∙ none)
+instructions_kept : (before : List (List ℕ)) (line : List ℕ) (s : Option Saying) → saying_of line ≡ s → instruction_said s ≡ None
+    → instructions_in (before ++ line ∷ []) ≡ instructions_in before
+instructions_kept before line s e none =
+    unfiltered (λ l. instruction_said (saying_of l)) before line (ap instruction_said e ∙ none)
 
 -- ---- one more line
 
 pub adds_nothing : (before : List (List ℕ)) (line : List ℕ) (script : Script) → saying_of line ≡ Some Nothing
     → IsScriptOf before script → (may_follow before line ≡ true) × IsScriptOf (before ++ line ∷ []) script
 adds_nothing before line script e is = (
-  ap (λ s. may_say s (length (deeds_in before) == 0) (is_none (setting_in before)) (length (marks_in before) == 0)) e,
+  ap (λ s. may_say s (length (instructions_in before) == 0) (is_none (setting_in before)) (length (plan_in before) == 0)) e,
   record {
     setting = is.setting ∙ sym (setting_kept before line _ e refl);
-    starts = is.starts ∙ sym (marks_kept before line _ e refl);
-    lines = is.lines ∙ sym (deeds_kept before line _ e refl);
+    plan = is.plan ∙ sym (plan_kept before line _ e refl);
+    instructions = is.instructions ∙ sym (instructions_kept before line _ e refl);
   },
 )
 
 pub adds_setting : (before : List (List ℕ)) (line : List ℕ) (old new : Script) → saying_of line ≡ Some Setting
-    → (old.lines.len == 0) ≡ true → is_none old.setting ≡ true
+    → (old.instructions.len == 0) ≡ true → is_none old.setting ≡ true
     → option_map string_bytes new.setting ≡ Some (after_first is_space line)
-    → new.starts.items ≡ old.starts.items → new.lines.items ≡ old.lines.items
+    → new.plan.items ≡ old.plan.items → new.instructions.items ≡ old.instructions.items
     → IsScriptOf before old → (may_follow before line ≡ true) × IsScriptOf (before ++ line ∷ []) new
-adds_setting before line old new e first unset said starts lines is =
+adds_setting before line old new e first unset said plan instructions is =
     let none : setting_in before ≡ None = sym is.setting ∙ none_from_none string_bytes old.setting unset in
-    let at_head : (length (deeds_in before) == 0) ≡ true = ap (λ n. n == 0) (sym (ap length is.lines) ∙ sym old.lines.ok.0) ∙ first in (
-      ap (λ s. may_say s (length (deeds_in before) == 0) (is_none (setting_in before)) (length (marks_in before) == 0)) e
+    let at_head : (length (instructions_in before) == 0) ≡ true = ap (λ n. n == 0) (sym (ap length is.instructions) ∙ sym old.instructions.ok.0) ∙ first in (
+      ap (λ s. may_say s (length (instructions_in before) == 0) (is_none (setting_in before)) (length (plan_in before) == 0)) e
           ∙ (ap (λ b. b && is_none (setting_in before)) at_head ∙ ap is_none none),
       record {
         setting = said ∙ sym (ap (λ xs. slice_get xs 0) (filtered (λ l. setting_said (saying_of l) l) before line (Some (after_first is_space line)) (ap (λ t. setting_said t line) e))
             ∙ ap (λ xs. slice_get (xs ++ after_first is_space line ∷ []) 0) (empty_from_none (filter_map (λ l. setting_said (saying_of l) l) before) none));
-        starts = starts ∙ (is.starts ∙ sym (marks_kept before line _ e refl));
-        lines = lines ∙ (is.lines ∙ sym (deeds_kept before line _ e refl));
+        plan = plan ∙ (is.plan ∙ sym (plan_kept before line _ e refl));
+        instructions = instructions ∙ (is.instructions ∙ sym (instructions_kept before line _ e refl));
       },
     )
 
-pub adds_marks : (before : List (List ℕ)) (line : List ℕ) (old new : Script) → saying_of line ≡ Some Starts
-    → (old.lines.len == 0) ≡ true → (old.starts.len == 0) ≡ true
-    → new.starts.items ≡ map is_minus (after_first is_space line)
-    → new.setting ≡ old.setting → new.lines.items ≡ old.lines.items
+pub adds_plan : (before : List (List ℕ)) (line : List ℕ) (old new : Script) → saying_of line ≡ Some Plan
+    → (old.instructions.len == 0) ≡ true → (old.plan.len == 0) ≡ true
+    → new.plan.items ≡ map is_minus (after_first is_space line)
+    → new.setting ≡ old.setting → new.instructions.items ≡ old.instructions.items
     → IsScriptOf before old → (may_follow before line ≡ true) × IsScriptOf (before ++ line ∷ []) new
-adds_marks before line old new e first unmarked said setting lines is =
-    let none : (length (marks_in before) == 0) ≡ true = ap (λ n. n == 0) (sym (ap length is.starts) ∙ sym old.starts.ok.0) ∙ unmarked in
-    let at_head : (length (deeds_in before) == 0) ≡ true = ap (λ n. n == 0) (sym (ap length is.lines) ∙ sym old.lines.ok.0) ∙ first in (
-      ap (λ s. may_say s (length (deeds_in before) == 0) (is_none (setting_in before)) (length (marks_in before) == 0)) e
-          ∙ (ap (λ b. b && (length (marks_in before) == 0)) at_head ∙ none),
+adds_plan before line old new e first unplanned said setting instructions is =
+    let none : (length (plan_in before) == 0) ≡ true = ap (λ n. n == 0) (sym (ap length is.plan) ∙ sym old.plan.ok.0) ∙ unplanned in
+    let at_head : (length (instructions_in before) == 0) ≡ true = ap (λ n. n == 0) (sym (ap length is.instructions) ∙ sym old.instructions.ok.0) ∙ first in (
+      ap (λ s. may_say s (length (instructions_in before) == 0) (is_none (setting_in before)) (length (plan_in before) == 0)) e
+          ∙ (ap (λ b. b && (length (plan_in before) == 0)) at_head ∙ none),
       record {
         setting = ap (option_map string_bytes) setting ∙ (is.setting ∙ sym (setting_kept before line _ e refl));
-        starts = said ∙ sym (flattened (λ l. marks_said (saying_of l) l) before line (map is_minus (after_first is_space line)) (ap (λ t. marks_said t line) e)
-            ∙ ap (λ xs. xs ++ map is_minus (after_first is_space line)) (empty_from_length (marks_in before) none));
-        lines = lines ∙ (is.lines ∙ sym (deeds_kept before line _ e refl));
+        plan = said ∙ sym (flattened (λ l. plan_said (saying_of l) l) before line (map is_minus (after_first is_space line)) (ap (λ t. plan_said t line) e)
+            ∙ ap (λ xs. xs ++ map is_minus (after_first is_space line)) (empty_from_length (plan_in before) none));
+        instructions = instructions ∙ (is.instructions ∙ sym (instructions_kept before line _ e refl));
       },
     )
 
-pub adds_deed : (before : List (List ℕ)) (line : List ℕ) (old new : Script) (deed : Line) → saying_of line ≡ Some (Does deed)
-    → new.setting ≡ old.setting → new.starts.items ≡ old.starts.items → new.lines.items ≡ old.lines.items ++ deed ∷ []
+pub adds_instruction : (before : List (List ℕ)) (line : List ℕ) (old new : Script) (instruction : Instruction) → saying_of line ≡ Some (Does instruction)
+    → new.setting ≡ old.setting → new.plan.items ≡ old.plan.items → new.instructions.items ≡ old.instructions.items ++ instruction ∷ []
     → IsScriptOf before old → (may_follow before line ≡ true) × IsScriptOf (before ++ line ∷ []) new
-adds_deed before line old new deed e setting starts lines is = (
-  ap (λ s. may_say s (length (deeds_in before) == 0) (is_none (setting_in before)) (length (marks_in before) == 0)) e,
+adds_instruction before line old new instruction e setting plan instructions is = (
+  ap (λ s. may_say s (length (instructions_in before) == 0) (is_none (setting_in before)) (length (plan_in before) == 0)) e,
   record {
     setting = ap (option_map string_bytes) setting ∙ (is.setting ∙ sym (setting_kept before line _ e refl));
-    starts = starts ∙ (is.starts ∙ sym (marks_kept before line _ e refl));
-    lines = lines ∙ (ap (λ xs. xs ++ deed ∷ []) is.lines
-        ∙ sym (filtered (λ l. deed_said (saying_of l)) before line (Some deed) (ap deed_said e)));
+    plan = plan ∙ (is.plan ∙ sym (plan_kept before line _ e refl));
+    instructions = instructions ∙ (ap (λ xs. xs ++ instruction ∷ []) is.instructions
+        ∙ sym (filtered (λ l. instruction_said (saying_of l)) before line (Some instruction) (ap instruction_said e)));
   },
 )
 

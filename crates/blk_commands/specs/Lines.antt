@@ -8,10 +8,10 @@ use Rattle.blocking_laws.specs.declared.step.Step.TheVariants.{Spawn, OfTask, Ar
 use Rattle.blocking_laws.specs.declared.step.TaskCall.{TaskCall}
 use Rattle.blocking_laws.specs.declared.step.TaskCall.TheVariants.{Poll, Cancel, Detach, Drop}
 use Rattle.blk_commands.specs.Numbers.{number_of}
-use Rattle.blk_commands.specs.declared.line.Line.{Line}
-use Rattle.blk_commands.specs.declared.line.Line.TheVariants.{One, JobAll}
+use Rattle.blk_commands.specs.declared.line.Instruction.{Instruction}
+use Rattle.blk_commands.specs.declared.line.Instruction.TheVariants.{One, JobAll}
 use Rattle.blk_commands.specs.declared.line.Saying.{Saying}
-use Rattle.blk_commands.specs.declared.line.Saying.TheVariants.{Nothing, Setting, Starts, Does}
+use Rattle.blk_commands.specs.declared.line.Saying.TheVariants.{Nothing, Setting, Plan, Does}
 
 -- ---- the words of a line
 
@@ -56,9 +56,9 @@ call_named name =
 abbrev pub task_step : List ℕ → List ℕ → Option Step
 task_step word call = option_and_then (λ task. option_map (OfTask task) (call_named call)) (number_of 64 word)
 
--- what three words ask for: all the actions of a worker's job, or a call of a task
-abbrev pub longer_line : List ℕ → List ℕ → List ℕ → Option Line
-longer_line name word what =
+-- the instruction that three words are: all the actions of a worker's job, or a call of a task
+abbrev pub longer_instruction : List ℕ → List ℕ → List ℕ → Option Instruction
+longer_instruction name word what =
     if bytes_eq name (codes "job") && bytes_eq what (codes "*") then option_map JobAll (number_of 64 word)
     else (if bytes_eq name (codes "task") then option_map One (task_step word what)
     else None)
@@ -70,13 +70,13 @@ answer_step name worker kind word =
     then option_and_then (λ w. option_map (λ n. Io w (Number n)) (number_of 64 word)) (number_of 64 worker)
     else None
 
--- what the words of a line ask for
-abbrev pub line_of : List (List ℕ) → Option Line
-line_of (name ∷ []) = option_map One (plain_step name)
-line_of (name ∷ word ∷ []) = option_map One (numbered_step name word)
-line_of (name ∷ word ∷ what ∷ []) = longer_line name word what
-line_of (name ∷ worker ∷ kind ∷ word ∷ []) = option_map One (answer_step name worker kind word)
-line_of _ = None
+-- the instruction that words are
+abbrev pub instruction_of : List (List ℕ) → Option Instruction
+instruction_of (name ∷ []) = option_map One (plain_step name)
+instruction_of (name ∷ word ∷ []) = option_map One (numbered_step name word)
+instruction_of (name ∷ word ∷ what ∷ []) = longer_instruction name word what
+instruction_of (name ∷ worker ∷ kind ∷ word ∷ []) = option_map One (answer_step name worker kind word)
+instruction_of _ = None
 
 -- ---- lines
 
@@ -84,16 +84,16 @@ line_of _ = None
 abbrev pub is_silent : List ℕ → Bool
 is_silent line = length line == 0 || slice_index line 0 == 35
 
--- the mark of a start that is refused, and the marks of all starts
+-- the sign of a start that is refused, and the signs of all starts
 abbrev pub is_minus : ℕ → Bool
 is_minus byte = byte == 45
 
-abbrev pub is_mark : ℕ → Bool
-is_mark byte = byte == 43 || is_minus byte
+abbrev pub is_sign : ℕ → Bool
+is_sign byte = byte == 43 || is_minus byte
 
--- whether a text is marks alone, and at least one
-abbrev pub is_marks : List ℕ → Bool
-is_marks text = not (length text == 0) && list_all is_mark text
+-- whether a text is a plan: signs alone, and at least one
+abbrev pub is_plan : List ℕ → Bool
+is_plan text = not (length text == 0) && list_all is_sign text
 
 -- whether a space ends the first word of a line, and that word is this one
 abbrev pub begins_with_word : List ℕ → List ℕ → Bool
@@ -104,5 +104,5 @@ abbrev pub saying_of : List ℕ → Option Saying
 saying_of line =
     if is_silent line then Some Nothing
     else (if begins_with_word (codes "setting") line then Some Setting
-    else (if begins_with_word (codes "starts") line then (if is_marks (after_first is_space line) then Some Starts else None)
-    else option_map Does (line_of (words_of line))))
+    else (if begins_with_word (codes "starts") line then (if is_plan (after_first is_space line) then Some Plan else None)
+    else option_map Does (instruction_of (words_of line))))

@@ -5,7 +5,7 @@ use Rattle.std.specs.Io.KnownBytes.{Appends, Consumes, IsAtEnd}
 use Rattle.std.specs.Str.{IsUtf8}
 use Rattle.blk_commands.specs.Faults.{command_fault_text, fault_status}
 use Rattle.blk_commands.specs.Plays.{ShowsScript, line_of}
-use Rattle.blk_commands.specs.Scripts.{AllMayStand, IsFirstBadLine, deeds_in, lines_of, marks_in, setting_in}
+use Rattle.blk_commands.specs.Scripts.{AllMayStand, IsFirstBadLine, instructions_in, lines_of, plan_in, setting_in}
 use Rattle.blk_commands.specs.declared.fault.BlkFault.TheVariants.{Writing}
 use Rattle.blk_commands.specs.declared.fault.CommandFault.{CommandFault}
 use Rattle.blk_commands.specs.declared.fault.CommandFault.TheVariants.{Failed, NotText, NotAStep}
@@ -19,11 +19,11 @@ usage = codes "usage: blk call N | blk limit [TEXT] | blk steps | blk copy"
 -- ---- what a script is answered
 
 -- a script of these bytes shows this text: it is one, and the text is what its steps show in a new world of its setting and
--- its starts
+-- its plan
 pub record ShowsText (bytes text : List ℕ) : Type 0 where
   pub utf8 : IsUtf8 bytes
   pub stand : AllMayStand (lines_of bytes) (length (lines_of bytes))
-  pub shown : ShowsScript (setting_in (lines_of bytes)) (marks_in (lines_of bytes)) (deeds_in (lines_of bytes)) text
+  pub shown : ShowsScript (setting_in (lines_of bytes)) (plan_in (lines_of bytes)) (instructions_in (lines_of bytes)) text
 
 -- these bytes are no script, and this is why
 abbrev pub IsNoScript : List ℕ → CommandFault → Type 0

@@ -13,11 +13,11 @@ use Rattle.blocking_laws.specs.declared.event.Event.{Event}
 use Rattle.blocking_laws.specs.declared.event.Moment.{Moment}
 use Rattle.blocking_laws.specs.declared.step.Step.{Step}
 use Rattle.blocking_laws.specs.declared.step.Step.TheVariants.{Job}
-use Rattle.blk_commands.specs.declared.line.Line.{Line}
-use Rattle.blk_commands.specs.declared.line.Line.TheVariants.{One, JobAll}
+use Rattle.blk_commands.specs.declared.line.Instruction.{Instruction}
+use Rattle.blk_commands.specs.declared.line.Instruction.TheVariants.{One, JobAll}
 use Rattle.blk_commands.specs.declared.steps.Ending.{Ending}
 
--- ---- what lines make happen
+-- ---- what instructions make happen
 
 -- what was seen after these moments, the newest first
 abbrev pub after : List Moment → List Moment → List Moment
@@ -29,21 +29,21 @@ pub record Repeats (step : Step) (past moments : List Moment) : Type 0 where
   pub same : All (λ moment. moment.step ≡ step) moments
   pub goes_on : (k : ℕ) → 0 < k → k < length moments → has_action (after (take k moments) past) step ≡ true
 
--- what a line makes happen after what was seen: its step, or the actions of a job until it has none
-abbrev pub PlaysLine : Line → List Moment → List Moment → Type 0
-PlaysLine (One step) past moments = (moment : Moment) × (moment.step ≡ step) × (moments ≡ moment ∷ [])
-PlaysLine (JobAll worker) past moments =
+-- what an instruction makes happen after what was seen: its step, or the actions of a job until it has none
+abbrev pub PlaysInstruction : Instruction → List Moment → List Moment → Type 0
+PlaysInstruction (One step) past moments = (moment : Moment) × (moment.step ≡ step) × (moments ≡ moment ∷ [])
+PlaysInstruction (JobAll worker) past moments =
     Repeats (Job worker) past moments × (has_action (after moments past) (Job worker) ≡ false)
 
--- what lines make happen, one after the other
-abbrev pub PlaysLines : List Line → List Moment → List Moment → Type 0
-PlaysLines [] past moments = moments ≡ []
-PlaysLines (line ∷ lines) past moments =
-    (now : List Moment) × (later : List Moment) × (moments ≡ now ++ later) × PlaysLine line past now × PlaysLines lines (after now past) later
+-- what instructions make happen, one after the other
+abbrev pub PlaysInstructions : List Instruction → List Moment → List Moment → Type 0
+PlaysInstructions [] past moments = moments ≡ []
+PlaysInstructions (instruction ∷ instructions) past moments =
+    (now : List Moment) × (later : List Moment) × (moments ≡ now ++ later) × PlaysInstruction instruction past now × PlaysInstructions instructions (after now past) later
 
 -- what was seen is legal
 abbrev pub IsLegal : History → Type 0
-IsLegal history = Legal history.setting history.starts history.past
+IsLegal history = Legal history.setting history.plan history.past
 
 -- So much was taken: these moments came after what was seen before, with these events, and leave it legal.
 pub record Takes (Plays : List Moment → List Moment → Type 0) (old new : History) (before events : List Event) : Type 0 where
@@ -83,15 +83,15 @@ ending_of history = record {
 abbrev pub shown_text : List Event → Ending → List ℕ
 shown_text events ending = flat_map (λ event. line_of (event_text event)) events ++ line_of (ending_text ending)
 
--- a world of these starts and the setting of this text, in which nothing was seen yet
+-- a world of this plan and the setting of this text, in which nothing was seen yet
 abbrev pub new_history : Option (List ℕ) → List Bool → History
-new_history setting starts = record { setting = limit_of_setting setting; starts = starts; past = [] }
+new_history setting plan = record { setting = limit_of_setting setting; plan = plan; past = [] }
 
--- A text shows a script: what its lines make happen in a new world of its setting and its starts.
-pub record ShowsScript (setting : Option (List ℕ)) (starts : List Bool) (lines : List Line) (text : List ℕ) : Type 0 where
+-- A text shows a script: what its instructions make happen in a new world of its setting and its plan.
+pub record ShowsScript (setting : Option (List ℕ)) (plan : List Bool) (instructions : List Instruction) (text : List ℕ) : Type 0 where
   pub moments : List Moment
   pub end : History
-  pub plays : PlaysLines lines [] moments
-  pub follow : Follow moments (new_history setting starts) end
+  pub plays : PlaysInstructions instructions [] moments
+  pub follow : Follow moments (new_history setting plan) end
   pub legal : IsLegal end
   pub shown : text ≡ shown_text (map (λ moment. moment.event) moments) (ending_of end)

@@ -1,15 +1,15 @@
 //! What one line of a script says.
 ghost use Rattle.std.specs.Prelude.{◌≡◌, IfOk, map};
 ghost use Rattle.std.specs.List.{after_first, list_all};
-ghost use Rattle.blk_commands.specs.Lines.{answer_step, call_named, is_mark, is_marks, is_minus, is_silent, is_space, line_of, longer_line, numbered_step, plain_step, saying_of, words_of};
+ghost use Rattle.blk_commands.specs.Lines.{answer_step, call_named, is_sign, is_plan, is_minus, is_silent, is_space, instruction_of, longer_instruction, numbered_step, plain_step, saying_of, words_of};
 
 use crate::number::{count, number};
 use blocking_world::{Answer, Step, TaskCall};
 use std::alloc::{AllocError, Global};
 
-/// What a line has the script do.
+/// An instruction: what a line has the script do.
 #[derive(Clone, Copy, Debug)]
-pub enum Line {
+pub enum Instruction {
     /// One step.
     One(Step),
     /// The next action of this worker's job, and then again while it has one that is its own to take.
@@ -23,10 +23,10 @@ pub(crate) enum Saying {
     Nothing,
     /// The text of the setting.
     Setting,
-    /// Which starts are refused.
-    Starts,
-    /// What is to be done.
-    Does(Line),
+    /// The plan of the starts.
+    Plan,
+    /// This instruction.
+    Does(Instruction),
 }
 
 /// What a line says; None where it is no line of a script.
@@ -38,8 +38,8 @@ pub(crate) fn saying_of(alloc: Global, line: &str) -> Result<Option<Saying>, All
     }
     match line.split_once(' ') {
         Some(("setting", _)) => Ok(Some(Saying::Setting)),
-        Some(("starts", marks)) => Ok(is_marks(marks).then_some(Saying::Starts)),
-        _ => Ok(deed_of(alloc, line)?.map(Saying::Does)),
+        Some(("starts", plan)) => Ok(is_plan(plan).then_some(Saying::Plan)),
+        _ => Ok(instruction_in(alloc, line)?.map(Saying::Does)),
     }
 }
 
@@ -50,9 +50,9 @@ pub(crate) fn text_of(line: &str) -> &str
     line.split_once(' ').map_or("", |(_, text)| text)
 }
 
-/// Whether each of these marks is that of a start that is refused.
-pub(crate) fn marks_of(alloc: Global, text: &str) -> Result<Vec<bool>, AllocError>
-    ensures { IfOk result (λ marks. marks.items ≡ map is_minus text.now) }
+/// The plan that a text is: of each start, whether it is refused.
+pub(crate) fn plan_of(alloc: Global, text: &str) -> Result<Vec<bool>, AllocError>
+    ensures { IfOk result (λ plan. plan.items ≡ map is_minus text.now) }
 {
     text.bytes().map(|byte| byte == b'-').collect(alloc)
 }
@@ -64,44 +64,46 @@ fn is_silent(line: &str) -> bool
     line.is_empty() || line.starts_with('#')
 }
 
-// Whether a text is marks alone, and at least one.
-fn is_marks(text: &str) -> bool
-    ensures { result ≡ is_marks text.now }
+// Whether a text is a plan: signs alone, and at least one.
+fn is_plan(text: &str) -> bool
+    ensures { result ≡ is_plan text.now }
 {
-    !text.is_empty() && are_marks(text)
+    !text.is_empty() && are_signs(text)
 }
 
-// Whether each byte of a text is the mark of a start.
-fn are_marks(text: &str) -> bool
-    ensures { result ≡ list_all is_mark text.now }
+// Whether each byte of a text is a sign.
+fn are_signs(text: &str) -> bool
+    ensures { result ≡ list_all is_sign text.now }
 {
-    text.bytes().all(is_mark)
+    text.bytes().all(is_sign)
 }
 
-// Whether a byte is the mark of a start.
-fn is_mark(byte: u8) -> bool
-    ensures { result ≡ is_mark byte }
+// Whether a byte is a sign: of a start that succeeds, or of one that is refused.
+fn is_sign(byte: u8) -> bool
+    ensures { result ≡ is_sign byte }
 {
     byte == b'+' || byte == b'-'
 }
 
-// What a line asks for by its words.
-fn deed_of(alloc: Global, line: &str) -> Result<Option<Line>, AllocError>
-    ensures { IfOk result (λ deed. deed ≡ line_of (words_of line.now)) }
+// The instruction in a line, by its words.
+fn instruction_in(alloc: Global, line: &str) -> Result<Option<Instruction>, AllocError>
+    ensures { IfOk result (λ instruction. instruction ≡ instruction_of (words_of line.now)) }
 {
     let words: Vec<&str> = line.split(' ').collect(alloc)?;
-    Ok(line_of(words.as_slice()))
+    Ok(instruction_of(words.as_slice()))
 }
 
-// What the words of a line ask for.
-fn line_of(words: &[&str]) -> Option<Line>
-    ensures { result ≡ line_of (map (λ word. word.now) words.now) }
+// The instruction that words are.
+fn instruction_of(words: &[&str]) -> Option<Instruction>
+    ensures { result ≡ instruction_of (map (λ word. word.now) words.now) }
 {
     match *words {
-        [name] => plain_step(name).map(Line::One),
-        [name, word] => numbered_step(name, word).map(Line::One),
-        [name, number, call] => longer_line(name, number, call),
-        [name, worker, kind, number] => answer_step(name, worker, kind, number).map(Line::One),
+        [name] => plain_step(name).map(Instruction::One),
+        [name, word] => numbered_step(name, word).map(Instruction::One),
+        [name, number, call] => longer_instruction(name, number, call),
+        [name, worker, kind, number] => answer_step(name, worker, kind, number).map(
+            Instruction::One,
+        ),
         _ => None,
     }
 }
@@ -135,17 +137,17 @@ fn numbered_step(name: &str, word: &str) -> Option<Step>
     }
 }
 
-// What three words ask for: a call of a task, or all the actions of a worker's job.
-fn longer_line(name: &str, word: &str, what: &str) -> Option<Line>
-    ensures { result ≡ longer_line name.now word.now what.now }
+// The instruction that three words are: a call of a task, or all the actions of a worker's job.
+fn longer_instruction(name: &str, word: &str, what: &str) -> Option<Instruction>
+    ensures { result ≡ longer_instruction name.now word.now what.now }
 {
     if name == "job" && what == "*" {
-        return count(word).map(Line::JobAll);
+        return count(word).map(Instruction::JobAll);
     }
     if name != "task" {
         return None;
     }
-    Some(Line::One(Step::OfTask(count(word)?, call_named(what)?)))
+    Some(Instruction::One(Step::OfTask(count(word)?, call_named(what)?)))
 }
 
 // The call of a task that has this name.

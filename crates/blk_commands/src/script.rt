@@ -1,9 +1,9 @@
-//! Scripts: a setting, the marks of the starts, and what is to be done, line by line.
+//! Scripts: a setting, the plan of the starts, and the instructions, line by line.
 ghost use Rattle.std.specs.Prelude.{◌≡◌, List, ℕ};
 ghost use Rattle.blk_commands.specs.declared.script.ScriptFault.TheVariants as variants;
 ghost use Rattle.blk_commands.specs.Scripts.{AddsLine, IsScriptOf, Reads, lines_of};
 
-use crate::line::{Line, Saying, marks_of, saying_of, text_of};
+use crate::line::{Instruction, Saying, plan_of, saying_of, text_of};
 use std::alloc::{AllocError, AllocFailed, Global};
 
 /// A script, as its lines say it.
@@ -11,10 +11,10 @@ use std::alloc::{AllocError, AllocFailed, Global};
 pub struct Script {
     /// The text of the setting, if there is one.
     pub setting: Option<String>,
-    /// Whether each start is refused; behind the last none is.
-    pub starts: Vec<bool>,
-    /// What is to be done.
-    pub lines: Vec<Line>,
+    /// The plan of the starts: whether each is refused; beyond its end none is.
+    pub plan: Vec<bool>,
+    /// The instructions, in order.
+    pub instructions: Vec<Instruction>,
 }
 
 /// Why a text wasn't read.
@@ -34,10 +34,10 @@ impl From<AllocError> for ScriptFault {
     }
 }
 
-impl From<AllocFailed<Line>> for ScriptFault {
+impl From<AllocFailed<Instruction>> for ScriptFault {
     ghost from_gives = { λ _ fault. fault ≡ variants.Memory };
 
-    fn from(_error: AllocFailed<Line>) -> ScriptFault {
+    fn from(_error: AllocFailed<Instruction>) -> ScriptFault {
         ScriptFault::Memory
     }
 }
@@ -49,8 +49,8 @@ pub fn read_script(alloc: Global, text: &str) -> Result<Script, ScriptFault>
     let lines: Vec<&str> = text.split('\n').collect(alloc)?;
     let mut script = Script {
         setting: None,
-        starts: Vec::new(alloc),
-        lines: Vec::new(alloc),
+        plan: Vec::new(alloc),
+        instructions: Vec::new(alloc),
     };
     for (place, line) in lines.iter().enumerate() {
         script.add(alloc, line, place + 1)?;
@@ -65,16 +65,16 @@ impl Script {
     {
         match saying_of(alloc, line)? {
             Some(Saying::Nothing) => Ok(()),
-            Some(Saying::Setting) if self.lines.is_empty() && self.setting.is_none() => {
+            Some(Saying::Setting) if self.instructions.is_empty() && self.setting.is_none() => {
                 self.setting = Some(String::from_str(alloc, text_of(line))?);
                 Ok(())
             }
-            Some(Saying::Starts) if self.lines.is_empty() && self.starts.is_empty() => {
-                self.starts = marks_of(alloc, text_of(line))?;
+            Some(Saying::Plan) if self.instructions.is_empty() && self.plan.is_empty() => {
+                self.plan = plan_of(alloc, text_of(line))?;
                 Ok(())
             }
-            Some(Saying::Does(deed)) => {
-                self.lines.push(deed)?;
+            Some(Saying::Does(instruction)) => {
+                self.instructions.push(instruction)?;
                 Ok(())
             }
             _ => Err(ScriptFault::NotAStep(number)),

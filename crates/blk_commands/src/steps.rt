@@ -1,13 +1,13 @@
 //! `blk steps`: the steps of a script, and what is seen of them.
 ghost use Rattle.std.specs.Prelude.{◌≡◌, ◌⊎◌, [], IfOk, OnOk, Some, option_map, string_bytes};
 ghost use Rattle.blk_commands.specs.Outcomes.{ReadsText, Shows};
-ghost use Rattle.blk_commands.specs.Plays.{PlaysLine, PlaysLines, ShowsScript, Takes, ending_of, ending_text, shown_text};
+ghost use Rattle.blk_commands.specs.Plays.{PlaysInstruction, PlaysInstructions, ShowsScript, Takes, ending_of, ending_text, shown_text};
 ghost use Rattle.blk_commands.specs.declared.fault.BlkFault.TheVariants as blk_fault;
-ghost use Rattle.blk_commands.specs.declared.line.Line.TheVariants as deed;
+ghost use Rattle.blk_commands.specs.declared.line.Instruction.TheVariants as instruction;
 ghost use Rattle.blocking_pool.specs.declared.pool.answer.Refusal.TheVariants.{Memory};
 
 use crate::fault::{BlkFault, CommandFault};
-use crate::line::Line;
+use crate::line::Instruction;
 use crate::script::{Script, read_script};
 use blocking_world::{Event, Step, World, run};
 use std::alloc::{AllocError, Global};
@@ -95,15 +95,15 @@ fn reading_fault(error: io::Error) -> BlkFault
 
 // Takes the steps of a script, and answers what is to be shown.
 fn played(alloc: Global, script: Script) -> Result<String, AllocError>
-    ensures { IfOk result (λ text. ShowsScript (option_map string_bytes script.setting) script.starts.items script.lines.items (string_bytes text)) }
+    ensures { IfOk result (λ text. ShowsScript (option_map string_bytes script.setting) script.plan.items script.instructions.items (string_bytes text)) }
 {
     let Script {
         setting,
-        starts,
-        lines,
+        plan,
+        instructions,
     } = script;
-    let mut world = World::new(alloc, text_of(&setting), starts);
-    let events = play(alloc, &mut world, lines.as_slice());
+    let mut world = World::new(alloc, text_of(&setting), plan);
+    let events = play(alloc, &mut world, instructions.as_slice());
     let ending = Ending::of(&world);
     world.close();
     shown(alloc, events?.as_slice(), ending)
@@ -116,29 +116,33 @@ fn text_of(setting: &Option<String>) -> Option<&str>
     setting.as_ref().map(|text| text.as_str())
 }
 
-// Takes the steps of these lines, and answers what is seen of each step.
-fn play(alloc: Global, world: &mut World, lines: &[Line]) -> Result<Vec<Event>, AllocError>
-    ensures { IfOk result (λ events. Takes (PlaysLines lines.now) world.old.history world.new.history [] events.items) }
+// Takes the steps of these instructions, and answers what is seen of each step.
+fn play(
+    alloc: Global,
+    world: &mut World,
+    instructions: &[Instruction],
+) -> Result<Vec<Event>, AllocError>
+    ensures { IfOk result (λ events. Takes (PlaysInstructions instructions.now) world.old.history world.new.history [] events.items) }
 {
     let mut events = Vec::new(alloc);
-    for line in lines {
-        play_line(alloc, world, *line, &mut events)?;
+    for instruction in instructions {
+        play_instruction(alloc, world, *instruction, &mut events)?;
     }
     Ok(events)
 }
 
-// Takes the steps of a line, and adds what is seen of each.
-fn play_line(
+// Takes the steps of an instruction, and adds what is seen of each.
+fn play_instruction(
     alloc: Global,
     world: &mut World,
-    line: Line,
+    instruction: Instruction,
     events: &mut Vec<Event>,
 ) -> Result<(), AllocError>
-    ensures { OnOk result (Takes (PlaysLine line) world.old.history world.new.history events.old.items events.new.items) }
+    ensures { OnOk result (Takes (PlaysInstruction instruction) world.old.history world.new.history events.old.items events.new.items) }
 {
-    match line {
-        Line::One(step) => take(alloc, world, step, events),
-        Line::JobAll(worker) => take_all(alloc, world, worker, events),
+    match instruction {
+        Instruction::One(step) => take(alloc, world, step, events),
+        Instruction::JobAll(worker) => take_all(alloc, world, worker, events),
     }
 }
 
@@ -149,7 +153,7 @@ fn take(
     step: Step,
     events: &mut Vec<Event>,
 ) -> Result<(), AllocError>
-    ensures { OnOk result (Takes (PlaysLine (deed.One step)) world.old.history world.new.history events.old.items events.new.items) }
+    ensures { OnOk result (Takes (PlaysInstruction (instruction.One step)) world.old.history world.new.history events.old.items events.new.items) }
 {
     let seen = run(alloc, world, &[step])?;
     events.extend_from_slice(seen.as_slice())
@@ -162,7 +166,7 @@ fn take_all(
     worker: usize,
     events: &mut Vec<Event>,
 ) -> Result<(), AllocError>
-    ensures { OnOk result (Takes (PlaysLine (deed.JobAll worker)) world.old.history world.new.history events.old.items events.new.items) }
+    ensures { OnOk result (Takes (PlaysInstruction (instruction.JobAll worker)) world.old.history world.new.history events.old.items events.new.items) }
 {
     take(alloc, world, Step::Job(worker), events)?;
     // (It ends, since each action is an event more, and no list has room for endless ones.)

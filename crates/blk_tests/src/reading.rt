@@ -2,7 +2,7 @@
 use blk_commands::script::{ScriptFault, read_script};
 use std::test::Fail;
 
-// Scripts, with the setting, the marks of the starts, and the number of lines that do something.
+// Scripts, with the setting, the plan of the starts, and the number of instructions.
 const SCRIPTS: &[(&str, Option<&str>, &[bool], usize)] = &[
     ("", None, &[], 0),
     (
@@ -22,7 +22,7 @@ const SCRIPTS: &[(&str, Option<&str>, &[bool], usize)] = &[
 
 #[test]
 fn scripts_are_read(rt: HostRuntime) -> Result<(), Fail> {
-    for (text, setting, starts, lines) in SCRIPTS {
+    for (text, setting, plan, instructions) in SCRIPTS {
         match read_script(rt.alloc(), text) {
             Ok(script) => {
                 assert_eq!(rt;
@@ -30,8 +30,8 @@ fn scripts_are_read(rt: HostRuntime) -> Result<(), Fail> {
                     *setting,
                     "of {text:?}"
                 );
-                assert_eq!(rt; script.starts.as_slice(), *starts, "of {text:?}");
-                assert_eq!(rt; script.lines.len(), *lines, "of {text:?}");
+                assert_eq!(rt; script.plan.as_slice(), *plan, "of {text:?}");
+                assert_eq!(rt; script.instructions.len(), *instructions, "of {text:?}");
             }
             Err(_) => assert!(rt; false, "of {text:?}"),
         }

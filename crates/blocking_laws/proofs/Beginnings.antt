@@ -40,11 +40,11 @@ known_by : (act : Act) (s : ℕ) (jobs : List ℕ) (new : Party) (held : Option 
 known_by (Accepted t) s jobs new held next earlier = known_new (t == s) t s jobs new held refl next earlier
 known_by _ s jobs new held next earlier = earlier
 
-known : (setting : ℕ) (marks : List Bool) (past : List Moment) → EachMayFollow (PoolLaw setting marks) past → (s : ℕ) → IsKnown (holder past s) s (length (accepted_jobs past))
-known setting marks [] laws s = λ p h. cc
-known setting marks (now ∷ past) laws s =
+known : (setting : ℕ) (plan : List Bool) (past : List Moment) → EachMayFollow (PoolLaw setting plan) past → (s : ℕ) → IsKnown (holder past s) s (length (accepted_jobs past))
+known setting plan [] laws s = λ p h. cc
+known setting plan (now ∷ past) laws s =
     known_by now.event.act s (accepted_jobs past) (newcomer past now.event.party) (holder past s)
-    (accepts_next setting past now now.event.act laws.0.answers) (known setting marks past laws.1 s)
+    (accepts_next setting past now now.event.act laws.0.answers) (known setting plan past laws.1 s)
 
 keeps_new : (b : Bool) (t s : ℕ) (count : ℕ) (new p : Party) (held : Option Party) → (t == s) ≡ b → t ≡ 1 + count
     → s ≤ count → held ≡ Some p → (if b then Some new else held) ≡ Some p
@@ -57,10 +57,10 @@ keeps_by (Accepted t) s jobs new p held next within h = keeps_new (t == s) t s (
 keeps_by _ s jobs new p held next within h = h
 
 -- a holder stays
-pub keeps : (setting : ℕ) (marks : List Bool) (past : List Moment) (now : Moment) → EachMayFollow (PoolLaw setting marks) (now ∷ past) → (s : ℕ) (p : Party) → holder past s ≡ Some p → holder (now ∷ past) s ≡ Some p
-keeps setting marks past now laws s p h =
+pub keeps : (setting : ℕ) (plan : List Bool) (past : List Moment) (now : Moment) → EachMayFollow (PoolLaw setting plan) (now ∷ past) → (s : ℕ) (p : Party) → holder past s ≡ Some p → holder (now ∷ past) s ≡ Some p
+keeps setting plan past now laws s p h =
     keeps_by now.event.act s (accepted_jobs past) (newcomer past now.event.party) p (holder past s)
-    (accepts_next setting past now now.event.act laws.0.answers) (known setting marks past laws.1 s p h) h
+    (accepts_next setting past now now.event.act laws.0.answers) (known setting plan past laws.1 s p h) h
 
 -- ---- a legal past is legal without its last moment
 
@@ -68,27 +68,27 @@ without_last : {X : Type 0} (MayFollow : List X → X → Type 0) (b : Bool) (x 
 without_last MayFollow true x xs laws = laws.1
 without_last MayFollow false x xs laws = laws
 
-pub before : (setting : ℕ) (marks : List Bool) (past : List Moment) (now : Moment) → Legal setting marks (now ∷ past) → Legal setting marks past
-before setting marks past now legal = record {
+pub before : (setting : ℕ) (plan : List Bool) (past : List Moment) (now : Moment) → Legal setting plan (now ∷ past) → Legal setting plan past
+before setting plan past now legal = record {
   steps = legal.steps.1;
   pool = legal.pool.1;
   tasks = λ k s h. without_last (TaskLaw s) (is_by_task k now.event || is_of_job s now.event) now.event (task_cut k s (events past))
-      (legal.tasks k s (keeps setting marks past now legal.pool s (Task k) h));
+      (legal.tasks k s (keeps setting plan past now legal.pool s (Task k) h));
   wakes = legal.wakes.1;
 }
 
 -- ---- both forms
 
-now_of : (setting : ℕ) (marks : List Bool) (past : List Moment) → Legal setting marks past → HoldsNow setting marks past
-now_of setting marks [] legal = record { step = tt; pool = tt; tasks = legal.tasks; wakes = legal.wakes }
-now_of setting marks (now ∷ past) legal = record { step = legal.steps.0; pool = legal.pool.0; tasks = legal.tasks; wakes = legal.wakes.0 }
+now_of : (setting : ℕ) (plan : List Bool) (past : List Moment) → Legal setting plan past → HoldsNow setting plan past
+now_of setting plan [] legal = record { step = tt; pool = tt; tasks = legal.tasks; wakes = legal.wakes }
+now_of setting plan (now ∷ past) legal = record { step = legal.steps.0; pool = legal.pool.0; tasks = legal.tasks; wakes = legal.wakes.0 }
 
-at_beginning : (setting : ℕ) (marks : List Bool) (later beginning : List Moment) → Legal setting marks (later ++ beginning) → HoldsNow setting marks beginning
-at_beginning setting marks [] beginning legal = now_of setting marks beginning legal
-at_beginning setting marks (now ∷ later) beginning legal = at_beginning setting marks later beginning (before setting marks (later ++ beginning) now legal)
+at_beginning : (setting : ℕ) (plan : List Bool) (later beginning : List Moment) → Legal setting plan (later ++ beginning) → HoldsNow setting plan beginning
+at_beginning setting plan [] beginning legal = now_of setting plan beginning legal
+at_beginning setting plan (now ∷ later) beginning legal = at_beginning setting plan later beginning (before setting plan (later ++ beginning) now legal)
 
-pub throughout : (setting : ℕ) (marks : List Bool) (past : List Moment) → Legal setting marks past → IsLegalThroughout setting marks past
-throughout setting marks past legal later beginning split = at_beginning setting marks later beginning (subst (Legal setting marks) split legal)
+pub throughout : (setting : ℕ) (plan : List Bool) (past : List Moment) → Legal setting plan past → IsLegalThroughout setting plan past
+throughout setting plan past legal later beginning split = at_beginning setting plan later beginning (subst (Legal setting plan) split legal)
 
 each_follows : (MayFollow : List Moment → Moment → Type 0) (past : List Moment)
     → ((later beginning : List Moment) → past ≡ later ++ beginning → LastFollows MayFollow beginning) → EachMayFollow MayFollow past
@@ -102,10 +102,10 @@ at_each Holds [] laws = laws [] [] refl
 at_each Holds (now ∷ past) laws =
     (laws [] (now ∷ past) refl, at_each Holds past (λ later beginning split. laws (now ∷ later) beginning (rw split refl)))
 
-pub whole : (setting : ℕ) (marks : List Bool) (past : List Moment) → IsLegalThroughout setting marks past → Legal setting marks past
-whole setting marks past laws = record {
+pub whole : (setting : ℕ) (plan : List Bool) (past : List Moment) → IsLegalThroughout setting plan past → Legal setting plan past
+whole setting plan past laws = record {
   steps = each_follows StepLaw past (λ later beginning split. (laws later beginning split).step);
-  pool = each_follows (PoolLaw setting marks) past (λ later beginning split. (laws later beginning split).pool);
+  pool = each_follows (PoolLaw setting plan) past (λ later beginning split. (laws later beginning split).pool);
   tasks = (laws [] past refl).tasks;
   wakes = at_each NoLostWake past (λ later beginning split. (laws later beginning split).wakes);
 }
@@ -116,7 +116,7 @@ with_last : {X : Type 0} (MayFollow : List X → X → Type 0) (b : Bool) (x : X
 with_last MayFollow true x xs e laws = laws.0
 with_last MayFollow false x xs e laws = absurd cc
 
-pub task_keeps : (setting : ℕ) (marks : List Bool) (past : List Moment) (now : Moment) (k s : ℕ) → holder (now ∷ past) s ≡ Some (Task k)
-    → (is_by_task k now.event || is_of_job s now.event) ≡ true → Legal setting marks (now ∷ past) → TaskLaw s (task_cut k s (events past)) now.event
-task_keeps setting marks past now k s h e legal =
+pub task_keeps : (setting : ℕ) (plan : List Bool) (past : List Moment) (now : Moment) (k s : ℕ) → holder (now ∷ past) s ≡ Some (Task k)
+    → (is_by_task k now.event || is_of_job s now.event) ≡ true → Legal setting plan (now ∷ past) → TaskLaw s (task_cut k s (events past)) now.event
+task_keeps setting plan past now k s h e legal =
     with_last (TaskLaw s) (is_by_task k now.event || is_of_job s now.event) now.event (task_cut k s (events past)) e (legal.tasks k s h)

@@ -6,7 +6,7 @@ use Rattle.blocking_pool.specs.Growth.{greatest, is_due, StartAnswer, Growth, Is
 use Rattle.blocking_laws.specs.Seen.{joined, without_all}
 use Rattle.blocking_laws.specs.Queue.{queue, running, entered_by, taken_by, ended_by}
 use Rattle.blocking_laws.specs.Counts.{workers, limit}
-use Rattle.blocking_laws.specs.Growth.{IsMarked, StartsRightly, GrowthLaw, grows, turned_away}
+use Rattle.blocking_laws.specs.Growth.{IsPlanned, StartsRightly, GrowthLaw, grows, turned_away}
 use Rattle.blocking_laws.specs.declared.event.Act.{Act}
 use Rattle.blocking_laws.specs.declared.event.Moment.{Moment}
 
@@ -15,34 +15,34 @@ not_both : (b : Bool) (refused : Bool) → MatchBool b (false ≡ true) (refused
 not_both true refused made unmade = cc
 not_both false refused made unmade = cc
 
-pub apart : (marks : List Bool) (n : ℕ) → StartAnswer (IsMarked marks) n false → StartAnswer (IsMarked marks) n true → ⊥
-apart marks n made unmade = not_both (n == greatest) (get_or marks (n - 1) false) made unmade
+pub apart : (plan : List Bool) (n : ℕ) → StartAnswer (IsPlanned plan) n false → StartAnswer (IsPlanned plan) n true → ⊥
+apart plan n made unmade = not_both (n == greatest) (get_or plan (n - 1) false) made unmade
 
 -- a growth goes on as far as another
-as_far : (marks : List Bool) (ready idle workers limit first : ℕ) (g h : Growth) → IsGrowth (StartAnswer (IsMarked marks)) ready idle workers limit first g
-    → IsGrowth (StartAnswer (IsMarked marks)) ready idle workers limit first h → g.started < h.started → ⊥
-as_far marks ready idle workers limit first g h of_g of_h less =
+as_far : (plan : List Bool) (ready idle workers limit first : ℕ) (g h : Growth) → IsGrowth (StartAnswer (IsPlanned plan)) ready idle workers limit first g
+    → IsGrowth (StartAnswer (IsPlanned plan)) ready idle workers limit first h → g.started < h.started → ⊥
+as_far plan ready idle workers limit first g h of_g of_h less =
     let there = of_h.each g.started less in
     let refused : g.refused ≡ true = cc (of_g.next, there.0) in
-    apart marks (first + g.started) there.1 (of_g.cause refused)
+    apart plan (first + g.started) there.1 (of_g.cause refused)
 
 -- two growths by the same counts are the same
-pub same_starts : (marks : List Bool) (ready idle workers limit first : ℕ) (g h : Growth) → IsGrowth (StartAnswer (IsMarked marks)) ready idle workers limit first g
-    → IsGrowth (StartAnswer (IsMarked marks)) ready idle workers limit first h → g.started ≡ h.started
-same_starts marks ready idle workers limit first g h of_g of_h =
-    let no_less = as_far marks ready idle workers limit first g h of_g of_h in
-    let no_more = as_far marks ready idle workers limit first h g of_h of_g in
+pub same_starts : (plan : List Bool) (ready idle workers limit first : ℕ) (g h : Growth) → IsGrowth (StartAnswer (IsPlanned plan)) ready idle workers limit first g
+    → IsGrowth (StartAnswer (IsPlanned plan)) ready idle workers limit first h → g.started ≡ h.started
+same_starts plan ready idle workers limit first g h of_g of_h =
+    let no_less = as_far plan ready idle workers limit first g h of_g of_h in
+    let no_more = as_far plan ready idle workers limit first h g of_h of_g in
     omega (arith, no_less, no_more)
 
-same_refusal : (marks : List Bool) (ready idle workers limit first : ℕ) (g h : Growth) → IsGrowth (StartAnswer (IsMarked marks)) ready idle workers limit first g
-    → IsGrowth (StartAnswer (IsMarked marks)) ready idle workers limit first h → g.started ≡ h.started → g.refused ≡ h.refused
-same_refusal marks ready idle workers limit first g h of_g of_h same =
+same_refusal : (plan : List Bool) (ready idle workers limit first : ℕ) (g h : Growth) → IsGrowth (StartAnswer (IsPlanned plan)) ready idle workers limit first g
+    → IsGrowth (StartAnswer (IsPlanned plan)) ready idle workers limit first h → g.started ≡ h.started → g.refused ≡ h.refused
+same_refusal plan ready idle workers limit first g h of_g of_h same =
     sym of_g.next ∙ ap (is_due ready idle workers limit) same ∙ of_h.next
 
 -- the starts of an act, told by the act
 abbrev pub GrowsAt : ℕ → List Bool → List Moment → Act → ℕ → Growth → Type 0
-GrowsAt setting marks past act first growth =
-    IsGrowth (StartAnswer (IsMarked marks))
+GrowsAt setting plan past act first growth =
+    IsGrowth (StartAnswer (IsPlanned plan))
     (length (joined (without_all (taken_by act) (queue past)) (entered_by past act)) + turned_away act)
     (workers past - length (joined (without_all (ended_by act) (running past)) (taken_by act)))
     (workers past) (limit setting past) first growth
@@ -53,28 +53,28 @@ growth_of now = record { started = now.event.started; refused = now.event.start_
 abbrev pub Same : Moment → Moment → Type 0
 Same now other = (now.event.started ≡ other.event.started) × (now.event.start_refused ≡ other.event.start_refused)
 
-same_growth : (setting : ℕ) (marks : List Bool) (past : List Moment) (act : Act) (first : ℕ) (now other : Moment)
-    → GrowsAt setting marks past act first (growth_of now) → GrowsAt setting marks past act first (growth_of other) → Same now other
-same_growth setting marks past act first now other of_now of_other =
+same_growth : (setting : ℕ) (plan : List Bool) (past : List Moment) (act : Act) (first : ℕ) (now other : Moment)
+    → GrowsAt setting plan past act first (growth_of now) → GrowsAt setting plan past act first (growth_of other) → Same now other
+same_growth setting plan past act first now other of_now of_other =
     let waiting = length (joined (without_all (taken_by act) (queue past)) (entered_by past act)) + turned_away act in
     let free = workers past - length (joined (without_all (ended_by act) (running past)) (taken_by act)) in
-    let same = same_starts marks waiting free (workers past) (limit setting past) first (growth_of now) (growth_of other) of_now of_other in
-    (same, same_refusal marks waiting free (workers past) (limit setting past) first (growth_of now) (growth_of other) of_now of_other same)
+    let same = same_starts plan waiting free (workers past) (limit setting past) first (growth_of now) (growth_of other) of_now of_other in
+    (same, same_refusal plan waiting free (workers past) (limit setting past) first (growth_of now) (growth_of other) of_now of_other same)
 
-pub same_by : (b : Bool) (setting : ℕ) (marks : List Bool) (past : List Moment) (now other : Moment) → other.event.act ≡ now.event.act → other.event.first ≡ now.event.first
-    → StartsRightly b setting marks past now → StartsRightly b setting marks past other → Same now other
-same_by false setting marks past now other act first of_now of_other = (of_now.0 ∙ sym of_other.0, of_now.1 ∙ sym of_other.1)
-same_by true setting marks past now other act first of_now of_other =
-    same_growth setting marks past now.event.act now.event.first now other of_now
-    (subst (λ n. GrowsAt setting marks past now.event.act n (growth_of other)) first
-    (subst (λ a. GrowsAt setting marks past a other.event.first (growth_of other)) act of_other))
+pub same_by : (b : Bool) (setting : ℕ) (plan : List Bool) (past : List Moment) (now other : Moment) → other.event.act ≡ now.event.act → other.event.first ≡ now.event.first
+    → StartsRightly b setting plan past now → StartsRightly b setting plan past other → Same now other
+same_by false setting plan past now other act first of_now of_other = (of_now.0 ∙ sym of_other.0, of_now.1 ∙ sym of_other.1)
+same_by true setting plan past now other act first of_now of_other =
+    same_growth setting plan past now.event.act now.event.first now other of_now
+    (subst (λ n. GrowsAt setting plan past now.event.act n (growth_of other)) first
+    (subst (λ a. GrowsAt setting plan past a other.event.first (growth_of other)) act of_other))
 
 -- the starts of two events with one act are the same
-pub same_event : (setting : ℕ) (marks : List Bool) (past : List Moment) (now other : Moment) → now.event.act ≡ other.event.act
-    → GrowthLaw setting marks past now → GrowthLaw setting marks past other
+pub same_event : (setting : ℕ) (plan : List Bool) (past : List Moment) (now other : Moment) → now.event.act ≡ other.event.act
+    → GrowthLaw setting plan past now → GrowthLaw setting plan past other
     → (now.event.first ≡ other.event.first) × (now.event.started ≡ other.event.started) × (now.event.start_refused ≡ other.event.start_refused)
-same_event setting marks past now other act of_now of_other =
+same_event setting plan past now other act of_now of_other =
     let first : now.event.first ≡ other.event.first = of_now.first ∙ sym of_other.first in
-    let same = same_by (grows past now.event.act) setting marks past now other (sym act) (sym first) of_now.starting
-    (subst (λ a. StartsRightly (grows past a) setting marks past other) (sym act) of_other.starting) in
+    let same = same_by (grows past now.event.act) setting plan past now other (sym act) (sym first) of_now.starting
+    (subst (λ a. StartsRightly (grows past a) setting plan past other) (sym act) of_other.starting) in
     (first, same.0, same.1)

@@ -10,7 +10,7 @@ use Rattle.blocking_laws.specs.Turns.{hand}
 use Rattle.blocking_laws.specs.JobTable.{JobAction, AskCall, Finish, WakeHolder, Over, next_of_job, Calling}
 use Rattle.blocking_laws.specs.TaskLaws.{Calls, TaskMayAct, TaskLaw}
 use Rattle.blocking_laws.specs.Seen.{acts_of}
-use Rattle.blocking_laws.specs.Steps.{StepLaw, Happens, has_action, is_answered, is_job_work, job_of, named, party, work_with}
+use Rattle.blocking_laws.specs.Steps.{StepLaw, Happens, has_action, is_answered, is_job_action, job_of, named, party, next_with}
 use Rattle.blocking_laws.specs.Legal.{Legal, PoolLaw}
 use Rattle.blocking_laws.specs.declared.event.Act.{Act}
 use Rattle.blocking_laws.specs.declared.event.Act.TheVariants.{Accepted}
@@ -37,22 +37,22 @@ new_job past Pool (Accepted s) e = (s, ap (λ (b : Bool). if b then Some (Task (
 new_job past Pool _ e = absurd cc
 new_job past _ act e = absurd cc
 
-next_task : (setting : ℕ) (marks : List Bool) (past : List Moment) (now : Moment) (b : Bool) (k : ℕ) → EachMayFollow (PoolLaw setting marks) (now ∷ past) → makes_a_task now.event ≡ b
+next_task : (setting : ℕ) (plan : List Bool) (past : List Moment) (now : Moment) (b : Bool) (k : ℕ) → EachMayFollow (PoolLaw setting plan) (now ∷ past) → makes_a_task now.event ≡ b
     → k < length (cond b (now ∷ filter (λ m. makes_a_task m.event) past) (filter (λ m. makes_a_task m.event) past)) → (k < tasks past → HasJob past k) → HasJob (now ∷ past) k
-next_task setting marks past now false k laws e less earlier =
+next_task setting plan past now false k laws e less earlier =
     let had = earlier less in
-    record { job = had.job; held = keeps setting marks past now laws had.job (Task k) had.held }
-next_task setting marks past now true k laws e less earlier = elim (cases_eq k (tasks past)) [
+    record { job = had.job; held = keeps setting plan past now laws had.job (Task k) had.held }
+next_task setting plan past now true k laws e less earlier = elim (cases_eq k (tasks past)) [
   | inl same ↦ let new = new_job past now.event.party now.event.act e in
       record { job = new.0; held = new.1 ∙ ap (λ (n : ℕ). Some (Task n)) (sym same) }
   | inr other ↦ let had = earlier (omega (arith, less, other)) in
-      record { job = had.job; held = keeps setting marks past now laws had.job (Task k) had.held }
+      record { job = had.job; held = keeps setting plan past now laws had.job (Task k) had.held }
 ]
 
-pub each_task : (setting : ℕ) (marks : List Bool) (past : List Moment) → EachMayFollow (PoolLaw setting marks) past → (k : ℕ) → k < tasks past → HasJob past k
-each_task setting marks [] laws k less = absurd (omega (arith, less))
-each_task setting marks (now ∷ past) laws k less =
-    next_task setting marks past now (makes_a_task now.event) k laws refl less (each_task setting marks past laws.1 k)
+pub each_task : (setting : ℕ) (plan : List Bool) (past : List Moment) → EachMayFollow (PoolLaw setting plan) past → (k : ℕ) → k < tasks past → HasJob past k
+each_task setting plan [] laws k less = absurd (omega (arith, less))
+each_task setting plan (now ∷ past) laws k less =
+    next_task setting plan past now (makes_a_task now.event) k laws refl less (each_task setting plan past laws.1 k)
 
 -- ---- what is in a hand has a holder
 
@@ -84,10 +84,10 @@ held_or : (held : Option Party) → (held ≡ None → ⊥) → IsHeld held
 held_or None never = absurd (never refl)
 held_or (Some p) never = record { by = p; is = refl }
 
-in_hand_is_held : (setting : ℕ) (marks : List Bool) (past : List Moment) → EachMayFollow (PoolLaw setting marks) past → (w s : ℕ) → hand past w ≡ Some s → IsHeld (holder past s)
-in_hand_is_held setting marks past laws w s e = held_or (holder past s) (λ none.
-    let stands = held_so setting marks past laws w s e in
-    let once : times s (accepted_jobs past) ≡ 1 = known_so setting marks past laws s ∙ ap (λ st. if is_some st then 1 else 0) stands in
+in_hand_is_held : (setting : ℕ) (plan : List Bool) (past : List Moment) → EachMayFollow (PoolLaw setting plan) past → (w s : ℕ) → hand past w ≡ Some s → IsHeld (holder past s)
+in_hand_is_held setting plan past laws w s e = held_or (holder past s) (λ none.
+    let stands = held_so setting plan past laws w s e in
+    let once : times s (accepted_jobs past) ≡ 1 = known_so setting plan past laws s ∙ ap (λ st. if is_some st then 1 else 0) stands in
     let never = unheld past s none in
     omega (arith, once, never))
 
@@ -98,7 +98,7 @@ pub record HasHand (past : List Moment) (w : ℕ) : Type 0 where
   pub job : ℕ
   pub is : hand past w ≡ Some job
 
-job_in : (held : Option ℕ) (past : List Moment) → is_job_work (work_with held past) ≡ true → (s : ℕ) × (held ≡ Some s)
+job_in : (held : Option ℕ) (past : List Moment) → is_job_action (next_with held past) ≡ true → (s : ℕ) × (held ≡ Some s)
 job_in None past e = absurd cc
 job_in (Some s) past e = (s, refl)
 
@@ -135,10 +135,10 @@ either true c e = refl
 either false c e = e
 
 -- so the law of its task holds of it
-pub job_law : (setting : ℕ) (marks : List Bool) (past : List Moment) (now : Moment) (w s k : ℕ) → Legal setting marks (now ∷ past) → IsJobEvent past w now.event → hand past w ≡ Some s
+pub job_law : (setting : ℕ) (plan : List Bool) (past : List Moment) (now : Moment) (w s k : ℕ) → Legal setting plan (now ∷ past) → IsJobEvent past w now.event → hand past w ≡ Some s
     → holder past s ≡ Some (Task k) → TaskLaw s (task_cut k s (events past)) now.event
-job_law setting marks past now w s k legal event in_hand held =
-    task_keeps setting marks past now k s (keeps setting marks past now legal.pool s (Task k) held)
+job_law setting plan past now w s k legal event in_hand held =
+    task_keeps setting plan past now k s (keeps setting plan past now legal.pool s (Task k) held)
     (either (is_by_task k now.event) (is_of_job s now.event)
     (is_jobs (is_of_pool now.event.act) (is_nothing now.event.act) now.event.party now.event.job w s event.own event.done event.by (event.of ∙ in_hand)))
     legal
@@ -161,14 +161,14 @@ accepts_none cut Finish t law = absurd cc
 accepts_none cut WakeHolder t law = absurd cc
 accepts_none cut Over t law = law
 
-by_job : (setting : ℕ) (marks : List Bool) (past : List Moment) (now : Moment) (w t : ℕ) → Legal setting marks (now ∷ past) → AreTasks past
+by_job : (setting : ℕ) (plan : List Bool) (past : List Moment) (now : Moment) (w t : ℕ) → Legal setting plan (now ∷ past) → AreTasks past
     → now.step ≡ Job w → has_action past (Job w) ≡ true → now.event.act ≡ Accepted t → ⊥
-by_job setting marks past now w t legal tasks_so_far step has accepted =
+by_job setting plan past now w t legal tasks_so_far step has accepted =
     let event = job_event past now w legal.steps.0 step has in
     let found = has_hand past w has in
-    let held = in_hand_is_held setting marks past legal.pool.1 w found.job found.is in
+    let held = in_hand_is_held setting plan past legal.pool.1 w found.job found.is in
     let by_task = tasks_so_far found.job held.by held.is in
-    let law = job_law setting marks past now w found.job by_task.task legal event found.is (held.is ∙ ap Some by_task.is) in
+    let law = job_law setting plan past now w found.job by_task.task legal event found.is (held.is ∙ ap Some by_task.is) in
     let cut = task_cut by_task.task found.job (events past) in
     accepts_none cut (next_of_job Calling (acts_of found.job cut)) t
     (subst (λ a. TaskMayAct found.job true cut a) accepted (subst (λ p. TaskMayAct found.job (is_some_worker p) cut now.event.act) event.by law))
@@ -186,13 +186,13 @@ accepts_at true past (Wait v) w t has happens by = absurd happens.1
 accepts_at true past (Late v) w t has happens by = absurd happens.1
 accepts_at true past _ w t has happens by = absurd cc
 
-by_worker : (setting : ℕ) (marks : List Bool) (past : List Moment) (now : Moment) (w t : ℕ) → Legal setting marks (now ∷ past) → AreTasks past
+by_worker : (setting : ℕ) (plan : List Bool) (past : List Moment) (now : Moment) (w t : ℕ) → Legal setting plan (now ∷ past) → AreTasks past
     → now.event.party ≡ Worker w → now.event.act ≡ Accepted t → ⊥
-by_worker setting marks past now w t legal tasks_so_far by accepted =
+by_worker setting plan past now w t legal tasks_so_far by accepted =
     let law = legal.steps.0 in
     let takes = sym by ∙ law.by ∙ ap (λ a. if is_nothing a then named now.step else party past now.step) accepted in
     let at = accepts_at (has_action past now.step) past now.step w t refl (subst (λ a. Happens (has_action past now.step) past now.step a) accepted law.act) takes in
-    by_job setting marks past now at.0 t legal tasks_so_far at.1 at.2 accepted
+    by_job setting plan past now at.0 t legal tasks_so_far at.1 at.2 accepted
 
 -- a new job's holder is a task, unless a worker took the step
 new_holder : (past : List Moment) (party p : Party) → newcomer past party ≡ p → ((w : ℕ) → party ≡ Worker w → ⊥) → IsTask p
@@ -212,12 +212,12 @@ accepted_is : (act : Act) (s : ℕ) → accepts s act ≡ true → (t : ℕ) × 
 accepted_is (Accepted t) s e = (t, refl)
 accepted_is _ s e = absurd cc
 
-pub are_tasks : (setting : ℕ) (marks : List Bool) (past : List Moment) → Legal setting marks past → AreTasks past
-are_tasks setting marks [] legal = λ s p e. absurd cc
-are_tasks setting marks (now ∷ past) legal =
-    let so_far = are_tasks setting marks past (before setting marks past now legal) in
+pub are_tasks : (setting : ℕ) (plan : List Bool) (past : List Moment) → Legal setting plan past → AreTasks past
+are_tasks setting plan [] legal = λ s p e. absurd cc
+are_tasks setting plan (now ∷ past) legal =
+    let so_far = are_tasks setting plan past (before setting plan past now legal) in
     λ s p e. held_by (accepts s now.event.act) past now.event.party p (holder past s) (so_far s p)
-    (λ accepts w by. by_worker setting marks past now w (accepted_is now.event.act s accepts).0 legal so_far by (accepted_is now.event.act s accepts).1) e
+    (λ accepts w by. by_worker setting plan past now w (accepted_is now.event.act s accepts).0 legal so_far by (accepted_is now.event.act s accepts).1) e
 
 -- ---- so each job in a hand has a task
 
@@ -225,8 +225,8 @@ pub record HasTask (past : List Moment) (s : ℕ) : Type 0 where
   pub task : ℕ
   pub held : holder past s ≡ Some (Task task)
 
-pub task_in_hand : (setting : ℕ) (marks : List Bool) (past : List Moment) → Legal setting marks past → (w s : ℕ) → hand past w ≡ Some s → HasTask past s
-task_in_hand setting marks past legal w s e =
-    let held = in_hand_is_held setting marks past legal.pool w s e in
-    let by_task = are_tasks setting marks past legal s held.by held.is in
+pub task_in_hand : (setting : ℕ) (plan : List Bool) (past : List Moment) → Legal setting plan past → (w s : ℕ) → hand past w ≡ Some s → HasTask past s
+task_in_hand setting plan past legal w s e =
+    let held = in_hand_is_held setting plan past legal.pool w s e in
+    let by_task = are_tasks setting plan past legal s held.by held.is in
     record { task = by_task.task; held = held.is ∙ ap Some by_task.is }

@@ -4,7 +4,7 @@ use mathlib.Core.Path.{subst, sym}
 use Rattle.blocking_laws.specs.Seen.{is_some_worker, acts_of}
 use Rattle.blocking_laws.specs.Turns.{is_giving_up}
 use Rattle.blocking_laws.specs.JobTable.{Calling, JobAction, AskCall, Finish, WakeHolder, Over, IsAnswerTo, next_of_job}
-use Rattle.blocking_laws.specs.Seats.{task_seat}
+use Rattle.blocking_laws.specs.Seats.{task_seat, waker_in}
 use Rattle.blocking_laws.specs.TaskLaws.{poll_answer, TaskActs, Calls, CallActs, TaskMayAct, TaskLaw}
 use Rattle.blocking_laws.specs.Steps.{IsPolled, is_answered}
 use Rattle.blocking_laws.specs.declared.event.Act.{Act}
@@ -24,12 +24,12 @@ one_poll s cut now other of_task of_other polled other_polled law other_law =
     let other_may = subst (λ b. TaskMayAct s b cut other.act) of_other other_law in
     poll_is s cut now.act polled may.1 ∙ sym (poll_is s cut other.act other_polled other_may.1)
 
-given_up : (s : ℕ) (cut : List Event) (act : Act) → is_giving_up act ≡ true → CallActs s cut act → act ≡ GaveUp (task_seat cut)
-given_up s cut (GaveUp wake) gives law = ap GaveUp law.2
+given_up : (s : ℕ) (cut : List Event) (act : Act) → is_giving_up act ≡ true → CallActs s cut act → act ≡ GaveUp (waker_in (task_seat cut))
+given_up s cut (GaveUp waker) gives law = ap GaveUp law.2
 given_up s cut _ gives law = absurd cc
 
 by_table : (s : ℕ) (cut : List Event) (act : Act) → is_giving_up act ≡ false → CallActs s cut act → Calls cut (next_of_job Calling (acts_of s cut)) act
-by_table s cut (GaveUp wake) goes law = absurd cc
+by_table s cut (GaveUp waker) goes law = absurd cc
 by_table s cut _ goes law = law
 
 unanswered : (act : Act) → is_answered act ≡ false → IsAnswerTo AskCall act → ⊥

@@ -26,6 +26,7 @@ use Rattle.blocking_laws.specs.declared.event.Event.{Event}
 use Rattle.blocking_laws.specs.declared.event.Moment.{Moment}
 use Rattle.blocking_laws.specs.declared.event.Party.{Party}
 use Rattle.blocking_laws.specs.declared.event.Party.TheVariants.{Worker}
+use Rattle.blocking_laws.specs.declared.event.WaitEnd.TheVariants.{Woken, TimedOut}
 
 -- ---- how often a number stands in a list
 
@@ -173,10 +174,10 @@ queued_after past (Took t) s st mark n sweep meets e = leaves is_queued t s st (
 queued_after past (TookDropped t) s st mark n sweep meets e = leaves is_queued t s st (Some Running) n refl e
 queued_after past (Ended t how) s st mark n sweep meets e = ended_queue past s t how st n meets.0 e
 queued_after past (Swept k) s st mark n sweep meets e = swept_queue past s st mark n sweep e
-queued_after past (Stays w true) s st mark n sweep meets e = swept_queue past s st mark n sweep e
-queued_after past (Stopped w true) s st mark n sweep meets e = swept_queue past s st mark n sweep e
-queued_after past (Stays w false) s st mark n sweep meets e = add-zero n ∙ e
-queued_after past (Stopped w false) s st mark n sweep meets e = add-zero n ∙ e
+queued_after past (Stays w TimedOut) s st mark n sweep meets e = swept_queue past s st mark n sweep e
+queued_after past (Stopped w TimedOut) s st mark n sweep meets e = swept_queue past s st mark n sweep e
+queued_after past (Stays w Woken) s st mark n sweep meets e = add-zero n ∙ e
+queued_after past (Stopped w Woken) s st mark n sweep meets e = add-zero n ∙ e
 queued_after past _ s st mark n sweep meets e = add-zero n ∙ e
 
 -- ---- what runs
@@ -192,10 +193,10 @@ running_after (TookDropped t) s st mark n meets e =
     ap (λ (k : ℕ). n + k) (times_one s t) ∙ comes is_running (t == s) st (Some Running) n (λ b. ap is_running (meets b)) refl e
 running_after (Ended t how) s st mark n meets e = leaves is_running t s st (Some how) n meets.1 e
 running_after (Swept k) s st mark n meets e = keeps is_running (is_parked st && mark) st (Some Queued) n (λ c. ap is_running (parked_is st mark c)) e
-running_after (Stays w true) s st mark n meets e = keeps is_running (is_parked st && mark) st (Some Queued) n (λ c. ap is_running (parked_is st mark c)) e
-running_after (Stopped w true) s st mark n meets e = keeps is_running (is_parked st && mark) st (Some Queued) n (λ c. ap is_running (parked_is st mark c)) e
-running_after (Stays w false) s st mark n meets e = add-zero n ∙ e
-running_after (Stopped w false) s st mark n meets e = add-zero n ∙ e
+running_after (Stays w TimedOut) s st mark n meets e = keeps is_running (is_parked st && mark) st (Some Queued) n (λ c. ap is_running (parked_is st mark c)) e
+running_after (Stopped w TimedOut) s st mark n meets e = keeps is_running (is_parked st && mark) st (Some Queued) n (λ c. ap is_running (parked_is st mark c)) e
+running_after (Stays w Woken) s st mark n meets e = add-zero n ∙ e
+running_after (Stopped w Woken) s st mark n meets e = add-zero n ∙ e
 running_after _ s st mark n meets e = add-zero n ∙ e
 
 -- ---- what was accepted
@@ -213,10 +214,10 @@ accepted_after (Took t) s st mark n meets e = keeps is_known (t == s) st (Some R
 accepted_after (TookDropped t) s st mark n meets e = keeps is_known (t == s) st (Some Running) n (λ b. ap is_known (meets b)) e
 accepted_after (Ended t how) s st mark n meets e = keeps is_known (t == s) st (Some how) n (λ b. ap is_known (meets.0 b)) e
 accepted_after (Swept k) s st mark n meets e = keeps is_known (is_parked st && mark) st (Some Queued) n (λ c. ap is_known (parked_is st mark c)) e
-accepted_after (Stays w true) s st mark n meets e = keeps is_known (is_parked st && mark) st (Some Queued) n (λ c. ap is_known (parked_is st mark c)) e
-accepted_after (Stopped w true) s st mark n meets e = keeps is_known (is_parked st && mark) st (Some Queued) n (λ c. ap is_known (parked_is st mark c)) e
-accepted_after (Stays w false) s st mark n meets e = add-zero n ∙ e
-accepted_after (Stopped w false) s st mark n meets e = add-zero n ∙ e
+accepted_after (Stays w TimedOut) s st mark n meets e = keeps is_known (is_parked st && mark) st (Some Queued) n (λ c. ap is_known (parked_is st mark c)) e
+accepted_after (Stopped w TimedOut) s st mark n meets e = keeps is_known (is_parked st && mark) st (Some Queued) n (λ c. ap is_known (parked_is st mark c)) e
+accepted_after (Stays w Woken) s st mark n meets e = add-zero n ∙ e
+accepted_after (Stopped w Woken) s st mark n meets e = add-zero n ∙ e
 accepted_after _ s st mark n meets e = add-zero n ∙ e
 
 -- no serial beyond the number of jobs was accepted
@@ -288,12 +289,12 @@ held_after past event (TookDropped t) w s hands meets one e = held_one (is_worke
 held_after past event (Ended t how) w s hands meets one e = ended_hand past hands event.party (is_worker w event.party) w t s how one refl e
 held_after past event (Swept n) w s hands meets one e =
     runs_on (is_parked (standing past s) && is_marked past s) (standing past s) (Some Parked) (Some Queued) (parked_is (standing past s) (is_marked past s)) refl (hands.held w s e)
-held_after past event (Stays v true) w s hands meets one e =
+held_after past event (Stays v TimedOut) w s hands meets one e =
     runs_on (is_parked (standing past s) && is_marked past s) (standing past s) (Some Parked) (Some Queued) (parked_is (standing past s) (is_marked past s)) refl (hands.held w s e)
-held_after past event (Stopped v true) w s hands meets one e =
+held_after past event (Stopped v TimedOut) w s hands meets one e =
     runs_on (is_parked (standing past s) && is_marked past s) (standing past s) (Some Parked) (Some Queued) (parked_is (standing past s) (is_marked past s)) refl (hands.held w s e)
-held_after past event (Stays v false) w s hands meets one e = hands.held w s e
-held_after past event (Stopped v false) w s hands meets one e = hands.held w s e
+held_after past event (Stays v Woken) w s hands meets one e = hands.held w s e
+held_after past event (Stopped v Woken) w s hands meets one e = hands.held w s e
 held_after past event _ w s hands meets one e = hands.held w s e
 
 same_worker : (party : Party) (v w : ℕ) → is_worker v party ≡ true → is_worker w party ≡ true → v ≡ w
@@ -458,8 +459,8 @@ entered_after setting past now act sound answers = enters_last (entries past) (t
 
 -- ---- each moment
 
-sound_after : (setting : ℕ) (marks : List Bool) (past : List Moment) (now : Moment) → Sound past → PoolLaw setting marks past now → Sound (now ∷ past)
-sound_after setting marks past now sound law =
+sound_after : (setting : ℕ) (plan : List Bool) (past : List Moment) (now : Moment) → Sound past → PoolLaw setting plan past now → Sound (now ∷ past)
+sound_after setting plan past now sound law =
     let act = now.event.act in
     let named : (s : ℕ) → Meets act s (standing past s) = λ s. meets setting past now act s sound law.answers law.turns.one in
     record {
@@ -480,8 +481,8 @@ sound_after setting marks past now sound law =
 no_hand : (s : ℕ) → None ≡ Some s → ⊥
 no_hand s e = cc
 
-sound_of : (setting : ℕ) (marks : List Bool) (past : List Moment) → EachMayFollow (PoolLaw setting marks) past → Sound past
-sound_of setting marks [] laws = record {
+sound_of : (setting : ℕ) (plan : List Bool) (past : List Moment) → EachMayFollow (PoolLaw setting plan) past → Sound past
+sound_of setting plan [] laws = record {
   accepted = λ s. refl;
   beyond = λ s over. refl;
   queued = λ s. refl;
@@ -489,26 +490,26 @@ sound_of setting marks [] laws = record {
   hands = record { held = λ w s e. absurd (no_hand s e); alone = λ v w s e f. absurd (no_hand s e) };
   entered = refl;
 }
-sound_of setting marks (now ∷ past) laws = sound_after setting marks past now (sound_of setting marks past laws.1) laws.0
+sound_of setting plan (now ∷ past) laws = sound_after setting plan past now (sound_of setting plan past laws.1) laws.0
 
-pub entered_so : (setting : ℕ) (marks : List Bool) (past : List Moment) → EachMayFollow (PoolLaw setting marks) past → entries past ≡ takes past ++ queue past
-entered_so setting marks past laws = (sound_of setting marks past laws).entered
+pub entered_so : (setting : ℕ) (plan : List Bool) (past : List Moment) → EachMayFollow (PoolLaw setting plan) past → entries past ≡ takes past ++ queue past
+entered_so setting plan past laws = (sound_of setting plan past laws).entered
 
-pub count_so : (setting : ℕ) (marks : List Bool) (past : List Moment) → EachMayFollow (PoolLaw setting marks) past → length (queue past) ≡ length (entries past) - length (takes past)
-count_so setting marks past laws =
-    let all : length (entries past) ≡ length (takes past) + length (queue past) = ap length (entered_so setting marks past laws) ∙ length-append (takes past) (queue past) in
+pub count_so : (setting : ℕ) (plan : List Bool) (past : List Moment) → EachMayFollow (PoolLaw setting plan) past → length (queue past) ≡ length (entries past) - length (takes past)
+count_so setting plan past laws =
+    let all : length (entries past) ≡ length (takes past) + length (queue past) = ap length (entered_so setting plan past laws) ∙ length-append (takes past) (queue past) in
     omega (arith, all)
 
-pub queued_so : (setting : ℕ) (marks : List Bool) (past : List Moment) → EachMayFollow (PoolLaw setting marks) past → (s : ℕ) → times s (queue past) ≡ one_if (is_queued (standing past s))
-queued_so setting marks past laws = (sound_of setting marks past laws).queued
+pub queued_so : (setting : ℕ) (plan : List Bool) (past : List Moment) → EachMayFollow (PoolLaw setting plan) past → (s : ℕ) → times s (queue past) ≡ one_if (is_queued (standing past s))
+queued_so setting plan past laws = (sound_of setting plan past laws).queued
 
-pub runs_so : (setting : ℕ) (marks : List Bool) (past : List Moment) → EachMayFollow (PoolLaw setting marks) past → (s : ℕ) → times s (running past) ≡ one_if (is_running (standing past s))
-runs_so setting marks past laws = (sound_of setting marks past laws).runs
+pub runs_so : (setting : ℕ) (plan : List Bool) (past : List Moment) → EachMayFollow (PoolLaw setting plan) past → (s : ℕ) → times s (running past) ≡ one_if (is_running (standing past s))
+runs_so setting plan past laws = (sound_of setting plan past laws).runs
 
 -- what is in a hand runs
-pub held_so : (setting : ℕ) (marks : List Bool) (past : List Moment) → EachMayFollow (PoolLaw setting marks) past → (w s : ℕ) → hand past w ≡ Some s → standing past s ≡ Some Running
-held_so setting marks past laws = (sound_of setting marks past laws).hands.held
+pub held_so : (setting : ℕ) (plan : List Bool) (past : List Moment) → EachMayFollow (PoolLaw setting plan) past → (w s : ℕ) → hand past w ≡ Some s → standing past s ≡ Some Running
+held_so setting plan past laws = (sound_of setting plan past laws).hands.held
 
 -- what stands somewhere was accepted, once
-pub known_so : (setting : ℕ) (marks : List Bool) (past : List Moment) → EachMayFollow (PoolLaw setting marks) past → (s : ℕ) → times s (accepted_jobs past) ≡ (if is_some (standing past s) then 1 else 0)
-known_so setting marks past laws = (sound_of setting marks past laws).accepted
+pub known_so : (setting : ℕ) (plan : List Bool) (past : List Moment) → EachMayFollow (PoolLaw setting plan) past → (s : ℕ) → times s (accepted_jobs past) ≡ (if is_some (standing past s) then 1 else 0)
+known_so setting plan past laws = (sound_of setting plan past laws).accepted

@@ -3,6 +3,7 @@ use Rattle.std.specs.Prelude.{◌≡◌, ℕ, ◌+◌, ◌<◌, ◌≤◌, nat_l
 use Rattle.blocking_pool.specs.declared.pool.answer.Refusal.TheVariants.{Memory, NoWorker, Numbers}
 use Rattle.blocking_pool.specs.declared.pool.standing.Standing.TheVariants.{Queued, Parked, Done, Dropped}
 use Rattle.blocking_laws.specs.Core.{greatest, wake_of, cancel_of}
+use Rattle.blocking_laws.specs.Seen.{has_timed_out}
 use Rattle.blocking_laws.specs.Jobs.{accepted_jobs, standing, is_to_drop, is_woken}
 use Rattle.blocking_laws.specs.Queue.{to_sweep, ready, queue}
 use Rattle.blocking_laws.specs.Counts.{starts, arrivals, workers, limit}
@@ -10,6 +11,7 @@ use Rattle.blocking_laws.specs.Turns.{Turn, GoesOn, IsWaiting, MustGiveUp, HasGi
 use Rattle.blocking_laws.specs.declared.event.Act.{Act}
 use Rattle.blocking_laws.specs.declared.event.Act.TheVariants.{Accepted, Refused, JobWoken, JobCancelled, Swept, Arrived, Took, TookDropped, TookNone, Stays, Stopped, Ended, HandedOut}
 use Rattle.blocking_laws.specs.declared.event.Moment.{Moment}
+use Rattle.blocking_laws.specs.declared.event.WaitEnd.{WaitEnd}
 
 -- what a take gives of these jobs: the first, to be dropped where it was cancelled or marked; of none, nothing
 abbrev pub take_from : List Moment → List ℕ → Act
@@ -36,14 +38,14 @@ end_answer past s = end_of (turn past s) (is_to_drop past s) (is_woken past s) s
 
 -- Whether a worker stops after a wait, its sweep and its growth: there are more workers than the limit, or the wait timed
 -- out and no job is queued.
-abbrev pub must_stop : ℕ → List Moment → Moment → Bool → Bool
-must_stop setting past now late =
-    nat_lt (limit setting (now ∷ past)) (workers past + now.event.started) || late && length (queue (now ∷ past)) == 0
+abbrev pub must_stop : ℕ → List Moment → Moment → WaitEnd → Bool
+must_stop setting past now end =
+    nat_lt (limit setting (now ∷ past)) (workers past + now.event.started) || has_timed_out end && length (queue (now ∷ past)) == 0
 
--- what is seen of a wait, by whether the worker stops
-abbrev pub wait_act : ℕ → Bool → Bool → Act
-wait_act w late true = Stopped w late
-wait_act w late false = Stays w late
+-- what is seen of a wait that ended so, by whether the worker stops
+abbrev pub wait_act : ℕ → WaitEnd → Bool → Act
+wait_act w end true = Stopped w end
+wait_act w end false = Stays w end
 
 -- What the pool answers, act by act. A wake and a cancel do what the job's standing says; a sweep tells how many jobs it put
 -- back; workers are numbered in the order of their arrival; a new job's serial is one more than the number of jobs that
@@ -56,8 +58,8 @@ PoolAnswers setting past now (JobWoken s woke) = woke ≡ wake_of (standing past
 PoolAnswers setting past now (JobCancelled s woke) = woke ≡ cancel_of (standing past s)
 PoolAnswers setting past now (Ended s how) = Ended s how ≡ end_answer past s
 PoolAnswers setting past now (HandedOut s) = HandedOut s ≡ end_answer past s
-PoolAnswers setting past now (Stays w late) = must_stop setting past now late ≡ false
-PoolAnswers setting past now (Stopped w late) = must_stop setting past now late ≡ true
+PoolAnswers setting past now (Stays w end) = must_stop setting past now end ≡ false
+PoolAnswers setting past now (Stopped w end) = must_stop setting past now end ≡ true
 PoolAnswers setting past now (Swept n) = n ≡ length (to_sweep past)
 PoolAnswers setting past now (Arrived w) = (w ≡ 1 + arrivals past) × (w ≤ starts past)
 PoolAnswers setting past now (Accepted s) = (s ≡ 1 + length (accepted_jobs past)) × (s < greatest)

@@ -31,7 +31,7 @@ arrivals past = length (filter (λ now. is_arrival now.event.act) past)
 
 -- whether a worker stops
 abbrev pub is_stop : Act → Bool
-is_stop (Stopped w late) = true
+is_stop (Stopped w end) = true
 is_stop _ = false
 
 -- how many workers stopped

@@ -23,18 +23,18 @@ abbrev pub turned_away : Act → ℕ
 turned_away (Refused NoWorker) = 1
 turned_away _ = 0
 
--- Start number n may be answered so (true: it is refused) as the marks say, of which the first is that of start 1. After
--- the marks no start is refused.
-abbrev pub IsMarked : List Bool → ℕ → Bool → Type 0
-IsMarked marks n refused = get_or marks (n - 1) false ≡ refused
+-- Start number n may be answered so (true: it is refused) as the plan of the starts says, which begins with start 1. Beyond its
+-- end no start is refused.
+abbrev pub IsPlanned : List Bool → ℕ → Bool → Type 0
+IsPlanned plan n refused = get_or plan (n - 1) false ≡ refused
 
 -- The starts of an event: none where the pool doesn't grow. Else they are due by the jobs that are ready after the event's
--- own entry or take, the workers that are idle then, and the workers and the limit before it; and they are refused as the
--- marks say, the greatest number always.
+-- own entry or take, the workers that are idle then, and the workers and the limit before it; and they are refused as
+-- planned, the greatest number always.
 abbrev pub StartsRightly : Bool → ℕ → List Bool → List Moment → Moment → Type 0
-StartsRightly false setting marks past now = (now.event.started ≡ 0) × (now.event.start_refused ≡ false)
-StartsRightly true setting marks past now =
-    IsGrowth (StartAnswer (IsMarked marks))
+StartsRightly false setting plan past now = (now.event.started ≡ 0) × (now.event.start_refused ≡ false)
+StartsRightly true setting plan past now =
+    IsGrowth (StartAnswer (IsPlanned plan))
     (length (ready (now ∷ past)) + turned_away now.event.act)
     (workers past - length (running (now ∷ past)))
     (workers past) (limit setting past) now.event.first
@@ -47,11 +47,11 @@ HasWorker (Refused NoWorker) workers_now = workers_now ≡ 0
 HasWorker _ workers_now = Unit {0}
 
 -- The law of growth.
-pub record GrowthLaw (setting : ℕ) (marks : List Bool) (past : List Moment) (now : Moment) : Type 0 where
+pub record GrowthLaw (setting : ℕ) (plan : List Bool) (past : List Moment) (now : Moment) : Type 0 where
   -- starts are numbered on, refused ones too
   pub first : now.event.first ≡ min (1 + starts past + refused_starts past) greatest
   -- what is due is started, and no more
-  pub starting : StartsRightly (grows past now.event.act) setting marks past now
+  pub starting : StartsRightly (grows past now.event.act) setting plan past now
   -- no job is accepted that nobody could run
   pub worker : HasWorker now.event.act (workers past + now.event.started)
 

@@ -3,7 +3,7 @@ use Rattle.std.specs.Prelude.{ℕ, ◌==◌, ◌&&◌, ◌||◌, not, if◌then�
 use Rattle.blocking_pool.specs.declared.pool.answer.Woke.TheVariants.{Entered, Marked}
 use Rattle.blocking_pool.specs.declared.pool.standing.Standing.{Standing}
 use Rattle.blocking_pool.specs.declared.pool.standing.Standing.TheVariants.{Queued, Running, Parked, Done, Dropped}
-use Rattle.blocking_laws.specs.Seen.{joined, is_task}
+use Rattle.blocking_laws.specs.Seen.{joined, is_task, has_timed_out}
 use Rattle.blocking_laws.specs.declared.event.Act.{Act}
 use Rattle.blocking_laws.specs.declared.event.Act.TheVariants.{Accepted, JobWoken, JobCancelled, Took, TookDropped, Ended, Swept, Stays, Stopped, HolderDropped, TaskCancelled}
 use Rattle.blocking_laws.specs.declared.event.Event.{Event}
@@ -117,8 +117,8 @@ is_to_drop past s = is_cancelled past s || is_marked past s
 -- whether an act sweeps: a sweep by itself, or a wait that timed out
 abbrev pub sweeps : Act → Bool
 sweeps (Swept n) = true
-sweeps (Stays w late) = late
-sweeps (Stopped w late) = late
+sweeps (Stays w end) = has_timed_out end
+sweeps (Stopped w end) = has_timed_out end
 sweeps _ = false
 
 -- how the job stands after an act that names it; any other act leaves it as it stood

@@ -13,18 +13,18 @@ use Rattle.blocking_laws.specs.declared.event.Moment.{Moment}
 use Rattle.blocking_laws.specs.declared.event.Party.TheVariants.{Task}
 
 -- The law of the pool, over all that was seen.
-pub record PoolLaw (setting : ℕ) (marks : List Bool) (past : List Moment) (now : Moment) : Type 0 where
-  pub growth : GrowthLaw setting marks past now
+pub record PoolLaw (setting : ℕ) (plan : List Bool) (past : List Moment) (now : Moment) : Type 0 where
+  pub growth : GrowthLaw setting plan past now
   pub answers : AnswerLaw setting past now
   pub turns : TurnLaw past now
   pub order : InOrder (now ∷ past)
 
--- A past is legal, by the setting's number and the marks of refused starts: each step has the event that it may have, the
+-- A past is legal, by the setting's number and the plan of the starts: each step has the event that it may have, the
 -- pool keeps its law, each task with its job keeps theirs, and at every beginning no wake is lost. Only the pool's law and
 -- that of the wakes see more than one holder.
-pub record Legal (setting : ℕ) (marks : List Bool) (past : List Moment) : Type 0 where
+pub record Legal (setting : ℕ) (plan : List Bool) (past : List Moment) : Type 0 where
   pub steps : EachMayFollow StepLaw past
-  pub pool : EachMayFollow (PoolLaw setting marks) past
+  pub pool : EachMayFollow (PoolLaw setting plan) past
   pub tasks : (k s : ℕ) → holder past s ≡ Some (Task k) → TaskLaws s (task_cut k s (events past))
   pub wakes : AtEveryBeginning NoLostWake past
 
@@ -34,14 +34,14 @@ LastFollows MayFollow [] = Unit {0}
 LastFollows MayFollow (now ∷ past) = MayFollow past now
 
 -- What a legal past keeps at this point, where it has come so far.
-pub record HoldsNow (setting : ℕ) (marks : List Bool) (past : List Moment) : Type 0 where
+pub record HoldsNow (setting : ℕ) (plan : List Bool) (past : List Moment) : Type 0 where
   pub step : LastFollows StepLaw past
-  pub pool : LastFollows (PoolLaw setting marks) past
+  pub pool : LastFollows (PoolLaw setting plan) past
   pub tasks : (k s : ℕ) → holder past s ≡ Some (Task k) → TaskLaws s (task_cut k s (events past))
   pub wakes : NoLostWake past
 
 -- The same as `Legal`, said of every beginning of the trace: however the past is split into a beginning and what came later,
 -- the laws hold at that beginning.
 abbrev pub IsLegalThroughout : ℕ → List Bool → List Moment → Type 0
-IsLegalThroughout setting marks past =
-    (later beginning : List Moment) → past ≡ later ++ beginning → HoldsNow setting marks beginning
+IsLegalThroughout setting plan past =
+    (later beginning : List Moment) → past ≡ later ++ beginning → HoldsNow setting plan beginning

@@ -7,6 +7,8 @@ use Rattle.blocking_laws.specs.declared.event.Event.{Event}
 use Rattle.blocking_laws.specs.declared.event.Moment.{Moment}
 use Rattle.blocking_laws.specs.declared.event.Party.{Party}
 use Rattle.blocking_laws.specs.declared.event.Party.TheVariants.{Task, Worker}
+use Rattle.blocking_laws.specs.declared.event.WaitEnd.{WaitEnd}
+use Rattle.blocking_laws.specs.declared.event.WaitEnd.TheVariants.{Woken, TimedOut}
 
 -- It holds of the list, and of each beginning of it.
 abbrev pub AtEveryBeginning : {X : Type 0} → (List X → Type 0) → List X → Type 0
@@ -63,6 +65,11 @@ is_of_pool (TookDropped s) = true
 is_of_pool (Ended s how) = true
 is_of_pool (HandedOut s) = true
 is_of_pool _ = false
+
+-- whether a wait ended since its time was up
+abbrev pub has_timed_out : WaitEnd → Bool
+has_timed_out Woken = false
+has_timed_out TimedOut = true
 
 -- whether nothing was done
 abbrev pub is_nothing : Act → Bool

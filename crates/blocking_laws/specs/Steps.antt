@@ -12,6 +12,8 @@ use Rattle.blocking_laws.specs.declared.event.Act.TheVariants.{Accepted, Refused
 use Rattle.blocking_laws.specs.declared.event.Moment.{Moment}
 use Rattle.blocking_laws.specs.declared.event.Party.{Party}
 use Rattle.blocking_laws.specs.declared.event.Party.TheVariants.{Task, Worker, Pool}
+use Rattle.blocking_laws.specs.declared.event.WaitEnd.{WaitEnd}
+use Rattle.blocking_laws.specs.declared.event.WaitEnd.TheVariants.{Woken, TimedOut}
 use Rattle.blocking_laws.specs.declared.step.Answer.{Answer}
 use Rattle.blocking_laws.specs.declared.step.Step.{Step}
 use Rattle.blocking_laws.specs.declared.step.Step.TheVariants.{Spawn, OfTask, Arrive, Take, Job, Io, End, Wait, Late, SetLimit, Sweep, Stray, Strike}
@@ -23,7 +25,7 @@ use Rattle.blocking_laws.specs.declared.step.TaskCall.TheVariants.{Poll, Cancel,
 -- whether worker w is there after an act
 abbrev pub is_there_by : Act → ℕ → Bool → Bool
 is_there_by (Arrived v) w before = v == w || before
-is_there_by (Stopped v late) w before = not (v == w) && before
+is_there_by (Stopped v end) w before = not (v == w) && before
 is_there_by _ w before = before
 
 -- whether the worker is there: it arrived and hasn't stopped
@@ -39,42 +41,42 @@ is_free past w = is_there past w && is_none (hand past w)
 abbrev pub kind_by : Option Party → Kind
 kind_by _ = Calling
 
--- What a worker has to do: nothing, an action of its job, to give the job up, or to end the turn.
-pub data Work : Type 0 where
-  NoWork : Work
-  Does : JobAction → Work
-  GivesUp : Work
-  EndsTurn : Work
+-- What a worker does next: nothing, an action of its job, giving the job up, or ending the turn.
+pub data WorkerAction : Type 0 where
+  NoNext : WorkerAction
+  Does : JobAction → WorkerAction
+  GivesUp : WorkerAction
+  EndsTurn : WorkerAction
 
--- what a worker has to do, by where its job is in its turn and by the job's next action
-abbrev pub work_in : Turn → JobAction → Work
-work_in IsWaiting action = EndsTurn
-work_in MustGiveUp action = GivesUp
-work_in GoesOn action = if is_over action then EndsTurn else Does action
-work_in HasGivenUp action = if is_over action then EndsTurn else Does action
+-- the next action of a worker, by where its job is in its turn and by the job's next action
+abbrev pub next_in_turn : Turn → JobAction → WorkerAction
+next_in_turn IsWaiting action = EndsTurn
+next_in_turn MustGiveUp action = GivesUp
+next_in_turn GoesOn action = if is_over action then EndsTurn else Does action
+next_in_turn HasGivenUp action = if is_over action then EndsTurn else Does action
 
--- what a worker has to do with the job in its hand
-abbrev pub work_with : Option ℕ → List Moment → Work
-work_with None past = NoWork
-work_with (Some s) past = work_in (turn past s) (next_of_job (kind_by (holder past s)) (acts_of s (events past)))
+-- the next action of a worker with this job in its hand
+abbrev pub next_with : Option ℕ → List Moment → WorkerAction
+next_with None past = NoNext
+next_with (Some s) past = next_in_turn (turn past s) (next_of_job (kind_by (holder past s)) (acts_of s (events past)))
 
--- what a worker has to do
-abbrev pub work : List Moment → ℕ → Work
-work past w = work_with (hand past w) past
+-- the next action of a worker
+abbrev pub next_of_worker : List Moment → ℕ → WorkerAction
+next_of_worker past w = next_with (hand past w) past
 
 -- whether that is an action of the job's own
-abbrev pub is_job_work : Work → Bool
-is_job_work (Does action) = not (is_asking action)
-is_job_work GivesUp = true
-is_job_work _ = false
+abbrev pub is_job_action : WorkerAction → Bool
+is_job_action (Does action) = not (is_asking action)
+is_job_action GivesUp = true
+is_job_action _ = false
 
--- whether it is to be answered so
-abbrev pub is_answered_work : Work → Answer → Bool
-is_answered_work (Does action) answer = is_asking action && is_answer action answer
-is_answered_work _ answer = false
+-- whether it is the job's question, and this an answer to it
+abbrev pub is_answered_action : WorkerAction → Answer → Bool
+is_answered_action (Does action) answer = is_asking action && is_answer action answer
+is_answered_action _ answer = false
 
--- whether it is to end the turn
-abbrev pub is_turn_end : Work → Bool
+-- whether it is the end of the turn
+abbrev pub is_turn_end : WorkerAction → Bool
 is_turn_end EndsTurn = true
 is_turn_end _ = false
 
@@ -103,9 +105,9 @@ has_action past Spawn = true
 has_action past (OfTask k c) = nat_lt k (tasks past) && may_call (acts_of_task k (events past)) c
 has_action past Arrive = nat_lt (arrivals past) (starts past)
 has_action past (Take w) = is_free past w
-has_action past (Job w) = is_job_work (work past w)
-has_action past (Io w answer) = is_answered_work (work past w) answer
-has_action past (End w) = is_turn_end (work past w)
+has_action past (Job w) = is_job_action (next_of_worker past w)
+has_action past (Io w answer) = is_answered_action (next_of_worker past w) answer
+has_action past (End w) = is_turn_end (next_of_worker past w)
 has_action past (Wait w) = is_free past w
 has_action past (Late w) = is_free past w
 has_action past (SetLimit n) = nat_lt 0 n
@@ -186,11 +188,11 @@ IsEndOf s (Ended t how) = s ≡ Some t
 IsEndOf s (HandedOut t) = s ≡ Some t
 IsEndOf s _ = ⊥
 
--- an answer to a wait of this worker
-abbrev pub IsWaitOf : ℕ → Bool → Act → Type 0
-IsWaitOf w late (Stays v timed_out) = (v ≡ w) × (timed_out ≡ late)
-IsWaitOf w late (Stopped v timed_out) = (v ≡ w) × (timed_out ≡ late)
-IsWaitOf w late _ = ⊥
+-- an answer to a wait of this worker that ended so
+abbrev pub IsWaitOf : ℕ → WaitEnd → Act → Type 0
+IsWaitOf w end (Stays v told) = (v ≡ w) × (told ≡ end)
+IsWaitOf w end (Stopped v told) = (v ≡ w) × (told ≡ end)
+IsWaitOf w end _ = ⊥
 
 -- a sweep
 abbrev pub IsSweep : Act → Type 0
@@ -216,8 +218,8 @@ Fits past (Take w) act = is_take act ≡ true
 Fits past (Job w) act = (is_of_pool act ≡ false) × (is_answered act ≡ false)
 Fits past (Io w answer) act = act ≡ Answered answer
 Fits past (End w) act = IsEndOf (hand past w) act
-Fits past (Wait w) act = IsWaitOf w false act
-Fits past (Late w) act = IsWaitOf w true act
+Fits past (Wait w) act = IsWaitOf w Woken act
+Fits past (Late w) act = IsWaitOf w TimedOut act
 Fits past (SetLimit n) act = act ≡ LimitSet n
 Fits past Sweep act = IsSweep act
 Fits past (Stray s) act = IsWakeOf s act

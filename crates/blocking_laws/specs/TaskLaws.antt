@@ -2,9 +2,9 @@
 use Rattle.std.specs.Prelude.{◌≡◌, ℕ, Bool, true, false, ◌||◌, not, List, [], ◌∷◌}
 use Rattle.blocking_laws.specs.Seen.{EachMayFollow, own, acts_of, is_some_worker}
 use Rattle.blocking_laws.specs.Jobs.{lets_go}
-use Rattle.blocking_laws.specs.JobTable.{Calling, JobAction, AskCall, Finish, WakeHolder, IsAnswerTo, action_after, next_of_job, is_over, number, has_finished, has_given_up}
+use Rattle.blocking_laws.specs.JobTable.{Calling, JobAction, AskCall, Finish, WakeHolder, IsAnswerTo, next_but_wake, next_of_job, is_over, number, has_finished, has_given_up}
 use Rattle.blocking_laws.specs.Places.{poll_task}
-use Rattle.blocking_laws.specs.Seats.{task_seat}
+use Rattle.blocking_laws.specs.Seats.{task_seat, waker_in}
 use Rattle.blocking_laws.specs.declared.event.Act.{Act}
 use Rattle.blocking_laws.specs.declared.event.Act.TheVariants.{TaskGot, TaskGotNone, TaskCancelled, TaskDetached, HolderDropped, Finished, GaveUp, HolderWoken}
 use Rattle.blocking_laws.specs.declared.event.Event.{Event}
@@ -35,7 +35,7 @@ is_let_go (act ∷ past) = lets_go act || is_let_go past
 
 -- whether the call finished in time, after an act
 abbrev pub in_time_by : Act → Bool → Bool → Bool
-in_time_by (Finished wake) cancelled before = not cancelled
+in_time_by (Finished waker) cancelled before = not cancelled
 in_time_by _ cancelled before = before
 
 -- whether the call finished in time: before any cancel of its task
@@ -60,15 +60,15 @@ TaskActs s cut act = act ≡ poll_answer s cut
 -- is seated, and calls the waker that it took.
 abbrev pub Calls : List Event → JobAction → Act → Type 0
 Calls cut AskCall act = IsAnswerTo AskCall act
-Calls cut Finish act = act ≡ Finished (task_seat cut)
+Calls cut Finish act = act ≡ Finished (waker_in (task_seat cut))
 Calls cut WakeHolder act = act ≡ HolderWoken
 Calls cut _ act = ⊥
 
 -- What a call's job may do: what its table says; or give up, where its task let it go and it isn't over, and then too it
 -- takes the waker of its holder where one is seated.
 abbrev pub CallActs : ℕ → List Event → Act → Type 0
-CallActs s cut (GaveUp wake) =
-    (is_let_go (own cut) ≡ true) × (is_over (action_after Calling (acts_of s cut)) ≡ false) × (wake ≡ task_seat cut)
+CallActs s cut (GaveUp waker) =
+    (is_let_go (own cut) ≡ true) × (is_over (next_but_wake Calling (acts_of s cut)) ≡ false) × (waker ≡ waker_in (task_seat cut))
 CallActs s cut act = Calls cut (next_of_job Calling (acts_of s cut)) act
 
 -- an act of a worker is its job's; any other is the task's, which isn't gone

@@ -10,6 +10,8 @@ use Rattle.blocking_laws.specs.declared.step.Answer.TheVariants.{Number}
 use Rattle.blocking_laws.specs.declared.event.Act.{Act}
 use Rattle.blocking_laws.specs.declared.event.Act.TheVariants.{Accepted, Refused, JobWoken, JobCancelled, LimitSet, Swept, Waits, TaskGot, TaskGotNone, TaskCancelled, TaskDetached, HolderDropped, Arrived, Took, TookDropped, TookNone, Stays, Stopped, Ended, HandedOut, Answered, JobParked, Finished, GaveUp, HolderWoken, NoAction}
 use Rattle.blocking_laws.specs.declared.event.Event.{Event}
+use Rattle.blocking_laws.specs.declared.event.HolderWaker.{HolderWaker}
+use Rattle.blocking_laws.specs.declared.event.HolderWaker.TheVariants.{Taken, Absent}
 
 -- why a job is refused
 abbrev pub refusal_text : Refusal → List ℕ
@@ -32,9 +34,9 @@ standing_text Done = codes "done"
 standing_text Dropped = codes "dropped"
 
 -- a wake stands at the end of a text
-abbrev pub wake_text : Bool → List ℕ
-wake_text true = codes " wake owner"
-wake_text false = []
+abbrev pub wake_text : HolderWaker → List ℕ
+wake_text Taken = codes " wake owner"
+wake_text Absent = []
 
 -- the text of an act
 abbrev pub act_text : Act → List ℕ
@@ -54,14 +56,14 @@ act_text (Arrived w) = codes "arrived " ++ decimal w
 act_text (Took s) = codes "took " ++ decimal s
 act_text (TookDropped s) = codes "took " ++ decimal s ++ codes " dropped"
 act_text TookNone = codes "idle"
-act_text (Stays w late) = codes "stays " ++ decimal w
-act_text (Stopped w late) = codes "stopped " ++ decimal w
+act_text (Stays w end) = codes "stays " ++ decimal w
+act_text (Stopped w end) = codes "stopped " ++ decimal w
 act_text (Ended s how) = codes "ended " ++ decimal s ++ codes " " ++ standing_text how
 act_text (HandedOut s) = codes "drop " ++ decimal s
 act_text (Answered (Number n)) = codes "answered " ++ decimal n
 act_text JobParked = codes "parked"
-act_text (Finished wake) = codes "finished" ++ wake_text wake
-act_text (GaveUp wake) = codes "gave up" ++ wake_text wake
+act_text (Finished waker) = codes "finished" ++ wake_text waker
+act_text (GaveUp waker) = codes "gave up" ++ wake_text waker
 act_text HolderWoken = codes "delivered owner"
 act_text NoAction = codes "nothing"
 

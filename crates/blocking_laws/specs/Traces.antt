@@ -12,6 +12,8 @@ use Rattle.blocking_laws.specs.declared.event.Act.TheVariants.{Accepted, Refused
 use Rattle.blocking_laws.specs.declared.event.Moment.{Moment}
 use Rattle.blocking_laws.specs.declared.event.Party.{Party}
 use Rattle.blocking_laws.specs.declared.event.Party.TheVariants.{Task, Worker, Pool}
+use Rattle.blocking_laws.specs.declared.event.HolderWaker.TheVariants.{Taken, Absent}
+use Rattle.blocking_laws.specs.declared.event.WaitEnd.TheVariants.{TimedOut}
 use Rattle.blocking_laws.specs.declared.step.Answer.TheVariants.{Number}
 use Rattle.blocking_laws.specs.declared.step.Step.{Step}
 use Rattle.blocking_laws.specs.declared.step.Step.TheVariants.{Spawn, OfTask, Arrive, Take, Job, Io, End, Late, SetLimit, Sweep, Stray}
@@ -53,7 +55,7 @@ Keeps Holds past now = Holds (past ▸ now)
 
 -- The pool's law holds at each moment.
 abbrev pub IsPooled : ℕ → List Bool → List Moment → Type 0
-IsPooled setting marks past = EachMayFollow (PoolLaw setting marks) past
+IsPooled setting plan past = EachMayFollow (PoolLaw setting plan) past
 
 -- the law of this task, whose job is the second number
 abbrev pub LawOfTask : ℕ → ℕ → List Moment → Moment → Type 0
@@ -83,7 +85,7 @@ one_answered = one_taken ▸ moment (Io 1 (Number 5)) (Worker 1) (Some 1) (Answe
 
 -- accepted 1 +1 / arrived 1 / took 1 / answered 5 / finished
 abbrev pub one_finished : List Moment
-one_finished = one_answered ▸ moment (Job 1) (Worker 1) (Some 1) (Finished false) 2
+one_finished = one_answered ▸ moment (Job 1) (Worker 1) (Some 1) (Finished Absent) 2
 
 -- accepted 1 +1 / arrived 1 / took 1 / answered 5 / finished / ended 1 done
 abbrev pub one_done : List Moment
@@ -105,11 +107,11 @@ awaited = one_queued
 
 -- accepted 1 +1 / waits / arrived 1 / took 1 / answered 5 / finished wake owner
 abbrev pub awaited_finished : List Moment
-awaited_finished = awaited ▸ moment (Job 1) (Worker 1) (Some 1) (Finished true) 2
+awaited_finished = awaited ▸ moment (Job 1) (Worker 1) (Some 1) (Finished Taken) 2
 
 -- accepted 1 +1 / waits / arrived 1 / took 1 / answered 5 / finished
 abbrev pub untold_finished : List Moment
-untold_finished = awaited ▸ moment (Job 1) (Worker 1) (Some 1) (Finished false) 2
+untold_finished = awaited ▸ moment (Job 1) (Worker 1) (Some 1) (Finished Absent) 2
 
 -- ---- a call that is let go
 
@@ -125,7 +127,7 @@ dropped_taken = dropped ▸ moment (Take 1) (Worker 1) (Some 1) (TookDropped 1) 
 
 -- accepted 1 +1 / dropped / arrived 1 / took 1 dropped / gave up
 abbrev pub dropped_given_up : List Moment
-dropped_given_up = dropped_taken ▸ moment (Job 1) (Worker 1) (Some 1) (GaveUp false) 2
+dropped_given_up = dropped_taken ▸ moment (Job 1) (Worker 1) (Some 1) (GaveUp Absent) 2
 
 -- accepted 1 +1 / dropped / arrived 1 / took 1 dropped / gave up / ended 1 dropped
 abbrev pub dropped_over : List Moment
@@ -139,7 +141,7 @@ dropped_running = one_taken ▸ moment (OfTask 0 Drop) (Task 0) None HolderDropp
 abbrev pub cancelled_finished : List Moment
 cancelled_finished = one_answered
     ▸ moment (OfTask 0 Cancel) (Task 0) None TaskCancelled 2
-    ▸ moment (Job 1) (Worker 1) (Some 1) (Finished false) 2
+    ▸ moment (Job 1) (Worker 1) (Some 1) (Finished Absent) 2
 
 -- accepted 1 +1 / waits / cancelled / arrived 1 / took 1 dropped / gave up wake owner
 abbrev pub cancelled_given_up : List Moment
@@ -148,7 +150,7 @@ cancelled_given_up = one_queued
     ▸ moment (OfTask 0 Cancel) (Task 0) None TaskCancelled 2
     ▸ moment Arrive (Worker 1) None (Arrived 1) 2
     ▸ moment (Take 1) (Worker 1) (Some 1) (TookDropped 1) 2
-    ▸ moment (Job 1) (Worker 1) (Some 1) (GaveUp true) 2
+    ▸ moment (Job 1) (Worker 1) (Some 1) (GaveUp Taken) 2
 
 -- accepted 1 +1 / cancelled / waits / arrived 1 / took 1 dropped / gave up
 abbrev pub untold_given_up : List Moment
@@ -157,7 +159,7 @@ untold_given_up = one_queued
     ▸ moment (OfTask 0 Poll) (Task 0) None Waits 2
     ▸ moment Arrive (Worker 1) None (Arrived 1) 2
     ▸ moment (Take 1) (Worker 1) (Some 1) (TookDropped 1) 2
-    ▸ moment (Job 1) (Worker 1) (Some 1) (GaveUp false) 2
+    ▸ moment (Job 1) (Worker 1) (Some 1) (GaveUp Absent) 2
 
 -- accepted 1 +1 / detached
 abbrev pub detached : List Moment
@@ -227,7 +229,7 @@ one_parked = one_waits ▸ moment (End 1) (Worker 1) (Some 1) (Ended 1 Parked) 2
 
 -- accepted 1 +1 / arrived 1 / took 1 / parked / ended 1 parked / stopped 1
 abbrev pub unstaffed_parked : List Moment
-unstaffed_parked = one_parked ▸ moment (Late 1) (Worker 1) None (Stopped 1 true) 2
+unstaffed_parked = one_parked ▸ moment (Late 1) (Worker 1) None (Stopped 1 TimedOut) 2
 
 -- accepted 1 +1 / arrived 1 / took 1 / parked / ended 1 parked / stopped 1 / dropped
 abbrev pub unstaffed_dropped : List Moment

@@ -20,7 +20,7 @@ pub data Turn : Type 0 where
 -- the turn of job s after an act, which may be the job's own
 abbrev pub turn_by : Act → Bool → ℕ → Turn → Turn
 turn_by JobParked is_own s before = if is_own then IsWaiting else before
-turn_by (GaveUp wake) is_own s before = if is_own then HasGivenUp else before
+turn_by (GaveUp waker) is_own s before = if is_own then HasGivenUp else before
 turn_by (Took t) is_own s before = if t == s then GoesOn else before
 turn_by (TookDropped t) is_own s before = if t == s then MustGiveUp else before
 turn_by (HandedOut t) is_own s before = if t == s then MustGiveUp else before
@@ -59,7 +59,7 @@ HoldsOne past now act = Unit {0}
 
 -- whether a job gives up
 abbrev pub is_giving_up : Act → Bool
-is_giving_up (GaveUp wake) = true
+is_giving_up (GaveUp waker) = true
 is_giving_up _ = false
 
 -- What a job may do by where it is in its turn: while it goes on it doesn't give up; while it waits it does nothing; one

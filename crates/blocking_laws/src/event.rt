@@ -1,4 +1,6 @@
 //! What is seen of a step.
+ghost use Rattle.std.specs.Prelude.{◌≡◌};
+
 use crate::step::{Answer, Step};
 use blocking_core::pool::{Refusal, Standing, Woke};
 
@@ -13,8 +15,51 @@ pub enum Party {
     Pool,
 }
 
-/// What was done. Jobs go by their serials, and a wake is told as a truth value: whether the waker of the job's holder was
-/// taken out of its seat.
+/// How the wait of a worker ended.
+#[derive(Clone, Copy, Debug)]
+pub enum WaitEnd {
+    /// The worker was woken.
+    Woken,
+    /// Its time was up.
+    TimedOut,
+}
+
+impl WaitEnd {
+    ghost use Rattle.blocking_laws.specs.Seen.{has_timed_out};
+
+    /// Whether the worker's time was up.
+    pub fn has_timed_out(self) -> bool
+        ensures { result ≡ has_timed_out self }
+    {
+        matches!(self, WaitEnd::TimedOut)
+    }
+}
+
+/// What a job found in the seat of its holder.
+#[derive(Clone, Copy, Debug)]
+pub enum HolderWaker {
+    /// A waker, which the job took out of the seat and calls next.
+    Taken,
+    /// No waker: the job has nobody to call.
+    Absent,
+}
+
+impl HolderWaker {
+    ghost use Rattle.blocking_laws.specs.Seats.{waker_in};
+
+    /// What a job finds in a seat, by whether a waker is seated there.
+    pub fn in_seat(is_seated: bool) -> HolderWaker
+        ensures { result ≡ waker_in is_seated }
+    {
+        if is_seated {
+            HolderWaker::Taken
+        } else {
+            HolderWaker::Absent
+        }
+    }
+}
+
+/// What was done. Jobs go by their serials.
 #[derive(Clone, Copy, Debug)]
 pub enum Act {
     // at the pool
@@ -52,10 +97,10 @@ pub enum Act {
     TookDropped(u64),
     /// It found no job to take.
     TookNone,
-    /// The worker of this number stays; whether its wait had timed out.
-    Stays(usize, bool),
-    /// The worker of this number stops; whether its wait had timed out.
-    Stopped(usize, bool),
+    /// The worker of this number stays, after a wait that ended so.
+    Stays(usize, WaitEnd),
+    /// The worker of this number stops, after a wait that ended so.
+    Stopped(usize, WaitEnd),
     /// The turn of this job ended, and left it so.
     Ended(u64, Standing),
     /// The run of this job ended, and the job is handed to its worker to be dropped.
@@ -65,10 +110,10 @@ pub enum Act {
     Answered(Answer),
     /// The job found that it has to wait for a wake.
     JobParked,
-    /// The job put its result where its holder finds it; whether it took a waker out of its seat.
-    Finished(bool),
-    /// The job gave up: no result will come; whether it took a waker out of its seat.
-    GaveUp(bool),
+    /// The job put its result where its holder finds it, and found this in the holder's seat.
+    Finished(HolderWaker),
+    /// The job gave up: no result will come. It found this in the holder's seat.
+    GaveUp(HolderWaker),
     /// The waker that the job took out of its seat was called.
     HolderWoken,
     // of nobody

@@ -10,5 +10,5 @@ pub mod laws;
 pub mod step;
 mod text;
 
-pub use event::{Act, Event, Moment, Party};
+pub use event::{Act, Event, HolderWaker, Moment, Party, WaitEnd};
 pub use step::{Answer, Step, TaskCall};

@@ -3,7 +3,7 @@ ghost use Rattle.std.specs.Prelude.{◌≡◌, Some};
 ghost use Rattle.std.specs.Fmt.{WritesOnOk};
 ghost use Rattle.blocking_laws.specs.Texts.{act_text, event_text, starts_text, wake_text, refusal_text, woke_text, standing_text};
 
-use crate::event::{Act, Event};
+use crate::event::{Act, Event, HolderWaker};
 use crate::step::Answer;
 use blocking_core::pool::{Refusal, Standing, Woke};
 use std::fmt;
@@ -61,8 +61,8 @@ impl fmt::Display for Act {
             Act::HandedOut(serial) => write!(f, "drop {serial}"),
             Act::Answered(Answer::Number(number)) => write!(f, "answered {number}"),
             Act::JobParked => f.write_str("parked"),
-            Act::Finished(wake) => write!(f, "finished{}", wake_word(wake)),
-            Act::GaveUp(wake) => write!(f, "gave up{}", wake_word(wake)),
+            Act::Finished(waker) => write!(f, "finished{}", wake_word(waker)),
+            Act::GaveUp(waker) => write!(f, "gave up{}", wake_word(waker)),
             Act::HolderWoken => f.write_str("delivered owner"),
             Act::NoAction => f.write_str("nothing"),
         }
@@ -101,8 +101,11 @@ fn standing_word(standing: Standing) -> &'static str
     }
 }
 
-fn wake_word(wake: bool) -> &'static str
-    ensures { result.now ≡ wake_text wake }
+fn wake_word(waker: HolderWaker) -> &'static str
+    ensures { result.now ≡ wake_text waker }
 {
-    if wake { " wake owner" } else { "" }
+    match waker {
+        HolderWaker::Taken => " wake owner",
+        HolderWaker::Absent => "",
+    }
 }

@@ -6,8 +6,8 @@ use Rattle.blocking_pool.specs.Jobs.{Job, Jobs, JobNumber, is_parked, is_running
 use Rattle.blocking_pool.specs.declared.pool.answer.Woke.{Woke}
 use Rattle.blocking_pool.specs.declared.pool.answer.Woke.TheVariants.{Marked}
 use Rattle.blocking_world.specs.Worlds.{CallPool}
-use Rattle.blocking_world.specs.Crews.{NoneParked, mark_value, after_wake, after_cancel}
-use Rattle.blocking_world.specs.Machine.{pool_called}
+use Rattle.blocking_world.specs.Crews.{NoneParked, pool_after_mark_of, after_wake, after_cancel}
+use Rattle.blocking_world.specs.Machine.{pool_after_call}
 use Rattle.blocking_world.specs.declared.call.CallJob.{CallJob}
 use Rattle.blocking_laws.specs.declared.step.TaskCall.{TaskCall}
 use Rattle.blocking_laws.specs.declared.step.TaskCall.TheVariants.{Poll, Cancel, Detach, Drop}
@@ -81,7 +81,7 @@ pub record Kept (pool new : CallPool) : Type 0 where
   pub alike : Alike pool.jobs new.jobs
   pub counts_same : new.counts ≡ pool.counts
 
-mark_kept : (pool : CallPool) (number : JobNumber) (o : Option CallJob) → Kept pool (mark_value pool number o)
+mark_kept : (pool : CallPool) (number : JobNumber) (o : Option CallJob) → Kept pool (pool_after_mark_of pool number o)
 mark_kept pool number None = record { alike = same_alike pool.jobs; counts_same = refl }
 mark_kept pool number (Some value) =
     record { alike = amend_alike pool.jobs number.serial (valued (record value { is_marked = true })) (λ j. refl) (λ j. refl); counts_same = refl }
@@ -94,8 +94,8 @@ pub cancel_kept : (how : Woke) (pool : CallPool) (number : JobNumber) → Kept p
 cancel_kept Marked pool number = record { alike = amend_alike pool.jobs number.serial cancelled (λ j. refl) (λ j. refl); counts_same = refl }
 cancel_kept _ pool number = record { alike = same_alike pool.jobs; counts_same = refl }
 
-pub called_kept : (call : TaskCall) (pool : CallPool) (number : JobNumber) → Kept pool (pool_called call pool number)
-called_kept Poll pool number = record { alike = same_alike pool.jobs; counts_same = refl }
-called_kept Detach pool number = record { alike = same_alike pool.jobs; counts_same = refl }
-called_kept Cancel pool number = mark_kept pool number (value_at (job_of pool.jobs number))
-called_kept Drop pool number = mark_kept pool number (value_at (job_of pool.jobs number))
+pub call_kept : (call : TaskCall) (pool : CallPool) (number : JobNumber) → Kept pool (pool_after_call call pool number)
+call_kept Poll pool number = record { alike = same_alike pool.jobs; counts_same = refl }
+call_kept Detach pool number = record { alike = same_alike pool.jobs; counts_same = refl }
+call_kept Cancel pool number = mark_kept pool number (value_at (job_of pool.jobs number))
+call_kept Drop pool number = mark_kept pool number (value_at (job_of pool.jobs number))

@@ -12,14 +12,14 @@ use Rattle.blocking_pool.specs.declared.pool.answer.Refusal.TheVariants.{Memory,
 use Rattle.blocking_pool.specs.declared.pool.answer.Woke.{Woke}
 use Rattle.blocking_pool.specs.declared.pool.standing.Standing.{Standing}
 use Rattle.blocking_pool.specs.declared.pool.standing.Standing.TheVariants.{Queued, Running, Parked, Done, Dropped}
-use Rattle.blocking_laws.specs.Seen.{joined, events, acts_of}
+use Rattle.blocking_laws.specs.Seen.{joined, events, acts_of, has_timed_out}
 use Rattle.blocking_laws.specs.Jobs.{accepted_jobs, standing, is_woken, is_cancelled, is_marked, is_to_drop, has_ended}
 use Rattle.blocking_laws.specs.Queue.{queue, to_sweep}
 use Rattle.blocking_laws.specs.Counts.{starts, arrivals, workers, limit}
-use Rattle.blocking_laws.specs.Growth.{IsMarked}
+use Rattle.blocking_laws.specs.Growth.{IsPlanned}
 use Rattle.blocking_laws.specs.Turns.{Turn, turn}
 use Rattle.blocking_laws.specs.Answers.{PoolAnswers, AnswerLaw, take_answer, take_from, end_of, wait_act}
-use Rattle.blocking_world.specs.Worlds.{Worlded, CallPool, outcome_of, owner_at}
+use Rattle.blocking_world.specs.Worlds.{Worlded, CallPool, outcome_of, task_at}
 use Rattle.blocking_world.specs.Crews.{AddsTo, TakesFront, no_growth}
 use Rattle.blocking_world.specs.Machine.{added_act, next_start, was_accepted}
 use Rattle.blocking_world.specs.Moves.{Move, Begins, Calls, Arrives, TakesJob, TakesNone, EndsTurn, HasWaited, Sweeps, IsWoken, IsStruck, May, moment_of, step_of, took}
@@ -30,13 +30,14 @@ use Rattle.blocking_laws.specs.declared.event.Act.TheVariants.{Took, TookDropped
 use Rattle.blocking_laws.specs.declared.event.Moment.{Moment}
 use Rattle.blocking_laws.specs.declared.event.Party.{Party}
 use Rattle.blocking_laws.specs.declared.event.Party.TheVariants.{Worker}
+use Rattle.blocking_laws.specs.declared.event.WaitEnd.{WaitEnd}
 use Rattle.blocking_world.specs.declared.hand.Stage.{Stage}
 use Rattle.blocking_world.specs.declared.hand.Stage.TheVariants as stage
 use Rattle.blocking_laws.specs.declared.step.Step.{Step}
 use Rattle.blocking_world.proofs.Entries.{sweep_enters}
 use Rattle.blocking_world.proofs.Polls.{by_call}
 use Rattle.blocking_world.proofs.Quiet.{seen_at}
-use Rattle.blocking_world.proofs.Tied.{owner_there, accepted_within, accepted_serial, own_place, nothing_to_sweep}
+use Rattle.blocking_world.proofs.Tied.{task_there, accepted_within, accepted_serial, own_place, nothing_to_sweep}
 
 -- ---- new jobs and arrivals
 
@@ -116,10 +117,10 @@ stop_is setting w past late t =
     ap (λ (ns : List ℕ). length ns == 0) (sweep_enters late (to_sweep past) (queue past) swept) ∙ none_left (queue past) ∙ ap is_empty (sym t.lined.same) in
     ap₂ (λ (a b : Bool). a || late && b) (ap₂ nat_lt (sym t.counted.limit_is) (workers_is setting w past t.counted)) left
 
-waited_rightly : (setting : ℕ) (w : Worlded) (past : List Moment) (step : Step) (who : Party) (job : Option ℕ) (v first : ℕ) (late stop : Bool) → Tied setting w past
-    → must_stop late w.pool ≡ stop → AnswerLaw setting past (seen_at step who job (wait_act v late stop) first no_growth)
-waited_rightly setting w past step who job v first late false t e = stop_is setting w past late t ∙ e
-waited_rightly setting w past step who job v first late true t e = stop_is setting w past late t ∙ e
+waited_rightly : (setting : ℕ) (w : Worlded) (past : List Moment) (step : Step) (who : Party) (job : Option ℕ) (v first : ℕ) (end : WaitEnd) (stop : Bool) → Tied setting w past
+    → must_stop (has_timed_out end) w.pool ≡ stop → AnswerLaw setting past (seen_at step who job (wait_act v end stop) first no_growth)
+waited_rightly setting w past step who job v first end false t e = stop_is setting w past (has_timed_out end) t ∙ e
+waited_rightly setting w past step who job v first end true t e = stop_is setting w past (has_timed_out end) t ∙ e
 
 -- ---- wakes and cancels
 
@@ -143,14 +144,14 @@ met_as answer (Some entry) place stand wake cancel mark ended acts done dropped 
 
 -- a job that was accepted is answered as it stands
 met_rightly : (answer : Option Standing → Woke) (setting : ℕ) (w : Worlded) (past : List Moment) (s : ℕ) → answer None ≡ answer (Some Done) → answer None ≡ answer (Some Dropped)
-    → Tied setting w past → was_accepted w s ≡ true → answer (standing_of w.pool.jobs (owner_at w.tasks s).number) ≡ answer (standing past s)
+    → Tied setting w past → was_accepted w s ≡ true → answer (standing_of w.pool.jobs (task_at w.tasks s).number) ≡ answer (standing past s)
 met_rightly answer setting w past s done dropped t accepted =
-    let owner = owner_at w.tasks s in
+    let task = task_at w.tasks s in
     let serial = accepted_serial w past s t.numbered accepted in
-    let found = owner_there w.tasks (s - 1) (accepted_within w s accepted).1 in
-    ap (λ (n : ℕ). answer (option_map (λ (job : Entry CallJob). job.standing) (if_at owner.number.place (get w.pool.jobs n)))) serial
-    ∙ met_as answer (get w.pool.jobs s) owner.number.place (standing past s) _ _ _ _ _
-    done dropped (λ entry e. own_place w past (s - 1) owner t.numbered found entry (ap (get w.pool.jobs) serial ∙ e)) (t.filed s)
+    let found = task_there w.tasks (s - 1) (accepted_within w s accepted).1 in
+    ap (λ (n : ℕ). answer (option_map (λ (job : Entry CallJob). job.standing) (if_at task.number.place (get w.pool.jobs n)))) serial
+    ∙ met_as answer (get w.pool.jobs s) task.number.place (standing past s) _ _ _ _ _
+    done dropped (λ entry e. own_place w past (s - 1) task t.numbered found entry (ap (get w.pool.jobs) serial ∙ e)) (t.filed s)
 
 -- ---- each move
 
@@ -160,23 +161,23 @@ arrives_rightly setting w past c some =
     let hands = c.hands_are in let arriving = c.arriving_are in (omega (arith, hands), omega (arith, hands, arriving, some))
 
 -- Each move is answered as the law says.
-pub answers_after : (setting : ℕ) (marks : List Bool) (w : Worlded) (past : List Moment) (move : Move) → Tied setting w past → May (IsMarked marks) w move
+pub answers_after : (setting : ℕ) (plan : List Bool) (w : Worlded) (past : List Moment) (move : Move) → Tied setting w past → May (IsPlanned plan) w move
     → AnswerLaw setting past (moment_of w move)
-answers_after setting marks w past (Begins added growth pool) t may =
-    begins_rightly (IsMarked marks) setting w past (moment_of w (Begins added growth pool)) added growth pool t.numbered may
-answers_after setting marks w past (Calls k call owner) t may =
-    by_call (λ (act : Act). PoolAnswers setting past (moment_of w (Calls k call owner)) act) tt (λ n. tt) tt tt tt tt call owner
-answers_after setting marks w past (Arrives pass) t may = arrives_rightly setting w past t.counted may
-answers_after setting marks w past (TakesJob v old to_drop turn job growth pool) t may =
-    took_rightly setting past (moment_of w (TakesJob v old to_drop turn job growth pool)) to_drop turn.serial (take_is (IsMarked marks) setting w past turn job to_drop growth pool t may.1)
-answers_after setting marks w past (TakesNone v old pass) t may = ap (take_from past) (sym may.1 ∙ t.lined.same)
-answers_after setting marks w past (EndsTurn v held pass) t may =
-    let s = held.turn.serial in
-    let is = t.handed.held v held may.0 in
-    end_is held.stage (is_to_drop past s) (is_woken past s) s ∙ ap (λ (at : Turn). end_of at (is_to_drop past s) (is_woken past s) s) (sym is.turn_is)
-answers_after setting marks w past (HasWaited v pass late) t may =
-    waited_rightly setting w past (step_of (HasWaited v pass late)) (Worker v) None v (next_start w) late (must_stop late w.pool) t refl
-answers_after setting marks w past Sweeps t may = sym (ap length (nothing_to_sweep w past t.filed))
-answers_after setting marks w past (IsWoken s) t may = met_rightly wake_of setting w past s refl refl t may
-answers_after setting marks w past (IsStruck s) t may = met_rightly cancel_of setting w past s refl refl t may.0
-answers_after setting marks w past move t may = tt
+answers_after setting plan w past (Begins added growth pool) t may =
+    begins_rightly (IsPlanned plan) setting w past (moment_of w (Begins added growth pool)) added growth pool t.numbered may
+answers_after setting plan w past (Calls k call task) t may =
+    by_call (λ (act : Act). PoolAnswers setting past (moment_of w (Calls k call task)) act) tt (λ n. tt) tt tt tt tt call task
+answers_after setting plan w past (Arrives pass) t may = arrives_rightly setting w past t.counted may
+answers_after setting plan w past (TakesJob v old to_drop turn job growth pool) t may =
+    took_rightly setting past (moment_of w (TakesJob v old to_drop turn job growth pool)) to_drop turn.serial (take_is (IsPlanned plan) setting w past turn job to_drop growth pool t may.1)
+answers_after setting plan w past (TakesNone v old pass) t may = ap (take_from past) (sym may.1 ∙ t.lined.same)
+answers_after setting plan w past (EndsTurn v in_hand pass) t may =
+    let s = in_hand.turn.serial in
+    let is = t.handed.in_hand v in_hand may.0 in
+    end_is in_hand.stage (is_to_drop past s) (is_woken past s) s ∙ ap (λ (at : Turn). end_of at (is_to_drop past s) (is_woken past s) s) (sym is.turn_is)
+answers_after setting plan w past (HasWaited v pass end) t may =
+    waited_rightly setting w past (step_of (HasWaited v pass end)) (Worker v) None v (next_start w) end (must_stop (has_timed_out end) w.pool) t refl
+answers_after setting plan w past Sweeps t may = sym (ap length (nothing_to_sweep w past t.filed))
+answers_after setting plan w past (IsWoken s) t may = met_rightly wake_of setting w past s refl refl t may
+answers_after setting plan w past (IsStruck s) t may = met_rightly cancel_of setting w past s refl refl t may.0
+answers_after setting plan w past move t may = tt

@@ -28,12 +28,12 @@ no_hand v = hand_or (v == 0)
 numbered : (setting : ℕ) → Numbered (first_world setting) []
 numbered setting =
     record {
-      owners = refl;
+      tasks_are = refl;
       accepted = refl;
       next = refl;
       holders = λ s. sym (none_held 0 s (omega arith));
-      numbers = λ k owner there. cc;
-      places = λ k owner entry there found. cc;
+      numbers = λ k task there. cc;
+      places = λ k task entry there found. cc;
       stands = λ s. refl;
     }
 
@@ -65,7 +65,7 @@ ready setting =
     record {
       parked = λ s. ap is_parked_job (no_job setting s);
       idle = refl;
-      held = λ n held there. cc;
+      in_hand = λ n in_hand there. cc;
       apart = λ m n one other here there same. cc;
     }
 
@@ -73,7 +73,7 @@ handed : (setting : ℕ) → Handed (first_world setting) []
 handed setting =
     record {
       each = λ v. out_hand v (hand_at [] v) (no_hand v);
-      held = λ v held there. let out : Out ≡ Holds held = cc (no_hand v, there) in cc;
+      in_hand = λ v in_hand there. let out : Out ≡ Holds in_hand = cc (no_hand v, there) in cc;
       ready = ready setting;
       marks = λ s marked. cc;
     }
@@ -86,11 +86,11 @@ tied setting positive =
       lined = record { same = refl; once = tt; each = λ s. refl; order = refl };
       counted = counted setting positive;
       handed = handed setting;
-      tasked = record { each = λ k owner there. cc; unborn = λ k beyond. refl };
+      tasked = record { each = λ k task there. cc; unborn = λ k beyond. refl };
     }
 
-legal : (setting : ℕ) (marks : List Bool) → Legal setting marks []
-legal setting marks =
+legal : (setting : ℕ) (plan : List Bool) → Legal setting plan []
+legal setting plan =
     record {
       steps = tt;
       pool = tt;
@@ -99,12 +99,12 @@ legal setting marks =
     }
 
 -- a new world is lawful
-pub begins_lawful : (setting : ℕ) (marks : List Bool) → 0 < setting → IsLawful setting marks (first_world setting) []
-begins_lawful setting marks positive = record { tied = tied setting positive; legal = legal setting marks; holding = record { passes_are = refl; turns_are = refl; jobs_are = refl } }
+pub begins_lawful : (setting : ℕ) (plan : List Bool) → 0 < setting → IsLawful setting plan (first_world setting) []
+begins_lawful setting plan positive = record { tied = tied setting positive; legal = legal setting plan; holding = record { passes_are = refl; turns_are = refl; jobs_are = refl } }
 
 -- the same, of parts that are those of a new world
-pub begun : (setting : ℕ) (marks : List Bool) (w : Worlded) → w ≡ first_world setting → 0 < setting → IsLawful w.pool.counts.setting marks w []
-begun setting marks w is positive = subst (λ v. IsLawful v.pool.counts.setting marks v []) (sym is) (begins_lawful setting marks positive)
+pub begun : (setting : ℕ) (plan : List Bool) (w : Worlded) → w ≡ first_world setting → 0 < setting → IsLawful w.pool.counts.setting plan w []
+begun setting plan w is positive = subst (λ v. IsLawful v.pool.counts.setting plan v []) (sym is) (begins_lawful setting plan positive)
 
 some_limit : (number : Option ℕ) → 0 < limit_by number
 some_limit None = omega arith

@@ -13,7 +13,7 @@ use Rattle.blocking_world.specs.Worlds.{CallPool}
 use Rattle.blocking_world.specs.declared.call.CallJob.{CallJob}
 use Rattle.blocking_world.specs.declared.hand.Hand.{Hand}
 use Rattle.blocking_world.specs.declared.hand.Hand.TheVariants.{Out, Free, Holds}
-use Rattle.blocking_world.specs.declared.hand.Held.{Held}
+use Rattle.blocking_world.specs.declared.hand.JobInHand.{JobInHand}
 use Rattle.blocking_world.proofs.Alike.{remove_unparked, remove_runs}
 use Rattle.blocking_world.proofs.Hands.{free_set, free_pushed}
 use Rattle.blocking_world.proofs.Rows.{got_same, got_other, set_same}
@@ -57,45 +57,45 @@ got_index (one ∷ row) (suc n) other within = got_index row n other (omega (ari
 pub runs_at : (pool : CallPool) (row : List Hand) (n : ℕ) (hand : Hand) → AreLeft pool row → slice_get row n ≡ Some hand → RunsIn pool.jobs hand
 runs_at pool row n Out left found = tt
 runs_at pool row n (Free pass) left found = tt
-runs_at pool row n (Holds held) left found = left.runs n held found
+runs_at pool row n (Holds in_hand) left found = left.runs n in_hand found
 
 -- a hand after its turn has ended holds no job
-no_job_after : (hand after : Hand) (pool new : CallPool) (held : Held) → EndsTurn hand pool after new → after ≡ Holds held → ⊥
-no_job_after Out after pool new held ends is = (let out = ends.0 in cc)
-no_job_after (Free pass) after pool new held ends is = (let free = ends.0 in cc)
-no_job_after (Holds one) after pool new held ends is = (let free = ends.1 in cc)
+no_job_after : (hand after : Hand) (pool new : CallPool) (in_hand : JobInHand) → EndsTurn hand pool after new → after ≡ Holds in_hand → ⊥
+no_job_after Out after pool new in_hand ends is = (let out = ends.0 in cc)
+no_job_after (Free pass) after pool new in_hand ends is = (let free = ends.0 in cc)
+no_job_after (Holds one) after pool new in_hand ends is = (let free = ends.1 in cc)
 
 -- a job in another place than the one that has changed was there before
-held_before : (row : List Hand) (place n : ℕ) (after : Hand) (held : Held) → place < length row → ((one : Held) → after ≡ Holds one → ⊥)
-    → slice_get (slice_set row place after) n ≡ Some (Holds held) → (n ≢ place) × (slice_get row n ≡ Some (Holds held))
-held_before row place n after held within jobless found =
+in_hand_before : (row : List Hand) (place n : ℕ) (after : Hand) (in_hand : JobInHand) → place < length row → ((one : JobInHand) → after ≡ Holds one → ⊥)
+    → slice_get (slice_set row place after) n ≡ Some (Holds in_hand) → (n ≢ place) × (slice_get row n ≡ Some (Holds in_hand))
+in_hand_before row place n after in_hand within jobless found =
     elim (cases_eq n place) [
       | inl same ↦
-          (let here : slice_get (slice_set row place after) place ≡ Some (Holds held) = subst (λ (m : ℕ). slice_get (slice_set row place after) m ≡ Some (Holds held)) same found in
+          (let here : slice_get (slice_set row place after) place ≡ Some (Holds in_hand) = subst (λ (m : ℕ). slice_get (slice_set row place after) m ≡ Some (Holds in_hand)) same found in
           let there = got_same row place after within in
-          let is : after ≡ Holds held = cc in
-          absurd (jobless held is))
+          let is : after ≡ Holds in_hand = cc in
+          absurd (jobless in_hand is))
       | inr differs ↦ (differs, sym (got_other row place n after (λ same. differs (sym same))) ∙ found)
     ]
 
-module _ (pool new : CallPool) (row : List Hand) (place : ℕ) (held : Held) (pass : WorkerPass) (left : AreLeft pool row)
-    (found : slice_get row place ≡ Some (Holds held)) (ended : new ≡ without_job pool held.turn.serial) where
-  before : (n : ℕ) (other : Held) → slice_get (slice_set row place (Free pass)) n ≡ Some (Holds other) → (n ≢ place) × (slice_get row n ≡ Some (Holds other))
-  before n other = held_before row place n (Free pass) other (slice_get_within row place (Holds held) found) (λ one is. cc)
+module _ (pool new : CallPool) (row : List Hand) (place : ℕ) (in_hand : JobInHand) (pass : WorkerPass) (left : AreLeft pool row)
+    (found : slice_get row place ≡ Some (Holds in_hand)) (ended : new ≡ without_job pool in_hand.turn.serial) where
+  before : (n : ℕ) (other : JobInHand) → slice_get (slice_set row place (Free pass)) n ≡ Some (Holds other) → (n ≢ place) × (slice_get row n ≡ Some (Holds other))
+  before n other = in_hand_before row place n (Free pass) other (slice_get_within row place (Holds in_hand) found) (λ one is. cc)
 
   -- the hands, after the turn of one has ended
   ended_left : AreLeft new (slice_set row place (Free pass))
   ended_left = record {
-    parked = still_none_parked pool new held.turn.serial ended left.parked;
+    parked = still_none_parked pool new in_hand.turn.serial ended left.parked;
     idle =
         let idle : new.counts.idle ≡ pool.counts.idle + 1 = ap (λ (p : CallPool). p.counts.idle) ended in
         let arriving : new.counts.arriving ≡ pool.counts.arriving = ap (λ (p : CallPool). p.counts.arriving) ended in
         let level = left.idle in
-        let more = free_set row place (Holds held) (Free pass) found in
+        let more = free_set row place (Holds in_hand) (Free pass) found in
         omega (arith, idle, arriving, level, more);
     runs =
         λ n other now. (let was = before n other now in
-        others_run pool new held.turn.serial ended other.turn (λ same. was.0 (left.apart n place other held was.1 found same)) (left.runs n other was.1));
+        others_run pool new in_hand.turn.serial ended other.turn (λ same. was.0 (left.apart n place other in_hand was.1 found same)) (left.runs n other was.1));
     apart = λ m n one other first second same. left.apart m n one other (before m one first).1 (before n other second).1 same;
   }
 
@@ -108,29 +108,29 @@ still_left pool new row place Out after left found ends =
 still_left pool new row place (Free pass) after left found ends =
     let same : slice_set row place after ≡ row = ap (slice_set row place) ends.0 ∙ set_same row place (Free pass) found in
     rw same (subst (λ (p : CallPool). AreLeft p row) (sym ends.1) left)
-still_left pool new row place (Holds held) after left found ends =
-    rw ends.1 (ended_left pool new row place held ends.0 left found ends.2)
+still_left pool new row place (Holds in_hand) after left found ends =
+    rw ends.1 (ended_left pool new row place in_hand ends.0 left found ends.2)
 
 -- no hand before this place holds a job
 abbrev pub Jobless : List Hand → ℕ → Type 0
-Jobless row place = (n : ℕ) (held : Held) → n < place → slice_get row n ≢ Some (Holds held)
+Jobless row place = (n : ℕ) (in_hand : JobInHand) → n < place → slice_get row n ≢ Some (Holds in_hand)
 
 -- nor does the one at it, after its turn has ended
 pub jobless_next : (pool new : CallPool) (row : List Hand) (place : ℕ) (hand after : Hand) → Jobless row place → slice_get row place ≡ Some hand → EndsTurn hand pool after new
     → Jobless (slice_set row place after) (place + 1)
-jobless_next pool new row place hand after jobless found ends n held early now =
+jobless_next pool new row place hand after jobless found ends n in_hand early now =
     let was =
-    held_before row place n after held (slice_get_within row place hand found) (λ one is. no_job_after hand after pool new one ends is) now in
+    in_hand_before row place n after in_hand (slice_get_within row place hand found) (λ one is. no_job_after hand after pool new one ends is) now in
     let differs = was.0 in
     let less : n < place = omega (arith, early, differs) in
-    jobless n held less was.1
+    jobless n in_hand less was.1
 
 -- after all turns no hand holds a job
 pub all_idle : (pool : CallPool) (row : List Hand) → AreLeft pool row → Jobless row (length row) → AreIdle pool row
 all_idle pool row left jobless = record {
   parked = left.parked;
   idle = left.idle;
-  jobless = λ n held found. jobless n held (slice_get_within row n (Holds held) found) found;
+  jobless = λ n in_hand found. jobless n in_hand (slice_get_within row n (Holds in_hand) found) found;
 }
 
 -- ---- one pass
@@ -140,8 +140,8 @@ module _ (pool : CallPool) (hands row : List Hand) (hand : Hand) (popped : hands
   whole = subst (λ (h : List Hand). AreIdle pool h) popped idle
 
   -- the last hand holds no job
-  pub last_jobless : (held : Held) → hand ≡ Holds held → ⊥
-  last_jobless held is = whole.jobless (length row) held (last_at row hand ∙ ap Some is)
+  pub last_jobless : (in_hand : JobInHand) → hand ≡ Holds in_hand → ⊥
+  last_jobless in_hand is = whole.jobless (length row) in_hand (last_at row hand ∙ ap Some is)
 
   -- a free hand is that of an idle worker
   pub last_free : pool.counts.arriving + one_if_free hand ≤ pool.counts.idle
@@ -154,5 +154,5 @@ module _ (pool : CallPool) (hands row : List Hand) (hand : Hand) (popped : hands
   rest_idle new parked level = record {
     parked = parked;
     idle = level (free_hands row) (let now = whole.idle in let more = free_pushed row hand in omega (arith, now, more));
-    jobless = λ n held found. whole.jobless n held (early_at row (hand ∷ []) n (Holds held) found);
+    jobless = λ n in_hand found. whole.jobless n in_hand (early_at row (hand ∷ []) n (Holds in_hand) found);
   }

@@ -14,19 +14,20 @@ use Rattle.blocking_pool.specs.declared.pool.standing.Standing.{Standing}
 use Rattle.blocking_pool.specs.declared.pool.standing.Standing.TheVariants.{Queued, Running}
 use Rattle.blocking_pool.specs.declared.pool.token.WorkerPass.{WorkerPass}
 use Rattle.blocking_pool.proofs.Lists.{IsOnce-push, IsOnce-without}
+use Rattle.blocking_laws.specs.Seen.{has_timed_out}
 use Rattle.blocking_laws.specs.Jobs.{is_queued, is_running, standing}
 use Rattle.blocking_laws.specs.Queue.{queue, running}
 use Rattle.blocking_laws.specs.Counts.{added, starts, refused_starts, arrivals, stops, workers, limit}
-use Rattle.blocking_laws.specs.Growth.{IsMarked, known_limit, has_limit}
+use Rattle.blocking_laws.specs.Growth.{IsPlanned, known_limit, has_limit}
 use Rattle.blocking_world.proofs.Entries.{comes_in}
 use Rattle.blocking_world.proofs.Growing.{numbers_last}
 use Rattle.blocking_world.proofs.Hands.{at_free, free_set}
-use Rattle.blocking_world.proofs.Lookups.{JobsAlone, called_alone, wake_alone, cancel_alone}
+use Rattle.blocking_world.proofs.Lookups.{JobsAlone, call_alone, wake_alone, cancel_alone}
 use Rattle.blocking_world.proofs.Quiet.{seen_at, JobsStay, CountsStay, may_grow, jobs_stay, ungrown, counts_stay, moves_job, moves_count, jobs_stay_at, counts_stay_at}
 use Rattle.blocking_world.proofs.Rows.{in_end, front_in, one_out, in_without}
-use Rattle.blocking_world.proofs.Tied.{fresh, held_runs}
+use Rattle.blocking_world.proofs.Tied.{fresh, in_hand_runs}
 use Rattle.blocking_world.specs.Crews.{no_growth, GrowsBy}
-use Rattle.blocking_world.specs.Worlds.{Worlded, CallPool, hand_at, outcome_of, owner_at}
+use Rattle.blocking_world.specs.Worlds.{Worlded, CallPool, hand_at, outcome_of, task_at}
 use Rattle.blocking_laws.specs.Answers.{wait_act}
 use Rattle.blocking_world.specs.Machine.{after_wait}
 use Rattle.blocking_world.specs.Moves.{Move, Begins, Calls, Arrives, TakesJob, TakesNone, IsAnswered, Finishes, GivesUp, CallsWaker, EndsTurn, HasWaited, SetsLimit, IsWoken, IsStruck, May, moment_of, after, wakes_as, cancels_as}
@@ -35,8 +36,9 @@ use Rattle.blocking_world.specs.declared.call.CallJob.{CallJob}
 use Rattle.blocking_laws.specs.declared.event.Act.TheVariants.{Refused, Stays, Stopped}
 use Rattle.blocking_laws.specs.declared.event.Moment.{Moment}
 use Rattle.blocking_laws.specs.declared.event.Party.{Party}
+use Rattle.blocking_laws.specs.declared.event.WaitEnd.{WaitEnd}
 use Rattle.blocking_world.specs.declared.hand.Hand.TheVariants.{Out, Free, Holds}
-use Rattle.blocking_world.specs.declared.hand.Held.{Held}
+use Rattle.blocking_world.specs.declared.hand.JobInHand.{JobInHand}
 use Rattle.blocking_world.specs.declared.hand.Stage.{Stage}
 use Rattle.blocking_world.specs.declared.hand.Stage.TheVariants as stage
 use Rattle.blocking_laws.specs.declared.step.Step.{Step}
@@ -115,25 +117,25 @@ alone_at w (Begins (Ok number) growth pool) moves = absurd cc
 alone_at w (Begins (Err why) growth pool) moves = absurd cc
 alone_at w (Arrives pass) moves = absurd cc
 alone_at w (TakesJob v old to_drop turn job growth pool) moves = absurd cc
-alone_at w (EndsTurn v held pass) moves = absurd cc
-alone_at w (HasWaited v pass late) moves = absurd cc
+alone_at w (EndsTurn v in_hand pass) moves = absurd cc
+alone_at w (HasWaited v pass end) moves = absurd cc
 alone_at w (SetsLimit n) moves = absurd cc
-alone_at w (Calls k call owner) moves = called_alone call w.pool owner.number
-alone_at w (IsWoken s) moves = wake_alone (wakes_as w s) w.pool (owner_at w.tasks s).number
-alone_at w (IsStruck s) moves = cancel_alone (cancels_as w s) w.pool (owner_at w.tasks s).number
+alone_at w (Calls k call task) moves = call_alone call w.pool task.number
+alone_at w (IsWoken s) moves = wake_alone (wakes_as w s) w.pool (task_at w.tasks s).number
+alone_at w (IsStruck s) moves = cancel_alone (cancels_as w s) w.pool (task_at w.tasks s).number
 alone_at w move moves = refl
 
 -- and the hands are as many
 hands_at : (w : Worlded) (move : Move) → moves_count move ≡ false → length (after w move).hands ≡ length w.hands
 hands_at w (Arrives pass) moves = absurd cc
 hands_at w (TakesJob v old to_drop turn job growth pool) moves = absurd cc
-hands_at w (HasWaited v pass late) moves = absurd cc
+hands_at w (HasWaited v pass end) moves = absurd cc
 hands_at w (TakesNone v old pass) moves = length-set w.hands (v - 1) _
-hands_at w (IsAnswered v held number) moves = length-set w.hands (v - 1) _
-hands_at w (Finishes v held) moves = length-set w.hands (v - 1) _
-hands_at w (GivesUp v held) moves = length-set w.hands (v - 1) _
-hands_at w (CallsWaker v held) moves = length-set w.hands (v - 1) _
-hands_at w (EndsTurn v held pass) moves = length-set w.hands (v - 1) _
+hands_at w (IsAnswered v in_hand number) moves = length-set w.hands (v - 1) _
+hands_at w (Finishes v in_hand) moves = length-set w.hands (v - 1) _
+hands_at w (GivesUp v in_hand) moves = length-set w.hands (v - 1) _
+hands_at w (CallsWaker v in_hand) moves = length-set w.hands (v - 1) _
+hands_at w (EndsTurn v in_hand pass) moves = length-set w.hands (v - 1) _
 hands_at w move moves = refl
 
 -- ---- what a growth changes
@@ -168,11 +170,11 @@ abbrev AreGrown : Counts → Growth → Counts → Type 0
 AreGrown old growth new = record new { bell = (grown old growth).bell } ≡ grown old growth
 
 -- its counts after that, by how many workers were idle before, and by the jobs that run now
-grown_counted : (setting : ℕ) (marks : List Bool) (w w' : Worlded) (past later : List Moment) (ready free : ℕ) (growth : Growth) → Counted setting w past
-    → GrowsBy (IsMarked marks) ready (record w.pool.counts { idle = free }) growth → AreGrown (record w.pool.counts { idle = free }) growth w'.pool.counts → length w'.hands ≡ length w.hands
+grown_counted : (setting : ℕ) (plan : List Bool) (w w' : Worlded) (past later : List Moment) (ready free : ℕ) (growth : Growth) → Counted setting w past
+    → GrowsBy (IsPlanned plan) ready (record w.pool.counts { idle = free }) growth → AreGrown (record w.pool.counts { idle = free }) growth w'.pool.counts → length w'.hands ≡ length w.hands
     → GrewIn setting past later growth → w.pool.counts.workers ≡ free + length (running later) → IsOnce (running later)
     → ((s : ℕ) → is_in s (running later) ≡ is_running (standing later s)) → (w.pool.counts.workers + growth.started ≡ 0 → w'.pool.queue ≡ []) → Counted setting w' later
-grown_counted setting marks w w' past later ready free growth c starting counts hands grew idle once each served =
+grown_counted setting plan w w' past later ready free growth c starting counts hands grew idle once each served =
     let g = growth.started in
     let more = added_is (starts past) g in
     let cw : w'.pool.counts.workers ≡ w.pool.counts.workers + g = ap (λ (k : Counts). k.workers) counts in
@@ -189,7 +191,7 @@ grown_counted setting marks w w' past later ready free growth c starting counts 
       known_is = ap (λ (k : Counts). k.limit) counts ∙ ap Some (most ∙ sym grew.most) ∙ sym grew.told;
       positive = subst (λ n. 0 < n) (sym grew.most) (positive_after growth.refused (limit setting past) (workers past + g) c.positive);
       next_is =
-          ap (λ (k : Counts). k.next_worker) counts ∙ next_number (IsMarked marks) _ _ _ _ setting w past growth c starting
+          ap (λ (k : Counts). k.next_worker) counts ∙ next_number (IsPlanned plan) _ _ _ _ setting w past growth c starting
           ∙ ap₂ (λ a b. min (1 + a + b) greatest) (sym grew.began) (sym grew.refusals);
       once = once;
       each = each;
@@ -209,21 +211,21 @@ refused_counted setting w past why growth pool f grows none same c =
     subst₂ (λ (g : Growth) (p : CallPool). Counted setting (after w (Begins (Err why) g p)) (moment_of w (Begins (Err why) g p) ∷ past)) (sym none) (sym same)
     (still_counted setting w w past _ refl refl refl (jobs_stay w past f _ _ _ (Refused why) _ _ refl) (counts_stay w past f setting _ _ _ (Refused why) _ (or_from (may_grow (Refused why)) false grows refl)) c)
 
-begins_counted : (setting : ℕ) (marks : List Bool) (w : Worlded) (past : List Moment) (answer : Result JobNumber Refusal) (growth : Growth) (pool : CallPool)
-    → Tied setting w past → May (IsMarked marks) w (Begins answer growth pool) → Counted setting (after w (Begins answer growth pool)) (moment_of w (Begins answer growth pool) ∷ past)
-begins_counted setting marks w past (Ok number) growth pool t m =
+begins_counted : (setting : ℕ) (plan : List Bool) (w : Worlded) (past : List Moment) (answer : Result JobNumber Refusal) (growth : Growth) (pool : CallPool)
+    → Tied setting w past → May (IsPlanned plan) w (Begins answer growth pool) → Counted setting (after w (Begins answer growth pool)) (moment_of w (Begins answer growth pool) ∷ past)
+begins_counted setting plan w past (Ok number) growth pool t m =
     let staffed = m.staffed in
-    grown_counted setting marks w (after w (Begins (Ok number) growth pool)) past _ (length w.pool.queue + 1) w.pool.counts.idle growth t.counted m.starts (ap (λ (p : CallPool). record p.counts { bell = (grown w.pool.counts growth).bell }) m.after_is) refl
+    grown_counted setting plan w (after w (Begins (Ok number) growth pool)) past _ (length w.pool.queue + 1) w.pool.counts.idle growth t.counted m.starts (ap (λ (p : CallPool). record p.counts { bell = (grown w.pool.counts growth).bell }) m.after_is) refl
     (record { began = refl; gone = refl; came = refl; refusals = refused_more growth.refused _ _; most = refl; told = refl }) t.counted.idle_are t.counted.once
     (λ s. entered_each (number.serial == s) (is_in s (running past)) (standing past s) (t.counted.each s)
     (λ same. t.counted.each s ∙ ap (λ n. is_running (standing past n)) (sym (eqb-true number.serial s same) ∙ m.serial) ∙ ap is_running (fresh w past t.numbered)))
     (λ none. absurd (omega (arith, staffed, none)))
-begins_counted setting marks w past (Err NoWorker) growth pool t m =
-    grown_counted setting marks w (after w (Begins (Err NoWorker) growth pool)) past _ (length w.pool.queue + 1) w.pool.counts.idle growth t.counted m.starts (ap (λ (p : CallPool). record p.counts { bell = (grown w.pool.counts growth).bell }) m.after_is) refl
+begins_counted setting plan w past (Err NoWorker) growth pool t m =
+    grown_counted setting plan w (after w (Begins (Err NoWorker) growth pool)) past _ (length w.pool.queue + 1) w.pool.counts.idle growth t.counted m.starts (ap (λ (p : CallPool). record p.counts { bell = (grown w.pool.counts growth).bell }) m.after_is) refl
     (record { began = refl; gone = refl; came = refl; refusals = refused_more growth.refused _ _; most = refl; told = refl }) t.counted.idle_are t.counted.once t.counted.each
     (λ none. ap (λ (p : CallPool). p.queue) m.after_is ∙ t.counted.served (omega (arith, none)))
-begins_counted setting marks w past (Err Memory) growth pool t m = refused_counted setting w past Memory growth pool t.filed refl m.0 m.1 t.counted
-begins_counted setting marks w past (Err Numbers) growth pool t m = refused_counted setting w past Numbers growth pool t.filed refl m.1 m.2 t.counted
+begins_counted setting plan w past (Err Memory) growth pool t m = refused_counted setting w past Memory growth pool t.filed refl m.0 m.1 t.counted
+begins_counted setting plan w past (Err Numbers) growth pool t m = refused_counted setting w past Numbers growth pool t.filed refl m.1 m.2 t.counted
 
 -- ---- a job is taken
 
@@ -244,36 +246,36 @@ front_idle setting w past s rest t front =
     let there : is_in s (queue past) ≡ true = front_in (queue past) s rest (sym t.lined.same ∙ front) in
     t.counted.each s ∙ queued_idle (standing past s) (sym (t.lined.each s) ∙ there)
 
-taken_counted : (setting : ℕ) (marks : List Bool) (w w' : Worlded) (past later : List Moment) (s : ℕ) (rest : List ℕ) (growth : Growth)
-    → Tied setting w past → 0 < w.pool.counts.idle → w.pool.queue ≡ s ∷ rest → GrowsBy (IsMarked marks) (length rest) (busier w.pool.counts) growth
+taken_counted : (setting : ℕ) (plan : List Bool) (w w' : Worlded) (past later : List Moment) (s : ℕ) (rest : List ℕ) (growth : Growth)
+    → Tied setting w past → 0 < w.pool.counts.idle → w.pool.queue ≡ s ∷ rest → GrowsBy (IsPlanned plan) (length rest) (busier w.pool.counts) growth
     → AreGrown (busier w.pool.counts) growth w'.pool.counts → length w'.hands ≡ length w.hands → GrewIn setting past later growth → running later ≡ running past ++ s ∷ []
     → ((n : ℕ) → standing later n ≡ (if s == n then Some Running else standing past n)) → Counted setting w' later
-taken_counted setting marks w w' past later s rest growth t some front starting counts hands grew busy stands =
+taken_counted setting plan w w' past later s rest growth t some front starting counts hands grew busy stands =
     let c = t.counted in
     let idle_are = c.idle_are in
     let longer : length (running later) ≡ length (running past) + 1 = ap length busy ∙ length-append (running past) (s ∷ []) in
-    grown_counted setting marks w w' past later (length rest) (w.pool.counts.idle - 1) growth c starting counts hands grew (omega (arith, idle_are, longer, some))
+    grown_counted setting plan w w' past later (length rest) (w.pool.counts.idle - 1) growth c starting counts hands grew (omega (arith, idle_are, longer, some))
     (subst IsOnce (sym busy) (IsOnce-push (running past) s c.once (front_idle setting w past s rest t front)))
     (λ n. ap (is_in n) busy ∙ in_end (running past) s n ∙ comes_in is_running (s == n) (is_in n (running past)) (standing past n) (Some Running) refl (c.each n) ∙ ap is_running (sym (stands n)))
     (λ none. absurd (omega (arith, none, idle_are, some)))
 
-takes_counted : (setting : ℕ) (marks : List Bool) (w : Worlded) (past : List Moment) (v : ℕ) (old : WorkerPass) (to_drop : Bool) (turn : JobNumber) (job : CallJob) (growth : Growth) (pool : CallPool)
+takes_counted : (setting : ℕ) (plan : List Bool) (w : Worlded) (past : List Moment) (v : ℕ) (old : WorkerPass) (to_drop : Bool) (turn : JobNumber) (job : CallJob) (growth : Growth) (pool : CallPool)
     → (let move = TakesJob v old to_drop turn job growth pool in
-    Tied setting w past → May (IsMarked marks) w move → Counted setting (after w move) (moment_of w move ∷ past))
-takes_counted setting marks w past v old true turn job growth pool t m =
-    taken_counted setting marks w (after w (TakesJob v old true turn job growth pool)) past _ turn.serial m.1.rest growth t
+    Tied setting w past → May (IsPlanned plan) w move → Counted setting (after w move) (moment_of w move ∷ past))
+takes_counted setting plan w past v old true turn job growth pool t m =
+    taken_counted setting plan w (after w (TakesJob v old true turn job growth pool)) past _ turn.serial m.1.rest growth t
     (idle_some w past v old t.handed m.0) m.1.front m.1.starts (ap (λ (p : CallPool). record p.counts { bell = (grown (busier w.pool.counts) growth).bell }) m.1.after_is) (length-set w.hands (v - 1) _)
     (record { began = refl; gone = refl; came = refl; refusals = refused_more growth.refused _ _; most = refl; told = refl }) refl (λ n. refl)
-takes_counted setting marks w past v old false turn job growth pool t m =
-    taken_counted setting marks w (after w (TakesJob v old false turn job growth pool)) past _ turn.serial m.1.rest growth t
+takes_counted setting plan w past v old false turn job growth pool t m =
+    taken_counted setting plan w (after w (TakesJob v old false turn job growth pool)) past _ turn.serial m.1.rest growth t
     (idle_some w past v old t.handed m.0) m.1.front m.1.starts (ap (λ (p : CallPool). record p.counts { bell = (grown (busier w.pool.counts) growth).bell }) m.1.after_is) (length-set w.hands (v - 1) _)
     (record { began = refl; gone = refl; came = refl; refusals = refused_more growth.refused _ _; most = refl; told = refl }) refl (λ n. refl)
 
 -- ---- a turn ends
 
 -- the job in a hand is among those that run
-pub held_busy : (setting : ℕ) (w : Worlded) (past : List Moment) (v : ℕ) (held : Held) → Tied setting w past → hand_at w.hands v ≡ Holds held → is_in held.turn.serial (running past) ≡ true
-held_busy setting w past v held t e = t.counted.each held.turn.serial ∙ ap is_running (held_runs w past v held t.filed t.handed.ready e)
+pub in_hand_busy : (setting : ℕ) (w : Worlded) (past : List Moment) (v : ℕ) (in_hand : JobInHand) → Tied setting w past → hand_at w.hands v ≡ Holds in_hand → is_in in_hand.turn.serial (running past) ≡ true
+in_hand_busy setting w past v in_hand t e = t.counted.each in_hand.turn.serial ∙ ap is_running (in_hand_runs w past v in_hand t.filed t.handed.ready e)
 
 over_idle : (at : Stage) → is_running (Some (outcome_of at)) ≡ false
 over_idle stage.Runs = refl
@@ -283,15 +285,15 @@ ended_runs : (b r : Bool) (st : Option Standing) (how : Standing) → is_running
 ended_runs true r st how over e = sym over
 ended_runs false r st how over e = e
 
-ends_counted : (setting : ℕ) (marks : List Bool) (w : Worlded) (past : List Moment) (v : ℕ) (held : Held) (pass : WorkerPass)
-    → (let move = EndsTurn v held pass in
-    Tied setting w past → May (IsMarked marks) w move → Counted setting (after w move) (moment_of w move ∷ past))
-ends_counted setting marks w past v held pass t m =
+ends_counted : (setting : ℕ) (plan : List Bool) (w : Worlded) (past : List Moment) (v : ℕ) (in_hand : JobInHand) (pass : WorkerPass)
+    → (let move = EndsTurn v in_hand pass in
+    Tied setting w past → May (IsPlanned plan) w move → Counted setting (after w move) (moment_of w move ∷ past))
+ends_counted setting plan w past v in_hand pass t m =
     let c = t.counted in
-    let s = held.turn.serial in
+    let s = in_hand.turn.serial in
     let workers_are = c.workers_are in
     let idle_are = c.idle_are in
-    let fewer = one_out s (running past) c.once (held_busy setting w past v held t m.0) in
+    let fewer = one_out s (running past) c.once (in_hand_busy setting w past v in_hand t m.0) in
     record {
       workers_are = workers_are;
       idle_are = omega (arith, idle_are, fewer);
@@ -303,7 +305,7 @@ ends_counted setting marks w past v held pass t m =
       positive = c.positive;
       next_is = c.next_is;
       once = IsOnce-without s (running past) c.once;
-      each = λ n. in_without s (running past) n ∙ ended_runs (s == n) (is_in n (running past)) (standing past n) (outcome_of held.stage) (over_idle held.stage) (c.each n);
+      each = λ n. in_without s (running past) n ∙ ended_runs (s == n) (is_in n (running past)) (standing past n) (outcome_of in_hand.stage) (over_idle in_hand.stage) (c.each n);
       served = c.served;
     }
 
@@ -318,9 +320,9 @@ queue_none false false (n ∷ q) e never = absurd cc
 one_left : (l most hired : ℕ) → l ≡ most → 0 < most → hired - 1 ≡ 0 → nat_lt l hired ≡ true → ⊥
 one_left l most hired same positive none e = grind (arith, nat_tests)
 
-stops_counted : (setting : ℕ) (w : Worlded) (past : List Moment) (v : ℕ) (pass : WorkerPass) (late : Bool) (step : Step) (who : Party) (first : ℕ)
-    → Tied setting w past → hand_at w.hands v ≡ Free pass → must_stop late w.pool ≡ true → Counted setting (after_wait w v pass true) (seen_at step who None (Stopped v late) first no_growth ∷ past)
-stops_counted setting w past v pass late step who first t free must =
+stops_counted : (setting : ℕ) (w : Worlded) (past : List Moment) (v : ℕ) (pass : WorkerPass) (end : WaitEnd) (step : Step) (who : Party) (first : ℕ)
+    → Tied setting w past → hand_at w.hands v ≡ Free pass → must_stop (has_timed_out end) w.pool ≡ true → Counted setting (after_wait w v pass true) (seen_at step who None (Stopped v end) first no_growth ∷ past)
+stops_counted setting w past v pass end step who first t free must =
     let c = t.counted in
     let some = idle_some w past v pass t.handed free in
     let workers_are = c.workers_are in
@@ -334,20 +336,20 @@ stops_counted setting w past v pass late step who first t free must =
       hands_are = length-set w.hands (v - 1) Out ∙ c.hands_are;
       setting_is = c.setting_is;
       limit_is = c.limit_is;
-      known_is = c.known_is ∙ sym (ap (λ b. if b || has_limit past then Some (limit setting past) else None) (ungrown w past t.filed (Stopped v late) refl).grows_not);
+      known_is = c.known_is ∙ sym (ap (λ b. if b || has_limit past then Some (limit setting past) else None) (ungrown w past t.filed (Stopped v end) refl).grows_not);
       positive = c.positive;
       next_is = c.next_is;
       once = c.once;
-      each = λ n. c.each n ∙ ap is_running (sym ((jobs_stay w past t.filed step who None (Stopped v late) first no_growth refl).stands n));
-      served = λ none. queue_none (nat_lt (limit_of w.pool.counts) w.pool.counts.workers) late w.pool.queue must (one_left (limit_of w.pool.counts) (limit setting past) w.pool.counts.workers c.limit_is c.positive none);
+      each = λ n. c.each n ∙ ap is_running (sym ((jobs_stay w past t.filed step who None (Stopped v end) first no_growth refl).stands n));
+      served = λ none. queue_none (nat_lt (limit_of w.pool.counts) w.pool.counts.workers) (has_timed_out end) w.pool.queue must (one_left (limit_of w.pool.counts) (limit setting past) w.pool.counts.workers c.limit_is c.positive none);
     }
 
-waits_counted : (setting : ℕ) (w : Worlded) (past : List Moment) (v : ℕ) (pass : WorkerPass) (late b : Bool) (step : Step) (who : Party) (first : ℕ)
-    → Tied setting w past → hand_at w.hands v ≡ Free pass → must_stop late w.pool ≡ b → Counted setting (after_wait w v pass b) (seen_at step who None (wait_act v late b) first no_growth ∷ past)
-waits_counted setting w past v pass late true step who first t free must = stops_counted setting w past v pass late step who first t free must
-waits_counted setting w past v pass late false step who first t free must =
+waits_counted : (setting : ℕ) (w : Worlded) (past : List Moment) (v : ℕ) (pass : WorkerPass) (end : WaitEnd) (b : Bool) (step : Step) (who : Party) (first : ℕ)
+    → Tied setting w past → hand_at w.hands v ≡ Free pass → must_stop (has_timed_out end) w.pool ≡ b → Counted setting (after_wait w v pass b) (seen_at step who None (wait_act v end b) first no_growth ∷ past)
+waits_counted setting w past v pass end true step who first t free must = stops_counted setting w past v pass end step who first t free must
+waits_counted setting w past v pass end false step who first t free must =
     still_counted setting w (after_wait w v pass false) past _ refl refl (length-set w.hands (v - 1) (Free pass))
-    (jobs_stay w past t.filed step who None (Stays v late) first no_growth refl) (counts_stay w past t.filed setting step who None (Stays v late) first refl) t.counted
+    (jobs_stay w past t.filed step who None (Stays v end) first no_growth refl) (counts_stay w past t.filed setting step who None (Stays v end) first refl) t.counted
 
 -- ---- arrivals and limits
 
@@ -393,15 +395,15 @@ limits_counted setting w past n some c =
 -- ---- each move
 
 -- Each move keeps the counts what the past tells.
-pub counted_after : (setting : ℕ) (marks : List Bool) (w : Worlded) (past : List Moment) (move : Move) → Tied setting w past → May (IsMarked marks) w move
+pub counted_after : (setting : ℕ) (plan : List Bool) (w : Worlded) (past : List Moment) (move : Move) → Tied setting w past → May (IsPlanned plan) w move
     → Counted setting (after w move) (moment_of w move ∷ past)
-counted_after setting marks w past (Begins answer growth pool) t m = begins_counted setting marks w past answer growth pool t m
-counted_after setting marks w past (Arrives pass) t m = arrives_counted setting w past pass m t.counted
-counted_after setting marks w past (TakesJob v old to_drop turn job growth pool) t m = takes_counted setting marks w past v old to_drop turn job growth pool t m
-counted_after setting marks w past (EndsTurn v held pass) t m = ends_counted setting marks w past v held pass t m
-counted_after setting marks w past (HasWaited v pass late) t m = waits_counted setting w past v pass late (must_stop late w.pool) _ _ _ t m refl
-counted_after setting marks w past (SetsLimit n) t m = limits_counted setting w past n m t.counted
-counted_after setting marks w past move t m =
+counted_after setting plan w past (Begins answer growth pool) t m = begins_counted setting plan w past answer growth pool t m
+counted_after setting plan w past (Arrives pass) t m = arrives_counted setting w past pass m t.counted
+counted_after setting plan w past (TakesJob v old to_drop turn job growth pool) t m = takes_counted setting plan w past v old to_drop turn job growth pool t m
+counted_after setting plan w past (EndsTurn v in_hand pass) t m = ends_counted setting plan w past v in_hand pass t m
+counted_after setting plan w past (HasWaited v pass end) t m = waits_counted setting w past v pass end (must_stop (has_timed_out end) w.pool) _ _ _ t m refl
+counted_after setting plan w past (SetsLimit n) t m = limits_counted setting w past n m t.counted
+counted_after setting plan w past move t m =
     let alone = alone_at w move refl in
     still_counted setting w (after w move) past (moment_of w move) (ap (λ (p : CallPool). p.counts) alone) (ap (λ (p : CallPool). p.queue) alone) (hands_at w move refl)
     (jobs_stay_at setting w past t move refl) (counts_stay_at setting w past t move refl) t.counted

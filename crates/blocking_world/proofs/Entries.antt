@@ -7,18 +7,18 @@ use Rattle.blocking_core.specs.declared.job.Action.TheVariants as action
 use Rattle.blocking_pool.specs.declared.pool.standing.Standing.{Standing}
 use Rattle.blocking_pool.specs.declared.pool.standing.Standing.TheVariants.{Queued, Running, Parked, Done, Dropped}
 use Rattle.blocking_pool.proofs.Standings.{running_is}
-use Rattle.blocking_world.specs.Crews.{marked}
+use Rattle.blocking_world.specs.Crews.{call_after_mark}
 use Rattle.blocking_laws.specs.Seen.{joined}
 use Rattle.blocking_laws.specs.Jobs.{is_parked, ends_for_good}
 use Rattle.blocking_laws.specs.JobTable.{has_finished, has_given_up}
 use Rattle.blocking_world.specs.Ties.{FiledAs, ValueAs, ActedAs}
-use Rattle.blocking_world.specs.Worlds.{new_call, duty_at, outcome_of}
+use Rattle.blocking_world.specs.Worlds.{new_call, next_at, outcome_of}
 use Rattle.blocking_world.proofs.Lookups.{mark_by, mark_in}
 use Rattle.blocking_world.specs.declared.call.CallJob.{CallJob}
 use Rattle.blocking_laws.specs.declared.event.Act.{Act}
 use Rattle.blocking_laws.specs.declared.event.Act.TheVariants.{Ended}
 use Rattle.blocking_laws.specs.declared.event.Event.{Event}
-use Rattle.blocking_world.specs.declared.hand.Duty.TheVariants as duty
+use Rattle.blocking_world.specs.declared.hand.WorkerAction.TheVariants as worker_action
 use Rattle.blocking_world.specs.declared.hand.Stage.{Stage}
 use Rattle.blocking_world.specs.declared.hand.Stage.TheVariants as stage
 
@@ -116,7 +116,7 @@ ended_filed t s false Dropped found stand wake cancel mark ended acts is final o
 ended_filed t s _ _ found stand wake cancel mark ended acts is final over filed = absurd cc
 
 -- a job whose turn is to end has finished or given up
-pub over_by : (at : Stage) (next : Action) (n : ℕ) (acts : List Act) → ActedAs at next n acts → duty_at at next ≡ duty.End → has_finished acts || has_given_up acts ≡ true
+pub over_by : (at : Stage) (next : Action) (n : ℕ) (acts : List Act) → ActedAs at next n acts → next_at at next ≡ worker_action.End → has_finished acts || has_given_up acts ≡ true
 over_by stage.Runs action.Done n acts (inl acted) is = ap (λ a. has_finished a || has_given_up a) acted
 over_by stage.Runs action.Done n acts (inr acted) is = ap (λ a. has_finished a || has_given_up a) acted
 over_by stage.Runs _ n acts acted is = absurd cc
@@ -131,9 +131,9 @@ none_valued Queued mark new acts valued = let is = valued.0 in absurd cc
 none_valued Running mark new acts valued = refl
 none_valued _ mark new acts valued = absurd valued
 
-some_valued : (stand : Standing) (value : CallJob) (mark ended : Bool) (acts : List Act) → ended ≡ false → ValueAs stand (Some value) mark acts → ValueAs stand (Some (marked value)) (not ended || mark) acts
+some_valued : (stand : Standing) (value : CallJob) (mark ended : Bool) (acts : List Act) → ended ≡ false → ValueAs stand (Some value) mark acts → ValueAs stand (Some (call_after_mark value)) (not ended || mark) acts
 some_valued Queued value mark ended acts going valued =
-    (ap (option_map marked) valued.0 ∙ ap (λ e. Some (record new_call { is_marked = not e || mark })) (sym going), valued.1)
+    (ap (option_map call_after_mark) valued.0 ∙ ap (λ e. Some (record new_call { is_marked = not e || mark })) (sym going), valued.1)
 some_valued Running value mark ended acts going valued = absurd cc
 some_valued _ value mark ended acts going valued = absurd valued
 

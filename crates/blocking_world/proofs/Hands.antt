@@ -9,7 +9,7 @@ use Rattle.blocking_world.specs.Worlds.{hand_at, hand_in, with_hand}
 use Rattle.blocking_world.specs.Machine.{one_if_free, free_hands}
 use Rattle.blocking_world.specs.declared.hand.Hand.{Hand}
 use Rattle.blocking_world.specs.declared.hand.Hand.TheVariants.{Out, Free, Holds}
-use Rattle.blocking_world.specs.declared.hand.Held.{Held}
+use Rattle.blocking_world.specs.declared.hand.JobInHand.{JobInHand}
 
 -- ---- the hand of a worker that is there
 
@@ -30,8 +30,8 @@ is_at row v h e in_use =
     let positive : 0 < v = (let z = parts.0 in grind (arith, nat_tests, z)) in
     record { positive = positive; within = slice_get_within row (v - 1) h parts.1; got = parts.1 }
 
-pub at_held : (row : List Hand) (v : ℕ) (held : Held) → hand_at row v ≡ Holds held → IsAt row v (Holds held)
-at_held row v held e = is_at row v (Holds held) e (λ z. cc)
+pub at_in_hand : (row : List Hand) (v : ℕ) (in_hand : JobInHand) → hand_at row v ≡ Holds in_hand → IsAt row v (Holds in_hand)
+at_in_hand row v in_hand e = is_at row v (Holds in_hand) e (λ z. cc)
 
 pub at_free : (row : List Hand) (v : ℕ) (pass : _) → hand_at row v ≡ Free pass → IsAt row v (Free pass)
 at_free row v pass e = is_at row v (Free pass) e (λ z. cc)

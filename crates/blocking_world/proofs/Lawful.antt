@@ -1,6 +1,6 @@
 -- Each move keeps the ties and the laws: so every world is lawful.
 use Rattle.std.proofs.Common.{◌≡◌, ℕ, Bool, List, ◌∷◌, sym, subst}
-use Rattle.blocking_laws.specs.Growth.{IsMarked}
+use Rattle.blocking_laws.specs.Growth.{IsPlanned}
 use Rattle.blocking_laws.specs.Legal.{PoolLaw}
 use Rattle.blocking_world.specs.Machine.{StepDoes}
 use Rattle.blocking_world.specs.Moves.{Move, Moves, May, after, moment_of, event_of}
@@ -20,74 +20,74 @@ use Rattle.blocking_world.proofs.Tasking.{tasked_after}
 use Rattle.blocking_world.proofs.TaskLawful.{tasks_after, no_lost_wake}
 use Rattle.blocking_world.proofs.Staffing.{holding_after, staffed, as_seen}
 use Rattle.blocking_laws.specs.Staffed.{IsStaffed, AreAsSeen}
-use Rattle.blocking_world.specs.Machine.{free_hands, held_hands}
+use Rattle.blocking_world.specs.Machine.{free_hands, busy_hands}
 use Rattle.blocking_world.proofs.Moving.{moved}
 use Rattle.blocking_world.proofs.Stepping.{step_after}
 
 -- the ties after a move
-tied_after : (setting : ℕ) (marks : List Bool) (w : Worlded) (past : List Moment) (move : Move) → IsLawful setting marks w past → May (IsMarked marks) w move
+tied_after : (setting : ℕ) (plan : List Bool) (w : Worlded) (past : List Moment) (move : Move) → IsLawful setting plan w past → May (IsPlanned plan) w move
     → Tied setting (after w move) (moment_of w move ∷ past)
-tied_after setting marks w past move lawful may =
+tied_after setting plan w past move lawful may =
     record {
-      numbered = numbered_after setting marks w past move lawful.tied may;
-      filed = filed_after setting marks w past move lawful.tied may;
-      lined = lined_after setting marks w past move lawful.tied may;
-      counted = counted_after setting marks w past move lawful.tied may;
-      handed = handed_after setting marks w past move lawful.tied may;
-      tasked = tasked_after setting marks w past move lawful.tied lawful.legal.tasks may;
+      numbered = numbered_after setting plan w past move lawful.tied may;
+      filed = filed_after setting plan w past move lawful.tied may;
+      lined = lined_after setting plan w past move lawful.tied may;
+      counted = counted_after setting plan w past move lawful.tied may;
+      handed = handed_after setting plan w past move lawful.tied may;
+      tasked = tasked_after setting plan w past move lawful.tied lawful.legal.tasks may;
     }
 
 -- the law of the pool at a move
-pool_after : (setting : ℕ) (marks : List Bool) (w : Worlded) (past : List Moment) (move : Move) → Tied setting w past → May (IsMarked marks) w move
-    → PoolLaw setting marks past (moment_of w move)
-pool_after setting marks w past move tied may =
+pool_after : (setting : ℕ) (plan : List Bool) (w : Worlded) (past : List Moment) (move : Move) → Tied setting w past → May (IsPlanned plan) w move
+    → PoolLaw setting plan past (moment_of w move)
+pool_after setting plan w past move tied may =
     record {
-      growth = growth_after setting marks w past move tied may;
-      answers = answers_after setting marks w past move tied may;
-      turns = turn_after setting marks w past move tied may;
-      order = in_order setting marks w past move tied may;
+      growth = growth_after setting plan w past move tied may;
+      answers = answers_after setting plan w past move tied may;
+      turns = turn_after setting plan w past move tied may;
+      order = in_order setting plan w past move tied may;
     }
 
 -- a move keeps a world lawful
-pub lawful_after : (setting : ℕ) (marks : List Bool) (w : Worlded) (past : List Moment) (move : Move) → IsLawful setting marks w past → May (IsMarked marks) w move
-    → IsLawful setting marks (after w move) (moment_of w move ∷ past)
-lawful_after setting marks w past move lawful may =
-    let tied : Tied setting (after w move) (moment_of w move ∷ past) = tied_after setting marks w past move lawful may in
+pub lawful_after : (setting : ℕ) (plan : List Bool) (w : Worlded) (past : List Moment) (move : Move) → IsLawful setting plan w past → May (IsPlanned plan) w move
+    → IsLawful setting plan (after w move) (moment_of w move ∷ past)
+lawful_after setting plan w past move lawful may =
+    let tied : Tied setting (after w move) (moment_of w move ∷ past) = tied_after setting plan w past move lawful may in
     record {
       tied = tied;
       legal =
           record {
-            steps = (step_after setting marks w past move lawful.tied may, lawful.legal.steps);
-            pool = (pool_after setting marks w past move lawful.tied may, lawful.legal.pool);
-            tasks = tasks_after setting marks w past move lawful.tied may lawful.legal.tasks;
+            steps = (step_after setting plan w past move lawful.tied may, lawful.legal.steps);
+            pool = (pool_after setting plan w past move lawful.tied may, lawful.legal.pool);
+            tasks = tasks_after setting plan w past move lawful.tied may lawful.legal.tasks;
             wakes = (no_lost_wake setting (after w move) (moment_of w move ∷ past) tied, lawful.legal.wakes);
           };
-      holding = holding_after setting marks w past move lawful.tied tied may lawful.holding;
+      holding = holding_after setting plan w past move lawful.tied tied may lawful.holding;
     }
 
 -- the same, of a step as it was seen
-by_moves : (setting : ℕ) (marks : List Bool) (w w' : Worlded) (past : List Moment) (step : Step) (e : Event) → IsLawful setting marks w past
-    → Moves (IsMarked marks) step w e w' → IsLawful setting marks w' (record { step = step; event = e } ∷ past)
-by_moves setting marks w w' past step e lawful moves =
-    subst (λ left. IsLawful setting marks left (record { step = step; event = e } ∷ past)) (sym moves.after_is)
-    (subst (λ event. IsLawful setting marks (after w moves.move) (record { step = step; event = event } ∷ past)) (sym moves.event_is)
-    (subst (λ taken. IsLawful setting marks (after w moves.move) (record { step = taken; event = event_of w moves.move } ∷ past)) (sym moves.step_is)
-    (lawful_after setting marks w past moves.move lawful moves.may)))
+by_moves : (setting : ℕ) (plan : List Bool) (w w' : Worlded) (past : List Moment) (step : Step) (e : Event) → IsLawful setting plan w past
+    → Moves (IsPlanned plan) step w e w' → IsLawful setting plan w' (record { step = step; event = e } ∷ past)
+by_moves setting plan w w' past step e lawful moves =
+    subst (λ left. IsLawful setting plan left (record { step = step; event = e } ∷ past)) (sym moves.after_is)
+    (subst (λ event. IsLawful setting plan (after w moves.move) (record { step = step; event = event } ∷ past)) (sym moves.event_is)
+    (subst (λ taken. IsLawful setting plan (after w moves.move) (record { step = taken; event = event_of w moves.move } ∷ past)) (sym moves.step_is)
+    (lawful_after setting plan w past moves.move lawful moves.may)))
 
 -- a step keeps a world lawful
-pub stays_lawful : (setting : ℕ) (marks : List Bool) (w w' : Worlded) (past : List Moment) (step : Step) (e : Event) → IsLawful setting marks w past
-    → StepDoes (IsMarked marks) step w e w' → IsLawful setting marks w' (record { step = step; event = e } ∷ past)
-stays_lawful setting marks w w' past step e lawful does = by_moves setting marks w w' past step e lawful (moved (IsMarked marks) step w e w' does)
+pub stays_lawful : (setting : ℕ) (plan : List Bool) (w w' : Worlded) (past : List Moment) (step : Step) (e : Event) → IsLawful setting plan w past
+    → StepDoes (IsPlanned plan) step w e w' → IsLawful setting plan w' (record { step = step; event = e } ∷ past)
+stays_lawful setting plan w w' past step e lawful does = by_moves setting plan w w' past step e lawful (moved (IsPlanned plan) step w e w' does)
 
 -- and keeps its setting
-pub same_setting : (setting : ℕ) (marks : List Bool) (w w' : Worlded) (past : List Moment) (step : Step) (e : Event) → IsLawful setting marks w past
-    → StepDoes (IsMarked marks) step w e w' → w'.pool.counts.setting ≡ setting
-same_setting setting marks w w' past step e lawful does = (stays_lawful setting marks w w' past step e lawful does).tied.counted.setting_is
+pub same_setting : (setting : ℕ) (plan : List Bool) (w w' : Worlded) (past : List Moment) (step : Step) (e : Event) → IsLawful setting plan w past
+    → StepDoes (IsPlanned plan) step w e w' → w'.pool.counts.setting ≡ setting
+same_setting setting plan w w' past step e lawful does = (stays_lawful setting plan w w' past step e lawful does).tied.counted.setting_is
 
 -- what the workers of a lawful world hold accounts for them
-pub staffed_now : (setting : ℕ) (marks : List Bool) (w : Worlded) (past : List Moment) → IsLawful setting marks w past → IsStaffed (free_hands w.hands) (held_hands w.hands) past
-staffed_now setting marks w past lawful = staffed setting w past lawful.tied lawful.holding
+pub staffed_now : (setting : ℕ) (plan : List Bool) (w : Worlded) (past : List Moment) → IsLawful setting plan w past → IsStaffed (free_hands w.hands) (busy_hands w.hands) past
+staffed_now setting plan w past lawful = staffed setting w past lawful.tied lawful.holding
 
 -- and is what they were seen to hold
-pub held_now : (setting : ℕ) (marks : List Bool) (w : Worlded) (past : List Moment) → IsLawful setting marks w past → AreAsSeen (free_hands w.hands) (held_hands w.hands) past
-held_now setting marks w past lawful = as_seen w past lawful.holding
+pub held_now : (setting : ℕ) (plan : List Bool) (w : Worlded) (past : List Moment) → IsLawful setting plan w past → AreAsSeen (free_hands w.hands) (busy_hands w.hands) past
+held_now setting plan w past lawful = as_seen w past lawful.holding

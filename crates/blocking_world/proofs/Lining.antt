@@ -7,18 +7,18 @@ use Rattle.blocking_pool.specs.declared.pool.standing.Standing.{Standing}
 use Rattle.blocking_pool.specs.declared.pool.standing.Standing.TheVariants.{Queued, Running}
 use Rattle.blocking_pool.specs.declared.pool.token.WorkerPass.{WorkerPass}
 use Rattle.blocking_pool.proofs.Lists.{turned, IsOnce-push, without-first}
-use Rattle.blocking_laws.specs.Seen.{joined}
+use Rattle.blocking_laws.specs.Seen.{joined, has_timed_out}
 use Rattle.blocking_laws.specs.Jobs.{is_queued, standing}
 use Rattle.blocking_laws.specs.Queue.{queue, entries, takes, entered_by, InOrder}
-use Rattle.blocking_laws.specs.Growth.{IsMarked}
+use Rattle.blocking_laws.specs.Growth.{IsPlanned}
 use Rattle.blocking_world.proofs.Entries.{comes_in}
-use Rattle.blocking_world.proofs.Lookups.{called_alone, wake_alone, cancel_alone}
+use Rattle.blocking_world.proofs.Lookups.{call_alone, wake_alone, cancel_alone}
 use Rattle.blocking_world.proofs.Numbering.{refused_alone}
 use Rattle.blocking_world.proofs.Quiet.{seen_at, JobsStay, moves_job, jobs_stay_at}
 use Rattle.blocking_world.proofs.Rows.{in_end}
-use Rattle.blocking_world.proofs.Tied.{fresh, held_runs}
+use Rattle.blocking_world.proofs.Tied.{fresh, in_hand_runs}
 use Rattle.std.proofs.lemmas.Bool.{eqb-true}
-use Rattle.blocking_world.specs.Worlds.{Worlded, CallPool, outcome_of, owner_at}
+use Rattle.blocking_world.specs.Worlds.{Worlded, CallPool, outcome_of, task_at}
 use Rattle.blocking_world.specs.Crews.{no_growth}
 use Rattle.blocking_world.specs.Machine.{after_wait}
 use Rattle.blocking_world.specs.Moves.{Move, Begins, Calls, TakesJob, EndsTurn, HasWaited, IsWoken, IsStruck, May, after, moment_of, wakes_as, cancels_as}
@@ -49,10 +49,10 @@ line_stays : (may_answer : ℕ → Bool → Type 0) (w : Worlded) (move : Move) 
 line_stays may_answer w (Begins (Ok number) growth pool) may moves = absurd cc
 line_stays may_answer w (TakesJob v old to_drop turn job growth pool) may moves = absurd cc
 line_stays may_answer w (Begins (Err why) growth pool) may moves = ap (λ (p : CallPool). p.queue) (refused_alone may_answer w.pool why growth pool may)
-line_stays may_answer w (Calls k call owner) may moves = ap (λ (p : CallPool). p.queue) (called_alone call w.pool owner.number)
-line_stays may_answer w (HasWaited v pass late) may moves = wait_queue w v pass (must_stop late w.pool)
-line_stays may_answer w (IsWoken s) may moves = ap (λ (p : CallPool). p.queue) (wake_alone (wakes_as w s) w.pool (owner_at w.tasks s).number)
-line_stays may_answer w (IsStruck s) may moves = ap (λ (p : CallPool). p.queue) (cancel_alone (cancels_as w s) w.pool (owner_at w.tasks s).number)
+line_stays may_answer w (Calls k call task) may moves = ap (λ (p : CallPool). p.queue) (call_alone call w.pool task.number)
+line_stays may_answer w (HasWaited v pass end) may moves = wait_queue w v pass (must_stop (has_timed_out end) w.pool)
+line_stays may_answer w (IsWoken s) may moves = ap (λ (p : CallPool). p.queue) (wake_alone (wakes_as w s) w.pool (task_at w.tasks s).number)
+line_stays may_answer w (IsStruck s) may moves = ap (λ (p : CallPool). p.queue) (cancel_alone (cancels_as w s) w.pool (task_at w.tasks s).number)
 line_stays may_answer w move may moves = refl
 
 -- ---- a new job
@@ -117,23 +117,23 @@ ended_lined w w' past step who job t first left growth q runs l =
 -- ---- each move
 
 -- Each move keeps the queue the past's.
-pub lined_after : (setting : ℕ) (marks : List Bool) (w : Worlded) (past : List Moment) (move : Move) → Tied setting w past → May (IsMarked marks) w move
+pub lined_after : (setting : ℕ) (plan : List Bool) (w : Worlded) (past : List Moment) (move : Move) → Tied setting w past → May (IsPlanned plan) w move
     → Lined (after w move) (moment_of w move ∷ past)
-lined_after setting marks w past (Begins (Ok number) growth pool) t may =
+lined_after setting plan w past (Begins (Ok number) growth pool) t may =
     new_lined w (after w (Begins (Ok number) growth pool)) past _ _ _ number.serial _ growth (ap (λ (p : CallPool). p.queue) may.after_is ∙ ap (λ (s : ℕ). w.pool.queue ++ s ∷ []) (sym may.serial))
     (ap (standing past) may.serial ∙ fresh w past t.numbered) t.lined
-lined_after setting marks w past (TakesJob v old true turn job growth pool) t may =
+lined_after setting plan w past (TakesJob v old true turn job growth pool) t may =
     took_by w _ past _ turn.serial may.1.rest (ap (λ (p : CallPool). p.queue) may.1.after_is) may.1.front refl refl refl (λ s. refl) t.lined
-lined_after setting marks w past (TakesJob v old false turn job growth pool) t may =
+lined_after setting plan w past (TakesJob v old false turn job growth pool) t may =
     took_by w _ past _ turn.serial may.1.rest (ap (λ (p : CallPool). p.queue) may.1.after_is) may.1.front refl refl refl (λ s. refl) t.lined
-lined_after setting marks w past (EndsTurn v held pass) t may =
-    ended_lined w (after w (EndsTurn v held pass)) past _ _ _ held.turn.serial _ held.stage no_growth refl (held_runs w past v held t.filed t.handed.ready may.0) t.lined
-lined_after setting marks w past move t may =
-    quiet w (after w move) past (moment_of w move) (line_stays (IsMarked marks) w move may refl) (jobs_stay_at setting w past t move refl) t.lined
+lined_after setting plan w past (EndsTurn v in_hand pass) t may =
+    ended_lined w (after w (EndsTurn v in_hand pass)) past _ _ _ in_hand.turn.serial _ in_hand.stage no_growth refl (in_hand_runs w past v in_hand t.filed t.handed.ready may.0) t.lined
+lined_after setting plan w past move t may =
+    quiet w (after w move) past (moment_of w move) (line_stays (IsPlanned plan) w move may refl) (jobs_stay_at setting w past t move refl) t.lined
 
 -- Jobs are taken in the order in which they entered.
-pub in_order : (setting : ℕ) (marks : List Bool) (w : Worlded) (past : List Moment) (move : Move) → Tied setting w past → May (IsMarked marks) w move
+pub in_order : (setting : ℕ) (plan : List Bool) (w : Worlded) (past : List Moment) (move : Move) → Tied setting w past → May (IsPlanned plan) w move
     → InOrder (moment_of w move ∷ past)
-in_order setting marks w past move t may =
-    let l = lined_after setting marks w past move t may in
+in_order setting plan w past move t may =
+    let l = lined_after setting plan w past move t may in
     (queue (moment_of w move ∷ past), l.order)

@@ -12,8 +12,8 @@ use Rattle.blocking_pool.specs.declared.pool.answer.Woke.{Woke}
 use Rattle.blocking_pool.specs.declared.pool.answer.Woke.TheVariants.{Entered, Marked, Nothing}
 use Rattle.blocking_pool.specs.declared.pool.standing.Standing.{Standing}
 use Rattle.blocking_pool.specs.declared.pool.standing.Standing.TheVariants.{Parked}
-use Rattle.blocking_world.specs.Crews.{mark_value, marked_in, marked, after_wake, after_cancel}
-use Rattle.blocking_world.specs.Machine.{pool_called}
+use Rattle.blocking_world.specs.Crews.{pool_after_mark_of, pool_after_mark, call_after_mark, after_wake, after_cancel}
+use Rattle.blocking_world.specs.Machine.{pool_after_call}
 use Rattle.blocking_world.specs.Worlds.{CallPool}
 use Rattle.blocking_world.specs.declared.call.CallJob.{CallJob}
 use Rattle.blocking_laws.specs.declared.step.TaskCall.{TaskCall}
@@ -52,33 +52,33 @@ job_changed jobs t change s b is = changed_at jobs t change s b (get jobs t) ref
 -- a job whose value bears its mark, where the value is there
 abbrev pub mark_by : Option CallJob → Entry CallJob → Entry CallJob
 mark_by None entry = entry
-mark_by (Some value) entry = valued (marked value) entry
+mark_by (Some value) entry = valued (call_after_mark value) entry
 
 -- a job that is marked
 abbrev pub mark_in : Entry CallJob → Entry CallJob
 mark_in entry = mark_by entry.value entry
 
 marked_by : (pool : CallPool) (number : JobNumber) (s : ℕ) (b : Bool) (entry : Entry CallJob) (value : Option CallJob) → (number.serial == s) ≡ b → get pool.jobs number.serial ≡ Some entry
-    → get (mark_value pool number value).jobs s ≡ (if b then Some (mark_by value entry) else get pool.jobs s)
+    → get (pool_after_mark_of pool number value).jobs s ≡ (if b then Some (mark_by value entry) else get pool.jobs s)
 marked_by pool number s true entry None is at = ap (get pool.jobs) (sym (eqb-true number.serial s is)) ∙ at
 marked_by pool number s false entry None is at = refl
 marked_by pool number s b entry (Some value) is at =
-    changed_at pool.jobs number.serial (valued (marked value)) s b (get pool.jobs number.serial) refl is
-    ∙ ap (λ o. if b then option_map (valued (marked value)) o else get pool.jobs s) at
+    changed_at pool.jobs number.serial (valued (call_after_mark value)) s b (get pool.jobs number.serial) refl is
+    ∙ ap (λ o. if b then option_map (valued (call_after_mark value)) o else get pool.jobs s) at
 
 marked_where : (pool : CallPool) (number : JobNumber) (s : ℕ) (b : Bool) (found : Option (Entry CallJob)) → (number.serial == s) ≡ b → get pool.jobs number.serial ≡ found
     → ((entry : Entry CallJob) → found ≡ Some entry → entry.place ≡ number.place)
-    → get (mark_value pool number (value_at (if_at number.place found))).jobs s ≡ (if b then option_map mark_in found else get pool.jobs s)
+    → get (pool_after_mark_of pool number (value_at (if_at number.place found))).jobs s ≡ (if b then option_map mark_in found else get pool.jobs s)
 marked_where pool number s true None is at placed = ap (get pool.jobs) (sym (eqb-true number.serial s is)) ∙ at
 marked_where pool number s false None is at placed = refl
 marked_where pool number s b (Some entry) is at placed =
     let here : (entry.place == number.place) ≡ true = eq-eqb entry.place number.place (placed entry refl) in
-    ap (λ c. get (mark_value pool number (value_at (if c then Some entry else None))).jobs s) here ∙ marked_by pool number s b entry entry.value is at
+    ap (λ c. get (pool_after_mark_of pool number (value_at (if c then Some entry else None))).jobs s) here ∙ marked_by pool number s b entry entry.value is at
 
 -- the jobs after one was marked
 pub job_marked : (pool : CallPool) (number : JobNumber) (s : ℕ) (b : Bool) → (number.serial == s) ≡ b
     → ((entry : Entry CallJob) → get pool.jobs number.serial ≡ Some entry → entry.place ≡ number.place)
-    → get (marked_in pool number).jobs s ≡ (if b then option_map mark_in (get pool.jobs s) else get pool.jobs s)
+    → get (pool_after_mark pool number).jobs s ≡ (if b then option_map mark_in (get pool.jobs s) else get pool.jobs s)
 job_marked pool number s b is placed =
     marked_where pool number s b (get pool.jobs number.serial) is refl placed ∙ there pool.jobs number.serial mark_in s b is
 
@@ -94,16 +94,16 @@ abbrev pub JobsAlone : CallPool → CallPool → Type 0
 JobsAlone old new = new ≡ record old { jobs = new.jobs }
 
 -- a mark
-pub mark_alone : (pool : CallPool) (number : JobNumber) (value : Option CallJob) → JobsAlone pool (mark_value pool number value)
+pub mark_alone : (pool : CallPool) (number : JobNumber) (value : Option CallJob) → JobsAlone pool (pool_after_mark_of pool number value)
 mark_alone pool number None = refl
 mark_alone pool number (Some value) = refl
 
 -- a call of a task
-pub called_alone : (call : TaskCall) (pool : CallPool) (number : JobNumber) → JobsAlone pool (pool_called call pool number)
-called_alone Poll pool number = refl
-called_alone Cancel pool number = mark_alone pool number (value_at (job_of pool.jobs number))
-called_alone Detach pool number = refl
-called_alone Drop pool number = mark_alone pool number (value_at (job_of pool.jobs number))
+pub call_alone : (call : TaskCall) (pool : CallPool) (number : JobNumber) → JobsAlone pool (pool_after_call call pool number)
+call_alone Poll pool number = refl
+call_alone Cancel pool number = mark_alone pool number (value_at (job_of pool.jobs number))
+call_alone Detach pool number = refl
+call_alone Drop pool number = mark_alone pool number (value_at (job_of pool.jobs number))
 
 -- a wake
 pub wake_alone : (how : Woke) (pool : CallPool) (number : JobNumber) → JobsAlone pool (after_wake how pool number)
@@ -126,7 +126,7 @@ runs_at place (Some entry) runs = by (entry.place == place) runs
     by true is = is
     by false is = absurd cc
 
--- a call that enters no job marks one or does nothing
+-- a call that enters no job flags one or does nothing
 pub by_unentered : (P : Woke → Type 0) → P Marked → P Nothing → (how : Woke) → (how ≡ Entered → ⊥) → P how
 by_unentered P marks does_nothing Entered never = absurd (never refl)
 by_unentered P marks does_nothing Marked never = marks

@@ -4,24 +4,24 @@ use Rattle.std.specs.Prelude.{OnSome}
 use Rattle.std.specs.Borrow.{MutBor}
 use Rattle.blocking_pool.specs.Jobs.{JobNumber, job_of, value_at, valued}
 use Rattle.blocking_pool.specs.Pools.{with_job}
-use Rattle.blocking_world.specs.Crews.{marked, mark_value, marked_in}
+use Rattle.blocking_world.specs.Crews.{call_after_mark, pool_after_mark_of, pool_after_mark}
 use Rattle.blocking_world.specs.Worlds.{CallPool}
 use Rattle.blocking_world.specs.declared.call.CallJob.{CallJob}
 use Rattle.blocking_world.proofs.Lookups.{mark_alone}
 
 -- a mark leaves the counts
-pub marked_counts : (pool : CallPool) (number : JobNumber) → (marked_in pool number).counts ≡ pool.counts
+pub marked_counts : (pool : CallPool) (number : JobNumber) → (pool_after_mark pool number).counts ≡ pool.counts
 marked_counts pool number = ap (λ (p : CallPool). p.counts) (mark_alone pool number (value_at (job_of pool.jobs number)))
 
 -- a value that was lent and marked
 pub lent_marked : (inside old last : CallPool) (number : JobNumber) (lent : Option (MutBor CallJob)) (job : MutBor CallJob) → inside ≡ old → lent ≡ Some job
-    → OnSome lent (last ≡ with_job inside number.serial (valued (marked job.now)))
-    → Some job.now ≡ value_at (job_of inside.jobs number) → last ≡ marked_in old number
+    → OnSome lent (last ≡ with_job inside number.serial (valued (call_after_mark job.now)))
+    → Some job.now ≡ value_at (job_of inside.jobs number) → last ≡ pool_after_mark old number
 lent_marked inside old last number lent job same is holds value =
-    let left = subst (λ (r : Option (MutBor CallJob)). OnSome r (last ≡ with_job inside number.serial (valued (marked job.now)))) is holds in
-    left ∙ ap (mark_value inside number) value ∙ ap (λ (p : CallPool). marked_in p number) same
+    let left = subst (λ (r : Option (MutBor CallJob)). OnSome r (last ≡ with_job inside number.serial (valued (call_after_mark job.now)))) is holds in
+    left ∙ ap (pool_after_mark_of inside number) value ∙ ap (λ (p : CallPool). pool_after_mark p number) same
 
 -- no value was there
-pub none_marked : (inside old last : CallPool) (number : JobNumber) → inside ≡ old → last ≡ inside → None ≡ value_at (job_of inside.jobs number) → last ≡ marked_in old number
+pub none_marked : (inside old last : CallPool) (number : JobNumber) → inside ≡ old → last ≡ inside → None ≡ value_at (job_of inside.jobs number) → last ≡ pool_after_mark old number
 none_marked inside old last number same left value =
-    left ∙ ap (mark_value inside number) value ∙ ap (λ (p : CallPool). marked_in p number) same
+    left ∙ ap (pool_after_mark_of inside number) value ∙ ap (λ (p : CallPool). pool_after_mark p number) same

@@ -6,13 +6,13 @@ use Rattle.blocking_pool.specs.declared.pool.token.WorkerPass.{WorkerPass}
 use Rattle.blocking_world.specs.Machine.{DoesNothing, nothing, next_start}
 use Rattle.blocking_laws.specs.declared.event.Event.{Event}
 use Rattle.blocking_laws.specs.declared.event.Party.TheVariants.{Worker}
-use Rattle.blocking_world.specs.Worlds.{Worlded, hand_at, hand_in, hand_of, with_hand, duty_of, pass_in, held_in, over_in, over_by}
-use Rattle.blocking_world.specs.declared.hand.Duty.{Duty}
-use Rattle.blocking_world.specs.declared.hand.Duty.TheVariants as duty
+use Rattle.blocking_world.specs.Worlds.{Worlded, hand_at, hand_in, hand_of, with_hand, next_of, pass_in, job_in, over_in, over_by}
+use Rattle.blocking_world.specs.declared.hand.WorkerAction.{WorkerAction}
+use Rattle.blocking_world.specs.declared.hand.WorkerAction.TheVariants as worker_action
 use Rattle.blocking_world.specs.declared.hand.Hand.{Hand}
 use Rattle.blocking_world.specs.declared.hand.Hand.TheVariants.{Out, Free, Holds}
-use Rattle.blocking_world.specs.declared.hand.Held.{Held}
-use Rattle.blocking_world.proofs.Hands.{IsAt, at_held}
+use Rattle.blocking_world.specs.declared.hand.JobInHand.{JobInHand}
+use Rattle.blocking_world.proofs.Hands.{IsAt, at_in_hand}
 use Rattle.blocking_world.proofs.Rows.{got_same, set_same}
 
 -- ---- one hand
@@ -21,26 +21,26 @@ use Rattle.blocking_world.proofs.Rows.{got_same, set_same}
 pub pass_is : (hand : Hand) (pass : WorkerPass) → Some pass ≡ pass_in hand → hand ≡ Free pass
 pass_is Out pass is = absurd cc
 pass_is (Free p) pass is = cc
-pass_is (Holds held) pass is = absurd cc
+pass_is (Holds in_hand) pass is = absurd cc
 
 -- a job is what a hand holds
-pub held_is : (hand : Hand) (held : Held) → Some held ≡ held_in hand → hand ≡ Holds held
-held_is Out held is = absurd cc
-held_is (Free pass) held is = absurd cc
-held_is (Holds h) held is = cc
+pub in_hand_is : (hand : Hand) (in_hand : JobInHand) → Some in_hand ≡ job_in hand → hand ≡ Holds in_hand
+in_hand_is Out in_hand is = absurd cc
+in_hand_is (Free pass) in_hand is = absurd cc
+in_hand_is (Holds h) in_hand is = cc
 
-over_as : (d : Duty) (h held : Held) → Some held ≡ over_by d h → (d ≡ duty.End) × (h ≡ held)
-over_as duty.End h held is = (refl, cc)
-over_as duty.Await h held is = absurd cc
-over_as duty.Finish h held is = absurd cc
-over_as duty.GiveUp h held is = absurd cc
-over_as duty.Wake h held is = absurd cc
+over_as : (d : WorkerAction) (h in_hand : JobInHand) → Some in_hand ≡ over_by d h → (d ≡ worker_action.End) × (h ≡ in_hand)
+over_as worker_action.End h in_hand is = (refl, cc)
+over_as worker_action.Await h in_hand is = absurd cc
+over_as worker_action.Finish h in_hand is = absurd cc
+over_as worker_action.GiveUp h in_hand is = absurd cc
+over_as worker_action.Wake h in_hand is = absurd cc
 
 -- a job that is over is what a hand holds, and has nothing left to do
-pub over_is : (hand : Hand) (held : Held) → Some held ≡ over_in hand → (hand ≡ Holds held) × (duty_of held ≡ duty.End)
-over_is Out held is = absurd cc
-over_is (Free pass) held is = absurd cc
-over_is (Holds h) held is = let e = over_as (duty_of h) h held is in (ap Holds e.1, ap duty_of (sym e.1) ∙ e.0)
+pub over_is : (hand : Hand) (in_hand : JobInHand) → Some in_hand ≡ over_in hand → (hand ≡ Holds in_hand) × (next_of in_hand ≡ worker_action.End)
+over_is Out in_hand is = absurd cc
+over_is (Free pass) in_hand is = absurd cc
+over_is (Holds h) in_hand is = let e = over_as (next_of h) h in_hand is in (ap Holds e.1, ap next_of (sym e.1) ∙ e.0)
 
 -- ---- the hands
 
@@ -80,14 +80,14 @@ pub lent_hand : {X P : Type 0} {o : Option X} {x : X} → o ≡ Some x → OnSom
 lent_hand {X} {P} is holds = subst (λ (found : Option X). OnSome found P) is holds
 
 -- what holds of a hand where a job was lent out of it, as the hands are then
-pub lent_within : {X : Type 0} (o : Option X) (row row' : List Hand) (v : ℕ) (hand : Hand) (held : Held) → row' ≡ with_hand row v hand → OnSome o (hand ≡ Holds held)
-    → OnSome o (row' ≡ with_hand row v (Holds held))
-lent_within None row row' v hand held is holds = tt
-lent_within (Some x) row row' v hand held is holds = is ∙ ap (with_hand row v) holds
+pub lent_within : {X : Type 0} (o : Option X) (row row' : List Hand) (v : ℕ) (hand : Hand) (in_hand : JobInHand) → row' ≡ with_hand row v hand → OnSome o (hand ≡ Holds in_hand)
+    → OnSome o (row' ≡ with_hand row v (Holds in_hand))
+lent_within None row row' v hand in_hand is holds = tt
+lent_within (Some x) row row' v hand in_hand is holds = is ∙ ap (with_hand row v) holds
 
 -- a job that was lent, and stays as it is, changes nothing
-pub lent_as_was : (row row' : List Hand) (v : ℕ) (held : Held) → Some held ≡ held_in (hand_at row v) → row' ≡ with_hand row v (Holds held) → row' ≡ row
-lent_as_was row row' v held holds put = put ∙ set_same row (v - 1) (Holds held) (at_held row v held (held_is (hand_at row v) held holds)).got
+pub lent_as_was : (row row' : List Hand) (v : ℕ) (in_hand : JobInHand) → Some in_hand ≡ job_in (hand_at row v) → row' ≡ with_hand row v (Holds in_hand) → row' ≡ row
+lent_as_was row row' v in_hand holds put = put ∙ set_same row (v - 1) (Holds in_hand) (at_in_hand row v in_hand (in_hand_is (hand_at row v) in_hand holds)).got
 
 -- ---- the world, where nothing is done
 

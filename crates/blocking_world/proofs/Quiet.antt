@@ -6,6 +6,7 @@ use Rattle.blocking_pool.specs.Growth.{Growth}
 use Rattle.blocking_pool.specs.PoolAnswers.{must_stop}
 use Rattle.blocking_pool.specs.declared.pool.answer.Refusal.TheVariants.{NoWorker}
 use Rattle.blocking_pool.specs.declared.pool.answer.Woke.TheVariants.{Entered}
+use Rattle.blocking_laws.specs.Seen.{has_timed_out}
 use Rattle.blocking_laws.specs.Jobs.{accepted_by, accepts, standing, sweeps, is_marked}
 use Rattle.blocking_laws.specs.Queue.{queue, entries, takes, running, to_sweep}
 use Rattle.blocking_laws.specs.Counts.{starts, stops, arrivals, refused_starts, limit}
@@ -24,6 +25,7 @@ use Rattle.blocking_laws.specs.declared.event.Act.{Act}
 use Rattle.blocking_laws.specs.declared.event.Act.TheVariants.{Accepted, Refused, JobWoken, JobCancelled, LimitSet, Arrived, Took, TookDropped, Stays, Stopped, Ended}
 use Rattle.blocking_laws.specs.declared.event.Moment.{Moment}
 use Rattle.blocking_laws.specs.declared.event.Party.{Party}
+use Rattle.blocking_laws.specs.declared.event.WaitEnd.{WaitEnd}
 use Rattle.blocking_laws.specs.declared.step.Step.{Step}
 
 -- a moment with this act
@@ -66,7 +68,7 @@ may_grow _ = false
 abbrev pub changes_a_count : Act → Bool
 changes_a_count (LimitSet n) = true
 changes_a_count (Arrived v) = true
-changes_a_count (Stopped v late) = true
+changes_a_count (Stopped v end) = true
 changes_a_count _ = false
 
 -- the pool doesn't grow
@@ -128,7 +130,7 @@ module _ (w : Worlded) (past : List Moment) (filed : Filed w past) where
   counts_stay setting step who job (TookDropped s) first changes = absurd cc
   counts_stay setting step who job (LimitSet n) first changes = absurd cc
   counts_stay setting step who job (Arrived v) first changes = absurd cc
-  counts_stay setting step who job (Stopped v late) first changes = absurd cc
+  counts_stay setting step who job (Stopped v end) first changes = absurd cc
   counts_stay setting step who job act first changes = record {
     started = refl;
     gone = refl;
@@ -144,7 +146,7 @@ module _ (w : Worlded) (past : List Moment) (filed : Filed w past) where
 abbrev pub moves_job : Move → Bool
 moves_job (Begins (Ok number) growth pool) = true
 moves_job (TakesJob v old to_drop turn job growth pool) = true
-moves_job (EndsTurn v held pass) = true
+moves_job (EndsTurn v in_hand pass) = true
 moves_job _ = false
 
 -- whether a move starts workers, lets one arrive or stop, or sets the limit
@@ -152,23 +154,23 @@ abbrev pub moves_count : Move → Bool
 moves_count (Begins added growth pool) = true
 moves_count (Arrives pass) = true
 moves_count (TakesJob v old to_drop turn job growth pool) = true
-moves_count (HasWaited v pass late) = true
+moves_count (HasWaited v pass end) = true
 moves_count (SetsLimit n) = true
 moves_count _ = false
 
 -- what holds of a worker that stays and of one that stops holds of one that has waited
-pub by_wait : (P : Act → Type 0) (v : ℕ) (late : Bool) → P (Stays v late) → P (Stopped v late) → (stops : Bool) → P (wait_act v late stops)
-by_wait P v late stays stopped true = stopped
-by_wait P v late stays stopped false = stays
+pub by_wait : (P : Act → Type 0) (v : ℕ) (end : WaitEnd) → P (Stays v end) → P (Stopped v end) → (stops : Bool) → P (wait_act v end stops)
+by_wait P v end stays stopped true = stopped
+by_wait P v end stays stopped false = stays
 
 module _ (setting : ℕ) (w : Worlded) (past : List Moment) (tied : Tied setting w past) where
   -- a move that moves no job leaves them where they stand
   pub jobs_stay_at : (move : Move) → moves_job move ≡ false → JobsStay past (moment_of w move)
   jobs_stay_at (Begins (Ok number) growth pool) moves = absurd cc
   jobs_stay_at (TakesJob v old to_drop turn job growth pool) moves = absurd cc
-  jobs_stay_at (EndsTurn v held pass) moves = absurd cc
-  jobs_stay_at (Calls k call owner) moves = jobs_stay w past tied.filed _ _ _ _ _ _ (by_call (λ act. moves_a_job act ≡ false) refl (λ n. refl) refl refl refl refl call owner)
-  jobs_stay_at (HasWaited v pass late) moves = jobs_stay w past tied.filed _ _ _ _ _ _ (by_wait (λ act. moves_a_job act ≡ false) v late refl refl (must_stop late w.pool))
+  jobs_stay_at (EndsTurn v in_hand pass) moves = absurd cc
+  jobs_stay_at (Calls k call task) moves = jobs_stay w past tied.filed _ _ _ _ _ _ (by_call (λ act. moves_a_job act ≡ false) refl (λ n. refl) refl refl refl refl call task)
+  jobs_stay_at (HasWaited v pass end) moves = jobs_stay w past tied.filed _ _ _ _ _ _ (by_wait (λ act. moves_a_job act ≡ false) v end refl refl (must_stop (has_timed_out end) w.pool))
   jobs_stay_at (IsWoken s) moves =
       jobs_stay w past tied.filed _ _ _ _ _ _ (by_unentered (λ how. moves_a_job (JobWoken s how) ≡ false) refl refl (wakes_as w s) (never_woken w s tied.handed.ready))
   jobs_stay_at (IsStruck s) moves =
@@ -180,10 +182,10 @@ module _ (setting : ℕ) (w : Worlded) (past : List Moment) (tied : Tied setting
   counts_stay_at (Begins added growth pool) moves = absurd cc
   counts_stay_at (Arrives pass) moves = absurd cc
   counts_stay_at (TakesJob v old to_drop turn job growth pool) moves = absurd cc
-  counts_stay_at (HasWaited v pass late) moves = absurd cc
+  counts_stay_at (HasWaited v pass end) moves = absurd cc
   counts_stay_at (SetsLimit n) moves = absurd cc
-  counts_stay_at (Calls k call owner) moves =
-      counts_stay w past tied.filed setting _ _ _ _ _ (by_call (λ act. may_grow act || changes_a_count act ≡ false) refl (λ n. refl) refl refl refl refl call owner)
+  counts_stay_at (Calls k call task) moves =
+      counts_stay w past tied.filed setting _ _ _ _ _ (by_call (λ act. may_grow act || changes_a_count act ≡ false) refl (λ n. refl) refl refl refl refl call task)
   counts_stay_at (IsWoken s) moves =
       counts_stay w past tied.filed setting _ _ _ _ _
       (by_unentered (λ how. may_grow (JobWoken s how) || changes_a_count (JobWoken s how) ≡ false) refl refl (wakes_as w s) (never_woken w s tied.handed.ready))

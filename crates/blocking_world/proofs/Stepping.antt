@@ -13,30 +13,33 @@ use Rattle.blocking_pool.specs.declared.pool.token.WorkerPass.{WorkerPass}
 use Rattle.blocking_world.specs.Crews.{no_growth}
 use Rattle.blocking_world.specs.declared.call.CallJob.{CallJob}
 use Rattle.blocking_pool.specs.Jobs.{JobNumber}
-use Rattle.blocking_laws.specs.Seen.{events, acts_of, acts_of_task, own, task_cut, is_nothing}
+use Rattle.blocking_laws.specs.Seats.{waker_in}
+use Rattle.blocking_laws.specs.Seen.{events, acts_of, acts_of_task, own, task_cut, is_nothing, has_timed_out}
 use Rattle.blocking_laws.specs.Jobs.{tasks, holder}
 use Rattle.blocking_laws.specs.Counts.{starts, arrivals}
-use Rattle.blocking_laws.specs.Growth.{IsMarked}
+use Rattle.blocking_laws.specs.Growth.{IsPlanned}
 use Rattle.blocking_laws.specs.Turns.{Turn, GoesOn, turn, hand}
 use Rattle.blocking_laws.specs.JobTable.{Calling, AskCall, Finish, WakeHolder, next_of_job}
 use Rattle.blocking_laws.specs.TaskLaws.{is_gone, was_cancelled, is_let_go}
-use Rattle.blocking_laws.specs.Steps.{is_there, Work, NoWork, Does, GivesUp as MustGive, EndsTurn as MustEnd, work_in, work_with, work, is_job_work, is_answered_work, is_turn_end, is_for_cancelled, may_call, may_cancel, has_action, named, party, job_of, IsOfTask, IsBegun, Fits, Happens, StepLaw}
-use Rattle.blocking_world.specs.Worlds.{Worlded, CallPool, outcome_of, duty_of, duty_at, hand_at, may_be, has_let_go, owner_at, is_free_hand}
+use Rattle.blocking_laws.specs.Steps.{is_there, WorkerAction as ActionInLaws, NoNext, Does, GivesUp as MustGive, EndsTurn as MustEnd, next_in_turn, next_with, next_of_worker, is_job_action, is_answered_action, is_turn_end, is_for_cancelled, may_call, may_cancel, has_action, named, party, job_of, IsOfTask, IsBegun, Fits, Happens, StepLaw}
+use Rattle.blocking_world.specs.Worlds.{Worlded, CallPool, outcome_of, next_of, next_at, hand_at, may_be, has_let_go, task_at, is_free_hand}
 use Rattle.blocking_laws.specs.Answers.{wait_act}
 use Rattle.blocking_world.specs.Machine.{seen, next_start, was_accepted, added_act, task_act}
-use Rattle.blocking_world.specs.Moves.{Move, Idles, Begins, Calls, Arrives, TakesJob, TakesNone, IsAnswered, Finishes, GivesUp, CallsWaker, EndsTurn, HasWaited, SetsLimit, Sweeps, IsWoken, IsStruck, May, has_act, duty_in, is_own, is_awaiting, is_ending, may_call_in, wait_step, finish_wakes, giving_up_wakes, wakes_as, cancels_as, moment_of}
-use Rattle.blocking_world.specs.Ties.{Tied, Numbered, Handed, Tasked, TaskAs, HandAs, HeldAs, ActedAs, turn_of, is_gone_as, CancelAs}
+use Rattle.blocking_world.specs.Moves.{Move, Idles, Begins, Calls, Arrives, TakesJob, TakesNone, IsAnswered, Finishes, GivesUp, CallsWaker, EndsTurn, HasWaited, SetsLimit, Sweeps, IsWoken, IsStruck, May, has_action_in, next_in, is_own, is_awaiting, is_ending, may_call_in, wait_step, finish_wakes, giving_up_wakes, wakes_as, cancels_as, moment_of}
+use Rattle.blocking_world.specs.Ties.{Tied, Numbered, Handed, Tasked, TaskAs, HandAs, InHandAs, ActedAs, turn_of, is_gone_as, CancelAs}
 use Rattle.blocking_laws.specs.declared.event.Act.{Act}
 use Rattle.blocking_laws.specs.declared.event.Act.TheVariants.{JobWoken, JobCancelled, LimitSet, Arrived, Took, TookDropped, TookNone, Stays, Stopped, Ended, Answered, Finished, GaveUp, HolderWoken, NoAction}
 use Rattle.blocking_laws.specs.declared.event.Event.{Event}
 use Rattle.blocking_laws.specs.declared.event.Moment.{Moment}
 use Rattle.blocking_laws.specs.declared.event.Party.{Party}
-use Rattle.blocking_laws.specs.declared.event.Party.TheVariants.{Task, Worker}
-use Rattle.blocking_world.specs.declared.hand.Duty.{Duty}
-use Rattle.blocking_world.specs.declared.hand.Duty.TheVariants as duty
+use Rattle.blocking_laws.specs.declared.event.Party.TheVariants.{Task as ByTask, Worker}
+use Rattle.blocking_laws.specs.declared.event.WaitEnd.{WaitEnd}
+use Rattle.blocking_laws.specs.declared.event.WaitEnd.TheVariants.{Woken, TimedOut}
+use Rattle.blocking_world.specs.declared.hand.WorkerAction.{WorkerAction}
+use Rattle.blocking_world.specs.declared.hand.WorkerAction.TheVariants as worker_action
 use Rattle.blocking_world.specs.declared.hand.Hand.{Hand}
 use Rattle.blocking_world.specs.declared.hand.Hand.TheVariants.{Out, Free, Holds}
-use Rattle.blocking_world.specs.declared.hand.Held.{Held}
+use Rattle.blocking_world.specs.declared.hand.JobInHand.{JobInHand}
 use Rattle.blocking_world.specs.declared.hand.Stage.{Stage}
 use Rattle.blocking_world.specs.declared.hand.Stage.TheVariants as stage
 use Rattle.blocking_laws.specs.declared.step.Answer.{Answer}
@@ -45,12 +48,12 @@ use Rattle.blocking_laws.specs.declared.step.Step.{Step}
 use Rattle.blocking_laws.specs.declared.step.Step.TheVariants.{Spawn, OfTask, Arrive, Take, Job, Io, End, Wait, Late, SetLimit, Sweep, Stray, Strike}
 use Rattle.blocking_laws.specs.declared.step.TaskCall.{TaskCall}
 use Rattle.blocking_laws.specs.declared.step.TaskCall.TheVariants.{Poll, Cancel, Detach, Drop}
-use Rattle.blocking_world.specs.declared.task.Owner.{Owner}
+use Rattle.blocking_world.specs.declared.task.Task.{Task}
 use Rattle.blocking_world.specs.declared.task.TaskStage.{TaskStage}
-use Rattle.blocking_world.specs.declared.task.TaskStage.TheVariants as task
+use Rattle.blocking_world.specs.declared.task.TaskStage.TheVariants as task_stage
 use Rattle.blocking_world.proofs.Cutting.{own_cut}
-use Rattle.blocking_world.proofs.Polls.{polled_so, called_plainly}
-use Rattle.blocking_world.proofs.Tied.{owner_there, accepted_within, hand_seen}
+use Rattle.blocking_world.proofs.Polls.{poll_so, call_plainly}
+use Rattle.blocking_world.proofs.Tied.{task_there, accepted_within, hand_seen}
 
 -- ---- workers
 
@@ -58,55 +61,55 @@ use Rattle.blocking_world.proofs.Tied.{owner_there, accepted_within, hand_seen}
 free_by : (h : Hand) (there : Bool) (job : Option ℕ) → HandAs h there job → is_free_hand h ≡ (there && is_none job)
 free_by Out there job holds = sym (ap (λ b. b && is_none job) holds.0)
 free_by (Free pass) there job holds = sym (ap (λ b. b && is_none job) holds.0 ∙ ap is_none holds.1)
-free_by (Holds held) there job holds = sym (ap (λ b. b && is_none job) holds.0 ∙ ap is_none holds.1)
+free_by (Holds in_hand) there job holds = sym (ap (λ b. b && is_none job) holds.0 ∙ ap is_none holds.1)
 
--- what a worker has to do, by the duty of the job in its hand
-abbrev duty_work : Option Duty → Work
-duty_work None = NoWork
-duty_work (Some duty.Await) = Does AskCall
-duty_work (Some duty.Finish) = Does Finish
-duty_work (Some duty.GiveUp) = MustGive
-duty_work (Some duty.Wake) = Does WakeHolder
-duty_work (Some duty.End) = MustEnd
+-- the next action of a worker, in the words of the laws
+abbrev next_in_laws : Option WorkerAction → ActionInLaws
+next_in_laws None = NoNext
+next_in_laws (Some worker_action.Await) = Does AskCall
+next_in_laws (Some worker_action.Finish) = Does Finish
+next_in_laws (Some worker_action.GiveUp) = MustGive
+next_in_laws (Some worker_action.Wake) = Does WakeHolder
+next_in_laws (Some worker_action.End) = MustEnd
 
-stage_work : (at : Stage) (next : Action) (n : ℕ) (acts : List Act) → ActedAs at next n acts → work_in (turn_of at) (next_of_job Calling acts) ≡ duty_work (Some (duty_at at next))
-stage_work stage.Runs action.Call n acts acted = ap (λ a. work_in GoesOn (next_of_job Calling a)) acted
-stage_work stage.Runs action.Finish n acts acted = ap (λ a. work_in GoesOn (next_of_job Calling a)) acted
-stage_work stage.Runs action.Deliver n acts acted = ap (λ a. work_in GoesOn (next_of_job Calling a)) acted
-stage_work stage.Runs action.Done n acts (inl acted) = ap (λ a. work_in GoesOn (next_of_job Calling a)) acted
-stage_work stage.Runs action.Done n acts (inr acted) = ap (λ a. work_in GoesOn (next_of_job Calling a)) acted
-stage_work stage.MustGiveUp next n acts acted = refl
-stage_work stage.MustWake next n acts acted = ap (λ a. work_in (turn_of stage.MustWake) (next_of_job Calling a)) acted
-stage_work stage.GaveUp next n acts (inl acted) = ap (λ a. work_in (turn_of stage.GaveUp) (next_of_job Calling a)) acted
-stage_work stage.GaveUp next n acts (inr acted) = ap (λ a. work_in (turn_of stage.GaveUp) (next_of_job Calling a)) acted
+stage_next : (at : Stage) (next : Action) (n : ℕ) (acts : List Act) → ActedAs at next n acts → next_in_turn (turn_of at) (next_of_job Calling acts) ≡ next_in_laws (Some (next_at at next))
+stage_next stage.Runs action.Call n acts acted = ap (λ a. next_in_turn GoesOn (next_of_job Calling a)) acted
+stage_next stage.Runs action.Finish n acts acted = ap (λ a. next_in_turn GoesOn (next_of_job Calling a)) acted
+stage_next stage.Runs action.Deliver n acts acted = ap (λ a. next_in_turn GoesOn (next_of_job Calling a)) acted
+stage_next stage.Runs action.Done n acts (inl acted) = ap (λ a. next_in_turn GoesOn (next_of_job Calling a)) acted
+stage_next stage.Runs action.Done n acts (inr acted) = ap (λ a. next_in_turn GoesOn (next_of_job Calling a)) acted
+stage_next stage.MustGiveUp next n acts acted = refl
+stage_next stage.MustWake next n acts acted = ap (λ a. next_in_turn (turn_of stage.MustWake) (next_of_job Calling a)) acted
+stage_next stage.GaveUp next n acts (inl acted) = ap (λ a. next_in_turn (turn_of stage.GaveUp) (next_of_job Calling a)) acted
+stage_next stage.GaveUp next n acts (inr acted) = ap (λ a. next_in_turn (turn_of stage.GaveUp) (next_of_job Calling a)) acted
 
-held_work : (held : Held) (turns : Turn) (acts : List Act) (let_go : Bool) → HeldAs held turns acts let_go → work_in turns (next_of_job Calling acts) ≡ duty_work (Some (duty_of held))
-held_work held turns acts let_go h = ap (λ t. work_in t (next_of_job Calling acts)) h.turn_is ∙ stage_work held.stage held.job.core held.job.number acts h.acts_are
+in_hand_next : (in_hand : JobInHand) (turns : Turn) (acts : List Act) (let_go : Bool) → InHandAs in_hand turns acts let_go → next_in_turn turns (next_of_job Calling acts) ≡ next_in_laws (Some (next_of in_hand))
+in_hand_next in_hand turns acts let_go h = ap (λ t. next_in_turn t (next_of_job Calling acts)) h.turn_is ∙ stage_next in_hand.stage in_hand.job.core in_hand.job.number acts h.acts_are
 
--- whose job a hand holds, and what is to be done with it
-work_by : (w : Worlded) (past : List Moment) (v : ℕ) → Handed w past → (h : Hand) → hand_at w.hands v ≡ h → HandAs h (is_there past v) (hand past v) → work past v ≡ duty_work (duty_in h)
-work_by w past v handed Out holds tie = ap (λ j. work_with j past) tie.1
-work_by w past v handed (Free pass) holds tie = ap (λ j. work_with j past) tie.1
-work_by w past v handed (Holds held) holds tie =
-    ap (λ j. work_with j past) tie.1 ∙ held_work held (turn past held.turn.serial) (acts_of held.turn.serial (events past)) _ (handed.held v held holds)
+-- whose job a hand holds, and what its worker does next
+next_by_hand : (w : Worlded) (past : List Moment) (v : ℕ) → Handed w past → (h : Hand) → hand_at w.hands v ≡ h → HandAs h (is_there past v) (hand past v) → next_of_worker past v ≡ next_in_laws (next_in h)
+next_by_hand w past v handed Out holds tie = ap (λ j. next_with j past) tie.1
+next_by_hand w past v handed (Free pass) holds tie = ap (λ j. next_with j past) tie.1
+next_by_hand w past v handed (Holds in_hand) holds tie =
+    ap (λ j. next_with j past) tie.1 ∙ in_hand_next in_hand (turn past in_hand.turn.serial) (acts_of in_hand.turn.serial (events past)) _ (handed.in_hand v in_hand holds)
 
-work_is : (w : Worlded) (past : List Moment) (v : ℕ) → Handed w past → work past v ≡ duty_work (duty_in (hand_at w.hands v))
-work_is w past v handed = work_by w past v handed (hand_at w.hands v) refl (handed.each v)
+next_agrees : (w : Worlded) (past : List Moment) (v : ℕ) → Handed w past → next_of_worker past v ≡ next_in_laws (next_in (hand_at w.hands v))
+next_agrees w past v handed = next_by_hand w past v handed (hand_at w.hands v) refl (handed.each v)
 
-own_work : (d : Option Duty) → is_own d ≡ is_job_work (duty_work d)
-own_work None = refl
-own_work (Some duty.Await) = refl
-own_work (Some _) = refl
+own_action : (d : Option WorkerAction) → is_own d ≡ is_job_action (next_in_laws d)
+own_action None = refl
+own_action (Some worker_action.Await) = refl
+own_action (Some _) = refl
 
-awaited_work : (d : Option Duty) (answer : Answer) → is_awaiting d ≡ is_answered_work (duty_work d) answer
-awaited_work None answer = refl
-awaited_work (Some duty.Await) (Number n) = refl
-awaited_work (Some _) answer = refl
+awaited_action : (d : Option WorkerAction) (answer : Answer) → is_awaiting d ≡ is_answered_action (next_in_laws d) answer
+awaited_action None answer = refl
+awaited_action (Some worker_action.Await) (Number n) = refl
+awaited_action (Some _) answer = refl
 
-ending_work : (d : Option Duty) → is_ending d ≡ is_turn_end (duty_work d)
-ending_work None = refl
-ending_work (Some duty.Await) = refl
-ending_work (Some _) = refl
+ending_action : (d : Option WorkerAction) → is_ending d ≡ is_turn_end (next_in_laws d)
+ending_action None = refl
+ending_action (Some worker_action.Await) = refl
+ending_action (Some _) = refl
 
 -- a worker has still to arrive exactly where one was started that hasn't
 arrive_by : (m n s : ℕ) → s ≡ m + n → (x y : Bool) → nat_lt 0 m ≡ x → nat_lt n s ≡ y → x ≡ y
@@ -118,34 +121,34 @@ arrive_by m n s sum false false left right = refl
 -- ---- tasks
 
 stage_may : (at : TaskStage) (call : TaskCall) (gone was : Bool) → gone ≡ is_gone_as at → CancelAs at was → may_be at call ≡ (not gone && (not was || is_for_cancelled call))
-stage_may task.Held call gone was is_gone is_cancelled = rw (is_gone, is_cancelled) refl
-stage_may task.Cancelled Poll gone was is_gone is_cancelled = rw (is_gone, is_cancelled) refl
-stage_may task.Cancelled Cancel gone was is_gone is_cancelled = rw (is_gone, is_cancelled) refl
-stage_may task.Cancelled Detach gone was is_gone is_cancelled = rw (is_gone, is_cancelled) refl
-stage_may task.Cancelled Drop gone was is_gone is_cancelled = rw (is_gone, is_cancelled) refl
-stage_may task.Gone call gone was is_gone is_cancelled = rw is_gone refl
-stage_may task.LetGo call gone was is_gone is_cancelled = rw is_gone refl
+stage_may task_stage.Attached call gone was is_gone is_cancelled = rw (is_gone, is_cancelled) refl
+stage_may task_stage.Cancelled Poll gone was is_gone is_cancelled = rw (is_gone, is_cancelled) refl
+stage_may task_stage.Cancelled Cancel gone was is_gone is_cancelled = rw (is_gone, is_cancelled) refl
+stage_may task_stage.Cancelled Detach gone was is_gone is_cancelled = rw (is_gone, is_cancelled) refl
+stage_may task_stage.Cancelled Drop gone was is_gone is_cancelled = rw (is_gone, is_cancelled) refl
+stage_may task_stage.Gone call gone was is_gone is_cancelled = rw is_gone refl
+stage_may task_stage.LetGo call gone was is_gone is_cancelled = rw is_gone refl
 
 -- a task may be called so exactly where its own acts allow it
-task_may : (k : ℕ) (owner : Owner) (seen : List Event) (call : TaskCall) → TaskAs owner (k + 1) (task_cut k (k + 1) seen) → may_be owner.stage call ≡ may_call (acts_of_task k seen) call
-task_may k owner seen call tie =
-    stage_may owner.stage call (is_gone (own (task_cut k (k + 1) seen))) (was_cancelled (own (task_cut k (k + 1) seen))) tie.gone tie.cancel
+task_may : (k : ℕ) (task : Task) (seen : List Event) (call : TaskCall) → TaskAs task (k + 1) (task_cut k (k + 1) seen) → may_be task.stage call ≡ may_call (acts_of_task k seen) call
+task_may k task seen call tie =
+    stage_may task.stage call (is_gone (own (task_cut k (k + 1) seen))) (was_cancelled (own (task_cut k (k + 1) seen))) tie.gone tie.cancel
     ∙ ap (λ acts. may_call acts call) (own_cut k (k + 1) seen)
 
 -- a task that isn't found isn't there
-none_there : (row : List Owner) (k : ℕ) → slice_get row k ≡ None → (b : Bool) → nat_lt k (length row) ≡ b → b ≡ false
-none_there row k none true test = let some = owner_there row k (ltb-true k (length row) test) in absurd (cc)
+none_there : (row : List Task) (k : ℕ) → slice_get row k ≡ None → (b : Bool) → nat_lt k (length row) ≡ b → b ≡ false
+none_there row k none true test = let some = task_there row k (ltb-true k (length row) test) in absurd (cc)
 none_there row k none false test = refl
 
-calls_by : (w : Worlded) (past : List Moment) (k : ℕ) (call : TaskCall) → Numbered w past → Tasked w past → (found : Option Owner) → slice_get w.tasks k ≡ found
+calls_by : (w : Worlded) (past : List Moment) (k : ℕ) (call : TaskCall) → Numbered w past → Tasked w past → (found : Option Task) → slice_get w.tasks k ≡ found
     → may_call_in found call ≡ (nat_lt k (tasks past) && may_call (acts_of_task k (events past)) call)
 calls_by w past k call numbered tasked None found =
-    sym (ap (λ n. nat_lt k n && may_call (acts_of_task k (events past)) call) (sym numbered.owners)
+    sym (ap (λ n. nat_lt k n && may_call (acts_of_task k (events past)) call) (sym numbered.tasks_are)
     ∙ ap (λ b. b && may_call (acts_of_task k (events past)) call) (none_there w.tasks k found (nat_lt k (length w.tasks)) refl))
-calls_by w past k call numbered tasked (Some owner) found =
-    task_may k owner (events past) call (tasked.each k owner found)
-    ∙ sym (ap (λ n. nat_lt k n && may_call (acts_of_task k (events past)) call) (sym numbered.owners)
-    ∙ ap (λ b. b && may_call (acts_of_task k (events past)) call) (lt-ltb k (length w.tasks) (slice_get_within w.tasks k owner found)))
+calls_by w past k call numbered tasked (Some task) found =
+    task_may k task (events past) call (tasked.each k task found)
+    ∙ sym (ap (λ n. nat_lt k n && may_call (acts_of_task k (events past)) call) (sym numbered.tasks_are)
+    ∙ ap (λ b. b && may_call (acts_of_task k (events past)) call) (lt-ltb k (length w.tasks) (slice_get_within w.tasks k task found)))
 
 -- ---- jobs
 
@@ -155,25 +158,25 @@ some_if false who = refl
 
 -- by the number of tasks
 accepted_is : (w : Worlded) (past : List Moment) (s : ℕ) → Numbered w past → was_accepted w s ≡ (nat_lt 0 s && nat_lt (s - 1) (tasks past))
-accepted_is w past s numbered = ap (λ n. nat_lt 0 s && nat_lt (s - 1) n) numbered.owners
+accepted_is w past s numbered = ap (λ n. nat_lt 0 s && nat_lt (s - 1) n) numbered.tasks_are
 
 stray_is : (w : Worlded) (past : List Moment) (s : ℕ) → Numbered w past → was_accepted w s ≡ is_some (holder past s)
 stray_is w past s numbered =
-    accepted_is w past s numbered ∙ some_if (nat_lt 0 s && nat_lt (s - 1) (tasks past)) (Task (s - 1)) ∙ ap is_some (sym (numbered.holders s))
+    accepted_is w past s numbered ∙ some_if (nat_lt 0 s && nat_lt (s - 1) (tasks past)) (ByTask (s - 1)) ∙ ap is_some (sym (numbered.holders s))
 
 strike_if : (w : Worlded) (past : List Moment) (s : ℕ) → Tasked w past → (b : Bool) → (nat_lt 0 s && nat_lt (s - 1) (length w.tasks)) ≡ b
-    → (b && has_let_go (owner_at w.tasks s).stage) ≡ may_cancel (if b then Some (Task (s - 1)) else None) past
+    → (b && has_let_go (task_at w.tasks s).stage) ≡ may_cancel (if b then Some (ByTask (s - 1)) else None) past
 strike_if w past s tasked false test = refl
 strike_if w past s tasked true test =
-    let there = owner_there w.tasks (s - 1) (accepted_within w s test).1 in
-    let owner = owner_at w.tasks s in
-    let tie = tasked.each (s - 1) owner there in
+    let there = task_there w.tasks (s - 1) (accepted_within w s test).1 in
+    let task = task_at w.tasks s in
+    let tie = tasked.each (s - 1) task there in
     sym tie.let_go ∙ ap is_let_go (own_cut (s - 1) (s - 1 + 1) (events past))
 
-strike_is : (w : Worlded) (past : List Moment) (s : ℕ) → Numbered w past → Tasked w past → (was_accepted w s && has_let_go (owner_at w.tasks s).stage) ≡ may_cancel (holder past s) past
+strike_is : (w : Worlded) (past : List Moment) (s : ℕ) → Numbered w past → Tasked w past → (was_accepted w s && has_let_go (task_at w.tasks s).stage) ≡ may_cancel (holder past s) past
 strike_is w past s numbered tasked =
     strike_if w past s tasked (was_accepted w s) refl
-    ∙ ap (λ b. may_cancel (if b then Some (Task (s - 1)) else None) past) (accepted_is w past s numbered)
+    ∙ ap (λ b. may_cancel (if b then Some (ByTask (s - 1)) else None) past) (accepted_is w past s numbered)
     ∙ ap (λ h. may_cancel h past) (sym (numbered.holders s))
 
 limit_by : (n : ℕ) (x y : Bool) → (n == 0) ≡ x → nat_lt 0 n ≡ y → not x ≡ y
@@ -185,14 +188,14 @@ limit_by n false false zeroed above = absurd (grind (arith, nat_tests))
 -- ---- each step
 
 -- a step has an action in the world exactly where it has one by what was seen
-pub has_is : (setting : ℕ) (w : Worlded) (past : List Moment) → Tied setting w past → (step : Step) → has_act w step ≡ has_action past step
+pub has_is : (setting : ℕ) (w : Worlded) (past : List Moment) → Tied setting w past → (step : Step) → has_action_in w step ≡ has_action past step
 has_is setting w past tied Spawn = refl
 has_is setting w past tied (OfTask k call) = calls_by w past k call tied.numbered tied.tasked (slice_get w.tasks k) refl
 has_is setting w past tied Arrive = arrive_by w.pool.counts.arriving (arrivals past) (starts past) tied.counted.arriving_are (nat_lt 0 w.pool.counts.arriving) (nat_lt (arrivals past) (starts past)) refl refl
 has_is setting w past tied (Take v) = free_by (hand_at w.hands v) (is_there past v) (hand past v) (tied.handed.each v)
-has_is setting w past tied (Job v) = own_work (duty_in (hand_at w.hands v)) ∙ ap is_job_work (sym (work_is w past v tied.handed))
-has_is setting w past tied (Io v answer) = awaited_work (duty_in (hand_at w.hands v)) answer ∙ ap (λ work. is_answered_work work answer) (sym (work_is w past v tied.handed))
-has_is setting w past tied (End v) = ending_work (duty_in (hand_at w.hands v)) ∙ ap is_turn_end (sym (work_is w past v tied.handed))
+has_is setting w past tied (Job v) = own_action (next_in (hand_at w.hands v)) ∙ ap is_job_action (sym (next_agrees w past v tied.handed))
+has_is setting w past tied (Io v answer) = awaited_action (next_in (hand_at w.hands v)) answer ∙ ap (λ next_of_worker. is_answered_action next_of_worker answer) (sym (next_agrees w past v tied.handed))
+has_is setting w past tied (End v) = ending_action (next_in (hand_at w.hands v)) ∙ ap is_turn_end (sym (next_agrees w past v tied.handed))
 has_is setting w past tied (Wait v) = free_by (hand_at w.hands v) (is_there past v) (hand past v) (tied.handed.each v)
 has_is setting w past tied (Late v) = free_by (hand_at w.hands v) (is_there past v) (hand past v) (tied.handed.each v)
 has_is setting w past tied (SetLimit n) = limit_by n (n == 0) (nat_lt 0 n) refl refl
@@ -211,8 +214,8 @@ idled : (past : List Moment) (step : Step) → has_action past step ≡ false �
 idled past step has = subst (λ b. Happens b past step NoAction) (sym has) refl
 
 -- what a hand holds is what was seen in it
-in_hand : (w : Worlded) (past : List Moment) (v : ℕ) (held : Held) → Handed w past → hand_at w.hands v ≡ Holds held → hand past v ≡ Some held.turn.serial
-in_hand w past v held handed holds = (hand_seen w past v (Holds held) handed holds).1
+hand_tells : (w : Worlded) (past : List Moment) (v : ℕ) (in_hand : JobInHand) → Handed w past → hand_at w.hands v ≡ Holds in_hand → hand past v ≡ Some in_hand.turn.serial
+hand_tells w past v in_hand handed holds = (hand_seen w past v (Holds in_hand) handed holds).1
 
 begun_fits : (added : Result JobNumber Refusal) → IsBegun (added_act added)
 begun_fits (Ok number) = tt
@@ -222,11 +225,11 @@ begun_is : (added : Result JobNumber Refusal) → is_nothing (added_act added) �
 begun_is (Ok number) = refl
 begun_is (Err why) = refl
 
-call_fits : (call : TaskCall) (owner : Owner) → IsOfTask call (task_act call owner)
-call_fits Poll owner = polled_so owner
-call_fits Cancel owner = refl
-call_fits Detach owner = refl
-call_fits Drop owner = refl
+call_fits : (call : TaskCall) (task : Task) → IsOfTask call (task_act call task)
+call_fits Poll task = poll_so task
+call_fits Cancel task = refl
+call_fits Detach task = refl
+call_fits Drop task = refl
 
 -- where something is done, it is done by the step's party, and of its job
 party_of : (past : List Moment) (step : Step) (act : Act) → is_nothing act ≡ false → party past step ≡ (if is_nothing act then named step else party past step)
@@ -239,12 +242,12 @@ step_begins : (w : Worlded) (past : List Moment) (added : Result JobNumber Refus
 step_begins w past added growth pool =
     record { act = (begun_is added, begun_fits added); by = party_of past Spawn (added_act added) (begun_is added); of = what_of past Spawn (added_act added) (begun_is added); owned = refl }
 
-step_calls : (w : Worlded) (past : List Moment) (k : ℕ) (call : TaskCall) (owner : Owner) → has_action past (OfTask k call) ≡ true → StepLaw past (moment_of w (Calls k call owner))
-step_calls w past k call owner has =
+step_calls : (w : Worlded) (past : List Moment) (k : ℕ) (call : TaskCall) (task : Task) → has_action past (OfTask k call) ≡ true → StepLaw past (moment_of w (Calls k call task))
+step_calls w past k call task has =
     record {
-      act = happened past (OfTask k call) (task_act call owner) has (called_plainly call owner) (call_fits call owner);
-      by = party_of past (OfTask k call) (task_act call owner) (called_plainly call owner);
-      of = what_of past (OfTask k call) (task_act call owner) (called_plainly call owner);
+      act = happened past (OfTask k call) (task_act call task) has (call_plainly call task) (call_fits call task);
+      by = party_of past (OfTask k call) (task_act call task) (call_plainly call task);
+      of = what_of past (OfTask k call) (task_act call task) (call_plainly call task);
       owned = refl;
     }
 
@@ -261,55 +264,55 @@ step_takes w past v old true turn job growth pool has = record { act = happened 
 step_takes_none : (w : Worlded) (past : List Moment) (v : ℕ) (old pass : WorkerPass) → has_action past (Take v) ≡ true → StepLaw past (moment_of w (TakesNone v old pass))
 step_takes_none w past v old pass has = record { act = happened past (Take v) TookNone has refl refl; by = refl; of = refl; owned = refl }
 
-step_waits : (w : Worlded) (past : List Moment) (v : ℕ) (late stops : Bool) → has_action past (wait_step late v) ≡ true
-    → StepLaw past (record { step = wait_step late v; event = seen (Worker v) None (wait_act v late stops) (next_start w) no_growth })
-step_waits w past v false false has = record { act = happened past (Wait v) (Stays v false) has refl (refl, refl); by = refl; of = refl; owned = refl }
-step_waits w past v false true has = record { act = happened past (Wait v) (Stopped v false) has refl (refl, refl); by = refl; of = refl; owned = refl }
-step_waits w past v true false has = record { act = happened past (Late v) (Stays v true) has refl (refl, refl); by = refl; of = refl; owned = refl }
-step_waits w past v true true has = record { act = happened past (Late v) (Stopped v true) has refl (refl, refl); by = refl; of = refl; owned = refl }
+step_waits : (w : Worlded) (past : List Moment) (v : ℕ) (end : WaitEnd) (stops : Bool) → has_action past (wait_step end v) ≡ true
+    → StepLaw past (record { step = wait_step end v; event = seen (Worker v) None (wait_act v end stops) (next_start w) no_growth })
+step_waits w past v Woken false has = record { act = happened past (Wait v) (Stays v Woken) has refl (refl, refl); by = refl; of = refl; owned = refl }
+step_waits w past v Woken true has = record { act = happened past (Wait v) (Stopped v Woken) has refl (refl, refl); by = refl; of = refl; owned = refl }
+step_waits w past v TimedOut false has = record { act = happened past (Late v) (Stays v TimedOut) has refl (refl, refl); by = refl; of = refl; owned = refl }
+step_waits w past v TimedOut true has = record { act = happened past (Late v) (Stopped v TimedOut) has refl (refl, refl); by = refl; of = refl; owned = refl }
 
-late_free : (w : Worlded) (v : ℕ) (late : Bool) → is_free_hand (hand_at w.hands v) ≡ true → has_act w (wait_step late v) ≡ true
-late_free w v false free = free
-late_free w v true free = free
+waiter_free : (w : Worlded) (v : ℕ) (end : WaitEnd) → is_free_hand (hand_at w.hands v) ≡ true → has_action_in w (wait_step end v) ≡ true
+waiter_free w v Woken free = free
+waiter_free w v TimedOut free = free
 
--- a step that the duty of the job in a hand makes an action of
-has_due : (setting : ℕ) (w : Worlded) (past : List Moment) → Tied setting w past → (step : Step) (v : ℕ) (held : Held) (test : Option Duty → Bool) → has_act w step ≡ test (duty_in (hand_at w.hands v))
-    → hand_at w.hands v ≡ Holds held → {d : Duty} → duty_of held ≡ d → has_action past step ≡ test (Some d)
-has_due setting w past tied step v held test same at due = sym (has_is setting w past tied step) ∙ same ∙ ap (λ h. test (duty_in h)) at ∙ ap (λ d. test (Some d)) due
+-- a step that has an action by its worker's next one
+has_due : (setting : ℕ) (w : Worlded) (past : List Moment) → Tied setting w past → (step : Step) (v : ℕ) (in_hand : JobInHand) (test : Option WorkerAction → Bool) → has_action_in w step ≡ test (next_in (hand_at w.hands v))
+    → hand_at w.hands v ≡ Holds in_hand → {d : WorkerAction} → next_of in_hand ≡ d → has_action past step ≡ test (Some d)
+has_due setting w past tied step v in_hand test same at due = sym (has_is setting w past tied step) ∙ same ∙ ap (λ h. test (next_in h)) at ∙ ap (λ d. test (Some d)) due
 
 -- what is seen of a move is of its step
-pub step_after : (setting : ℕ) (marks : List Bool) (w : Worlded) (past : List Moment) (move : Move) → Tied setting w past → May (IsMarked marks) w move → StepLaw past (moment_of w move)
-step_after setting marks w past (Idles step) tied may = record { act = idled past step (sym (has_is setting w past tied step) ∙ may); by = refl; of = refl; owned = refl }
-step_after setting marks w past (Begins added growth pool) tied may = step_begins w past added growth pool
-step_after setting marks w past (Calls k call owner) tied may =
-    step_calls w past k call owner (sym (has_is setting w past tied (OfTask k call)) ∙ ap (λ o. may_call_in o call) may.0 ∙ may.1)
-step_after setting marks w past (Arrives pass) tied may =
+pub step_after : (setting : ℕ) (plan : List Bool) (w : Worlded) (past : List Moment) (move : Move) → Tied setting w past → May (IsPlanned plan) w move → StepLaw past (moment_of w move)
+step_after setting plan w past (Idles step) tied may = record { act = idled past step (sym (has_is setting w past tied step) ∙ may); by = refl; of = refl; owned = refl }
+step_after setting plan w past (Begins added growth pool) tied may = step_begins w past added growth pool
+step_after setting plan w past (Calls k call task) tied may =
+    step_calls w past k call task (sym (has_is setting w past tied (OfTask k call)) ∙ ap (λ o. may_call_in o call) may.0 ∙ may.1)
+step_after setting plan w past (Arrives pass) tied may =
     let has : nat_lt 0 w.pool.counts.arriving ≡ true = grind (arith, nat_tests) in
     step_arrives w past pass tied.counted.hands_are (sym (has_is setting w past tied Arrive) ∙ has)
-step_after setting marks w past (TakesJob v old to_drop turn job growth pool) tied may =
+step_after setting plan w past (TakesJob v old to_drop turn job growth pool) tied may =
     step_takes w past v old to_drop turn job growth pool (sym (has_is setting w past tied (Take v)) ∙ ap is_free_hand may.0)
-step_after setting marks w past (TakesNone v old pass) tied may = step_takes_none w past v old pass (sym (has_is setting w past tied (Take v)) ∙ ap is_free_hand may.0)
-step_after setting marks w past (IsAnswered v held n) tied may =
-    record { act = happened past (Io v (Number n)) (Answered (Number n)) (has_due setting w past tied (Io v (Number n)) v held is_awaiting refl may.0 may.1) refl refl; by = refl; of = sym (in_hand w past v held tied.handed may.0); owned = refl }
-step_after setting marks w past (Finishes v held) tied may =
-    record { act = happened past (Job v) (Finished (finish_wakes w held)) (has_due setting w past tied (Job v) v held is_own refl may.0 may.1) refl (refl, refl); by = refl; of = sym (in_hand w past v held tied.handed may.0); owned = refl }
-step_after setting marks w past (GivesUp v held) tied may =
-    record { act = happened past (Job v) (GaveUp (giving_up_wakes w held)) (has_due setting w past tied (Job v) v held is_own refl may.0 may.1) refl (refl, refl); by = refl; of = sym (in_hand w past v held tied.handed may.0); owned = refl }
-step_after setting marks w past (CallsWaker v held) tied may =
-    record { act = happened past (Job v) HolderWoken (has_due setting w past tied (Job v) v held is_own refl may.0 may.1) refl (refl, refl); by = refl; of = sym (in_hand w past v held tied.handed may.0); owned = refl }
-step_after setting marks w past (EndsTurn v held pass) tied may =
-    record { act = happened past (End v) (Ended held.turn.serial (outcome_of held.stage)) (has_due setting w past tied (End v) v held is_ending refl may.0 may.1) refl (in_hand w past v held tied.handed may.0); by = refl; of = sym (in_hand w past v held tied.handed may.0); owned = refl }
-step_after setting marks w past (HasWaited v pass late) tied may =
-    step_waits w past v late (must_stop late w.pool) (sym (has_is setting w past tied (wait_step late v)) ∙ late_free w v late (ap is_free_hand may))
-step_after setting marks w past (SetsLimit n) tied may =
+step_after setting plan w past (TakesNone v old pass) tied may = step_takes_none w past v old pass (sym (has_is setting w past tied (Take v)) ∙ ap is_free_hand may.0)
+step_after setting plan w past (IsAnswered v in_hand n) tied may =
+    record { act = happened past (Io v (Number n)) (Answered (Number n)) (has_due setting w past tied (Io v (Number n)) v in_hand is_awaiting refl may.0 may.1) refl refl; by = refl; of = sym (hand_tells w past v in_hand tied.handed may.0); owned = refl }
+step_after setting plan w past (Finishes v in_hand) tied may =
+    record { act = happened past (Job v) (Finished (waker_in (finish_wakes w in_hand))) (has_due setting w past tied (Job v) v in_hand is_own refl may.0 may.1) refl (refl, refl); by = refl; of = sym (hand_tells w past v in_hand tied.handed may.0); owned = refl }
+step_after setting plan w past (GivesUp v in_hand) tied may =
+    record { act = happened past (Job v) (GaveUp (waker_in (giving_up_wakes w in_hand))) (has_due setting w past tied (Job v) v in_hand is_own refl may.0 may.1) refl (refl, refl); by = refl; of = sym (hand_tells w past v in_hand tied.handed may.0); owned = refl }
+step_after setting plan w past (CallsWaker v in_hand) tied may =
+    record { act = happened past (Job v) HolderWoken (has_due setting w past tied (Job v) v in_hand is_own refl may.0 may.1) refl (refl, refl); by = refl; of = sym (hand_tells w past v in_hand tied.handed may.0); owned = refl }
+step_after setting plan w past (EndsTurn v in_hand pass) tied may =
+    record { act = happened past (End v) (Ended in_hand.turn.serial (outcome_of in_hand.stage)) (has_due setting w past tied (End v) v in_hand is_ending refl may.0 may.1) refl (hand_tells w past v in_hand tied.handed may.0); by = refl; of = sym (hand_tells w past v in_hand tied.handed may.0); owned = refl }
+step_after setting plan w past (HasWaited v pass end) tied may =
+    step_waits w past v end (must_stop (has_timed_out end) w.pool) (sym (has_is setting w past tied (wait_step end v)) ∙ waiter_free w v end (ap is_free_hand may))
+step_after setting plan w past (SetsLimit n) tied may =
     let has : nat_lt 0 n ≡ true = grind (arith, nat_tests) in
     record { act = happened past (SetLimit n) (LimitSet n) has refl refl; by = refl; of = refl; owned = refl }
-step_after setting marks w past Sweeps tied may = record { act = (refl, tt); by = refl; of = refl; owned = refl }
-step_after setting marks w past (IsWoken s) tied may =
+step_after setting plan w past Sweeps tied may = record { act = (refl, tt); by = refl; of = refl; owned = refl }
+step_after setting plan w past (IsWoken s) tied may =
     record { act = happened past (Stray s) (JobWoken s (wakes_as w s)) (sym (has_is setting w past tied (Stray s)) ∙ may) refl refl; by = refl; of = refl; owned = refl }
-step_after setting marks w past (IsStruck s) tied may =
+step_after setting plan w past (IsStruck s) tied may =
     record {
-      act = happened past (Strike s) (JobCancelled s (cancels_as w s)) (sym (has_is setting w past tied (Strike s)) ∙ ap (λ b. b && has_let_go (owner_at w.tasks s).stage) may.0 ∙ may.1) refl refl;
+      act = happened past (Strike s) (JobCancelled s (cancels_as w s)) (sym (has_is setting w past tied (Strike s)) ∙ ap (λ b. b && has_let_go (task_at w.tasks s).stage) may.0 ∙ may.1) refl refl;
       by = refl;
       of = refl;
       owned = refl;

@@ -9,6 +9,7 @@ use Rattle.blocking_world.proofs.Cutting.{no_task, acts_more}
 use Rattle.blocking_laws.specs.declared.event.Act.{Act}
 use Rattle.blocking_laws.specs.declared.event.Act.TheVariants.{Finished}
 use Rattle.blocking_laws.specs.declared.event.Event.{Event}
+use Rattle.blocking_laws.specs.declared.event.HolderWaker.{HolderWaker}
 
 -- ---- one more event
 
@@ -22,13 +23,13 @@ cut_more k s e seen inside = rw inside refl
 
 -- ---- what finished in time has finished
 
-no_finish : (in_time over : Bool) (n : ℕ) (wake : Bool) → Finished wake ≡ poll_task in_time over n → ⊥
+no_finish : (in_time over : Bool) (n : ℕ) (waker : HolderWaker) → Finished waker ≡ poll_task in_time over n → ⊥
 no_finish true over n wake e = cc
 no_finish false true n wake e = cc
 no_finish false false n wake e = cc
 
 -- no task finishes
-by_a_job : (b : Bool) (s : ℕ) (cut : List Event) (act : Act) (wake : Bool) → act ≡ Finished wake → TaskMayAct s b cut act → b ≡ true
+by_a_job : (b : Bool) (s : ℕ) (cut : List Event) (act : Act) (waker : HolderWaker) → act ≡ Finished waker → TaskMayAct s b cut act → b ≡ true
 by_a_job true s cut act wake is law = refl
 by_a_job false s cut act wake is law =
     let acts = subst (TaskActs s cut) is law.1 in
@@ -39,9 +40,9 @@ of_job true t j out e = e
 of_job false true j out e = absurd (cc)
 of_job false false j out e = e
 
-finished_by : (act : Act) (j cancel in_time : Bool) (acts : List Act) → ((wake : Bool) → act ≡ Finished wake → j ≡ true) → (in_time ≡ true → has_finished acts ≡ true)
+finished_by : (act : Act) (j cancel in_time : Bool) (acts : List Act) → ((waker : HolderWaker) → act ≡ Finished waker → j ≡ true) → (in_time ≡ true → has_finished acts ≡ true)
     → in_time_by act cancel in_time ≡ true → has_finished (cond j (act ∷ acts) acts) ≡ true
-finished_by (Finished wake) j cancel in_time acts of earlier e = let is = of wake refl in rw is refl
+finished_by (Finished waker) j cancel in_time acts of earlier e = let is = of waker refl in rw is refl
 finished_by _ true cancel in_time acts of earlier e = earlier e
 finished_by _ false cancel in_time acts of earlier e = earlier e
 

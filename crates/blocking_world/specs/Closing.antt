@@ -13,7 +13,7 @@ use Rattle.blocking_world.specs.declared.crew.Outcome.{Outcome}
 use Rattle.blocking_world.specs.declared.crew.Outcome.TheVariants as outcome
 use Rattle.blocking_world.specs.declared.hand.Hand.{Hand}
 use Rattle.blocking_world.specs.declared.hand.Hand.TheVariants.{Free, Holds}
-use Rattle.blocking_world.specs.declared.hand.Held.{Held}
+use Rattle.blocking_world.specs.declared.hand.JobInHand.{JobInHand}
 
 -- how a job stands after its turn has ended so
 abbrev pub standing_after : Outcome → Standing
@@ -26,12 +26,12 @@ RefusesAll may_answer = (number : ℕ) (refused : Bool) → may_answer number re
 
 -- the job in a hand runs
 abbrev pub RunsIn : Jobs CallJob → Hand → Type 0
-RunsIn jobs (Holds held) = is_running_as jobs held.turn ≡ true
+RunsIn jobs (Holds in_hand) = is_running_as jobs in_hand.turn ≡ true
 RunsIn jobs _ = Unit {0}
 
 -- The turn of the job in a hand ends, where it holds one: its worker is idle then, and the job leaves the pool.
 abbrev pub EndsTurn : Hand → CallPool → Hand → CallPool → Type 0
-EndsTurn (Holds held) pool after new = (pass : WorkerPass) × (after ≡ Free pass) × (new ≡ without_job pool held.turn.serial)
+EndsTurn (Holds in_hand) pool after new = (pass : WorkerPass) × (after ≡ Free pass) × (new ≡ without_job pool in_hand.turn.serial)
 EndsTurn hand pool after new = (after ≡ hand) × (new ≡ pool)
 
 -- The hands that are left, and the pool that they belong to: no job is parked, the idle workers are those that haven't
@@ -39,9 +39,9 @@ EndsTurn hand pool after new = (after ≡ hand) × (new ≡ pool)
 pub record AreLeft (pool : CallPool) (hands : List Hand) : Type 0 where
   pub parked : NoneParked pool.jobs
   pub idle : pool.counts.idle ≡ pool.counts.arriving + free_hands hands
-  pub runs : (n : ℕ) (held : Held) → slice_get hands n ≡ Some (Holds held) → is_running_as pool.jobs held.turn ≡ true
+  pub runs : (n : ℕ) (in_hand : JobInHand) → slice_get hands n ≡ Some (Holds in_hand) → is_running_as pool.jobs in_hand.turn ≡ true
   pub apart :
-      (m n : ℕ) (one other : Held) → slice_get hands m ≡ Some (Holds one) → slice_get hands n ≡ Some (Holds other)
+      (m n : ℕ) (one other : JobInHand) → slice_get hands m ≡ Some (Holds one) → slice_get hands n ≡ Some (Holds other)
       → one.turn.serial ≡ other.turn.serial → m ≡ n
 
 -- The hands after every turn has ended, and their pool: no job is parked, the idle workers are those that haven't arrived
@@ -49,4 +49,4 @@ pub record AreLeft (pool : CallPool) (hands : List Hand) : Type 0 where
 pub record AreIdle (pool : CallPool) (hands : List Hand) : Type 0 where
   pub parked : NoneParked pool.jobs
   pub idle : pool.counts.idle ≡ pool.counts.arriving + free_hands hands
-  pub jobless : (n : ℕ) (held : Held) → slice_get hands n ≢ Some (Holds held)
+  pub jobless : (n : ℕ) (in_hand : JobInHand) → slice_get hands n ≢ Some (Holds in_hand)

@@ -78,7 +78,7 @@ TakesTo may_answer old (Run turn value) growth new = TakesFront may_answer old t
 TakesTo may_answer old (Drop turn value) growth new = TakesFront may_answer old turn value true growth new
 TakesTo may_answer old (Idle pass) growth new = (old.queue ≡ []) × (growth ≡ no_growth) × (new ≡ old)
 
--- what a wake leaves: a running job is marked as woken
+-- what a wake leaves: a running job is flagged as woken
 abbrev pub after_wake : Woke → CallPool → JobNumber → CallPool
 after_wake Marked pool number = with_job pool number.serial woken
 after_wake _ pool number = pool
@@ -88,18 +88,18 @@ abbrev pub after_cancel : Woke → CallPool → JobNumber → CallPool
 after_cancel Marked pool number = with_job pool number.serial cancelled
 after_cancel _ pool number = pool
 
--- a marked call
-abbrev pub marked : CallJob → CallJob
-marked job = record job { is_marked = true }
+-- a call after it was marked
+abbrev pub call_after_mark : CallJob → CallJob
+call_after_mark job = record job { is_marked = true }
 
--- the pool, in which the value of a job was marked, where it was there
-abbrev pub mark_value : CallPool → JobNumber → Option CallJob → CallPool
-mark_value pool number None = pool
-mark_value pool number (Some value) = with_job pool number.serial (valued (marked value))
+-- the pool after the value of a job was marked, where it was there
+abbrev pub pool_after_mark_of : CallPool → JobNumber → Option CallJob → CallPool
+pool_after_mark_of pool number None = pool
+pool_after_mark_of pool number (Some value) = with_job pool number.serial (valued (call_after_mark value))
 
--- the pool, in which the job of this number was marked, where its value is there
-abbrev pub marked_in : CallPool → JobNumber → CallPool
-marked_in pool number = mark_value pool number (value_at (job_of pool.jobs number))
+-- the pool after the job of this number was marked, where its value is there
+abbrev pub pool_after_mark : CallPool → JobNumber → CallPool
+pool_after_mark pool number = pool_after_mark_of pool number (value_at (job_of pool.jobs number))
 
 -- A free worker has passed over jobs: none is parked still, a worker is free, and as many idle workers have arrived as
 -- before.

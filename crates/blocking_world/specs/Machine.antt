@@ -12,20 +12,24 @@ use Rattle.blocking_pool.specs.declared.pool.answer.Refusal.{Refusal}
 use Rattle.blocking_pool.specs.declared.pool.answer.Took.{Took}
 use Rattle.blocking_pool.specs.declared.pool.answer.Took.TheVariants.{Run, Drop as TakeToDrop, Idle}
 use Rattle.blocking_pool.specs.declared.pool.token.WorkerPass.{WorkerPass}
-use Rattle.blocking_world.specs.Crews.{AddsTo, TakesTo, NoneParked, no_growth, marked_in, after_wake, after_cancel}
-use Rattle.blocking_world.specs.Worlds.{Worlded, CallPool, duty_of, outcome_of, answered, finished, given_up, woke, hand_at, with_hand, new_owner, may_be, has_let_go, poll_of, polled, cancelled, detached, dropped, owner_at, with_owner}
+use Rattle.blocking_world.specs.Crews.{AddsTo, TakesTo, NoneParked, no_growth, pool_after_mark, after_wake, after_cancel}
+use Rattle.blocking_world.specs.Worlds.{Worlded, CallPool, next_of, outcome_of, in_hand_after_answer, in_hand_after_finish, in_hand_after_give_up, in_hand_after_wake, hand_at, with_hand, new_task, may_be, has_let_go, poll_of, task_after_poll, task_after_cancel, task_after_detach, task_after_drop, task_at, with_task}
 use Rattle.blocking_world.specs.declared.call.CallJob.{CallJob}
+use Rattle.blocking_laws.specs.Seats.{waker_in}
+use Rattle.blocking_laws.specs.Seen.{has_timed_out}
 use Rattle.blocking_laws.specs.Answers.{wait_act}
 use Rattle.blocking_laws.specs.declared.event.Act.{Act}
 use Rattle.blocking_laws.specs.declared.event.Act.TheVariants.{Accepted, Refused, JobWoken, JobCancelled, LimitSet, Swept, TaskCancelled, TaskDetached, HolderDropped, Arrived, Took as TookToRun, TookDropped, TookNone, Ended, Answered, Finished, GaveUp, HolderWoken, NoAction}
 use Rattle.blocking_laws.specs.declared.event.Event.{Event}
 use Rattle.blocking_laws.specs.declared.event.Party.{Party}
-use Rattle.blocking_laws.specs.declared.event.Party.TheVariants.{Task, Worker, Pool}
-use Rattle.blocking_world.specs.declared.hand.Duty.{Duty}
-use Rattle.blocking_world.specs.declared.hand.Duty.TheVariants as duty
+use Rattle.blocking_laws.specs.declared.event.Party.TheVariants.{Task as ByTask, Worker, Pool}
+use Rattle.blocking_laws.specs.declared.event.WaitEnd.{WaitEnd}
+use Rattle.blocking_laws.specs.declared.event.WaitEnd.TheVariants.{Woken, TimedOut}
+use Rattle.blocking_world.specs.declared.hand.WorkerAction.{WorkerAction}
+use Rattle.blocking_world.specs.declared.hand.WorkerAction.TheVariants as worker_action
 use Rattle.blocking_world.specs.declared.hand.Hand.{Hand}
 use Rattle.blocking_world.specs.declared.hand.Hand.TheVariants.{Out, Free, Holds}
-use Rattle.blocking_world.specs.declared.hand.Held.{Held}
+use Rattle.blocking_world.specs.declared.hand.JobInHand.{JobInHand}
 use Rattle.blocking_world.specs.declared.hand.Stage.TheVariants as stage
 use Rattle.blocking_laws.specs.declared.step.Answer.{Answer}
 use Rattle.blocking_laws.specs.declared.step.Answer.TheVariants.{Number}
@@ -33,7 +37,7 @@ use Rattle.blocking_laws.specs.declared.step.Step.{Step}
 use Rattle.blocking_laws.specs.declared.step.Step.TheVariants.{Spawn, OfTask, Arrive, Take, Job, Io, End, Wait, Late, SetLimit, Sweep, Stray, Strike}
 use Rattle.blocking_laws.specs.declared.step.TaskCall.{TaskCall}
 use Rattle.blocking_laws.specs.declared.step.TaskCall.TheVariants.{Poll, Cancel, Detach, Drop}
-use Rattle.blocking_world.specs.declared.task.Owner.{Owner}
+use Rattle.blocking_world.specs.declared.task.Task.{Task}
 
 -- ---- what is seen
 
@@ -66,9 +70,9 @@ added_act (Ok number) = Accepted number.serial
 added_act (Err why) = Refused why
 
 -- the tasks after it
-abbrev pub added_tasks : List Owner → Result JobNumber Refusal → List Owner
-added_tasks tasks (Ok number) = tasks ++ new_owner number ∷ []
-added_tasks tasks (Err why) = tasks
+abbrev pub tasks_after_add : List Task → Result JobNumber Refusal → List Task
+tasks_after_add tasks (Ok number) = tasks ++ new_task number ∷ []
+tasks_after_add tasks (Err why) = tasks
 
 -- a new call, by what the pool answers
 pub record Spawns (may_answer : ℕ → Bool → Type 0) (w : Worlded) (e : Event) (w' : Worlded) : Type 0 where
@@ -76,41 +80,41 @@ pub record Spawns (may_answer : ℕ → Bool → Type 0) (w : Worlded) (e : Even
   pub growth : Growth
   pub pool : CallPool
   pub adds : AddsTo may_answer w.pool added growth pool
-  pub does : Does (seen Pool None (added_act added) (next_start w) growth) (record w { pool = pool; tasks = added_tasks w.tasks added }) e w'
+  pub does : Does (seen Pool None (added_act added) (next_start w) growth) (record w { pool = pool; tasks = tasks_after_add w.tasks added }) e w'
 
 -- ---- a task is called
 
 -- what is seen of a call of a task
-abbrev pub task_act : TaskCall → Owner → Act
-task_act Poll owner = poll_of owner
-task_act Cancel owner = TaskCancelled
-task_act Detach owner = TaskDetached
-task_act Drop owner = HolderDropped
+abbrev pub task_act : TaskCall → Task → Act
+task_act Poll task = poll_of task
+task_act Cancel task = TaskCancelled
+task_act Detach task = TaskDetached
+task_act Drop task = HolderDropped
 
 -- the task after it
-abbrev pub called : TaskCall → Owner → Owner
-called Poll owner = polled owner
-called Cancel owner = cancelled owner
-called Detach owner = detached owner
-called Drop owner = dropped owner
+abbrev pub task_after_call : TaskCall → Task → Task
+task_after_call Poll task = task_after_poll task
+task_after_call Cancel task = task_after_cancel task
+task_after_call Detach task = task_after_detach task
+task_after_call Drop task = task_after_drop task
 
 -- the pool after it: a task that lets its call go marks it
-abbrev pub pool_called : TaskCall → CallPool → JobNumber → CallPool
-pool_called Poll pool number = pool
-pool_called Cancel pool number = marked_in pool number
-pool_called Detach pool number = pool
-pool_called Drop pool number = marked_in pool number
+abbrev pub pool_after_call : TaskCall → CallPool → JobNumber → CallPool
+pool_after_call Poll pool number = pool
+pool_after_call Cancel pool number = pool_after_mark pool number
+pool_after_call Detach pool number = pool
+pool_after_call Drop pool number = pool_after_mark pool number
 
-abbrev pub CallsIf : Bool → Worlded → ℕ → TaskCall → Owner → Event → Worlded → Type 0
-CallsIf false w k call owner e w' = DoesNothing (Task k) w e w'
-CallsIf true w k call owner e w' =
-    Does (seen (Task k) None (task_act call owner) (next_start w) no_growth)
-    (record w { pool = pool_called call w.pool owner.number; tasks = slice_set w.tasks k (called call owner) }) e w'
+abbrev pub CallsIf : Bool → Worlded → ℕ → TaskCall → Task → Event → Worlded → Type 0
+CallsIf false w k call task e w' = DoesNothing (ByTask k) w e w'
+CallsIf true w k call task e w' =
+    Does (seen (ByTask k) None (task_act call task) (next_start w) no_growth)
+    (record w { pool = pool_after_call call w.pool task.number; tasks = slice_set w.tasks k (task_after_call call task) }) e w'
 
 -- a call of a task, if it is there
-abbrev pub CallsOf : Option Owner → Worlded → ℕ → TaskCall → Event → Worlded → Type 0
-CallsOf None w k call e w' = DoesNothing (Task k) w e w'
-CallsOf (Some owner) w k call e w' = CallsIf (may_be owner.stage call) w k call owner e w'
+abbrev pub CallsOf : Option Task → Worlded → ℕ → TaskCall → Event → Worlded → Type 0
+CallsOf None w k call e w' = DoesNothing (ByTask k) w e w'
+CallsOf (Some task) w k call e w' = CallsIf (may_be task.stage call) w k call task e w'
 
 -- ---- workers
 
@@ -142,10 +146,10 @@ took_job (TakeToDrop turn job) = Some turn.serial
 took_job (Idle pass) = None
 
 -- the hand after it
-abbrev pub took_hand : Took CallJob → Hand
-took_hand (Run turn job) = Holds (record { turn = turn; job = job; stage = stage.Runs })
-took_hand (TakeToDrop turn job) = Holds (record { turn = turn; job = job; stage = stage.MustGiveUp })
-took_hand (Idle pass) = Free pass
+abbrev pub hand_after_take : Took CallJob → Hand
+hand_after_take (Run turn job) = Holds (record { turn = turn; job = job; stage = stage.Runs })
+hand_after_take (TakeToDrop turn job) = Holds (record { turn = turn; job = job; stage = stage.MustGiveUp })
+hand_after_take (Idle pass) = Free pass
 
 -- a take of an idle worker, by what the pool answers
 pub record Takes (may_answer : ℕ → Bool → Type 0) (w : Worlded) (v : ℕ) (e : Event) (w' : Worlded) : Type 0 where
@@ -155,7 +159,7 @@ pub record Takes (may_answer : ℕ → Bool → Type 0) (w : Worlded) (v : ℕ) 
   pub takes : TakesTo may_answer w.pool took growth pool
   pub does :
       Does (seen (Worker v) (took_job took) (took_act took) (next_start w) growth)
-      (record w { pool = pool; hands = with_hand w.hands v (took_hand took) }) e w'
+      (record w { pool = pool; hands = with_hand w.hands v (hand_after_take took) }) e w'
 
 -- a take of a worker with this hand
 abbrev pub TakesWith : Hand → (ℕ → Bool → Type 0) → Worlded → ℕ → Event → Worlded → Type 0
@@ -169,65 +173,65 @@ after_wait w v pass true =
     record w { pool = record w.pool { counts = stopped (if is_empty w.pool.queue then false else true) w.pool.counts }; hands = with_hand w.hands v Out }
 
 -- an idle worker has waited: nothing is parked, so that it sweeps nothing
-abbrev pub WaitsWith : Hand → Worlded → ℕ → Bool → Event → Worlded → Type 0
-WaitsWith (Free pass) w v late e w' =
-    Does (seen (Worker v) None (wait_act v late (must_stop late w.pool)) (next_start w) no_growth) (after_wait w v pass (must_stop late w.pool)) e w'
-WaitsWith _ w v late e w' = DoesNothing (Worker v) w e w'
+abbrev pub WaitsWith : Hand → Worlded → ℕ → WaitEnd → Event → Worlded → Type 0
+WaitsWith (Free pass) w v end e w' =
+    Does (seen (Worker v) None (wait_act v end (must_stop (has_timed_out end) w.pool)) (next_start w) no_growth) (after_wait w v pass (must_stop (has_timed_out end) w.pool)) e w'
+WaitsWith _ w v end e w' = DoesNothing (Worker v) w e w'
 
 -- ---- a job in hand
 
 -- the hands after the job of this worker did something
-abbrev pub with_held : Worlded → ℕ → Held → List Hand
-with_held w v held = with_hand w.hands v (Holds held)
+abbrev pub with_in_hand : Worlded → ℕ → JobInHand → List Hand
+with_in_hand w v in_hand = with_hand w.hands v (Holds in_hand)
 
 -- the next action of a job, where it is its own to take
-abbrev pub Works : Duty → Worlded → ℕ → Held → Event → Worlded → Type 0
-Works duty.Await w v held e w' = DoesNothing (Worker v) w e w'
-Works duty.End w v held e w' = DoesNothing (Worker v) w e w'
-Works duty.Finish w v held e w' =
-    (let owner = owner_at w.tasks held.turn.serial in
-    let wake = is_some (put_in owner.slot held.job.number).wake in
-    Does (seen (Worker v) (Some held.turn.serial) (Finished wake) (next_start w) no_growth)
+abbrev pub Works : WorkerAction → Worlded → ℕ → JobInHand → Event → Worlded → Type 0
+Works worker_action.Await w v in_hand e w' = DoesNothing (Worker v) w e w'
+Works worker_action.End w v in_hand e w' = DoesNothing (Worker v) w e w'
+Works worker_action.Finish w v in_hand e w' =
+    (let task = task_at w.tasks in_hand.turn.serial in
+    let wake = is_some (put_in task.slot in_hand.job.number).wake in
+    Does (seen (Worker v) (Some in_hand.turn.serial) (Finished (waker_in wake)) (next_start w) no_growth)
     (record w {
-      tasks = with_owner w.tasks held.turn.serial (record owner { slot = after_put owner.slot held.job.number });
-      hands = with_held w v (finished held wake);
+      tasks = with_task w.tasks in_hand.turn.serial (record task { slot = after_put task.slot in_hand.job.number });
+      hands = with_in_hand w v (in_hand_after_finish in_hand wake);
     }) e w')
-Works duty.GiveUp w v held e w' =
-    (let owner = owner_at w.tasks held.turn.serial in
-    let wake = is_some (waker_of_give_up owner.slot) in
-    Does (seen (Worker v) (Some held.turn.serial) (GaveUp wake) (next_start w) no_growth)
+Works worker_action.GiveUp w v in_hand e w' =
+    (let task = task_at w.tasks in_hand.turn.serial in
+    let wake = is_some (waker_of_give_up task.slot) in
+    Does (seen (Worker v) (Some in_hand.turn.serial) (GaveUp (waker_in wake)) (next_start w) no_growth)
     (record w {
-      tasks = with_owner w.tasks held.turn.serial (record owner { slot = after_give_up owner.slot });
-      hands = with_held w v (given_up held wake);
+      tasks = with_task w.tasks in_hand.turn.serial (record task { slot = after_give_up task.slot });
+      hands = with_in_hand w v (in_hand_after_give_up in_hand wake);
     }) e w')
-Works duty.Wake w v held e w' =
-    Does (seen (Worker v) (Some held.turn.serial) HolderWoken (next_start w) no_growth) (record w { hands = with_held w v (woke held) }) e w'
+Works worker_action.Wake w v in_hand e w' =
+    Does (seen (Worker v) (Some in_hand.turn.serial) HolderWoken (next_start w) no_growth) (record w { hands = with_in_hand w v (in_hand_after_wake in_hand) }) e w'
 
 abbrev pub WorksWith : Hand → Worlded → ℕ → Event → Worlded → Type 0
-WorksWith (Holds held) w v e w' = Works (duty_of held) w v held e w'
+WorksWith (Holds in_hand) w v e w' = Works (next_of in_hand) w v in_hand e w'
 WorksWith _ w v e w' = DoesNothing (Worker v) w e w'
 
 -- the call of a job is answered
-abbrev pub Answers : Duty → Worlded → ℕ → Held → ℕ → Event → Worlded → Type 0
-Answers duty.Await w v held number e w' =
-    Does (seen (Worker v) (Some held.turn.serial) (Answered (Number number)) (next_start w) no_growth)
-    (record w { hands = with_held w v (answered held number) }) e w'
-Answers _ w v held number e w' = DoesNothing (Worker v) w e w'
+abbrev pub Answers : WorkerAction → Worlded → ℕ → JobInHand → ℕ → Event → Worlded → Type 0
+Answers worker_action.Await w v in_hand number e w' =
+    Does (seen (Worker v) (Some in_hand.turn.serial) (Answered (Number number)) (next_start w) no_growth)
+    (record w { hands = with_in_hand w v (in_hand_after_answer in_hand number) }) e w'
+Answers _ w v in_hand number e w' = DoesNothing (Worker v) w e w'
 
 abbrev pub AnswersWith : Hand → Worlded → ℕ → Answer → Event → Worlded → Type 0
-AnswersWith (Holds held) w v (Number number) e w' = Answers (duty_of held) w v held number e w'
+AnswersWith (Holds in_hand) w v (Number number) e w' = Answers (next_of in_hand) w v in_hand number e w'
 AnswersWith _ w v answer e w' = DoesNothing (Worker v) w e w'
 
 -- the turn of a job that is over ends
-abbrev pub Ends : Duty → Worlded → ℕ → Held → Event → Worlded → Type 0
-Ends duty.End w v held e w' =
+abbrev pub Ends : WorkerAction → Worlded → ℕ → JobInHand → Event → Worlded → Type 0
+Ends worker_action.End w v in_hand e w' =
     (pass : WorkerPass) ×
-    Does (seen (Worker v) (Some held.turn.serial) (Ended held.turn.serial (outcome_of held.stage)) (next_start w) no_growth)
-    (record w { pool = without_job w.pool held.turn.serial; hands = with_hand w.hands v (Free pass) }) e w'
-Ends _ w v held e w' = DoesNothing (Worker v) w e w'
+    Does (seen (Worker v) (Some in_hand.turn.serial) (Ended in_hand.turn.serial (outcome_of in_hand.stage)) (next_start w) no_growth)
+    (record w { pool = without_job w.pool in_hand.turn.serial; hands = with_hand w.hands v (Free pass) }) e w'
+Ends _ w v in_hand e w' = DoesNothing (Worker v) w e w'
 
 abbrev pub EndsWith : Hand → Worlded → ℕ → Event → Worlded → Type 0
-EndsWith (Holds held) w v e w' = Ends (duty_of held) w v held e w'
+EndsWith (Holds in_hand) w v e w' = Ends (next_of in_hand) w v in_hand e w'
 EndsWith _ w v e w' = DoesNothing (Worker v) w e w'
 
 -- ---- the pool
@@ -246,7 +250,7 @@ was_accepted w s = nat_lt 0 s && nat_lt (s - 1) (length w.tasks)
 abbrev pub StraysIf : Bool → Worlded → ℕ → Event → Worlded → Type 0
 StraysIf false w s e w' = DoesNothing Pool w e w'
 StraysIf true w s e w' =
-    (let number = (owner_at w.tasks s).number in
+    (let number = (task_at w.tasks s).number in
     let how = wake_of (standing_of w.pool.jobs number) in
     Does (seen Pool None (JobWoken s how) (next_start w) no_growth) (record w { pool = after_wake how w.pool number }) e w')
 
@@ -254,7 +258,7 @@ StraysIf true w s e w' =
 abbrev pub StrikesIf : Bool → Worlded → ℕ → Event → Worlded → Type 0
 StrikesIf false w s e w' = DoesNothing Pool w e w'
 StrikesIf true w s e w' =
-    (let number = (owner_at w.tasks s).number in
+    (let number = (task_at w.tasks s).number in
     let how = cancel_of (standing_of w.pool.jobs number) in
     Does (seen Pool None (JobCancelled s how) (next_start w) no_growth) (record w { pool = after_cancel how w.pool number }) e w')
 
@@ -268,12 +272,12 @@ StepDoes may_answer (Take v) w e w' = TakesWith (hand_at w.hands v) may_answer w
 StepDoes may_answer (Job v) w e w' = WorksWith (hand_at w.hands v) w v e w'
 StepDoes may_answer (Io v answer) w e w' = AnswersWith (hand_at w.hands v) w v answer e w'
 StepDoes may_answer (End v) w e w' = EndsWith (hand_at w.hands v) w v e w'
-StepDoes may_answer (Wait v) w e w' = WaitsWith (hand_at w.hands v) w v false e w'
-StepDoes may_answer (Late v) w e w' = WaitsWith (hand_at w.hands v) w v true e w'
+StepDoes may_answer (Wait v) w e w' = WaitsWith (hand_at w.hands v) w v Woken e w'
+StepDoes may_answer (Late v) w e w' = WaitsWith (hand_at w.hands v) w v TimedOut e w'
 StepDoes may_answer (SetLimit n) w e w' = LimitsIf (n == 0) w n e w'
 StepDoes may_answer Sweep w e w' = Does (seen Pool None (Swept 0) (next_start w) no_growth) w e w'
 StepDoes may_answer (Stray s) w e w' = StraysIf (was_accepted w s) w s e w'
-StepDoes may_answer (Strike s) w e w' = StrikesIf (was_accepted w s && has_let_go (owner_at w.tasks s).stage) w s e w'
+StepDoes may_answer (Strike s) w e w' = StrikesIf (was_accepted w s && has_let_go (task_at w.tasks s).stage) w s e w'
 
 -- ---- what the parts keep, so that each step is safe
 
@@ -287,25 +291,25 @@ free_hands [] = 0
 free_hands (hand ∷ row) = one_if_free hand + free_hands row
 
 -- how many workers hold a job
-abbrev pub one_if_held : Hand → ℕ
-one_if_held (Holds held) = 1
-one_if_held _ = 0
+abbrev pub one_if_busy : Hand → ℕ
+one_if_busy (Holds in_hand) = 1
+one_if_busy _ = 0
 
-abbrev pub held_hands : List Hand → ℕ
-held_hands [] = 0
-held_hands (hand ∷ row) = one_if_held hand + held_hands row
+abbrev pub busy_hands : List Hand → ℕ
+busy_hands [] = 0
+busy_hands (hand ∷ row) = one_if_busy hand + busy_hands row
 
 -- what is in a hand is a running job, of a task that is there
-pub record IsHeld (w : Worlded) (held : Held) : Type 0 where
-  pub runs : is_running_as w.pool.jobs held.turn ≡ true
-  pub positive : 0 < held.turn.serial
-  pub owned : held.turn.serial - 1 < length w.tasks
+pub record IsInHand (w : Worlded) (in_hand : JobInHand) : Type 0 where
+  pub runs : is_running_as w.pool.jobs in_hand.turn ≡ true
+  pub positive : 0 < in_hand.turn.serial
+  pub has_task : in_hand.turn.serial - 1 < length w.tasks
 
 pub record IsReady (w : Worlded) : Type 0 where
   pub parked : NoneParked w.pool.jobs
   pub idle : w.pool.counts.idle ≡ w.pool.counts.arriving + free_hands w.hands
-  pub held : (n : ℕ) (held : Held) → slice_get w.hands n ≡ Some (Holds held) → IsHeld w held
+  pub in_hand : (n : ℕ) (in_hand : JobInHand) → slice_get w.hands n ≡ Some (Holds in_hand) → IsInHand w in_hand
   -- no job is in two hands
   pub apart :
-      (m n : ℕ) (one other : Held) → slice_get w.hands m ≡ Some (Holds one) → slice_get w.hands n ≡ Some (Holds other)
+      (m n : ℕ) (one other : JobInHand) → slice_get w.hands m ≡ Some (Holds one) → slice_get w.hands n ≡ Some (Holds other)
       → one.turn.serial ≡ other.turn.serial → m ≡ n

@@ -12,28 +12,32 @@ use Rattle.blocking_pool.specs.declared.pool.answer.Refusal.{Refusal}
 use Rattle.blocking_pool.specs.declared.pool.answer.Woke.{Woke}
 use Rattle.blocking_pool.specs.declared.pool.token.WorkerPass.{WorkerPass}
 use Rattle.blocking_world.specs.Crews.{AddsTo, TakesFront, no_growth, after_wake, after_cancel}
-use Rattle.blocking_world.specs.Worlds.{Worlded, CallPool, duty_of, outcome_of, answered, finished, given_up, woke, hand_at, with_hand, is_free_hand, may_be, has_let_go, owner_at, with_owner}
+use Rattle.blocking_world.specs.Worlds.{Worlded, CallPool, next_of, outcome_of, in_hand_after_answer, in_hand_after_finish, in_hand_after_give_up, in_hand_after_wake, hand_at, with_hand, is_free_hand, may_be, has_let_go, task_at, with_task}
+use Rattle.blocking_laws.specs.Seats.{waker_in}
+use Rattle.blocking_laws.specs.Seen.{has_timed_out}
 use Rattle.blocking_laws.specs.Answers.{wait_act}
-use Rattle.blocking_world.specs.Machine.{next_start, seen, nothing, added_act, added_tasks, task_act, called, pool_called, after_wait, with_held, was_accepted}
+use Rattle.blocking_world.specs.Machine.{next_start, seen, nothing, added_act, tasks_after_add, task_act, task_after_call, pool_after_call, after_wait, with_in_hand, was_accepted}
 use Rattle.blocking_laws.specs.Steps.{named}
 use Rattle.blocking_world.specs.declared.call.CallJob.{CallJob}
 use Rattle.blocking_laws.specs.declared.event.Act.{Act}
 use Rattle.blocking_laws.specs.declared.event.Act.TheVariants.{JobWoken, JobCancelled, LimitSet, Swept, Arrived, Took, TookDropped, TookNone, Ended, Answered, Finished, GaveUp, HolderWoken}
 use Rattle.blocking_laws.specs.declared.event.Event.{Event}
 use Rattle.blocking_laws.specs.declared.event.Moment.{Moment}
-use Rattle.blocking_laws.specs.declared.event.Party.TheVariants.{Task, Worker, Pool}
-use Rattle.blocking_world.specs.declared.hand.Duty.{Duty}
-use Rattle.blocking_world.specs.declared.hand.Duty.TheVariants as duty
+use Rattle.blocking_laws.specs.declared.event.Party.TheVariants.{Task as ByTask, Worker, Pool}
+use Rattle.blocking_laws.specs.declared.event.WaitEnd.{WaitEnd}
+use Rattle.blocking_laws.specs.declared.event.WaitEnd.TheVariants.{Woken, TimedOut}
+use Rattle.blocking_world.specs.declared.hand.WorkerAction.{WorkerAction}
+use Rattle.blocking_world.specs.declared.hand.WorkerAction.TheVariants as worker_action
 use Rattle.blocking_world.specs.declared.hand.Hand.{Hand}
 use Rattle.blocking_world.specs.declared.hand.Hand.TheVariants.{Free, Holds}
-use Rattle.blocking_world.specs.declared.hand.Held.{Held}
+use Rattle.blocking_world.specs.declared.hand.JobInHand.{JobInHand}
 use Rattle.blocking_world.specs.declared.hand.Stage.{Stage}
 use Rattle.blocking_world.specs.declared.hand.Stage.TheVariants as stage
 use Rattle.blocking_laws.specs.declared.step.Answer.TheVariants.{Number}
 use Rattle.blocking_laws.specs.declared.step.Step.{Step}
 use Rattle.blocking_laws.specs.declared.step.Step.TheVariants.{Spawn, OfTask, Arrive, Take, Job, Io, End, Wait, Late, SetLimit, Sweep, Stray, Strike}
 use Rattle.blocking_laws.specs.declared.step.TaskCall.{TaskCall}
-use Rattle.blocking_world.specs.declared.task.Owner.{Owner}
+use Rattle.blocking_world.specs.declared.task.Task.{Task}
 
 pub data Move : Type 0 where
   -- the step has no action
@@ -41,7 +45,7 @@ pub data Move : Type 0 where
   -- a new call, by what the pool answers
   Begins : Result JobNumber Refusal → Growth → CallPool → Move
   -- task k is called
-  Calls : ℕ → TaskCall → Owner → Move
+  Calls : ℕ → TaskCall → Task → Move
   -- a worker arrives
   Arrives : WorkerPass → Move
   -- worker v takes a job, to be dropped (true) or to be run
@@ -49,17 +53,17 @@ pub data Move : Type 0 where
   -- worker v finds no job
   TakesNone : ℕ → WorkerPass → WorkerPass → Move
   -- the call of worker v's job is answered
-  IsAnswered : ℕ → Held → ℕ → Move
+  IsAnswered : ℕ → JobInHand → ℕ → Move
   -- the job of worker v puts its result
-  Finishes : ℕ → Held → Move
+  Finishes : ℕ → JobInHand → Move
   -- the job of worker v gives up
-  GivesUp : ℕ → Held → Move
+  GivesUp : ℕ → JobInHand → Move
   -- the job of worker v calls the waker that it took
-  CallsWaker : ℕ → Held → Move
+  CallsWaker : ℕ → JobInHand → Move
   -- the turn of worker v's job ends
-  EndsTurn : ℕ → Held → WorkerPass → Move
-  -- worker v has waited, until its time was up (true) or not
-  HasWaited : ℕ → WorkerPass → Bool → Move
+  EndsTurn : ℕ → JobInHand → WorkerPass → Move
+  -- worker v has waited, and its wait ended so
+  HasWaited : ℕ → WorkerPass → WaitEnd → Move
   -- the limit is set
   SetsLimit : ℕ → Move
   -- a sweep finds no parked job
@@ -71,25 +75,25 @@ pub data Move : Type 0 where
 
 -- ---- which step it is, what is seen of it, and what it leaves
 
--- a wait, by whether its time was up
-abbrev pub wait_step : Bool → ℕ → Step
-wait_step false v = Wait v
-wait_step true v = Late v
+-- a wait, by how it ended
+abbrev pub wait_step : WaitEnd → ℕ → Step
+wait_step Woken v = Wait v
+wait_step TimedOut v = Late v
 
 -- the step of a move
 abbrev pub step_of : Move → Step
 step_of (Idles step) = step
 step_of (Begins added growth pool) = Spawn
-step_of (Calls k call owner) = OfTask k call
+step_of (Calls k call task) = OfTask k call
 step_of (Arrives pass) = Arrive
 step_of (TakesJob v old to_drop turn job growth pool) = Take v
 step_of (TakesNone v old pass) = Take v
-step_of (IsAnswered v held number) = Io v (Number number)
-step_of (Finishes v held) = Job v
-step_of (GivesUp v held) = Job v
-step_of (CallsWaker v held) = Job v
-step_of (EndsTurn v held pass) = End v
-step_of (HasWaited v pass late) = wait_step late v
+step_of (IsAnswered v in_hand number) = Io v (Number number)
+step_of (Finishes v in_hand) = Job v
+step_of (GivesUp v in_hand) = Job v
+step_of (CallsWaker v in_hand) = Job v
+step_of (EndsTurn v in_hand pass) = End v
+step_of (HasWaited v pass end) = wait_step end v
 step_of (SetsLimit n) = SetLimit n
 step_of Sweeps = Sweep
 step_of (IsWoken s) = Stray s
@@ -106,35 +110,35 @@ first_stage false = stage.Runs
 first_stage true = stage.MustGiveUp
 
 -- whether the finish of this job takes the waker of its task
-abbrev pub finish_wakes : Worlded → Held → Bool
-finish_wakes w held = is_some (put_in (owner_at w.tasks held.turn.serial).slot held.job.number).wake
+abbrev pub finish_wakes : Worlded → JobInHand → Bool
+finish_wakes w in_hand = is_some (put_in (task_at w.tasks in_hand.turn.serial).slot in_hand.job.number).wake
 
 -- whether the job takes the waker of its task where it gives up
-abbrev pub giving_up_wakes : Worlded → Held → Bool
-giving_up_wakes w held = is_some (waker_of_give_up (owner_at w.tasks held.turn.serial).slot)
+abbrev pub giving_up_wakes : Worlded → JobInHand → Bool
+giving_up_wakes w in_hand = is_some (waker_of_give_up (task_at w.tasks in_hand.turn.serial).slot)
 
 -- what a wake does to job s
 abbrev pub wakes_as : Worlded → ℕ → Woke
-wakes_as w s = wake_of (standing_of w.pool.jobs (owner_at w.tasks s).number)
+wakes_as w s = wake_of (standing_of w.pool.jobs (task_at w.tasks s).number)
 
 -- what a cancel does to job s
 abbrev pub cancels_as : Worlded → ℕ → Woke
-cancels_as w s = cancel_of (standing_of w.pool.jobs (owner_at w.tasks s).number)
+cancels_as w s = cancel_of (standing_of w.pool.jobs (task_at w.tasks s).number)
 
 -- the event of a move
 abbrev pub event_of : Worlded → Move → Event
 event_of w (Idles step) = nothing (named step) (next_start w)
 event_of w (Begins added growth pool) = seen Pool None (added_act added) (next_start w) growth
-event_of w (Calls k call owner) = seen (Task k) None (task_act call owner) (next_start w) no_growth
+event_of w (Calls k call task) = seen (ByTask k) None (task_act call task) (next_start w) no_growth
 event_of w (Arrives pass) = seen (Worker (length w.hands + 1)) None (Arrived (length w.hands + 1)) (next_start w) no_growth
 event_of w (TakesJob v old to_drop turn job growth pool) = seen (Worker v) (Some turn.serial) (took to_drop turn.serial) (next_start w) growth
 event_of w (TakesNone v old pass) = seen (Worker v) None TookNone (next_start w) no_growth
-event_of w (IsAnswered v held number) = seen (Worker v) (Some held.turn.serial) (Answered (Number number)) (next_start w) no_growth
-event_of w (Finishes v held) = seen (Worker v) (Some held.turn.serial) (Finished (finish_wakes w held)) (next_start w) no_growth
-event_of w (GivesUp v held) = seen (Worker v) (Some held.turn.serial) (GaveUp (giving_up_wakes w held)) (next_start w) no_growth
-event_of w (CallsWaker v held) = seen (Worker v) (Some held.turn.serial) HolderWoken (next_start w) no_growth
-event_of w (EndsTurn v held pass) = seen (Worker v) (Some held.turn.serial) (Ended held.turn.serial (outcome_of held.stage)) (next_start w) no_growth
-event_of w (HasWaited v pass late) = seen (Worker v) None (wait_act v late (must_stop late w.pool)) (next_start w) no_growth
+event_of w (IsAnswered v in_hand number) = seen (Worker v) (Some in_hand.turn.serial) (Answered (Number number)) (next_start w) no_growth
+event_of w (Finishes v in_hand) = seen (Worker v) (Some in_hand.turn.serial) (Finished (waker_in (finish_wakes w in_hand))) (next_start w) no_growth
+event_of w (GivesUp v in_hand) = seen (Worker v) (Some in_hand.turn.serial) (GaveUp (waker_in (giving_up_wakes w in_hand))) (next_start w) no_growth
+event_of w (CallsWaker v in_hand) = seen (Worker v) (Some in_hand.turn.serial) HolderWoken (next_start w) no_growth
+event_of w (EndsTurn v in_hand pass) = seen (Worker v) (Some in_hand.turn.serial) (Ended in_hand.turn.serial (outcome_of in_hand.stage)) (next_start w) no_growth
+event_of w (HasWaited v pass end) = seen (Worker v) None (wait_act v end (must_stop (has_timed_out end) w.pool)) (next_start w) no_growth
 event_of w (SetsLimit n) = seen Pool None (LimitSet n) (next_start w) no_growth
 event_of w Sweeps = seen Pool None (Swept 0) (next_start w) no_growth
 event_of w (IsWoken s) = seen Pool None (JobWoken s (wakes_as w s)) (next_start w) no_growth
@@ -147,75 +151,75 @@ moment_of w move = record { step = step_of move; event = event_of w move }
 -- the parts after a move
 abbrev pub after : Worlded → Move → Worlded
 after w (Idles step) = w
-after w (Begins added growth pool) = record w { pool = pool; tasks = added_tasks w.tasks added }
-after w (Calls k call owner) = record w { pool = pool_called call w.pool owner.number; tasks = slice_set w.tasks k (called call owner) }
+after w (Begins added growth pool) = record w { pool = pool; tasks = tasks_after_add w.tasks added }
+after w (Calls k call task) = record w { pool = pool_after_call call w.pool task.number; tasks = slice_set w.tasks k (task_after_call call task) }
 after w (Arrives pass) = record w { pool = record w.pool { counts = arrived w.pool.counts }; hands = w.hands ++ Free pass ∷ [] }
 after w (TakesJob v old to_drop turn job growth pool) =
-    record w { pool = pool; hands = with_held w v (record { turn = turn; job = job; stage = first_stage to_drop }) }
+    record w { pool = pool; hands = with_in_hand w v (record { turn = turn; job = job; stage = first_stage to_drop }) }
 after w (TakesNone v old pass) = record w { hands = with_hand w.hands v (Free pass) }
-after w (IsAnswered v held number) = record w { hands = with_held w v (answered held number) }
-after w (Finishes v held) =
+after w (IsAnswered v in_hand number) = record w { hands = with_in_hand w v (in_hand_after_answer in_hand number) }
+after w (Finishes v in_hand) =
     record w {
-      tasks = with_owner w.tasks held.turn.serial (record (owner_at w.tasks held.turn.serial) { slot = after_put (owner_at w.tasks held.turn.serial).slot held.job.number });
-      hands = with_held w v (finished held (finish_wakes w held));
+      tasks = with_task w.tasks in_hand.turn.serial (record (task_at w.tasks in_hand.turn.serial) { slot = after_put (task_at w.tasks in_hand.turn.serial).slot in_hand.job.number });
+      hands = with_in_hand w v (in_hand_after_finish in_hand (finish_wakes w in_hand));
     }
-after w (GivesUp v held) =
+after w (GivesUp v in_hand) =
     record w {
-      tasks = with_owner w.tasks held.turn.serial (record (owner_at w.tasks held.turn.serial) { slot = after_give_up (owner_at w.tasks held.turn.serial).slot });
-      hands = with_held w v (given_up held (giving_up_wakes w held));
+      tasks = with_task w.tasks in_hand.turn.serial (record (task_at w.tasks in_hand.turn.serial) { slot = after_give_up (task_at w.tasks in_hand.turn.serial).slot });
+      hands = with_in_hand w v (in_hand_after_give_up in_hand (giving_up_wakes w in_hand));
     }
-after w (CallsWaker v held) = record w { hands = with_held w v (woke held) }
-after w (EndsTurn v held pass) = record w { pool = without_job w.pool held.turn.serial; hands = with_hand w.hands v (Free pass) }
-after w (HasWaited v pass late) = after_wait w v pass (must_stop late w.pool)
+after w (CallsWaker v in_hand) = record w { hands = with_in_hand w v (in_hand_after_wake in_hand) }
+after w (EndsTurn v in_hand pass) = record w { pool = without_job w.pool in_hand.turn.serial; hands = with_hand w.hands v (Free pass) }
+after w (HasWaited v pass end) = after_wait w v pass (must_stop (has_timed_out end) w.pool)
 after w (SetsLimit n) = record w { pool = record w.pool { counts = limited n w.pool.counts } }
 after w Sweeps = w
-after w (IsWoken s) = record w { pool = after_wake (wakes_as w s) w.pool (owner_at w.tasks s).number }
-after w (IsStruck s) = record w { pool = after_cancel (cancels_as w s) w.pool (owner_at w.tasks s).number }
+after w (IsWoken s) = record w { pool = after_wake (wakes_as w s) w.pool (task_at w.tasks s).number }
+after w (IsStruck s) = record w { pool = after_cancel (cancels_as w s) w.pool (task_at w.tasks s).number }
 
 -- ---- which steps have an action
 
--- what the job in a hand has to do
-abbrev pub duty_in : Hand → Option Duty
-duty_in (Holds held) = Some (duty_of held)
-duty_in _ = None
+-- the next action of a worker with this hand
+abbrev pub next_in : Hand → Option WorkerAction
+next_in (Holds in_hand) = Some (next_of in_hand)
+next_in _ = None
 
 -- whether that is an action of the job's own
-abbrev pub is_own : Option Duty → Bool
-is_own (Some duty.Finish) = true
-is_own (Some duty.GiveUp) = true
-is_own (Some duty.Wake) = true
+abbrev pub is_own : Option WorkerAction → Bool
+is_own (Some worker_action.Finish) = true
+is_own (Some worker_action.GiveUp) = true
+is_own (Some worker_action.Wake) = true
 is_own _ = false
 
 -- whether the job's call is to be answered
-abbrev pub is_awaiting : Option Duty → Bool
-is_awaiting (Some duty.Await) = true
+abbrev pub is_awaiting : Option WorkerAction → Bool
+is_awaiting (Some worker_action.Await) = true
 is_awaiting _ = false
 
 -- whether the turn is to end
-abbrev pub is_ending : Option Duty → Bool
-is_ending (Some duty.End) = true
+abbrev pub is_ending : Option WorkerAction → Bool
+is_ending (Some worker_action.End) = true
 is_ending _ = false
 
 -- whether a task is there and may be called so
-abbrev pub may_call_in : Option Owner → TaskCall → Bool
+abbrev pub may_call_in : Option Task → TaskCall → Bool
 may_call_in None call = false
-may_call_in (Some owner) call = may_be owner.stage call
+may_call_in (Some task) call = may_be task.stage call
 
 -- whether a step has an action
-abbrev pub has_act : Worlded → Step → Bool
-has_act w Spawn = true
-has_act w (OfTask k call) = may_call_in (slice_get w.tasks k) call
-has_act w Arrive = nat_lt 0 w.pool.counts.arriving
-has_act w (Take v) = is_free_hand (hand_at w.hands v)
-has_act w (Job v) = is_own (duty_in (hand_at w.hands v))
-has_act w (Io v answer) = is_awaiting (duty_in (hand_at w.hands v))
-has_act w (End v) = is_ending (duty_in (hand_at w.hands v))
-has_act w (Wait v) = is_free_hand (hand_at w.hands v)
-has_act w (Late v) = is_free_hand (hand_at w.hands v)
-has_act w (SetLimit n) = not (n == 0)
-has_act w Sweep = true
-has_act w (Stray s) = was_accepted w s
-has_act w (Strike s) = was_accepted w s && has_let_go (owner_at w.tasks s).stage
+abbrev pub has_action_in : Worlded → Step → Bool
+has_action_in w Spawn = true
+has_action_in w (OfTask k call) = may_call_in (slice_get w.tasks k) call
+has_action_in w Arrive = nat_lt 0 w.pool.counts.arriving
+has_action_in w (Take v) = is_free_hand (hand_at w.hands v)
+has_action_in w (Job v) = is_own (next_in (hand_at w.hands v))
+has_action_in w (Io v answer) = is_awaiting (next_in (hand_at w.hands v))
+has_action_in w (End v) = is_ending (next_in (hand_at w.hands v))
+has_action_in w (Wait v) = is_free_hand (hand_at w.hands v)
+has_action_in w (Late v) = is_free_hand (hand_at w.hands v)
+has_action_in w (SetLimit n) = not (n == 0)
+has_action_in w Sweep = true
+has_action_in w (Stray s) = was_accepted w s
+has_action_in w (Strike s) = was_accepted w s && has_let_go (task_at w.tasks s).stage
 
 -- ---- which moves there may be
 
@@ -224,22 +228,22 @@ abbrev pub WasAccepted : Worlded → ℕ → Type 0
 WasAccepted w s = was_accepted w s ≡ true
 
 abbrev pub May : (ℕ → Bool → Type 0) → Worlded → Move → Type 0
-May may_answer w (Idles step) = has_act w step ≡ false
+May may_answer w (Idles step) = has_action_in w step ≡ false
 May may_answer w (Begins added growth pool) = AddsTo may_answer w.pool added growth pool
-May may_answer w (Calls k call owner) = (slice_get w.tasks k ≡ Some owner) × (may_be owner.stage call ≡ true)
+May may_answer w (Calls k call task) = (slice_get w.tasks k ≡ Some task) × (may_be task.stage call ≡ true)
 May may_answer w (Arrives pass) = 0 < w.pool.counts.arriving
 May may_answer w (TakesJob v old to_drop turn job growth pool) = (hand_at w.hands v ≡ Free old) × TakesFront may_answer w.pool turn job to_drop growth pool
 May may_answer w (TakesNone v old pass) = (hand_at w.hands v ≡ Free old) × (w.pool.queue ≡ [])
-May may_answer w (IsAnswered v held number) = (hand_at w.hands v ≡ Holds held) × (duty_of held ≡ duty.Await)
-May may_answer w (Finishes v held) = (hand_at w.hands v ≡ Holds held) × (duty_of held ≡ duty.Finish)
-May may_answer w (GivesUp v held) = (hand_at w.hands v ≡ Holds held) × (duty_of held ≡ duty.GiveUp)
-May may_answer w (CallsWaker v held) = (hand_at w.hands v ≡ Holds held) × (duty_of held ≡ duty.Wake)
-May may_answer w (EndsTurn v held pass) = (hand_at w.hands v ≡ Holds held) × (duty_of held ≡ duty.End)
-May may_answer w (HasWaited v pass late) = hand_at w.hands v ≡ Free pass
+May may_answer w (IsAnswered v in_hand number) = (hand_at w.hands v ≡ Holds in_hand) × (next_of in_hand ≡ worker_action.Await)
+May may_answer w (Finishes v in_hand) = (hand_at w.hands v ≡ Holds in_hand) × (next_of in_hand ≡ worker_action.Finish)
+May may_answer w (GivesUp v in_hand) = (hand_at w.hands v ≡ Holds in_hand) × (next_of in_hand ≡ worker_action.GiveUp)
+May may_answer w (CallsWaker v in_hand) = (hand_at w.hands v ≡ Holds in_hand) × (next_of in_hand ≡ worker_action.Wake)
+May may_answer w (EndsTurn v in_hand pass) = (hand_at w.hands v ≡ Holds in_hand) × (next_of in_hand ≡ worker_action.End)
+May may_answer w (HasWaited v pass end) = hand_at w.hands v ≡ Free pass
 May may_answer w (SetsLimit n) = 0 < n
 May may_answer w Sweeps = Unit {0}
 May may_answer w (IsWoken s) = WasAccepted w s
-May may_answer w (IsStruck s) = WasAccepted w s × (has_let_go (owner_at w.tasks s).stage ≡ true)
+May may_answer w (IsStruck s) = WasAccepted w s × (has_let_go (task_at w.tasks s).stage ≡ true)
 
 -- A step is a move that there may be.
 pub record Moves (may_answer : ℕ → Bool → Type 0) (step : Step) (w : Worlded) (e : Event) (w' : Worlded) : Type 0 where

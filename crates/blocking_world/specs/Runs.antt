@@ -4,10 +4,10 @@ use Rattle.blocking_laws.specs.declared.event.Event.{Event}
 use Rattle.blocking_laws.specs.declared.event.Moment.{Moment}
 use Rattle.blocking_laws.specs.declared.step.Step.{Step}
 
--- the history of a world: the number of its setting, which of its starts are refused, and what was seen so far, the newest first
+-- the history of a world: the number of its setting, the plan of its starts, and what was seen so far, the newest first
 pub record History : Type 0 where
   pub setting : ℕ
-  pub starts : List Bool
+  pub plan : List Bool
   pub past : List Moment
 
 -- a world: its history, and how many passes and how many turns its workers hold

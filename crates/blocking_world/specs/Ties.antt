@@ -25,40 +25,41 @@ use Rattle.blocking_laws.specs.Staffed.{passes, turns}
 use Rattle.blocking_laws.specs.Steps.{is_there}
 use Rattle.blocking_world.specs.Worlds.{Worlded, new_call, hand_at, has_let_go}
 use Rattle.blocking_laws.specs.Legal.{Legal}
-use Rattle.blocking_world.specs.Machine.{IsReady, free_hands, held_hands}
+use Rattle.blocking_world.specs.Machine.{IsReady, free_hands, busy_hands}
 use Rattle.blocking_world.specs.declared.call.CallJob.{CallJob}
 use Rattle.blocking_laws.specs.declared.event.Act.{Act}
 use Rattle.blocking_laws.specs.declared.event.Act.TheVariants.{Answered, Finished, GaveUp, HolderWoken}
 use Rattle.blocking_laws.specs.declared.event.Event.{Event}
 use Rattle.blocking_laws.specs.declared.event.Moment.{Moment}
 use Rattle.blocking_laws.specs.declared.event.Party.{Party}
-use Rattle.blocking_laws.specs.declared.event.Party.TheVariants.{Task}
+use Rattle.blocking_laws.specs.declared.event.Party.TheVariants.{Task as ByTask}
+use Rattle.blocking_laws.specs.declared.event.HolderWaker.TheVariants.{Taken, Absent}
 use Rattle.blocking_world.specs.declared.hand.Hand.{Hand}
 use Rattle.blocking_world.specs.declared.hand.Hand.TheVariants.{Out, Free, Holds}
-use Rattle.blocking_world.specs.declared.hand.Held.{Held}
+use Rattle.blocking_world.specs.declared.hand.JobInHand.{JobInHand}
 use Rattle.blocking_world.specs.declared.hand.Stage.{Stage}
 use Rattle.blocking_world.specs.declared.hand.Stage.TheVariants as stage
 use Rattle.blocking_laws.specs.declared.step.Answer.TheVariants.{Number}
-use Rattle.blocking_world.specs.declared.task.Owner.{Owner}
+use Rattle.blocking_world.specs.declared.task.Task.{Task}
 use Rattle.blocking_world.specs.declared.task.TaskStage.{TaskStage}
-use Rattle.blocking_world.specs.declared.task.TaskStage.TheVariants as task
+use Rattle.blocking_world.specs.declared.task.TaskStage.TheVariants as task_stage
 
 -- ---- jobs and tasks are numbered together
 
 -- of so many tasks, the one that holds job s
 abbrev pub holder_of : ℕ → ℕ → Option Party
-holder_of n s = if nat_lt 0 s && nat_lt (s - 1) n then Some (Task (s - 1)) else None
+holder_of n s = if nat_lt 0 s && nat_lt (s - 1) n then Some (ByTask (s - 1)) else None
 
 pub record Numbered (w : Worlded) (past : List Moment) : Type 0 where
-  pub owners : length w.tasks ≡ tasks past
+  pub tasks_are : length w.tasks ≡ tasks past
   pub accepted : length (accepted_jobs past) ≡ tasks past
   pub next : w.pool.next_serial ≡ tasks past + 1
   pub holders : (s : ℕ) → holder past s ≡ holder_of (tasks past) s
   -- the job of task k has the serial k + 1, and its number's place is that of the pool
-  pub numbers : (k : ℕ) (owner : Owner) → slice_get w.tasks k ≡ Some owner → owner.number.serial ≡ k + 1
+  pub numbers : (k : ℕ) (task : Task) → slice_get w.tasks k ≡ Some task → task.number.serial ≡ k + 1
   pub places :
-      (k : ℕ) (owner : Owner) (entry : Entry CallJob) → slice_get w.tasks k ≡ Some owner → get w.pool.jobs (k + 1) ≡ Some entry
-      → entry.place ≡ owner.number.place
+      (k : ℕ) (task : Task) (entry : Entry CallJob) → slice_get w.tasks k ≡ Some task → get w.pool.jobs (k + 1) ≡ Some entry
+      → entry.place ≡ task.number.place
   -- a job stands somewhere exactly if it was accepted
   pub stands : (s : ℕ) → is_some (standing past s) ≡ is_some (holder past s)
 
@@ -122,7 +123,7 @@ pub record Counted (setting : ℕ) (w : Worlded) (past : List Moment) : Type 0 w
 abbrev pub HandAs : Hand → Bool → Option ℕ → Type 0
 HandAs Out there job = (there ≡ false) × (job ≡ None)
 HandAs (Free pass) there job = (there ≡ true) × (job ≡ None)
-HandAs (Holds held) there job = (there ≡ true) × (job ≡ Some held.turn.serial)
+HandAs (Holds in_hand) there job = (there ≡ true) × (job ≡ Some in_hand.turn.serial)
 
 -- where a job is in its turn, in the words of the laws
 abbrev pub turn_of : Stage → Turn
@@ -135,31 +136,31 @@ turn_of stage.GaveUp = HasGivenUp
 abbrev pub RanAs : Action → ℕ → List Act → Type 0
 RanAs action.Call n acts = acts ≡ []
 RanAs action.Finish n acts = acts ≡ Answered (Number n) ∷ []
-RanAs action.Deliver n acts = acts ≡ Finished true ∷ Answered (Number n) ∷ []
-RanAs action.Done n acts = (acts ≡ Finished false ∷ Answered (Number n) ∷ []) ⊎ (acts ≡ HolderWoken ∷ Finished true ∷ Answered (Number n) ∷ [])
+RanAs action.Deliver n acts = acts ≡ Finished Taken ∷ Answered (Number n) ∷ []
+RanAs action.Done n acts = (acts ≡ Finished Absent ∷ Answered (Number n) ∷ []) ⊎ (acts ≡ HolderWoken ∷ Finished Taken ∷ Answered (Number n) ∷ [])
 
 -- what a job in a hand has done so far
 abbrev pub ActedAs : Stage → Action → ℕ → List Act → Type 0
 ActedAs stage.Runs next n acts = RanAs next n acts
 ActedAs stage.MustGiveUp next n acts = acts ≡ []
-ActedAs stage.MustWake next n acts = acts ≡ GaveUp true ∷ []
-ActedAs stage.GaveUp next n acts = (acts ≡ GaveUp false ∷ []) ⊎ (acts ≡ HolderWoken ∷ GaveUp true ∷ [])
+ActedAs stage.MustWake next n acts = acts ≡ GaveUp Taken ∷ []
+ActedAs stage.GaveUp next n acts = (acts ≡ GaveUp Absent ∷ []) ⊎ (acts ≡ HolderWoken ∷ GaveUp Taken ∷ [])
 
 -- A job in a hand, by what was seen of it. One that is to be dropped was let go.
-pub record HeldAs (held : Held) (turns : Turn) (acts : List Act) (let_go : Bool) : Type 0 where
-  pub turn_is : turns ≡ turn_of held.stage
-  pub acts_are : ActedAs held.stage held.job.core held.job.number acts
-  pub wanted : held.stage ≡ stage.MustGiveUp → let_go ≡ true
+pub record InHandAs (in_hand : JobInHand) (turns : Turn) (acts : List Act) (let_go : Bool) : Type 0 where
+  pub turn_is : turns ≡ turn_of in_hand.stage
+  pub acts_are : ActedAs in_hand.stage in_hand.job.core in_hand.job.number acts
+  pub wanted : in_hand.stage ≡ stage.MustGiveUp → let_go ≡ true
 
-abbrev pub let_go_in : Option Owner → Bool
+abbrev pub let_go_in : Option Task → Bool
 let_go_in None = false
-let_go_in (Some owner) = has_let_go owner.stage
+let_go_in (Some task) = has_let_go task.stage
 
 pub record Handed (w : Worlded) (past : List Moment) : Type 0 where
   pub each : (v : ℕ) → HandAs (hand_at w.hands v) (is_there past v) (hand past v)
-  pub held :
-      (v : ℕ) (held : Held) → hand_at w.hands v ≡ Holds held
-      → HeldAs held (turn past held.turn.serial) (acts_of held.turn.serial (events past)) (let_go_in (slice_get w.tasks (held.turn.serial - 1)))
+  pub in_hand :
+      (v : ℕ) (in_hand : JobInHand) → hand_at w.hands v ≡ Holds in_hand
+      → InHandAs in_hand (turn past in_hand.turn.serial) (acts_of in_hand.turn.serial (events past)) (let_go_in (slice_get w.tasks (in_hand.turn.serial - 1)))
   pub ready : IsReady w
   -- only the job of a task that let it go is marked or cancelled
   pub marks : (s : ℕ) → is_marked past s || is_cancelled past s ≡ true → let_go_in (slice_get w.tasks (s - 1)) ≡ true
@@ -184,38 +185,38 @@ CancelledAs (Abandoned over) found finished given_up in_time n = (finished || gi
 CancelledAs _ found finished given_up in_time n = ⊥
 
 abbrev pub SlotAs : TaskStage → Content ℕ → Option ℕ → Bool → Bool → Bool → ℕ → Type 0
-SlotAs task.Held content found finished given_up in_time n = AwaitedAs content finished given_up in_time n
-SlotAs task.Cancelled content found finished given_up in_time n = CancelledAs content found finished given_up in_time n
-SlotAs task.Gone content found finished given_up in_time n = finished || given_up ≡ false → IsPending content
-SlotAs task.LetGo content found finished given_up in_time n = finished || given_up ≡ false → IsPending content
+SlotAs task_stage.Attached content found finished given_up in_time n = AwaitedAs content finished given_up in_time n
+SlotAs task_stage.Cancelled content found finished given_up in_time n = CancelledAs content found finished given_up in_time n
+SlotAs task_stage.Gone content found finished given_up in_time n = finished || given_up ≡ false → IsPending content
+SlotAs task_stage.LetGo content found finished given_up in_time n = finished || given_up ≡ false → IsPending content
 
 -- whether a task is gone
 abbrev pub is_gone_as : TaskStage → Bool
-is_gone_as task.Gone = true
-is_gone_as task.LetGo = true
+is_gone_as task_stage.Gone = true
+is_gone_as task_stage.LetGo = true
 is_gone_as _ = false
 
 -- whether a task that isn't gone was cancelled
 abbrev pub CancelAs : TaskStage → Bool → Type 0
-CancelAs task.Held was = was ≡ false
-CancelAs task.Cancelled was = was ≡ true
+CancelAs task_stage.Attached was = was ≡ false
+CancelAs task_stage.Cancelled was = was ≡ true
 CancelAs _ was = Unit {0}
 
 -- A task by its cut: what it did itself, and what its job did.
-pub record TaskAs (owner : Owner) (s : ℕ) (cut : List Event) : Type 0 where
-  pub gone : is_gone (own cut) ≡ is_gone_as owner.stage
-  pub cancel : CancelAs owner.stage (was_cancelled (own cut))
-  pub let_go : is_let_go (own cut) ≡ has_let_go owner.stage
-  pub seat : task_seat cut ≡ is_some owner.slot.seat
+pub record TaskAs (task : Task) (s : ℕ) (cut : List Event) : Type 0 where
+  pub gone : is_gone (own cut) ≡ is_gone_as task.stage
+  pub cancel : CancelAs task.stage (was_cancelled (own cut))
+  pub let_go : is_let_go (own cut) ≡ has_let_go task.stage
+  pub seat : task_seat cut ≡ is_some task.slot.seat
   pub slot :
-      SlotAs owner.stage owner.slot.content owner.found (has_finished (acts_of s cut)) (has_given_up (acts_of s cut)) (is_in_time cut) (number (acts_of s cut))
+      SlotAs task.stage task.slot.content task.found (has_finished (acts_of s cut)) (has_given_up (acts_of s cut)) (is_in_time cut) (number (acts_of s cut))
   -- a task that waits was woken, or sits in its seat and its job goes on
   pub told :
       is_waiting (own cut) ≡ true
       → (was_woken cut ≡ true) ⊎ ((task_seat cut ≡ true) × (has_finished (acts_of s cut) || has_given_up (acts_of s cut) ≡ false))
 
 pub record Tasked (w : Worlded) (past : List Moment) : Type 0 where
-  pub each : (k : ℕ) (owner : Owner) → slice_get w.tasks k ≡ Some owner → TaskAs owner (k + 1) (task_cut k (k + 1) (events past))
+  pub each : (k : ℕ) (task : Task) → slice_get w.tasks k ≡ Some task → TaskAs task (k + 1) (task_cut k (k + 1) (events past))
   -- nothing was seen yet of a task that isn't there
   pub unborn : (k : ℕ) → length w.tasks ≤ k → task_cut k (k + 1) (events past) ≡ []
 
@@ -232,11 +233,11 @@ pub record Tied (setting : ℕ) (w : Worlded) (past : List Moment) : Type 0 wher
 -- What the workers hold: as many passes and as many turns as were seen to be held, and one turn for each running job.
 pub record Holding (w : Worlded) (past : List Moment) : Type 0 where
   pub passes_are : free_hands w.hands ≡ passes past
-  pub turns_are : held_hands w.hands ≡ turns past
+  pub turns_are : busy_hands w.hands ≡ turns past
   pub jobs_are : turns past ≡ length (running past)
 
 -- what every world keeps: its parts hang together with what was seen, and what was seen is legal
-pub record IsLawful (setting : ℕ) (marks : List Bool) (w : Worlded) (past : List Moment) : Type 0 where
+pub record IsLawful (setting : ℕ) (plan : List Bool) (w : Worlded) (past : List Moment) : Type 0 where
   pub tied : Tied setting w past
-  pub legal : Legal setting marks past
+  pub legal : Legal setting plan past
   pub holding : Holding w past

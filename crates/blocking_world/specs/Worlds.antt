@@ -13,20 +13,20 @@ use Rattle.blocking_pool.specs.declared.pool.standing.Standing.TheVariants.{Done
 use Rattle.blocking_pool.specs.declared.pool.token.WorkerPass.{WorkerPass}
 use Rattle.blocking_world.specs.contracts.call.CallJob.{the_row as calls}
 use Rattle.blocking_world.specs.contracts.hand.Hand.{the_row as hands}
-use Rattle.blocking_world.specs.contracts.task.Owner.{the_row as owners}
+use Rattle.blocking_world.specs.contracts.task.Task.{the_row as tasks}
 use Rattle.blocking_world.specs.declared.call.CallJob.{CallJob}
 use Rattle.blocking_laws.specs.declared.event.Act.{Act}
 use Rattle.blocking_laws.specs.declared.event.Act.TheVariants.{Waits, TaskGot, TaskGotNone}
-use Rattle.blocking_world.specs.declared.hand.Duty.{Duty}
-use Rattle.blocking_world.specs.declared.hand.Duty.TheVariants as duty
+use Rattle.blocking_world.specs.declared.hand.WorkerAction.{WorkerAction}
+use Rattle.blocking_world.specs.declared.hand.WorkerAction.TheVariants as worker_action
 use Rattle.blocking_world.specs.declared.hand.Hand.{Hand}
 use Rattle.blocking_world.specs.declared.hand.Hand.TheVariants.{Out, Free, Holds}
-use Rattle.blocking_world.specs.declared.hand.Held.{Held}
+use Rattle.blocking_world.specs.declared.hand.JobInHand.{JobInHand}
 use Rattle.blocking_world.specs.declared.hand.Stage.{Stage}
 use Rattle.blocking_world.specs.declared.hand.Stage.TheVariants as stage
-use Rattle.blocking_world.specs.declared.task.Owner.{Owner}
+use Rattle.blocking_world.specs.declared.task.Task.{Task}
 use Rattle.blocking_world.specs.declared.task.TaskStage.{TaskStage}
-use Rattle.blocking_world.specs.declared.task.TaskStage.TheVariants as task
+use Rattle.blocking_world.specs.declared.task.TaskStage.TheVariants as task_stage
 use Rattle.blocking_laws.specs.declared.step.TaskCall.{TaskCall}
 use Rattle.blocking_laws.specs.declared.step.TaskCall.TheVariants.{Poll, Drop}
 
@@ -40,12 +40,12 @@ call_pool_code = pool_code calls.coded
 -- The parts: the pool, the tasks from 0 on, and the hands of the workers from 1 on.
 pub record Worlded : Type 0 where
   pub pool : CallPool
-  pub tasks : List Owner
+  pub tasks : List Task
   pub hands : List Hand
 
 abbrev pub worlded_code : Coded Worlded
 worlded_code =
-    code_by (CallPool × (List Owner × List Hand)) (coded× call_pool_code (coded× (coded_list owners.coded) (coded_list hands.coded)))
+    code_by (CallPool × (List Task × List Hand)) (coded× call_pool_code (coded× (coded_list tasks.coded) (coded_list hands.coded)))
     (λ w. (w.pool, (w.tasks, w.hands))) (λ parts. record { pool = parts.0; tasks = parts.1.0; hands = parts.1.1 }) (λ _. refl)
 
 -- ---- jobs in hand
@@ -54,22 +54,22 @@ worlded_code =
 abbrev pub new_call : CallJob
 new_call = record { core = action.Call; number = 0; is_marked = false }
 
--- what is to be done next with a job that runs
-abbrev pub duty_by : Action → Duty
-duty_by action.Call = duty.Await
-duty_by action.Finish = duty.Finish
-duty_by action.Deliver = duty.Wake
-duty_by action.Done = duty.End
+-- the next action of a worker with a job that runs, by that of the job's core
+abbrev pub next_by : Action → WorkerAction
+next_by action.Call = worker_action.Await
+next_by action.Finish = worker_action.Finish
+next_by action.Deliver = worker_action.Wake
+next_by action.Done = worker_action.End
 
--- what is to be done next
-abbrev pub duty_at : Stage → Action → Duty
-duty_at stage.Runs next = duty_by next
-duty_at stage.MustGiveUp next = duty.GiveUp
-duty_at stage.MustWake next = duty.Wake
-duty_at stage.GaveUp next = duty.End
+-- the next action of a worker, by where its job is in its turn
+abbrev pub next_at : Stage → Action → WorkerAction
+next_at stage.Runs next = next_by next
+next_at stage.MustGiveUp next = worker_action.GiveUp
+next_at stage.MustWake next = worker_action.Wake
+next_at stage.GaveUp next = worker_action.End
 
-abbrev pub duty_of : Held → Duty
-duty_of held = duty_at held.stage held.job.core
+abbrev pub next_of : JobInHand → WorkerAction
+next_of in_hand = next_at in_hand.stage in_hand.job.core
 
 -- how the turn of a job that is over ends
 abbrev pub outcome_of : Stage → Standing
@@ -79,24 +79,24 @@ outcome_of stage.MustWake = Dropped
 outcome_of stage.GaveUp = Dropped
 
 -- the call gave this number
-abbrev pub answered : Held → ℕ → Held
-answered held number = record held { job = record held.job { number = number; core = call_after held.job.core answer.Returned } }
+abbrev pub in_hand_after_answer : JobInHand → ℕ → JobInHand
+in_hand_after_answer in_hand number = record in_hand { job = record in_hand.job { number = number; core = call_after in_hand.job.core answer.Returned } }
 
 -- the result was put, and a waker taken or not
-abbrev pub finished : Held → Bool → Held
-finished held woke = record held { job = record held.job { core = call_after held.job.core (answer.Put woke) } }
+abbrev pub in_hand_after_finish : JobInHand → Bool → JobInHand
+in_hand_after_finish in_hand woke = record in_hand { job = record in_hand.job { core = call_after in_hand.job.core (answer.Put woke) } }
 
 -- the job gave up, and a waker was taken or not
-abbrev pub given_up : Held → Bool → Held
-given_up held woke = record held { stage = if woke then stage.MustWake else stage.GaveUp }
+abbrev pub in_hand_after_give_up : JobInHand → Bool → JobInHand
+in_hand_after_give_up in_hand woke = record in_hand { stage = if woke then stage.MustWake else stage.GaveUp }
 
 -- the waker was called
-abbrev pub woke_at : Stage → Held → Held
-woke_at stage.MustWake held = record held { stage = stage.GaveUp }
-woke_at _ held = record held { job = record held.job { core = call_after held.job.core answer.Delivered } }
+abbrev pub in_hand_after_wake_at : Stage → JobInHand → JobInHand
+in_hand_after_wake_at stage.MustWake in_hand = record in_hand { stage = stage.GaveUp }
+in_hand_after_wake_at _ in_hand = record in_hand { job = record in_hand.job { core = call_after in_hand.job.core answer.Delivered } }
 
-abbrev pub woke : Held → Held
-woke held = woke_at held.stage held
+abbrev pub in_hand_after_wake : JobInHand → JobInHand
+in_hand_after_wake in_hand = in_hand_after_wake_at in_hand.stage in_hand
 
 -- The hand of a worker, by its number, from 1: one that hasn't arrived has none.
 abbrev pub hand_in : Option Hand → Hand
@@ -125,44 +125,44 @@ pass_in (Free pass) = Some pass
 pass_in _ = None
 
 -- the job in a hand
-abbrev pub held_in : Hand → Option Held
-held_in (Holds held) = Some held
-held_in _ = None
+abbrev pub job_in : Hand → Option JobInHand
+job_in (Holds in_hand) = Some in_hand
+job_in _ = None
 
-abbrev pub over_by : Duty → Held → Option Held
-over_by duty.End held = Some held
-over_by _ held = None
+abbrev pub over_by : WorkerAction → JobInHand → Option JobInHand
+over_by worker_action.End in_hand = Some in_hand
+over_by _ in_hand = None
 
 -- the job in a hand, where nothing is left to do
-abbrev pub over_in : Hand → Option Held
-over_in (Holds held) = over_by (duty_of held) held
+abbrev pub over_in : Hand → Option JobInHand
+over_in (Holds in_hand) = over_by (next_of in_hand) in_hand
 over_in _ = None
 
 -- ---- tasks
 
 -- the task of a new job
-abbrev pub new_owner : JobNumber → Owner
-new_owner number = record { number = number; slot = empty_slot; found = None; stage = task.Held }
+abbrev pub new_task : JobNumber → Task
+new_task number = record { number = number; slot = empty_slot; found = None; stage = task_stage.Attached }
 
 -- whether a task may be called so: after its cancel it is only polled and dropped, and a task that is gone isn't called
 abbrev pub may_be : TaskStage → TaskCall → Bool
-may_be task.Held call = true
-may_be task.Cancelled Poll = true
-may_be task.Cancelled Drop = true
+may_be task_stage.Attached call = true
+may_be task_stage.Cancelled Poll = true
+may_be task_stage.Cancelled Drop = true
 may_be _ call = false
 
 -- whether a task has let its call go
 abbrev pub has_let_go : TaskStage → Bool
-has_let_go task.Cancelled = true
-has_let_go task.LetGo = true
+has_let_go task_stage.Cancelled = true
+has_let_go task_stage.LetGo = true
 has_let_go _ = false
 
 -- what became of a task that was answered
-abbrev pub left : TaskStage → TaskStage
-left task.Held = task.Gone
-left task.Cancelled = task.LetGo
-left task.Gone = task.Gone
-left task.LetGo = task.LetGo
+abbrev pub stage_after_answer : TaskStage → TaskStage
+stage_after_answer task_stage.Attached = task_stage.Gone
+stage_after_answer task_stage.Cancelled = task_stage.LetGo
+stage_after_answer task_stage.Gone = task_stage.Gone
+stage_after_answer task_stage.LetGo = task_stage.LetGo
 
 -- what a poll finds in a slot
 abbrev pub poll_in : Content ℕ → Act
@@ -174,48 +174,48 @@ poll_in (Abandoned false) = Waits
 
 -- what a poll of a task finds: first what its cancel found
 abbrev pub poll_at : TaskStage → Option ℕ → Content ℕ → Act
-poll_at task.Cancelled (Some number) content = TaskGot number
+poll_at task_stage.Cancelled (Some number) content = TaskGot number
 poll_at _ found content = poll_in content
 
-abbrev pub poll_of : Owner → Act
-poll_of owner = poll_at owner.stage owner.found owner.slot.content
+abbrev pub poll_of : Task → Act
+poll_of task = poll_at task.stage task.found task.slot.content
 
 -- the task after a poll of its slot
-abbrev pub polled_in : Content ℕ → Owner → Owner
-polled_in Empty owner = record owner { slot = record owner.slot { seat = Some tt } }
-polled_in (Full number) owner = record owner { slot = record owner.slot { content = Empty }; stage = left owner.stage }
-polled_in GivenUp owner = record owner { stage = left owner.stage }
-polled_in (Abandoned true) owner = record owner { stage = left owner.stage }
-polled_in (Abandoned false) owner = record owner { slot = record owner.slot { seat = Some tt } }
+abbrev pub task_after_poll_in : Content ℕ → Task → Task
+task_after_poll_in Empty task = record task { slot = record task.slot { seat = Some tt } }
+task_after_poll_in (Full number) task = record task { slot = record task.slot { content = Empty }; stage = stage_after_answer task.stage }
+task_after_poll_in GivenUp task = record task { stage = stage_after_answer task.stage }
+task_after_poll_in (Abandoned true) task = record task { stage = stage_after_answer task.stage }
+task_after_poll_in (Abandoned false) task = record task { slot = record task.slot { seat = Some tt } }
 
-abbrev pub polled_at : TaskStage → Option ℕ → Content ℕ → Owner → Owner
-polled_at task.Cancelled (Some number) content owner = record owner { stage = task.LetGo }
-polled_at _ found content owner = polled_in content owner
+abbrev pub task_after_poll_at : TaskStage → Option ℕ → Content ℕ → Task → Task
+task_after_poll_at task_stage.Cancelled (Some number) content task = record task { stage = task_stage.LetGo }
+task_after_poll_at _ found content task = task_after_poll_in content task
 
 -- the task after a poll
-abbrev pub polled : Owner → Owner
-polled owner = polled_at owner.stage owner.found owner.slot.content owner
+abbrev pub task_after_poll : Task → Task
+task_after_poll task = task_after_poll_at task.stage task.found task.slot.content task
 
 -- the task after its cancel: it keeps an answer that was there
-abbrev pub cancelled : Owner → Owner
-cancelled owner = record owner { slot = after_abandon owner.slot; found = value_in owner.slot; stage = task.Cancelled }
+abbrev pub task_after_cancel : Task → Task
+task_after_cancel task = record task { slot = after_abandon task.slot; found = value_in task.slot; stage = task_stage.Cancelled }
 
 -- the task after it was detached
-abbrev pub detached : Owner → Owner
-detached owner = record owner { slot = after_abandon owner.slot; stage = task.Gone }
+abbrev pub task_after_detach : Task → Task
+task_after_detach task = record task { slot = after_abandon task.slot; stage = task_stage.Gone }
 
 -- the task after it was dropped
-abbrev pub dropped : Owner → Owner
-dropped owner = record owner { slot = after_abandon owner.slot; stage = task.LetGo }
+abbrev pub task_after_drop : Task → Task
+task_after_drop task = record task { slot = after_abandon task.slot; stage = task_stage.LetGo }
 
 -- the task of a job, by the job's serial: calls and their tasks come together, so it is the one of that place
-abbrev pub owner_in : Option Owner → Owner
-owner_in None = new_owner (record { place = 0; serial = 0 })
-owner_in (Some owner) = owner
+abbrev pub task_in : Option Task → Task
+task_in None = new_task (record { place = 0; serial = 0 })
+task_in (Some task) = task
 
-abbrev pub owner_at : List Owner → ℕ → Owner
-owner_at owners serial = owner_in (slice_get owners (serial - 1))
+abbrev pub task_at : List Task → ℕ → Task
+task_at tasks serial = task_in (slice_get tasks (serial - 1))
 
 -- the tasks, of which that of this job has changed
-abbrev pub with_owner : List Owner → ℕ → Owner → List Owner
-with_owner owners serial owner = slice_set owners (serial - 1) owner
+abbrev pub with_task : List Task → ℕ → Task → List Task
+with_task tasks serial task = slice_set tasks (serial - 1) task

@@ -94,7 +94,7 @@ impl Crew {
     ghost use Rattle.blocking_pool.specs.Pools.{without_job};
     ghost use Rattle.blocking_pool.specs.Counts.{limited};
     ghost use Rattle.blocking_pool.specs.Wakes.{wake_of, cancel_of};
-    ghost use Rattle.blocking_world.specs.Crews.{AddsTo, TakesTo, NoneParked, PassesOver, marked_in, after_wake, after_cancel};
+    ghost use Rattle.blocking_world.specs.Crews.{AddsTo, TakesTo, NoneParked, PassesOver, pool_after_mark, after_wake, after_cancel};
 
     /// A pool with no job and no worker.
     pub(crate) fn new(alloc: Global, setting: Option<&str>) -> Crew
@@ -276,7 +276,7 @@ impl Crew {
 
     /// The job of this number is marked, if it is queued: a running call never asks for its mark.
     pub(crate) fn mark(&mut self, number: JobNo)
-        ensures { self.new ≡ marked_in self.old number }
+        ensures { self.new ≡ pool_after_mark self.old number }
     {
         if let Some(job) = self.pool.job_mut(number) {
             job.is_marked = true;

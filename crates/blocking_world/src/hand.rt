@@ -22,16 +22,16 @@ pub(crate) enum Stage {
     GaveUp,
 }
 
-/// A job in a worker's hand.
-pub(crate) struct Held {
+/// A job in a worker's hand, with the turn that it runs in.
+pub(crate) struct JobInHand {
     pub(crate) turn: Turn,
     pub(crate) job: CallJob,
     pub(crate) stage: Stage,
 }
 
-/// What a worker has to do next with the job in its hand.
+/// The next action of a worker with the job in its hand.
 #[derive(Clone, Copy)]
-pub(crate) enum Duty {
+pub(crate) enum WorkerAction {
     /// The call's answer is awaited, as a step of its own.
     Await,
     /// The result is put where the task finds it.
@@ -51,17 +51,17 @@ pub(crate) enum Hand {
     /// The worker is idle.
     Free(WorkerPass),
     /// The worker runs a job.
-    Holds(Held),
+    Holds(JobInHand),
 }
 
-impl Held {
+impl JobInHand {
     ghost use Rattle.blocking_world.specs.Closing.{standing_after};
-    ghost use Rattle.blocking_world.specs.Worlds.{duty_of, outcome_of, answered, finished, given_up, woke};
+    ghost use Rattle.blocking_world.specs.Worlds.{next_of, outcome_of, in_hand_after_answer, in_hand_after_finish, in_hand_after_give_up, in_hand_after_wake};
 
-    pub(crate) fn new(turn: Turn, job: CallJob, stage: Stage) -> Held
+    pub(crate) fn new(turn: Turn, job: CallJob, stage: Stage) -> JobInHand
         ensures { result ≡ record { turn = turn; job = job; stage = stage } }
     {
-        Held { turn, job, stage }
+        JobInHand { turn, job, stage }
     }
 
     /// The serial of the job.
@@ -72,7 +72,7 @@ impl Held {
     }
 
     /// The number of the job's task: tasks come with their jobs, and are numbered from 0, as jobs are from 1.
-    pub(crate) fn task(&self) -> usize
+    pub(crate) fn task_number(&self) -> usize
         requires { 0 < self.now.turn.serial }
         ensures { result ≡ self.now.turn.serial - 1 }
     {
@@ -86,19 +86,19 @@ impl Held {
         self.job.number
     }
 
-    /// What is to be done next.
-    pub(crate) fn duty(&self) -> Duty
-        ensures { result ≡ duty_of self.now }
+    /// The next action.
+    pub(crate) fn next(&self) -> WorkerAction
+        ensures { result ≡ next_of self.now }
     {
         match self.stage {
-            Stage::MustGiveUp => Duty::GiveUp,
-            Stage::MustWake => Duty::Wake,
-            Stage::GaveUp => Duty::End,
+            Stage::MustGiveUp => WorkerAction::GiveUp,
+            Stage::MustWake => WorkerAction::Wake,
+            Stage::GaveUp => WorkerAction::End,
             Stage::Runs => match self.job.core.next() {
-                Action::Call => Duty::Await,
-                Action::Finish => Duty::Finish,
-                Action::Deliver => Duty::Wake,
-                Action::Done => Duty::End,
+                Action::Call => WorkerAction::Await,
+                Action::Finish => WorkerAction::Finish,
+                Action::Deliver => WorkerAction::Wake,
+                Action::Done => WorkerAction::End,
             },
         }
     }
@@ -115,7 +115,7 @@ impl Held {
 
     /// The call gave this number.
     pub(crate) fn answer(&mut self, number: u64)
-        ensures { self.new ≡ answered self.old number }
+        ensures { self.new ≡ in_hand_after_answer self.old number }
     {
         self.job.number = number;
         self.job.core.answer(Answer::Returned);
@@ -123,21 +123,21 @@ impl Held {
 
     /// The result was put, and the waker of its task was taken, or none was there.
     pub(crate) fn finish(&mut self, woke: bool)
-        ensures { self.new ≡ finished self.old woke }
+        ensures { self.new ≡ in_hand_after_finish self.old woke }
     {
         self.job.core.answer(Answer::Put { woke });
     }
 
     /// The job gave up, and the waker of its task was taken, or none was there.
     pub(crate) fn give_up(&mut self, woke: bool)
-        ensures { self.new ≡ given_up self.old woke }
+        ensures { self.new ≡ in_hand_after_give_up self.old woke }
     {
         self.stage = if woke { Stage::MustWake } else { Stage::GaveUp };
     }
 
     /// The waker was called.
     pub(crate) fn wake(&mut self)
-        ensures { self.new ≡ woke self.old }
+        ensures { self.new ≡ in_hand_after_wake self.old }
     {
         match self.stage {
             Stage::MustWake => self.stage = Stage::GaveUp,
@@ -148,7 +148,7 @@ impl Held {
 
 impl Hand {
     ghost use Rattle.blocking_world.specs.Closing.{RunsIn, EndsTurn};
-    ghost use Rattle.blocking_world.specs.Worlds.{pass_in, held_in, over_in};
+    ghost use Rattle.blocking_world.specs.Worlds.{pass_in, job_in, over_in};
     ghost use Rattle.blocking_world.specs.HandLends.{lends_job};
 
     /// Puts something into a hand that is out.
@@ -159,17 +159,17 @@ impl Hand {
         match mem::replace(self, hand) {
             Hand::Out => {}
             Hand::Free(_pass) => unreachable!(),
-            Hand::Holds(_held) => unreachable!(),
+            Hand::Holds(_in_hand) => unreachable!(),
         }
     }
 
     /// The job in the hand.
-    pub(crate) fn held_mut(&mut self) -> Option<&mut Held>
+    pub(crate) fn job_mut(&mut self) -> Option<&mut JobInHand>
         ensures* lends { sem 𝓛 (lends_job self.entry result) }
-        ensures held { option_copied_mut result ≡ held_in self.old }
+        ensures in_hand { option_copied_mut result ≡ job_in self.old }
     {
         match self {
-            Hand::Holds(held) => Some(held),
+            Hand::Holds(in_hand) => Some(in_hand),
             Hand::Out | Hand::Free(_) => None,
         }
     }
@@ -182,15 +182,15 @@ impl Hand {
         match mem::replace(self, Hand::Out) {
             Hand::Out => None,
             Hand::Free(pass) => Some(pass),
-            Hand::Holds(held) => {
-                self.put(Hand::Holds(held));
+            Hand::Holds(in_hand) => {
+                self.put(Hand::Holds(in_hand));
                 None
             }
         }
     }
 
     /// The job that has nothing left to do, and the hand is out then; None, and no change, elsewhere.
-    pub(crate) fn over(&mut self) -> Option<Held>
+    pub(crate) fn over(&mut self) -> Option<JobInHand>
         ensures job { result ≡ over_in self.old }
         ensures after { self.new ≡ (if is_some result then Hand.Out else self.old) }
     {
@@ -200,11 +200,11 @@ impl Hand {
                 self.put(Hand::Free(pass));
                 None
             }
-            Hand::Holds(held) => {
-                if let Duty::End = held.duty() {
-                    return Some(held);
+            Hand::Holds(in_hand) => {
+                if let WorkerAction::End = in_hand.next() {
+                    return Some(in_hand);
                 }
-                self.put(Hand::Holds(held));
+                self.put(Hand::Holds(in_hand));
                 None
             }
         }
@@ -218,12 +218,12 @@ impl Hand {
         match mem::replace(self, Hand::Out) {
             Hand::Out => {}
             Hand::Free(pass) => self.put(Hand::Free(pass)),
-            Hand::Holds(held) => {
-                let Held {
+            Hand::Holds(in_hand) => {
+                let JobInHand {
                     turn,
                     job: _job,
                     stage: _stage,
-                } = held;
+                } = in_hand;
                 let pass = crew.end(turn, Outcome::Done);
                 self.put(Hand::Free(pass));
             }

@@ -1,14 +1,14 @@
 //! The parts of a world, and the steps on them.
 ghost use Rattle.std.specs.Prelude.{◌≡◌, [], IfOk, OnErr, Some, None};
-ghost use Rattle.blocking_world.specs.Machine.{seen as what_is_seen, nothing as what_is_not, took_hand, took_job, took_act};
+ghost use Rattle.blocking_world.specs.Machine.{seen as what_is_seen, nothing as what_is_not, hand_after_take, took_job, took_act};
 
 use crate::call::CallJob;
 use crate::crew::{Crew, Grown, NO_GROWTH};
-use crate::hand::{Duty, Hand, Held, Stage};
-use crate::task::Owner;
+use crate::hand::{Hand, JobInHand, Stage, WorkerAction};
+use crate::task::Task;
 use crate::workers::Workers;
 use blocking_core::pool::{Starter, Took, Waited};
-use blocking_laws::event::{Act, Event, Party};
+use blocking_laws::event::{Act, Event, HolderWaker, Party, WaitEnd};
 use blocking_laws::step::{Answer, Step, TaskCall};
 use std::alloc::{AllocError, Global};
 use std::marker::Model;
@@ -16,7 +16,7 @@ use std::marker::Model;
 /// A pool of calls, the tasks that own them, in order, and what the workers have in hand.
 pub(crate) struct Parts {
     pub(crate) crew: Crew,
-    tasks: Vec<Owner>,
+    tasks: Vec<Task>,
     workers: Workers,
 }
 
@@ -34,9 +34,9 @@ impl Parts {
     ghost use Rattle.std.specs.Prelude.{nat_lt, ◌==◌, ◌-◌, ◌+◌, ◌&&◌, if◌then◌else◌, slice_get};
     ghost use Rattle.blocking_pool.specs.PoolAnswers.{pool_of};
     ghost use Rattle.blocking_world.specs.Closing.{RefusesAll};
-    ghost use Rattle.blocking_world.specs.Worlds.{hand_at, is_free_hand, has_let_go, owner_at};
+    ghost use Rattle.blocking_world.specs.Worlds.{hand_at, is_free_hand, has_let_go, task_at};
     ghost use Rattle.blocking_world.specs.Machine.{IsReady, StepDoes, Spawns, CallsOf, ArrivesIf, TakesWith, WorksWith, AnswersWith, EndsWith, WaitsWith, LimitsIf, StraysIf, StrikesIf, Does, DoesNothing, was_accepted};
-    ghost use Rattle.blocking_world.specs.Moves.{duty_in, is_own};
+    ghost use Rattle.blocking_world.specs.Moves.{next_in, is_own};
     ghost use Rattle.blocking_laws.specs.declared.step.Step.TheVariants as step;
 
     /// The parts of a new world. Takes no memory.
@@ -63,14 +63,14 @@ impl Parts {
     {
         match step {
             Step::Spawn => self.spawn(starter),
-            Step::OfTask(task, call) => Ok(self.of_task(task, call)),
+            Step::OfTask(number, call) => Ok(self.of_task(number, call)),
             Step::Arrive => self.arrive(),
             Step::Take(worker) => Ok(self.take(worker, starter)),
             Step::Job(worker) => Ok(self.job(worker)),
             Step::Io(worker, answer) => Ok(self.io(worker, answer)),
             Step::End(worker) => Ok(self.end(worker)),
-            Step::Wait(worker) => Ok(self.wait(worker, false, starter)),
-            Step::Late(worker) => Ok(self.wait(worker, true, starter)),
+            Step::Wait(worker) => Ok(self.wait(worker, WaitEnd::Woken, starter)),
+            Step::Late(worker) => Ok(self.wait(worker, WaitEnd::TimedOut, starter)),
             Step::SetLimit(limit) => Ok(self.set_limit(limit)),
             Step::Sweep => Ok(self.sweep(starter)),
             Step::Stray(serial) => Ok(self.stray(serial, starter)),
@@ -89,7 +89,7 @@ impl Parts {
         let (added, growth) = self.crew.add(starter);
         let act = match added {
             Ok(number) => {
-                let _ = self.tasks.push(Owner::new(number));
+                let _ = self.tasks.push(Task::new(number));
                 Act::Accepted(number.serial())
             }
             Err(why) => Act::Refused(why),
@@ -97,33 +97,33 @@ impl Parts {
         Ok(seen(Party::Pool, None, act, first, growth))
     }
 
-    /// A call of a task.
-    pub(crate) fn of_task(&mut self, task: usize, call: TaskCall) -> Event
-        ensures { CallsOf (slice_get self.old.tasks task) self.old task call result self.new }
+    /// A call of the task of this number.
+    pub(crate) fn of_task(&mut self, number: usize, call: TaskCall) -> Event
+        ensures { CallsOf (slice_get self.old.tasks number) self.old number call result self.new }
     {
         let first = self.crew.next_start();
-        let party = Party::Task(task);
-        let Some(owner) = self.tasks.get(task) else {
+        let party = Party::Task(number);
+        let Some(task) = self.tasks.get(number) else {
             return nothing(party, first);
         };
-        if !owner.may(call) {
+        if !task.may(call) {
             return nothing(party, first);
         }
-        let owner = &mut self.tasks[task];
+        let task = &mut self.tasks[number];
         let act = match call {
-            TaskCall::Poll => owner.poll(),
+            TaskCall::Poll => task.poll(),
             TaskCall::Cancel => {
-                owner.cancel();
-                self.crew.mark(owner.number);
+                task.cancel();
+                self.crew.mark(task.number);
                 Act::TaskCancelled
             }
             TaskCall::Detach => {
-                owner.detach();
+                task.detach();
                 Act::TaskDetached
             }
             TaskCall::Drop => {
-                owner.release();
-                self.crew.mark(owner.number);
+                task.release();
+                self.crew.mark(task.number);
                 Act::HolderDropped
             }
         };
@@ -168,25 +168,25 @@ impl Parts {
     {
         let first = self.crew.next_start();
         let party = Party::Worker(worker);
-        let Some(held) = self.workers.held_mut(worker) else {
+        let Some(in_hand) = self.workers.job_mut(worker) else {
             return nothing(party, first);
         };
-        let serial = held.serial();
-        let task = held.task();
-        let act = match held.duty() {
-            Duty::Await | Duty::End => return nothing(party, first),
-            Duty::Finish => {
-                let wake = self.tasks[task].finish(held.number());
-                held.finish(wake);
-                Act::Finished(wake)
+        let serial = in_hand.serial();
+        let task_number = in_hand.task_number();
+        let act = match in_hand.next() {
+            WorkerAction::Await | WorkerAction::End => return nothing(party, first),
+            WorkerAction::Finish => {
+                let wake = self.tasks[task_number].finish(in_hand.number());
+                in_hand.finish(wake);
+                Act::Finished(HolderWaker::in_seat(wake))
             }
-            Duty::GiveUp => {
-                let wake = self.tasks[task].give_up();
-                held.give_up(wake);
-                Act::GaveUp(wake)
+            WorkerAction::GiveUp => {
+                let wake = self.tasks[task_number].give_up();
+                in_hand.give_up(wake);
+                Act::GaveUp(HolderWaker::in_seat(wake))
             }
-            Duty::Wake => {
-                held.wake();
+            WorkerAction::Wake => {
+                in_hand.wake();
                 Act::HolderWoken
             }
         };
@@ -200,15 +200,15 @@ impl Parts {
     {
         let first = self.crew.next_start();
         let party = Party::Worker(worker);
-        let Some(held) = self.workers.held_mut(worker) else {
+        let Some(in_hand) = self.workers.job_mut(worker) else {
             return nothing(party, first);
         };
-        let Duty::Await = held.duty() else {
+        let WorkerAction::Await = in_hand.next() else {
             return nothing(party, first);
         };
         let Answer::Number(number) = answer;
-        held.answer(number);
-        let serial = held.serial();
+        in_hand.answer(number);
+        let serial = in_hand.serial();
         seen(party, Some(serial), Act::Answered(answer), first, NO_GROWTH)
     }
 
@@ -219,38 +219,38 @@ impl Parts {
     {
         let first = self.crew.next_start();
         let party = Party::Worker(worker);
-        let Some(held) = self.workers.over(worker) else {
+        let Some(in_hand) = self.workers.over(worker) else {
             return nothing(party, first);
         };
-        let serial = held.serial();
-        let outcome = held.outcome();
-        let Held {
+        let serial = in_hand.serial();
+        let outcome = in_hand.outcome();
+        let JobInHand {
             turn,
             job: _,
             stage: _,
-        } = held;
+        } = in_hand;
         let pass = self.crew.end(turn, outcome);
         self.workers.put(worker, Hand::Free(pass));
         let act = Act::Ended(serial, outcome.standing());
         seen(party, Some(serial), act, first, NO_GROWTH)
     }
 
-    /// An idle worker has waited.
-    pub(crate) fn wait<S: Starter>(&mut self, worker: usize, late: bool, starter: &mut S) -> Event
+    /// An idle worker has waited, and its wait ended so.
+    pub(crate) fn wait<S: Starter>(&mut self, worker: usize, end: WaitEnd, starter: &mut S) -> Event
         requires { IsReady self.old }
-        ensures { WaitsWith (hand_at self.old.hands worker) self.old worker late result self.new }
+        ensures { WaitsWith (hand_at self.old.hands worker) self.old worker end result self.new }
     {
         let first = self.crew.next_start();
         let party = Party::Worker(worker);
         let Some(pass) = self.workers.pass(worker) else {
             return nothing(party, first);
         };
-        let act = match self.crew.after_wait(pass, late, starter) {
+        let act = match self.crew.after_wait(pass, end.has_timed_out(), starter) {
             Waited::Stay(pass) => {
                 self.workers.put(worker, Hand::Free(pass));
-                Act::Stays(worker, late)
+                Act::Stays(worker, end)
             }
-            Waited::Stop => Act::Stopped(worker, late),
+            Waited::Stop => Act::Stopped(worker, end),
         };
         seen(party, None, act, first, NO_GROWTH)
     }
@@ -277,13 +277,13 @@ impl Parts {
         seen(Party::Pool, None, Act::Swept(count), first, NO_GROWTH)
     }
 
-    // The task of the job of this serial.
-    fn task_of(&self, serial: u64) -> Option<usize>
+    // The number of the task of the job of this serial.
+    fn task_number(&self, serial: u64) -> Option<usize>
         ensures { result ≡ (if was_accepted self.now serial then Some (serial - 1) else None) }
     {
-        let task = serial.checked_sub(1)? as usize;
-        if task < self.tasks.len() {
-            Some(task)
+        let number = serial.checked_sub(1)? as usize;
+        if number < self.tasks.len() {
+            Some(number)
         } else {
             None
         }
@@ -295,10 +295,10 @@ impl Parts {
         ensures { StraysIf (was_accepted self.old serial) self.old serial result self.new }
     {
         let first = self.crew.next_start();
-        let Some(task) = self.task_of(serial) else {
+        let Some(task_number) = self.task_number(serial) else {
             return nothing(Party::Pool, first);
         };
-        let woke = self.crew.wake(self.tasks[task].number, starter);
+        let woke = self.crew.wake(self.tasks[task_number].number, starter);
         seen(
             Party::Pool,
             None,
@@ -312,17 +312,17 @@ impl Parts {
     pub(crate) fn strike<S: Starter>(&mut self, serial: u64, starter: &mut S) -> Event
         requires { IsReady self.old }
         ensures { StrikesIf
-            (was_accepted self.old serial && has_let_go (owner_at self.old.tasks serial).stage)
+            (was_accepted self.old serial && has_let_go (task_at self.old.tasks serial).stage)
             self.old serial result self.new }
     {
         let first = self.crew.next_start();
-        let Some(task) = self.task_of(serial) else {
+        let Some(task_number) = self.task_number(serial) else {
             return nothing(Party::Pool, first);
         };
-        if !self.tasks[task].let_go() {
+        if !self.tasks[task_number].let_go() {
             return nothing(Party::Pool, first);
         }
-        let woke = self.crew.cancel(self.tasks[task].number, starter);
+        let woke = self.crew.cancel(self.tasks[task_number].number, starter);
         seen(
             Party::Pool,
             None,
@@ -334,14 +334,14 @@ impl Parts {
 
     /// Whether the job of this worker has a next action that is its own to take.
     pub(crate) fn has_job_action(&self, worker: usize) -> bool
-        ensures { result ≡ is_own (duty_in (hand_at self.now.hands worker)) }
+        ensures { result ≡ is_own (next_in (hand_at self.now.hands worker)) }
     {
-        let Some(duty) = self.workers.duty(worker) else {
+        let Some(next) = self.workers.next(worker) else {
             return false;
         };
-        match duty {
-            Duty::Finish | Duty::GiveUp | Duty::Wake => true,
-            Duty::Await | Duty::End => false,
+        match next {
+            WorkerAction::Finish | WorkerAction::GiveUp | WorkerAction::Wake => true,
+            WorkerAction::Await | WorkerAction::End => false,
         }
     }
 
@@ -362,7 +362,7 @@ impl Parts {
 
 // What a worker has in hand after a take, and what is seen of it: the job, where there is one, and the act.
 fn received(took: Took<CallJob>) -> (Hand, Option<u64>, Act)
-    ensures hand { result.0 ≡ took_hand took }
+    ensures hand { result.0 ≡ hand_after_take took }
     ensures job { result.1 ≡ took_job took }
     ensures act { result.2 ≡ took_act took }
 {
@@ -370,13 +370,13 @@ fn received(took: Took<CallJob>) -> (Hand, Option<u64>, Act)
         Took::Idle(pass) => (Hand::Free(pass), None, Act::TookNone),
         Took::Run(turn, job) => {
             let serial = turn.job().serial();
-            let held = Held::new(turn, job, Stage::Runs);
-            (Hand::Holds(held), Some(serial), Act::Took(serial))
+            let in_hand = JobInHand::new(turn, job, Stage::Runs);
+            (Hand::Holds(in_hand), Some(serial), Act::Took(serial))
         }
         Took::Drop(turn, job) => {
             let serial = turn.job().serial();
-            let held = Held::new(turn, job, Stage::MustGiveUp);
-            (Hand::Holds(held), Some(serial), Act::TookDropped(serial))
+            let in_hand = JobInHand::new(turn, job, Stage::MustGiveUp);
+            (Hand::Holds(in_hand), Some(serial), Act::TookDropped(serial))
         }
     }
 }

@@ -1,4 +1,4 @@
-//! What starts the workers of a world: a list says which starts are refused.
+//! What starts the workers of a world: a plan says which starts are refused.
 ghost use Rattle.std.specs.Prelude.{◌≡◌, ◌<◌, ◌+◌, ℕ};
 
 use blocking_core::pool::{StartRefused, Starter};
@@ -38,37 +38,37 @@ impl<L: Ledger> Refusals<L> {
     }
 }
 
-/// Refuses the starts that are marked, of which the first mark is that of start 1. After the marks no start is refused.
+/// Refuses the starts that a plan refuses, which begins with start 1. Beyond its end no start is refused.
 #[derive(Drop)]
-pub(crate) struct MarkedStarts<'a, L: Ledger> {
-    marks: &'a [bool],
+pub(crate) struct PlannedStarts<'a, L: Ledger> {
+    plan: &'a [bool],
     refusals: Refusals<L>,
 }
 
-impl<'a, L: Ledger> MarkedStarts<'a, L> {
-    pub(crate) fn new(marks: &'a [bool], blank: Blank) -> Self
+impl<'a, L: Ledger> PlannedStarts<'a, L> {
+    pub(crate) fn new(plan: &'a [bool], blank: Blank) -> Self
         requires name { blank.name ≡ L.name }
         requires parts { blank.parts ≡ L.parts }
         requires some { 0 < L.parts }
-        ensures { result.marks.now ≡ marks.now }
+        ensures { result.plan.now ≡ plan.now }
     {
-        MarkedStarts {
-            marks,
+        PlannedStarts {
+            plan,
             refusals: Refusals::new(blank),
         }
     }
 }
 
-impl<'a, L: Ledger> Starter for MarkedStarts<'a, L> {
-    ghost use Rattle.blocking_laws.specs.Growth.{IsMarked};
+impl<'a, L: Ledger> Starter for PlannedStarts<'a, L> {
+    ghost use Rattle.blocking_laws.specs.Growth.{IsPlanned};
 
     ghost refusals = { λ s. s.refusals };
 
-    ghost may_answer = { λ s number refused. IsMarked s.marks.now number refused };
+    ghost may_answer = { λ s number refused. IsPlanned s.plan.now number refused };
 
     fn start(&mut self, number: u64) -> Result<(), StartRefused> {
         let place = number.saturating_sub(1) as usize;
-        if self.marks.get(place).copied().unwrap_or(false) {
+        if self.plan.get(place).copied().unwrap_or(false) {
             self.refusals.count_one();
             return Err(StartRefused);
         }

@@ -10,7 +10,7 @@ use blocking_laws::step::TaskCall;
 #[derive(Clone, Copy)]
 pub(crate) enum TaskStage {
     /// It awaits the answer of its call.
-    Held,
+    Attached,
     /// It was cancelled, and wants the answer only if it was there.
     Cancelled,
     /// It is gone: it was answered or detached.
@@ -21,7 +21,7 @@ pub(crate) enum TaskStage {
 
 /// A task: the job of its call, and the slot in which it meets that job. The waker in the slot's seat is told as a unit.
 #[derive(Drop)]
-pub(crate) struct Owner {
+pub(crate) struct Task {
     pub(crate) number: JobNo,
     pub(crate) slot: Slot<u64, ()>,
     /// What a cancel found.
@@ -29,19 +29,19 @@ pub(crate) struct Owner {
     pub(crate) stage: TaskStage,
 }
 
-impl Owner {
-    ghost use Rattle.blocking_world.specs.Worlds.{new_owner, may_be, has_let_go, left, poll_of, polled, cancelled, detached, dropped};
+impl Task {
+    ghost use Rattle.blocking_world.specs.Worlds.{new_task, may_be, has_let_go, stage_after_answer, poll_of, task_after_poll, task_after_cancel, task_after_detach, task_after_drop};
     ghost use Rattle.blocking_core.specs.Slots.{after_put, put_in, after_give_up, waker_of_give_up};
 
     /// The task of this job.
-    pub(crate) fn new(number: JobNo) -> Owner
-        ensures { result ≡ new_owner number }
+    pub(crate) fn new(number: JobNo) -> Task
+        ensures { result ≡ new_task number }
     {
-        Owner {
+        Task {
             number,
             slot: Slot::new(),
             found: None,
-            stage: TaskStage::Held,
+            stage: TaskStage::Attached,
         }
     }
 
@@ -50,7 +50,7 @@ impl Owner {
         ensures { result ≡ may_be self.now.stage call }
     {
         match (self.stage, call) {
-            (TaskStage::Held, _) => true,
+            (TaskStage::Attached, _) => true,
             (TaskStage::Cancelled, TaskCall::Poll | TaskCall::Drop) => true,
             _ => false,
         }
@@ -59,7 +59,7 @@ impl Owner {
     /// Polls the task.
     pub(crate) fn poll(&mut self) -> Act
         ensures act { result ≡ poll_of self.old }
-        ensures after { self.new ≡ polled self.old }
+        ensures after { self.new ≡ task_after_poll self.old }
     {
         if let (TaskStage::Cancelled, Some(number)) = (self.stage, self.found) {
             self.leave();
@@ -80,17 +80,17 @@ impl Owner {
 
     // The task has its answer, and is gone.
     fn leave(&mut self)
-        ensures { self.new ≡ record self.old { stage = left self.old.stage } }
+        ensures { self.new ≡ record self.old { stage = stage_after_answer self.old.stage } }
     {
         self.stage = match self.stage {
             TaskStage::Cancelled | TaskStage::LetGo => TaskStage::LetGo,
-            TaskStage::Held | TaskStage::Gone => TaskStage::Gone,
+            TaskStage::Attached | TaskStage::Gone => TaskStage::Gone,
         };
     }
 
     /// Cancels the task: it keeps an answer that is there.
     pub(crate) fn cancel(&mut self)
-        ensures { self.new ≡ cancelled self.old }
+        ensures { self.new ≡ task_after_cancel self.old }
     {
         self.found = self.slot.abandon();
         self.stage = TaskStage::Cancelled;
@@ -98,7 +98,7 @@ impl Owner {
 
     /// Detaches the task.
     pub(crate) fn detach(&mut self)
-        ensures { self.new ≡ detached self.old }
+        ensures { self.new ≡ task_after_detach self.old }
     {
         let _ = self.slot.abandon();
         self.stage = TaskStage::Gone;
@@ -106,7 +106,7 @@ impl Owner {
 
     /// Drops the task.
     pub(crate) fn release(&mut self)
-        ensures { self.new ≡ dropped self.old }
+        ensures { self.new ≡ task_after_drop self.old }
     {
         let _ = self.slot.abandon();
         self.stage = TaskStage::LetGo;

@@ -5,7 +5,7 @@ ghost use Rattle.std.specs.Borrow.{sem};
 ghost use Rattle.blocking_world.specs.Closing.{AreLeft, AreIdle};
 
 use crate::crew::Crew;
-use crate::hand::{Duty, Hand, Held};
+use crate::hand::{Hand, JobInHand, WorkerAction};
 use blocking_core::pool::{Starter, WorkerPass};
 use std::alloc::{AllocError, Global};
 use std::marker::Model;
@@ -26,10 +26,10 @@ impl Model for Workers {
 }
 
 impl Workers {
-    ghost use Rattle.blocking_world.specs.HandLends.{lends_hand, lends_held};
+    ghost use Rattle.blocking_world.specs.HandLends.{lends_hand, lends_job_at};
     ghost use Rattle.blocking_world.specs.Machine.{Joins};
-    ghost use Rattle.blocking_world.specs.Moves.{duty_in};
-    ghost use Rattle.blocking_world.specs.Worlds.{hand_at, hand_of, with_hand, pass_in, held_in, over_in};
+    ghost use Rattle.blocking_world.specs.Moves.{next_in};
+    ghost use Rattle.blocking_world.specs.Worlds.{hand_at, hand_of, with_hand, pass_in, job_in, over_in};
 
     /// No worker has arrived. Takes no memory.
     pub(crate) fn new(alloc: Global) -> Workers
@@ -59,7 +59,7 @@ impl Workers {
     }
 
     /// The job of this worker that has nothing left to do, if it has one. Its hand is out then.
-    pub(crate) fn over(&mut self, worker: usize) -> Option<Held>
+    pub(crate) fn over(&mut self, worker: usize) -> Option<JobInHand>
         ensures job { result ≡ over_in (hand_at self.old worker) }
         ensures after { self.new ≡
             (if is_some result then with_hand self.old worker Hand.Out else self.old) }
@@ -79,20 +79,20 @@ impl Workers {
     }
 
     /// The job in the hand of this worker, if it has one.
-    pub(crate) fn held_mut(&mut self, worker: usize) -> Option<&mut Held>
-        ensures* lends { sem 𝓛 (lends_held self.entry worker result) }
-        ensures held { option_copied_mut result ≡ held_in (hand_at self.old worker) }
+    pub(crate) fn job_mut(&mut self, worker: usize) -> Option<&mut JobInHand>
+        ensures* lends { sem 𝓛 (lends_job_at self.entry worker result) }
+        ensures in_hand { option_copied_mut result ≡ job_in (hand_at self.old worker) }
     {
-        self.at(worker)?.held_mut()
+        self.at(worker)?.job_mut()
     }
 
-    /// What this worker has to do next with its job, if it has one.
-    pub(crate) fn duty(&self, worker: usize) -> Option<Duty>
-        ensures { result ≡ duty_in (hand_at self.now worker) }
+    /// The next action of this worker with its job, if it has one.
+    pub(crate) fn next(&self, worker: usize) -> Option<WorkerAction>
+        ensures { result ≡ next_in (hand_at self.now worker) }
     {
         let place = worker.checked_sub(1)?;
         match self.hands.get(place)? {
-            Hand::Holds(held) => Some(held.duty()),
+            Hand::Holds(in_hand) => Some(in_hand.next()),
             Hand::Out | Hand::Free(_) => None,
         }
     }
@@ -141,7 +141,7 @@ fn dismiss_all<S: Starter>(mut hands: Vec<Hand>, crew: &mut Crew, starter: &mut 
         match hand {
             Hand::Out => {}
             Hand::Free(pass) => crew.dismiss(pass, starter),
-            Hand::Holds(_held) => unreachable!(),
+            Hand::Holds(_in_hand) => unreachable!(),
         }
     }
     hands.destroy_empty();

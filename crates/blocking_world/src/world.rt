@@ -2,7 +2,7 @@
 ghost use Rattle.std.specs.Prelude.{◌≡◌, ◌<◌, ◌∷◌, [], length, IfOk, OnErr};
 ghost use Rattle.blocking_pool.specs.Limits.{limit_of_setting};
 ghost use Rattle.blocking_laws.specs.Counts.{workers, idle};
-ghost use Rattle.blocking_laws.specs.Growth.{IsMarked, known_limit};
+ghost use Rattle.blocking_laws.specs.Growth.{IsPlanned, known_limit};
 ghost use Rattle.blocking_laws.specs.Legal.{Legal};
 ghost use Rattle.blocking_world.specs.Machine.{IsReady, StepDoes};
 ghost use Rattle.blocking_laws.specs.Queue.{queue};
@@ -11,7 +11,7 @@ ghost use Rattle.blocking_laws.specs.Served.{IsServed};
 ghost use Rattle.blocking_laws.specs.Staffed.{IsStaffed, AreAsSeen};
 
 use crate::parts::Parts;
-use crate::starts::{MarkedStarts, NoStarts};
+use crate::starts::{NoStarts, PlannedStarts};
 use blocking_laws::event::{Event, Moment};
 use blocking_laws::step::Step;
 use std::alloc::{AllocError, Global};
@@ -24,13 +24,13 @@ use std::sync::ledger::{Blank, Ledger};
 /// be spent: it ends by [`World::close`].
 pub struct World {
     parts: Parts,
-    starts: Vec<bool>,
+    plan: Vec<bool>,
     trace: Vec<Moment>,
 }
 
 impl Model for World {
     ghost use Rattle.std.specs.Prelude.{reverse};
-    ghost use Rattle.blocking_world.specs.Machine.{free_hands, held_hands};
+    ghost use Rattle.blocking_world.specs.Machine.{free_hands, busy_hands};
     ghost use Rattle.blocking_world.specs.Runs.{WorldValue};
     ghost use Rattle.blocking_world.specs.Ties.{IsLawful};
 
@@ -39,14 +39,14 @@ impl Model for World {
     ghost view = { λ w. record {
       history = record {
         setting = w.parts.pool.counts.setting;
-        starts = w.starts.items;
+        plan = w.plan.items;
         past = reverse w.trace.items;
       };
       passes = free_hands w.parts.hands;
-      turns = held_hands w.parts.hands;
+      turns = busy_hands w.parts.hands;
     } };
 
-    ghost invariant = { λ w. IsLawful w.parts.pool.counts.setting w.starts.items w.parts
+    ghost invariant = { λ w. IsLawful w.parts.pool.counts.setting w.plan.items w.parts
         (reverse w.trace.items) };
 }
 
@@ -55,23 +55,23 @@ impl World {
     ghost use Rattle.blocking_laws.specs.Steps.{has_action};
     ghost use Rattle.blocking_laws.specs.declared.step.Step.TheVariants as step;
 
-    /// A world in which nothing has happened. The setting is the text of a limit, and the starts say which starts of workers
-    /// are refused: the first mark is that of start 1, and after the marks none is. Takes no memory.
-    pub fn new(alloc: Global, setting: Option<&str>, starts: Vec<bool>) -> World
+    /// A world in which nothing has happened. The setting is the text of a limit, and the plan says which starts of
+    /// workers are refused: it begins with start 1, and beyond its end none is. Takes no memory.
+    pub fn new(alloc: Global, setting: Option<&str>, plan: Vec<bool>) -> World
         ensures begins { result ≡ record {
           history = record {
             setting = limit_of_setting (option_map (λ text. text.now) setting.entry);
-            starts = starts.items;
+            plan = plan.items;
             past = [];
           };
           passes = 0;
           turns = 0;
         } }
-        ensures legal { Legal result.history.setting result.history.starts result.history.past }
+        ensures legal { Legal result.history.setting result.history.plan result.history.past }
     {
         World {
             parts: Parts::new(alloc, setting),
-            starts,
+            plan,
             trace: Vec::new(alloc),
         }
     }
@@ -84,7 +84,7 @@ impl World {
         ensures err { OnErr result (self.new ≡ self.old) }
     {
         self.trace.reserve(1)?;
-        let event = step_with::<Brand>(&mut self.parts, &self.starts, Blank::new(1), step)?;
+        let event = step_with::<Brand>(&mut self.parts, &self.plan, Blank::new(1), step)?;
         let _ = self.trace.push(Moment { step, event });
         Ok(event)
     }
@@ -93,7 +93,7 @@ impl World {
     pub fn close(self) {
         let World {
             parts,
-            starts: _starts,
+            plan: _plan,
             trace: _trace,
         } = self;
         close_with::<Brand>(parts, Blank::new(1));
@@ -135,10 +135,10 @@ impl World {
     }
 }
 
-// Takes a step, by the starts that the marks say.
+// Takes a step, by the starts of the plan.
 fn step_with<L: Ledger>(
     parts: &mut Parts,
-    marks: &[bool],
+    plan: &[bool],
     blank: Blank,
     step: Step,
 ) -> Result<Event, AllocError>
@@ -146,10 +146,10 @@ fn step_with<L: Ledger>(
     requires parts { blank.parts ≡ L.parts }
     requires some { 0 < L.parts }
     requires ready { IsReady parts.old }
-    ensures ok { IfOk result (λ e. StepDoes (IsMarked marks.now) step parts.old e parts.new) }
+    ensures ok { IfOk result (λ e. StepDoes (IsPlanned plan.now) step parts.old e parts.new) }
     ensures err { OnErr result (parts.new ≡ parts.old) }
 {
-    let mut starter = MarkedStarts::<L>::new(marks, blank);
+    let mut starter = PlannedStarts::<L>::new(plan, blank);
     parts.step(step, &mut starter)
 }
 
@@ -172,7 +172,7 @@ fn close_with<L: Ledger>(parts: Parts, blank: Blank)
 pub fn run(alloc: Global, world: &mut World, steps: &[Step]) -> Result<Vec<Event>, AllocError>
     ensures ok { IfOk result (λ events. Adds steps.now events.items world.old.history world.new.history) }
     ensures err { OnErr result (StopsShort steps.now world.old.history world.new.history) }
-    ensures legal { Legal world.new.history.setting world.new.history.starts world.new.history.past }
+    ensures legal { Legal world.new.history.setting world.new.history.plan world.new.history.past }
     ensures served { IsServed world.new.history.past }
     ensures staffed { IsStaffed world.new.passes world.new.turns world.new.history.past }
     ensures held { AreAsSeen world.new.passes world.new.turns world.new.history.past }

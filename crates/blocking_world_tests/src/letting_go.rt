@@ -85,7 +85,7 @@ const ROWS: &[Row] = &[
         ..AT_LIMIT_1
     },
     Row {
-        name: "strikes mark a dropped call until it ended",
+        name: "strikes flag a dropped call until it ended",
         lines: &[
             Sees(Spawn, "accepted 1 +1"),
             Sees(Stray(1), "delivered 1 nothing"),

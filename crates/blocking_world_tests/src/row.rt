@@ -17,20 +17,20 @@ pub(crate) enum Line {
     HasAction(usize, bool),
 }
 
-// What is seen, line by line, of a world with this setting, of which the marked starts are refused.
+// What is seen, line by line, of a world with this setting and this plan of its starts.
 #[derive(Clone, Copy)]
 pub(crate) struct Row {
     pub(crate) name: &'static str,
     pub(crate) setting: Option<&'static str>,
-    pub(crate) starts: &'static [bool],
+    pub(crate) plan: &'static [bool],
     pub(crate) lines: &'static [Line],
 }
 
-// What rows have in common: no setting, and no marked start.
+// What rows have in common: no setting, and no start that is planned to be refused.
 pub(crate) const NO_SETTING: Row = Row {
     name: "",
     setting: None,
-    starts: &[],
+    plan: &[],
     lines: &[],
 };
 
@@ -126,8 +126,8 @@ fn all_hold(alloc: Global, world: &mut World, row: &Row, lines: &[Line]) -> Resu
 
 // The world of a row, as it is before any line.
 fn world(alloc: Global, row: &Row) -> Result<World, AllocError> {
-    let starts = row.starts.to_vec(alloc)?;
-    Ok(World::new(alloc, row.setting, starts))
+    let plan = row.plan.to_vec(alloc)?;
+    Ok(World::new(alloc, row.setting, plan))
 }
 
 // Plays these lines one after the other, and ends their world.

@@ -1,7 +1,7 @@
 //! The texts of events.
 use crate::row::{Place, agree};
 use blocking_core::pool::{Refusal, Standing, Woke};
-use blocking_laws::event::{Act, Event, Party};
+use blocking_laws::event::{Act, Event, HolderWaker, Party, WaitEnd};
 use blocking_laws::step::Answer;
 use std::test::Fail;
 
@@ -45,10 +45,10 @@ const ACTS: &[(Act, &str)] = &[
     (Act::Took(1), "took 1"),
     (Act::TookDropped(1), "took 1 dropped"),
     (Act::TookNone, "idle"),
-    (Act::Stays(1, false), "stays 1"),
-    (Act::Stays(1, true), "stays 1"),
-    (Act::Stopped(2, false), "stopped 2"),
-    (Act::Stopped(2, true), "stopped 2"),
+    (Act::Stays(1, WaitEnd::Woken), "stays 1"),
+    (Act::Stays(1, WaitEnd::TimedOut), "stays 1"),
+    (Act::Stopped(2, WaitEnd::Woken), "stopped 2"),
+    (Act::Stopped(2, WaitEnd::TimedOut), "stopped 2"),
     (Act::Ended(1, Standing::Done), "ended 1 done"),
     (Act::Ended(1, Standing::Parked), "ended 1 parked"),
     (Act::Ended(1, Standing::Queued), "ended 1 queued"),
@@ -59,10 +59,10 @@ const ACTS: &[(Act, &str)] = &[
         "answered 18446744073709551615",
     ),
     (Act::JobParked, "parked"),
-    (Act::Finished(false), "finished"),
-    (Act::Finished(true), "finished wake owner"),
-    (Act::GaveUp(false), "gave up"),
-    (Act::GaveUp(true), "gave up wake owner"),
+    (Act::Finished(HolderWaker::Absent), "finished"),
+    (Act::Finished(HolderWaker::Taken), "finished wake owner"),
+    (Act::GaveUp(HolderWaker::Absent), "gave up"),
+    (Act::GaveUp(HolderWaker::Taken), "gave up wake owner"),
     (Act::HolderWoken, "delivered owner"),
 ];
 

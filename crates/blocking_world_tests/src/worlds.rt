@@ -11,7 +11,7 @@ use std::test::Fail;
 const ROWS: &[Row] = &[
     Row {
         name: "first start is refused",
-        starts: &[true],
+        plan: &[true],
         lines: &[
             Sees(Spawn, "refused worker -1"),
             Counts(0, 0, 0, Some(1)),
@@ -30,7 +30,7 @@ const ROWS: &[Row] = &[
         ..NO_SETTING
     },
     Row {
-        name: "strays mark a running call alone",
+        name: "strays flag a running call alone",
         setting: Some("1"),
         lines: &[
             Sees(Spawn, "accepted 1 +1"),
@@ -167,7 +167,7 @@ const ROWS: &[Row] = &[
     Row {
         name: "growth up to a refused start",
         setting: Some("3"),
-        starts: &[false, true],
+        plan: &[false, true],
         lines: &[
             Sees(Spawn, "accepted 1 +1"),
             Sees(Spawn, "accepted 2"),

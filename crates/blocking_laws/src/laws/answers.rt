@@ -16,6 +16,8 @@ ghost use Rattle.blocking_laws.specs.Traces.{two_parked, two_dropped, queued_aga
 ghost use Rattle.blocking_laws.specs.declared.event.Moment.{Moment};
 ghost use Rattle.blocking_laws.specs.declared.event.Act.TheVariants.{Accepted, Refused, JobWoken, JobCancelled, LimitSet, Swept, TaskCancelled, HolderDropped, Arrived, Took, TookDropped, TookNone, Stays, Stopped, Ended, HandedOut, GaveUp};
 ghost use Rattle.blocking_laws.specs.declared.event.Party.TheVariants.{Task, Worker, Pool};
+ghost use Rattle.blocking_laws.specs.declared.event.HolderWaker.TheVariants.{Absent};
+ghost use Rattle.blocking_laws.specs.declared.event.WaitEnd.TheVariants.{Woken, TimedOut};
 ghost use Rattle.blocking_laws.specs.declared.step.Step.TheVariants.{Spawn, OfTask, Arrive, Take, Job, End, Wait, Late, SetLimit, Sweep, Stray, Strike};
 ghost use Rattle.blocking_laws.specs.declared.step.TaskCall.TheVariants.{Cancel, Drop};
 
@@ -38,7 +40,7 @@ pub fn takes()
     // .. / accepted 2 / dropped (of job 1) / took 1 dropped / gave up / ended 1 dropped / took 2
     ensures accepts_next_beside_dropped { Legal 1 [] (front_dropped
         ▸ moment (Take 1) (Worker 1) (Some 1) (TookDropped 1) 2
-        ▸ moment (Job 1) (Worker 1) (Some 1) (GaveUp false) 2
+        ▸ moment (Job 1) (Worker 1) (Some 1) (GaveUp Absent) 2
         ▸ moment (End 1) (Worker 1) (Some 1) (Ended 1 Dropped) 2
         ▸ moment (Take 1) (Worker 1) (Some 2) (Took 2) 2) }
     // accepted 1 +1 / arrived 1 / accepted 2 / took 2
@@ -80,7 +82,7 @@ pub fn order()
         (moment (Take 1) (Worker 1) (Some 1) (Took 1) 2) }
 {}
 
-/// A wake puts a parked job back and marks a running one; any other it leaves as it is.
+/// A wake puts a parked job back and flags a running one as woken; any other it leaves as it is.
 pub fn wakes()
     // accepted 1 +1 / arrived 1 / delivered 1 nothing
     ensures accepts_queued { Legal 1 [] (one_arrived
@@ -118,7 +120,7 @@ pub fn wakes()
         (moment (Stray 1) Pool None (JobWoken 1 Entered) 2) }
 {}
 
-/// A cancel puts a parked job back and marks one that is queued or running; one that is over it leaves as it is.
+/// A cancel puts a parked job back and flags one that is queued or running; one that is over it leaves as it is.
 pub fn cancels()
     // accepted 1 +1 / cancelled 1 marked / arrived 1 / took 1 dropped: the cancel alone is enough
     ensures accepts_drop_of_cancelled { IsPooled 1 [] (one_queued
@@ -183,7 +185,7 @@ pub fn sweeps()
         ▸ moment (Take 1) (Worker 1) (Some 1) (TookDropped 1) 2) }
     // .. / ended 1 parked / dropped / stays 1, timed out: the wait swept
     ensures accepts_sweep_of_late_wait { IsPooled 1 [] (dropped_parked
-        ▸ moment (Late 1) (Worker 1) None (Stays 1 true) 2
+        ▸ moment (Late 1) (Worker 1) None (Stays 1 TimedOut) 2
         ▸ moment (Take 1) (Worker 1) (Some 1) (TookDropped 1) 2) }
     // .. / ended 1 parked / swept 1
     ensures refuses_unmarked_put_back { Refuses (AnswerLaw 1) one_parked
@@ -244,30 +246,30 @@ pub fn ends()
 pub fn stops()
     // accepted 1 +1 / arrived 1 / stays 1
     ensures accepts_staying { Legal 1 [] (one_arrived
-        ▸ moment (Wait 1) (Worker 1) None (Stays 1 false) 2) }
+        ▸ moment (Wait 1) (Worker 1) None (Stays 1 Woken) 2) }
     // .. / ended 1 done / stopped 1, timed out
     ensures accepts_stop_by_time { Legal 1 [] (one_done
-        ▸ moment (Late 1) (Worker 1) None (Stopped 1 true) 2) }
+        ▸ moment (Late 1) (Worker 1) None (Stopped 1 TimedOut) 2) }
     // accepted 1 +1 / arrived 1 / accepted 2 / took 1 +2 / arrived 2 / limit 1 / stopped 2
     ensures accepts_stop_over_limit { Legal 2 [] (two_workers
         ▸ moment (SetLimit 1) Pool None (LimitSet 1) 3
-        ▸ moment (Wait 2) (Worker 2) None (Stopped 2 false) 3) }
+        ▸ moment (Wait 2) (Worker 2) None (Stopped 2 Woken) 3) }
     // .. / ended 1 done / stopped 1, not timed out
     ensures refuses_eager_stop { Refuses (AnswerLaw 1) one_done
-        (moment (Wait 1) (Worker 1) None (Stopped 1 false) 2) }
+        (moment (Wait 1) (Worker 1) None (Stopped 1 Woken) 2) }
     // accepted 1 +1 / arrived 1 / stopped 1, timed out
     ensures refuses_stop_beside_queued_job { Refuses (AnswerLaw 1) one_arrived
-        (moment (Late 1) (Worker 1) None (Stopped 1 true) 2) }
+        (moment (Late 1) (Worker 1) None (Stopped 1 TimedOut) 2) }
     // .. / ended 1 parked / dropped / stopped 1, timed out: its sweep put the job back
     ensures refuses_stop_beside_swept_job { Refuses (AnswerLaw 1) dropped_parked
-        (moment (Late 1) (Worker 1) None (Stopped 1 true) 2) }
+        (moment (Late 1) (Worker 1) None (Stopped 1 TimedOut) 2) }
     // .. / ended 1 done / stays 1, timed out
     ensures refuses_staying_for_good { Refuses (AnswerLaw 1) one_done
-        (moment (Late 1) (Worker 1) None (Stays 1 true) 2) }
+        (moment (Late 1) (Worker 1) None (Stays 1 TimedOut) 2) }
     // .. / arrived 2 / limit 1 / stays 2
     ensures refuses_staying_over_limit { Refuses (AnswerLaw 2) (two_workers
         ▸ moment (SetLimit 1) Pool None (LimitSet 1) 3)
-        (moment (Wait 2) (Worker 2) None (Stays 2 false) 3) }
+        (moment (Wait 2) (Worker 2) None (Stays 2 Woken) 3) }
 {}
 
 /// Serials and workers are numbered in order, and no number is used again; only started workers arrive. Want of memory is an

@@ -16,6 +16,7 @@ ghost use Rattle.blocking_laws.specs.Traces.{awaited, awaited_finished, cancelle
 ghost use Rattle.blocking_laws.specs.Traces.{one_parked, woken_waits, dropped_parked, two_dropped, front_dropped, second_dropped, queued_again};
 ghost use Rattle.blocking_laws.specs.declared.event.Act.TheVariants.{Accepted, Refused, JobWoken, JobCancelled, LimitSet, Swept, TaskCancelled, HolderDropped, Took, TookDropped, Stopped, Ended, NoAction};
 ghost use Rattle.blocking_laws.specs.declared.event.Party.TheVariants.{Task, Worker, Pool};
+ghost use Rattle.blocking_laws.specs.declared.event.WaitEnd.TheVariants.{Woken, TimedOut};
 ghost use Rattle.blocking_laws.specs.declared.step.Step.TheVariants.{Spawn, OfTask, Arrive, Take, Job, End, Wait, Late, SetLimit, Sweep, Stray, Strike};
 ghost use Rattle.blocking_laws.specs.declared.step.TaskCall.TheVariants.{Cancel, Drop};
 
@@ -163,7 +164,7 @@ pub fn queues()
     ensures swept { queue (two_dropped ▸ moment Sweep Pool None (Swept 2) 2) ≡ 1 ∷ 2 ∷ [] }
     // .. / ended 1 parked / dropped / stopped 1, timed out: such a wait sweeps
     ensures swept_late { queue (dropped_parked
-        ▸ moment (Late 1) (Worker 1) None (Stopped 1 true) 2) ≡ 1 ∷ [] }
+        ▸ moment (Late 1) (Worker 1) None (Stopped 1 TimedOut) 2) ≡ 1 ∷ [] }
 {}
 
 /// The counts of workers, and the limit.
@@ -176,11 +177,11 @@ pub fn counts()
     ensures unarrived { idle one_queued ≡ 1 }
     // .. / ended 1 done / stopped 1
     ensures stopped { workers (one_done
-        ▸ moment (Late 1) (Worker 1) None (Stopped 1 true) 2) ≡ 0 }
+        ▸ moment (Late 1) (Worker 1) None (Stopped 1 TimedOut) 2) ≡ 0 }
     // .. / arrived 2 / limit 1 / stopped 2: over the limit, and before its time was up
     ensures stopped_over_limit { workers (two_workers
         ▸ moment (SetLimit 1) Pool None (LimitSet 1) 3
-        ▸ moment (Wait 2) (Worker 2) None (Stopped 2 false) 3) ≡ 1 }
+        ▸ moment (Wait 2) (Worker 2) None (Stopped 2 Woken) 3) ≡ 1 }
     // the setting's number, which isn't told before the first growth
     ensures setting { limit 4 [] ≡ 4 }
     ensures untold { known_limit 4 [] ≡ None }

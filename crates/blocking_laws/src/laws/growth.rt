@@ -75,9 +75,9 @@ pub fn starts_where_jobs_go_back()
 
 /// The law of growth leaves one answer alone: by what was seen before and what was done, the starts are known.
 pub fn one_growth()
-    ensures { (setting : ℕ) (marks : List Bool) (past : List Moment) (now other : Moment) →
+    ensures { (setting : ℕ) (plan : List Bool) (past : List Moment) (now other : Moment) →
         now.event.act ≡ other.event.act →
-        GrowthLaw setting marks past now → GrowthLaw setting marks past other →
+        GrowthLaw setting plan past now → GrowthLaw setting plan past other →
         (now.event.first ≡ other.event.first) × (now.event.started ≡ other.event.started)
         × (now.event.start_refused ≡ other.event.start_refused) }
 {}
@@ -100,10 +100,10 @@ pub fn refused_starts()
     ensures refuses_forgotten_limit { Refuses (GrowthLaw 3 (false ∷ true ∷ [])) second_refused
         (starting 1 (moment Spawn Pool None (Accepted 7) 3)) }
     // accepted 1 +1, where start 1 is to be refused
-    ensures refuses_start_despite_mark { Refuses (GrowthLaw 1 (true ∷ [])) []
+    ensures refuses_start_despite_plan { Refuses (GrowthLaw 1 (true ∷ [])) []
         (starting 1 (moment Spawn Pool None (Accepted 1) 1)) }
     // accepted 1 +1 / .. / accepted 5 / accepted 6 -2, where no start is to be refused
-    ensures refuses_refusal_without_mark { Refuses (GrowthLaw 3 []) five_queued
+    ensures refuses_refusal_without_plan { Refuses (GrowthLaw 3 []) five_queued
         (refusing (moment Spawn Pool None (Accepted 6) 2)) }
 {}
 

@@ -9,6 +9,8 @@ ghost use Rattle.blocking_laws.specs.Traces.{one_got, awaited, detached, dropped
 ghost use Rattle.blocking_laws.specs.Traces.{second_dropped, start_refused, late_queued};
 ghost use Rattle.blocking_laws.specs.declared.event.Act.TheVariants.{Accepted, JobWoken, JobCancelled, LimitSet, Swept, Waits, TaskGotNone, TaskCancelled, TaskDetached, HolderDropped, Arrived, Took, TookNone, Stays, Stopped, Answered, Finished, NoAction};
 ghost use Rattle.blocking_laws.specs.declared.event.Party.TheVariants.{Task, Worker, Pool};
+ghost use Rattle.blocking_laws.specs.declared.event.HolderWaker.TheVariants.{Absent};
+ghost use Rattle.blocking_laws.specs.declared.event.WaitEnd.TheVariants.{Woken, TimedOut};
 ghost use Rattle.blocking_laws.specs.declared.step.Answer.TheVariants.{Number};
 ghost use Rattle.blocking_laws.specs.declared.step.Step.TheVariants.{Spawn, OfTask, Arrive, Take, Job, Io, End, Wait, Late, SetLimit, Sweep, Stray, Strike};
 ghost use Rattle.blocking_laws.specs.declared.step.TaskCall.TheVariants.{Poll, Cancel, Detach, Drop};
@@ -145,7 +147,7 @@ pub fn nothing_by_workers()
         ▸ moment (Io 1 (Number 6)) (Worker 1) None NoAction 2) }
     // .. / ended 1 done / stopped 1 / nothing (the worker is gone)
     ensures accepts_stopped_worker { Legal 1 [] (one_done
-        ▸ moment (Late 1) (Worker 1) None (Stopped 1 true) 2
+        ▸ moment (Late 1) (Worker 1) None (Stopped 1 TimedOut) 2
         ▸ moment (Take 1) (Worker 1) None NoAction 2) }
     // accepted 1 +1 / arrived 1 / took 1 / nothing (the worker has a job)
     ensures accepts_busy_worker { Legal 1 [] (one_taken
@@ -183,10 +185,10 @@ pub fn events()
         (moment (Io 1 (Number 6)) (Worker 1) (Some 1) (Answered (Number 5)) 2) }
     // accepted 1 +1 / arrived 1 / stays 1, of a take
     ensures refuses_other_kind { Refuses StepLaw one_arrived
-        (moment (Take 1) (Worker 1) None (Stays 1 false) 2) }
+        (moment (Take 1) (Worker 1) None (Stays 1 Woken) 2) }
     // accepted 1 +1 / arrived 1 / stays 1, timed out, of a wait that wasn't
     ensures refuses_other_wait { Refuses StepLaw one_arrived
-        (moment (Wait 1) (Worker 1) None (Stays 1 true) 2) }
+        (moment (Wait 1) (Worker 1) None (Stays 1 TimedOut) 2) }
     // limit 3, of a limit 2
     ensures refuses_other_limit { Refuses StepLaw []
         (moment (SetLimit 2) Pool None (LimitSet 3) 1) }
@@ -212,10 +214,10 @@ pub fn events()
         (moment (OfTask 1 Cancel) Pool None NoAction 2) }
     // .. / answered 5 / finished, said to be of job 2
     ensures refuses_job_of_other { Refuses StepLaw one_answered
-        (moment (Job 1) (Worker 1) (Some 2) (Finished false) 2) }
+        (moment (Job 1) (Worker 1) (Some 2) (Finished Absent) 2) }
     // .. / answered 5 / finished, said to be of owner 0
     ensures refuses_owner_of_call { Refuses StepLaw one_answered
-        (of_owner 0 (moment (Job 1) (Worker 1) (Some 1) (Finished false) 2)) }
+        (of_owner 0 (moment (Job 1) (Worker 1) (Some 1) (Finished Absent) 2)) }
     // accepted 1 +1 / arrived 1 / took 1, said to be of no job
     ensures refuses_take_of_no_job { Refuses StepLaw one_arrived
         (moment (Take 1) (Worker 1) None (Took 1) 2) }

@@ -14,6 +14,7 @@ ghost use Rattle.blocking_laws.specs.Traces.{dropped_taken, cancelled_finished, 
 ghost use Rattle.blocking_laws.specs.declared.event.Event.{Event};
 ghost use Rattle.blocking_laws.specs.declared.event.Act.TheVariants.{Accepted, Waits, TaskGot, TaskGotNone, TaskCancelled, TaskDetached, HolderDropped, Ended, JobParked, Finished, GaveUp, HolderWoken};
 ghost use Rattle.blocking_laws.specs.declared.event.Party.TheVariants.{Task, Worker, Pool};
+ghost use Rattle.blocking_laws.specs.declared.event.HolderWaker.TheVariants.{Taken, Absent};
 ghost use Rattle.blocking_laws.specs.declared.step.Step.TheVariants.{Spawn, OfTask, Job, End};
 ghost use Rattle.blocking_laws.specs.declared.step.TaskCall.TheVariants.{Poll, Cancel, Detach, Drop};
 
@@ -32,10 +33,10 @@ pub fn jobs_of_calls()
         ▸ moment (OfTask 0 Poll) (Task 0) None TaskGotNone 2) }
     // accepted 1 +1 / arrived 1 / took 1 / finished
     ensures refuses_finish_before_answer { Refuses FirstTaskLaw one_taken
-        (moment (Job 1) (Worker 1) (Some 1) (Finished false) 2) }
+        (moment (Job 1) (Worker 1) (Some 1) (Finished Absent) 2) }
     // .. / answered 5 / finished / finished
     ensures refuses_finish_twice { Refuses FirstTaskLaw one_finished
-        (moment (Job 1) (Worker 1) (Some 1) (Finished false) 2) }
+        (moment (Job 1) (Worker 1) (Some 1) (Finished Absent) 2) }
     // .. / answered 5 / finished / delivered owner: no waker was taken
     ensures refuses_call_of_no_waker { Refuses FirstTaskLaw one_finished
         (moment (Job 1) (Worker 1) (Some 1) HolderWoken 2) }
@@ -44,10 +45,10 @@ pub fn jobs_of_calls()
         (moment (Job 1) (Worker 1) (Some 1) JobParked 2) }
     // .. / answered 5 / cancelled / finished / gave up: it is over
     ensures refuses_giving_up_of_finished { Refuses FirstTaskLaw cancelled_finished
-        (moment (Job 1) (Worker 1) (Some 1) (GaveUp false) 2) }
+        (moment (Job 1) (Worker 1) (Some 1) (GaveUp Absent) 2) }
     // .. / took 1 / answered 5 / gave up: nobody let it go
     ensures refuses_giving_up_unasked { Refuses FirstTaskLaw one_answered
-        (moment (Job 1) (Worker 1) (Some 1) (GaveUp false) 2) }
+        (moment (Job 1) (Worker 1) (Some 1) (GaveUp Absent) 2) }
 {}
 
 /// A task is called until it is gone; after a cancel it is only polled and dropped.
@@ -55,7 +56,7 @@ pub fn calls_of_tasks()
     // .. / took 1 / answered 5 / detached / finished / ended 1 done
     ensures accepts_detached_call { Legal 1 [] (one_answered
         ▸ moment (OfTask 0 Detach) (Task 0) None TaskDetached 2
-        ▸ moment (Job 1) (Worker 1) (Some 1) (Finished false) 2
+        ▸ moment (Job 1) (Worker 1) (Some 1) (Finished Absent) 2
         ▸ moment (End 1) (Worker 1) (Some 1) (Ended 1 Done) 2) }
     // .. / answered 5 / cancelled / finished / dropped
     ensures accepts_drop_after_cancel { Legal 1 [] (cancelled_finished
@@ -148,19 +149,19 @@ pub fn seats()
     // .. / waits / .. / detached / finished wake owner: detaching leaves the waker where it is
     ensures accepts_wake_of_detached { Legal 1 [] (awaited
         ▸ moment (OfTask 0 Detach) (Task 0) None TaskDetached 2
-        ▸ moment (Job 1) (Worker 1) (Some 1) (Finished true) 2) }
+        ▸ moment (Job 1) (Worker 1) (Some 1) (Finished Taken) 2) }
     // accepted 1 +1 / waits / arrived 1 / took 1 / answered 5 / finished
     ensures refuses_wake_not_borne { Refuses FirstTaskLaw awaited
-        (moment (Job 1) (Worker 1) (Some 1) (Finished false) 2) }
+        (moment (Job 1) (Worker 1) (Some 1) (Finished Absent) 2) }
     // accepted 1 +1 / arrived 1 / took 1 / answered 5 / finished wake owner
     ensures refuses_wake_from_nobody { Refuses FirstTaskLaw one_answered
-        (moment (Job 1) (Worker 1) (Some 1) (Finished true) 2) }
+        (moment (Job 1) (Worker 1) (Some 1) (Finished Taken) 2) }
     // accepted 1 +1 / dropped / arrived 1 / took 1 dropped / gave up wake owner
     ensures refuses_last_wake_from_nobody { Refuses FirstTaskLaw dropped_taken
-        (moment (Job 1) (Worker 1) (Some 1) (GaveUp true) 2) }
+        (moment (Job 1) (Worker 1) (Some 1) (GaveUp Taken) 2) }
     // .. / finished wake owner / finished: the waker that was taken is called first
     ensures refuses_wake_not_called { Refuses FirstTaskLaw awaited_finished
-        (moment (Job 1) (Worker 1) (Some 1) (Finished false) 2) }
+        (moment (Job 1) (Worker 1) (Some 1) (Finished Absent) 2) }
     // .. / finished wake owner / delivered owner / delivered owner
     ensures refuses_wake_called_twice { Refuses FirstTaskLaw (awaited_finished
         ▸ moment (Job 1) (Worker 1) (Some 1) HolderWoken 2)

@@ -10,6 +10,8 @@ ghost use Rattle.blocking_laws.specs.Traces.{one_queued, one_arrived, one_taken,
 ghost use Rattle.blocking_laws.specs.Traces.{dropped_taken, dropped_given_up, one_waits, one_parked, dropped_waits};
 ghost use Rattle.blocking_laws.specs.declared.event.Act.TheVariants.{Accepted, JobWoken, Arrived, Took, TookDropped, Stopped, Ended, HandedOut, Answered, JobParked, Finished, GaveUp};
 ghost use Rattle.blocking_laws.specs.declared.event.Party.TheVariants.{Worker, Pool};
+ghost use Rattle.blocking_laws.specs.declared.event.HolderWaker.TheVariants.{Absent};
+ghost use Rattle.blocking_laws.specs.declared.event.WaitEnd.TheVariants.{TimedOut};
 ghost use Rattle.blocking_laws.specs.declared.step.Answer.TheVariants.{Number};
 ghost use Rattle.blocking_laws.specs.declared.step.Step.TheVariants.{Spawn, Arrive, Take, Job, Io, End, Late, Stray};
 
@@ -52,12 +54,12 @@ pub fn turns()
     // .. / took 1 / dropped / parked / drop 1 / gave up
     ensures accepts_giving_up_handed_out { IsPooled 1 [] (dropped_waits
         ▸ moment (End 1) (Worker 1) (Some 1) (HandedOut 1) 2
-        ▸ moment (Job 1) (Worker 1) (Some 1) (GaveUp false) 2) }
+        ▸ moment (Job 1) (Worker 1) (Some 1) (GaveUp Absent) 2) }
     // .. / ended 1 parked / delivered 1 entered / took 1 / finished: the next run goes on
     ensures accepts_next_run { IsPooled 1 [] (one_parked
         ▸ moment (Stray 1) Pool None (JobWoken 1 Entered) 2
         ▸ moment (Take 1) (Worker 1) (Some 1) (Took 1) 2
-        ▸ moment (Job 1) (Worker 1) (Some 1) (Finished false) 2) }
+        ▸ moment (Job 1) (Worker 1) (Some 1) (Finished Absent) 2) }
     // accepted 1 +1 / answered 5: nobody took the job
     ensures refuses_act_of_queued { Refuses TurnLaw one_queued
         (moment (Io 1 (Number 5)) (Worker 1) (Some 1) (Answered (Number 5)) 2) }
@@ -66,16 +68,16 @@ pub fn turns()
         (moment (Io 2 (Number 5)) (Worker 2) (Some 1) (Answered (Number 5)) 2) }
     // .. / took 1 / parked / finished
     ensures refuses_act_while_waiting { Refuses TurnLaw one_waits
-        (moment (Job 1) (Worker 1) (Some 1) (Finished false) 2) }
+        (moment (Job 1) (Worker 1) (Some 1) (Finished Absent) 2) }
     // .. / took 1 / gave up
     ensures refuses_giving_up_unasked { Refuses TurnLaw one_taken
-        (moment (Job 1) (Worker 1) (Some 1) (GaveUp false) 2) }
+        (moment (Job 1) (Worker 1) (Some 1) (GaveUp Absent) 2) }
     // .. / took 1 dropped / answered 5
     ensures refuses_run_of_dropped { Refuses TurnLaw dropped_taken
         (moment (Io 1 (Number 5)) (Worker 1) (Some 1) (Answered (Number 5)) 2) }
     // .. / took 1 dropped / gave up / gave up
     ensures refuses_giving_up_twice { Refuses TurnLaw dropped_given_up
-        (moment (Job 1) (Worker 1) (Some 1) (GaveUp false) 2) }
+        (moment (Job 1) (Worker 1) (Some 1) (GaveUp Absent) 2) }
 {}
 
 /// What one job does, and what is done with it, leaves the turn of another as it is.
@@ -90,7 +92,7 @@ pub fn apart()
         ▸ starting 1 (moment (Take 1) (Worker 1) (Some 1) (TookDropped 1) 2)
         ▸ moment Arrive (Worker 2) None (Arrived 2) 3
         ▸ moment (Take 2) (Worker 2) (Some 2) (Took 2) 3
-        ▸ moment (Job 1) (Worker 1) (Some 1) (GaveUp false) 3
+        ▸ moment (Job 1) (Worker 1) (Some 1) (GaveUp Absent) 3
         ▸ moment (Io 2 (Number 5)) (Worker 2) (Some 2) (Answered (Number 5)) 3) }
     // .. / dropped (of job 2) / took 1 +2 / arrived 2 / took 2 dropped / answered 5 (job 1)
     ensures accepts_act_beside_drop { Legal 2 [] (second_dropped
@@ -128,10 +130,10 @@ pub fn staffing()
     ensures accepts_pass_again { IsStaffed 1 0 one_done }
     // .. / ended 1 done / stopped 1: nothing
     ensures accepts_stop { IsStaffed 0 0 (one_done
-        ▸ moment (Late 1) (Worker 1) None (Stopped 1 true) 2) }
+        ▸ moment (Late 1) (Worker 1) None (Stopped 1 TimedOut) 2) }
     // .. / ended 1 done / stopped 1 / accepted 2 +2: the next worker hasn't arrived
     ensures accepts_unarrived_after_stop { IsStaffed 0 0 (one_done
-        ▸ moment (Late 1) (Worker 1) None (Stopped 1 true) 2
+        ▸ moment (Late 1) (Worker 1) None (Stopped 1 TimedOut) 2
         ▸ starting 1 (moment Spawn Pool None (Accepted 2) 2)) }
     // accepted 1 +1 / arrived 1 / accepted 2 / took 1 +2 / arrived 2: a turn and a pass
     ensures accepts_both { IsStaffed 1 1 two_workers }
@@ -160,7 +162,7 @@ pub fn staffing()
         (moment (End 1) (Worker 1) (Some 1) (Ended 1 Done) 2) }
     // .. / ended 1 done / stopped 1, with the pass still
     ensures refuses_pass_after_stop { Refuses (Keeps (IsStaffed 1 0)) one_done
-        (moment (Late 1) (Worker 1) None (Stopped 1 true) 2) }
+        (moment (Late 1) (Worker 1) None (Stopped 1 TimedOut) 2) }
 {}
 
 /// Which passes and turns are seen to be held.
@@ -180,5 +182,5 @@ pub fn holdings()
     ensures turn_beside_pass { turns two_workers ≡ 1 }
     // .. / ended 1 done / stopped 1
     ensures none_after_stop { passes (one_done
-        ▸ moment (Late 1) (Worker 1) None (Stopped 1 true) 2) ≡ 0 }
+        ▸ moment (Late 1) (Worker 1) None (Stopped 1 TimedOut) 2) ≡ 0 }
 {}

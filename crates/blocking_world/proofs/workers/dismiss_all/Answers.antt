@@ -23,4 +23,4 @@ loop-hand-preserved g c =
 
 pub unreachable-requires : goal.unreachable-requires
 unreachable-requires g c =
-    last_jobless c.loop-hand.crew c.loop-hand.hands.items c.pop.new.self.items c.in-Some.hand c.in-Some.ensures.items c.loop-hand.invariant c.in-Holds._held c.in-Holds.is
+    last_jobless c.loop-hand.crew c.loop-hand.hands.items c.pop.new.self.items c.in-Some.hand c.in-Some.ensures.items c.loop-hand.invariant c.in-Holds._in_hand c.in-Holds.is

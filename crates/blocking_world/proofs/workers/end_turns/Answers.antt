@@ -3,7 +3,7 @@ use Rattle.blocking_world.proofs.Closings.{got_index, runs_at, still_left, joble
 use Rattle.blocking_world.proofs.workers.end_turns.Goals as goal
 
 pub loop-place-init : goal.loop-place-init
-loop-place-init c = (c.requires, λ n held early. absurd (omega (arith, early)))
+loop-place-init c = (c.requires, λ n in_hand early. absurd (omega (arith, early)))
 
 pub end_turn-requires : goal.end_turn-requires
 end_turn-requires c =
@@ -28,4 +28,4 @@ returns c =
     let bound = c.loop-place.auto.place-end in
     let past = c.loop-place-test.false in
     all_idle c.loop-place.crew c.loop-place.hands c.loop-place.invariant.0
-    (λ n held early. c.loop-place.invariant.1 n held (omega (arith, early, lengths, bound, past)))
+    (λ n in_hand early. c.loop-place.invariant.1 n in_hand (omega (arith, early, lengths, bound, past)))

@@ -1,5 +1,5 @@
 use Rattle.std.proofs.Common.{ap, ◌∙◌}
-use Rattle.blocking_world.specs.Crews.{marked}
+use Rattle.blocking_world.specs.Crews.{call_after_mark}
 use Rattle.blocking_world.specs.Worlds.{CallPool}
 use Rattle.blocking_world.proofs.Marking.{marked_counts, lent_marked, none_marked}
 use Rattle.blocking_world.proofs.crew.Crew.mark.Goals as goal
@@ -8,7 +8,7 @@ use Rattle.blocking_world.proofs.crew.Crew.mark.Goals.{in-Some, in_default}
 pub returns : goal.returns
 returns c =
     elim c.match-job_mut.branch [
-      | in-Some w ↦ ap (λ inside. inside.pool) w.self-inside-is ∙ lent_marked c.self.inside.pool c.args.self.now (c.job_mut.follows.lender (marked w.in-Some.job.now)) c.args.number c.job_mut.result w.in-Some.job c.self.view_is w.in-Some.is (c.job_mut.follows.holds (marked w.in-Some.job.now)) w.in-Some.ensures.value
+      | in-Some w ↦ ap (λ inside. inside.pool) w.self-inside-is ∙ lent_marked c.self.inside.pool c.args.self.now (c.job_mut.follows.lender (call_after_mark w.in-Some.job.now)) c.args.number c.job_mut.result w.in-Some.job c.self.view_is w.in-Some.is (c.job_mut.follows.holds (call_after_mark w.in-Some.job.now)) w.in-Some.ensures.value
       | in_default w ↦ ap (λ inside. inside.pool) w.self-inside-is ∙ none_marked c.self.inside.pool c.args.self.now c.job_mut.follows.lender-at-none c.args.number c.self.view_is c.job_mut.follows.holds-at-none w.in_default.ensures.value
     ]
 

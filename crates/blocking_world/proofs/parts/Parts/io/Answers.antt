@@ -10,17 +10,17 @@ returns-in_default c =
     let w = the_view c.self.inside in
     let v = c.args.worker in
     rw (sym c.self.view_is)
-    (answer_none w v (hand_at w.hands v) c.args.answer c.in_default.ensures.held c.held_mut.follows.holds-at-none c.next_start-first.ensures c.nothing.ensures)
+    (answer_none w v (hand_at w.hands v) c.args.answer c.in_default.ensures.in_hand c.job_mut.follows.holds-at-none c.next_start-first.ensures c.nothing.ensures)
 
-pub returns-in_default-duty : goal.returns-in_default-duty
-returns-in_default-duty c =
+pub returns-in_default-next : goal.returns-in_default-next
+returns-in_default-next c =
     rw (sym c.self.view_is)
-    (answer_unasked (the_view c.self.inside) c.args.worker c.args.answer c.in-Some.ensures.held (λ awaits. c.in_default-duty.not-Await (c.duty.ensures ∙ sym awaits))
-    (lent_hand c.in-Some.is (c.held_mut.follows.holds c.in-Some.held.now)) c.next_start-first.ensures c.nothing-in_default-duty.ensures)
+    (answer_unasked (the_view c.self.inside) c.args.worker c.args.answer c.in-Some.ensures.in_hand (λ awaits. c.in_default-next.not-Await (c.next.ensures ∙ sym awaits))
+    (lent_hand c.in-Some.is (c.job_mut.follows.holds c.in-Some.in_hand.now)) c.next_start-first.ensures c.nothing-in_default-next.ensures)
 
 pub returns : goal.returns
 returns c =
     let answer = answer_only c.args.answer in
     rw (sym c.self.view_is)
-    (answer_comes (the_view c.self.inside) c.args.worker c.in-Some.ensures.held c.in-Await.ensures answer.1 (rw answer.1 at c.answer.ensures) c.serial-serial.ensures
-    (lent_hand c.in-Some.is (c.held_mut.follows.holds c.answer.new.self)) c.next_start-first.ensures c.seen.ensures)
+    (answer_comes (the_view c.self.inside) c.args.worker c.in-Some.ensures.in_hand c.in-Await.ensures answer.1 (rw answer.1 at c.answer.ensures) c.serial-serial.ensures
+    (lent_hand c.in-Some.is (c.job_mut.follows.holds c.answer.new.self)) c.next_start-first.ensures c.seen.ensures)
