@@ -1,5 +1,7 @@
 //! Owners who leave: tasks that are dropped, detached and cancelled, and jobs that are over before their calls are.
-use crate::planned::{EndsAtFirst, EndsBeforeItWakes, Planned, WaitsAtFirst, WaitsBeforeItWakes};
+use crate::planned::{
+    Ends, EndsAtFirst, EndsBeforeItWakes, Planned, WaitsAtFirst, WaitsBeforeItWakes,
+};
 use crate::scene::Act::{Cancel, Detach, Drop, GoOn};
 use crate::scene::Sight::{
     Gives, GivesNone, Goes, Gone, Sleeps, Stops, There, Unmade, Waits, Wakes,
@@ -7,11 +9,7 @@ use crate::scene::Sight::{
 use crate::scene::Step::{Begin, Do, See, Sweep, Workers};
 use crate::scene::{Row, play};
 use crate::visit::Stop::{InCall, InDrop, Nowhere};
-use crate::visit::Visit;
-use blocking::CallJob;
 use std::test::Fail;
-
-type Whole = CallJob<Visit, HostRuntime>;
 
 // Calls that run as they do, one at a time.
 const LEAVING: &[Row] = &[
@@ -163,7 +161,7 @@ const LEAVING: &[Row] = &[
 #[test]
 fn owners_leave(rt: HostRuntime) -> Result<(), Fail> {
     for row in LEAVING {
-        play::<Whole, HostRuntime>(rt, "1", row)?;
+        play::<Planned<Ends, HostRuntime>, _>(rt, "1", row)?;
     }
     Ok(())
 }
@@ -200,7 +198,7 @@ const WAITS_AT_FIRST: Row = (
 
 #[test]
 fn owners_leave_before_the_call(rt: HostRuntime) -> Result<(), Fail> {
-    play::<Planned<WaitsAtFirst, HostRuntime>, HostRuntime>(rt, "1", &WAITS_AT_FIRST)
+    play::<Planned<WaitsAtFirst, HostRuntime>, _>(rt, "1", &WAITS_AT_FIRST)
 }
 
 const WAITS_BEFORE_IT_WAKES: Row = (
@@ -239,7 +237,7 @@ const WAITS_BEFORE_IT_WAKES: Row = (
 
 #[test]
 fn owners_leave_before_they_are_woken(rt: HostRuntime) -> Result<(), Fail> {
-    play::<Planned<WaitsBeforeItWakes, HostRuntime>, HostRuntime>(rt, "1", &WAITS_BEFORE_IT_WAKES)
+    play::<Planned<WaitsBeforeItWakes, HostRuntime>, _>(rt, "1", &WAITS_BEFORE_IT_WAKES)
 }
 
 const ENDS_AT_FIRST: Row = (
@@ -266,7 +264,7 @@ const ENDS_AT_FIRST: Row = (
 
 #[test]
 fn job_is_over_before_its_call(rt: HostRuntime) -> Result<(), Fail> {
-    play::<Planned<EndsAtFirst, HostRuntime>, HostRuntime>(rt, "1", &ENDS_AT_FIRST)
+    play::<Planned<EndsAtFirst, HostRuntime>, _>(rt, "1", &ENDS_AT_FIRST)
 }
 
 const ENDS_BEFORE_IT_WAKES: Row = (
@@ -284,5 +282,5 @@ const ENDS_BEFORE_IT_WAKES: Row = (
 
 #[test]
 fn job_is_over_before_it_wakes(rt: HostRuntime) -> Result<(), Fail> {
-    play::<Planned<EndsBeforeItWakes, HostRuntime>, HostRuntime>(rt, "1", &ENDS_BEFORE_IT_WAKES)
+    play::<Planned<EndsBeforeItWakes, HostRuntime>, _>(rt, "1", &ENDS_BEFORE_IT_WAKES)
 }

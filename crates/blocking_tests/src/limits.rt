@@ -1,14 +1,11 @@
 //! How many workers there are, what they are named, and when they go.
+use crate::planned::{Ends, Planned};
 use crate::scene::Act::{Detach, GoOn};
 use crate::scene::Sight::{Goes, Stops};
 use crate::scene::Step::{Begin, Do, Limit, Pause, See, Start, Within, Worker, Workers};
 use crate::scene::{Row, play, play_in_time};
 use crate::visit::Stop::InCall;
-use crate::visit::Visit;
-use blocking::CallJob;
 use std::test::Fail;
-
-type Whole = CallJob<Visit, HostRuntime>;
 
 const NAMES: Row = (
     "two workers are named by their numbers, and no other thread is named so",
@@ -26,7 +23,7 @@ const NAMES: Row = (
 
 #[test]
 fn workers_are_named(rt: HostRuntime) -> Result<(), Fail> {
-    play::<Whole, HostRuntime>(rt, "2", &NAMES)
+    play::<Planned<Ends, HostRuntime>, _>(rt, "2", &NAMES)
 }
 
 const LIMIT_BY_CALL: Row = (
@@ -47,7 +44,7 @@ const LIMIT_BY_CALL: Row = (
 
 #[test]
 fn limit_is_set_by_call(rt: HostRuntime) -> Result<(), Fail> {
-    play::<Whole, HostRuntime>(rt, "1", &LIMIT_BY_CALL)
+    play::<Planned<Ends, HostRuntime>, _>(rt, "1", &LIMIT_BY_CALL)
 }
 
 const ALL_GO: Row = (
@@ -74,7 +71,7 @@ const ALL_GO: Row = (
 
 #[test]
 fn idle_workers_go(rt: HostRuntime) -> Result<(), Fail> {
-    play::<Whole, HostRuntime>(rt, "4", &ALL_GO)
+    play::<Planned<Ends, HostRuntime>, _>(rt, "4", &ALL_GO)
 }
 
 // (an idle worker that nobody rings goes 500 ms after its last job, and not before)
@@ -113,7 +110,7 @@ const THREE_GO: Row = (
 
 #[test]
 fn lowered_limit_stops_idle_workers(rt: HostRuntime) -> Result<(), Fail> {
-    play_in_time::<Whole, HostRuntime>(rt, "4", &THREE_GO)
+    play_in_time::<Planned<Ends, HostRuntime>, _>(rt, "4", &THREE_GO)
 }
 
 const TWO_STAY: Row = (
@@ -140,5 +137,5 @@ const TWO_STAY: Row = (
 
 #[test]
 fn idle_workers_stay_for_a_while(rt: HostRuntime) -> Result<(), Fail> {
-    play_in_time::<Whole, HostRuntime>(rt, "8", &TWO_STAY)
+    play_in_time::<Planned<Ends, HostRuntime>, _>(rt, "8", &TWO_STAY)
 }

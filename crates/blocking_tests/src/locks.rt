@@ -1,11 +1,10 @@
 //! No lock is held while a call is made or dropped, or its answer is: meanwhile the executor is used.
+use crate::planned::{Ends, Planned};
 use crate::scene::Act::{Detach, Drop, GoOn};
 use crate::scene::Sight::{Gives, Goes, Stops, There, Waits, Wakes};
 use crate::scene::Step::{Begin, Do, Limit, See};
 use crate::scene::{Row, play};
 use crate::visit::Stop::{InAnswersDrop, InCall, InDrop};
-use crate::visit::Visit;
-use blocking::CallJob;
 use std::test::Fail;
 
 // All begin with two workers.
@@ -76,7 +75,7 @@ const USED: &[Row] = &[
 #[test]
 fn executor_is_used(rt: HostRuntime) -> Result<(), Fail> {
     for row in USED {
-        play::<CallJob<Visit, HostRuntime>, HostRuntime>(rt, "2", row)?;
+        play::<Planned<Ends, HostRuntime>, _>(rt, "2", row)?;
     }
     Ok(())
 }

@@ -1,4 +1,4 @@
-//! A job type of the tests' own, which carries a call's job and leaves it before its end, so that a test meets the job there.
+//! A job type of the tests' own, which carries a call's job and may leave it before its end, so that a test meets the job there.
 use crate::visit::Visit;
 use blocking::{CallJob, Runtime};
 use blocking_core::pool::{Carries, Job, JobNo, JobStep};
@@ -10,6 +10,16 @@ pub(crate) trait Plan {
     const STEPS: u32;
     /// Then each step answers this.
     const THEN: JobStep;
+}
+
+/// Takes all steps.
+#[derive(Drop)]
+pub(crate) struct Ends;
+
+impl Plan for Ends {
+    const STEPS: u32 = u32::MAX;
+
+    const THEN: JobStep = JobStep::Done;
 }
 
 /// Waits before the call is made.

@@ -30,6 +30,8 @@ pub(crate) enum Step {
     Workers(usize),
     /// There is a worker whose name bears this number.
     Worker(u64),
+    /// So many calls are made one by one, each detached, and the worker idles after each.
+    OneByOne(u32),
     /// The clock starts.
     Start,
     /// So many milliseconds pass.
@@ -209,11 +211,9 @@ impl<J: Job + Carries<CallJob<Visit, H>>, H: Host + Files> Scene<J, H> {
             Step::Sweep(count) => Ok(self.executor.sweep() == count),
             Step::Workers(count) => come_to_be(&self.rt, count),
             Step::Worker(number) => has_worker(&self.rt, number),
+            Step::OneByOne(count) => self.make_one_by_one(count),
             Step::Start => self.start_clock(),
-            Step::Pause(millis) => {
-                thread::sleep(&self.rt, Duration::from_millis(millis));
-                Ok(true)
-            }
+            Step::Pause(millis) => Ok(self.pause(millis)),
             Step::Within(millis) => self.is_within(millis),
         }
     }
@@ -230,6 +230,30 @@ impl<J: Job + Carries<CallJob<Visit, H>>, H: Host + Files> Scene<J, H> {
             mock: MockTask::new(&self.rt)?,
         })?;
         Ok(true)
+    }
+
+    // Whether a call was made that nobody awaits.
+    fn make_detached(&mut self) -> io::Result<bool> {
+        let has_begun = self.begin(Stop::Nowhere)?;
+        match self.calls.last_mut() {
+            Some(call) => Ok(has_begun && call.act(Act::Detach) && call.track.goes()),
+            None => Ok(false),
+        }
+    }
+
+    fn make_one_by_one(&mut self, count: u32) -> io::Result<bool> {
+        for _ in 0..count {
+            if !self.make_detached()? {
+                return Ok(false);
+            }
+            let _ = self.pause(20);
+        }
+        Ok(true)
+    }
+
+    fn pause(&self, millis: u64) -> bool {
+        thread::sleep(&self.rt, Duration::from_millis(millis));
+        true
     }
 
     fn limit(&self, limit: usize) -> bool {
@@ -318,8 +342,7 @@ fn first_wrong_of_tries<J: Job + Carries<CallJob<Visit, H>> + Send + 'static, H:
     Ok(wrong)
 }
 
-/// Plays a scene that a busy machine may be too slow for, until it is in time. It is played on one executor, from the moment on when
-/// that has no worker.
+/// Plays a scene that a busy machine may be too slow for, until it is in time. It is played on one executor.
 pub(crate) fn play_in_time<
     J: Job + Carries<CallJob<Visit, H>> + Send + 'static,
     H: Host + Files + Abort,

@@ -1,5 +1,8 @@
-//! Jobs of a test's own, which wait: for wakes, or until they are given up.
+//! Jobs of the tests' own, which wait: for wakes, or until they are given up. All are played on one worker.
 use crate::visit::{LOOKS, comes};
+use crate::waiting::Act::{Mark, Open};
+use crate::waiting::Sight::{Drops, LosesNoWake, Steps, Wakes};
+use crate::waiting::Step::{Add, Do, See, Sweep};
 use blocking::{Executor, Host};
 use blocking_core::pool::{Job, JobNo, JobStep, WakeNote, Woke};
 use std::sync::Arc;
@@ -7,31 +10,90 @@ use std::sync::atomic::{AtomicBool, AtomicU64, Ordering};
 use std::test::Fail;
 use std::{io, thread};
 
-// What a test shares with its jobs.
+// What is done, or what has to be seen. Jobs are named by their places in the row.
+#[derive(Clone, Copy)]
+enum Step {
+    // A job is added.
+    Add(Kind),
+    Do(usize, Act),
+    See(usize, Sight),
+    // A sweep puts so many jobs back.
+    Sweep(usize),
+}
+
+// A job that waits so often, and is done then.
+#[derive(Clone, Copy)]
+struct Kind {
+    waits: u64,
+    // Whether its steps end at once, or else once it is opened.
+    is_open: bool,
+    // Whether its first step marks it.
+    marks_itself: bool,
+}
+
+#[derive(Clone, Copy)]
+enum Act {
+    // The job's steps may end.
+    Open,
+    // The job is marked.
+    Mark,
+}
+
+#[derive(Clone, Copy)]
+enum Sight {
+    // The job comes to its step of this number.
+    Steps(u64),
+    // The job is dropped before long, and has taken so many steps.
+    Drops(u64),
+    // A wake answers this.
+    Wakes(Woke),
+    // Each of so many waits is answered by one wake, which comes while the job still runs or when it is parked.
+    LosesNoWake(u64),
+}
+
+// What a test shares with its job.
 #[derive(Drop)]
 struct Track {
-    // The steps that were taken, and the jobs that were dropped.
     steps: AtomicU64,
-    drops: AtomicU64,
-    // Whether a step may end.
     is_open: AtomicBool,
     mark: AtomicBool,
+    is_dropped: AtomicBool,
 }
 
 impl Track {
     fn new(is_open: bool) -> Track {
         Track {
             steps: AtomicU64::new(0),
-            drops: AtomicU64::new(0),
             is_open: AtomicBool::new(is_open),
             mark: AtomicBool::new(false),
+            is_dropped: AtomicBool::new(false),
         }
+    }
+
+    fn act(&self, act: Act) {
+        match act {
+            Open => self.is_open.store(true, Ordering::SeqCst),
+            Mark => self.mark.store(true, Ordering::SeqCst),
+        }
+    }
+
+    fn reaches(&self, step: u64) -> bool {
+        for _ in 0..LOOKS {
+            if self.steps.load(Ordering::SeqCst) >= step {
+                return true;
+            }
+            thread::yield_now();
+        }
+        false
+    }
+
+    fn is_dropped_after(&self, steps: u64) -> bool {
+        comes(&self.is_dropped) && self.steps.load(Ordering::SeqCst) == steps
     }
 }
 
-// Waits so often, and is done then.
 struct Waiter {
-    left: u64,
+    waits: u64,
     marks_itself: bool,
     track: Arc<Track>,
 }
@@ -39,11 +101,11 @@ struct Waiter {
 impl Drop for Waiter {
     fn drop(self) {
         let Waiter {
-            left: _,
+            waits: _,
             marks_itself: _,
             track,
         } = self;
-        track.drops.fetch_add(1, Ordering::SeqCst);
+        track.is_dropped.store(true, Ordering::SeqCst);
     }
 }
 
@@ -53,14 +115,14 @@ impl Job for Waiter {
 
     fn step(&mut self, _me: JobNo) -> JobStep {
         if self.marks_itself {
-            self.track.mark.store(true, Ordering::SeqCst);
+            self.track.act(Mark);
         }
         self.track.steps.fetch_add(1, Ordering::SeqCst);
         let _ = comes(&self.track.is_open);
-        if self.left == 0 {
+        if self.waits == 0 {
             return JobStep::Done;
         }
-        self.left -= 1;
+        self.waits -= 1;
         JobStep::Waiting
     }
 
@@ -69,153 +131,208 @@ impl Job for Waiter {
     }
 }
 
-// Whether the count is reached before long.
-fn reaches(count: &AtomicU64, wanted: u64) -> bool {
-    for _ in 0..LOOKS {
-        if count.load(Ordering::SeqCst) >= wanted {
-            return true;
-        }
-        thread::yield_now();
+#[derive(Drop)]
+struct Added {
+    no: JobNo,
+    track: Arc<Track>,
+}
+
+// An executor and the jobs that were added to it.
+#[derive(Drop)]
+struct Bench<H: Host> {
+    rt: H,
+    executor: Executor<Waiter, H>,
+    jobs: Vec<Added>,
+}
+
+impl<H: Host> Bench<H> {
+    fn add(&mut self, kind: Kind) -> io::Result<bool> {
+        let track = Arc::new(self.rt.alloc(), Track::new(kind.is_open))?;
+        let job = Waiter {
+            waits: kind.waits,
+            marks_itself: kind.marks_itself,
+            track: Arc::try_clone(&track)?,
+        };
+        let Ok(no) = self.executor.add(job) else {
+            return Ok(false);
+        };
+        self.jobs.push(Added { no, track })?;
+        Ok(true)
     }
-    false
+
+    fn wake(&self, job: &Added) -> Woke {
+        self.executor.wake(WakeNote::new(job.no))
+    }
+
+    fn loses_no_wake(&self, job: &Added, waits: u64) -> bool {
+        for n in 0..waits {
+            if !job.track.reaches(n.saturating_add(1)) || self.wake(job) == Woke::Nothing {
+                return false;
+            }
+        }
+        true
+    }
+
+    fn shows(&self, job: &Added, sight: Sight) -> bool {
+        match sight {
+            Steps(step) => job.track.reaches(step),
+            Drops(steps) => job.track.is_dropped_after(steps),
+            Wakes(woke) => self.wake(job) == woke,
+            LosesNoWake(waits) => self.loses_no_wake(job, waits),
+        }
+    }
+
+    // Whether a step shows what it must.
+    fn take(&mut self, step: Step) -> io::Result<bool> {
+        match step {
+            Add(kind) => self.add(kind),
+            Do(place, act) => Ok(self.jobs.get(place).map(|job| job.track.act(act)).is_some()),
+            See(place, sight) => Ok(
+                self.jobs
+                    .get(place)
+                    .is_some_and(|job| self.shows(job, sight)),
+            ),
+            Sweep(count) => Ok(self.executor.sweep() == count),
+        }
+    }
+
+    // The place of the first step that shows something else, if there is one.
+    fn first_wrong(&mut self, steps: &[Step]) -> io::Result<Option<usize>> {
+        for (place, step) in steps.iter().enumerate() {
+            if !self.take(*step)? {
+                return Ok(Some(place));
+            }
+        }
+        Ok(None)
+    }
 }
 
-type Waiters<H> = Executor<Waiter, H>;
-
-fn new_track<H: Host>(rt: H, is_open: bool) -> io::Result<Arc<Track>> {
-    Ok(Arc::new(rt.alloc(), Track::new(is_open))?)
+fn first_wrong<H: Host>(rt: H, steps: &[Step]) -> Result<Option<usize>, Fail> {
+    let mut bench = Bench {
+        rt,
+        executor: Executor::new(rt, Some("1"))?,
+        jobs: Vec::new(rt.alloc()),
+    };
+    Ok(bench.first_wrong(steps)?)
 }
 
-fn add<H: Host>(executor: &Waiters<H>, left: u64, track: &Arc<Track>) -> Result<JobNo, Fail> {
-    Ok(executor.add(Waiter {
-        left,
-        marks_itself: false,
-        track: Arc::try_clone(track)?,
-    })?)
-}
+// Waits once, and its steps end at once.
+const WAITER: Kind = Kind {
+    waits: 1,
+    is_open: true,
+    marks_itself: false,
+};
 
-// Adds a job whose step doesn't end, and answers whether it runs. A pool of one worker has ended the jobs before it then, or
-// parked them.
-fn is_busy<H: Host>(executor: &Waiters<H>, track: &Arc<Track>) -> Result<bool, Fail> {
-    add(executor, 0, track)?;
-    Ok(reaches(&track.steps, 1))
-}
+// Waits once, and its steps end once it is opened.
+const SLOW_WAITER: Kind = Kind {
+    waits: 1,
+    is_open: false,
+    marks_itself: false,
+};
+
+// Keeps the worker busy until it is opened. Once its step runs, the jobs before it have ended or wait.
+const BUSY: Kind = Kind {
+    waits: 0,
+    is_open: false,
+    marks_itself: false,
+};
 
 const WAITS: u64 = 10_000;
 
-// Each wait is answered by one wake, which comes while the job still runs or when it is parked.
-fn loses_no_wake<H: Host>(rt: H) -> Result<bool, Fail> {
-    let executor = Executor::new(rt, Some("1"))?;
-    let job = new_track(rt, true)?;
-    let no = add(&executor, WAITS, &job)?;
-    for n in 1..=WAITS {
-        if !reaches(&job.steps, n) || executor.wake(WakeNote::new(no)) == Woke::Nothing {
-            return Ok(false);
-        }
+const ROWS: &[(&str, &[Step])] = &[
+    (
+        "no wake is lost",
+        &[
+            Add(Kind {
+                waits: WAITS,
+                is_open: true,
+                marks_itself: false,
+            }),
+            See(0, LosesNoWake(WAITS)),
+            See(0, Drops(WAITS + 1)),
+        ],
+    ),
+    (
+        "wakes answer by the job's standing",
+        &[
+            Add(SLOW_WAITER),
+            See(0, Steps(1)),
+            Add(SLOW_WAITER),
+            // The first runs, and the second is queued.
+            See(0, Wakes(Woke::Marked)),
+            See(1, Wakes(Woke::Nothing)),
+            Do(0, Open),
+            See(1, Steps(1)),
+            // The first was woken while it ran, so it is queued, and the second runs.
+            See(0, Wakes(Woke::Nothing)),
+            Do(1, Open),
+            Add(BUSY),
+            See(2, Steps(1)),
+            // The first is over, and the second is parked.
+            See(0, Drops(2)),
+            See(0, Wakes(Woke::Nothing)),
+            See(1, Wakes(Woke::Entered)),
+            See(1, Wakes(Woke::Nothing)),
+            Do(2, Open),
+            See(1, Drops(2)),
+        ],
+    ),
+    (
+        "a sweep puts marked jobs back, and they are dropped",
+        &[
+            Add(WAITER),
+            Add(WAITER),
+            Add(WAITER),
+            Add(WAITER),
+            Add(WAITER),
+            Add(WAITER),
+            Add(BUSY),
+            See(6, Steps(1)),
+            Do(0, Mark),
+            Do(1, Mark),
+            Do(2, Mark),
+            Do(3, Mark),
+            Do(4, Mark),
+            Sweep(5),
+            Sweep(0),
+            Do(6, Open),
+            See(0, Drops(1)),
+            See(1, Drops(1)),
+            See(2, Drops(1)),
+            See(3, Drops(1)),
+            See(4, Drops(1)),
+            See(5, Wakes(Woke::Entered)),
+        ],
+    ),
+    (
+        "an idle worker sweeps when its wait times out",
+        &[
+            Add(WAITER),
+            Add(BUSY),
+            See(1, Steps(1)),
+            Do(0, Mark),
+            Do(1, Open),
+            See(0, Drops(1)),
+            Sweep(0),
+        ],
+    ),
+    (
+        "a job that marks itself is dropped after that step",
+        &[
+            Add(Kind {
+                waits: WAITS,
+                is_open: true,
+                marks_itself: true,
+            }),
+            See(0, Drops(1)),
+        ],
+    ),
+];
+
+#[test]
+fn jobs_wait(rt: HostRuntime) -> Result<(), Fail> {
+    for (name, steps) in ROWS {
+        assert_eq!(rt; first_wrong(rt, steps)?, None, "{name}");
     }
-    Ok(reaches(&job.drops, 1))
-}
-
-#[test]
-fn no_wake_is_lost(rt: HostRuntime) -> Result<(), Fail> {
-    assert!(rt; loses_no_wake(rt)?);
-    Ok(())
-}
-
-// What wakes answer: of two jobs that wait once, on one worker.
-fn wakes<H: Host>(rt: H) -> Result<[Woke; 5], Fail> {
-    let executor = Executor::new(rt, Some("1"))?;
-    let (first, second) = (new_track(rt, false)?, new_track(rt, false)?);
-    let runs = add(&executor, 1, &first)?;
-    let _ = reaches(&first.steps, 1);
-    let queued = add(&executor, 1, &second)?;
-    let of_running = executor.wake(WakeNote::new(runs));
-    let of_queued = executor.wake(WakeNote::new(queued));
-    // (the first goes back to the queue, since it was woken, and the second runs)
-    first.is_open.store(true, Ordering::SeqCst);
-    let _ = reaches(&second.steps, 1);
-    let of_queued_again = executor.wake(WakeNote::new(runs));
-    second.is_open.store(true, Ordering::SeqCst);
-    let third = new_track(rt, false)?;
-    let _ = is_busy(&executor, &third)?;
-    Ok([
-        of_running,
-        of_queued,
-        of_queued_again,
-        executor.wake(WakeNote::new(runs)),
-        executor.wake(WakeNote::new(queued)),
-    ])
-}
-
-#[test]
-fn wakes_answer_by_standing(rt: HostRuntime) -> Result<(), Fail> {
-    let [
-        of_running,
-        of_queued,
-        of_queued_again,
-        of_finished,
-        of_parked,
-    ] = wakes(rt)?;
-    assert!(rt; of_running == Woke::Marked);
-    assert!(rt; of_queued == Woke::Nothing);
-    assert!(rt; of_queued_again == Woke::Nothing);
-    assert!(rt; of_finished == Woke::Nothing);
-    assert!(rt; of_parked == Woke::Entered);
-    Ok(())
-}
-
-// The counts of two sweeps in a row, while five parked jobs bear a mark and the only worker is busy.
-fn sweeps<H: Host>(rt: H) -> Result<(usize, usize, bool), Fail> {
-    let executor = Executor::new(rt, Some("1"))?;
-    let (parked, busy) = (new_track(rt, true)?, new_track(rt, false)?);
-    for _ in 0..5 {
-        add(&executor, 1, &parked)?;
-    }
-    let is_busy = is_busy(&executor, &busy)?;
-    parked.mark.store(true, Ordering::SeqCst);
-    let counts = (executor.sweep(), executor.sweep());
-    busy.is_open.store(true, Ordering::SeqCst);
-    Ok((counts.0, counts.1, is_busy && reaches(&parked.drops, 5)))
-}
-
-#[test]
-fn sweep_puts_marked_jobs_back(rt: HostRuntime) -> Result<(), Fail> {
-    assert_eq!(rt; sweeps(rt)?, (5, 0, true));
-    Ok(())
-}
-
-// The worker waits, sweeps when its wait times out, and drops the job.
-fn idle_worker_sweeps<H: Host>(rt: H) -> Result<bool, Fail> {
-    let executor = Executor::new(rt, Some("1"))?;
-    let (parked, busy) = (new_track(rt, true)?, new_track(rt, false)?);
-    add(&executor, 1, &parked)?;
-    let is_busy = is_busy(&executor, &busy)?;
-    parked.mark.store(true, Ordering::SeqCst);
-    busy.is_open.store(true, Ordering::SeqCst);
-    Ok(is_busy && reaches(&parked.drops, 1) && executor.sweep() == 0)
-}
-
-#[test]
-fn idle_worker_drops_a_marked_job(rt: HostRuntime) -> Result<(), Fail> {
-    assert!(rt; idle_worker_sweeps(rt)?);
-    Ok(())
-}
-
-// How many steps a job takes that bears a mark from its first step on.
-fn steps_of_one_that_marks_itself<H: Host>(rt: H) -> Result<Option<u64>, Fail> {
-    let executor = Executor::new(rt, Some("1"))?;
-    let job = new_track(rt, true)?;
-    executor.add(Waiter {
-        left: WAITS,
-        marks_itself: true,
-        track: Arc::try_clone(&job)?,
-    })?;
-    let is_dropped = reaches(&job.drops, 1);
-    Ok(is_dropped.then_some(job.steps.load(Ordering::SeqCst)))
-}
-
-#[test]
-fn job_that_marks_itself_is_dropped(rt: HostRuntime) -> Result<(), Fail> {
-    assert_eq!(rt; steps_of_one_that_marks_itself(rt)?, Some(1));
     Ok(())
 }
