@@ -58,8 +58,6 @@ pub(crate) enum Act {
 pub(crate) enum Sight {
     /// The call comes to its stop.
     Stops,
-    /// The call was made.
-    Made,
     /// The call wasn't made.
     Unmade,
     /// The call was dropped unmade, or its answer was dropped.
@@ -140,7 +138,6 @@ impl<H: Host> Begun<H> {
     fn shows(&mut self, sight: Sight, number: usize) -> bool {
         match sight {
             Sight::Stops => self.track.stops(),
-            Sight::Made => self.track.is_made(),
             Sight::Unmade => !self.track.is_made(),
             Sight::Gone => self.track.is_gone(),
             Sight::There => !self.track.is_gone(),
@@ -290,7 +287,7 @@ impl<J: Job + Carries<CallJob<Visit, H>>, H: Host + Files> Scene<J, H> {
 pub(crate) type Row = (&'static str, &'static [Step]);
 
 // How often a scene is played that has to be in time.
-const TRIES: u32 = 8;
+const TRIES: u32 = 6;
 
 // A scene that has just begun. The setting is the executor's.
 fn new_scene<J: Job + Carries<CallJob<Visit, H>> + Send + 'static, H: Host + Files>(

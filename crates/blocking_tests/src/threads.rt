@@ -10,7 +10,7 @@ const WORKER: &str = "blocking-";
 const OTHERS: usize = 2;
 
 // How often the workers are counted, with a millisecond between, before a test says that they don't come to a number.
-const COUNTS: u32 = 3_000;
+const COUNTS: u32 = 2_000;
 
 /// What a count of workers needs of the system.
 pub(crate) trait System: Files + AllocGlobal + Clock + Clone + Drop {}

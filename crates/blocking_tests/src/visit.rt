@@ -4,8 +4,8 @@ use std::sync::Arc;
 use std::sync::atomic::{AtomicBool, Ordering};
 use std::thread;
 
-/// How often a test looks for what has to come, before it says that it doesn't: some seconds and more.
-pub(crate) const LOOKS: u32 = 20_000_000;
+/// How often a test looks for what has to come, before it says that it doesn't: for some seconds, and longer beside other work.
+pub(crate) const LOOKS: u32 = 10_000_000;
 
 /// Whether the flag is set before long.
 pub(crate) fn comes(flag: &AtomicBool) -> bool {
