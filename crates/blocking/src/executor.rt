@@ -53,7 +53,7 @@ impl<J: Job + Send + 'static, H: Runtime + Threads + Send + Sync + 'static> Exec
         let Ok(theirs) = executor.try_clone() else {
             return Err(Refusal::Memory);
         };
-        let Ok(name) = "blocking-spawner".to_string(alloc) else {
+        let Ok(name) = "pool-spawner".to_string(alloc) else {
             return Err(Refusal::Memory);
         };
         let spawned = Builder::new().name(name).spawn(

@@ -8,8 +8,6 @@ pub mod job;
 mod runtime;
 mod slot;
 pub mod task;
-#[cfg(test)]
-mod tests;
 
 pub use executor::{Executor, set_max_blocking_threads};
 pub use job::CallJob;

@@ -8,7 +8,9 @@ use std::marker::Model;
 use std::sync::atomic::{AtomicBool, Ordering};
 use std::sync::{Mutex, Wait};
 
-// The owner's waker, or none where none could be registered.
+// The owner's waker, or none where none could be registered. It may be let go where a section answered it, called or not: a
+// waker of the kit wakes its task when it is dropped (its `wake` is its drop), as the slot asks of its `W`. At worst an owner is
+// woken once too often.
 pub(crate) type OwnerWaker = Option<Waker>;
 
 #[derive(Drop)]

@@ -29,6 +29,9 @@ enum Content<T: Drop> {
 /// The place where a job leaves its value for its owner, with a seat for the owner's waker.
 ///
 /// The value is put once and polled once. The owner may abandon the slot, and the job may give it up.
+///
+/// A waker that a call answers has left its seat, and nothing but its caller can call it. Its type lets it be dropped instead: that
+/// no wake is lost so is owed by `W`, whose drop has to wake too.
 #[derive(Debug, Drop)]
 pub struct Slot<T: Drop, W: Drop> {
     content: Content<T>,

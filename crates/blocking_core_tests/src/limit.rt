@@ -1,5 +1,5 @@
-//! The limits that texts name.
-use blocking_core::limit::max_threads;
+//! The limits that texts name, and the variable that holds such a text.
+use blocking_core::limit::{MAX_THREADS_ENV, max_threads};
 
 #[test]
 fn texts_of_limits(rt: HostRuntime) {
@@ -21,4 +21,9 @@ fn texts_of_limits(rt: HostRuntime) {
         assert_eq!(rt; max_threads(Some(text)), limit, "of {text:?}");
     }
     assert_eq!(rt; max_threads(None), 500);
+}
+
+#[test]
+fn variable_has_its_name(rt: HostRuntime) {
+    assert_eq!(rt; MAX_THREADS_ENV, "BLOCKING_MAX_THREADS");
 }

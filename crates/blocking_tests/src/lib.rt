@@ -1,0 +1,22 @@
+//! The tests of `blocking`: calls and jobs on real threads. There is nothing here but tests, since a crate that has tests is proved a
+//! second time with them.
+#![tactic(auto)]
+
+#[cfg(test)]
+mod calls;
+#[cfg(test)]
+mod leaving;
+#[cfg(test)]
+mod limits;
+#[cfg(test)]
+mod locks;
+#[cfg(test)]
+mod planned;
+#[cfg(test)]
+mod scene;
+#[cfg(test)]
+mod threads;
+#[cfg(test)]
+mod visit;
+#[cfg(test)]
+mod waiting;

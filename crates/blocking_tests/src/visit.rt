@@ -1,0 +1,143 @@
+//! A call that stops where a test wants it to, and lets the test see how far it came.
+use blocking_core::task::Call;
+use std::sync::Arc;
+use std::sync::atomic::{AtomicBool, Ordering};
+use std::thread;
+
+/// How often a test looks for what has to come, before it says that it doesn't: for some seconds, and longer beside other work.
+pub(crate) const LOOKS: u32 = 10_000_000;
+
+/// Whether the flag is set before long.
+pub(crate) fn comes(flag: &AtomicBool) -> bool {
+    for _ in 0..LOOKS {
+        if flag.load(Ordering::SeqCst) {
+            return true;
+        }
+        thread::yield_now();
+    }
+    false
+}
+
+/// Where a call stops until it is let go on.
+#[derive(Clone, Copy)]
+pub(crate) enum Stop {
+    /// It stops nowhere.
+    Nowhere,
+    /// While it is made.
+    InCall,
+    /// While it is dropped, since it wasn't made.
+    InDrop,
+    /// While its answer is dropped.
+    InAnswersDrop,
+}
+
+/// What a test and its call share.
+#[derive(Drop)]
+pub(crate) struct Track {
+    number: usize,
+    stop: Stop,
+    has_stopped: AtomicBool,
+    may_go_on: AtomicBool,
+    is_made: AtomicBool,
+    is_gone: AtomicBool,
+}
+
+impl Track {
+    pub(crate) fn new(number: usize, stop: Stop) -> Track {
+        Track {
+            number,
+            stop,
+            has_stopped: AtomicBool::new(false),
+            may_go_on: AtomicBool::new(false),
+            is_made: AtomicBool::new(false),
+            is_gone: AtomicBool::new(false),
+        }
+    }
+
+    fn stop(&self) {
+        self.has_stopped.store(true, Ordering::SeqCst);
+        let _ = comes(&self.may_go_on);
+    }
+
+    pub(crate) fn go_on(&self) {
+        self.may_go_on.store(true, Ordering::SeqCst);
+    }
+
+    /// Whether the call comes to its stop.
+    pub(crate) fn stops(&self) -> bool {
+        comes(&self.has_stopped)
+    }
+
+    /// Whether the call was made.
+    pub(crate) fn is_made(&self) -> bool {
+        self.is_made.load(Ordering::SeqCst)
+    }
+
+    /// Whether the call was dropped unmade, or else its answer was.
+    pub(crate) fn is_gone(&self) -> bool {
+        self.is_gone.load(Ordering::SeqCst)
+    }
+
+    /// Whether that comes.
+    pub(crate) fn goes(&self) -> bool {
+        comes(&self.is_gone)
+    }
+}
+
+/// The call.
+pub(crate) struct Visit {
+    track: Arc<Track>,
+}
+
+impl Visit {
+    pub(crate) fn new(track: Arc<Track>) -> Visit {
+        Visit { track }
+    }
+}
+
+impl Call for Visit {
+    type Out = Answer;
+
+    ghost may_give = { λ _. Unit {0} };
+
+    fn call(self) -> Answer {
+        let Visit { track } = self;
+        track.is_made.store(true, Ordering::SeqCst);
+        if let Stop::InCall = track.stop {
+            track.stop();
+        }
+        Answer { track }
+    }
+}
+
+impl Drop for Visit {
+    fn drop(self) {
+        let Visit { track } = self;
+        if let Stop::InDrop = track.stop {
+            track.stop();
+        }
+        track.is_gone.store(true, Ordering::SeqCst);
+    }
+}
+
+/// What the call answers.
+pub(crate) struct Answer {
+    track: Arc<Track>,
+}
+
+impl Answer {
+    /// The number of its call.
+    pub(crate) fn number(&self) -> usize {
+        self.track.number
+    }
+}
+
+impl Drop for Answer {
+    fn drop(self) {
+        let Answer { track } = self;
+        if let Stop::InAnswersDrop = track.stop {
+            track.stop();
+        }
+        track.is_gone.store(true, Ordering::SeqCst);
+    }
+}
