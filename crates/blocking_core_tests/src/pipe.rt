@@ -16,7 +16,7 @@ use blocking_core::pipe::{
 use blocking_core::pool::JobNo;
 use std::alloc::AllocError;
 
-const BYTES_ARE_DRAINED_AND_FILLED: &[Row] = &[
+const BYTES: &[Row] = &[
     Row {
         name: "four bytes are drained by two",
         capacity: 4,
@@ -68,7 +68,12 @@ const BYTES_ARE_DRAINED_AND_FILLED: &[Row] = &[
     },
 ];
 
-const ITEMS_ARE_SENT_AND_RECEIVED: &[Row] = &[
+#[test]
+fn bytes_are_drained_and_filled(rt: HostRuntime) {
+    play(&rt, BYTES);
+}
+
+const ITEMS: &[Row] = &[
     Row {
         name: "one item passes at a time",
         capacity: 1,
@@ -102,8 +107,13 @@ const ITEMS_ARE_SENT_AND_RECEIVED: &[Row] = &[
     },
 ];
 
+#[test]
+fn items_are_sent_and_received(rt: HostRuntime) {
+    play(&rt, ITEMS);
+}
+
 // All calls that take no memory. Once the bench stands, `rt try --test --fail-alloc N` finds no further piece to refuse.
-const PIPE_TAKES_ONE_PIECE_OF_MEMORY: &[Row] = &[Row {
+const ONE_PIECE: &[Row] = &[Row {
     name: "one piece of memory",
     capacity: 2,
     steps: &[
@@ -125,7 +135,12 @@ const PIPE_TAKES_ONE_PIECE_OF_MEMORY: &[Row] = &[Row {
     ],
 }];
 
-const DEFAULT_PIPE_OF_BYTES_HAS_ROOM_FOR_EIGHT_MEBIBYTES: &[Row] = &[Row {
+#[test]
+fn pipe_takes_one_piece_of_memory(rt: HostRuntime) {
+    play(&rt, ONE_PIECE);
+}
+
+const EIGHT_MEBIBYTES: &[Row] = &[Row {
     name: "a pipe of bytes where nobody says how many",
     capacity: DEFAULT_BYTES,
     steps: &[
@@ -134,6 +149,11 @@ const DEFAULT_PIPE_OF_BYTES_HAS_ROOM_FOR_EIGHT_MEBIBYTES: &[Row] = &[Row {
         (Step::Room(1), Found(Room::Free(8_388_605))),
     ],
 }];
+
+#[test]
+fn default_pipe_of_bytes_has_room_for_eight_mebibytes(rt: HostRuntime) {
+    play(&rt, EIGHT_MEBIBYTES);
+}
 
 // The first two rounds: from then on four bytes are inside before each.
 const FIRST_ROUNDS: &[Line] = &[
@@ -146,21 +166,6 @@ const FIRST_ROUNDS: &[Line] = &[
     (Peek(1, 7), Sees(3, 7)),
     (Drain(1, 3), Got(3, 3, None, Some(1))),
 ];
-
-#[test]
-fn bytes_are_drained_and_filled(rt: HostRuntime) {
-    play(&rt, BYTES_ARE_DRAINED_AND_FILLED);
-}
-
-#[test]
-fn items_are_sent_and_received(rt: HostRuntime) {
-    play(&rt, ITEMS_ARE_SENT_AND_RECEIVED);
-}
-
-#[test]
-fn pipe_takes_one_piece_of_memory(rt: HostRuntime) {
-    play(&rt, PIPE_TAKES_ONE_PIECE_OF_MEMORY);
-}
 
 // A round that finds four bytes inside, from this one on.
 fn later_round(next: u8) -> [Line; 4] {

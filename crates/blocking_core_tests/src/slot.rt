@@ -164,7 +164,7 @@ const AS_OVER: [Line; 2] = [
     (Put(9), Back(Some(9), None), Abandoned(true), None),
 ];
 
-const VALUE_PASSES_ONCE: &[Row] = &[
+const ONCE: &[Row] = &[
     Row {
         name: "a value is put and polled once",
         begin: &[],
@@ -210,7 +210,12 @@ const VALUE_PASSES_ONCE: &[Row] = &[
     },
 ];
 
-const PUT_BY_STANDING: &[Row] = &[
+#[test]
+fn value_passes_once(rt: HostRuntime) {
+    play(&rt, ONCE);
+}
+
+const PUTS: &[Row] = &[
     Row {
         name: "a put where it is empty",
         begin: &EMPTY,
@@ -260,8 +265,13 @@ const PUT_BY_STANDING: &[Row] = &[
     },
 ];
 
+#[test]
+fn put_by_standing(rt: HostRuntime) {
+    play(&rt, PUTS);
+}
+
 // (twice, since the second changes nothing)
-const GIVE_UP_BY_STANDING: &[Row] = &[
+const GIVE_UPS: &[Row] = &[
     Row {
         name: "a job gives up where it is empty",
         begin: &EMPTY,
@@ -315,8 +325,13 @@ const GIVE_UP_BY_STANDING: &[Row] = &[
     },
 ];
 
+#[test]
+fn give_up_by_standing(rt: HostRuntime) {
+    play(&rt, GIVE_UPS);
+}
+
 // (twice, since the second changes nothing)
-const ABANDON_BY_STANDING: &[Row] = &[
+const ABANDONS: &[Row] = &[
     Row {
         name: "an owner leaves where it is empty",
         begin: &EMPTY,
@@ -369,7 +384,12 @@ const ABANDON_BY_STANDING: &[Row] = &[
     },
 ];
 
-const POLL_BY_STANDING: &[Row] = &[
+#[test]
+fn abandon_by_standing(rt: HostRuntime) {
+    play(&rt, ABANDONS);
+}
+
+const POLLS: &[Row] = &[
     Row {
         name: "a poll where it is empty",
         begin: &EMPTY,
@@ -417,7 +437,12 @@ const POLL_BY_STANDING: &[Row] = &[
     },
 ];
 
-const LOOK_BY_STANDING: &[Row] = &[
+#[test]
+fn poll_by_standing(rt: HostRuntime) {
+    play(&rt, POLLS);
+}
+
+const LOOKS: &[Row] = &[
     Row {
         name: "a look where it is empty",
         begin: &EMPTY,
@@ -466,31 +491,6 @@ const LOOK_BY_STANDING: &[Row] = &[
 ];
 
 #[test]
-fn value_passes_once(rt: HostRuntime) {
-    play(&rt, VALUE_PASSES_ONCE);
-}
-
-#[test]
-fn put_by_standing(rt: HostRuntime) {
-    play(&rt, PUT_BY_STANDING);
-}
-
-#[test]
-fn give_up_by_standing(rt: HostRuntime) {
-    play(&rt, GIVE_UP_BY_STANDING);
-}
-
-#[test]
-fn abandon_by_standing(rt: HostRuntime) {
-    play(&rt, ABANDON_BY_STANDING);
-}
-
-#[test]
-fn poll_by_standing(rt: HostRuntime) {
-    play(&rt, POLL_BY_STANDING);
-}
-
-#[test]
 fn look_by_standing(rt: HostRuntime) {
-    play(&rt, LOOK_BY_STANDING);
+    play(&rt, LOOKS);
 }

@@ -102,6 +102,19 @@ const ROWS: &[Row] = &[
         starts: &[1],
     },
     Row {
+        name: "a running job is cancelled",
+        pool: LIMIT_1,
+        begin: &READY,
+        steps: &[
+            (Add(1), Accepted(2)),
+            (Worker(1, Take), Runs(1)),
+            (Job(2, Cancel), Woke(Marked)),
+            (Worker(1, End(Waiting)), Drops(1)),
+            (Worker(1, End(Dropped)), Free),
+        ],
+        starts: &[1],
+    },
+    Row {
         name: "a value is lent while its job is queued or parked",
         pool: LIMIT_1,
         begin: &READY,
