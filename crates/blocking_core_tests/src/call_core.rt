@@ -1,61 +1,70 @@
 //! The decisions of a call's job.
+use crate::stop::stop;
 use blocking_core::job::{Action, Answer, CallCore};
-use std::process::Abort;
 
 // Answers that a core takes from its beginning on, and the action that is next after each.
-#[derive(Drop)]
+#[derive(Clone, Copy)]
 struct Row {
     name: &'static str,
     answers: &'static [(Answer, Action)],
 }
 
-fn play(rt: &impl Abort, row: &Row) {
-    let name = row.name;
+const ROWS: &[Row] = &[
+    Row {
+        name: "an owner who waits is woken",
+        answers: &[
+            (Answer::Returned, Action::Finish),
+            (Answer::Put { woke: true }, Action::Deliver),
+            (Answer::Delivered, Action::Done),
+            (Answer::Returned, Action::Done),
+        ],
+    },
+    Row {
+        name: "where nobody waits nobody is woken",
+        answers: &[
+            (Answer::Returned, Action::Finish),
+            (Answer::Put { woke: false }, Action::Done),
+            (Answer::Put { woke: true }, Action::Done),
+            (Answer::Delivered, Action::Done),
+        ],
+    },
+    Row {
+        name: "answers of another kind change nothing",
+        answers: &[
+            (Answer::Delivered, Action::Call),
+            (Answer::Put { woke: true }, Action::Call),
+            (Answer::Put { woke: false }, Action::Call),
+            (Answer::Returned, Action::Finish),
+            (Answer::Returned, Action::Finish),
+            (Answer::Delivered, Action::Finish),
+            (Answer::Put { woke: true }, Action::Deliver),
+            (Answer::Returned, Action::Deliver),
+            (Answer::Put { woke: false }, Action::Deliver),
+            (Answer::Delivered, Action::Done),
+        ],
+    },
+];
+
+// The place of the first answer after which another action is next.
+fn first_wrong(answers: &[(Answer, Action)]) -> Option<usize> {
     let mut core = CallCore::new();
-    assert_eq!(rt; core.next(), Action::Call, "{name}");
-    for (step, (answer, next)) in row.answers.iter().enumerate() {
+    for (place, (answer, next)) in answers.iter().enumerate() {
         core.answer(*answer);
-        assert_eq!(rt; core.next(), *next, "{name}: step {step}: {answer:?}");
+        if core.next() != *next {
+            return Some(place);
+        }
     }
+    None
 }
 
 #[test]
 fn call_is_made_finished_and_delivered(rt: HostRuntime) {
-    for row in [
-        Row {
-            name: "an owner who waits is woken",
-            answers: &[
-                (Answer::Returned, Action::Finish),
-                (Answer::Put { woke: true }, Action::Deliver),
-                (Answer::Delivered, Action::Done),
-                (Answer::Returned, Action::Done),
-            ],
-        },
-        Row {
-            name: "where nobody waits nobody is woken",
-            answers: &[
-                (Answer::Returned, Action::Finish),
-                (Answer::Put { woke: false }, Action::Done),
-                (Answer::Put { woke: true }, Action::Done),
-                (Answer::Delivered, Action::Done),
-            ],
-        },
-        Row {
-            name: "answers of another kind change nothing",
-            answers: &[
-                (Answer::Delivered, Action::Call),
-                (Answer::Put { woke: true }, Action::Call),
-                (Answer::Put { woke: false }, Action::Call),
-                (Answer::Returned, Action::Finish),
-                (Answer::Returned, Action::Finish),
-                (Answer::Delivered, Action::Finish),
-                (Answer::Put { woke: true }, Action::Deliver),
-                (Answer::Returned, Action::Deliver),
-                (Answer::Put { woke: false }, Action::Deliver),
-                (Answer::Delivered, Action::Done),
-            ],
-        },
-    ] {
-        play(&rt, &row);
+    if CallCore::new().next() != Action::Call {
+        stop(&rt, "before any answer", 0);
+    }
+    for row in ROWS {
+        if let Some(line) = first_wrong(row.answers) {
+            stop(&rt, row.name, line);
+        }
     }
 }

@@ -12,3 +12,5 @@ mod pipe;
 mod pool;
 #[cfg(test)]
 mod slot;
+#[cfg(test)]
+mod stop;

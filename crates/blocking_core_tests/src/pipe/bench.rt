@@ -1,66 +1,70 @@
 //! The player of the pipe's rows. It promises nothing: what its helpers need is tested where they run.
+use crate::stop::stop;
 use blocking_core::pipe::{Answered, Drained, Filled, Peeked, Pipe, Put, Received, Room, Sending};
 use blocking_core::pool::{Job, JobNo, JobStep, Pool, StartRefused, Starter, WakeNote};
-use std::alloc::AllocGlobal;
+use std::alloc::{AllocGlobal, Global};
 use std::process::Abort;
 
-/// How many items a peek or a drain asks for at most.
-pub(super) const PIECE: usize = 7;
+// How many items a peek or a drain asks for at most.
+const PIECE: usize = 7;
 
-/// What stands in a piece before a peek or a drain.
-pub(super) const BLANK: u8 = b'.';
+// What stands in a piece before a peek or a drain.
+const BLANK: u8 = b'.';
 
-/// One call of a pipe. The job is named by its serial, and the owner's waker is a number.
-#[derive(Clone, Copy, Debug)]
-pub(super) enum Step<'a> {
-    /// The job puts items.
-    Put(&'a [u8]),
+/// One call of a pipe. The job is named by its serial, and the owner's waker is a number. Bytes follow one another: they are named
+/// by the first and by how many they are.
+#[derive(Clone, Copy)]
+pub(super) enum Step {
+    /// The job puts bytes.
+    Put(u8, usize),
     /// The job looks for room.
     Room(u64),
-    /// The job sends an item.
+    /// The job sends a byte.
     Send(u64, u8),
-    /// The job looks at so many items.
+    /// The job looks at so many bytes.
     Peek(u64, usize),
-    /// The job lets so many items go.
+    /// The job lets so many bytes go.
     Consume(usize),
     CloseJob,
-    /// The owner drains so many items.
+    /// The owner drains so many bytes.
     Drain(u8, usize),
-    /// The owner fills items in.
-    Fill(u8, &'a [u8]),
-    /// The owner takes an item.
+    /// The owner fills bytes in.
+    Fill(u8, u8, usize),
+    /// The owner takes a byte.
     Receive(u8),
     CloseOwner,
     /// The owner leaves its seat.
     Unseat,
-    /// How many items are inside?
+    /// How many bytes are inside?
     Len,
     /// How many more fit?
     Free,
 }
 
 /// What a call shows.
-#[derive(Clone, Copy, Debug, PartialEq, Eq)]
+#[derive(Clone, Copy, PartialEq, Eq)]
 pub(super) enum Shown {
-    /// All items are inside, or the item is, and this waker is due.
+    /// All bytes are inside, and this waker is due.
     In(Option<u8>),
     /// Nothing was taken, since the owner is gone.
     Lost,
     /// What a look for room finds.
     Found(Room),
-    /// The job is seated, and the item came back.
+    /// The job is seated, and the byte came back.
     Parked(u8),
-    /// The owner is gone, and the item came back.
+    /// The owner is gone, and the byte came back.
     Shut(u8),
-    /// What a peek finds, and the piece after it.
-    Peeked(Peeked, [u8; PIECE]),
+    /// A peek finds these bytes, and only these stand in the piece after it.
+    Sees(u8, usize),
+    /// A peek finds no bytes, and nothing stands in the piece after it.
+    SeesNone(Peeked),
     /// This waker left the seat, and is due.
     Waker(Option<u8>),
-    /// So many items, the piece after it, the serial of the job that is due, and the waker that is left over.
-    Got(usize, [u8; PIECE], Option<u64>, Option<u8>),
-    /// So many items went in; the serial and the waker likewise.
+    /// These bytes alone stand in the piece; the serial of the job that is due, and the waker that is left over.
+    Got(u8, usize, Option<u64>, Option<u8>),
+    /// So many bytes went in; the serial and the waker likewise.
     Took(usize, Option<u64>, Option<u8>),
-    /// This item; the serial and the waker likewise.
+    /// This byte; the serial and the waker likewise.
     Item(u8, Option<u64>, Option<u8>),
     /// There is nothing to wait for, and this waker is left over.
     Over(Option<u8>),
@@ -70,14 +74,19 @@ pub(super) enum Shown {
     Due(Option<u64>),
     /// So many.
     Are(usize),
+    /// The row names a job that isn't there, or more bytes than the call or a piece has room for; or other bytes stand in the piece.
+    Misplaced,
 }
 
+/// A step, and what it has to show.
+pub(super) type Line = (Step, Shown);
+
 /// A row of a pipe.
-#[derive(Drop)]
-pub(super) struct Row<'a> {
-    pub(super) name: &'a str,
+#[derive(Clone, Copy)]
+pub(super) struct Row {
+    pub(super) name: &'static str,
     pub(super) capacity: usize,
-    pub(super) steps: &'a [(Step<'a>, Shown)],
+    pub(super) steps: &'static [Line],
 }
 
 // A job that does nothing.
@@ -113,48 +122,80 @@ impl Starter for Starts {
 /// A pipe, and a pool whose jobs use it: their notes are spent there.
 #[derive(Drop)]
 pub(super) struct Bench {
-    pub(super) pipe: Pipe<u8, u8>,
+    pipe: Pipe<u8, u8>,
     pool: Pool<Idle>,
     jobs: Vec<JobNo>,
 }
 
-/// Plays a row from its beginning on, and tells where it shows something else.
-pub(super) fn play<R: AllocGlobal + Abort>(rt: &R, row: &Row) {
-    let mut bench = Bench::new(rt, row.capacity);
-    let name = row.name;
-    for (place, (step, shown)) in row.steps.iter().enumerate() {
-        let seen = bench.take_step(rt, *step);
-        assert_eq!(rt; seen, *shown, "{name}: step {place}: {step:?}");
+/// Plays rows, each from its beginning on, and tells where one shows something else.
+pub(super) fn play<R: AllocGlobal + Abort>(rt: &R, rows: &[Row]) {
+    for row in rows {
+        if let Some(line) = first_wrong_of(rt.alloc(), row) {
+            stop(rt, row.name, line);
+        }
     }
 }
 
+// The place of the first line that shows something else: the end, where there was no memory for the bench.
+fn first_wrong_of(alloc: Global, row: &Row) -> Option<usize> {
+    match Bench::new(alloc, row.capacity) {
+        Some(mut bench) => bench.first_wrong(row.steps),
+        None => Some(row.steps.len()),
+    }
+}
+
+// A piece in which these bytes stand, if it has room for them.
+fn piece_of(first: u8, count: usize) -> [u8; PIECE] {
+    let mut piece = [BLANK; PIECE];
+    let mut byte = first;
+    for place in 0..count.min(PIECE) {
+        piece[place] = byte;
+        byte = byte.wrapping_add(1);
+    }
+    piece
+}
+
+// Adds six jobs, and tells their numbers.
+fn add_jobs(alloc: Global, pool: &mut Pool<Idle>) -> Option<Vec<JobNo>> {
+    let mut jobs = Vec::new(alloc);
+    for _ in 0..6 {
+        let no = pool.add(Idle, &mut Starts).ok()?;
+        jobs.push(no).ok()?;
+    }
+    Some(jobs)
+}
+
 impl Bench {
-    pub(super) fn new<R: AllocGlobal + Abort>(rt: &R, capacity: usize) -> Bench {
-        let mut pool = Pool::new(rt.alloc(), None);
-        let mut jobs = Vec::new(rt.alloc());
-        for _ in 0..6 {
-            match pool.add(Idle, &mut Starts) {
-                Ok(no) => jobs.push(no).expect(rt, "memory"),
-                Err(_) => panic!(rt; "a job was refused"),
-            }
+    pub(super) fn new(alloc: Global, capacity: usize) -> Option<Bench> {
+        if capacity == 0 {
+            return None;
         }
-        assert!(rt; capacity > 0);
-        let Ok(pipe) = Pipe::new(rt.alloc(), capacity) else {
-            panic!(rt; "no memory for {capacity}")
-        };
-        Bench { pipe, pool, jobs }
+        let pipe = Pipe::new(alloc, capacity).ok()?;
+        let mut pool = Pool::new(alloc, None);
+        let jobs = add_jobs(alloc, &mut pool)?;
+        Some(Bench { pipe, pool, jobs })
     }
 
-    fn take_step(&mut self, rt: &impl Abort, step: Step) -> Shown {
+    /// Takes the steps of these lines, and answers the place of the first that shows something else than stands beside it.
+    pub(super) fn first_wrong(&mut self, lines: &[Line]) -> Option<usize> {
+        for (place, (step, shown)) in lines.iter().enumerate() {
+            if self.take_step(*step) != *shown {
+                return Some(place);
+            }
+        }
+        None
+    }
+
+    fn take_step(&mut self, step: Step) -> Shown {
         match step {
-            Step::Put(items) => self.put(rt, items),
-            Step::Room(job) => self.room(rt, job),
-            Step::Send(job, item) => self.send(rt, job, item),
-            Step::Peek(job, count) => self.peek(rt, job, count),
-            Step::Consume(count) => self.consume(rt, count),
+            Step::Put(first, count) => self.put(first, count),
+            Step::Room(job) => self.room(job),
+            Step::Send(job, byte) => self.send(job, byte),
+            Step::Peek(job, count) => self.peek(job, count),
+            Step::Consume(count) => self.consume(count),
             Step::CloseJob => Shown::Waker(self.pipe.close_job()),
-            Step::Drain(waker, count) => self.drain(rt, waker, count),
-            Step::Fill(waker, items) => self.fill(rt, waker, items),
+            Step::Drain(waker, count) => self.drain(waker, count),
+            Step::Fill(waker, first, count) => self.fill(waker, first, count),
             Step::Receive(waker) => self.receive(waker),
             Step::CloseOwner => self.close_owner(),
             Step::Unseat => Shown::Waker(self.pipe.unseat_owner()),
@@ -164,13 +205,13 @@ impl Bench {
     }
 
     /// The number of the job of this serial.
-    pub(super) fn job(&self, rt: &impl Abort, serial: u64) -> JobNo {
+    pub(super) fn job(&self, serial: u64) -> Option<JobNo> {
         for no in self.jobs.iter() {
             if no.serial() == serial {
-                return *no;
+                return Some(*no);
             }
         }
-        panic!(rt; "no job has the serial {serial}")
+        None
     }
 
     /// Spends a note, and tells the serial of its job.
@@ -181,55 +222,85 @@ impl Bench {
         Some(serial)
     }
 
-    fn room(&mut self, rt: &impl Abort, job: u64) -> Shown {
-        let no = self.job(rt, job);
-        Shown::Found(self.pipe.room_or_seat(no))
+    fn room(&mut self, job: u64) -> Shown {
+        match self.job(job) {
+            Some(no) => Shown::Found(self.pipe.room_or_seat(no)),
+            None => Shown::Misplaced,
+        }
     }
 
-    fn put(&mut self, rt: &impl Abort, items: &[u8]) -> Shown {
-        assert!(rt; items.len() <= self.pipe.room());
-        match self.pipe.put(items) {
+    fn put(&mut self, first: u8, count: usize) -> Shown {
+        if count > PIECE || count > self.pipe.room() {
+            return Shown::Misplaced;
+        }
+        match self.pipe.put(&piece_of(first, count)[..count]) {
             Put::In(waker) => Shown::In(waker),
             Put::Lost => Shown::Lost,
         }
     }
 
-    fn send(&mut self, rt: &impl Abort, job: u64, item: u8) -> Shown {
-        let no = self.job(rt, job);
-        match self.pipe.send(no, item) {
+    fn send(&mut self, job: u64, byte: u8) -> Shown {
+        let Some(no) = self.job(job) else {
+            return Shown::Misplaced;
+        };
+        match self.pipe.send(no, byte) {
             Sending::Sent(waker) => Shown::In(waker),
-            Sending::Parked(item) => Shown::Parked(item),
-            Sending::Shut(item) => Shown::Shut(item),
+            Sending::Parked(byte) => Shown::Parked(byte),
+            Sending::Shut(byte) => Shown::Shut(byte),
         }
     }
 
-    pub(super) fn peek(&mut self, rt: &impl Abort, job: u64, count: usize) -> Shown {
-        let no = self.job(rt, job);
+    fn peek(&mut self, job: u64, count: usize) -> Shown {
+        let Some(no) = self.job(job) else {
+            return Shown::Misplaced;
+        };
+        if count == 0 || count > PIECE {
+            return Shown::Misplaced;
+        }
         let mut piece = [BLANK; PIECE];
-        assert!(rt; 0 < count && count <= PIECE);
         let peeked = self.pipe.peek_or_seat(no, &mut piece[..count]);
-        Shown::Peeked(peeked, piece)
+        let (inside, shown) = match peeked {
+            Peeked::Some(inside) => (inside, Shown::Sees(piece[0], inside)),
+            Peeked::Parked | Peeked::Drained => (0, Shown::SeesNone(peeked)),
+        };
+        if piece != piece_of(piece[0], inside) {
+            return Shown::Misplaced;
+        }
+        shown
     }
 
-    fn consume(&mut self, rt: &impl Abort, count: usize) -> Shown {
-        assert!(rt; count <= self.pipe.len());
+    fn consume(&mut self, count: usize) -> Shown {
+        if count > self.pipe.len() {
+            return Shown::Misplaced;
+        }
         Shown::Waker(self.pipe.consume(count))
     }
 
-    pub(super) fn drain(&mut self, rt: &impl Abort, waker: u8, count: usize) -> Shown {
+    fn drain(&mut self, waker: u8, count: usize) -> Shown {
+        if count == 0 || count > PIECE {
+            return Shown::Misplaced;
+        }
         let mut piece = [BLANK; PIECE];
-        assert!(rt; 0 < count && count <= PIECE);
         let Answered { answer, spare } = self.pipe.drain_or_seat(waker, &mut piece[..count]);
         match answer {
-            Drained::Got(count, note) => Shown::Got(count, piece, self.spend(note), spare),
+            Drained::Got(count, note) => {
+                let due = self.spend(note);
+                if piece != piece_of(piece[0], count) {
+                    return Shown::Misplaced;
+                }
+                Shown::Got(piece[0], count, due, spare)
+            }
             Drained::Ended => Shown::Over(spare),
             Drained::Waits(_) => Shown::Waits(spare),
         }
     }
 
-    pub(super) fn fill(&mut self, rt: &impl Abort, waker: u8, items: &[u8]) -> Shown {
-        assert!(rt; !items.is_empty());
-        let Answered { answer, spare } = self.pipe.fill_or_seat(waker, items);
+    fn fill(&mut self, waker: u8, first: u8, count: usize) -> Shown {
+        if count == 0 || count > PIECE {
+            return Shown::Misplaced;
+        }
+        let piece = piece_of(first, count);
+        let Answered { answer, spare } = self.pipe.fill_or_seat(waker, &piece[..count]);
         match answer {
             Filled::Took(count, note) => Shown::Took(count, self.spend(note), spare),
             Filled::Shut => Shown::Over(spare),
@@ -240,7 +311,7 @@ impl Bench {
     fn receive(&mut self, waker: u8) -> Shown {
         let Answered { answer, spare } = self.pipe.receive_or_seat(waker);
         match answer {
-            Received::Got(item, note) => Shown::Item(item, self.spend(note), spare),
+            Received::Got(byte, note) => Shown::Item(byte, self.spend(note), spare),
             Received::Ended => Shown::Over(spare),
             Received::Waits(_) => Shown::Waits(spare),
         }

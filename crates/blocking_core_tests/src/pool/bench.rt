@@ -1,20 +1,20 @@
 //! The player of the pool's rows. It promises nothing: what its helpers need is tested where they run.
-use super::step::{Count, Ending, Given, Line, Row, Shown, Step, Until};
+use super::step::{Count, Deed, Ending, Given, Line, Row, Shown, Step, Until, Work};
+use crate::stop::stop;
 use blocking_core::pool::{
     Bell, Finish, Gone, Job, JobNo, JobStep, Pool, StartRefused, Starter, Took, Turn, Waited,
     WakeNote, WorkerPass,
 };
-use std::alloc::AllocGlobal;
+use std::alloc::{AllocGlobal, Global};
 use std::mem;
 use std::process::Abort;
-use std::sync::atomic::{AtomicBool, Ordering};
-use std::sync::{Arc, Condvar};
+use std::sync::Condvar;
 
-/// A job that is told apart by its number, and whose mark the bench shares.
-#[derive(Drop)]
+/// A job that is told apart by its number, and that may bear a mark.
+#[derive(Clone, Copy)]
 pub(super) struct Marked {
     number: u32,
-    mark: Arc<AtomicBool>,
+    is_marked: bool,
 }
 
 impl Job for Marked {
@@ -25,7 +25,7 @@ impl Job for Marked {
     }
 
     fn abandoned(&self) -> bool {
-        self.mark.load(Ordering::SeqCst)
+        self.is_marked
     }
 }
 
@@ -52,198 +52,272 @@ impl Starter for RefusesAt {
     }
 }
 
-// What a worker that arrived has in hand.
+// What a worker has in hand.
 enum Hand {
-    // Nothing: it has stopped, or a call has what it had.
+    // Nothing: it hasn't arrived, or has stopped.
     Out,
     Free(WorkerPass),
     // (no job where it was let go before the turn ended)
     Holds(Turn, Option<Marked>),
 }
 
-// A job that was accepted.
+// What the steps of a row refer to.
 #[derive(Drop)]
-struct Accepted {
-    no: JobNo,
-    mark: Arc<AtomicBool>,
+struct Known {
+    alloc: Global,
+    // the jobs that were accepted
+    jobs: Vec<JobNo>,
+    // how many workers have arrived
+    arrived: usize,
 }
 
 /// Two pools and what belongs to them. All calls go to the first until they are switched.
 pub(super) struct Bench {
+    known: Known,
     pool: Pool<Marked>,
     other: Pool<Marked>,
     starter: RefusesAt,
-    jobs: Vec<Accepted>,
-    hands: Vec<Hand>,
+    hands: [Hand; 4],
 }
 
 /// Plays a row from its beginning on, and tells where it shows something else.
 pub(super) fn play<R: AllocGlobal + Abort>(rt: &R, row: &Row) {
-    let mut bench = Bench::new(rt, row.pool);
-    bench.see(rt, row.name, row.begin);
-    bench.see(rt, row.name, row.steps);
-    assert_eq!(rt;
-        bench.starter.asked.as_slice(),
-        row.starts,
-        "{}: starts",
-        row.name
-    );
+    let mut bench = Bench::new(rt.alloc(), row.pool);
+    if let Some(line) = bench.first_wrong(row.begin) {
+        stop(rt, row.name, line);
+    }
+    if let Some(line) = bench.first_wrong(row.steps) {
+        stop(rt, row.name, line);
+    }
+    if bench.starter.asked.as_slice() != row.starts {
+        stop(rt, row.name, row.steps.len());
+    }
     bench.close(rt);
 }
 
-fn pool_of<R: AllocGlobal + Abort>(rt: &R, given: Given) -> Pool<Marked> {
-    if given.serial == 0 || given.worker == 0 {
-        panic!(rt; "numbers begin at 1");
+// (numbers begin at 1)
+fn pool_of(alloc: Global, given: Given) -> Pool<Marked> {
+    Pool::with_numbers(
+        alloc,
+        given.setting,
+        given.serial.max(1),
+        given.worker.max(1),
+    )
+}
+
+// A worker with a pass takes the front job.
+fn taken(pool: &mut Pool<Marked>, starter: &mut RefusesAt, pass: WorkerPass) -> (Hand, Shown) {
+    if pool.arriving_count() >= pool.idle_count() {
+        return (Hand::Free(pass), Shown::Misplaced);
     }
-    Pool::with_numbers(rt.alloc(), given.setting, given.serial, given.worker)
+    match pool.take(pass, starter) {
+        Took::Run(turn, job) => (Hand::Holds(turn, Some(job)), Shown::Runs(job.number)),
+        Took::Drop(turn, job) => (Hand::Holds(turn, Some(job)), Shown::Drops(job.number)),
+        Took::Idle(pass) => (Hand::Free(pass), Shown::NoJob),
+    }
+}
+
+// A worker with a pass has waited.
+fn waited(
+    pool: &mut Pool<Marked>,
+    starter: &mut RefusesAt,
+    pass: WorkerPass,
+    until: Until,
+) -> (Hand, Shown) {
+    if pool.arriving_count() >= pool.idle_count() {
+        return (Hand::Free(pass), Shown::Misplaced);
+    }
+    match pool.after_wait(pass, matches!(until, Until::TimedOut), starter) {
+        Waited::Stay(pass) => (Hand::Free(pass), Shown::Stays),
+        Waited::Stop => (Hand::Out, Shown::Stops),
+    }
+}
+
+// (a job that was let go can't wait, and is done)
+fn finish(ending: Ending, job: Option<Marked>) -> Finish<Marked> {
+    match (ending, job) {
+        (Ending::Waiting, Some(job)) => Finish::Waiting(job),
+        (Ending::Dropped, _) => Finish::Dropped,
+        (Ending::Done | Ending::Waiting, _) => Finish::Done,
+    }
+}
+
+// The job, with a mark.
+fn with_mark(job: Option<Marked>) -> Option<Marked> {
+    match job {
+        Some(Marked { number, .. }) => Some(Marked {
+            number,
+            is_marked: true,
+        }),
+        None => None,
+    }
+}
+
+// A worker's turn ends.
+fn ended(pool: &mut Pool<Marked>, turn: Turn, finish: Finish<Marked>) -> (Hand, Shown) {
+    match pool.end(turn, finish) {
+        Gone::Free(pass) => (Hand::Free(pass), Shown::Free),
+        Gone::Drop(turn, job) => (Hand::Holds(turn, Some(job)), Shown::Drops(job.number)),
+        Gone::Stranger(turn, back) => {
+            let number = match back {
+                Some(job) => Some(job.number),
+                None => None,
+            };
+            (Hand::Holds(turn, back), Shown::Stranger(number))
+        }
+    }
+}
+
+// Lets an empty hand go.
+fn out(rt: &impl Abort, hand: Hand) {
+    match hand {
+        Hand::Out => {}
+        Hand::Free(_pass) => stop(rt, "a hand isn't empty", 0),
+        Hand::Holds(_turn, _job) => stop(rt, "a hand isn't empty", 0),
+    }
+}
+
+// Lets empty hands go.
+fn all_out(rt: &impl Abort, hands: [Hand; 4]) {
+    let [first, second, third, fourth] = hands;
+    out(rt, first);
+    out(rt, second);
+    out(rt, third);
+    out(rt, fourth);
 }
 
 impl Bench {
-    pub(super) fn new<R: AllocGlobal + Abort>(rt: &R, given: Given) -> Bench {
+    pub(super) fn new(alloc: Global, given: Given) -> Bench {
         Bench {
-            pool: pool_of(rt, given),
-            other: pool_of(rt, given),
+            known: Known {
+                alloc,
+                jobs: Vec::new(alloc),
+                arrived: 0,
+            },
+            pool: pool_of(alloc, given),
+            other: pool_of(alloc, given),
             starter: RefusesAt {
                 numbers: given.refused,
                 refusals: 0,
-                asked: Vec::new(rt.alloc()),
+                asked: Vec::new(alloc),
             },
-            jobs: Vec::new(rt.alloc()),
-            hands: Vec::new(rt.alloc()),
+            hands: [Hand::Out, Hand::Out, Hand::Out, Hand::Out],
         }
     }
 
-    /// Takes steps, each of which has to show what stands beside it.
-    pub(super) fn see<R: AllocGlobal + Abort>(&mut self, rt: &R, name: &str, lines: &[Line]) {
+    /// Takes the steps of these lines, and answers the place of the first that shows something else than stands beside it.
+    pub(super) fn first_wrong(&mut self, lines: &[Line]) -> Option<usize> {
         for (place, (step, shown)) in lines.iter().enumerate() {
-            let seen = self.take_step(rt, *step);
-            assert_eq!(rt; seen, *shown, "{name}: step {place}: {step:?}");
+            if self.take_step(*step) != *shown {
+                return Some(place);
+            }
         }
+        None
     }
 
-    fn take_step<R: AllocGlobal + Abort>(&mut self, rt: &R, step: Step) -> Shown {
+    fn take_step(&mut self, step: Step) -> Shown {
         match step {
-            Step::Add(number) => self.add(rt, number),
-            Step::Arrive => self.arrive(rt),
-            Step::Take(worker) => self.take(rt, worker),
-            Step::End(worker, ending) => self.end(rt, worker, ending),
-            Step::Wait(worker, until) => self.wait(rt, worker, until),
-            Step::Wake(job) => self.wake(rt, job),
-            Step::Cancel(job) => self.cancel(rt, job),
+            Step::Add(number) => self.add(number),
+            Step::Arrive => self.arrive(),
+            Step::Worker(worker, work) => self.work(worker, work),
+            Step::Job(job, deed) => self.meet(job, deed),
             Step::Sweep => Shown::Swept(self.pool.sweep(&mut self.starter)),
-            Step::Mark(job) => self.mark(rt, job),
-            Step::Renumber(job, number) => self.renumber(rt, job, number),
-            Step::SetLimit(limit) => self.set_limit(rt, limit),
+            Step::SetLimit(limit) => self.set_limit(limit),
             Step::Ask(count) => Shown::Are(self.count(count)),
             Step::Limit => Shown::LimitIs(self.pool.limit()),
             Step::Ring => self.ring(),
-            Step::Compare(one, other) => self.compare(rt, one, other),
             Step::Switch => self.switch(),
         }
     }
 
-    fn add<R: AllocGlobal + Abort>(&mut self, rt: &R, number: u32) -> Shown {
-        let mark = Arc::new(rt.alloc(), AtomicBool::new(false)).expect(rt, "memory");
-        let shared = Arc::try_clone(&mark).expect(rt, "memory");
+    fn add(&mut self, number: u32) -> Shown {
         let job = Marked {
             number,
-            mark: shared,
+            is_marked: false,
         };
         match self.pool.add(job, &mut self.starter) {
-            Ok(no) => {
-                self.jobs.push(Accepted { no, mark }).expect(rt, "memory");
-                Shown::Accepted(no.serial())
-            }
+            Ok(no) => match self.known.jobs.push(no) {
+                Ok(()) => Shown::Accepted(no.serial()),
+                Err(_) => Shown::Misplaced,
+            },
             Err(refused) => Shown::Refused(refused.why, refused.back.number),
         }
     }
 
-    fn arrive(&mut self, rt: &impl Abort) -> Shown {
+    fn arrive(&mut self) -> Shown {
+        let Some(place) = self.hands.get_mut(self.known.arrived) else {
+            return Shown::Misplaced;
+        };
+        if !matches!(place, Hand::Out) {
+            return Shown::Misplaced;
+        }
         let Some(pass) = self.pool.arrive() else {
             return Shown::Nobody;
         };
-        match self.hands.push(Hand::Free(pass)) {
-            Ok(()) => Shown::Arrived(self.hands.len()),
-            Err(_failed) => panic!(rt; "memory"),
+        match mem::replace(place, Hand::Free(pass)) {
+            Hand::Out => {
+                self.known.arrived += 1;
+                Shown::Arrived(self.known.arrived)
+            }
+            Hand::Free(_pass) => unreachable!(),
+            Hand::Holds(_turn, _job) => unreachable!(),
         }
     }
 
-    fn take(&mut self, rt: &impl Abort, worker: usize) -> Shown {
-        let pass = self.pass_of(rt, worker);
-        assert!(rt; self.pool.arriving_count() < self.pool.idle_count());
-        let (hand, shown) = match self.pool.take(pass, &mut self.starter) {
-            Took::Run(turn, job) => {
-                let number = job.number;
-                (Hand::Holds(turn, Some(job)), Shown::Runs(number))
-            }
-            Took::Drop(turn, job) => {
-                let number = job.number;
-                (Hand::Holds(turn, Some(job)), Shown::Drops(number))
-            }
-            Took::Idle(pass) => (Hand::Free(pass), Shown::NoJob),
+    fn work(&mut self, worker: usize, work: Work) -> Shown {
+        let Some(place) = self.hands.get_mut(worker.wrapping_sub(1)) else {
+            return Shown::Misplaced;
         };
-        self.put(rt, worker, hand);
-        shown
-    }
-
-    fn end(&mut self, rt: &impl Abort, worker: usize, ending: Ending) -> Shown {
-        let (turn, job) = self.turn_of(rt, worker);
-        let (hand, shown) = match self.pool.end(turn, finish(rt, ending, job)) {
-            Gone::Free(pass) => (Hand::Free(pass), Shown::Free),
-            Gone::Drop(turn, job) => {
-                let number = job.number;
-                (Hand::Holds(turn, Some(job)), Shown::Drops(number))
+        let (hand, shown) = match (work, mem::replace(place, Hand::Out)) {
+            (Work::Take, Hand::Free(pass)) => taken(&mut self.pool, &mut self.starter, pass),
+            (Work::Wait(until), Hand::Free(pass)) => {
+                waited(&mut self.pool, &mut self.starter, pass, until)
             }
-            Gone::Stranger(turn, back) => {
-                let number = back.as_ref().map(|job| job.number);
-                (Hand::Holds(turn, back), Shown::Stranger(number))
+            (Work::End(ending), Hand::Holds(turn, job)) => {
+                ended(&mut self.pool, turn, finish(ending, job))
             }
+            (Work::Mark, Hand::Holds(turn, job)) => {
+                (Hand::Holds(turn, with_mark(job)), Shown::NoAnswer)
+            }
+            (_, hand) => (hand, Shown::Misplaced),
         };
-        self.put(rt, worker, hand);
-        shown
-    }
-
-    fn wait(&mut self, rt: &impl Abort, worker: usize, until: Until) -> Shown {
-        let pass = self.pass_of(rt, worker);
-        assert!(rt; self.pool.arriving_count() < self.pool.idle_count());
-        let timed_out = matches!(until, Until::TimedOut);
-        match self.pool.after_wait(pass, timed_out, &mut self.starter) {
-            Waited::Stay(pass) => {
-                self.put(rt, worker, Hand::Free(pass));
-                Shown::Stays
-            }
-            Waited::Stop => Shown::Stops,
+        match mem::replace(place, hand) {
+            Hand::Out => shown,
+            Hand::Free(_pass) => unreachable!(),
+            Hand::Holds(_turn, _job) => unreachable!(),
         }
     }
 
-    fn wake(&mut self, rt: &impl Abort, job: usize) -> Shown {
-        let note = WakeNote::new(self.number_of(rt, job));
-        Shown::Woke(self.pool.wake(note, &mut self.starter))
-    }
-
-    fn cancel(&mut self, rt: &impl Abort, job: usize) -> Shown {
-        let no = self.number_of(rt, job);
-        Shown::Woke(self.pool.cancel(no, &mut self.starter))
-    }
-
-    fn mark(&mut self, rt: &impl Abort, job: usize) -> Shown {
-        self.accepted(rt, job).mark.store(true, Ordering::SeqCst);
-        Shown::NoAnswer
-    }
-
-    fn renumber(&mut self, rt: &impl Abort, job: usize, number: u32) -> Shown {
-        let no = self.number_of(rt, job);
-        match self.pool.job_mut(no) {
-            Some(job) => {
-                job.number = number;
-                Shown::Lent(true)
-            }
-            None => Shown::Lent(false),
+    fn meet(&mut self, job: usize, deed: Deed) -> Shown {
+        let Some(no) = self.known.jobs.get(job.wrapping_sub(1)) else {
+            return Shown::Misplaced;
+        };
+        let no = *no;
+        match deed {
+            Deed::Wake => Shown::Woke(self.pool.wake(WakeNote::new(no), &mut self.starter)),
+            Deed::Cancel => Shown::Woke(self.pool.cancel(no, &mut self.starter)),
+            Deed::Mark => self.change(no, None),
+            Deed::Renumber(number) => self.change(no, Some(number)),
+            Deed::Place => self.place(no),
         }
     }
 
-    fn set_limit(&mut self, rt: &impl Abort, limit: usize) -> Shown {
-        assert!(rt; limit > 0);
+    // Lends a job, which is changed: it gets this number, or else a mark.
+    fn change(&mut self, no: JobNo, number: Option<u32>) -> Shown {
+        let Some(job) = self.pool.job_mut(no) else {
+            return Shown::Lent(false);
+        };
+        match number {
+            Some(number) => job.number = number,
+            None => job.is_marked = true,
+        }
+        Shown::Lent(true)
+    }
+
+    fn set_limit(&mut self, limit: usize) -> Shown {
+        if limit == 0 {
+            return Shown::Misplaced;
+        }
         self.pool.set_limit(limit);
         Shown::NoAnswer
     }
@@ -264,20 +338,12 @@ impl Bench {
         Shown::Rang(kind)
     }
 
-    fn compare<R: AllocGlobal + Abort>(&self, rt: &R, one: usize, other: usize) -> Shown {
-        let (one, other) = (self.place_of(rt, one), self.place_of(rt, other));
-        Shown::Shared(one.as_str() == other.as_str())
-    }
-
-    /// The place of this job in the pool's table: what its number's text says before the serial.
-    pub(super) fn place_of<R: AllocGlobal + Abort>(&self, rt: &R, job: usize) -> String {
-        let no = self.number_of(rt, job);
-        let mut text = format!(in rt.alloc(); "{no:?}").expect(rt, "memory");
-        match text.find(',') {
-            Some(end) => text.truncate(end),
-            None => panic!(rt; "{text} has no place"),
-        }
-        text
+    // (the place stands in the number's text alone)
+    fn place(&self, no: JobNo) -> Shown {
+        let Ok(text) = format!(in self.known.alloc; "{no:?}") else {
+            return Shown::Misplaced;
+        };
+        Shown::InFirstPlace(text.as_str().starts_with("JobNo { place: 0,"))
     }
 
     fn switch(&mut self) -> Shown {
@@ -285,123 +351,34 @@ impl Bench {
         Shown::NoAnswer
     }
 
-    // The job that was accepted in this place.
-    fn accepted(&self, rt: &impl Abort, job: usize) -> &Accepted {
-        match self.jobs.get(job.wrapping_sub(1)) {
-            Some(accepted) => accepted,
-            None => panic!(rt; "job {job} wasn't accepted"),
-        }
-    }
-
-    fn number_of(&self, rt: &impl Abort, job: usize) -> JobNo {
-        self.accepted(rt, job).no
-    }
-
-    // What is in the hand of this worker, which is out then.
-    fn hand_of(&mut self, rt: &impl Abort, worker: usize) -> Hand {
-        match self.hands.get_mut(worker.wrapping_sub(1)) {
-            Some(hand) => mem::replace(hand, Hand::Out),
-            None => panic!(rt; "worker {worker} hasn't arrived"),
-        }
-    }
-
-    // The pass of this worker, whose hand is out then.
-    fn pass_of(&mut self, rt: &impl Abort, worker: usize) -> WorkerPass {
-        match self.hand_of(rt, worker) {
-            Hand::Free(pass) => pass,
-            Hand::Out => panic!(rt; "worker {worker} has stopped"),
-            Hand::Holds(_turn, _job) => panic!(rt; "worker {worker} has a turn"),
-        }
-    }
-
-    // The turn of this worker, whose hand is out then, and the job that came with it.
-    fn turn_of(&mut self, rt: &impl Abort, worker: usize) -> (Turn, Option<Marked>) {
-        match self.hand_of(rt, worker) {
-            Hand::Holds(turn, job) => (turn, job),
-            Hand::Out => panic!(rt; "worker {worker} has stopped"),
-            Hand::Free(_pass) => panic!(rt; "worker {worker} has no turn"),
-        }
-    }
-
-    // Puts something into the hand of this worker, which is out.
-    fn put(&mut self, rt: &impl Abort, worker: usize, hand: Hand) {
-        match self.hands.get_mut(worker.wrapping_sub(1)) {
-            Some(place) => fill(rt, place, hand),
-            None => panic!(rt; "worker {worker} hasn't arrived"),
-        }
-    }
-
     /// Ends every turn and dismisses every worker, so that nothing is left that has to be spent.
-    pub(super) fn close(self, rt: &impl Abort) {
+    pub(super) fn close(mut self, rt: &impl Abort) {
+        for worker in 1..=4 {
+            self.dismiss(worker);
+        }
+        self.let_go(rt);
+    }
+
+    // (its hands are empty)
+    fn let_go(self, rt: &impl Abort) {
         let Bench {
-            mut pool,
+            known: _known,
+            pool: _pool,
             other: _other,
-            mut starter,
-            jobs: _jobs,
-            mut hands,
+            starter: _starter,
+            hands,
         } = self;
-        for _ in 0..hands.len() {
-            match hands.pop() {
-                Some(hand) => dismiss(rt, &mut pool, &mut starter, hand),
-                None => panic!(rt; "a hand is lost"),
+        all_out(rt, hands);
+    }
+
+    // Lets a worker end its turn, and take what is queued, until it stops.
+    fn dismiss(&mut self, worker: usize) {
+        for _ in 0..100 {
+            self.work(worker, Work::End(Ending::Done));
+            if self.work(worker, Work::Wait(Until::TimedOut)) != Shown::Stays {
+                return;
             }
+            self.work(worker, Work::Take);
         }
-        assert!(rt; hands.is_empty());
-        hands.destroy_empty();
-    }
-}
-
-fn finish(rt: &impl Abort, ending: Ending, job: Option<Marked>) -> Finish<Marked> {
-    match ending {
-        Ending::Done => Finish::Done,
-        Ending::Dropped => Finish::Dropped,
-        Ending::Waiting => Finish::Waiting(job.expect(rt, "a job that waits")),
-    }
-}
-
-fn fill(rt: &impl Abort, place: &mut Hand, hand: Hand) {
-    match mem::replace(place, hand) {
-        Hand::Out => {}
-        Hand::Free(_pass) => panic!(rt; "the hand is full"),
-        Hand::Holds(_turn, _job) => panic!(rt; "the hand is full"),
-    }
-}
-
-fn ended(rt: &impl Abort, pool: &mut Pool<Marked>, turn: Turn) -> WorkerPass {
-    match pool.end(turn, Finish::Done) {
-        Gone::Free(pass) => pass,
-        Gone::Drop(_turn, _job) => panic!(rt; "a job that is done is to be dropped"),
-        Gone::Stranger(_turn, _job) => panic!(rt; "a row has to end in the pool of its workers"),
-    }
-}
-
-// Ends a worker's turn, and lets it wait until it stops. What is queued by then it takes and ends.
-fn dismiss(rt: &impl Abort, pool: &mut Pool<Marked>, starter: &mut RefusesAt, hand: Hand) {
-    let mut pass = match hand {
-        Hand::Out => return,
-        Hand::Free(pass) => pass,
-        Hand::Holds(turn, _job) => ended(rt, pool, turn),
-    };
-    for _ in 0..100 {
-        assert!(rt; pool.arriving_count() < pool.idle_count());
-        match pool.after_wait(pass, true, starter) {
-            Waited::Stop => return,
-            Waited::Stay(stays) => pass = cleared(rt, pool, starter, stays),
-        }
-    }
-    panic!(rt; "a worker doesn't stop");
-}
-
-// A free worker takes the front job, if there is one, and ends it.
-fn cleared(
-    rt: &impl Abort,
-    pool: &mut Pool<Marked>,
-    starter: &mut RefusesAt,
-    pass: WorkerPass,
-) -> WorkerPass {
-    assert!(rt; pool.arriving_count() < pool.idle_count());
-    match pool.take(pass, starter) {
-        Took::Run(turn, _job) | Took::Drop(turn, _job) => ended(rt, pool, turn),
-        Took::Idle(pass) => pass,
     }
 }

@@ -5,28 +5,18 @@
 use blocking_core::pool::{BellKind, Refusal, Woke};
 
 /// One call of the pool.
-#[derive(Clone, Copy, Debug)]
+#[derive(Clone, Copy)]
 pub(super) enum Step {
     /// A job that bears this number is added.
     Add(u32),
     /// A worker arrives.
     Arrive,
-    /// A worker takes the front job.
-    Take(usize),
-    /// A worker's turn ends.
-    End(usize, Ending),
-    /// A worker has waited.
-    Wait(usize, Until),
-    /// A wake reaches a job.
-    Wake(usize),
-    /// A job is cancelled.
-    Cancel(usize),
+    /// A worker that arrived does something.
+    Worker(usize, Work),
+    /// Something is done to a job that was accepted.
+    Job(usize, Deed),
     /// The marked jobs are swept.
     Sweep,
-    /// A job is marked, by another thread as it were.
-    Mark(usize),
-    /// A job is lent, and gets this number.
-    Renumber(usize, u32),
     /// The limit is set.
     SetLimit(usize),
     /// The pool is asked for a count.
@@ -35,14 +25,40 @@ pub(super) enum Step {
     Limit,
     /// The bell is taken and rung.
     Ring,
-    /// The places of two jobs in the table are compared.
-    Compare(usize, usize),
     /// From here on all calls go to the other pool.
     Switch,
 }
 
+/// What a worker does.
+#[derive(Clone, Copy)]
+pub(super) enum Work {
+    /// It takes the front job.
+    Take,
+    /// It has waited.
+    Wait(Until),
+    /// Its turn ends.
+    End(Ending),
+    /// The job that it runs is marked, by another thread as it were.
+    Mark,
+}
+
+/// What is done to a job.
+#[derive(Clone, Copy)]
+pub(super) enum Deed {
+    /// A wake reaches it.
+    Wake,
+    /// It is cancelled.
+    Cancel,
+    /// It is lent, and marked.
+    Mark,
+    /// It is lent, and gets this number.
+    Renumber(u32),
+    /// Its place in the table is looked at.
+    Place,
+}
+
 /// How a turn ends.
-#[derive(Clone, Copy, Debug)]
+#[derive(Clone, Copy)]
 pub(super) enum Ending {
     Done,
     Dropped,
@@ -50,14 +66,14 @@ pub(super) enum Ending {
 }
 
 /// How long a worker waited.
-#[derive(Clone, Copy, Debug)]
+#[derive(Clone, Copy)]
 pub(super) enum Until {
     Notified,
     TimedOut,
 }
 
 /// What the pool counts.
-#[derive(Clone, Copy, Debug)]
+#[derive(Clone, Copy)]
 pub(super) enum Count {
     Workers,
     Idle,
@@ -66,7 +82,7 @@ pub(super) enum Count {
 }
 
 /// What a step shows.
-#[derive(Clone, Copy, Debug, PartialEq, Eq)]
+#[derive(Clone, Copy, PartialEq, Eq)]
 pub(super) enum Shown {
     /// The job was accepted under this serial.
     Accepted(u64),
@@ -102,10 +118,12 @@ pub(super) enum Shown {
     Are(usize),
     /// What the limit is.
     LimitIs(Option<usize>),
-    /// Whether the jobs have one place.
-    Shared(bool),
+    /// Whether this is the table's first place.
+    InFirstPlace(bool),
     /// The step answers nothing.
     NoAnswer,
+    /// The row names a job or a worker that isn't there, or a worker with something else in hand; or there was no memory.
+    Misplaced,
 }
 
 /// A step, and what it has to show.
@@ -125,7 +143,7 @@ pub(super) struct Given {
 }
 
 /// A row of the pool.
-#[derive(Drop)]
+#[derive(Clone, Copy)]
 pub(super) struct Row {
     pub(super) name: &'static str,
     pub(super) pool: Given,
@@ -165,7 +183,7 @@ pub(super) const LIMIT_4: Given = Given {
 pub(super) const READY: [Line; 5] = [
     (Step::Add(0), Shown::Accepted(1)),
     (Step::Arrive, Shown::Arrived(1)),
-    (Step::Take(1), Shown::Runs(0)),
-    (Step::End(1, Ending::Done), Shown::Free),
+    (Step::Worker(1, Work::Take), Shown::Runs(0)),
+    (Step::Worker(1, Work::End(Ending::Done)), Shown::Free),
     (Step::Ring, Shown::Rang(BellKind::All)),
 ];

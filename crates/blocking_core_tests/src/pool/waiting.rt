@@ -1,147 +1,142 @@
 //! Jobs that wait and are woken, are cancelled, or are lent.
 use super::bench::play;
 use super::step::Count::{Idle, Queued, Workers};
+use super::step::Deed::{Cancel, Renumber, Wake};
 use super::step::Ending::{Done, Dropped, Waiting};
 use super::step::Shown::{Accepted, Are, Arrived, Drops, Free, Lent, Rang, Runs, Woke};
-use super::step::Step::{Add, Arrive, Ask, Cancel, End, Renumber, Ring, Take, Wake};
+use super::step::Step::{Add, Arrive, Ask, Job, Ring, Worker};
+use super::step::Work::{End, Take};
 use super::step::{LIMIT_1, READY, Row};
 use blocking_core::pool::BellKind::{All, One, Silent};
 use blocking_core::pool::Woke::{Entered, Marked, Nothing};
 
-#[test]
-fn jobs_are_woken(rt: HostRuntime) {
-    play(
-        &rt,
-        &Row {
-            name: "a job that is woken while it runs goes back",
-            pool: LIMIT_1,
-            begin: &[],
-            steps: &[
-                (Add(1), Accepted(1)),
-                (Arrive, Arrived(1)),
-                (Take(1), Runs(1)),
-                (Add(2), Accepted(2)),
-                (Wake(1), Woke(Marked)),
-                (Wake(1), Woke(Marked)),
-                (Ring, Rang(All)),
-                (End(1, Waiting), Free),
-                (Ring, Rang(One)),
-                (Ask(Queued), Are(2)),
-                (Ask(Workers), Are(1)),
-                (Take(1), Runs(2)),
-                (End(1, Done), Free),
-                (Take(1), Runs(1)),
-                // (the wake was for the turn before)
-                (End(1, Waiting), Free),
-                (Ask(Queued), Are(0)),
-            ],
-            starts: &[1],
-        },
-    );
-    play(
-        &rt,
-        &Row {
-            name: "a wake of a queued or a finished job does nothing",
-            pool: LIMIT_1,
-            begin: &READY,
-            steps: &[
-                (Add(1), Accepted(2)),
-                (Wake(2), Woke(Nothing)),
-                (Wake(2), Woke(Nothing)),
-                (Ask(Queued), Are(1)),
-                (Take(1), Runs(1)),
-                (End(1, Done), Free),
-                (Ring, Rang(One)),
-                (Wake(2), Woke(Nothing)),
-                (Ask(Queued), Are(0)),
-                (Ring, Rang(Silent)),
-            ],
-            starts: &[1],
-        },
-    );
-    play(
-        &rt,
-        &Row {
-            name: "a parked job is woken",
-            pool: LIMIT_1,
-            begin: &READY,
-            steps: &[
-                (Add(1), Accepted(2)),
-                (Take(1), Runs(1)),
-                (End(1, Waiting), Free),
-                (Ask(Queued), Are(0)),
-                (Ring, Rang(One)),
-                (Wake(2), Woke(Entered)),
-                (Ask(Queued), Are(1)),
-                (Ring, Rang(One)),
-                (Take(1), Runs(1)),
-            ],
-            starts: &[1],
-        },
-    );
-}
+const ROWS: &[Row] = &[
+    Row {
+        name: "a job that is woken while it runs goes back",
+        pool: LIMIT_1,
+        begin: &[],
+        steps: &[
+            (Add(1), Accepted(1)),
+            (Arrive, Arrived(1)),
+            (Worker(1, Take), Runs(1)),
+            (Add(2), Accepted(2)),
+            (Job(1, Wake), Woke(Marked)),
+            (Job(1, Wake), Woke(Marked)),
+            (Ring, Rang(All)),
+            (Worker(1, End(Waiting)), Free),
+            (Ring, Rang(One)),
+            (Ask(Queued), Are(2)),
+            (Ask(Workers), Are(1)),
+            (Worker(1, Take), Runs(2)),
+            (Worker(1, End(Done)), Free),
+            (Worker(1, Take), Runs(1)),
+            // (the wake was for the turn before)
+            (Worker(1, End(Waiting)), Free),
+            (Ask(Queued), Are(0)),
+        ],
+        starts: &[1],
+    },
+    Row {
+        name: "a wake of a queued or a finished job does nothing",
+        pool: LIMIT_1,
+        begin: &READY,
+        steps: &[
+            (Add(1), Accepted(2)),
+            (Job(2, Wake), Woke(Nothing)),
+            (Job(2, Wake), Woke(Nothing)),
+            (Ask(Queued), Are(1)),
+            (Worker(1, Take), Runs(1)),
+            (Worker(1, End(Done)), Free),
+            (Ring, Rang(One)),
+            (Job(2, Wake), Woke(Nothing)),
+            (Ask(Queued), Are(0)),
+            (Ring, Rang(Silent)),
+        ],
+        starts: &[1],
+    },
+    Row {
+        name: "a parked job is woken",
+        pool: LIMIT_1,
+        begin: &READY,
+        steps: &[
+            (Add(1), Accepted(2)),
+            (Worker(1, Take), Runs(1)),
+            (Worker(1, End(Waiting)), Free),
+            (Ask(Queued), Are(0)),
+            (Ring, Rang(One)),
+            (Job(2, Wake), Woke(Entered)),
+            (Ask(Queued), Are(1)),
+            (Ring, Rang(One)),
+            (Worker(1, Take), Runs(1)),
+        ],
+        starts: &[1],
+    },
+    Row {
+        name: "a parked job is cancelled",
+        pool: LIMIT_1,
+        begin: &READY,
+        steps: &[
+            (Add(1), Accepted(2)),
+            (Worker(1, Take), Runs(1)),
+            (Worker(1, End(Waiting)), Free),
+            (Job(2, Cancel), Woke(Entered)),
+            (Ask(Queued), Are(1)),
+            (Worker(1, Take), Drops(1)),
+            (Ask(Idle), Are(0)),
+            (Worker(1, End(Dropped)), Free),
+            (Ask(Queued), Are(0)),
+            (Ask(Idle), Are(1)),
+            (Job(2, Cancel), Woke(Nothing)),
+        ],
+        starts: &[1],
+    },
+    Row {
+        name: "a queued job is cancelled",
+        pool: LIMIT_1,
+        begin: &READY,
+        steps: &[
+            (Add(1), Accepted(2)),
+            (Job(2, Cancel), Woke(Marked)),
+            (Worker(1, Take), Drops(1)),
+        ],
+        starts: &[1],
+    },
+    Row {
+        name: "a running job is cancelled",
+        pool: LIMIT_1,
+        begin: &READY,
+        steps: &[
+            (Add(1), Accepted(2)),
+            (Worker(1, Take), Runs(1)),
+            (Job(2, Cancel), Woke(Marked)),
+            (Worker(1, End(Waiting)), Drops(1)),
+            (Worker(1, End(Dropped)), Free),
+        ],
+        starts: &[1],
+    },
+    Row {
+        name: "a value is lent while its job is queued or parked",
+        pool: LIMIT_1,
+        begin: &READY,
+        steps: &[
+            (Add(1), Accepted(2)),
+            (Job(2, Renumber(2)), Lent(true)),
+            (Worker(1, Take), Runs(2)),
+            (Job(2, Renumber(3)), Lent(false)),
+            (Worker(1, End(Waiting)), Free),
+            (Job(2, Renumber(4)), Lent(true)),
+            (Job(2, Wake), Woke(Entered)),
+            (Worker(1, Take), Runs(4)),
+            (Worker(1, End(Done)), Free),
+            (Job(2, Renumber(5)), Lent(false)),
+        ],
+        starts: &[1],
+    },
+];
 
 #[test]
-fn jobs_are_cancelled(rt: HostRuntime) {
-    play(
-        &rt,
-        &Row {
-            name: "a parked job is cancelled",
-            pool: LIMIT_1,
-            begin: &READY,
-            steps: &[
-                (Add(1), Accepted(2)),
-                (Take(1), Runs(1)),
-                (End(1, Waiting), Free),
-                (Cancel(2), Woke(Entered)),
-                (Ask(Queued), Are(1)),
-                (Take(1), Drops(1)),
-                (Ask(Idle), Are(0)),
-                (End(1, Dropped), Free),
-                (Ask(Queued), Are(0)),
-                (Ask(Idle), Are(1)),
-                (Cancel(2), Woke(Nothing)),
-            ],
-            starts: &[1],
-        },
-    );
-    play(
-        &rt,
-        &Row {
-            name: "a queued job is cancelled",
-            pool: LIMIT_1,
-            begin: &READY,
-            steps: &[
-                (Add(1), Accepted(2)),
-                (Cancel(2), Woke(Marked)),
-                (Take(1), Drops(1)),
-            ],
-            starts: &[1],
-        },
-    );
-}
-
-#[test]
-fn value_is_lent_but_while_its_job_runs(rt: HostRuntime) {
-    play(
-        &rt,
-        &Row {
-            name: "a value is lent while its job is queued or parked",
-            pool: LIMIT_1,
-            begin: &READY,
-            steps: &[
-                (Add(1), Accepted(2)),
-                (Renumber(2, 2), Lent(true)),
-                (Take(1), Runs(2)),
-                (Renumber(2, 3), Lent(false)),
-                (End(1, Waiting), Free),
-                (Renumber(2, 4), Lent(true)),
-                (Wake(2), Woke(Entered)),
-                (Take(1), Runs(4)),
-                (End(1, Done), Free),
-                (Renumber(2, 5), Lent(false)),
-            ],
-            starts: &[1],
-        },
-    );
+fn jobs_wait(rt: HostRuntime) {
+    for row in ROWS {
+        play(&rt, row);
+    }
 }
