@@ -1,6 +1,6 @@
 -- The chain of the parked jobs, and what each call of the table makes of queue, parked and jobs.
-use Rattle.std.proofs.Common.{◌≡◌, ◌≢◌, ℕ, ◌<◌, Bool, true, false, cond, eqb, ltb, not, ◌&&◌, List, [], ◌∷◌, ◌++◌, Option, Some, None, is_some, IsSome, option_map, refl, sym, ap, ◌∙◌, subst, inl, inr, arith}
-use Rattle.std.proofs.lemmas.Bool.{cases_eq, or_right, and_parts, ltb-true, false≢true}
+use Rattle.std.proofs.Common.{◌≡◌, ◌≢◌, ℕ, ◌<◌, Bool, true, false, ltb, not, ◌&&◌, List, [], ◌∷◌, ◌++◌, Option, Some, None, is_some, IsSome, option_map, refl, sym, ap, ◌∙◌, subst, inl, inr, arith}
+use Rattle.std.proofs.lemmas.Bool.{cases_eq, and_parts, ltb-true, false≢true}
 use Rattle.std.proofs.lemmas.List.{map_push}
 use Rattle.std.specs.Cmp.{nat_cmp_total}
 use Rattle.std.specs.FinMap.{get as at, insert, remove, same_map, nat_cmp-IsAntisymmetric}
@@ -13,7 +13,7 @@ use Rattle.blocking_pool.specs.declared.pool.standing.Standing.TheVariants.{Queu
 use Rattle.blocking_pool.specs.Tables.{Table, job_at, serial_or_zero, serials_at, table_of, IsTable, is_parked_entry, HoldsParked, IsKept, Becomes, TakesFirst, found_of}
 use Rattle.blocking_pool.specs.TableLends.{IfLent}
 use Rattle.blocking_pool.specs.declared.pool.table.Entry.{Entry}
-use Rattle.blocking_pool.proofs.Lists.{by_eq, is_in-last, is_in-push, same_ends, is_in-without, is_in-without_itself, IsOnce-without, IsOnce-push}
+use Rattle.blocking_pool.proofs.Lists.{is_in-last, is_in-push, same_ends, is_in-without, is_in-without_itself, IsOnce-without, IsOnce-push}
 use Rattle.blocking_pool.proofs.Standings.{queued_is, standing_job, running_job}
 use Rattle.blocking_pool.proofs.TableLemmas.{jobs_of, tabled, Changes, changed_jobs, changed_table, Follows, same_serials, front_queued, taken_by, Takes, takes, Inserts, inserts, Removes, removes, entry_of, job_here, job_nowhere, at_insert_same, at_insert_other, amend_found}
 

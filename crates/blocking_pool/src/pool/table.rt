@@ -101,7 +101,8 @@ impl<J: Drop> Table<J> {
     {
         self.entries.reserve(1)?;
         let place = self.entries.vacant_key();
-        due.make_room(place.checked_add(1).ok_or(AllocError)?)?;
+        let count = place.checked_add(1).ok_or(AllocError)?;
+        due.make_room(count)?;
         self.queue.make_room(place)?;
         self.parked.make_room(place)
     }
