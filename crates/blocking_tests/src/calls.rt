@@ -38,23 +38,30 @@ fn answer<H: Host>(rt: &H, task: Task<Succeed, H>, is_cancelled: bool) -> io::Re
     block_on(rt, task)
 }
 
-// What so many calls answer, added up. Where every third is cancelled, the others' answers count.
-fn sum<H: Host>(
+type Tasks<H> = Vec<Task<Succeed, H>>;
+
+// Begins so many calls. (fewer where one is refused)
+fn begin<H: Host>(
     rt: &H,
     executor: &Executor<CallJob<Succeed, H>, H>,
     count: u64,
-    is_third_cancelled: bool,
-) -> io::Result<u64> {
+) -> io::Result<Tasks<H>> {
     let mut tasks = Vec::new(rt.alloc());
     for n in 0..count {
-        match unblock(executor, Succeed(n)) {
-            Ok(task) => tasks.push((task, is_third_cancelled && n % 3 == 0))?,
-            Err(_) => return Ok(0),
+        if let Ok(task) = unblock(executor, Succeed(n)) {
+            tasks.push(task)?;
         }
     }
+    Ok(tasks)
+}
+
+// What the calls answer, added up. Where every third is cancelled, the others' answers count.
+fn sum<H: Host>(rt: &H, tasks: Tasks<H>, is_third_cancelled: bool) -> io::Result<u64> {
     let mut sum = 0u64;
-    for (task, is_cancelled) in tasks {
-        sum = sum.saturating_add(answer(rt, task, is_cancelled)?);
+    let mut n = 0u64;
+    for task in tasks {
+        sum = sum.saturating_add(answer(rt, task, is_third_cancelled && n % 3 == 0)?);
+        n = n.saturating_add(1);
     }
     Ok(sum)
 }
@@ -62,14 +69,16 @@ fn sum<H: Host>(
 #[test]
 fn hundred_calls_give_hundred_answers(rt: HostRuntime) -> Result<(), Fail> {
     let executor = Executor::new(rt, None)?;
-    assert_eq!(rt; sum(&rt, &executor, 100, false)?, 5050);
+    let tasks = begin(&rt, &executor, 100)?;
+    assert_eq!(rt; sum(&rt, tasks, false)?, 5050);
     Ok(())
 }
 
 #[test]
 fn thousand_calls_of_which_every_third_is_cancelled(rt: HostRuntime) -> Result<(), Fail> {
     let executor = Executor::new(rt, Some("4"))?;
-    assert_eq!(rt; sum(&rt, &executor, 1000, true)?, 333_333);
+    let tasks = begin(&rt, &executor, 1000)?;
+    assert_eq!(rt; sum(&rt, tasks, true)?, 333_333);
     assert!(rt; come_to_be(&rt, 0)?);
     Ok(())
 }

@@ -18,6 +18,8 @@ const NAMES: Row = (
         Workers(2),
         Worker(1),
         Worker(2),
+        Do(0, GoOn),
+        Do(1, GoOn),
     ],
 );
 
@@ -39,6 +41,8 @@ const LIMIT_BY_CALL: Row = (
         Do(0, GoOn),
         See(2, Stops),
         Workers(2),
+        Do(1, GoOn),
+        Do(2, GoOn),
     ],
 );
 

@@ -50,6 +50,7 @@ const USED: &[Row] = &[
             See(2, There),
             Do(2, GoOn),
             See(2, Goes),
+            Do(4, GoOn),
         ],
     ),
     (
@@ -68,6 +69,8 @@ const USED: &[Row] = &[
             See(3, Stops),
             Do(2, GoOn),
             See(2, Goes),
+            Do(1, GoOn),
+            Do(3, GoOn),
         ],
     ),
 ];

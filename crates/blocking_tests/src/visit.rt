@@ -7,6 +7,9 @@ use std::thread;
 /// How often a test looks for what has to come, before it says that it doesn't: for some seconds, and longer beside other work.
 pub(crate) const LOOKS: u32 = 10_000_000;
 
+// How often a call that has stopped looks so, before it goes on by itself.
+const STOP_LOOKS: u32 = 20;
+
 /// Whether the flag is set before long.
 pub(crate) fn comes(flag: &AtomicBool) -> bool {
     for _ in 0..LOOKS {
@@ -54,9 +57,14 @@ impl Track {
         }
     }
 
+    // (a stop lasts longer than a test looks for anything)
     fn stop(&self) {
         self.has_stopped.store(true, Ordering::SeqCst);
-        let _ = comes(&self.may_go_on);
+        for _ in 0..STOP_LOOKS {
+            if comes(&self.may_go_on) {
+                return;
+            }
+        }
     }
 
     pub(crate) fn go_on(&self) {

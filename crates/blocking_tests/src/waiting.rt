@@ -3,7 +3,7 @@ use crate::visit::{LOOKS, comes};
 use crate::waiting::Act::{Mark, Open};
 use crate::waiting::Sight::{Drops, LosesNoWake, Steps, Wakes};
 use crate::waiting::Step::{Add, Do, See, Sweep};
-use blocking::{Executor, Host};
+use blocking::{Executor, Host, Runtime};
 use blocking_core::pool::{Job, JobNo, JobStep, WakeNote, Woke};
 use std::sync::Arc;
 use std::sync::atomic::{AtomicBool, AtomicU64, Ordering};
@@ -70,11 +70,14 @@ impl Track {
         }
     }
 
-    fn act(&self, act: Act) {
-        match act {
-            Open => self.is_open.store(true, Ordering::SeqCst),
-            Mark => self.mark.store(true, Ordering::SeqCst),
-        }
+    // (anything can be done at any time)
+    fn act(&self, act: Act) -> bool {
+        let flag = match act {
+            Open => &self.is_open,
+            Mark => &self.mark,
+        };
+        flag.store(true, Ordering::SeqCst);
+        true
     }
 
     fn reaches(&self, step: u64) -> bool {
@@ -115,7 +118,7 @@ impl Job for Waiter {
 
     fn step(&mut self, _me: JobNo) -> JobStep {
         if self.marks_itself {
-            self.track.act(Mark);
+            self.track.mark.store(true, Ordering::SeqCst);
         }
         self.track.steps.fetch_add(1, Ordering::SeqCst);
         let _ = comes(&self.track.is_open);
@@ -139,13 +142,13 @@ struct Added {
 
 // An executor and the jobs that were added to it.
 #[derive(Drop)]
-struct Bench<H: Host> {
+struct Bench<H: Runtime> {
     rt: H,
     executor: Executor<Waiter, H>,
     jobs: Vec<Added>,
 }
 
-impl<H: Host> Bench<H> {
+impl<H: Runtime> Bench<H> {
     fn add(&mut self, kind: Kind) -> io::Result<bool> {
         let track = Arc::new(self.rt.alloc(), Track::new(kind.is_open))?;
         let job = Waiter {
@@ -186,12 +189,14 @@ impl<H: Host> Bench<H> {
     fn take(&mut self, step: Step) -> io::Result<bool> {
         match step {
             Add(kind) => self.add(kind),
-            Do(place, act) => Ok(self.jobs.get(place).map(|job| job.track.act(act)).is_some()),
-            See(place, sight) => Ok(
-                self.jobs
-                    .get(place)
-                    .is_some_and(|job| self.shows(job, sight)),
-            ),
+            Do(place, act) => match self.jobs.get(place) {
+                Some(job) => Ok(job.track.act(act)),
+                None => Ok(false),
+            },
+            See(place, sight) => match self.jobs.get(place) {
+                Some(job) => Ok(self.shows(job, sight)),
+                None => Ok(false),
+            },
             Sweep(count) => Ok(self.executor.sweep() == count),
         }
     }
