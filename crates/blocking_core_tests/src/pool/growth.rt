@@ -1,12 +1,17 @@
 //! Growth by the queue, and starts that are refused.
 use super::bench::play;
 use super::step::Count::{Arriving, Idle, Queued, Workers};
-use super::step::Shown::{Accepted, Are, Arrived, LimitIs, NoAnswer, Rang, Refused, Runs};
-use super::step::Step::{Add, Arrive, Ask, Limit, Ring, SetLimit, Worker};
-use super::step::Work::Take;
+use super::step::Deed::{Mark, Wake};
+use super::step::Ending::Waiting;
+use super::step::Shown::{
+    Accepted, Are, Arrived, Free, Lent, LimitIs, NoAnswer, Rang, Refused, Runs, Swept, Woke,
+};
+use super::step::Step::{Add, Arrive, Ask, Job, Limit, Ring, SetLimit, Sweep, Worker};
+use super::step::Work::{End, Take};
 use super::step::{Given, LIMIT_4, NEW, Row};
 use blocking_core::pool::BellKind::{All, Silent};
 use blocking_core::pool::Refusal::{NoWorker, Numbers};
+use blocking_core::pool::Woke::Entered;
 
 const ROWS: &[Row] = &[
     Row {
@@ -65,6 +70,55 @@ const ROWS: &[Row] = &[
         starts: &[1, 2],
     },
     Row {
+        name: "a take lets the pool grow",
+        pool: LIMIT_4,
+        begin: &[],
+        steps: &[
+            (Add(1), Accepted(1)),
+            (Add(2), Accepted(2)),
+            (Arrive, Arrived(1)),
+            (Ask(Workers), Are(1)),
+            (Worker(1, Take), Runs(1)),
+            (Ask(Workers), Are(2)),
+        ],
+        starts: &[1, 2],
+    },
+    Row {
+        name: "a wake lets the pool grow",
+        pool: LIMIT_4,
+        begin: &[],
+        steps: &[
+            (Add(1), Accepted(1)),
+            (Arrive, Arrived(1)),
+            (Worker(1, Take), Runs(1)),
+            (Worker(1, End(Waiting)), Free),
+            (Add(2), Accepted(2)),
+            (Worker(1, Take), Runs(2)),
+            (Ask(Workers), Are(1)),
+            (Job(1, Wake), Woke(Entered)),
+            (Ask(Workers), Are(2)),
+        ],
+        starts: &[1, 2],
+    },
+    Row {
+        name: "a sweep lets the pool grow",
+        pool: LIMIT_4,
+        begin: &[],
+        steps: &[
+            (Add(1), Accepted(1)),
+            (Arrive, Arrived(1)),
+            (Worker(1, Take), Runs(1)),
+            (Worker(1, End(Waiting)), Free),
+            (Job(1, Mark), Lent(true)),
+            (Add(2), Accepted(2)),
+            (Worker(1, Take), Runs(2)),
+            (Ask(Workers), Are(1)),
+            (Sweep, Swept(1)),
+            (Ask(Workers), Are(2)),
+        ],
+        starts: &[1, 2],
+    },
+    Row {
         name: "the first start is refused",
         pool: Given {
             refused: &[1],
@@ -73,6 +127,7 @@ const ROWS: &[Row] = &[
         begin: &[],
         steps: &[
             (Add(7), Refused(NoWorker, 7)),
+            (Ring, Rang(Silent)),
             (Ask(Workers), Are(0)),
             (Ask(Queued), Are(0)),
             (Limit, LimitIs(Some(1))),
