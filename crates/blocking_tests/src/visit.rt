@@ -5,7 +5,7 @@ use std::sync::atomic::{AtomicBool, Ordering};
 use std::thread;
 
 /// How often a test looks for what has to come, before it says that it doesn't: for some seconds, and longer beside other work.
-pub(crate) const LOOKS: u32 = 10_000_000;
+pub(crate) const LOOKS: u32 = 20_000_000;
 
 // How often a call that has stopped looks so, before it goes on by itself.
 const STOP_LOOKS: u32 = 20;
