@@ -3,24 +3,31 @@ ghost use Rattle.std.specs.Prelude.{◌≡◌, ◌<◌, IfErr};
 
 use crate::desk::{Desk, ThreadStarter};
 use crate::held::{Ended, Held};
+use crate::lookout::Lookout;
 use crate::runtime::Runtime;
 use blocking_core::pool::{
-    Finish, Job, JobNo, JobStep, Refusal, Refused, Starter, Took, Turn, WakeNote, Woke, WorkerPass,
+    Bell, BellKind, Finish, Job, JobNo, JobStep, Refusal, Refused, Starter, Took, Turn, WakeNote,
+    Woke, WorkerPass,
 };
 use std::alloc::AllocError;
+use std::hint::spin_loop;
 use std::io;
-use std::sync::{Arc, Condvar, Mutex, Wait};
-use std::thread::{Builder, Threads};
+use std::sync::{Arc, Condvar, Mutex, MutexGuard, Wait};
+use std::thread::{Builder, Threads, yield_now};
 use std::time::Duration;
 
 // How long an idle worker waits before it may stop.
 const IDLE_MILLIS: u64 = 500;
 
+// How often the pool's lock is tried before a thread sleeps for it. The pause after each try is twice the one before.
+const TRIES: u32 = 6;
+
 #[derive(Drop)]
 struct Shared<J: Job> {
     held: Mutex<Held<J>>,
-    // Where idle workers wait.
+    // Where idle workers sleep.
     condvar: Condvar,
+    lookout: Lookout,
     desk: Desk,
 }
 
@@ -44,6 +51,7 @@ impl<J: Job + Send + 'static, H: Runtime + Threads + Send + Sync + 'static> Exec
         let shared = Shared {
             held: Mutex::new(Held::new(alloc, setting)),
             condvar: Condvar::new(),
+            lookout: Lookout::new(),
             desk: Desk::new(),
         };
         let Ok(shared) = Arc::new(alloc, shared) else {
@@ -111,6 +119,30 @@ impl<J: Job, H: Runtime> Executor<J, H> {
         self.rt
     }
 
+    // Begins a section: takes the pool's lock. A section is over sooner than a thread that sleeps for the lock is awake again,
+    // so the lock is tried for a while before.
+    fn enter(&self) -> MutexGuard<'_, Held<J>> {
+        for turn in 0..TRIES {
+            if let Some(held) = self.shared.held.try_lock() {
+                return held;
+            }
+            pause(1u32 << turn);
+        }
+        yield_now();
+        self.shared.held.lock(&self.rt)
+    }
+
+    // Ends a section: lets the lock go, and notifies whom the section rang. A worker that looks for a job stands in for the one
+    // that would be notified.
+    fn leave(&self, held: MutexGuard<'_, Held<J>>, bell: Bell) {
+        self.shared.lookout.tell(held.is_queued());
+        drop(held);
+        match bell.kind() {
+            BellKind::One if self.shared.lookout.claim() => bell.heard(),
+            _ => bell.ring(&self.shared.condvar),
+        }
+    }
+
     fn starter(&self) -> ThreadStarter<'_, H> {
         ThreadStarter::new(&self.shared.desk, self.rt)
     }
@@ -120,20 +152,18 @@ impl<J: Job, H: Runtime> Executor<J, H> {
         ensures { IfErr result (λ refused. refused.back ≡ job) }
     {
         let mut starter = self.starter();
-        let mut held = self.shared.held.lock(&self.rt);
+        let mut held = self.enter();
         let (answer, bell) = held.add(job, &mut starter);
-        drop(held);
-        bell.ring(&self.shared.condvar);
+        self.leave(held, bell);
         answer
     }
 
     /// Wakes a job, as [`Pool::wake`](blocking_core::pool::Pool::wake).
     pub fn wake(&self, note: WakeNote) -> Woke {
         let mut starter = self.starter();
-        let mut held = self.shared.held.lock(&self.rt);
+        let mut held = self.enter();
         let (woke, bell) = held.wake(note, &mut starter);
-        drop(held);
-        bell.ring(&self.shared.condvar);
+        self.leave(held, bell);
         woke
     }
 
@@ -141,20 +171,18 @@ impl<J: Job, H: Runtime> Executor<J, H> {
     /// many they were. An idle worker does so too after each wait that timed out.
     pub fn sweep(&self) -> usize {
         let mut starter = self.starter();
-        let mut held = self.shared.held.lock(&self.rt);
+        let mut held = self.enter();
         let (count, bell) = held.sweep(&mut starter);
-        drop(held);
-        bell.ring(&self.shared.condvar);
+        self.leave(held, bell);
         count
     }
 
     /// What a worker does from its arrival until it stops. No lock is held while a job runs or is dropped.
     pub fn work<S: Starter>(&self, starter: &mut S) {
         let rt = self.rt;
-        let mut held = self.shared.held.lock(&rt);
+        let mut held = self.enter();
         let (took, bell) = held.arrive(starter);
-        drop(held);
-        bell.ring(&self.shared.condvar);
+        self.leave(held, bell);
         let mut next = took;
         for _ in rt.forever() {
             let Some(took) = next else {
@@ -181,10 +209,9 @@ impl<J: Job, H: Runtime> Executor<J, H> {
         let mut turn = turn;
         let mut finish = finish;
         for _ in rt.forever() {
-            let mut held = self.shared.held.lock(&rt);
+            let mut held = self.enter();
             let (ended, bell) = held.end(turn, finish, starter);
-            drop(held);
-            bell.ring(&self.shared.condvar);
+            self.leave(held, bell);
             match ended {
                 Ended::Took(took) => return took,
                 Ended::Drop(turn, job) => return Took::Drop(turn, job),
@@ -201,12 +228,13 @@ impl<J: Job, H: Runtime> Executor<J, H> {
         unreachable!()
     }
 
-    // Waits for a job or a timeout, and takes or stops. A worker sleeps only where it saw the queue empty under the same
-    // lock: a job that entered before would have rung nobody.
+    // Looks for a job, waits for one or a timeout, and takes or stops. A worker sleeps only where it saw the queue empty under
+    // the same lock: a job that entered before would have rung nobody.
     fn wait<S: Starter>(&self, pass: WorkerPass, starter: &mut S) -> Option<Took<J>> {
         let rt = self.rt;
+        self.shared.lookout.look();
         for _ in rt.forever() {
-            let mut held = self.shared.held.lock(&rt);
+            let mut held = self.enter();
             let mut timed_out = false;
             if !held.is_queued() {
                 let idle = Duration::from_millis(IDLE_MILLIS);
@@ -216,12 +244,17 @@ impl<J: Job, H: Runtime> Executor<J, H> {
             }
             if held.has_idle() {
                 let (took, bell) = held.after_wait(pass, timed_out, starter);
-                drop(held);
-                bell.ring(&self.shared.condvar);
+                self.leave(held, bell);
                 return took;
             }
         }
         unreachable!()
+    }
+}
+
+fn pause(turns: u32) {
+    for _ in 0..turns {
+        spin_loop();
     }
 }
 
@@ -241,8 +274,7 @@ fn run<J: Job, R: Wait>(turn: &Turn, mut job: J, rt: &R) -> Finish<J> {
 pub fn set_max_blocking_threads<J: Job, H: Runtime>(executor: &Executor<J, H>, threads: usize)
     requires { 0 < threads }
 {
-    let mut held = executor.shared.held.lock(&executor.rt);
+    let mut held = executor.enter();
     let bell = held.set_limit(threads);
-    drop(held);
-    bell.ring(&executor.shared.condvar);
+    executor.leave(held, bell);
 }

@@ -5,6 +5,7 @@ mod desk;
 pub mod executor;
 mod held;
 pub mod job;
+mod lookout;
 mod runtime;
 mod slot;
 pub mod task;

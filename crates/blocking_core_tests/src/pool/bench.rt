@@ -2,8 +2,8 @@
 use super::step::{Count, Deed, Ending, Given, Line, Row, Shown, Step, Until, Work};
 use crate::stop::stop;
 use blocking_core::pool::{
-    Bell, Finish, Gone, Job, JobNo, JobStep, Pool, StartRefused, Starter, Took, Turn, Waited,
-    WakeNote, WorkerPass,
+    Bell, BellKind, Finish, Gone, Job, JobNo, JobStep, Pool, StartRefused, Starter, Took, Turn,
+    Waited, WakeNote, WorkerPass,
 };
 use std::alloc::{AllocGlobal, Global};
 use std::mem;
@@ -334,7 +334,10 @@ impl Bench {
     fn ring(&mut self) -> Shown {
         let bell: Bell = self.pool.bell();
         let kind = bell.kind();
-        bell.ring(&Condvar::new());
+        match kind {
+            BellKind::One => bell.heard(),
+            _ => bell.ring(&Condvar::new()),
+        }
         Shown::Rang(kind)
     }
 

@@ -13,7 +13,7 @@ pub enum BellKind {
     All,
 }
 
-/// A ring that is due to the workers that wait. It has no `Drop`: it has to be spent by [`Bell::ring`].
+/// A ring that is due to the workers that wait. It has no `Drop`: it has to be spent, by [`Bell::ring`] or [`Bell::heard`].
 pub struct Bell {
     kind: BellKind,
 }
@@ -28,6 +28,7 @@ impl Model for Bell {
 
 impl Bell {
     ghost use Rattle.std.specs.Prelude.{◌≡◌};
+    ghost use Rattle.blocking_pool.specs.declared.pool.bell.BellKind.{BellKind};
 
     pub(crate) fn new(kind: BellKind) -> Bell
         ensures { result ≡ kind }
@@ -51,5 +52,13 @@ impl Bell {
             BellKind::One => condvar.notify_one(),
             BellKind::All => condvar.notify_all(),
         }
+    }
+
+    /// Spends the ring of one worker, and notifies nobody. For a ring that an idle worker hears which doesn't wait: one that takes
+    /// the pool's lock after this call, as the one that is notified does.
+    pub fn heard(self)
+        requires { self ≡ BellKind.One }
+    {
+        let Bell { kind: _ } = self;
     }
 }

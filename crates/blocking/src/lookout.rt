@@ -1,0 +1,55 @@
+//! The worker that looks for a job before it sleeps: a thread that sleeps has to be woken, which costs far more than a few looks.
+//!
+//! At most one worker looks at a time, and what it sees decides nothing: it takes the pool's lock after each look. So does a worker
+//! that was notified, which is why one that looks may stand in for it.
+
+use std::sync::atomic::{AtomicBool, Ordering};
+use std::thread::yield_now;
+
+// How often a worker looks. Between two looks it lets other threads have its processor.
+const LOOKS: u32 = 10;
+
+#[derive(Drop)]
+pub(crate) struct Lookout {
+    // Whether there is a worker that looks and that nobody has claimed.
+    is_manned: AtomicBool,
+    // Whether a job was queued when the last section ended.
+    is_queued: AtomicBool,
+}
+
+impl Lookout {
+    pub(crate) fn new() -> Lookout {
+        Lookout {
+            is_manned: AtomicBool::new(false),
+            is_queued: AtomicBool::new(false),
+        }
+    }
+
+    /// Tells whoever looks whether a job is queued. To be called under the pool's lock.
+    pub(crate) fn tell(&self, is_queued: bool) {
+        // (a write takes the line from those that read it)
+        if self.is_queued.load(Ordering::Relaxed) != is_queued {
+            self.is_queued.store(is_queued, Ordering::Relaxed);
+        }
+    }
+
+    /// Claims the worker that looks, if there is one that nobody has claimed. It takes the pool's lock after this, and so it finds
+    /// what the caller's last section has queued, or that somebody else has taken it.
+    pub(crate) fn claim(&self) -> bool {
+        self.is_manned.load(Ordering::SeqCst) && self.is_manned.swap(false, Ordering::SeqCst)
+    }
+
+    /// Looks for a job for a while, unless another worker does. The caller takes the pool's lock next.
+    pub(crate) fn look(&self) {
+        if self.is_manned.swap(true, Ordering::SeqCst) {
+            return;
+        }
+        for _ in 0..LOOKS {
+            if self.is_queued.load(Ordering::Relaxed) {
+                break;
+            }
+            yield_now();
+        }
+        self.is_manned.store(false, Ordering::SeqCst);
+    }
+}
