@@ -1,4 +1,4 @@
-//! Many calls, and a call that takes its time.
+//! Many calls, calls that wait for each other, and a call that takes its time.
 use crate::planned::{Ends, Planned};
 use crate::scene::Act::GoOn;
 use crate::scene::Sight::{Gives, Sleeps, Stops, Waits, Wakes};
@@ -10,7 +10,10 @@ use blocking::{CallJob, Executor, Host, Task, unblock};
 use blocking_core::task::Call;
 use futures::executor::block_on;
 use std::io;
+use std::sync::Arc;
+use std::sync::atomic::{AtomicU64, Ordering};
 use std::test::Fail;
+use std::thread::yield_now;
 
 // Answers one more.
 #[derive(Drop)]
@@ -80,6 +83,92 @@ fn thousand_calls_of_which_every_third_is_cancelled(rt: HostRuntime) -> Result<(
     let tasks = begin(&rt, &executor, 1000)?;
     assert_eq!(rt; sum(&rt, tasks, true)?, 333_333);
     assert!(rt; come_to_be(&rt, 0)?);
+    Ok(())
+}
+
+// How often a call looks for the other of its pair.
+const TURNS: u32 = 1_000_000;
+
+// One of two calls that each wait for the other. Each tells its round.
+#[derive(Drop)]
+struct Meet {
+    round: u64,
+    own: Arc<AtomicU64>,
+    other: Arc<AtomicU64>,
+}
+
+impl Call for Meet {
+    type Out = bool;
+
+    ghost may_give = { λ _. Unit {0} };
+
+    // Answers whether the other came.
+    fn call(self) -> bool {
+        self.own.store(self.round, Ordering::SeqCst);
+        for _ in 0..TURNS {
+            if self.other.load(Ordering::SeqCst) >= self.round {
+                return true;
+            }
+            yield_now();
+        }
+        false
+    }
+}
+
+// The rounds of both calls of a pair.
+#[derive(Drop)]
+struct Pair {
+    first: Arc<AtomicU64>,
+    second: Arc<AtomicU64>,
+}
+
+// Whether the calls of this round meet.
+fn pair_meets<H: Host>(
+    rt: &H,
+    executor: &Executor<CallJob<Meet, H>, H>,
+    pair: &Pair,
+    round: u64,
+) -> io::Result<bool> {
+    let first = Meet {
+        round,
+        own: Arc::try_clone(&pair.first)?,
+        other: Arc::try_clone(&pair.second)?,
+    };
+    let second = Meet {
+        round,
+        own: Arc::try_clone(&pair.second)?,
+        other: Arc::try_clone(&pair.first)?,
+    };
+    let (Ok(first), Ok(second)) = (unblock(executor, first), unblock(executor, second)) else {
+        return Ok(false);
+    };
+    if first.is_taken() || second.is_taken() {
+        return Ok(false);
+    }
+    Ok(block_on(rt, first)? && block_on(rt, second)?)
+}
+
+// Whether the calls of each of so many rounds meet.
+fn pairs_meet<H: Host>(rt: H, rounds: u64) -> io::Result<bool> {
+    let Ok(executor) = Executor::new(rt, Some("2")) else {
+        return Ok(false);
+    };
+    let pair = Pair {
+        first: Arc::new(rt.alloc(), AtomicU64::new(0))?,
+        second: Arc::new(rt.alloc(), AtomicU64::new(0))?,
+    };
+    for round in 1..=rounds {
+        if !pair_meets(&rt, &executor, &pair, round)? {
+            return Ok(false);
+        }
+    }
+    Ok(true)
+}
+
+// (the calls of a round find their workers idle, asleep or looking, as the round before left them)
+#[test]
+fn two_calls_run_at_once(rt: HostRuntime) -> Result<(), Fail> {
+    assert!(rt; pairs_meet(rt, 2000)?);
     Ok(())
 }
 
