@@ -1,6 +1,6 @@
 -- What each section under the pool's lock does: one call of the pool, or two where a worker takes right away, and then the
 -- bell is asked.
-use Rattle.std.specs.Prelude.{◌≡◌, ℕ, Bool, Option, Some, None, Result, List}
+use Rattle.std.specs.Prelude.{◌≡◌, ℕ, Bool, false, nat_lt, Option, Some, None, Result, List}
 use Rattle.std.specs.Borrow.{Bor}
 use Rattle.blocking_pool.specs.Jobs.{JobNumber}
 use Rattle.blocking_pool.specs.Counts.{limited, silenced}
@@ -17,6 +17,11 @@ use Rattle.blocking_pool.specs.declared.pool.answer.Waited.TheVariants.{Stay, St
 use Rattle.blocking_pool.specs.declared.pool.token.WorkerPass.{WorkerPass}
 use Rattle.blocking.specs.declared.held.Ended.{Ended}
 use Rattle.blocking.specs.declared.held.Ended.TheVariants as ended
+
+-- whether so many workers are more than a limit that stands
+abbrev pub is_over : Option ℕ → ℕ → Bool
+is_over None workers = false
+is_over (Some limit) workers = nat_lt limit workers
 
 module _ {J : Type 0} where
   -- the bell tells what the calls of the section rang, and leaves the pool silent

@@ -135,10 +135,11 @@ impl<J: Job, H: Runtime> Executor<J, H> {
     // Ends a section: lets the lock go, and notifies whom the section rang. A worker that looks for a job stands in for the one
     // that would be notified.
     fn leave(&self, held: MutexGuard<'_, Held<J>>, bell: Bell) {
+        let is_heard = matches!(bell.kind(), BellKind::One) && self.shared.lookout.claim();
         self.shared.lookout.tell(held.is_queued());
         drop(held);
         match bell.kind() {
-            BellKind::One if self.shared.lookout.claim() => bell.heard(),
+            BellKind::One if is_heard => bell.heard(),
             _ => bell.ring(&self.shared.condvar),
         }
     }
@@ -228,15 +229,15 @@ impl<J: Job, H: Runtime> Executor<J, H> {
         unreachable!()
     }
 
-    // Looks for a job, waits for one or a timeout, and takes or stops. A worker sleeps only where it saw the queue empty under
-    // the same lock: a job that entered before would have rung nobody.
+    // Looks for a job, waits for one or a timeout, and takes or stops. A worker sleeps only where it saw under the same lock that
+    // no job is queued and that it need not stop: who told of that before would have notified nobody.
     fn wait<S: Starter>(&self, pass: WorkerPass, starter: &mut S) -> Option<Took<J>> {
         let rt = self.rt;
         self.shared.lookout.look();
         for _ in rt.forever() {
             let mut held = self.enter();
             let mut timed_out = false;
-            if !held.is_queued() {
+            if !held.is_queued() && !held.is_over_limit() {
                 let idle = Duration::from_millis(IDLE_MILLIS);
                 let (woken, waited) = self.shared.condvar.wait_timeout(&rt, held, idle);
                 held = woken;

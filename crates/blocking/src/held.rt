@@ -27,7 +27,7 @@ pub enum Ended<J> {
 
 impl<J: Job> Held<J> {
     ghost use Rattle.blocking_pool.specs.Starters.{asked};
-    ghost use Rattle.blocking.specs.Sections.{Adds, Starts, Wakes, Sweeps, ArrivesAndTakes, EndsAndTakes, WaitsAndTakes, SetsLimit};
+    ghost use Rattle.blocking.specs.Sections.{Adds, Starts, Wakes, Sweeps, ArrivesAndTakes, EndsAndTakes, WaitsAndTakes, SetsLimit, is_over};
 
     pub fn new(alloc: Global, setting: Option<&str>) -> Held<J>
         ensures { Starts setting.entry result.pool }
@@ -108,6 +108,16 @@ impl<J: Job> Held<J> {
         ensures { (result ≡ true) ↔ (0 < length self.now.pool.queue) }
     {
         self.pool.queue_len() > 0
+    }
+
+    /// Whether there are more workers than the limit.
+    pub fn is_over_limit(&self) -> bool
+        ensures { result ≡ is_over self.now.pool.counts.limit self.now.pool.counts.workers }
+    {
+        match self.pool.limit() {
+            Some(limit) => limit < self.pool.thread_count(),
+            None => false,
+        }
     }
 
     /// An idle worker has waited: it takes, or it stops. Where the wait timed out it sweeps first.

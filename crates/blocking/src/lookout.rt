@@ -1,6 +1,6 @@
 //! The worker that looks for a job before it sleeps: a thread that sleeps has to be woken, which costs far more than a few looks.
 //!
-//! At most one worker looks at a time, and what it sees decides nothing: it takes the pool's lock after each look. So does a worker
+//! At most one worker looks at a time, and what it sees decides nothing: it takes the pool's lock after its look. So does a worker
 //! that was notified, which is why one that looks may stand in for it.
 
 use std::sync::atomic::{AtomicBool, Ordering};
@@ -11,8 +11,10 @@ const LOOKS: u32 = 10;
 
 #[derive(Drop)]
 pub(crate) struct Lookout {
-    // Whether there is a worker that looks and that nobody has claimed.
+    // Whether a worker looks.
     is_manned: AtomicBool,
+    // Whether it may be claimed.
+    is_free: AtomicBool,
     // Whether a job was queued when the last section ended.
     is_queued: AtomicBool,
 }
@@ -21,6 +23,7 @@ impl Lookout {
     pub(crate) fn new() -> Lookout {
         Lookout {
             is_manned: AtomicBool::new(false),
+            is_free: AtomicBool::new(false),
             is_queued: AtomicBool::new(false),
         }
     }
@@ -33,10 +36,10 @@ impl Lookout {
         }
     }
 
-    /// Claims the worker that looks, if there is one that nobody has claimed. It takes the pool's lock after this, and so it finds
-    /// what the caller's last section has queued, or that somebody else has taken it.
+    /// Claims the worker that looks, if there is one that nobody has claimed. To be called under the pool's lock, which that
+    /// worker takes later: it finds what the section has queued, or somebody else has taken it.
     pub(crate) fn claim(&self) -> bool {
-        self.is_manned.load(Ordering::SeqCst) && self.is_manned.swap(false, Ordering::SeqCst)
+        self.is_free.load(Ordering::SeqCst) && self.is_free.swap(false, Ordering::SeqCst)
     }
 
     /// Looks for a job for a while, unless another worker does. The caller takes the pool's lock next.
@@ -44,12 +47,14 @@ impl Lookout {
         if self.is_manned.swap(true, Ordering::SeqCst) {
             return;
         }
+        self.is_free.store(true, Ordering::SeqCst);
         for _ in 0..LOOKS {
             if self.is_queued.load(Ordering::Relaxed) {
                 break;
             }
             yield_now();
         }
+        self.is_free.store(false, Ordering::SeqCst);
         self.is_manned.store(false, Ordering::SeqCst);
     }
 }
