@@ -1,7 +1,7 @@
 //! The worker that looks for a job before it sleeps: a thread that sleeps has to be woken, which costs far more than a few looks.
 //!
-//! At most one worker looks at a time, and what it sees decides nothing: it takes the pool's lock after each look. So does a worker
-//! that was notified, which is why one that looks may stand in for it.
+//! A worker looks unless another does that may be claimed. What it sees decides nothing: it takes the pool's lock after its looks.
+//! So does a worker that was notified, which is why one that looks may stand in for it.
 
 use std::sync::atomic::{AtomicBool, Ordering};
 use std::thread::yield_now;
@@ -39,7 +39,7 @@ impl Lookout {
         self.is_manned.load(Ordering::SeqCst) && self.is_manned.swap(false, Ordering::SeqCst)
     }
 
-    /// Looks for a job for a while, unless another worker does. The caller takes the pool's lock next.
+    /// Looks for a job for a while, unless another worker does that may be claimed. The caller takes the pool's lock next.
     pub(crate) fn look(&self) {
         if self.is_manned.swap(true, Ordering::SeqCst) {
             return;
