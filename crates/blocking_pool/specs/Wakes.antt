@@ -5,7 +5,7 @@ use Rattle.blocking_pool.specs.declared.pool.standing.Standing.TheVariants.{Queu
 use Rattle.blocking_pool.specs.declared.pool.answer.Woke.{Woke}
 use Rattle.blocking_pool.specs.declared.pool.answer.Woke.TheVariants.{Entered, Marked, Nothing}
 
--- a wake puts a parked job back, and marks a running one
+-- a wake puts a parked job back, and flags a running one
 abbrev pub wake_of : Option Standing → Woke
 wake_of None = Nothing
 wake_of (Some Queued) = Nothing
@@ -14,7 +14,7 @@ wake_of (Some Parked) = Entered
 wake_of (Some Done) = Nothing
 wake_of (Some Dropped) = Nothing
 
--- a cancel puts a parked job back, and marks one that is queued or running
+-- a cancel puts a parked job back, and flags one that is queued or running
 abbrev pub cancel_of : Option Standing → Woke
 cancel_of None = Nothing
 cancel_of (Some Queued) = Marked

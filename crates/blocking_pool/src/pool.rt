@@ -158,7 +158,7 @@ impl<J: Job> Pool<J> {
         Took::Run(Turn::new(no), value)
     }
 
-    /// A wake reaches its job. A parked job stands at the queue's end again, and the pool grows; a running one is marked,
+    /// A wake reaches its job. A parked job stands at the queue's end again, and the pool grows; a running one is flagged,
     /// so that it goes back to the queue where its run ends waiting. Any other job is as it was, and so is the pool where
     /// the number is no job's.
     pub fn wake<S: Starter>(&mut self, note: WakeNote, starter: &mut S) -> Woke

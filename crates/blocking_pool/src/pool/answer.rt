@@ -58,7 +58,7 @@ impl<X: Drop> Error for Refused<X> {}
 pub enum Woke {
     /// It was parked, and stands at the queue's end.
     Entered,
-    /// It was marked, and stands as it did.
+    /// It was flagged, and stands as it did.
     Marked,
     /// It is as it was.
     Nothing,

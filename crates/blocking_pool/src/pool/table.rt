@@ -183,7 +183,7 @@ impl<J: Drop> Table<J> {
         }
     }
 
-    /// Marks a job as woken.
+    /// Flags a job as woken.
     pub(crate) fn mark_woken(&mut self, no: JobNo)
         requires { IsSome (job_of self.old.jobs no) }
         ensures { Becomes self.old self.new self.old.queue (amend self.old.jobs no.serial woken) }
@@ -194,7 +194,7 @@ impl<J: Drop> Table<J> {
         entry.woken = true;
     }
 
-    /// Marks a job as cancelled.
+    /// Flags a job as cancelled.
     pub(crate) fn mark_cancelled(&mut self, no: JobNo)
         requires { IsSome (job_of self.old.jobs no) }
         ensures { Becomes self.old self.new self.old.queue
