@@ -1,7 +1,7 @@
 //! The worker that looks for a job before it sleeps: a thread that sleeps has to be woken, which costs far more than a few looks.
 //!
-//! At most one worker looks at a time, and what it sees decides nothing: it takes the pool's lock after its look. So does a worker
-//! that was notified, which is why one that looks may stand in for it.
+//! A worker looks unless another does that may be claimed. What it sees decides nothing: it takes the pool's lock after its looks.
+//! So does a worker that was notified, which is why one that looks may stand in for it.
 
 use std::sync::atomic::{AtomicBool, Ordering};
 use std::thread::yield_now;
@@ -11,10 +11,8 @@ const LOOKS: u32 = 10;
 
 #[derive(Drop)]
 pub(crate) struct Lookout {
-    // Whether a worker looks.
+    // Whether there is a worker that looks and that nobody has claimed.
     is_manned: AtomicBool,
-    // Whether it may be claimed.
-    is_free: AtomicBool,
     // Whether a job was queued when the last section ended.
     is_queued: AtomicBool,
 }
@@ -23,7 +21,6 @@ impl Lookout {
     pub(crate) fn new() -> Lookout {
         Lookout {
             is_manned: AtomicBool::new(false),
-            is_free: AtomicBool::new(false),
             is_queued: AtomicBool::new(false),
         }
     }
@@ -36,25 +33,23 @@ impl Lookout {
         }
     }
 
-    /// Claims the worker that looks, if there is one that nobody has claimed. To be called under the pool's lock, which that
-    /// worker takes later: it finds what the section has queued, or somebody else has taken it.
+    /// Claims the worker that looks, if there is one that nobody has claimed. To be called under the pool's lock, which that worker
+    /// takes later: it finds what the section has queued, or somebody else has taken it.
     pub(crate) fn claim(&self) -> bool {
-        self.is_free.load(Ordering::SeqCst) && self.is_free.swap(false, Ordering::SeqCst)
+        self.is_manned.load(Ordering::SeqCst) && self.is_manned.swap(false, Ordering::SeqCst)
     }
 
-    /// Looks for a job for a while, unless another worker does. The caller takes the pool's lock next.
+    /// Looks for a job for a while, unless another worker does that may be claimed. The caller takes the pool's lock next.
     pub(crate) fn look(&self) {
         if self.is_manned.swap(true, Ordering::SeqCst) {
             return;
         }
-        self.is_free.store(true, Ordering::SeqCst);
         for _ in 0..LOOKS {
             if self.is_queued.load(Ordering::Relaxed) {
                 break;
             }
             yield_now();
         }
-        self.is_free.store(false, Ordering::SeqCst);
         self.is_manned.store(false, Ordering::SeqCst);
     }
 }
