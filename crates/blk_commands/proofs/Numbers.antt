@@ -1,16 +1,13 @@
 -- What `parse` makes of a word of digits.
-use Rattle.std.proofs.Common.{◌≡◌, ℕ, ◌^◌, ◌<◌, true, false, List, length, Result, Ok, Err, arith, rules}
-use Rattle.std.proofs.lemmas.Str.Parse.{IsNumeralModel, numerals_by_value, parse_digits}
+use Rattle.std.proofs.Common.{◌≡◌, ℕ, ◌^◌, ◌<◌, true, false, List, length, Result, Ok, Err, arith}
+use Rattle.std.proofs.lemmas.Str.Parse.{parse_digits}
 use Rattle.std.proofs.lemmas.Grind.{common_steps}
 use Rattle.std.specs.Char.{is_ascii_digit}
 use Rattle.std.specs.List.{list_all}
 use Rattle.std.specs.Result.{OkIff, result_ok}
 use Rattle.std.specs.Str.Parse.{ParsesUnsigned, digits_value}
+use Rattle.blocking_pool.proofs.LimitLemmas.{digits}
 use Rattle.blk_commands.specs.Numbers.{is_number, number_of}
-
--- the words of digits, and their numbers, as std's lemmas on parsing want them
-digits : IsNumeralModel (λ word. list_all is_ascii_digit word ≡ true) (digits_value 10)
-digits = numerals_by_value _ (search rules)
 
 -- a word of digits is parsed exactly where it is a number
 pub parsed_number : {E : Type 0} (bits : ℕ) (word : List ℕ) (r : Result ℕ E)

@@ -38,7 +38,8 @@ pub fn command<H: Host, R: Read, W: Write, F: Write>(
 ) -> u8
     ensures done { let request = request_of (text_of setting.entry) (texts_of words.now) in
         result ≢ 1 → Done request (R.remaining input.old) (R.remaining input.new)
-        (W.contents output.old) (W.contents output.new) (F.contents faults.old) (F.contents faults.new) result }
+        (W.contents output.old) (W.contents output.new)
+        (F.contents faults.old) (F.contents faults.new) result }
     ensures failed { result ≡ 1 → HasFailed (W.contents output.old) (W.contents output.new)
         (F.contents faults.old) (F.contents faults.new) }
     ensures statuses { result ≤ 2 }
@@ -64,9 +65,11 @@ fn run<H: Host, R: Read, W: Write, F: Write>(
 ) -> (u8, io::Result<()>)
     ensures done { let request = request_of (text_of setting.entry) (texts_of words.now) in
         result.0 ≢ 1 → (done : Done request (R.remaining input.old) (R.remaining input.new)
-        (W.contents output.old) (W.contents output.new) (F.contents faults.old) (F.contents faults.new) result.0)
+        (W.contents output.old) (W.contents output.new)
+        (F.contents faults.old) (F.contents faults.new) result.0)
         × OnOk result.1 (Appends (F.contents faults.old) (F.contents faults.new) done.faults) }
-    ensures failed { result.0 ≡ 1 → (failed : HasFailed (W.contents output.old) (W.contents output.new)
+    ensures failed { result.0 ≡ 1 →
+        (failed : HasFailed (W.contents output.old) (W.contents output.new)
         (F.contents faults.old) (F.contents faults.new))
         × OnOk result.1 (Appends (F.contents faults.old) (F.contents faults.new)
         (line_of (command_fault_text failed.fault))) }

@@ -61,7 +61,8 @@ pub fn read_script(alloc: Global, text: &str) -> Result<Script, ScriptFault>
 impl Script {
     // Adds what the next line says, or says that the line with this number may not stand there.
     fn add(&mut self, alloc: Global, line: &str, number: usize) -> Result<(), ScriptFault>
-        ensures { (before : List (List ℕ)) → IsScriptOf before self.old → AddsLine before line.now number self.new result }
+        ensures { (before : List (List ℕ)) → IsScriptOf before self.old →
+            AddsLine before line.now number self.new result }
     {
         match saying_of(alloc, line)? {
             Some(Saying::Nothing) => Ok(()),

@@ -95,7 +95,8 @@ fn reading_fault(error: io::Error) -> BlkFault
 
 // Takes the steps of a script, and answers what is to be shown.
 fn played(alloc: Global, script: Script) -> Result<String, AllocError>
-    ensures { IfOk result (λ text. ShowsScript (option_map string_bytes script.setting) script.plan.items script.instructions.items (string_bytes text)) }
+    ensures { IfOk result (λ text. ShowsScript (option_map string_bytes script.setting)
+        script.plan.items script.instructions.items (string_bytes text)) }
 {
     let Script {
         setting,
@@ -122,7 +123,8 @@ fn play(
     world: &mut World,
     instructions: &[Instruction],
 ) -> Result<Vec<Event>, AllocError>
-    ensures { IfOk result (λ events. Takes (PlaysInstructions instructions.now) world.old.history world.new.history [] events.items) }
+    ensures { IfOk result (λ events. Takes (PlaysInstructions instructions.now)
+        world.old.history world.new.history [] events.items) }
 {
     let mut events = Vec::new(alloc);
     for instruction in instructions {
@@ -138,7 +140,8 @@ fn play_instruction(
     instruction: Instruction,
     events: &mut Vec<Event>,
 ) -> Result<(), AllocError>
-    ensures { OnOk result (Takes (PlaysInstruction instruction) world.old.history world.new.history events.old.items events.new.items) }
+    ensures { OnOk result (Takes (PlaysInstruction instruction)
+        world.old.history world.new.history events.old.items events.new.items) }
 {
     match instruction {
         Instruction::One(step) => take(alloc, world, step, events),
@@ -153,7 +156,8 @@ fn take(
     step: Step,
     events: &mut Vec<Event>,
 ) -> Result<(), AllocError>
-    ensures { OnOk result (Takes (PlaysInstruction (instruction.One step)) world.old.history world.new.history events.old.items events.new.items) }
+    ensures { OnOk result (Takes (PlaysInstruction (instruction.One step))
+        world.old.history world.new.history events.old.items events.new.items) }
 {
     let seen = run(alloc, world, &[step])?;
     events.extend_from_slice(seen.as_slice())
@@ -166,7 +170,8 @@ fn take_all(
     worker: usize,
     events: &mut Vec<Event>,
 ) -> Result<(), AllocError>
-    ensures { OnOk result (Takes (PlaysInstruction (instruction.JobAll worker)) world.old.history world.new.history events.old.items events.new.items) }
+    ensures { OnOk result (Takes (PlaysInstruction (instruction.JobAll worker))
+        world.old.history world.new.history events.old.items events.new.items) }
 {
     take(alloc, world, Step::Job(worker), events)?;
     // (It ends, since each action is an event more, and no list has room for endless ones.)

@@ -16,8 +16,10 @@ const TRIES: usize = 1_000;
 
 /// Writes a text and a line feed; where that fails, a first part of them at most was written. Takes no memory.
 pub(crate) fn tell<W: Write, D: Display + Drop>(faults: &mut W, text: D) -> io::Result<()>
-    ensures part { IfSome (D.output text) (λ text. AppendsPart (W.contents faults.old) (W.contents faults.new) (line_of text)) }
-    ensures whole { OnOk result (IfSome (D.output text) (λ text. Appends (W.contents faults.old) (W.contents faults.new) (line_of text))) }
+    ensures part { IfSome (D.output text) (λ text.
+        AppendsPart (W.contents faults.old) (W.contents faults.new) (line_of text)) }
+    ensures whole { OnOk result (IfSome (D.output text) (λ text.
+        Appends (W.contents faults.old) (W.contents faults.new) (line_of text))) }
 {
     let mut line = InlineText::<ROOM>::new();
     writeln!(line, "{text}")?;
@@ -27,7 +29,8 @@ pub(crate) fn tell<W: Write, D: Display + Drop>(faults: &mut W, text: D) -> io::
 // Writes the bytes; where that fails, a first part of them at most was written. (`write_all` promises nothing of a failure.)
 fn write_part<W: Write>(writer: &mut W, bytes: &[u8]) -> io::Result<()>
     ensures part { AppendsPart (W.contents writer.old) (W.contents writer.new) bytes.now }
-    ensures whole { OnOk result (Appends (W.contents writer.old) (W.contents writer.new) bytes.now) }
+    ensures whole { OnOk result
+        (Appends (W.contents writer.old) (W.contents writer.new) bytes.now) }
 {
     let mut rest = bytes;
     for _ in 0..TRIES {

@@ -10,7 +10,7 @@ use Rattle.std.specs.Str.Parse.{ParsesUnsigned, digits_value}
 use Rattle.blocking_pool.specs.Limits.{is_number, number_of}
 
 -- the bytes of digits, and their numbers, as std's lemmas on parsing want them
-digits : IsNumeralModel (λ word. list_all is_ascii_digit word ≡ true) (digits_value 10)
+pub digits : IsNumeralModel (λ word. list_all is_ascii_digit word ≡ true) (digits_value 10)
 digits = numerals_by_value _ (search rules)
 
 -- the number of these digits, by a result that is Ok just where they are one

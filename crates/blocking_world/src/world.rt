@@ -170,7 +170,8 @@ fn close_with<L: Ledger>(parts: Parts, blank: Blank)
 /// step and its event is had before the step acts.
 #[tactic(auto, using(crate::proofs::Grown::served, crate::proofs::Lawful::staffed_now, crate::proofs::Lawful::held_now))]
 pub fn run(alloc: Global, world: &mut World, steps: &[Step]) -> Result<Vec<Event>, AllocError>
-    ensures ok { IfOk result (λ events. Adds steps.now events.items world.old.history world.new.history) }
+    ensures ok { IfOk result
+        (λ events. Adds steps.now events.items world.old.history world.new.history) }
     ensures err { OnErr result (StopsShort steps.now world.old.history world.new.history) }
     ensures legal { Legal world.new.history.setting world.new.history.plan world.new.history.past }
     ensures served { IsServed world.new.history.past }
@@ -185,7 +186,8 @@ pub fn run(alloc: Global, world: &mut World, steps: &[Step]) -> Result<Vec<Event
 
 // Takes all steps.
 fn take_all(alloc: Global, world: &mut World, steps: &[Step]) -> Result<Vec<Event>, AllocError>
-    ensures ok { IfOk result (λ events. Adds steps.now events.items world.old.history world.new.history) }
+    ensures ok { IfOk result
+        (λ events. Adds steps.now events.items world.old.history world.new.history) }
     ensures err { OnErr result (StopsShort steps.now world.old.history world.new.history) }
 {
     if steps.is_empty() {

@@ -113,7 +113,8 @@ pub fn staffed_jobs()
     // refused worker -1
     ensures accepts_refusal { Legal 1 (true ∷ []) start_refused }
     // refused memory, where start 1 would be refused
-    ensures accepts_want_of_memory { Legal 1 (true ∷ []) ([] ▸ moment Spawn Pool None (Refused Memory) 1) }
+    ensures accepts_want_of_memory { Legal 1 (true ∷ [])
+        ([] ▸ moment Spawn Pool None (Refused Memory) 1) }
     // accepted 1 +1 / refused memory
     ensures accepts_want_of_memory_beside_worker { Legal 1 [] (one_queued
         ▸ moment Spawn Pool None (Refused Memory) 2) }

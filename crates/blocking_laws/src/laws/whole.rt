@@ -35,7 +35,8 @@ pub fn one_event()
     // after a legal past, by all the laws
     ensures everywhere { (setting : ℕ) (plan : List Bool) (past : List Moment) (now other : Moment) →
         now.step ≡ other.step → is_out_of_memory now.event.act ≡ is_out_of_memory other.event.act →
-        Legal setting plan (past ▸ now) → Legal setting plan (past ▸ other) → now.event ≡ other.event }
+        Legal setting plan (past ▸ now) → Legal setting plan (past ▸ other) →
+        now.event ≡ other.event }
     // at the pool after any past, by the laws of steps and of the pool alone
     ensures at_pool { (setting : ℕ) (plan : List Bool) (past : List Moment) (now other : Moment) →
         now.step ≡ other.step → is_pool_step now.step ≡ true →
