@@ -3,7 +3,7 @@
 use Rattle.std.specs.Prelude.{◌≡◌, ℕ, Bool, false, nat_lt, Option, Some, None, Result, List}
 use Rattle.std.specs.Borrow.{Bor}
 use Rattle.blocking_pool.specs.Jobs.{JobNumber}
-use Rattle.blocking_pool.specs.Counts.{limited, silenced}
+use Rattle.blocking_pool.specs.Counts.{after_limit, after_bell}
 use Rattle.blocking_pool.specs.Growth.{Asking, RefusesNone}
 use Rattle.blocking_pool.specs.Pools.{Pool}
 use Rattle.blocking_pool.specs.PoolAnswers as pool
@@ -27,7 +27,7 @@ module _ {J : Type 0} where
   -- the bell tells what the calls of the section rang, and leaves the pool silent
   pub record Rings (before : Pool J) (bell : BellKind) (after : Pool J) : Type 0 where
     pub told : bell ≡ before.counts.bell
-    pub silent : after ≡ record before { counts = silenced before.counts }
+    pub silent : after ≡ record before { counts = after_bell before.counts }
 
   -- a new pool
   abbrev pub Starts : Option (Bor (List ℕ)) → Pool J → Type 0
@@ -74,4 +74,4 @@ module _ {J : Type 0} where
 
   -- the limit is set
   abbrev pub SetsLimit : ℕ → Pool J → Pool J → BellKind → Type 0
-  SetsLimit limit old new bell = Rings (record old { counts = limited limit old.counts }) bell new
+  SetsLimit limit old new bell = Rings (record old { counts = after_limit limit old.counts }) bell new

@@ -3,7 +3,7 @@ use Rattle.std.proofs.Common.{◌≡◌, ℕ, ◌+◌, ◌<◌, Bool, true, fals
 use Rattle.std.proofs.lemmas.Bool.{cases_lt, ne_eqb, false≢true}
 use Rattle.blocking_pool.specs.declared.pool.bell.BellKind.TheVariants.{Silent, All}
 use Rattle.blocking_pool.specs.Counts.{Counts, limit_of, louder}
-use Rattle.blocking_pool.specs.Growth.{Asking, RefusesNone, Narrows, Growth, Grows, StartAnswer, Refusals, is_due, grown, ring_of, one_more, none_more, greatest}
+use Rattle.blocking_pool.specs.Growth.{Asking, RefusesNone, Narrows, Growth, Grows, StartAnswer, Refusals, is_due, after_growth, ring_of, one_more, none_more, greatest}
 
 -- so many workers started, and none refused
 abbrev pub plain : ℕ → Growth
@@ -13,7 +13,7 @@ module _ (asking : Asking) (may_still : ℕ → Bool → Type 0) (ready : ℕ) (
   -- The growth so far: so many starts were due and went well.
   pub record IsGrowing : Type 0 where
     pub started : ℕ
-    pub counts : new ≡ grown old (plain started)
+    pub counts : new ≡ after_growth old (plain started)
     pub each : (m : ℕ) → m < started → (is_due ready old.idle old.workers (limit_of old) m ≡ true) × StartAnswer asking.may_answer (old.next_worker + m) false
     pub steady : Narrows asking.may_answer may_still
     pub refusals : RefusesNone asking
@@ -30,7 +30,7 @@ answer_before may_answer may_still number refused steady = by_number (eqb number
     by_number true answered = answered
     by_number false answered = steady number refused answered
 
-more_grown : (old : Counts) (started : ℕ) → one_more (grown old (plain started)) ≡ grown old (plain (started + 1))
+more_grown : (old : Counts) (started : ℕ) → one_more (after_growth old (plain started)) ≡ after_growth old (plain (started + 1))
 more_grown old started =
     let workers : old.workers + started + 1 ≡ old.workers + (started + 1) = omega arith in
     let idle : old.idle + started + 1 ≡ old.idle + (started + 1) = omega arith in
@@ -40,7 +40,7 @@ more_grown old started =
     let bell : louder (ring_of (plain (started + 1))) old.bell ≡ All = ap (λ b. louder (cond b Silent All) old.bell) some in
     cc
 
-none_grown : (old : Counts) (started : ℕ) → none_more (grown old (plain started)) ≡ grown old (record { started = started; refused = true })
+none_grown : (old : Counts) (started : ℕ) → none_more (after_growth old (plain started)) ≡ after_growth old (record { started = started; refused = true })
 none_grown old started = refl
 
 -- one start after others

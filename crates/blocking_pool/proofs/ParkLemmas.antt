@@ -8,7 +8,7 @@ use Rattle.slab.specs.Slab.{Slab, get, slab_len, Updates, with_value}
 use Rattle.slab.proofs.SlabLemmas.{Updates-with_value}
 use Rattle.blocking_pool.specs.Chain.{Chain}
 use Rattle.blocking_pool.specs.Lists.{is_in, IsOnce, without, first_of}
-use Rattle.blocking_pool.specs.Jobs.{Job, Jobs, JobNumber, new_job, is_queued, is_running, is_parked, is_running_as, standing_of, queued_again, parked_with, has_value, value_at, valued, job_of, amend}
+use Rattle.blocking_pool.specs.Jobs.{Job, Jobs, JobNumber, new_job, is_queued, is_running, is_parked, is_running_as, standing_of, entry_after_requeue, entry_after_park, has_value, value_at, entry_with, job_of, amend}
 use Rattle.blocking_pool.specs.declared.pool.standing.Standing.TheVariants.{Queued, Running, Parked}
 use Rattle.blocking_pool.specs.Tables.{Table, job_at, serial_or_zero, serials_at, table_of, IsTable, is_parked_entry, HoldsParked, IsKept, Becomes, TakesFirst, found_of}
 use Rattle.blocking_pool.specs.TableLends.{IfLent}
@@ -244,12 +244,12 @@ module _ {J : Type 0} where
   -- a running job is parked
   pub parks : (old : Slab (Entry J)) (queue parked later : Chain) (before : Table J) (number : JobNumber) (place : ℕ) (was : Entry J) (value : J) → IsKept old queue parked → table_of old queue parked ≡ before
       → is_running_as before.jobs number ≡ true → place ≡ number.place → get old place ≡ Some was → later ≡ record parked { places = parked.places ++ place ∷ [] }
-      → IsAmended old queue later place (record was { standing = Parked; value = Some value }) before before.queue number (parked_with value)
+      → IsAmended old queue later place (record was { standing = Parked; value = Some value }) before before.queue number (entry_after_park value)
   parks old queue parked later before number place was value kept seen runs here found longer =
       let job = running_job (job_of before.jobs number) runs in
       let own = leads_to old queue parked before number job.0 place was kept seen job.1 here found in
       let stood : was.standing ≡ Running = ap (λ j. j.standing) (sym own.1) ∙ job.2 in
-      becomes_kept old queue parked later place was (record was { standing = Parked; value = Some value }) number (parked_with value) before kept found here own.0
+      becomes_kept old queue parked later place was (record was { standing = Parked; value = Some value }) number (entry_after_park value) before kept found here own.0
       refl (sym (ap is_queued stood)) refl
       (subst (λ row. Tracks parked row place (record was { standing = Parked; value = Some value })) (sym longer) (parked_last parked old place was (record was { standing = Parked; value = Some value }) kept.holds found (ap is_parked stood) refl))
       refl seen
@@ -269,12 +269,12 @@ module _ {J : Type 0} where
   pub enters : (old : Slab (Entry J)) (queue next parked later : Chain) (before : Table J) (number : JobNumber) (place : ℕ) (was : Entry J) → IsKept old queue parked → table_of old queue parked ≡ before
       → standing_of before.jobs number ≡ Some Parked → place ≡ number.place → get old place ≡ Some was
       → next ≡ record queue { places = queue.places ++ place ∷ [] } → later ≡ record parked { places = without place parked.places }
-      → IsAmended old next later place (record was { standing = Queued }) before (before.queue ++ number.serial ∷ []) number queued_again
+      → IsAmended old next later place (record was { standing = Queued }) before (before.queue ++ number.serial ∷ []) number entry_after_requeue
   enters old queue next parked later before number place was kept seen stands here found longer shorter =
       let job = standing_job (job_of before.jobs number) Parked stands in
       let own = leads_to old queue parked before number job.0 place was kept seen job.1 here found in
       let stood : was.standing ≡ Parked = ap (λ j. j.standing) (sym own.1) ∙ job.2 in
-      becomes_pushed old queue next parked later place was (record was { standing = Queued }) number queued_again before kept found here own.0
+      becomes_pushed old queue next parked later place was (record was { standing = Queued }) number entry_after_requeue before kept found here own.0
       refl (ap is_queued stood) refl (kept.table.held place was found ∙ ap (λ s. not (is_running s)) stood)
       (subst (λ row. Tracks parked row place (record was { standing = Queued })) (sym shorter) (parked_less parked old place was (record was { standing = Queued }) kept.holds found refl))
       refl longer seen
@@ -421,11 +421,11 @@ module _ {J : Type 0} where
   -- a job that doesn't run has another value
   pub revalues : (old : Slab (Entry J)) (queue parked : Chain) (before : Table J) (number : JobNumber) (place : ℕ) (was : Entry J) (value : J) → IsKept old queue parked → table_of old queue parked ≡ before
       → has_value (job_of before.jobs number) ≡ true → place ≡ number.place → get old place ≡ Some was
-      → IsAmended old queue parked place (record was { value = Some value }) before before.queue number (valued value)
+      → IsAmended old queue parked place (record was { value = Some value }) before before.queue number (entry_with value)
   revalues old queue parked before number place was value kept seen idle here found =
       let job = valued_job (job_of before.jobs number) idle in
       let own = leads_to old queue parked before number job.0 place was kept seen job.1 here found in
-      becomes_kept old queue parked parked place was (record was { value = Some value }) number (valued value) before kept found here own.0
+      becomes_kept old queue parked parked place was (record was { value = Some value }) number (entry_with value) before kept found here own.0
       refl refl (sym (ap not (ap (λ j. is_running j.standing) (sym own.1) ∙ job.2)))
       (unmoved parked old place was (record was { value = Some value }) kept.holds found refl) refl seen
 

@@ -11,9 +11,9 @@ use Rattle.blocking_pool.specs.Tables.{Table, Becomes, TakesFirst, SweepsAll, Is
 use Rattle.blocking_pool.specs.PoolAnswers.{Sweeps, SweepsTo, StaysOrStops, Waits}
 use Rattle.blocking_pool.specs.declared.pool.answer.Waited.{Waited}
 use Rattle.blocking_pool.specs.declared.pool.table.Front.{Front}
-use Rattle.blocking_pool.specs.Jobs.{Job, Jobs, JobNumber, is_queued, is_running, is_parked, new_job, running, is_running_job, is_parked_job, one_if, running_below, is_running_as, job_of, standing_of, changed, amend, queued_again, parked_with, cancelled, valued, all_queued_again}
-use Rattle.blocking_pool.specs.Counts.{Counts, busier, freer, rung, AreInOrder}
-use Rattle.blocking_pool.specs.Growth.{Asking, RefusesNone, Growth, Grows, grown}
+use Rattle.blocking_pool.specs.Jobs.{Job, Jobs, JobNumber, is_queued, is_running, is_parked, new_job, entry_after_take, is_running_job, is_parked_job, one_if, running_below, is_running_as, job_of, standing_of, jobs_after_change, amend, entry_after_requeue, entry_after_park, entry_after_cancel, entry_with, jobs_after_requeue}
+use Rattle.blocking_pool.specs.Counts.{Counts, after_pickup, after_release, after_ring, AreInOrder}
+use Rattle.blocking_pool.specs.Growth.{Asking, RefusesNone, Growth, Grows, after_growth}
 use Rattle.blocking_pool.specs.Pools.{Pool, is_queued_job, IsSound, EnterAgain, with_job, empty_pool}
 use Rattle.blocking_pool.specs.TableLends.{IfLent}
 use Rattle.blocking_pool.specs.declared.pool.standing.Standing.{Standing}
@@ -25,7 +25,7 @@ use Rattle.blocking_pool.proofs.SweepLemmas.{kept_in, once_rising, job_of_found,
 use Rattle.blocking_pool.proofs.TableLemmas.{at_insert_same, at_insert_other, at_remove_same, at_remove_other, amend_found}
 
 -- a growth keeps the order of the counts, and the number of those that run a job
-pub grown_order : (counts : Counts) (growth : Growth) → AreInOrder counts → AreInOrder (grown counts growth)
+pub grown_order : (counts : Counts) (growth : Growth) → AreInOrder counts → AreInOrder (after_growth counts growth)
 grown_order counts growth order = record { arriving = omega (arith, order.arriving); idle = omega (arith, order.idle) }
 
 none_of : (serials : List ℕ) → length serials ≡ 0 → serials ≡ []
@@ -96,11 +96,11 @@ module _ {J : Type 0} where
           let here : one_if (is_running_job {J = J} (get empty next)) ≡ 0 = ap (λ j. one_if (is_running_job j)) (get-empty nat_cmp next) in
           omega (arith, rest, here)
 
-  pub grown_sound : (pool : Pool J) (growth : Growth) → IsSound pool → IsSound (record pool { counts = grown pool.counts growth })
+  pub grown_sound : (pool : Pool J) (growth : Growth) → IsSound pool → IsSound (record pool { counts = after_growth pool.counts growth })
   grown_sound pool growth sound =
       record { queue = sound.queue; running = omega (arith, sound.running); order = grown_order pool.counts growth sound.order; unused = sound.unused }
 
-  pub rung_sound : (pool : Pool J) → IsSound pool → IsSound (record pool { counts = rung One pool.counts })
+  pub rung_sound : (pool : Pool J) → IsSound pool → IsSound (record pool { counts = after_ring One pool.counts })
   rung_sound pool sound =
       record { queue = sound.queue; running = sound.running; order = record { arriving = sound.order.arriving; idle = sound.order.idle }; unused = sound.unused }
 
@@ -143,27 +143,27 @@ module _ {J : Type 0} where
 
   -- the front job is taken up by an idle worker
   pub taken_sound : (pool : Pool J) (serial : ℕ) (rest : List ℕ) (job : Job J) → pool.queue ≡ serial ∷ rest → get pool.jobs serial ≡ Some job → pool.counts.arriving < pool.counts.idle → IsSound pool
-      → IsSound (record { queue = rest; jobs = insert pool.jobs serial (running job); counts = busier pool.counts; next_serial = pool.next_serial })
+      → IsSound (record { queue = rest; jobs = insert pool.jobs serial (entry_after_take job); counts = after_pickup pool.counts; next_serial = pool.next_serial })
   taken_sound pool serial rest job front found free sound =
       record {
         queue = record {
           once = once.1;
           each = λ s. elim (cases_eq s serial) [
-            | inl same ↦ ap (λ n. is_in n rest) same ∙ once.0 ∙ sym (ap is_queued_job (ap (get jobs) same ∙ at_insert_same pool.jobs serial (running job)))
+            | inl same ↦ ap (λ n. is_in n rest) same ∙ once.0 ∙ sym (ap is_queued_job (ap (get jobs) same ∙ at_insert_same pool.jobs serial (entry_after_take job)))
             | inr far ↦ sym (ap (λ b. b || is_in s rest) (ne_eqb s serial far)) ∙ ap (is_in s) (sym front) ∙ sound.queue.each s
-                ∙ sym (ap is_queued_job (at_insert_other pool.jobs serial (running job) s far))
+                ∙ sym (ap is_queued_job (at_insert_other pool.jobs serial (entry_after_take job) s far))
           ];
         };
         running =
-            let counted = counted_below pool.jobs jobs serial pool.next_serial (at_insert_other pool.jobs serial (running job)) below in
-            let one : one_if (is_running_job (get jobs serial)) ≡ 1 = ap (λ j. one_if (is_running_job j)) (at_insert_same pool.jobs serial (running job)) in
+            let counted = counted_below pool.jobs jobs serial pool.next_serial (at_insert_other pool.jobs serial (entry_after_take job)) below in
+            let one : one_if (is_running_job (get jobs serial)) ≡ 1 = ap (λ j. one_if (is_running_job j)) (at_insert_same pool.jobs serial (entry_after_take job)) in
             omega (arith, sound.running, counted, waited, one, free);
         order = record { arriving = omega (arith, free); idle = omega (arith, sound.order.idle) };
-        unused = λ s past. at_insert_other pool.jobs serial (running job) s (λ e. omega (arith, below)) ∙ sound.unused s past;
+        unused = λ s past. at_insert_other pool.jobs serial (entry_after_take job) s (λ e. omega (arith, below)) ∙ sound.unused s past;
       }
     where
       jobs : Jobs J
-      jobs = insert pool.jobs serial (running job)
+      jobs = insert pool.jobs serial (entry_after_take job)
 
       once : IsOnce (serial ∷ rest)
       once = subst IsOnce front sound.queue.once
@@ -206,7 +206,7 @@ module _ {J : Type 0} where
 
   -- a running job leaves
   pub removed_sound : (pool : Pool J) (number : JobNumber) → is_running_as pool.jobs number ≡ true → IsSound pool
-      → IsSound (record { queue = pool.queue; jobs = remove pool.jobs number.serial; counts = freer pool.counts; next_serial = pool.next_serial })
+      → IsSound (record { queue = pool.queue; jobs = remove pool.jobs number.serial; counts = after_release pool.counts; next_serial = pool.next_serial })
   removed_sound pool number runs sound =
       record {
         queue = record {
@@ -261,7 +261,7 @@ module _ {J : Type 0} where
   amend_each P jobs serial change alike changes s = by_job (get jobs serial) refl
     where
       by_job : (found : Option (Job J)) → get jobs serial ≡ found → P (get (amend jobs serial change) s) (get jobs s)
-      by_job None there = subst (λ js. P (get js s) (get jobs s)) (sym (ap (changed jobs serial change) there)) (alike (get jobs s))
+      by_job None there = subst (λ js. P (get js s) (get jobs s)) (sym (ap (jobs_after_change jobs serial change) there)) (alike (get jobs s))
       by_job (Some job) there =
           elim (cases_eq s serial) [
             | inl same ↦ subst (λ n. P (get (amend jobs serial change) n) (get jobs n)) (sym same)
@@ -293,41 +293,41 @@ module _ {J : Type 0} where
 
   -- a parked job stands at the queue's end
   again_sound : (pool : Pool J) (serial : ℕ) (job : Job J) → get pool.jobs serial ≡ Some job → job.standing ≡ Parked → IsSound pool
-      → IsSound (record pool { queue = pool.queue ++ serial ∷ []; jobs = amend pool.jobs serial queued_again })
+      → IsSound (record pool { queue = pool.queue ++ serial ∷ []; jobs = amend pool.jobs serial entry_after_requeue })
   again_sound pool serial job found parked sound =
       record {
         queue = record {
           once = IsOnce-push pool.queue serial sound.queue.once (sound.queue.each serial ∙ ap is_queued_job found ∙ ap is_queued parked);
           each = λ s. elim (cases_eq s serial) [
-            | inl same ↦ is_in-last s serial pool.queue same ∙ sym (ap is_queued_job (ap (get (amend pool.jobs serial queued_again)) same ∙ amend_same pool.jobs serial queued_again job found))
-            | inr far ↦ is_in-push s serial pool.queue far ∙ sound.queue.each s ∙ sym (ap is_queued_job (amend_other pool.jobs serial queued_again s far))
+            | inl same ↦ is_in-last s serial pool.queue same ∙ sym (ap is_queued_job (ap (get (amend pool.jobs serial entry_after_requeue)) same ∙ amend_same pool.jobs serial entry_after_requeue job found))
+            | inr far ↦ is_in-push s serial pool.queue far ∙ sound.queue.each s ∙ sym (ap is_queued_job (amend_other pool.jobs serial entry_after_requeue s far))
           ];
         };
-        running = sound.running ∙ ap (λ n. pool.counts.idle + n) (sym (running_same pool.jobs (amend pool.jobs serial queued_again) pool.next_serial (λ s. elim (cases_eq s serial) [
-          | inl same ↦ ap is_running_job (ap (get (amend pool.jobs serial queued_again)) same ∙ amend_same pool.jobs serial queued_again job found)
+        running = sound.running ∙ ap (λ n. pool.counts.idle + n) (sym (running_same pool.jobs (amend pool.jobs serial entry_after_requeue) pool.next_serial (λ s. elim (cases_eq s serial) [
+          | inl same ↦ ap is_running_job (ap (get (amend pool.jobs serial entry_after_requeue)) same ∙ amend_same pool.jobs serial entry_after_requeue job found)
               ∙ sym (ap is_running_job (ap (get pool.jobs) same ∙ found) ∙ ap is_running parked)
-          | inr far ↦ ap is_running_job (amend_other pool.jobs serial queued_again s far)
+          | inr far ↦ ap is_running_job (amend_other pool.jobs serial entry_after_requeue s far)
         ])));
         order = sound.order;
-        unused = λ s past. none_there _ (amend_there pool.jobs serial queued_again s ∙ ap is_some (sound.unused s past));
+        unused = λ s past. none_there _ (amend_there pool.jobs serial entry_after_requeue s ∙ ap is_some (sound.unused s past));
       }
 
   -- parked jobs stand at the queue's end
   pub requeued_sound : (pool : Pool J) (serials : List ℕ) → IsOnce serials → ((s : ℕ) → is_in s serials ≡ true → is_parked_job (get pool.jobs s) ≡ true) → IsSound pool
-      → IsSound (record pool { queue = pool.queue ++ serials; jobs = all_queued_again pool.jobs serials })
+      → IsSound (record pool { queue = pool.queue ++ serials; jobs = jobs_after_requeue pool.jobs serials })
   requeued_sound pool [] once parked sound = subst (λ queue. IsSound (record pool { queue = queue })) (sym (append-nil pool.queue)) sound
   requeued_sound pool (serial ∷ serials) once parked sound =
       let job = parked_job (get pool.jobs serial) (parked serial (is_in-first serial serials)) in
-      subst (λ queue. IsSound (record pool { queue = queue; jobs = all_queued_again (amend pool.jobs serial queued_again) serials })) (append_assoc pool.queue (serial ∷ []) serials)
-      (requeued_sound (record pool { queue = pool.queue ++ serial ∷ []; jobs = amend pool.jobs serial queued_again }) serials once.1
+      subst (λ queue. IsSound (record pool { queue = queue; jobs = jobs_after_requeue (amend pool.jobs serial entry_after_requeue) serials })) (append_assoc pool.queue (serial ∷ []) serials)
+      (requeued_sound (record pool { queue = pool.queue ++ serial ∷ []; jobs = amend pool.jobs serial entry_after_requeue }) serials once.1
       (λ s found.
       let far : s ≢ serial = λ e. false≢true (sym once.0 ∙ ap (λ n. is_in n serials) (sym e) ∙ found) in
-      ap is_parked_job (amend_other pool.jobs serial queued_again s far) ∙ parked s (or_right (eqb s serial) (is_in s serials) found))
+      ap is_parked_job (amend_other pool.jobs serial entry_after_requeue s far) ∙ parked s (or_right (eqb s serial) (is_in s serials) found))
       (again_sound pool serial job.0 job.1 job.2 sound))
 
   -- a running job waits, and its worker is free
   pub parked_sound : (pool : Pool J) (number : JobNumber) (value : J) → is_running_as pool.jobs number ≡ true → IsSound pool
-      → IsSound (record { queue = pool.queue; jobs = amend pool.jobs number.serial (parked_with value); counts = freer pool.counts; next_serial = pool.next_serial })
+      → IsSound (record { queue = pool.queue; jobs = amend pool.jobs number.serial (entry_after_park value); counts = after_release pool.counts; next_serial = pool.next_serial })
   parked_sound pool number value runs sound =
       record {
         queue = record {
@@ -335,23 +335,23 @@ module _ {J : Type 0} where
           each = λ s. elim (cases_eq s serial) [
             | inl same ↦ ap (λ n. is_in n pool.queue) same ∙ sound.queue.each serial ∙ not_queued (get pool.jobs serial) runs_there
                 ∙ sym (ap is_queued_job (ap (get jobs) same ∙ there))
-            | inr far ↦ sound.queue.each s ∙ sym (ap is_queued_job (amend_other pool.jobs serial (parked_with value) s far))
+            | inr far ↦ sound.queue.each s ∙ sym (ap is_queued_job (amend_other pool.jobs serial (entry_after_park value) s far))
           ];
         };
         running =
-            let counted = counted_below pool.jobs jobs serial pool.next_serial (amend_other pool.jobs serial (parked_with value)) (running_used pool serial sound runs_there) in
+            let counted = counted_below pool.jobs jobs serial pool.next_serial (amend_other pool.jobs serial (entry_after_park value)) (running_used pool serial sound runs_there) in
             let one : one_if (is_running_job (get pool.jobs serial)) ≡ 1 = ap (λ b. one_if b) runs_there in
             let none : one_if (is_running_job (get jobs serial)) ≡ 0 = ap (λ j. one_if (is_running_job j)) there in
             omega (arith, sound.running, counted, one, none);
         order = record { arriving = omega (arith, sound.order.arriving); idle = omega (arith, running_busy pool number sound runs) };
-        unused = λ s past. none_there _ (amend_there pool.jobs serial (parked_with value) s ∙ ap is_some (sound.unused s past));
+        unused = λ s past. none_there _ (amend_there pool.jobs serial (entry_after_park value) s ∙ ap is_some (sound.unused s past));
       }
     where
       serial : ℕ
       serial = number.serial
 
       jobs : Jobs J
-      jobs = amend pool.jobs number.serial (parked_with value)
+      jobs = amend pool.jobs number.serial (entry_after_park value)
 
       runs_there : is_running_job (get pool.jobs number.serial) ≡ true
       runs_there = runs_running pool.jobs number runs
@@ -359,8 +359,8 @@ module _ {J : Type 0} where
       job : (job : Job J) × (job_of pool.jobs number ≡ Some job) × (job.standing ≡ Running)
       job = running_job (job_of pool.jobs number) runs
 
-      there : get jobs serial ≡ Some (parked_with value job.0)
-      there = amend_same pool.jobs number.serial (parked_with value) job.0 (job_of_found pool.jobs number job.0 job.1).0
+      there : get jobs serial ≡ Some (entry_after_park value job.0)
+      there = amend_same pool.jobs number.serial (entry_after_park value) job.0 (job_of_found pool.jobs number job.0 job.1).0
 
   -- a sound pool, as its parts are told
   pub sound_as : (queue row : List ℕ) (jobs others : Jobs J) (counts numbers : Counts) (next : ℕ) → row ≡ queue → others ≡ jobs → numbers ≡ counts
@@ -382,9 +382,9 @@ module _ {J : Type 0} where
 
   -- the front job is taken, and the pool grows
   pub taken_whole : (old new : Table J) (front : Front J) (counts after : Counts) (growth : Growth) (next room : ℕ) → IsWhole old counts next room → TakesFirst old (Some front) new → counts.arriving < counts.idle
-      → after ≡ grown (busier counts) growth → IsWhole new after next room
+      → after ≡ after_growth (after_pickup counts) growth → IsWhole new after next room
   taken_whole old new front counts after growth next room whole takes free is =
-      whole_as new new.queue (insert old.jobs front.no.serial (running takes.1)) (grown (busier counts) growth) after next room
+      whole_as new new.queue (insert old.jobs front.no.serial (entry_after_take takes.1)) (after_growth (after_pickup counts) growth) after next room
       refl takes.6.jobs_are is (room_as _ _ _ _ room takes.6 whole.room)
       (grown_sound _ growth (taken_sound _ front.no.serial new.queue takes.1 takes.0 takes.2 free whole.sound))
 
@@ -398,9 +398,9 @@ module _ {J : Type 0} where
 
   -- parked jobs enter again, and the pool grows
   pub requeued_whole : (old new : Table J) (counts after : Counts) (growth : Growth) (next room : ℕ) (serials : List ℕ) → IsOnce serials → ((s : ℕ) → is_in s serials ≡ true → is_parked_job (get old.jobs s) ≡ true) → IsWhole old counts next room
-      → Becomes old new (old.queue ++ serials) (all_queued_again old.jobs serials) → after ≡ rung One (grown counts growth) → IsWhole new after next room
+      → Becomes old new (old.queue ++ serials) (jobs_after_requeue old.jobs serials) → after ≡ after_ring One (after_growth counts growth) → IsWhole new after next room
   requeued_whole old new counts after growth next room serials once parked whole becomes is =
-      whole_as new (old.queue ++ serials) (all_queued_again old.jobs serials) (rung One (grown counts growth)) after next room
+      whole_as new (old.queue ++ serials) (jobs_after_requeue old.jobs serials) (after_ring One (after_growth counts growth)) after next room
       becomes.queue_is becomes.jobs_are is (room_as _ _ _ _ room becomes whole.room)
       (rung_sound _ (grown_sound _ growth (requeued_sound _ serials once parked whole.sound)))
 
@@ -416,53 +416,53 @@ module _ {J : Type 0} where
       or_alone false is = is
 
   -- a cancelled job stands as it did
-  pub cancelled_stands : (jobs : Jobs J) (number : JobNumber) (standing : Standing) → standing_of jobs number ≡ Some standing → standing_of (amend jobs number.serial cancelled) number ≡ Some standing
+  pub cancelled_stands : (jobs : Jobs J) (number : JobNumber) (standing : Standing) → standing_of jobs number ≡ Some standing → standing_of (amend jobs number.serial entry_after_cancel) number ≡ Some standing
   cancelled_stands jobs number standing is =
       let job = standing_job (job_of jobs number) standing is in
-      ap (λ j. option_map (λ found. found.standing) j) (job_of_amend jobs number job.0 cancelled (λ j. refl) job.1) ∙ ap Some job.2
+      ap (λ j. option_map (λ found. found.standing) j) (job_of_amend jobs number job.0 entry_after_cancel (λ j. refl) job.1) ∙ ap Some job.2
 
   -- a job that was parked just now stands parked
-  pub parked_stands : (jobs : Jobs J) (number : JobNumber) (value : J) → is_running_as jobs number ≡ true → standing_of (amend jobs number.serial (parked_with value)) number ≡ Some Parked
+  pub parked_stands : (jobs : Jobs J) (number : JobNumber) (value : J) → is_running_as jobs number ≡ true → standing_of (amend jobs number.serial (entry_after_park value)) number ≡ Some Parked
   parked_stands jobs number value runs =
       let job = running_job (job_of jobs number) runs in
-      ap (λ j. option_map (λ found. found.standing) j) (job_of_amend jobs number job.0 (parked_with value) (λ j. refl) job.1)
+      ap (λ j. option_map (λ found. found.standing) j) (job_of_amend jobs number job.0 (entry_after_park value) (λ j. refl) job.1)
 
   -- a running job is over
   pub left_whole : (old new : Table J) (number : JobNumber) (counts after : Counts) (next room : ℕ) → is_running_as old.jobs number ≡ true → IsWhole old counts next room
-      → new.queue ≡ old.queue → new.jobs ≡ remove old.jobs number.serial → new.room ≡ old.room → after ≡ freer counts → IsWhole new after next room
+      → new.queue ≡ old.queue → new.jobs ≡ remove old.jobs number.serial → new.room ≡ old.room → after ≡ after_release counts → IsWhole new after next room
   left_whole old new number counts after next room runs whole queue jobs as_wide is =
-      whole_as new old.queue (remove old.jobs number.serial) (freer counts) after next room queue jobs is (omega (arith, as_wide, whole.room))
+      whole_as new old.queue (remove old.jobs number.serial) (after_release counts) after next room queue jobs is (omega (arith, as_wide, whole.room))
       (removed_sound _ number runs whole.sound)
 
   -- a running job waits
   pub parked_whole : (old new : Table J) (number : JobNumber) (value : J) (counts after : Counts) (next room : ℕ) → is_running_as old.jobs number ≡ true → IsWhole old counts next room
-      → Becomes old new old.queue (amend old.jobs number.serial (parked_with value)) → after ≡ freer counts → IsWhole new after next room
+      → Becomes old new old.queue (amend old.jobs number.serial (entry_after_park value)) → after ≡ after_release counts → IsWhole new after next room
   parked_whole old new number value counts after next room runs whole becomes is =
-      whole_as new old.queue (amend old.jobs number.serial (parked_with value)) (freer counts) after next room
+      whole_as new old.queue (amend old.jobs number.serial (entry_after_park value)) (after_release counts) after next room
       becomes.queue_is becomes.jobs_are is (room_as _ _ _ _ room becomes whole.room)
       (parked_sound _ number value runs whole.sound)
 
   -- a job that was parked now is queued, and one worker is notified
   pub returned_whole : (old new : Table J) (number : JobNumber) (counts after : Counts) (next room : ℕ) → standing_of old.jobs number ≡ Some Parked → IsWhole old counts next room
-      → Becomes old new (old.queue ++ number.serial ∷ []) (amend old.jobs number.serial queued_again) → after ≡ rung One counts → IsWhole new after next room
+      → Becomes old new (old.queue ++ number.serial ∷ []) (amend old.jobs number.serial entry_after_requeue) → after ≡ after_ring One counts → IsWhole new after next room
   returned_whole old new number counts after next room parked whole becomes is =
-      whole_as new (old.queue ++ number.serial ∷ []) (amend old.jobs number.serial queued_again) (rung One counts) after next room
+      whole_as new (old.queue ++ number.serial ∷ []) (amend old.jobs number.serial entry_after_requeue) (after_ring One counts) after next room
       becomes.queue_is becomes.jobs_are is (room_as _ _ _ _ room becomes whole.room)
       (rung_sound _ (requeued_sound _ (number.serial ∷ []) (refl, tt) (parked_one old.jobs number parked) whole.sound))
 
   -- a running job waits, and goes back to the queue at once; one worker is notified
   pub returned_at_once : (old mid new : Table J) (number : JobNumber) (value : J) (counts free after : Counts) (next room : ℕ) → is_running_as old.jobs number ≡ true → IsWhole old counts next room
-      → Becomes old mid old.queue (amend old.jobs number.serial (parked_with value)) → Becomes mid new (mid.queue ++ number.serial ∷ []) (amend mid.jobs number.serial queued_again)
-      → free ≡ freer counts → after ≡ rung One free → IsWhole new after next room
+      → Becomes old mid old.queue (amend old.jobs number.serial (entry_after_park value)) → Becomes mid new (mid.queue ++ number.serial ∷ []) (amend mid.jobs number.serial entry_after_requeue)
+      → free ≡ after_release counts → after ≡ after_ring One free → IsWhole new after next room
   returned_at_once old mid new number value counts free after next room runs whole parks enters frees rings =
       returned_whole mid new number free after next room (ap (λ js. standing_of js number) parks.jobs_are ∙ parked_stands old.jobs number value runs)
       (parked_whole old mid number value counts free next room runs whole parks frees) enters rings
 
   -- what the table becomes by a sweep, told by the serials in the order of acceptance
   swept_becomes : (may_answer : J → Bool → Type 0) (old new : Table J) (counts : Counts) (next room : ℕ) (sweep : SweepsAll may_answer old new) → IsWhole old counts next room
-      → Becomes old new (old.queue ++ swept old.jobs sweep.marked (serials_below next)) (all_queued_again old.jobs (swept old.jobs sweep.marked (serials_below next)))
+      → Becomes old new (old.queue ++ swept old.jobs sweep.marked (serials_below next)) (jobs_after_requeue old.jobs (swept old.jobs sweep.marked (serials_below next)))
   swept_becomes may_answer old new counts next room sweep whole =
-      subst (λ ss. Becomes old new (old.queue ++ ss) (all_queued_again old.jobs ss)) (swept_serials may_answer old new next sweep whole.sound.unused) sweep.becomes
+      subst (λ ss. Becomes old new (old.queue ++ ss) (jobs_after_requeue old.jobs ss)) (swept_serials may_answer old new next sweep whole.sound.unused) sweep.becomes
 
   -- how many jobs were put back, by the lengths of the queue
   swept_count : (may_answer : J → Bool → Type 0) (old new : Table J) (counts : Counts) (next room was now : ℕ) (sweep : SweepsAll may_answer old new) → IsWhole old counts next room
@@ -489,7 +489,7 @@ module _ {J : Type 0} where
       nothing = none_of _ (omega (arith, swept_count may_mark old new counts next room was now sweep whole before_is after_is, nil))
 
       becomes : Becomes old new (old.queue ++ []) old.jobs
-      becomes = subst (λ ss. Becomes old new (old.queue ++ ss) (all_queued_again old.jobs ss)) nothing (swept_becomes may_mark old new counts next room sweep whole)
+      becomes = subst (λ ss. Becomes old new (old.queue ++ ss) (jobs_after_requeue old.jobs ss)) nothing (swept_becomes may_mark old new counts next room sweep whole)
 
       same : ◌≡◌ {A = Pool J} (record { queue = new.queue; jobs = new.jobs; counts = counts; next_serial = next }) (record { queue = old.queue; jobs = old.jobs; counts = counts; next_serial = next })
       same =
@@ -503,7 +503,7 @@ module _ {J : Type 0} where
   -- a sweep that puts jobs back, and the pool grows
   pub swept_some : (may_mark : J → Bool → Type 0) (asking : Asking) (old new : Table J) (counts numbers told : Counts) (growth : Growth) (next room was now ready : ℕ) (before : Pool J) → IsWhole old counts next room
       → SweepsAll may_mark old new → was ≡ length old.queue → now ≡ length new.queue → (now - was ≡ 0 → ⊥) → ready ≡ length new.queue
-      → Grows asking ready counts numbers growth → told ≡ rung One numbers
+      → Grows asking ready counts numbers growth → told ≡ after_ring One numbers
       → record { queue = old.queue; jobs = old.jobs; counts = counts; next_serial = next } ≡ before
       → Sweeps may_mark asking before (now - was) (record { queue = new.queue; jobs = new.jobs; counts = told; next_serial = next })
   swept_some may_mark asking old new counts numbers told growth next room was now ready before whole sweep before_is after_is some ready_is grows rings seen =
@@ -520,7 +520,7 @@ module _ {J : Type 0} where
               after_is =
                   ap (λ q. record { queue = q; jobs = new.jobs; counts = told; next_serial = next }) becomes.queue_is
                   ∙ ap (λ js. record { queue = old.queue ++ serials; jobs = js; counts = told; next_serial = next }) becomes.jobs_are
-                  ∙ ap (λ c. record { queue = old.queue ++ serials; jobs = all_queued_again old.jobs serials; counts = c; next_serial = next }) rings;
+                  ∙ ap (λ c. record { queue = old.queue ++ serials; jobs = jobs_after_requeue old.jobs serials; counts = c; next_serial = next }) rings;
             });
       })
     where
@@ -530,12 +530,12 @@ module _ {J : Type 0} where
       count : now ≡ was + length serials
       count = swept_count may_mark old new counts next room was now sweep whole before_is after_is
 
-      becomes : Becomes old new (old.queue ++ serials) (all_queued_again old.jobs serials)
+      becomes : Becomes old new (old.queue ++ serials) (jobs_after_requeue old.jobs serials)
       becomes = swept_becomes may_mark old new counts next room sweep whole
 
   -- the pool is whole after a sweep, which may have more room for what it gathers
   pub swept_whole : (may_mark : J → Bool → Type 0) (old new : Table J) (counts after : Counts) (growth : Growth) (next room more : ℕ) → IsWhole old counts next room → SweepsAll may_mark old new → room ≤ more
-      → after ≡ rung One (grown counts growth) → IsWhole new after next more
+      → after ≡ after_ring One (after_growth counts growth) → IsWhole new after next more
   swept_whole may_mark old new counts after growth next room more whole sweep kept is =
       requeued_whole old new counts after growth next more (swept old.jobs sweep.marked (serials_below next))
       (once_rising _ (subst IsRising (swept_serials may_mark old new next sweep whole.sound.unused) sweep.rising))
@@ -561,9 +561,9 @@ module _ {J : Type 0} where
 
   -- a value that may have been lent, whatever was left there
   pub lent_whole : {X : Type 0} (lent : Option X) (old new : Table J) (counts : Counts) (next room serial : ℕ) (value : J) → IsWhole old counts next room
-      → IfLent lent (Becomes old new old.queue (amend old.jobs serial (valued value))) (Becomes old new old.queue old.jobs) → IsWhole new counts next room
+      → IfLent lent (Becomes old new old.queue (amend old.jobs serial (entry_with value))) (Becomes old new old.queue old.jobs) → IsWhole new counts next room
   lent_whole None old new counts next room serial value whole becomes = same_whole old new counts next room whole becomes
-  lent_whole (Some x) old new counts next room serial value whole becomes = marked_whole old new counts next room serial (valued value) (λ j. refl) whole becomes
+  lent_whole (Some x) old new counts next room serial value whole becomes = marked_whole old new counts next room serial (entry_with value) (λ j. refl) whole becomes
 
   -- the pool, as its table is told
   pub pool_as : (old new : Table J) (counts : Counts) (next : ℕ) (jobs : Jobs J) → Becomes old new old.queue jobs
@@ -574,8 +574,8 @@ module _ {J : Type 0} where
 
   -- the pool with another value of a job
   pub lent_pool : {X : Type 0} (lent : Option X) (old new : Table J) (counts : Counts) (next serial : ℕ) (value : J) (before : Pool J) → record { queue = old.queue; jobs = old.jobs; counts = counts; next_serial = next } ≡ before
-      → IfLent lent (Becomes old new old.queue (amend old.jobs serial (valued value))) (Becomes old new old.queue old.jobs)
-      → OnSome lent (record { queue = new.queue; jobs = new.jobs; counts = counts; next_serial = next } ≡ with_job before serial (valued value))
+      → IfLent lent (Becomes old new old.queue (amend old.jobs serial (entry_with value))) (Becomes old new old.queue old.jobs)
+      → OnSome lent (record { queue = new.queue; jobs = new.jobs; counts = counts; next_serial = next } ≡ with_job before serial (entry_with value))
   lent_pool None old new counts next serial value before seen becomes = tt
   lent_pool (Some x) old new counts next serial value before seen becomes =
-      pool_as old new counts next (amend old.jobs serial (valued value)) becomes ∙ ap (λ p. with_job p serial (valued value)) seen
+      pool_as old new counts next (amend old.jobs serial (entry_with value)) becomes ∙ ap (λ p. with_job p serial (entry_with value)) seen

@@ -12,7 +12,7 @@ use Rattle.slab.specs.Slab.{Slab, get}
 use Rattle.blocking_pool.specs.Batch.{serials_of, IsRising}
 use Rattle.blocking_pool.specs.Chain.{Chain}
 use Rattle.blocking_pool.specs.Lists.{is_in, IsOnce, first_of, rest_after}
-use Rattle.blocking_pool.specs.Jobs.{Job, Jobs, JobNumber, is_parked, is_parked_job, if_at, job_of, standing_of, queued_again, amend, all_queued_again}
+use Rattle.blocking_pool.specs.Jobs.{Job, Jobs, JobNumber, is_parked, is_parked_job, if_at, job_of, standing_of, entry_after_requeue, amend, jobs_after_requeue}
 use Rattle.blocking_pool.specs.Sweeps.{is_due, swept, serials_below}
 use Rattle.blocking_pool.specs.Tables.{Table, job_at, serial_or_zero, serials_at, is_parked_entry, HoldsParked, Becomes, number_at, IsAskedAt, GathersAt, Gathers, SweepsAll}
 use Rattle.blocking_pool.specs.declared.pool.standing.Standing.TheVariants.{Parked}
@@ -520,19 +520,19 @@ module _ {J : Type 0} where
 
   -- Entering again.
 
-  again_elsewhere : (jobs : Jobs J) (serials : List ℕ) (s : ℕ) → is_in s serials ≡ false → at (all_queued_again jobs serials) s ≡ at jobs s
+  again_elsewhere : (jobs : Jobs J) (serials : List ℕ) (s : ℕ) → is_in s serials ≡ false → at (jobs_after_requeue jobs serials) s ≡ at jobs s
   again_elsewhere jobs [] s absent = refl
   again_elsewhere jobs (serial ∷ serials) s absent =
       let parts = or_parts (eqb s serial) (is_in s serials) absent in
-      again_elsewhere (amend jobs serial queued_again) serials s parts.1 ∙ at_changed jobs serial s queued_again (eqb-false s serial parts.0)
+      again_elsewhere (amend jobs serial entry_after_requeue) serials s parts.1 ∙ at_changed jobs serial s entry_after_requeue (eqb-false s serial parts.0)
 
-  again_push : (jobs : Jobs J) (serials : List ℕ) (s : ℕ) → all_queued_again jobs (serials ++ s ∷ []) ≡ amend (all_queued_again jobs serials) s queued_again
+  again_push : (jobs : Jobs J) (serials : List ℕ) (s : ℕ) → jobs_after_requeue jobs (serials ++ s ∷ []) ≡ amend (jobs_after_requeue jobs serials) s entry_after_requeue
   again_push jobs [] s = refl
-  again_push jobs (serial ∷ serials) s = again_push (amend jobs serial queued_again) serials s
+  again_push jobs (serial ∷ serials) s = again_push (amend jobs serial entry_after_requeue) serials s
 
   -- the table, in which these jobs stand in the queue again
   abbrev pub HasEntered : Table J → List JobNumber → Table J → Type 0
-  HasEntered old numbers new = Becomes old new (old.queue ++ serials_of numbers) (all_queued_again old.jobs (serials_of numbers))
+  HasEntered old numbers new = Becomes old new (old.queue ++ serials_of numbers) (jobs_after_requeue old.jobs (serials_of numbers))
 
   -- a job that is yet to enter is parked
   pub still_parked : (first now : Table J) (numbers : List JobNumber) (i : ℕ) (number : JobNumber) → i < length numbers → number ≡ get_or numbers i number → IsOnce (serials_of numbers)
@@ -545,14 +545,14 @@ module _ {J : Type 0} where
 
   -- one more has entered
   pub one_entered : (first now new : Table J) (numbers more : List JobNumber) (number : JobNumber) → more ≡ numbers ++ number ∷ [] → HasEntered first numbers now
-      → Becomes now new (now.queue ++ number.serial ∷ []) (amend now.jobs number.serial queued_again) → HasEntered first more new
+      → Becomes now new (now.queue ++ number.serial ∷ []) (amend now.jobs number.serial entry_after_requeue) → HasEntered first more new
   one_entered first now new numbers more number are entered becomes =
       subst (λ ns. HasEntered first ns new) (sym are)
-      (subst (λ ss. Becomes first new (first.queue ++ ss) (all_queued_again first.jobs ss)) (sym (map_push (λ no. no.serial) numbers number))
+      (subst (λ ss. Becomes first new (first.queue ++ ss) (jobs_after_requeue first.jobs ss)) (sym (map_push (λ no. no.serial) numbers number))
       (record {
         queue_is = becomes.queue_is ∙ ap (λ q. q ++ number.serial ∷ []) entered.queue_is ∙ append_assoc first.queue (serials_of numbers) (number.serial ∷ []);
         room_is = becomes.room_is ∙ entered.room_is;
-        jobs_are = becomes.jobs_are ∙ ap (λ js. amend js number.serial queued_again) entered.jobs_are ∙ sym (again_push first.jobs (serials_of numbers) number.serial);
+        jobs_are = becomes.jobs_are ∙ ap (λ js. amend js number.serial entry_after_requeue) entered.jobs_are ∙ sym (again_push first.jobs (serials_of numbers) number.serial);
       }))
 
   -- what was gathered, and stands in the order of the serials, has entered

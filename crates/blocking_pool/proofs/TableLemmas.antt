@@ -8,7 +8,7 @@ use Rattle.slab.specs.Slab.{Slab, get, Updates, with_value}
 use Rattle.slab.proofs.SlabLemmas.{Updates-with_value}
 use Rattle.blocking_pool.specs.Chain.{Chain}
 use Rattle.blocking_pool.specs.Lists.{is_in, IsOnce, without, first_of}
-use Rattle.blocking_pool.specs.Jobs.{Job, Jobs, JobNumber, is_queued, is_running, new_job, if_at, job_of, is_running_as, changed, amend}
+use Rattle.blocking_pool.specs.Jobs.{Job, Jobs, JobNumber, is_queued, is_running, new_job, if_at, job_of, is_running_as, jobs_after_change, amend}
 use Rattle.blocking_pool.specs.Tables.{job_at, listed, serial_or_zero, serials_at, IsTable}
 use Rattle.blocking_pool.specs.declared.pool.standing.Standing.TheVariants.{Queued, Running}
 use Rattle.blocking_pool.specs.declared.pool.table.Entry.{Entry}
@@ -468,7 +468,7 @@ module _ {J : Type 0} where
           (λ differs none. absurd (let e : None ≡ Some job = none in cc)) here
 
   pub amend_found : (jobs : Jobs J) (serial : ℕ) (change : Job J → Job J) (job : Job J) → at jobs serial ≡ Some job → amend jobs serial change ≡ insert jobs serial (change job)
-  amend_found jobs serial change job found = ap (changed jobs serial change) found
+  amend_found jobs serial change job found = ap (jobs_after_change jobs serial change) found
 
   -- a running job leaves
   pub record Removes (old new : Slab (Entry J)) (chain : Chain) (serial : ℕ) : Type 0 where

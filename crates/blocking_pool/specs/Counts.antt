@@ -41,24 +41,24 @@ louder One All = All
 louder One _ = One
 
 -- the counts after a ring
-abbrev pub rung : BellKind → Counts → Counts
-rung ring counts = record counts { bell = louder ring counts.bell }
+abbrev pub after_ring : BellKind → Counts → Counts
+after_ring ring counts = record counts { bell = louder ring counts.bell }
 
 -- a worker takes a job up
-abbrev pub busier : Counts → Counts
-busier counts = record counts { idle = counts.idle - 1 }
+abbrev pub after_pickup : Counts → Counts
+after_pickup counts = record counts { idle = counts.idle - 1 }
 
 -- a worker is free again
-abbrev pub freer : Counts → Counts
-freer counts = record counts { idle = counts.idle + 1 }
+abbrev pub after_release : Counts → Counts
+after_release counts = record counts { idle = counts.idle + 1 }
 
 -- a worker arrives
-abbrev pub arrived : Counts → Counts
-arrived counts = record counts { arriving = counts.arriving - 1 }
+abbrev pub after_arrival : Counts → Counts
+after_arrival counts = record counts { arriving = counts.arriving - 1 }
 
 -- a worker stops, and one is notified where a job is queued
-abbrev pub stopped : Bool → Counts → Counts
-stopped is_queued counts = rung (if is_queued then One else Silent) (record counts { workers = counts.workers - 1; idle = counts.idle - 1 })
+abbrev pub after_stop : Bool → Counts → Counts
+after_stop is_queued counts = after_ring (if is_queued then One else Silent) (record counts { workers = counts.workers - 1; idle = counts.idle - 1 })
 
 -- whom a new limit notifies: all, where a limit stood and was greater
 abbrev pub ring_of_limit : ℕ → Option ℕ → BellKind
@@ -66,12 +66,12 @@ ring_of_limit limit None = Silent
 ring_of_limit limit (Some earlier) = if nat_lt limit earlier then All else Silent
 
 -- the limit is set
-abbrev pub limited : ℕ → Counts → Counts
-limited limit counts = record counts { limit = Some limit; bell = louder (ring_of_limit limit counts.limit) counts.bell }
+abbrev pub after_limit : ℕ → Counts → Counts
+after_limit limit counts = record counts { limit = Some limit; bell = louder (ring_of_limit limit counts.limit) counts.bell }
 
 -- the bell was asked
-abbrev pub silenced : Counts → Counts
-silenced counts = record counts { bell = Silent }
+abbrev pub after_bell : Counts → Counts
+after_bell counts = record counts { bell = Silent }
 
 -- those that haven't arrived are idle, and the idle ones are workers
 pub record AreInOrder (counts : Counts) : Type 0 where

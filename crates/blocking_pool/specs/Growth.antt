@@ -59,8 +59,8 @@ abbrev pub ring_of : Growth → BellKind
 ring_of growth = if growth.started == 0 then Silent else All
 
 -- the counts after a growth
-abbrev pub grown : Counts → Growth → Counts
-grown counts growth =
+abbrev pub after_growth : Counts → Growth → Counts
+after_growth counts growth =
     record {
       workers = counts.workers + growth.started;
       idle = counts.idle + growth.started;
@@ -83,7 +83,7 @@ was_asked counts growth = growth.refused && not (counts.next_worker + growth.sta
 -- What a growth does for so many ready jobs.
 pub record Grows (asking : Asking) (ready : ℕ) (old new : Counts) (growth : Growth) : Type 0 where
   pub starts : IsGrowth (StartAnswer asking.may_answer) ready old.idle old.workers (limit_of old) old.next_worker growth
-  pub counts : new ≡ grown old growth
+  pub counts : new ≡ after_growth old growth
   pub refusals : Refusals (was_asked old growth) asking.refusals_before asking.refusals_after
 
 -- one worker more, not arrived yet; all are notified

@@ -59,8 +59,8 @@ module _ {J : Type 0} where
   new_job place value = record { place = place; standing = Queued; woken = false; cancelled = false; value = Some value }
 
   -- the job in the hands of a worker
-  abbrev pub running : Job J → Job J
-  running job = record job { standing = Running; woken = false; value = None }
+  abbrev pub entry_after_take : Job J → Job J
+  entry_after_take job = record job { standing = Running; woken = false; value = None }
 
   abbrev pub is_running_job : Option (Job J) → Bool
   is_running_job None = false
@@ -72,19 +72,19 @@ module _ {J : Type 0} where
   running_below jobs (suc serial) = running_below jobs serial + one_if (is_running_job (get jobs serial))
 
   -- a job that stands in the queue again
-  abbrev pub queued_again : Job J → Job J
-  queued_again job = record job { standing = Queued }
+  abbrev pub entry_after_requeue : Job J → Job J
+  entry_after_requeue job = record job { standing = Queued }
 
   -- a job that waits for a wake, with its value back from its worker
-  abbrev pub parked_with : J → Job J → Job J
-  parked_with value job = record job { standing = Parked; value = Some value }
+  abbrev pub entry_after_park : J → Job J → Job J
+  entry_after_park value job = record job { standing = Parked; value = Some value }
 
   -- a running job that a wake met
-  abbrev pub woken : Job J → Job J
-  woken job = record job { woken = true }
+  abbrev pub entry_after_wake : Job J → Job J
+  entry_after_wake job = record job { woken = true }
 
-  abbrev pub cancelled : Job J → Job J
-  cancelled job = record job { cancelled = true }
+  abbrev pub entry_after_cancel : Job J → Job J
+  entry_after_cancel job = record job { cancelled = true }
 
   -- the job, if this is its place
   abbrev pub if_at : ℕ → Option (Job J) → Option (Job J)
@@ -114,21 +114,21 @@ module _ {J : Type 0} where
   value_at (Some job) = job.value
 
   -- a job with another value
-  abbrev pub valued : J → Job J → Job J
-  valued value job = record job { value = Some value }
+  abbrev pub entry_with : J → Job J → Job J
+  entry_with value job = record job { value = Some value }
 
-  abbrev pub changed : Jobs J → ℕ → (Job J → Job J) → Option (Job J) → Jobs J
-  changed jobs serial change None = jobs
-  changed jobs serial change (Some job) = map.insert jobs serial (change job)
+  abbrev pub jobs_after_change : Jobs J → ℕ → (Job J → Job J) → Option (Job J) → Jobs J
+  jobs_after_change jobs serial change None = jobs
+  jobs_after_change jobs serial change (Some job) = map.insert jobs serial (change job)
 
   -- the jobs, of which the one of this serial has changed so
   abbrev pub amend : Jobs J → ℕ → (Job J → Job J) → Jobs J
-  amend jobs serial change = changed jobs serial change (get jobs serial)
+  amend jobs serial change = jobs_after_change jobs serial change (get jobs serial)
 
   -- the jobs, of which these stand in the queue again
-  abbrev pub all_queued_again : Jobs J → List ℕ → Jobs J
-  all_queued_again jobs [] = jobs
-  all_queued_again jobs (serial ∷ serials) = all_queued_again (amend jobs serial queued_again) serials
+  abbrev pub jobs_after_requeue : Jobs J → List ℕ → Jobs J
+  jobs_after_requeue jobs [] = jobs
+  jobs_after_requeue jobs (serial ∷ serials) = jobs_after_requeue (amend jobs serial entry_after_requeue) serials
 
   abbrev pub is_parked_job : Option (Job J) → Bool
   is_parked_job None = false

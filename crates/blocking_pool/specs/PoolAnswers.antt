@@ -1,10 +1,10 @@
 -- What the calls of a pool answer.
 use Rattle.std.specs.Prelude.{◌≡◌, ◌<◌, ℕ, Bool, true, false, not, ◌&&◌, ◌||◌, if◌then◌else◌, nat_lt, option_map, List, [], ◌∷◌, length, Option, Some, None, Result, Ok, Err}
-use Rattle.blocking_pool.specs.Jobs.{Job, JobNumber, job_of, standing_of, is_running_as, woken, cancelled}
-use Rattle.blocking_pool.specs.Pools.{Pool, empty_pool, Enters, IsRefused, IsToDrop, TakesFront, EnterAgain, with_job, without_job, parked_in, returned_in}
+use Rattle.blocking_pool.specs.Jobs.{Job, JobNumber, job_of, standing_of, is_running_as, entry_after_wake, entry_after_cancel}
+use Rattle.blocking_pool.specs.Pools.{Pool, empty_pool, Enters, IsRefused, IsToDrop, TakesFront, EnterAgain, with_job, without_job, after_park, after_return}
 use Rattle.blocking_pool.specs.Sweeps.{AreAsked, serials_below, swept}
 use Rattle.blocking_pool.specs.Wakes.{wake_of, cancel_of}
-use Rattle.blocking_pool.specs.Counts.{limit_of, arrived, stopped}
+use Rattle.blocking_pool.specs.Counts.{limit_of, after_arrival, after_stop}
 use Rattle.blocking_pool.specs.Growth.{Asking, RefusesNone}
 use Rattle.std.specs.Borrow.{Bor}
 use Rattle.blocking_pool.specs.Limits.{limit_of_setting}
@@ -39,7 +39,7 @@ module _ {J : Type 0} where
   -- a worker arrives, where one was started and hasn't arrived
   abbrev pub Arrives : Pool J → Option WorkerPass → Pool J → Type 0
   Arrives old None new = (old.counts.arriving ≡ 0) × (new ≡ old)
-  Arrives old (Some pass) new = (0 < old.counts.arriving) × (new ≡ record old { counts = arrived old.counts }) × (new.counts.arriving < new.counts.idle)
+  Arrives old (Some pass) new = (0 < old.counts.arriving) × (new ≡ record old { counts = after_arrival old.counts }) × (new.counts.arriving < new.counts.idle)
 
   -- a worker takes the front job, to run it or to drop it, or finds none
   abbrev pub Takes : (J → Bool → Type 0) → Asking → Pool J → Took J → Pool J → Type 0
@@ -50,13 +50,13 @@ module _ {J : Type 0} where
   -- what a wake leaves: the job enters again, or is marked as woken
   abbrev pub WakesTo : Asking → Pool J → ℕ → Woke → Pool J → Type 0
   WakesTo asking old serial Entered new = EnterAgain asking old (serial ∷ []) new
-  WakesTo asking old serial Marked new = (new ≡ with_job old serial woken) × RefusesNone asking
+  WakesTo asking old serial Marked new = (new ≡ with_job old serial entry_after_wake) × RefusesNone asking
   WakesTo asking old serial Nothing new = (new ≡ old) × RefusesNone asking
 
   -- what a cancel leaves: the job is flagged, and enters again if it was parked
   abbrev pub CancelsTo : Asking → Pool J → ℕ → Woke → Pool J → Type 0
-  CancelsTo asking old serial Entered new = EnterAgain asking (with_job old serial cancelled) (serial ∷ []) new
-  CancelsTo asking old serial Marked new = (new ≡ with_job old serial cancelled) × RefusesNone asking
+  CancelsTo asking old serial Entered new = EnterAgain asking (with_job old serial entry_after_cancel) (serial ∷ []) new
+  CancelsTo asking old serial Marked new = (new ≡ with_job old serial entry_after_cancel) × RefusesNone asking
   CancelsTo asking old serial Nothing new = (new ≡ old) × RefusesNone asking
 
   -- a wake, by how its job stands
@@ -93,7 +93,7 @@ module _ {J : Type 0} where
   -- a worker stays after a wait, and nothing changes, or it stops
   abbrev pub StaysOrStops : Bool → Pool J → Waited → Pool J → Type 0
   StaysOrStops timed_out old (Stay pass) new = (must_stop timed_out old ≡ false) × (new ≡ old) × (new.counts.arriving < new.counts.idle)
-  StaysOrStops timed_out old Stop new = (must_stop timed_out old ≡ true) × (new ≡ record old { counts = stopped (not (is_empty old.queue)) old.counts })
+  StaysOrStops timed_out old Stop new = (must_stop timed_out old ≡ true) × (new ≡ record old { counts = after_stop (not (is_empty old.queue)) old.counts })
 
   -- a worker has waited: it sweeps if the wait timed out, and then it stays or stops
   pub record Waits (may_mark : J → Bool → Type 0) (asking : Asking) (timed_out : Bool) (old : Pool J) (waited : Waited) (new : Pool J) : Type 0 where
@@ -113,7 +113,7 @@ module _ {J : Type 0} where
   EndsTo may_mark old turn job Done (Free pass) new = new ≡ without_job old turn.serial
   EndsTo may_mark old turn job Dropped (Free pass) new = new ≡ without_job old turn.serial
   EndsTo may_mark old turn job (Waiting value) (Free pass) new =
-      IsToDrop may_mark job.cancelled value false × (new ≡ (if job.woken then returned_in old turn.serial value else parked_in old turn.serial value))
+      IsToDrop may_mark job.cancelled value false × (new ≡ (if job.woken then after_return old turn.serial value else after_park old turn.serial value))
   EndsTo may_mark old turn job (Waiting value) (HandOut back given) new =
       IsToDrop may_mark job.cancelled value true × (back ≡ turn) × (given ≡ value) × (new ≡ old)
   EndsTo may_mark old turn job _ _ new = ⊥

@@ -2,7 +2,7 @@
 use Rattle.std.specs.Prelude.{◌≡◌, Option, OnSome}
 use Rattle.std.specs.Borrow.{LendsSo, Fml, RattleType, MutBor}
 use Rattle.blocking_pool.specs.declared.pool.job.Job.{Ghosts}
-use Rattle.blocking_pool.specs.Jobs.{JobNumber, valued}
+use Rattle.blocking_pool.specs.Jobs.{JobNumber, entry_with}
 use Rattle.blocking_pool.specs.Pools.{Pool, with_job}
 use Rattle.blocking_pool.specs.contracts.pool.Pool.{the_row}
 
@@ -10,5 +10,5 @@ use Rattle.blocking_pool.specs.contracts.pool.Pool.{the_row}
 abbrev pub lends_job : (J : RattleType) → Ghosts J.Denot → MutBor (Pool J.Denot) → JobNumber → Option (MutBor J.Denot) → Fml
 lends_job J job pool number value =
     LendsSo (the_row J job) J pool value
-    (λ last left. OnSome value (last ≡ with_job pool.now number.serial (valued left)))
+    (λ last left. OnSome value (last ≡ with_job pool.now number.serial (entry_with left)))
     (λ last. last ≡ pool.now)

@@ -3,8 +3,8 @@ use Rattle.std.specs.Prelude.{◌≡◌, ℕ, ◌+◌, ◌<◌, ◌≤◌, ◌||
 use Rattle.std.specs.FinMap as map
 use Rattle.std.specs.Coded.{Coded, code_by, coded×, coded_ℕ, coded_list}
 use Rattle.blocking_pool.specs.Lists.{is_in, IsOnce}
-use Rattle.blocking_pool.specs.Jobs.{Job, Jobs, JobNumber, jobs_code, is_queued, new_job, running, running_below, parked_with, queued_again, amend, all_queued_again}
-use Rattle.blocking_pool.specs.Counts.{Counts, counts_code, no_workers, busier, freer, rung, AreInOrder}
+use Rattle.blocking_pool.specs.Jobs.{Job, Jobs, JobNumber, jobs_code, is_queued, new_job, entry_after_take, running_below, entry_after_park, entry_after_requeue, amend, jobs_after_requeue}
+use Rattle.blocking_pool.specs.Counts.{Counts, counts_code, no_workers, after_pickup, after_release, after_ring, AreInOrder}
 use Rattle.blocking_pool.specs.Growth.{Asking, RefusesNone, Growth, Grows, greatest}
 use Rattle.blocking_pool.specs.declared.pool.answer.Refusal.{Refusal}
 use Rattle.blocking_pool.specs.declared.pool.answer.Refusal.TheVariants.{Memory, NoWorker, Numbers}
@@ -48,12 +48,12 @@ module _ {J : Type 0} where
   empty_pool setting serial worker = record { queue = []; jobs = map.empty; counts = no_workers setting worker; next_serial = serial }
 
   -- a new job stands at the queue's end, with the next serial, and one worker is notified
-  abbrev pub entered : Pool J → ℕ → J → Counts → Pool J
-  entered pool place value counts =
+  abbrev pub after_entry : Pool J → ℕ → J → Counts → Pool J
+  after_entry pool place value counts =
       record {
         queue = pool.queue ++ pool.next_serial ∷ [];
         jobs = map.insert pool.jobs pool.next_serial (new_job place value);
-        counts = rung One counts;
+        counts = after_ring One counts;
         next_serial = pool.next_serial + 1;
       }
 
@@ -65,7 +65,7 @@ module _ {J : Type 0} where
     pub counts : Counts
     pub grows : Grows asking (length old.queue + 1) old.counts counts growth
     pub staffed : 0 < counts.workers
-    pub after_is : new ≡ entered old number.place value counts
+    pub after_is : new ≡ after_entry old number.place value counts
 
   -- the job is handed back, for want of a worker: nothing stays of it but the counts of its growth
   pub record FindsNobody (asking : Asking) (old new : Pool J) : Type 0 where
@@ -98,16 +98,16 @@ module _ {J : Type 0} where
     pub wanted : IsToDrop may_mark job.cancelled value to_drop
     pub growth : Growth
     pub counts : Counts
-    pub grows : Grows asking (length rest) (busier old.counts) counts growth
-    pub after_is : new ≡ record { queue = rest; jobs = map.insert old.jobs number.serial (running job); counts = counts; next_serial = old.next_serial }
+    pub grows : Grows asking (length rest) (after_pickup old.counts) counts growth
+    pub after_is : new ≡ record { queue = rest; jobs = map.insert old.jobs number.serial (entry_after_take job); counts = counts; next_serial = old.next_serial }
 
   -- jobs stand at the queue's end again, in this order, and one worker is notified
-  abbrev pub requeued : Pool J → List ℕ → Counts → Pool J
-  requeued pool serials counts =
+  abbrev pub after_requeue : Pool J → List ℕ → Counts → Pool J
+  after_requeue pool serials counts =
       record {
         queue = pool.queue ++ serials;
-        jobs = all_queued_again pool.jobs serials;
-        counts = rung One counts;
+        jobs = jobs_after_requeue pool.jobs serials;
+        counts = after_ring One counts;
         next_serial = pool.next_serial;
       }
 
@@ -116,7 +116,7 @@ module _ {J : Type 0} where
     pub growth : Growth
     pub counts : Counts
     pub grows : Grows asking (length (old.queue ++ serials)) old.counts counts growth
-    pub after_is : new ≡ requeued old serials counts
+    pub after_is : new ≡ after_requeue old serials counts
 
   -- the pool, in which the job of this serial has changed so
   abbrev pub with_job : Pool J → ℕ → (Job J → Job J) → Pool J
@@ -124,18 +124,18 @@ module _ {J : Type 0} where
 
   -- a running job is over: it leaves, and its worker is free
   abbrev pub without_job : Pool J → ℕ → Pool J
-  without_job pool serial = record pool { jobs = map.remove pool.jobs serial; counts = freer pool.counts }
+  without_job pool serial = record pool { jobs = map.remove pool.jobs serial; counts = after_release pool.counts }
 
   -- a running job waits for a wake, and its worker is free
-  abbrev pub parked_in : Pool J → ℕ → J → Pool J
-  parked_in pool serial value = record pool { jobs = amend pool.jobs serial (parked_with value); counts = freer pool.counts }
+  abbrev pub after_park : Pool J → ℕ → J → Pool J
+  after_park pool serial value = record pool { jobs = amend pool.jobs serial (entry_after_park value); counts = after_release pool.counts }
 
   -- a running job goes back to the queue's end, since a wake met it; its worker is free, and one is notified
-  abbrev pub returned_in : Pool J → ℕ → J → Pool J
-  returned_in pool serial value =
+  abbrev pub after_return : Pool J → ℕ → J → Pool J
+  after_return pool serial value =
       record {
         queue = pool.queue ++ serial ∷ [];
-        jobs = amend (amend pool.jobs serial (parked_with value)) serial queued_again;
-        counts = rung One (freer pool.counts);
+        jobs = amend (amend pool.jobs serial (entry_after_park value)) serial entry_after_requeue;
+        counts = after_ring One (after_release pool.counts);
         next_serial = pool.next_serial;
       }

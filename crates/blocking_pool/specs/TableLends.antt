@@ -1,7 +1,7 @@
 -- What a table ends as, where a `&mut` to the value of a job is returned. No public clause cites this file.
 use Rattle.std.specs.Prelude.{Option, Some, None}
 use Rattle.std.specs.Borrow.{LendsSo, Fml, RattleType, MutBor}
-use Rattle.blocking_pool.specs.Jobs.{JobNumber, valued, amend}
+use Rattle.blocking_pool.specs.Jobs.{JobNumber, entry_with, amend}
 use Rattle.blocking_pool.specs.Tables.{Table, Becomes}
 use Rattle.blocking_pool.specs.contracts.pool.table.Table.{the_row}
 
@@ -14,5 +14,5 @@ IfLent None lent kept = kept
 abbrev pub lends_value : (J : RattleType) → MutBor (Table J.Denot) → JobNumber → Option (MutBor J.Denot) → Fml
 lends_value J table number value =
     LendsSo (the_row J) J table value
-    (λ last left. IfLent value (Becomes table.now last table.now.queue (amend table.now.jobs number.serial (valued left))) (Becomes table.now last table.now.queue table.now.jobs))
+    (λ last left. IfLent value (Becomes table.now last table.now.queue (amend table.now.jobs number.serial (entry_with left))) (Becomes table.now last table.now.queue table.now.jobs))
     (λ last. Becomes table.now last table.now.queue table.now.jobs)

@@ -8,7 +8,7 @@ use Rattle.slab.specs.Slab.{Slab, get, slab_len}
 use Rattle.blocking_pool.specs.Chain.{Chain}
 use Rattle.blocking_pool.specs.Batch.{serials_of, IsRising}
 use Rattle.blocking_pool.specs.Lists.{is_in, IsOnce}
-use Rattle.blocking_pool.specs.Jobs.{Job, Jobs, jobs_code, JobNumber, is_queued, is_running, is_parked, running, standing_of, all_queued_again}
+use Rattle.blocking_pool.specs.Jobs.{Job, Jobs, jobs_code, JobNumber, is_queued, is_running, is_parked, entry_after_take, standing_of, jobs_after_requeue}
 use Rattle.blocking_pool.specs.Sweeps.{AreAsked, is_due}
 use Rattle.blocking_pool.specs.Counts.{Counts}
 use Rattle.blocking_pool.specs.Pools.{IsSound}
@@ -101,7 +101,7 @@ module _ {J : Type 0} where
       (old.queue ≡ front.no.serial ∷ new.queue)
       × (job : Job J) × (map.get old.jobs front.no.serial ≡ Some job)
       × (job.place ≡ front.no.place) × (job.value ≡ Some front.value) × (front.cancelled ≡ job.cancelled)
-      × Becomes old new new.queue (map.insert old.jobs front.no.serial (running job))
+      × Becomes old new new.queue (map.insert old.jobs front.no.serial (entry_after_take job))
 
   -- the number of the job at a place
   abbrev pub number_at : Slab (Entry J) → ℕ → JobNumber
@@ -134,7 +134,7 @@ module _ {J : Type 0} where
     pub serials : List ℕ
     pub rising : IsRising serials
     pub each : (serial : ℕ) → is_in serial serials ≡ is_due old.jobs marked serial
-    pub becomes : Becomes old new (old.queue ++ serials) (all_queued_again old.jobs serials)
+    pub becomes : Becomes old new (old.queue ++ serials) (jobs_after_requeue old.jobs serials)
 
   -- what every pool keeps of its table and counts; what a sweep gathers has room for all jobs
   pub record IsWhole (table : Table J) (counts : Counts) (next_serial due_room : ℕ) : Type 0 where

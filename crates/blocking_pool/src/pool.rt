@@ -67,7 +67,7 @@ impl<J: Job> Pool<J> {
     ghost use Rattle.blocking_pool.specs.PoolLends.{lends_job};
     ghost use Rattle.std.specs.Borrow.{sem};
     ghost use Rattle.std.specs.Option.{option_copied_mut};
-    ghost use Rattle.blocking_pool.specs.Counts.{limited, silenced};
+    ghost use Rattle.blocking_pool.specs.Counts.{after_limit, after_bell};
     ghost use Rattle.blocking_pool.specs.declared.pool.answer.Finish.{Finish};
     ghost use Rattle.blocking_pool.specs.declared.pool.standing.Standing.TheVariants.{Parked};
 
@@ -322,7 +322,7 @@ impl<J: Job> Pool<J> {
     /// greater. The pool doesn't grow.
     pub fn set_limit(&mut self, limit: usize)
         requires { 0 < limit }
-        ensures { self.new ≡ record self.old { counts = limited limit self.old.counts } }
+        ensures { self.new ≡ record self.old { counts = after_limit limit self.old.counts } }
     {
         self.counts.set_limit(limit);
     }
@@ -330,7 +330,7 @@ impl<J: Job> Pool<J> {
     /// Whom to notify for the calls since this was last asked: the greatest of what they rang.
     pub fn bell(&mut self) -> Bell
         ensures ring { result ≡ self.old.counts.bell }
-        ensures silent { self.new ≡ record self.old { counts = silenced self.old.counts } }
+        ensures silent { self.new ≡ record self.old { counts = after_bell self.old.counts } }
     {
         Bell::new(self.counts.take_ring())
     }

@@ -2,7 +2,7 @@
 use Rattle.std.proofs.Common.{◌≡◌, ℕ, ◌==◌, Bool, true, false, cond, refl, sym, ap, ◌∙◌, if◌then◌else◌, Option, Some, None}
 use Rattle.std.specs.FinMap.{get, insert, remove}
 use Rattle.std.proofs.lemmas.Bool.{eqb-true}
-use Rattle.blocking_pool.specs.Jobs.{Job, Jobs, JobNumber, is_parked, is_running, is_running_job, is_parked_job, if_at, job_of, is_running_as, changed, amend, value_at, woken, cancelled, valued}
+use Rattle.blocking_pool.specs.Jobs.{Job, Jobs, JobNumber, is_parked, is_running, is_running_job, is_parked_job, if_at, job_of, is_running_as, jobs_after_change, amend, value_at, entry_after_wake, entry_after_cancel, entry_with}
 use Rattle.blocking_pool.specs.declared.pool.answer.Woke.{Woke}
 use Rattle.blocking_pool.specs.declared.pool.answer.Woke.TheVariants.{Marked}
 use Rattle.blocking_world.specs.Worlds.{CallPool}
@@ -58,7 +58,7 @@ parked_by true job new o st here = ap is_parked st ∙ ap is_parked_job (sym (he
 parked_by false job new o st here = refl
 
 changed_alike : (jobs : Jobs CallJob) (x : ℕ) (change : Job CallJob → Job CallJob) (o : Option (Job CallJob)) → get jobs x ≡ o
-    → ((j : Job CallJob) → (change j).standing ≡ j.standing) → ((j : Job CallJob) → (change j).place ≡ j.place) → Alike jobs (changed jobs x change o)
+    → ((j : Job CallJob) → (change j).standing ≡ j.standing) → ((j : Job CallJob) → (change j).place ≡ j.place) → Alike jobs (jobs_after_change jobs x change o)
 changed_alike jobs x change None e st pl = record { runs_alike = λ number. refl; parked_alike = λ s. refl }
 changed_alike jobs x change (Some job) e st pl = record {
   runs_alike = λ number.
@@ -84,14 +84,14 @@ pub record Kept (pool new : CallPool) : Type 0 where
 mark_kept : (pool : CallPool) (number : JobNumber) (o : Option CallJob) → Kept pool (pool_after_mark_of pool number o)
 mark_kept pool number None = record { alike = same_alike pool.jobs; counts_same = refl }
 mark_kept pool number (Some value) =
-    record { alike = amend_alike pool.jobs number.serial (valued (record value { is_marked = true })) (λ j. refl) (λ j. refl); counts_same = refl }
+    record { alike = amend_alike pool.jobs number.serial (entry_with (record value { is_marked = true })) (λ j. refl) (λ j. refl); counts_same = refl }
 
 pub wake_kept : (how : Woke) (pool : CallPool) (number : JobNumber) → Kept pool (after_wake how pool number)
-wake_kept Marked pool number = record { alike = amend_alike pool.jobs number.serial woken (λ j. refl) (λ j. refl); counts_same = refl }
+wake_kept Marked pool number = record { alike = amend_alike pool.jobs number.serial entry_after_wake (λ j. refl) (λ j. refl); counts_same = refl }
 wake_kept _ pool number = record { alike = same_alike pool.jobs; counts_same = refl }
 
 pub cancel_kept : (how : Woke) (pool : CallPool) (number : JobNumber) → Kept pool (after_cancel how pool number)
-cancel_kept Marked pool number = record { alike = amend_alike pool.jobs number.serial cancelled (λ j. refl) (λ j. refl); counts_same = refl }
+cancel_kept Marked pool number = record { alike = amend_alike pool.jobs number.serial entry_after_cancel (λ j. refl) (λ j. refl); counts_same = refl }
 cancel_kept _ pool number = record { alike = same_alike pool.jobs; counts_same = refl }
 
 pub call_kept : (call : TaskCall) (pool : CallPool) (number : JobNumber) → Kept pool (pool_after_call call pool number)

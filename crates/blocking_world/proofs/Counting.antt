@@ -3,8 +3,8 @@ use Rattle.std.proofs.Common.{◌≡◌, ◌≢◌, ℕ, ◌<◌, ◌≤◌, ◌
 use Rattle.std.specs.Prelude.{◌&&◌, ◌||◌, not, nat_lt, Result, Ok, Err}
 use Rattle.std.proofs.lemmas.Bool.{or_from, eqb-true, eqb-false}
 use Rattle.std.proofs.lemmas.Bool.Decides.{nat_tests}
-use Rattle.blocking_pool.specs.Counts.{Counts, limit_of, busier}
-use Rattle.blocking_pool.specs.Growth.{greatest, Growth, IsGrowth, StartAnswer, grown, limit_after, number_after}
+use Rattle.blocking_pool.specs.Counts.{Counts, limit_of, after_pickup}
+use Rattle.blocking_pool.specs.Growth.{greatest, Growth, IsGrowth, StartAnswer, after_growth, limit_after, number_after}
 use Rattle.blocking_pool.specs.Jobs.{JobNumber}
 use Rattle.blocking_pool.specs.Lists.{is_in, IsOnce}
 use Rattle.blocking_pool.specs.PoolAnswers.{must_stop, is_empty}
@@ -167,7 +167,7 @@ pub record GrewIn (setting : ℕ) (past later : List Moment) (growth : Growth) :
 
 -- the counts are those after a growth, but for the bell
 abbrev AreGrown : Counts → Growth → Counts → Type 0
-AreGrown old growth new = record new { bell = (grown old growth).bell } ≡ grown old growth
+AreGrown old growth new = record new { bell = (after_growth old growth).bell } ≡ after_growth old growth
 
 -- its counts after that, by how many workers were idle before, and by the jobs that run now
 grown_counted : (setting : ℕ) (plan : List Bool) (w w' : Worlded) (past later : List Moment) (ready free : ℕ) (growth : Growth) → Counted setting w past
@@ -215,13 +215,13 @@ begins_counted : (setting : ℕ) (plan : List Bool) (w : Worlded) (past : List M
     → Tied setting w past → May (IsPlanned plan) w (Begins answer growth pool) → Counted setting (after w (Begins answer growth pool)) (moment_of w (Begins answer growth pool) ∷ past)
 begins_counted setting plan w past (Ok number) growth pool t m =
     let staffed = m.staffed in
-    grown_counted setting plan w (after w (Begins (Ok number) growth pool)) past _ (length w.pool.queue + 1) w.pool.counts.idle growth t.counted m.starts (ap (λ (p : CallPool). record p.counts { bell = (grown w.pool.counts growth).bell }) m.after_is) refl
+    grown_counted setting plan w (after w (Begins (Ok number) growth pool)) past _ (length w.pool.queue + 1) w.pool.counts.idle growth t.counted m.starts (ap (λ (p : CallPool). record p.counts { bell = (after_growth w.pool.counts growth).bell }) m.after_is) refl
     (record { began = refl; gone = refl; came = refl; refusals = refused_more growth.refused _ _; most = refl; told = refl }) t.counted.idle_are t.counted.once
     (λ s. entered_each (number.serial == s) (is_in s (running past)) (standing past s) (t.counted.each s)
     (λ same. t.counted.each s ∙ ap (λ n. is_running (standing past n)) (sym (eqb-true number.serial s same) ∙ m.serial) ∙ ap is_running (fresh w past t.numbered)))
     (λ none. absurd (omega (arith, staffed, none)))
 begins_counted setting plan w past (Err NoWorker) growth pool t m =
-    grown_counted setting plan w (after w (Begins (Err NoWorker) growth pool)) past _ (length w.pool.queue + 1) w.pool.counts.idle growth t.counted m.starts (ap (λ (p : CallPool). record p.counts { bell = (grown w.pool.counts growth).bell }) m.after_is) refl
+    grown_counted setting plan w (after w (Begins (Err NoWorker) growth pool)) past _ (length w.pool.queue + 1) w.pool.counts.idle growth t.counted m.starts (ap (λ (p : CallPool). record p.counts { bell = (after_growth w.pool.counts growth).bell }) m.after_is) refl
     (record { began = refl; gone = refl; came = refl; refusals = refused_more growth.refused _ _; most = refl; told = refl }) t.counted.idle_are t.counted.once t.counted.each
     (λ none. ap (λ (p : CallPool). p.queue) m.after_is ∙ t.counted.served (omega (arith, none)))
 begins_counted setting plan w past (Err Memory) growth pool t m = refused_counted setting w past Memory growth pool t.filed refl m.0 m.1 t.counted
@@ -247,8 +247,8 @@ front_idle setting w past s rest t front =
     t.counted.each s ∙ queued_idle (standing past s) (sym (t.lined.each s) ∙ there)
 
 taken_counted : (setting : ℕ) (plan : List Bool) (w w' : Worlded) (past later : List Moment) (s : ℕ) (rest : List ℕ) (growth : Growth)
-    → Tied setting w past → 0 < w.pool.counts.idle → w.pool.queue ≡ s ∷ rest → GrowsBy (IsPlanned plan) (length rest) (busier w.pool.counts) growth
-    → AreGrown (busier w.pool.counts) growth w'.pool.counts → length w'.hands ≡ length w.hands → GrewIn setting past later growth → running later ≡ running past ++ s ∷ []
+    → Tied setting w past → 0 < w.pool.counts.idle → w.pool.queue ≡ s ∷ rest → GrowsBy (IsPlanned plan) (length rest) (after_pickup w.pool.counts) growth
+    → AreGrown (after_pickup w.pool.counts) growth w'.pool.counts → length w'.hands ≡ length w.hands → GrewIn setting past later growth → running later ≡ running past ++ s ∷ []
     → ((n : ℕ) → standing later n ≡ (if s == n then Some Running else standing past n)) → Counted setting w' later
 taken_counted setting plan w w' past later s rest growth t some front starting counts hands grew busy stands =
     let c = t.counted in
@@ -264,11 +264,11 @@ takes_counted : (setting : ℕ) (plan : List Bool) (w : Worlded) (past : List Mo
     Tied setting w past → May (IsPlanned plan) w move → Counted setting (after w move) (moment_of w move ∷ past))
 takes_counted setting plan w past v old true turn job growth pool t m =
     taken_counted setting plan w (after w (TakesJob v old true turn job growth pool)) past _ turn.serial m.1.rest growth t
-    (idle_some w past v old t.handed m.0) m.1.front m.1.starts (ap (λ (p : CallPool). record p.counts { bell = (grown (busier w.pool.counts) growth).bell }) m.1.after_is) (length-set w.hands (v - 1) _)
+    (idle_some w past v old t.handed m.0) m.1.front m.1.starts (ap (λ (p : CallPool). record p.counts { bell = (after_growth (after_pickup w.pool.counts) growth).bell }) m.1.after_is) (length-set w.hands (v - 1) _)
     (record { began = refl; gone = refl; came = refl; refusals = refused_more growth.refused _ _; most = refl; told = refl }) refl (λ n. refl)
 takes_counted setting plan w past v old false turn job growth pool t m =
     taken_counted setting plan w (after w (TakesJob v old false turn job growth pool)) past _ turn.serial m.1.rest growth t
-    (idle_some w past v old t.handed m.0) m.1.front m.1.starts (ap (λ (p : CallPool). record p.counts { bell = (grown (busier w.pool.counts) growth).bell }) m.1.after_is) (length-set w.hands (v - 1) _)
+    (idle_some w past v old t.handed m.0) m.1.front m.1.starts (ap (λ (p : CallPool). record p.counts { bell = (after_growth (after_pickup w.pool.counts) growth).bell }) m.1.after_is) (length-set w.hands (v - 1) _)
     (record { began = refl; gone = refl; came = refl; refusals = refused_more growth.refused _ _; most = refl; told = refl }) refl (λ n. refl)
 
 -- ---- a turn ends

@@ -1,7 +1,7 @@
 -- An entry of the pool by what was seen of its job, over plain values: what it tells, and each kind of change.
 use Rattle.std.proofs.Common.{◌≡◌, inl, inr, ℕ, ◌==◌, cond, List, [], ◌∷◌, map, Bool, true, false, refl, sym, ap, ◌∙◌, subst, if◌then◌else◌, Option, Some, None, ◌&&◌, ◌||◌, not}
 use Rattle.std.specs.Prelude.{option_map, is_some}
-use Rattle.blocking_pool.specs.Jobs.{Job as Entry, new_job, running, woken, cancelled, is_running_job, is_running}
+use Rattle.blocking_pool.specs.Jobs.{Job as Entry, new_job, entry_after_take, entry_after_wake, entry_after_cancel, is_running_job, is_running}
 use Rattle.blocking_core.specs.declared.job.Action.{Action}
 use Rattle.blocking_core.specs.declared.job.Action.TheVariants as action
 use Rattle.blocking_pool.specs.declared.pool.standing.Standing.{Standing}
@@ -59,7 +59,7 @@ new_filed true place None None wake cancel mark ended acts fresh filed =
 -- a job is taken
 pub taken_filed : (b : Bool) (entry : Entry CallJob) (found : Option (Entry CallJob)) (stand : Option Standing) (wake cancel mark ended : Bool) (acts : List Act) → (b ≡ true → found ≡ Some entry)
     → FiledAs found stand wake cancel mark ended acts
-    → FiledAs (if b then Some (running entry) else found) (if b then Some Running else stand) (not b && wake) cancel mark ended acts
+    → FiledAs (if b then Some (entry_after_take entry) else found) (if b then Some Running else stand) (not b && wake) cancel mark ended acts
 taken_filed false entry found stand wake cancel mark ended acts here filed = filed
 taken_filed true entry found stand wake cancel mark ended acts here filed =
     let is = subst (λ o. FiledAs o stand wake cancel mark ended acts) (here refl) filed in
@@ -68,7 +68,7 @@ taken_filed true entry found stand wake cancel mark ended acts here filed =
 -- a running job is woken
 pub woken_filed : (b : Bool) (found : Option (Entry CallJob)) (stand : Option Standing) (wake cancel mark ended : Bool) (acts : List Act) → (b ≡ true → is_some found ≡ true)
     → FiledAs found stand wake cancel mark ended acts
-    → FiledAs (if b then option_map woken found else found) stand (b || wake) cancel mark ended acts
+    → FiledAs (if b then option_map entry_after_wake found else found) stand (b || wake) cancel mark ended acts
 woken_filed false found stand wake cancel mark ended acts there filed = filed
 woken_filed true None stand wake cancel mark ended acts there filed = let some = there refl in absurd cc
 woken_filed true (Some entry) stand wake cancel mark ended acts there filed = (filed.0, refl, filed.2, filed.3, filed.4)
@@ -76,7 +76,7 @@ woken_filed true (Some entry) stand wake cancel mark ended acts there filed = (f
 -- a job is cancelled
 pub cancelled_filed : (b : Bool) (found : Option (Entry CallJob)) (stand : Option Standing) (wake cancel mark ended : Bool) (acts : List Act) → (b ≡ true → is_some found ≡ true)
     → FiledAs found stand wake cancel mark ended acts
-    → FiledAs (if b then option_map cancelled found else found) stand wake (b || cancel) mark ended acts
+    → FiledAs (if b then option_map entry_after_cancel found else found) stand wake (b || cancel) mark ended acts
 cancelled_filed false found stand wake cancel mark ended acts there filed = filed
 cancelled_filed true None stand wake cancel mark ended acts there filed = let some = there refl in absurd cc
 cancelled_filed true (Some entry) stand wake cancel mark ended acts there filed = (filed.0, filed.1, refl, filed.3, filed.4)

@@ -6,7 +6,7 @@ use Rattle.std.proofs.lemmas.Option.{slice_get_within}
 use Rattle.std.proofs.lemmas.Bool.{and_parts, ltb-true, eqb-true}
 use Rattle.std.proofs.lemmas.Bool.Decides.{nat_tests}
 use Rattle.blocking_pool.specs.Growth.{Growth}
-use Rattle.blocking_pool.specs.Jobs.{Job as Entry, JobNumber, new_job, running, woken, cancelled, amend, is_running_job}
+use Rattle.blocking_pool.specs.Jobs.{Job as Entry, JobNumber, new_job, entry_after_take, entry_after_wake, entry_after_cancel, amend, is_running_job}
 use Rattle.blocking_pool.specs.PoolAnswers.{must_stop}
 use Rattle.blocking_pool.specs.Wakes.{wake_of, cancel_of}
 use Rattle.blocking_pool.specs.declared.pool.answer.Woke.{Woke}
@@ -62,17 +62,17 @@ took_filed : (may_answer : ℕ → Bool → Type 0) (to_drop drops : Bool) (w : 
     → TakesFront may_answer w.pool turn job drops growth pool
     → (s : ℕ) → FiledHere (get pool.jobs s) (record { step = Take v; event = seen (Worker v) (Some turn.serial) (took to_drop turn.serial) (next_start w) growth } ∷ past) s
 took_filed may_answer to_drop drops w past v turn job growth pool filed takes s =
-    let at : get pool.jobs s ≡ (if turn.serial == s then Some (running takes.job) else get w.pool.jobs s) =
-    ap (λ p. get p.jobs s) takes.after_is ∙ job_put w.pool.jobs turn.serial (running takes.job) s (turn.serial == s) refl in
+    let at : get pool.jobs s ≡ (if turn.serial == s then Some (entry_after_take takes.job) else get w.pool.jobs s) =
+    ap (λ p. get p.jobs s) takes.after_is ∙ job_put w.pool.jobs turn.serial (entry_after_take takes.job) s (turn.serial == s) refl in
     subst (λ o. FiledHere o (record { step = Take v; event = seen (Worker v) (Some turn.serial) (took to_drop turn.serial) (next_start w) growth } ∷ past) s) (sym at) (by to_drop)
   where
-    changed : FiledAs (if turn.serial == s then Some (running takes.job) else get w.pool.jobs s) (if turn.serial == s then Some Running else standing past s) (not (turn.serial == s) && is_woken past s)
+    changed : FiledAs (if turn.serial == s then Some (entry_after_take takes.job) else get w.pool.jobs s) (if turn.serial == s then Some Running else standing past s) (not (turn.serial == s) && is_woken past s)
         (is_cancelled past s) (is_marked past s) (has_ended past s) (acts_of s (events past))
     changed =
         taken_filed (turn.serial == s) takes.job (get w.pool.jobs s) (standing past s) _ _ _ _ _
         (λ b. ap (get w.pool.jobs) (sym (eqb-true turn.serial s b)) ∙ takes.found) (filed s)
 
-    by : (b : Bool) → FiledHere (if turn.serial == s then Some (running takes.job) else get w.pool.jobs s)
+    by : (b : Bool) → FiledHere (if turn.serial == s then Some (entry_after_take takes.job) else get w.pool.jobs s)
         (record { step = Take v; event = seen (Worker v) (Some turn.serial) (took b turn.serial) (next_start w) growth } ∷ past) s
     by true = changed
     by false = changed
@@ -136,7 +136,7 @@ wake_filed : (how : Woke) (w : Worlded) (past : List Moment) (t : ℕ) (number :
 wake_filed Nothing w past t number serial never there filed s = filed s
 wake_filed Entered w past t number serial never there filed s = absurd (never refl)
 wake_filed Marked w past t number serial never there filed s =
-    changed_filed w t s number woken (λ o. FiledHere o (record { step = Stray t; event = seen Pool None (JobWoken t Marked) (next_start w) no_growth } ∷ past) s) serial (there refl)
+    changed_filed w t s number entry_after_wake (λ o. FiledHere o (record { step = Stray t; event = seen Pool None (JobWoken t Marked) (next_start w) no_growth } ∷ past) s) serial (there refl)
     (λ here. woken_filed (t == s) (get w.pool.jobs s) (standing past s) _ _ _ _ _ here (filed s))
 
 cancel_filed : (how : Woke) (w : Worlded) (past : List Moment) (t : ℕ) (number : JobNumber) → number.serial ≡ t → (how ≡ Entered → ⊥) → (how ≡ Marked → is_some (get w.pool.jobs number.serial) ≡ true) → Filed w past
@@ -144,7 +144,7 @@ cancel_filed : (how : Woke) (w : Worlded) (past : List Moment) (t : ℕ) (number
 cancel_filed Nothing w past t number serial never there filed s = filed s
 cancel_filed Entered w past t number serial never there filed s = absurd (never refl)
 cancel_filed Marked w past t number serial never there filed s =
-    changed_filed w t s number cancelled (λ o. FiledHere o (record { step = Strike t; event = seen Pool None (JobCancelled t Marked) (next_start w) no_growth } ∷ past) s) serial (there refl)
+    changed_filed w t s number entry_after_cancel (λ o. FiledHere o (record { step = Strike t; event = seen Pool None (JobCancelled t Marked) (next_start w) no_growth } ∷ past) s) serial (there refl)
     (λ here. cancelled_filed (t == s) (get w.pool.jobs s) (standing past s) _ _ _ _ _ here (filed s))
 
 -- ---- sweeps and waits

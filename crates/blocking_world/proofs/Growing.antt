@@ -3,10 +3,10 @@ use Rattle.std.proofs.Common.{◌≡◌, ℕ, ◌+◌, ◌-◌, ◌<◌, ◌≤�
 use Rattle.std.proofs.lemmas.Bool.{cases_lt}
 use Rattle.std.proofs.lemmas.Bool.Decides.{nat_tests}
 use Rattle.std.specs.Prelude.{nat_lt}
-use Rattle.blocking_pool.specs.Counts.{Counts, limit_of, busier, rung}
+use Rattle.blocking_pool.specs.Counts.{Counts, limit_of, after_pickup, after_ring}
 use Rattle.blocking_pool.specs.declared.pool.bell.BellKind.TheVariants.{One}
-use Rattle.blocking_pool.specs.Growth.{Asking, greatest, is_due, StartAnswer, Growth, IsGrowth, Grows, grown, number_after}
-use Rattle.blocking_pool.specs.Pools.{Enters, IsRefused, FindsNobody, entered, TakesFront as CoreTakesFront}
+use Rattle.blocking_pool.specs.Growth.{Asking, greatest, is_due, StartAnswer, Growth, IsGrowth, Grows, after_growth, number_after}
+use Rattle.blocking_pool.specs.Pools.{Enters, IsRefused, FindsNobody, after_entry, TakesFront as CoreTakesFront}
 use Rattle.blocking_pool.specs.Jobs.{JobNumber}
 use Rattle.blocking_pool.specs.declared.pool.answer.Refusal.{Refusal}
 use Rattle.blocking_pool.specs.declared.pool.answer.Refusal.TheVariants.{NoWorker}
@@ -89,7 +89,7 @@ read_is ready old new growth seen is read =
 -- the counts after a growth are those after what was read, and the start after it has a number
 record Reads (may_answer : ℕ → Bool → Type 0) (ready : ℕ) (old new : Counts) (seen : Growth) : Type 0 where
   pub starts : IsGrowth (StartAnswer may_answer) ready old.idle old.workers (limit_of old) old.next_worker seen
-  pub counts : new ≡ grown old seen
+  pub counts : new ≡ after_growth old seen
   pub numbers : old.next_worker ≤ greatest → old.next_worker + seen.started ≤ greatest
 
 reads : (asking : Asking) (ready : ℕ) (old new : Counts) (growth seen : Growth)
@@ -102,9 +102,9 @@ reads asking ready old new growth seen grows read =
 -- a job that is taken is taken so, with the growth that was read
 module _ (asking : Asking) (old new : CallPool) (seen : Growth) (read : IsRead (length new.queue) old.counts.workers (limit_of old.counts) new.counts seen) where
   taken_reads : (number : JobNumber) (value : CallJob) (to_drop : Bool) (taken : CoreTakesFront is_marked_so asking old number value to_drop new)
-      → Reads asking.may_answer (length taken.rest) (busier old.counts) taken.counts seen
+      → Reads asking.may_answer (length taken.rest) (after_pickup old.counts) taken.counts seen
   taken_reads number value to_drop taken =
-      reads asking (length taken.rest) (busier old.counts) taken.counts taken.growth seen taken.grows
+      reads asking (length taken.rest) (after_pickup old.counts) taken.counts taken.growth seen taken.grows
       (subst (λ (p : CallPool). IsRead (length p.queue) old.counts.workers (limit_of old.counts) p.counts seen) taken.after_is read)
 
   takes_front : (number : JobNumber) (value : CallJob) (to_drop : Bool) → CoreTakesFront is_marked_so asking old number value to_drop new
@@ -165,7 +165,7 @@ module _ (asking : Asking) (inside old new : CallPool) (job : CallJob) (number :
       ready : length (old.queue ++ old.next_serial ∷ []) ≡ length old.queue + 1
       ready = simp length-append
 
-      there : IsRead (length (old.queue ++ old.next_serial ∷ [])) old.counts.workers (limit_of old.counts) (rung One enters.counts) seen
+      there : IsRead (length (old.queue ++ old.next_serial ∷ [])) old.counts.workers (limit_of old.counts) (after_ring One enters.counts) seen
       there = subst (λ (p : CallPool). IsRead (length p.queue) old.counts.workers (limit_of old.counts) p.counts seen) enters.after_is read
 
   pub entered_numbers : old.counts.next_worker ≤ greatest → old.counts.next_worker + seen.started ≤ greatest
@@ -177,7 +177,7 @@ module _ (asking : Asking) (inside old new : CallPool) (job : CallJob) (number :
     left = enters.left;
     starts = entered_reads.starts;
     staffed = subst (λ (c : Counts). 0 < c.workers) entered_reads.counts enters.staffed;
-    after_is = enters.after_is ∙ ap (entered old number.place new_call) entered_reads.counts;
+    after_is = enters.after_is ∙ ap (after_entry old number.place new_call) entered_reads.counts;
   }
 
 -- where nobody works, one ready job is as good as many

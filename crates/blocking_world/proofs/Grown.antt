@@ -1,7 +1,7 @@
 -- Each move grows as the law of growth says; and who serves a queued job.
 use Rattle.std.proofs.Common.{◌≡◌, ℕ, ◌<◌, ◌+◌, ◌-◌, min, List, [], ◌∷◌, ◌++◌, Bool, true, false, length, length-append, refl, sym, ap, ◌∙◌, subst, arith, Option, None}
 use Rattle.std.specs.Prelude.{Result, Ok, Err}
-use Rattle.blocking_pool.specs.Counts.{busier}
+use Rattle.blocking_pool.specs.Counts.{after_pickup}
 use Rattle.blocking_pool.specs.Growth.{greatest, Growth, IsGrowth, StartAnswer}
 use Rattle.blocking_pool.specs.Jobs.{JobNumber}
 use Rattle.blocking_pool.specs.PoolAnswers.{must_stop}
@@ -102,7 +102,7 @@ begin_law setting plan w past (Err Numbers) growth pool t m =
 
 -- the numbers by which the pool grows at a take
 take_growth : (setting : ℕ) (plan : List Bool) (w : Worlded) (past : List Moment) (s : ℕ) (rest : List ℕ) (growth : Growth) → Tied setting w past → 0 < w.pool.counts.idle → w.pool.queue ≡ s ∷ rest
-    → GrowsBy (IsPlanned plan) (length rest) (busier w.pool.counts) growth
+    → GrowsBy (IsPlanned plan) (length rest) (after_pickup w.pool.counts) growth
     → IsGrowth (StartAnswer (IsPlanned plan)) (length (without s (queue past)) + 0) (workers past - length (running past ++ s ∷ [])) (workers past) (limit setting past)
     w.pool.counts.next_worker growth
 take_growth setting plan w past s rest growth t some front starting =

@@ -7,7 +7,7 @@ use Rattle.std.proofs.lemmas.Bool.{eqb-true, eq-eqb, ne_eqb}
 use Rattle.std.proofs.lemmas.List.{length-set}
 use Rattle.std.proofs.lemmas.Option.{slice_get_within}
 use Rattle.blocking_pool.specs.Growth.{Growth}
-use Rattle.blocking_pool.specs.Jobs.{Job, Jobs, JobNumber, is_running, is_running_job, running, if_at, is_running_as, new_job}
+use Rattle.blocking_pool.specs.Jobs.{Job, Jobs, JobNumber, is_running, is_running_job, entry_after_take, if_at, is_running_as, new_job}
 use Rattle.blocking_pool.specs.Lists.{is_in}
 use Rattle.blocking_pool.specs.PoolAnswers.{must_stop}
 use Rattle.blocking_core.specs.declared.job.Action.{Action}
@@ -291,7 +291,7 @@ took_known setting may_answer w past v pass number value to_drop growth new t e 
     let place = accepted_at w past number.serial t.numbered (ap is_some front.stands_is) in
     let in_hand : JobInHand = record { turn = number; job = value; stage = first_stage to_drop } in
     let turns : ℕ → Turn = λ s. if number.serial == s then turn_of (first_stage to_drop) else turn past s in
-    let here : InHandHere (sight_after_take (sight w past) v in_hand (insert w.pool.jobs number.serial (running f.job)) growth.started turns) in_hand = record {
+    let here : InHandHere (sight_after_take (sight w past) v in_hand (insert w.pool.jobs number.serial (entry_after_take f.job)) growth.started turns) in_hand = record {
       as_is = record {
         turn_is = ap (λ b. if b then turn_of (first_stage to_drop) else turn past number.serial) (eq-eqb number.serial number.serial refl);
         acts_are = first_as to_drop value.core value.number (job_acts past number.serial) front.core_is front.unacted;
@@ -302,11 +302,11 @@ took_known setting may_answer w past v pass number value to_drop growth new t e 
       task_is = place.1;
     } in
     subst (λ (p : CallPool). Known (record (sight_after_take (sight w past) v in_hand p.jobs growth.started turns) { idles = p.counts.idle; arrivings = p.counts.arriving })) (sym f.after_is)
-    (take_known (sight w past) v pass in_hand (insert w.pool.jobs number.serial (running f.job)) growth.started turns k e here
+    (take_known (sight w past) v pass in_hand (insert w.pool.jobs number.serial (entry_after_take f.job)) growth.started turns k e here
     (λ other runs same. queued_rests_at w.pool.jobs number other.turn f.job f.found front.entry_is same runs)
     (λ x d. ap (λ b. if b then turn_of (first_stage to_drop) else turn past x) d)
-    (λ other d. insert_runs w.pool.jobs number.serial (running f.job) other d)
-    (insert_unparked w.pool.jobs number.serial (running f.job) refl k.parked_are))
+    (λ other d. insert_runs w.pool.jobs number.serial (entry_after_take f.job) other d)
+    (insert_unparked w.pool.jobs number.serial (entry_after_take f.job) refl k.parked_are))
 
 -- a job acts itself
 

@@ -5,7 +5,7 @@ use Rattle.std.specs.Ordering.{eq_by_cmp, nat_cmp}
 use Rattle.std.specs.Cmp.{nat_cmp_total}
 use Rattle.std.specs.FinMap.{get, insert, remove, get-insert, get-remove}
 use Rattle.std.proofs.lemmas.Bool.{eqb-true, eq-eqb}
-use Rattle.blocking_pool.specs.Jobs.{Job as Entry, Jobs, JobNumber, changed, amend, if_at, job_of, value_at, is_running_job, is_running_as, is_parked_job, running, valued, is_parked}
+use Rattle.blocking_pool.specs.Jobs.{Job as Entry, Jobs, JobNumber, jobs_after_change, amend, if_at, job_of, value_at, is_running_job, is_running_as, is_parked_job, entry_after_take, entry_with, is_parked}
 use Rattle.blocking_pool.specs.Wakes.{wake_of, cancel_of}
 use Rattle.blocking_pool.proofs.Lists.{eq_by_nat_cmp, turned}
 use Rattle.blocking_pool.specs.declared.pool.answer.Woke.{Woke}
@@ -34,7 +34,7 @@ pub job_out : (jobs : Jobs CallJob) (t s : ℕ) (b : Bool) → (t == s) ≡ b �
 job_out jobs t s b is = get-remove nat_cmp_total jobs t s ∙ ap (λ c. cond c None (get jobs s)) (by_order t s ∙ is)
 
 changed_at : (jobs : Jobs CallJob) (t : ℕ) (change : Entry CallJob → Entry CallJob) (s : ℕ) (b : Bool) (found : Option (Entry CallJob)) → get jobs t ≡ found → (t == s) ≡ b
-    → get (changed jobs t change found) s ≡ (if b then option_map change found else get jobs s)
+    → get (jobs_after_change jobs t change found) s ≡ (if b then option_map change found else get jobs s)
 changed_at jobs t change s true None at is = ap (get jobs) (sym (eqb-true t s is)) ∙ at
 changed_at jobs t change s false None at is = refl
 changed_at jobs t change s b (Some entry) at is = job_put jobs t (change entry) s b is
@@ -52,7 +52,7 @@ job_changed jobs t change s b is = changed_at jobs t change s b (get jobs t) ref
 -- a job whose value bears its mark, where the value is there
 abbrev pub mark_by : Option CallJob → Entry CallJob → Entry CallJob
 mark_by None entry = entry
-mark_by (Some value) entry = valued (call_after_mark value) entry
+mark_by (Some value) entry = entry_with (call_after_mark value) entry
 
 -- a job that is marked
 abbrev pub mark_in : Entry CallJob → Entry CallJob
@@ -63,8 +63,8 @@ marked_by : (pool : CallPool) (number : JobNumber) (s : ℕ) (b : Bool) (entry :
 marked_by pool number s true entry None is at = ap (get pool.jobs) (sym (eqb-true number.serial s is)) ∙ at
 marked_by pool number s false entry None is at = refl
 marked_by pool number s b entry (Some value) is at =
-    changed_at pool.jobs number.serial (valued (call_after_mark value)) s b (get pool.jobs number.serial) refl is
-    ∙ ap (λ o. if b then option_map (valued (call_after_mark value)) o else get pool.jobs s) at
+    changed_at pool.jobs number.serial (entry_with (call_after_mark value)) s b (get pool.jobs number.serial) refl is
+    ∙ ap (λ o. if b then option_map (entry_with (call_after_mark value)) o else get pool.jobs s) at
 
 marked_where : (pool : CallPool) (number : JobNumber) (s : ℕ) (b : Bool) (found : Option (Entry CallJob)) → (number.serial == s) ≡ b → get pool.jobs number.serial ≡ found
     → ((entry : Entry CallJob) → found ≡ Some entry → entry.place ≡ number.place)
@@ -83,10 +83,10 @@ job_marked pool number s b is placed =
     marked_where pool number s b (get pool.jobs number.serial) is refl placed ∙ there pool.jobs number.serial mark_in s b is
 
 -- a job that was taken up runs
-pub taken_runs : (jobs : Jobs CallJob) (number : JobNumber) (entry : Entry CallJob) → entry.place ≡ number.place → is_running_as (insert jobs number.serial (running entry)) number ≡ true
+pub taken_runs : (jobs : Jobs CallJob) (number : JobNumber) (entry : Entry CallJob) → entry.place ≡ number.place → is_running_as (insert jobs number.serial (entry_after_take entry)) number ≡ true
 taken_runs jobs number entry place =
-    ap (λ (o : Option (Entry CallJob)). is_running_job (if_at number.place o)) (job_put jobs number.serial (running entry) number.serial true (eq-eqb number.serial number.serial refl))
-    ∙ ap (λ (b : Bool). is_running_job (if b then Some (running entry) else None)) (eq-eqb entry.place number.place place)
+    ap (λ (o : Option (Entry CallJob)). is_running_job (if_at number.place o)) (job_put jobs number.serial (entry_after_take entry) number.serial true (eq-eqb number.serial number.serial refl))
+    ∙ ap (λ (b : Bool). is_running_job (if b then Some (entry_after_take entry) else None)) (eq-eqb entry.place number.place place)
 
 -- ---- calls that change the jobs of a pool alone
 

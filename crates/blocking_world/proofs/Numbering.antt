@@ -6,9 +6,9 @@ use Rattle.std.proofs.Math.ListN.{length-set}
 use Rattle.std.proofs.lemmas.Option.{slice_get_within}
 use Rattle.std.proofs.lemmas.Bool.{and_right, eqb-true}
 use Rattle.std.proofs.lemmas.Bool.Decides.{nat_tests}
-use Rattle.blocking_pool.specs.Jobs.{Job as Entry, Jobs, JobNumber, new_job, running, woken, cancelled, valued, changed, value_at, job_of}
+use Rattle.blocking_pool.specs.Jobs.{Job as Entry, Jobs, JobNumber, new_job, entry_after_take, entry_after_wake, entry_after_cancel, entry_with, jobs_after_change, value_at, job_of}
 use Rattle.blocking_pool.specs.Counts.{Counts}
-use Rattle.blocking_pool.specs.Growth.{Growth, grown}
+use Rattle.blocking_pool.specs.Growth.{Growth, after_growth}
 use Rattle.blocking_pool.specs.PoolAnswers.{must_stop}
 use Rattle.blocking_pool.specs.declared.pool.answer.Refusal.{Refusal}
 use Rattle.blocking_pool.specs.declared.pool.answer.Refusal.TheVariants.{Memory, NoWorker, Numbers}
@@ -141,13 +141,13 @@ out_places jobs t s entry is = by (t == s) (sym (job_out jobs t s (t == s) refl)
     by false i = (entry, i, refl)
 
 changed_places : (jobs : Jobs CallJob) (t : ℕ) (change : Entry CallJob → Entry CallJob) (found : Option (Entry CallJob)) → get jobs t ≡ found → ((e : Entry CallJob) → (change e).place ≡ e.place)
-    → KeepsPlaces jobs (changed jobs t change found)
+    → KeepsPlaces jobs (jobs_after_change jobs t change found)
 changed_places jobs t change None at kept = same_places jobs
 changed_places jobs t change (Some old) at kept = put_places jobs t (change old) old at (kept old)
 
 mark_places : (pool : CallPool) (number : JobNumber) (value : Option CallJob) → KeepsPlaces pool.jobs (pool_after_mark_of pool number value).jobs
 mark_places pool number None = same_places pool.jobs
-mark_places pool number (Some value) = changed_places pool.jobs number.serial (valued (call_after_mark value)) (get pool.jobs number.serial) refl (λ e. refl)
+mark_places pool number (Some value) = changed_places pool.jobs number.serial (entry_with (call_after_mark value)) (get pool.jobs number.serial) refl (λ e. refl)
 
 call_places : (call : TaskCall) (pool : CallPool) (number : JobNumber) → KeepsPlaces pool.jobs (pool_after_call call pool number).jobs
 call_places Poll pool number = same_places pool.jobs
@@ -156,11 +156,11 @@ call_places Detach pool number = same_places pool.jobs
 call_places Drop pool number = mark_places pool number (value_at (job_of pool.jobs number))
 
 wake_places : (how : Woke) (pool : CallPool) (number : JobNumber) → KeepsPlaces pool.jobs (after_wake how pool number).jobs
-wake_places Marked pool number = changed_places pool.jobs number.serial woken (get pool.jobs number.serial) refl (λ e. refl)
+wake_places Marked pool number = changed_places pool.jobs number.serial entry_after_wake (get pool.jobs number.serial) refl (λ e. refl)
 wake_places _ pool number = same_places pool.jobs
 
 cancel_places : (how : Woke) (pool : CallPool) (number : JobNumber) → KeepsPlaces pool.jobs (after_cancel how pool number).jobs
-cancel_places Marked pool number = changed_places pool.jobs number.serial cancelled (get pool.jobs number.serial) refl (λ e. refl)
+cancel_places Marked pool number = changed_places pool.jobs number.serial entry_after_cancel (get pool.jobs number.serial) refl (λ e. refl)
 cancel_places _ pool number = same_places pool.jobs
 
 -- where only the counts may differ
@@ -171,7 +171,7 @@ counts_alone old new counts is = is ∙ ap (λ (p : CallPool). record old { coun
 pub refused_alone : (may_answer : ℕ → Bool → Type 0) (old : CallPool) (why : Refusal) (growth : Growth) (new : CallPool) → Refuses may_answer old why growth new → new ≡ record old { counts = new.counts }
 refused_alone may_answer old Numbers growth new refuses = counts_alone old new old.counts refuses.2
 refused_alone may_answer old Memory growth new refuses = counts_alone old new old.counts refuses.1
-refused_alone may_answer old NoWorker growth new refuses = counts_alone old new (grown old.counts growth) refuses.after_is
+refused_alone may_answer old NoWorker growth new refuses = counts_alone old new (after_growth old.counts growth) refuses.after_is
 
 -- what of the parts a move leaves that brings no job
 record PartsStay (w w' : Worlded) : Type 0 where
@@ -215,7 +215,7 @@ parts_stay may_answer w (Calls k call task) may brings = record {
 }
 parts_stay may_answer w (TakesJob v old to_drop turn job growth pool) may brings =
     pool_changes w pool _ (ap (λ p. p.next_serial) may.1.after_is)
-    (subst (KeepsPlaces w.pool.jobs) (sym (ap (λ p. p.jobs) may.1.after_is)) (put_places w.pool.jobs turn.serial (running may.1.job) may.1.job may.1.found refl))
+    (subst (KeepsPlaces w.pool.jobs) (sym (ap (λ p. p.jobs) may.1.after_is)) (put_places w.pool.jobs turn.serial (entry_after_take may.1.job) may.1.job may.1.found refl))
 parts_stay may_answer w (Finishes v in_hand) may brings = slot_changes w in_hand.turn.serial (after_put (task_at w.tasks in_hand.turn.serial).slot in_hand.job.number) _
 parts_stay may_answer w (GivesUp v in_hand) may brings = slot_changes w in_hand.turn.serial (after_give_up (task_at w.tasks in_hand.turn.serial).slot) _
 parts_stay may_answer w (EndsTurn v in_hand pass) may brings = pool_changes w _ _ refl (out_places w.pool.jobs in_hand.turn.serial)

@@ -1,10 +1,10 @@
 -- What the calls of a pool of calls answer, with the growth that each has: no call ever parks.
 use Rattle.std.specs.Prelude.{◌≡◌, ◌<◌, ℕ, ◌+◌, Bool, true, false, ◌||◌, List, [], ◌∷◌, length, Option, Some, None, Result, Ok, Err}
 use Rattle.std.specs.FinMap as map
-use Rattle.blocking_pool.specs.Counts.{Counts, limit_of, busier}
-use Rattle.blocking_pool.specs.Growth.{Growth, IsGrowth, StartAnswer, grown, greatest}
-use Rattle.blocking_pool.specs.Jobs.{Job, Jobs, JobNumber, is_parked_job, running, woken, cancelled, valued, job_of, value_at}
-use Rattle.blocking_pool.specs.Pools.{entered, with_job}
+use Rattle.blocking_pool.specs.Counts.{Counts, limit_of, after_pickup}
+use Rattle.blocking_pool.specs.Growth.{Growth, IsGrowth, StartAnswer, after_growth, greatest}
+use Rattle.blocking_pool.specs.Jobs.{Job, Jobs, JobNumber, is_parked_job, entry_after_take, entry_after_wake, entry_after_cancel, entry_with, job_of, value_at}
+use Rattle.blocking_pool.specs.Pools.{after_entry, with_job}
 use Rattle.blocking_pool.specs.declared.pool.answer.Refusal.{Refusal}
 use Rattle.blocking_pool.specs.declared.pool.answer.Refusal.TheVariants.{Memory, NoWorker, Numbers}
 use Rattle.blocking_pool.specs.declared.pool.answer.Took.{Took}
@@ -33,14 +33,14 @@ pub record Accepts (may_answer : ℕ → Bool → Type 0) (old : CallPool) (numb
   pub left : old.next_serial < greatest
   pub starts : GrowsBy may_answer (length old.queue + 1) old.counts growth
   pub staffed : 0 < old.counts.workers + growth.started
-  pub after_is : new ≡ entered old number.place new_call (grown old.counts growth)
+  pub after_is : new ≡ after_entry old number.place new_call (after_growth old.counts growth)
 
 -- a new call finds no worker, and nothing stays of it but the counts of its growth
 pub record FindsNoWorker (may_answer : ℕ → Bool → Type 0) (old : CallPool) (growth : Growth) (new : CallPool) : Type 0 where
   pub left : old.next_serial < greatest
   pub starts : GrowsBy may_answer (length old.queue + 1) old.counts growth
   pub unstaffed : old.counts.workers + growth.started ≡ 0
-  pub after_is : new ≡ record old { counts = grown old.counts growth }
+  pub after_is : new ≡ record old { counts = after_growth old.counts growth }
 
 -- a new call is refused, and why
 abbrev pub Refuses : (ℕ → Bool → Type 0) → CallPool → Refusal → Growth → CallPool → Type 0
@@ -63,12 +63,12 @@ pub record TakesFront (may_answer : ℕ → Bool → Type 0) (old : CallPool) (n
   pub place : job.place ≡ number.place
   pub value_is : job.value ≡ Some value
   pub wanted : to_drop ≡ (job.cancelled || value.is_marked)
-  pub starts : GrowsBy may_answer (length rest) (busier old.counts) growth
+  pub starts : GrowsBy may_answer (length rest) (after_pickup old.counts) growth
   pub after_is :
       new ≡ record {
         queue = rest;
-        jobs = map.insert old.jobs number.serial (running job);
-        counts = grown (busier old.counts) growth;
+        jobs = map.insert old.jobs number.serial (entry_after_take job);
+        counts = after_growth (after_pickup old.counts) growth;
         next_serial = old.next_serial;
       }
 
@@ -80,12 +80,12 @@ TakesTo may_answer old (Idle pass) growth new = (old.queue ≡ []) × (growth �
 
 -- what a wake leaves: a running job is flagged as woken
 abbrev pub after_wake : Woke → CallPool → JobNumber → CallPool
-after_wake Marked pool number = with_job pool number.serial woken
+after_wake Marked pool number = with_job pool number.serial entry_after_wake
 after_wake _ pool number = pool
 
 -- what a cancel leaves: the job is flagged
 abbrev pub after_cancel : Woke → CallPool → JobNumber → CallPool
-after_cancel Marked pool number = with_job pool number.serial cancelled
+after_cancel Marked pool number = with_job pool number.serial entry_after_cancel
 after_cancel _ pool number = pool
 
 -- a call after it was marked
@@ -95,7 +95,7 @@ call_after_mark job = record job { is_marked = true }
 -- the pool after the value of a job was marked, where it was there
 abbrev pub pool_after_mark_of : CallPool → JobNumber → Option CallJob → CallPool
 pool_after_mark_of pool number None = pool
-pool_after_mark_of pool number (Some value) = with_job pool number.serial (valued (call_after_mark value))
+pool_after_mark_of pool number (Some value) = with_job pool number.serial (entry_with (call_after_mark value))
 
 -- the pool after the job of this number was marked, where its value is there
 abbrev pub pool_after_mark : CallPool → JobNumber → CallPool

@@ -1,10 +1,10 @@
 -- What each step does to the parts of a world, and what is seen of it.
 use Rattle.std.specs.Prelude.{◌≡◌, ◌<◌, ◌==◌, ◌+◌, ◌-◌, nat_lt, ℕ, Bool, true, false, ◌&&◌, if◌then◌else◌, List, [], ◌∷◌, ◌++◌, length, slice_get, slice_set, Option, Some, None, is_some, Result, Ok, Err}
-use Rattle.blocking_pool.specs.Counts.{arrived, limited}
+use Rattle.blocking_pool.specs.Counts.{after_arrival, after_limit}
 use Rattle.blocking_pool.specs.Growth.{Growth}
 use Rattle.blocking_pool.specs.Jobs.{JobNumber, standing_of, is_running_as}
 use Rattle.blocking_pool.specs.PoolAnswers.{must_stop, is_empty}
-use Rattle.blocking_pool.specs.Counts.{stopped}
+use Rattle.blocking_pool.specs.Counts.{after_stop}
 use Rattle.blocking_pool.specs.Pools.{without_job}
 use Rattle.blocking_core.specs.Slots.{after_put, put_in, after_give_up, waker_of_give_up}
 use Rattle.blocking_pool.specs.Wakes.{wake_of, cancel_of}
@@ -124,13 +124,13 @@ ArrivesIf false w e w' = DoesNothing Pool w e w'
 ArrivesIf true w e w' =
     (pass : WorkerPass) ×
     Does (seen (Worker (length w.hands + 1)) None (Arrived (length w.hands + 1)) (next_start w) no_growth)
-    (record w { pool = record w.pool { counts = arrived w.pool.counts }; hands = w.hands ++ Free pass ∷ [] }) e w'
+    (record w { pool = record w.pool { counts = after_arrival w.pool.counts }; hands = w.hands ++ Free pass ∷ [] }) e w'
 
 -- A worker that was started arrives, with its pass in hand, and is the next one; no worker, where none is left to arrive.
 abbrev pub Joins : CallPool → List Hand → Option ℕ → CallPool → List Hand → Type 0
 Joins pool hands None pool' hands' = (pool.counts.arriving ≡ 0) × (pool' ≡ pool) × (hands' ≡ hands)
 Joins pool hands (Some worker) pool' hands' =
-    (0 < pool.counts.arriving) × (worker ≡ length hands + 1) × (pool' ≡ record pool { counts = arrived pool.counts })
+    (0 < pool.counts.arriving) × (worker ≡ length hands + 1) × (pool' ≡ record pool { counts = after_arrival pool.counts })
     × ((pass : WorkerPass) × (hands' ≡ hands ++ Free pass ∷ []))
 
 -- what is seen of a take
@@ -170,7 +170,7 @@ TakesWith _ may_answer w v e w' = DoesNothing (Worker v) w e w'
 abbrev pub after_wait : Worlded → ℕ → WorkerPass → Bool → Worlded
 after_wait w v pass false = record w { hands = with_hand w.hands v (Free pass) }
 after_wait w v pass true =
-    record w { pool = record w.pool { counts = stopped (if is_empty w.pool.queue then false else true) w.pool.counts }; hands = with_hand w.hands v Out }
+    record w { pool = record w.pool { counts = after_stop (if is_empty w.pool.queue then false else true) w.pool.counts }; hands = with_hand w.hands v Out }
 
 -- an idle worker has waited: nothing is parked, so that it sweeps nothing
 abbrev pub WaitsWith : Hand → Worlded → ℕ → WaitEnd → Event → Worlded → Type 0
@@ -240,7 +240,7 @@ EndsWith _ w v e w' = DoesNothing (Worker v) w e w'
 abbrev pub LimitsIf : Bool → Worlded → ℕ → Event → Worlded → Type 0
 LimitsIf true w n e w' = DoesNothing Pool w e w'
 LimitsIf false w n e w' =
-    Does (seen Pool None (LimitSet n) (next_start w) no_growth) (record w { pool = record w.pool { counts = limited n w.pool.counts } }) e w'
+    Does (seen Pool None (LimitSet n) (next_start w) no_growth) (record w { pool = record w.pool { counts = after_limit n w.pool.counts } }) e w'
 
 -- whether a job of this serial was ever accepted
 abbrev pub was_accepted : Worlded → ℕ → Bool

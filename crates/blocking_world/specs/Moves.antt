@@ -1,7 +1,7 @@
 -- The moves of a world: each step that has an action is one of them, and each is seen as one event. A move bears what its
 -- event doesn't tell.
 use Rattle.std.specs.Prelude.{◌≡◌, ◌<◌, ◌==◌, ◌+◌, nat_lt, not, ℕ, Bool, true, false, ◌&&◌, [], ◌∷◌, ◌++◌, length, slice_get, slice_set, Option, Some, None, is_some, Result}
-use Rattle.blocking_pool.specs.Counts.{arrived, limited}
+use Rattle.blocking_pool.specs.Counts.{after_arrival, after_limit}
 use Rattle.blocking_pool.specs.Growth.{Growth}
 use Rattle.blocking_pool.specs.Jobs.{JobNumber, standing_of}
 use Rattle.blocking_pool.specs.PoolAnswers.{must_stop}
@@ -153,7 +153,7 @@ abbrev pub after : Worlded → Move → Worlded
 after w (Idles step) = w
 after w (Begins added growth pool) = record w { pool = pool; tasks = tasks_after_add w.tasks added }
 after w (Calls k call task) = record w { pool = pool_after_call call w.pool task.number; tasks = slice_set w.tasks k (task_after_call call task) }
-after w (Arrives pass) = record w { pool = record w.pool { counts = arrived w.pool.counts }; hands = w.hands ++ Free pass ∷ [] }
+after w (Arrives pass) = record w { pool = record w.pool { counts = after_arrival w.pool.counts }; hands = w.hands ++ Free pass ∷ [] }
 after w (TakesJob v old to_drop turn job growth pool) =
     record w { pool = pool; hands = with_in_hand w v (record { turn = turn; job = job; stage = first_stage to_drop }) }
 after w (TakesNone v old pass) = record w { hands = with_hand w.hands v (Free pass) }
@@ -171,7 +171,7 @@ after w (GivesUp v in_hand) =
 after w (CallsWaker v in_hand) = record w { hands = with_in_hand w v (in_hand_after_wake in_hand) }
 after w (EndsTurn v in_hand pass) = record w { pool = without_job w.pool in_hand.turn.serial; hands = with_hand w.hands v (Free pass) }
 after w (HasWaited v pass end) = after_wait w v pass (must_stop (has_timed_out end) w.pool)
-after w (SetsLimit n) = record w { pool = record w.pool { counts = limited n w.pool.counts } }
+after w (SetsLimit n) = record w { pool = record w.pool { counts = after_limit n w.pool.counts } }
 after w Sweeps = w
 after w (IsWoken s) = record w { pool = after_wake (wakes_as w s) w.pool (task_at w.tasks s).number }
 after w (IsStruck s) = record w { pool = after_cancel (cancels_as w s) w.pool (task_at w.tasks s).number }

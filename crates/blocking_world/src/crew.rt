@@ -92,7 +92,7 @@ impl Crew {
     ghost use Rattle.blocking_pool.specs.PoolAnswers.{Arrives, StaysOrStops, pool_of};
     ghost use Rattle.blocking_pool.specs.Jobs.{is_running_as, standing_of};
     ghost use Rattle.blocking_pool.specs.Pools.{without_job};
-    ghost use Rattle.blocking_pool.specs.Counts.{limited};
+    ghost use Rattle.blocking_pool.specs.Counts.{after_limit};
     ghost use Rattle.blocking_pool.specs.Wakes.{wake_of, cancel_of};
     ghost use Rattle.blocking_world.specs.Crews.{AddsTo, TakesTo, NoneParked, PassesOver, pool_after_mark, after_wake, after_cancel};
 
@@ -286,7 +286,7 @@ impl Crew {
     /// Sets the limit of workers.
     pub(crate) fn set_limit(&mut self, limit: usize)
         requires { 0 < limit }
-        ensures { self.new ≡ record self.old { counts = limited limit self.old.counts } }
+        ensures { self.new ≡ record self.old { counts = after_limit limit self.old.counts } }
     {
         self.pool.set_limit(limit);
     }

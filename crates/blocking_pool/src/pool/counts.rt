@@ -1,6 +1,6 @@
 //! The counts of a pool's workers, and how they grow.
 ghost use Rattle.std.specs.Prelude.{◌≡◌, ◌<◌, ◌≤◌, ◌+◌, ◌-◌, ◌==◌, not, IsTrue, true, false, Some, None, ℕ, Bool};
-ghost use Rattle.blocking_pool.specs.Counts.{limit_of, no_workers, rung, busier, freer, arrived, stopped, limited, silenced, AreInOrder};
+ghost use Rattle.blocking_pool.specs.Counts.{limit_of, no_workers, after_ring, after_pickup, after_release, after_arrival, after_stop, after_limit, after_bell, AreInOrder};
 ghost use Rattle.blocking_pool.specs.Growth.{Growth, Grows, StartAnswer, Refusals, is_due, one_more, none_more, greatest};
 ghost use Rattle.blocking_pool.specs.Starters.{asked, IsSteady};
 ghost use Rattle.std.specs.Bool.{OnTrue, OnFalse};
@@ -88,7 +88,7 @@ impl Counts {
     /// A worker takes a job up.
     pub(crate) fn begin_job(&mut self)
         requires { self.old.arriving < self.old.idle }
-        ensures { self.new ≡ busier self.old }
+        ensures { self.new ≡ after_pickup self.old }
     {
         self.idle -= 1;
     }
@@ -96,7 +96,7 @@ impl Counts {
     /// A worker's job is over.
     pub(crate) fn end_job(&mut self)
         requires { self.old.idle < self.old.workers }
-        ensures { self.new ≡ freer self.old }
+        ensures { self.new ≡ after_release self.old }
     {
         self.idle += 1;
     }
@@ -104,14 +104,14 @@ impl Counts {
     /// A started worker arrives.
     pub(crate) fn arrive(&mut self)
         requires { 0 < self.old.arriving }
-        ensures { self.new ≡ arrived self.old }
+        ensures { self.new ≡ after_arrival self.old }
     {
         self.arriving -= 1;
     }
 
     /// One waiting worker is to be notified.
     pub(crate) fn ring_one(&mut self)
-        ensures { self.new ≡ rung BellKind.One self.old }
+        ensures { self.new ≡ after_ring BellKind.One self.old }
     {
         if matches!(self.bell, BellKind::Silent) {
             self.bell = BellKind::One;
@@ -121,7 +121,7 @@ impl Counts {
     /// A worker stops. One is notified where a job is queued.
     pub(crate) fn stop(&mut self, is_queued: bool)
         requires { self.old.arriving < self.old.idle }
-        ensures { self.new ≡ stopped is_queued self.old }
+        ensures { self.new ≡ after_stop is_queued self.old }
     {
         self.workers -= 1;
         self.idle -= 1;
@@ -139,7 +139,7 @@ impl Counts {
 
     /// Sets the limit. All are notified where a limit stood and was greater.
     pub(crate) fn set_limit(&mut self, limit: usize)
-        ensures { self.new ≡ limited limit self.old }
+        ensures { self.new ≡ after_limit limit self.old }
     {
         if self.limit.is_some_and(|earlier| limit < earlier) {
             self.bell = BellKind::All;
@@ -150,7 +150,7 @@ impl Counts {
     /// Whom to notify, since this was last asked.
     pub(crate) fn take_ring(&mut self) -> BellKind
         ensures ring { result ≡ self.old.bell }
-        ensures silent { self.new ≡ silenced self.old }
+        ensures silent { self.new ≡ after_bell self.old }
     {
         mem::replace(&mut self.bell, BellKind::Silent)
     }

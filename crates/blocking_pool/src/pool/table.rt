@@ -3,7 +3,7 @@ ghost use Rattle.std.specs.Prelude.{◌≡◌, ◌+◌, ◌<◌, ◌≤◌, ◌+
 ghost use Rattle.std.specs.FinMap as map;
 ghost use Rattle.blocking_pool.specs.Batch.{serials_of};
 ghost use Rattle.blocking_pool.specs.Lists.{IsOnce};
-ghost use Rattle.blocking_pool.specs.Jobs.{new_job, job_of, standing_of, is_running_as, amend, queued_again, all_queued_again, parked_with, woken, cancelled, has_value, value_at};
+ghost use Rattle.blocking_pool.specs.Jobs.{new_job, job_of, standing_of, is_running_as, amend, entry_after_requeue, jobs_after_requeue, entry_after_park, entry_after_wake, entry_after_cancel, has_value, value_at};
 ghost use Rattle.blocking_pool.specs.Tables.{HoldsParked, IsAskedAt, GathersAt};
 ghost use Rattle.std.specs.List.{All};
 ghost use Rattle.std.specs.Option.{option_copied_mut};
@@ -186,7 +186,7 @@ impl<J: Drop> Table<J> {
     /// Flags a job as woken.
     pub(crate) fn mark_woken(&mut self, no: JobNo)
         requires { IsSome (job_of self.old.jobs no) }
-        ensures { Becomes self.old self.new self.old.queue (amend self.old.jobs no.serial woken) }
+        ensures { Becomes self.old self.new self.old.queue (amend self.old.jobs no.serial entry_after_wake) }
     {
         let Some(entry) = self.entries.get_mut(no.place()) else {
             unreachable!()
@@ -198,7 +198,7 @@ impl<J: Drop> Table<J> {
     pub(crate) fn mark_cancelled(&mut self, no: JobNo)
         requires { IsSome (job_of self.old.jobs no) }
         ensures { Becomes self.old self.new self.old.queue
-            (amend self.old.jobs no.serial cancelled) }
+            (amend self.old.jobs no.serial entry_after_cancel) }
     {
         let Some(entry) = self.entries.get_mut(no.place()) else {
             unreachable!()
@@ -210,7 +210,7 @@ impl<J: Drop> Table<J> {
     pub(crate) fn park(&mut self, no: JobNo, value: J)
         requires { is_running_as self.old.jobs no ≡ true }
         ensures { Becomes self.old self.new self.old.queue
-            (amend self.old.jobs no.serial (parked_with value)) }
+            (amend self.old.jobs no.serial (entry_after_park value)) }
     {
         let place = no.place();
         self.parked.push_back(place);
@@ -247,7 +247,7 @@ impl<J: Drop> Table<J> {
     pub(crate) fn enter_again(&mut self, no: JobNo)
         requires { standing_of self.old.jobs no ≡ Some Parked }
         ensures { Becomes self.old self.new (self.old.queue ++ no.serial ∷ [])
-            (amend self.old.jobs no.serial queued_again) }
+            (amend self.old.jobs no.serial entry_after_requeue) }
     {
         let place = no.place();
         self.parked.unlink(place);
@@ -286,7 +286,7 @@ impl<J: Job> Table<J> {
         requires once { IsOnce (serials_of due.now) }
         requires parked { All (λ no. standing_of self.old.jobs no ≡ Some Parked) due.now }
         ensures { Becomes self.old self.new (self.old.queue ++ serials_of due.now)
-            (all_queued_again self.old.jobs (serials_of due.now)) }
+            (jobs_after_requeue self.old.jobs (serials_of due.now)) }
     {
         for no in due {
             self.enter_again(*no);

@@ -1,5 +1,5 @@
 use Rattle.std.proofs.Common.{refl, ap, ◌∙◌}
-use Rattle.blocking_pool.specs.Counts.{rung}
+use Rattle.blocking_pool.specs.Counts.{after_ring}
 use Rattle.blocking_pool.specs.Starters.{asked}
 use Rattle.blocking_pool.specs.declared.pool.bell.BellKind.TheVariants.{One}
 use Rattle.blocking_pool.proofs.PoolLemmas.{swept_none, swept_some, swept_whole}
@@ -16,7 +16,7 @@ returns-then-count-eq0-clause-answer g c =
 pub invariant_of-self-2 : goal.invariant_of-self-2
 invariant_of-self-2 g c =
     swept_whole g.J.Job.may_answer c.self.inside.table c.sweep.new.self c.self.inside.counts c.ring_one.new.self c.grow.ensures.growth.0 c.self.inside.next_serial c.self.inside.due.room c.sweep.new.due.room c.self.invariant c.sweep.ensures.swept c.sweep.ensures.kept
-    (c.ring_one.ensures ∙ ap (rung One) c.grow.ensures.growth.1.counts)
+    (c.ring_one.ensures ∙ ap (after_ring One) c.grow.ensures.growth.1.counts)
 
 pub returns-clause-answer : goal.returns-clause-answer
 returns-clause-answer g c =

@@ -1,5 +1,5 @@
 use Rattle.std.proofs.Common.{◌++◌, ◌∷◌, [], sym}
-use Rattle.blocking_pool.specs.Jobs.{queued_again}
+use Rattle.blocking_pool.specs.Jobs.{entry_after_requeue}
 use Rattle.blocking_pool.specs.declared.pool.standing.Standing.TheVariants.{Queued, Parked}
 use Rattle.blocking_pool.proofs.ParkLemmas.{not_vacant, IsAmended, enters, enters_room}
 use Rattle.blocking_pool.proofs.Standings.{standing_job}
@@ -21,7 +21,7 @@ unreachable-requires g c =
 
 done : (g : _) (c : goal.After-self-2-1 g)
     → IsAmended c.self.inside.entries c.push_back.new.self c.unlink.new.self c.place-place.result (record c.in-Some.entry.now { standing = Queued })
-    c.args.self.now (c.args.self.now.queue ++ c.args.no.serial ∷ []) c.args.no queued_again
+    c.args.self.now (c.args.self.now.queue ++ c.args.no.serial ∷ []) c.args.no entry_after_requeue
 done g c =
     enters c.self.inside.entries c.self.inside.queue c.push_back.new.self c.self.inside.parked c.unlink.new.self c.args.self.now c.args.no c.place-place.result c.in-Some.entry.now
     c.self.invariant c.self.view_is c.requires c.place-place.ensures (sym c.in-Some.ensures.value) c.push_back.ensures c.unlink.ensures

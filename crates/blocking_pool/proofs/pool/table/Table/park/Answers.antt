@@ -1,5 +1,5 @@
 use Rattle.std.proofs.Common.{Some, sym}
-use Rattle.blocking_pool.specs.Jobs.{parked_with}
+use Rattle.blocking_pool.specs.Jobs.{entry_after_park}
 use Rattle.blocking_pool.specs.declared.pool.standing.Standing.TheVariants.{Parked}
 use Rattle.blocking_pool.proofs.ParkLemmas.{not_vacant, parks_room, IsAmended, parks}
 use Rattle.blocking_pool.proofs.Standings.{running_job}
@@ -18,7 +18,7 @@ unreachable-requires g c =
 
 done : (g : _) (c : goal.Joined-entry g)
     → IsAmended c.self.inside.entries c.self.inside.queue c.push_back.new.self c.place-place.result (record c.in-Some.entry.now { standing = Parked; value = Some c.args.value })
-    c.args.self.now c.args.self.now.queue c.args.no (parked_with c.args.value)
+    c.args.self.now c.args.self.now.queue c.args.no (entry_after_park c.args.value)
 done g c =
     parks c.self.inside.entries c.self.inside.queue c.self.inside.parked c.push_back.new.self c.args.self.now c.args.no c.place-place.result c.in-Some.entry.now c.args.value
     c.self.invariant c.self.view_is c.requires c.place-place.ensures (sym c.in-Some.ensures.value) c.push_back.ensures
