@@ -143,3 +143,30 @@ const TWO_STAY: Row = (
 fn idle_workers_stay_for_a_while(rt: HostRuntime) -> Result<(), Fail> {
     play_in_time::<Planned<Ends, HostRuntime>, _>(rt, "8", &TWO_STAY)
 }
+
+// (a worker that slept first would go 500 ms later: nobody rings it)
+const ONE_GOES: Row = (
+    "a worker whose call ends over a lowered limit stops without a wait",
+    &[
+        Workers(0),
+        Limit(2),
+        Begin(InCall),
+        Begin(InCall),
+        See(0, Stops),
+        See(1, Stops),
+        Do(1, Detach),
+        Limit(1),
+        Workers(2),
+        Start,
+        Do(1, GoOn),
+        See(1, Goes),
+        Workers(1),
+        Within(450),
+        Do(0, GoOn),
+    ],
+);
+
+#[test]
+fn busy_worker_over_the_limit_stops(rt: HostRuntime) -> Result<(), Fail> {
+    play_in_time::<Planned<Ends, HostRuntime>, _>(rt, "2", &ONE_GOES)
+}
