@@ -40,7 +40,7 @@ pub struct Executor<J: Job, H: Runtime> {
 
 // What starts threads is here alone, with the bounds that it takes.
 impl<J: Job + Send + 'static, H: Runtime + Threads + Send + Sync + 'static> Executor<J, H> {
-    ghost use Rattle.blocking.specs.Lasting.{Lasts};
+    ghost use Rattle.blocking_executor.specs.Lasting.{Lasts};
 
     /// A pool with no worker yet, and its spawner. The setting is the text of a limit, as of the environment's variable
     /// [`MAX_THREADS_ENV`](blocking_core::limit::MAX_THREADS_ENV); any text will do.

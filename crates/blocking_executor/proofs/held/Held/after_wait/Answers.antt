@@ -1,6 +1,6 @@
 use Rattle.blocking_pool.specs.Starters.{asked}
-use Rattle.blocking.proofs.Weaker.{takes_weaker}
-use Rattle.blocking.proofs.held.Held.after_wait.Goals as goal
+use Rattle.blocking_executor.proofs.Weaker.{takes_weaker}
+use Rattle.blocking_executor.proofs.held.Held.after_wait.Goals as goal
 
 pub returns-in-Stay : goal.returns-in-Stay
 returns-in-Stay g c = (

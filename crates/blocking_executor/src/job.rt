@@ -30,13 +30,13 @@ pub struct CallJob<F: Call<Out: Drop> + Drop, H: Wait + Copy> {
 }
 
 impl<F: Call<Out: Drop> + Drop, H: Wait + Copy> Model for CallJob<F, H> {
-    ghost use Rattle.blocking.specs.Calls.{CallSeen, call_code};
+    ghost use Rattle.blocking_executor.specs.Calls.{CallSeen, call_code};
 
     ghost Value = { CallSeen F };
 
     ghost coded = { call_code F.code };
 
-    ghost use Rattle.blocking.specs.Stages.{call_of, Fits};
+    ghost use Rattle.blocking_executor.specs.Stages.{call_of, Fits};
 
     ghost view = { λ j. record { next = j.core; call = call_of j.stage } };
 
@@ -44,7 +44,7 @@ impl<F: Call<Out: Drop> + Drop, H: Wait + Copy> Model for CallJob<F, H> {
 }
 
 impl<F: Call<Out: Drop> + Drop, H: Wait + Copy> CallJob<F, H> {
-    ghost use Rattle.blocking.specs.Calls.{CallSeen, IsAnswered};
+    ghost use Rattle.blocking_executor.specs.Calls.{CallSeen, IsAnswered};
 
     pub(crate) fn new(rt: H, call: F, link: Arc<Link<F>>) -> CallJob<F, H>
         ensures { result ≡ record { next = Action.Call; call = Some call } }
@@ -153,7 +153,7 @@ impl<F: Call<Out: Drop> + Drop, H: Wait + Copy> Carries<CallJob<F, H>> for CallJ
 }
 
 impl<F: Call<Out: Drop> + Drop, H: Wait + Copy> Job for CallJob<F, H> {
-    ghost use Rattle.blocking.specs.Calls.{IsAnswered};
+    ghost use Rattle.blocking_executor.specs.Calls.{IsAnswered};
 
     // (another thread may set the mark at any time)
     ghost may_answer = { λ _ _. Unit {0} };

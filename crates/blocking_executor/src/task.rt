@@ -154,7 +154,7 @@ impl<F: Call<Out: Drop>, H: Wait + Copy> Cancel<F, H> {
     ghost use Rattle.std.specs.Prelude.{IfSome};
     ghost use Rattle.futures.specs.declared.task.Poll.{Poll};
     ghost use Rattle.futures.specs.Poll.{IfReady, OnPending};
-    ghost use Rattle.blocking.specs.SlotAnswers.{settled};
+    ghost use Rattle.blocking_executor.specs.SlotAnswers.{settled};
 
     fn new(rt: H, link: Arc<Link<F>>, source: Source, found: Found<F>) -> Cancel<F, H>
         ensures fresh { result.is_taken ≡ false }

@@ -27,7 +27,7 @@ pub enum Ended<J> {
 
 impl<J: Job> Held<J> {
     ghost use Rattle.blocking_pool.specs.Starters.{asked};
-    ghost use Rattle.blocking.specs.Sections.{Adds, Starts, Wakes, Sweeps, ArrivesAndTakes, EndsAndTakes, WaitsAndTakes, SetsLimit, is_over};
+    ghost use Rattle.blocking_executor.specs.Sections.{Adds, Starts, Wakes, Sweeps, ArrivesAndTakes, EndsAndTakes, WaitsAndTakes, SetsLimit, is_over};
 
     pub fn new(alloc: Global, setting: Option<&str>) -> Held<J>
         ensures { Starts setting.entry result.pool }

@@ -2,8 +2,8 @@
 use Rattle.std.specs.Prelude.{Option, Some, None}
 use Rattle.blocking_core.specs.declared.job.Action.{Action}
 use Rattle.blocking_core.specs.declared.job.Action.TheVariants as next
-use Rattle.blocking.specs.declared.job.Stage.{Stage}
-use Rattle.blocking.specs.declared.job.Stage.TheVariants as holds
+use Rattle.blocking_executor.specs.declared.job.Stage.{Stage}
+use Rattle.blocking_executor.specs.declared.job.Stage.TheVariants as holds
 
 module _ {F T : Type 0} where
   -- the call, until it is made

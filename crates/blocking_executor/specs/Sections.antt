@@ -15,8 +15,8 @@ use Rattle.blocking_pool.specs.declared.pool.answer.Finish.{Finish}
 use Rattle.blocking_pool.specs.declared.pool.answer.Gone.TheVariants.{Free, Stranger, Drop as HandOut}
 use Rattle.blocking_pool.specs.declared.pool.answer.Waited.TheVariants.{Stay, Stop}
 use Rattle.blocking_pool.specs.declared.pool.token.WorkerPass.{WorkerPass}
-use Rattle.blocking.specs.declared.held.Ended.{Ended}
-use Rattle.blocking.specs.declared.held.Ended.TheVariants as ended
+use Rattle.blocking_executor.specs.declared.held.Ended.{Ended}
+use Rattle.blocking_executor.specs.declared.held.Ended.TheVariants as ended
 
 -- whether so many workers are more than a limit that stands
 abbrev pub is_over : Option ℕ → ℕ → Bool

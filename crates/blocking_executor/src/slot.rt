@@ -19,8 +19,8 @@ pub(crate) struct LockedSlot<F: Call<Out: Drop>> {
 }
 
 impl<F: Call<Out: Drop>> Model for LockedSlot<F> {
-    ghost use Rattle.blocking.specs.Calls.{IfFull};
-    ghost use Rattle.blocking.specs.Calls.{waker_code};
+    ghost use Rattle.blocking_executor.specs.Calls.{IfFull};
+    ghost use Rattle.blocking_executor.specs.Calls.{waker_code};
     ghost use Rattle.blocking_core.specs.Slots.{Slot as Seen, slot_code};
     ghost use Rattle.futures.specs.declared.task.waker.Waker.{Waker};
     ghost use Rattle.std.specs.Prelude.{Option};
@@ -35,7 +35,7 @@ impl<F: Call<Out: Drop>> Model for LockedSlot<F> {
 }
 
 impl<F: Call<Out: Drop>> LockedSlot<F> {
-    ghost use Rattle.blocking.specs.SlotAnswers.{IfLookedAt, IfPolled, PollsBy};
+    ghost use Rattle.blocking_executor.specs.SlotAnswers.{IfLookedAt, IfPolled, PollsBy};
     ghost use Rattle.blocking_core.specs.Slots.{empty_slot, after_put, put_in, after_give_up, waker_of_give_up, after_abandon, value_in};
     ghost use Rattle.blocking_core.specs.SlotAnswers.{Looks};
 
@@ -134,7 +134,7 @@ pub(crate) struct Link<F: Call<Out: Drop>> {
 }
 
 impl<F: Call<Out: Drop>> Link<F> {
-    ghost use Rattle.blocking.specs.SlotAnswers.{IfLookedAt, IfPolled};
+    ghost use Rattle.blocking_executor.specs.SlotAnswers.{IfLookedAt, IfPolled};
 
     pub(crate) fn new() -> Link<F> {
         Link {
