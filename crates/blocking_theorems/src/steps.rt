@@ -62,9 +62,6 @@ pub fn strikes()
     // cancelled 1 nothing, where no job was accepted
     ensures refuses_no_job { Refuses StepLaw []
         (moment (Strike 1) Pool None (JobCancelled 1 Nothing) 1) }
-    // .. / waits / .. / answered 5 / cancelled 1 marked
-    ensures refuses_awaited { Refuses StepLaw awaited
-        (moment (Strike 1) Pool None (JobCancelled 1 Marked) 2) }
     // accepted 1 +1 / detached / cancelled 1 marked
     ensures refuses_detached { Refuses StepLaw detached
         (moment (Strike 1) Pool None (JobCancelled 1 Marked) 2) }
@@ -91,9 +88,6 @@ pub fn numbers_of_tasks()
     // limit 2 / refused memory / swept 0 / accepted 1 +1 / nothing, of task 0
     ensures refuses_task_left_out { Refuses StepLaw late_queued
         (moment (OfTask 0 Poll) (Task 0) None NoAction 2) }
-    // limit 2 / refused memory / swept 0 / accepted 1 +1 / waits, of task 1
-    ensures refuses_task_of_no_job { Refuses StepLaw late_queued
-        (moment (OfTask 1 Poll) (Task 1) None Waits 2) }
     // .. / took 1 / accepted 2, by worker 1 / waits, of task 1
     ensures refuses_task_of_workers_job { Refuses StepLaw (one_taken
         ▸ moment (Job 1) (Worker 1) (Some 1) (Accepted 2) 2)
@@ -189,12 +183,6 @@ pub fn events()
     // accepted 1 +1 / arrived 1 / stays 1, timed out, of a wait that wasn't
     ensures refuses_other_wait { Refuses StepLaw one_arrived
         (moment (Wait 1) (Worker 1) None (Stays 1 TimedOut) 2) }
-    // limit 3, of a limit 2
-    ensures refuses_other_limit { Refuses StepLaw []
-        (moment (SetLimit 2) Pool None (LimitSet 3) 1) }
-    // accepted 1 +1 / detached, of a cancel
-    ensures refuses_cancel_told_as_detaching { Refuses StepLaw one_queued
-        (moment (OfTask 0 Cancel) (Task 0) None TaskDetached 2) }
     // accepted 1 +1 / dropped, of a detaching
     ensures refuses_detaching_told_as_drop { Refuses StepLaw one_queued
         (moment (OfTask 0 Detach) (Task 0) None HolderDropped 2) }

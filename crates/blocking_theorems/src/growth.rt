@@ -27,9 +27,6 @@ pub fn starts_at_new_jobs()
     // accepted 1 +1 +2: one job beside one idle worker, once that is started
     ensures refuses_start_twice { Refuses (GrowthLaw 2 []) []
         (starting 2 (moment Spawn Pool None (Accepted 1) 1)) }
-    // accepted 1 +1 / arrived 1, told with the number that was started as the next one
-    ensures refuses_number_of_started { Refuses (GrowthLaw 1 []) one_queued
-        (moment Arrive (Worker 1) None (Arrived 1) 1) }
 {}
 
 /// What is due at a take is started, by the jobs that it leaves, and no more.
@@ -40,9 +37,6 @@ pub fn starts_at_takes()
     // accepted 1 +1 / arrived 1 / accepted 2 / dropped (of job 1) / took 1 dropped +2
     ensures accepts_start_at_drop { Legal 2 [] (front_dropped
         ▸ starting 1 (moment (Take 1) (Worker 1) (Some 1) (TookDropped 1) 2)) }
-    // accepted 1 +1 / arrived 1 / accepted 2 / took 1, at limit 2
-    ensures refuses_start_left_out { Refuses (GrowthLaw 2 []) two_queued
-        (moment (Take 1) (Worker 1) (Some 1) (Took 1) 2) }
     // accepted 1 +1 / arrived 1 / accepted 2 / dropped (of job 1) / took 1 dropped, at limit 2
     ensures refuses_start_left_out_at_drop { Refuses (GrowthLaw 2 []) front_dropped
         (moment (Take 1) (Worker 1) (Some 1) (TookDropped 1) 2) }
@@ -68,9 +62,6 @@ pub fn starts_where_jobs_go_back()
     // .. / ended 1 parked / stopped 1 / dropped / cancelled 1 entered
     ensures refuses_start_left_out_at_cancel { Refuses (GrowthLaw 1 []) unstaffed_dropped
         (moment (Strike 1) Pool None (JobCancelled 1 Entered) 2) }
-    // .. / delivered 1 marked / parked / ended 1 queued +2
-    ensures refuses_growth_by_queuing_again { Refuses (GrowthLaw 1 []) raised_limit
-        (starting 1 (moment (End 1) (Worker 1) (Some 1) (Ended 1 Queued) 2)) }
 {}
 
 /// The law of growth leaves one answer alone: by what was seen before and what was done, the starts are known.
@@ -121,9 +112,6 @@ pub fn staffed_jobs()
     // accepted 1 -1
     ensures refuses_job_without_worker { Refuses (GrowthLaw 1 (true ∷ [])) []
         (refusing (moment Spawn Pool None (Accepted 1) 1)) }
-    // accepted 1 +1 / refused worker
-    ensures refuses_refusal_beside_worker { Refuses (GrowthLaw 1 []) one_queued
-        (moment Spawn Pool None (Refused NoWorker) 2) }
 {}
 
 /// Where jobs are queued and no worker is left, the last start that was tried was refused.
@@ -131,10 +119,6 @@ pub fn service()
     // .. / ended 1 parked / stopped 1 / delivered 1 entered -2
     ensures accepts_refused_start { IsServed (unstaffed_parked
         ▸ refusing (moment (Stray 1) Pool None (JobWoken 1 Entered) 2)) }
-    // .. / stopped 1 / delivered 1 entered -2 / nothing
-    ensures accepts_later_moment { IsServed (unstaffed_parked
-        ▸ refusing (moment (Stray 1) Pool None (JobWoken 1 Entered) 2)
-        ▸ moment (Take 1) (Worker 1) None NoAction 3) }
     // refused worker -1 / nothing / accepted 1 +2: the last start was made
     ensures last_was_made { last_refused (still_unstaffed
         ▸ starting 1 (moment Spawn Pool None (Accepted 1) 2)) ≡ false }

@@ -55,14 +55,8 @@ pub fn takes()
     // .. / finished / ended 1 done / took 1
     ensures refuses_job_that_is_over { Refuses (AnswerLaw 1) one_done
         (moment (Take 1) (Worker 1) (Some 1) (Took 1) 2) }
-    // accepted 1 +1 / dropped / arrived 1 / took 1
-    ensures refuses_run_of_dropped { Refuses (AnswerLaw 1) dropped
-        (moment (Take 1) (Worker 1) (Some 1) (Took 1) 2) }
     // accepted 1 +1 / arrived 1 / took 1 dropped
     ensures refuses_drop_unasked { Refuses (AnswerLaw 1) one_arrived
-        (moment (Take 1) (Worker 1) (Some 1) (TookDropped 1) 2) }
-    // accepted 1 +1 / arrived 1 / accepted 2 / dropped (of job 2) / took 1 dropped
-    ensures refuses_drop_of_other { Refuses (AnswerLaw 1) second_dropped
         (moment (Take 1) (Worker 1) (Some 1) (TookDropped 1) 2) }
 {}
 
@@ -74,9 +68,6 @@ pub fn order()
     // .. / accepted 2 / delivered 1 marked / parked / ended 1 queued / took 2
     ensures accepts_front_before_woken { InOrder (queued_again
         ▸ moment (Take 1) (Worker 1) (Some 2) (Took 2) 2) }
-    // accepted 1 +1 / arrived 1 / accepted 2 / took 2
-    ensures refuses_queue_jumper { Refuses (Keeps InOrder) two_queued
-        (moment (Take 1) (Worker 1) (Some 2) (Took 2) 2) }
     // .. / accepted 2 / delivered 1 marked / parked / ended 1 queued / took 1
     ensures refuses_woken_job_first { Refuses (Keeps InOrder) queued_again
         (moment (Take 1) (Worker 1) (Some 1) (Took 1) 2) }
@@ -126,10 +117,6 @@ pub fn cancels()
     ensures accepts_drop_of_cancelled { IsPooled 1 [] (one_queued
         ▸ moment (Strike 1) Pool None (JobCancelled 1 Marked) 2
         ▸ moment Arrive (Worker 1) None (Arrived 1) 2
-        ▸ moment (Take 1) (Worker 1) (Some 1) (TookDropped 1) 2) }
-    // accepted 1 +1 / dropped / arrived 1 / cancelled 1 marked / took 1 dropped
-    ensures accepts_queued { Legal 1 [] (dropped
-        ▸ moment (Strike 1) Pool None (JobCancelled 1 Marked) 2
         ▸ moment (Take 1) (Worker 1) (Some 1) (TookDropped 1) 2) }
     // accepted 1 +1 / arrived 1 / took 1 / dropped / cancelled 1 marked
     ensures accepts_running { Legal 1 [] (dropped_running
@@ -187,9 +174,6 @@ pub fn sweeps()
     ensures accepts_sweep_of_late_wait { IsPooled 1 [] (dropped_parked
         ▸ moment (Late 1) (Worker 1) None (Stays 1 TimedOut) 2
         ▸ moment (Take 1) (Worker 1) (Some 1) (TookDropped 1) 2) }
-    // .. / ended 1 parked / swept 1
-    ensures refuses_unmarked_put_back { Refuses (AnswerLaw 1) one_parked
-        (moment Sweep Pool None (Swept 1) 2) }
     // .. / ended 1 parked / dropped / swept 0
     ensures refuses_marked_left { Refuses (AnswerLaw 1) dropped_parked
         (moment Sweep Pool None (Swept 0) 2) }
@@ -222,9 +206,6 @@ pub fn ends()
     // .. / took 1 / dropped / parked / drop 1
     ensures accepts_handed_out { IsPooled 1 [] (dropped_waits
         ▸ moment (End 1) (Worker 1) (Some 1) (HandedOut 1) 2) }
-    // .. / took 1 / delivered 1 marked / parked / ended 1 parked
-    ensures refuses_forgotten_wake { Refuses (AnswerLaw 1) woken_waits
-        (moment (End 1) (Worker 1) (Some 1) (Ended 1 Parked) 2) }
     // .. / took 1 / parked / ended 1 queued
     ensures refuses_queuing_unwoken { Refuses (AnswerLaw 1) one_waits
         (moment (End 1) (Worker 1) (Some 1) (Ended 1 Queued) 2) }
@@ -257,9 +238,6 @@ pub fn stops()
     // .. / ended 1 done / stopped 1, not timed out
     ensures refuses_eager_stop { Refuses (AnswerLaw 1) one_done
         (moment (Wait 1) (Worker 1) None (Stopped 1 Woken) 2) }
-    // accepted 1 +1 / arrived 1 / stopped 1, timed out
-    ensures refuses_stop_beside_queued_job { Refuses (AnswerLaw 1) one_arrived
-        (moment (Late 1) (Worker 1) None (Stopped 1 TimedOut) 2) }
     // .. / ended 1 parked / dropped / stopped 1, timed out: its sweep put the job back
     ensures refuses_stop_beside_swept_job { Refuses (AnswerLaw 1) dropped_parked
         (moment (Late 1) (Worker 1) None (Stopped 1 TimedOut) 2) }
@@ -277,9 +255,6 @@ pub fn stops()
 pub fn numbers()
     // accepted 1 +1 / arrived 1 / accepted 2
     ensures accepts_in_order { Legal 1 [] two_queued }
-    // accepted 1 +1 / arrived 1 / accepted 1
-    ensures refuses_serial_again { Refuses (AnswerLaw 1) one_arrived
-        (moment Spawn Pool None (Accepted 1) 2) }
     // .. / ended 1 done / accepted 1
     ensures refuses_serial_of_done_job { Refuses (AnswerLaw 1) one_done
         (moment Spawn Pool None (Accepted 1) 2) }

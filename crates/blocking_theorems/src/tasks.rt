@@ -96,9 +96,6 @@ pub fn polls_with_answer()
     // .. / answered 5 / got 5: it isn't put yet
     ensures refuses_early_answer { Refuses FirstTaskLaw one_answered
         (moment (OfTask 0 Poll) (Task 0) None (TaskGot 5) 2) }
-    // .. / answered 5 / cancelled / finished / got 5
-    ensures refuses_answer_after_cancel { Refuses FirstTaskLaw cancelled_finished
-        (moment (OfTask 0 Poll) (Task 0) None (TaskGot 5) 2) }
 {}
 
 /// Where there is no answer to find, a poll finds that none will come, once the call is over, and until then it waits.
@@ -181,9 +178,6 @@ pub fn wakes()
     // .. / waits / .. / answered 5 / finished / ended 1 done
     ensures refuses_wait_for_done { Refuses (Keeps NoLostWake) untold_finished
         (moment (End 1) (Worker 1) (Some 1) (Ended 1 Done) 2) }
-    // accepted 1 +1 / cancelled / waits / arrived 1 / took 1 dropped / gave up / ended 1 dropped
-    ensures refuses_wait_for_dropped { Refuses (Keeps NoLostWake) untold_given_up
-        (moment (End 1) (Worker 1) (Some 1) (Ended 1 Dropped) 2) }
     // .. / finished wake owner / waits / ended 1 done: the wake came before the wait
     ensures refuses_earlier_wake { Refuses (Keeps NoLostWake) (awaited_finished
         ▸ moment (OfTask 0 Poll) (Task 0) None Waits 2)

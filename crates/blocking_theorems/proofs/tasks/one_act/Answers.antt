@@ -1,6 +1,6 @@
 -- A task's laws are equations.
-use Rattle.blocking_laws.proofs.OneAct.{one_poll, one_action}
-use Rattle.blocking_laws.proofs.laws.tasks.one_act.Goals as goal
+use Rattle.blocking_theorems.proofs.OneAct.{one_poll, one_action}
+use Rattle.blocking_theorems.proofs.tasks.one_act.Goals as goal
 
 pub returns-clause-poll : goal.returns-clause-poll
 returns-clause-poll c = one_poll

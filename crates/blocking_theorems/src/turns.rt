@@ -66,9 +66,6 @@ pub fn turns()
     // .. / took 1 / answered 5 by worker 2
     ensures refuses_act_by_other { Refuses TurnLaw one_taken
         (moment (Io 2 (Number 5)) (Worker 2) (Some 1) (Answered (Number 5)) 2) }
-    // .. / took 1 / parked / finished
-    ensures refuses_act_while_waiting { Refuses TurnLaw one_waits
-        (moment (Job 1) (Worker 1) (Some 1) (Finished Absent) 2) }
     // .. / took 1 / gave up
     ensures refuses_giving_up_unasked { Refuses TurnLaw one_taken
         (moment (Job 1) (Worker 1) (Some 1) (GaveUp Absent) 2) }

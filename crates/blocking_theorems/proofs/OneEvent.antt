@@ -19,9 +19,9 @@ use Rattle.blocking_laws.specs.declared.step.TaskCall.{TaskCall}
 use Rattle.blocking_laws.specs.declared.step.TaskCall.TheVariants.{Poll, Cancel, Detach, Drop}
 use Rattle.blocking_laws.proofs.Beginnings.{before, keeps, task_keeps}
 use Rattle.blocking_laws.proofs.Queues.{same_self}
-use Rattle.blocking_laws.proofs.OneAct.{one_poll, one_action}
-use Rattle.blocking_laws.proofs.OneAnswer.{same_step, one_event}
-use Rattle.blocking_laws.proofs.Holders.{each_task, has_hand, IsJobEvent, job_event, job_law, task_in_hand}
+use Rattle.blocking_theorems.proofs.OneAct.{one_poll, one_action}
+use Rattle.blocking_theorems.proofs.OneAnswer.{same_step, one_event}
+use Rattle.blocking_theorems.proofs.Holders.{each_task, has_hand, IsJobEvent, job_event, job_law, task_in_hand}
 
 -- ---- the steps of tasks
 

@@ -148,8 +148,6 @@ pub fn seats()
     // .. / waits / .. / answered 5 / cancelled
     ensures kept { task_seat (task_cut 0 1 (events (awaited
         ▸ moment (OfTask 0 Cancel) (Task 0) None TaskCancelled 2))) ≡ true }
-    // .. / waits / .. / answered 5 / finished wake owner
-    ensures taken { task_seat (task_cut 0 1 (events awaited_finished)) ≡ false }
     // .. / waits / cancelled / .. / gave up wake owner
     ensures taken_in_giving_up { task_seat (task_cut 0 1 (events cancelled_given_up)) ≡ false }
 {}
@@ -185,11 +183,6 @@ pub fn counts()
     // the setting's number, which isn't told before the first growth
     ensures setting { limit 4 [] ≡ 4 }
     ensures untold { known_limit 4 [] ≡ None }
-    // swept 0 / refused memory / nothing: none of them is a growth
-    ensures untold_yet { known_limit 4 ([]
-        ▸ moment Sweep Pool None (Swept 0) 1
-        ▸ moment Spawn Pool None (Refused Memory) 1
-        ▸ moment Arrive Pool None NoAction 1) ≡ None }
     // accepted 1 +1
     ensures told { known_limit 4 one_queued ≡ Some 4 }
     // .. / ended 1 done

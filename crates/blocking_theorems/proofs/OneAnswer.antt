@@ -13,7 +13,7 @@ use Rattle.blocking_laws.specs.Turns.{hand}
 use Rattle.blocking_laws.specs.Answers.{take_answer, end_answer, wait_act, PoolAnswers}
 use Rattle.blocking_laws.specs.Steps.{StepLaw, Fits, Happens, has_action, is_pool_step, is_out_of_memory, is_take, IsBegun, IsEndOf, IsWaitOf, IsSweep, IsWakeOf, IsCancelOf, named, party, job_of, owner_of}
 use Rattle.blocking_laws.specs.Legal.{PoolLaw}
-use Rattle.blocking_laws.proofs.Growths.{same_event, same_by, same_starts, growth_of}
+use Rattle.blocking_theorems.proofs.Growths.{same_event, same_by, same_starts, growth_of}
 use Rattle.blocking_laws.specs.declared.event.Act.{Act}
 use Rattle.blocking_laws.specs.declared.event.Act.TheVariants.{Accepted, Refused, JobWoken, JobCancelled, Swept, Took, TookDropped, TookNone, Stays, Stopped, Ended, HandedOut, NoAction}
 use Rattle.blocking_laws.specs.declared.event.Event.{Event}
