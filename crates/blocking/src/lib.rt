@@ -2,6 +2,6 @@
 #![tactic(auto)]
 
 pub use blocking_executor::{
-    CallJob, Cancel, Executor, Host, Runtime, Task, executor, job, set_max_blocking_threads, task,
-    unblock,
+    CallJob, Cancel, Counts, Executor, Host, Runtime, Task, executor, job,
+    set_max_blocking_threads, task, unblock,
 };

@@ -1,8 +1,8 @@
 -- What each section under the pool's lock does: one call of the pool, or two where a worker takes right away, and then the
 -- bell is asked.
-use Rattle.std.specs.Prelude.{◌≡◌, ℕ, Bool, false, nat_lt, Option, Some, None, Result, List}
+use Rattle.std.specs.Prelude.{◌≡◌, ◌≤◌, ◌+◌, ℕ, Bool, false, nat_lt, Option, Some, None, Result, List, length}
 use Rattle.std.specs.Borrow.{Bor}
-use Rattle.blocking_pool.specs.Jobs.{JobNumber}
+use Rattle.blocking_pool.specs.Jobs.{JobNumber, running_below}
 use Rattle.blocking_pool.specs.Counts.{after_limit, after_bell}
 use Rattle.blocking_pool.specs.Growth.{Asking, RefusesNone}
 use Rattle.blocking_pool.specs.Pools.{Pool}
@@ -15,6 +15,7 @@ use Rattle.blocking_pool.specs.declared.pool.answer.Finish.{Finish}
 use Rattle.blocking_pool.specs.declared.pool.answer.Gone.TheVariants.{Free, Stranger, Drop as HandOut}
 use Rattle.blocking_pool.specs.declared.pool.answer.Waited.TheVariants.{Stay, Stop}
 use Rattle.blocking_pool.specs.declared.pool.token.WorkerPass.{WorkerPass}
+use Rattle.blocking_executor.specs.declared.counts.Counts.{Counts}
 use Rattle.blocking_executor.specs.declared.held.Ended.{Ended}
 use Rattle.blocking_executor.specs.declared.held.Ended.TheVariants as ended
 
@@ -28,6 +29,16 @@ module _ {J : Type 0} where
   pub record Rings (before : Pool J) (bell : BellKind) (after : Pool J) : Type 0 where
     pub told : bell ≡ before.counts.bell
     pub silent : after ≡ record before { counts = after_bell before.counts }
+
+  -- These are the workers and jobs of a pool: each worker that isn't idle runs one of its jobs, and who hasn't arrived is idle.
+  pub record AreCountsOf (seen : Counts) (pool : Pool J) : Type 0 where
+    pub workers : seen.workers ≡ pool.counts.workers
+    pub idle : seen.idle ≡ pool.counts.idle
+    pub arriving : seen.arriving ≡ pool.counts.arriving
+    pub running : seen.running ≡ running_below pool.jobs pool.next_serial
+    pub queued : seen.queued ≡ length pool.queue
+    pub busy : seen.workers ≡ seen.idle + seen.running
+    pub order : seen.arriving ≤ seen.idle
 
   -- a new pool
   abbrev pub Starts : Option (Bor (List ℕ)) → Pool J → Type 0

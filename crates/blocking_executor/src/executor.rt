@@ -1,6 +1,7 @@
 //! The executor: a pool that threads share, the workers that serve it, and the spawner that starts them.
-ghost use Rattle.std.specs.Prelude.{◌≡◌, ◌<◌, IfErr};
+ghost use Rattle.std.specs.Prelude.{◌≡◌, ◌<◌, ◌≤◌, ◌+◌, IfErr};
 
+use crate::counts::Counts;
 use crate::desk::{Desk, ThreadStarter};
 use crate::held::{Ended, Held};
 use crate::lookout::Lookout;
@@ -176,6 +177,14 @@ impl<J: Job, H: Runtime> Executor<J, H> {
         let (count, bell) = held.sweep(&mut starter);
         self.leave(held, bell);
         count
+    }
+
+    /// The workers and jobs of one moment. A worker that isn't idle runs a job, and one that hasn't arrived is idle.
+    pub fn counts(&self) -> Counts
+        ensures busy { result.workers ≡ result.idle + result.running }
+        ensures order { result.arriving ≤ result.idle }
+    {
+        self.enter().counts()
     }
 
     /// What a worker does from its arrival until it stops. No lock is held while a job runs or is dropped.

@@ -2,6 +2,7 @@
 ghost use Rattle.std.specs.Prelude.{◌≡◌, ◌<◌, ◌↔◌, true, length};
 ghost use Rattle.blocking_pool.specs.declared.pool.bell.BellKind.TheVariants.{Silent};
 
+use crate::counts::Counts;
 use blocking_core::pool::{
     Bell, Finish, Gone, Job, JobNo, Pool, Refused, Starter, Took, Turn, Waited, WakeNote, Woke,
     WorkerPass,
@@ -27,7 +28,7 @@ pub enum Ended<J> {
 
 impl<J: Job> Held<J> {
     ghost use Rattle.blocking_pool.specs.Starters.{asked};
-    ghost use Rattle.blocking_executor.specs.Sections.{Adds, Starts, Wakes, Sweeps, ArrivesAndTakes, EndsAndTakes, WaitsAndTakes, SetsLimit, is_over};
+    ghost use Rattle.blocking_executor.specs.Sections.{Adds, Starts, Wakes, Sweeps, ArrivesAndTakes, EndsAndTakes, WaitsAndTakes, SetsLimit, AreCountsOf, is_over};
 
     pub fn new(alloc: Global, setting: Option<&str>) -> Held<J>
         ensures { Starts setting.entry result.pool }
@@ -108,6 +109,21 @@ impl<J: Job> Held<J> {
         ensures { (result ≡ true) ↔ (0 < length self.now.pool.queue) }
     {
         self.pool.queue_len() > 0
+    }
+
+    /// The workers and jobs of this section.
+    pub fn counts(&self) -> Counts
+        ensures { AreCountsOf result self.now.pool }
+    {
+        let workers = self.pool.thread_count();
+        let idle = self.pool.idle_count();
+        Counts {
+            workers,
+            idle,
+            arriving: self.pool.arriving_count(),
+            running: workers - idle,
+            queued: self.pool.queue_len(),
+        }
     }
 
     /// Whether there are more workers than the limit.

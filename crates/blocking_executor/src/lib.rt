@@ -1,6 +1,7 @@
 //! Threads that run blocking calls: the pure core of `blocking_core` under locks.
 #![tactic(auto)]
 
+mod counts;
 mod desk;
 pub mod executor;
 mod held;
@@ -10,6 +11,7 @@ mod runtime;
 mod slot;
 pub mod task;
 
+pub use counts::Counts;
 pub use executor::{Executor, set_max_blocking_threads};
 pub use job::CallJob;
 pub use runtime::{Host, Runtime};

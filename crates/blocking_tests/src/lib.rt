@@ -5,11 +5,15 @@
 #[cfg(test)]
 mod calls;
 #[cfg(test)]
+mod counted;
+#[cfg(test)]
 mod leaving;
 #[cfg(test)]
 mod limits;
 #[cfg(test)]
 mod locks;
+#[cfg(test)]
+mod pairs;
 #[cfg(test)]
 mod planned;
 #[cfg(test)]
