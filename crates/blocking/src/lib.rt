@@ -1,16 +1,7 @@
-//! Threads that run blocking calls: the pure core of `blocking_core` under locks.
+//! A thread pool for blocking I/O, as its users name it.
 #![tactic(auto)]
 
-mod desk;
-pub mod executor;
-mod held;
-pub mod job;
-mod lookout;
-mod runtime;
-mod slot;
-pub mod task;
-
-pub use executor::{Executor, set_max_blocking_threads};
-pub use job::CallJob;
-pub use runtime::{Host, Runtime};
-pub use task::{Cancel, Task, unblock};
+pub use blocking_executor::{
+    CallJob, Cancel, Executor, Host, Runtime, Task, executor, job, set_max_blocking_threads, task,
+    unblock,
+};

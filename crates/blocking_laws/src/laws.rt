@@ -1,14 +1,6 @@
-//! Theorems about the laws, each the contract of a function that does nothing.
-//!
-//! For each law there is a function. A clause `accepts_..` names a short trace that is legal; where a job in it waits for a
-//! wake, which no call does, the trace keeps the pool's law. A clause `refuses_..` names a moment that this very law refuses,
-//! after a past that it accepts. Above each clause stand the texts of the trace's events. The pasts that several clauses share
-//! are in `specs/Traces.antt`. [`whole::refusals`] says that what one law refuses is in no legal trace.
+//! What is proved of the laws in this crate, each the contract of a function that does nothing: what the machines cite
+//! ([`whole`]), and what refuses the wrong readings of a definition that the gate tries ([`readings`]). All else that is proved of
+//! them stands in `blocking_theorems`.
 
-pub mod answers;
-pub mod definitions;
-pub mod growth;
-pub mod steps;
-pub mod tasks;
-pub mod turns;
+pub mod readings;
 pub mod whole;

@@ -1,0 +1,281 @@
+//! The executor: a pool that threads share, the workers that serve it, and the spawner that starts them.
+ghost use Rattle.std.specs.Prelude.{◌≡◌, ◌<◌, IfErr};
+
+use crate::desk::{Desk, ThreadStarter};
+use crate::held::{Ended, Held};
+use crate::lookout::Lookout;
+use crate::runtime::Runtime;
+use blocking_core::pool::{
+    Bell, BellKind, Finish, Job, JobNo, JobStep, Refusal, Refused, Starter, Took, Turn, WakeNote,
+    Woke, WorkerPass,
+};
+use std::alloc::AllocError;
+use std::hint::spin_loop;
+use std::io;
+use std::sync::{Arc, Condvar, Mutex, MutexGuard, Wait};
+use std::thread::{Builder, Threads, yield_now};
+use std::time::Duration;
+
+// How long an idle worker waits before it may stop.
+const IDLE_MILLIS: u64 = 500;
+
+// How often the pool's lock is tried before a thread sleeps for it. The pause after each try is twice the one before.
+const TRIES: u32 = 6;
+
+#[derive(Drop)]
+struct Shared<J: Job> {
+    held: Mutex<Held<J>>,
+    // Where idle workers sleep.
+    condvar: Condvar,
+    lookout: Lookout,
+    desk: Desk,
+}
+
+/// A pool of worker threads, shared by whoever has a share of it. Its spawner lives as long as the process.
+#[derive(Drop)]
+pub struct Executor<J: Job, H: Runtime> {
+    shared: Arc<Shared<J>>,
+    rt: H,
+}
+
+// What starts threads is here alone, with the bounds that it takes.
+impl<J: Job + Send + 'static, H: Runtime + Threads + Send + Sync + 'static> Executor<J, H> {
+    ghost use Rattle.blocking_executor.specs.Lasting.{Lasts};
+
+    /// A pool with no worker yet, and its spawner. The setting is the text of a limit, as of the environment's variable
+    /// [`MAX_THREADS_ENV`](blocking_core::limit::MAX_THREADS_ENV); any text will do.
+    ///
+    /// `Memory` where there was none for the shared state, and `NoWorker` where the spawner's thread couldn't be had.
+    pub fn new(rt: H, setting: Option<&str>) -> Result<Executor<J, H>, Refusal> {
+        let alloc = rt.alloc();
+        let shared = Shared {
+            held: Mutex::new(Held::new(alloc, setting)),
+            condvar: Condvar::new(),
+            lookout: Lookout::new(),
+            desk: Desk::new(),
+        };
+        let Ok(shared) = Arc::new(alloc, shared) else {
+            return Err(Refusal::Memory);
+        };
+        let executor = Executor { shared, rt };
+        let Ok(theirs) = executor.try_clone() else {
+            return Err(Refusal::Memory);
+        };
+        let Ok(name) = "pool-spawner".to_string(alloc) else {
+            return Err(Refusal::Memory);
+        };
+        let spawned = Builder::new().name(name).spawn(
+            &rt,
+            move || -> ()
+                requires { Lasts J.row × Lasts H.row }
+            { theirs.start_all() },
+        );
+        match spawned {
+            Ok(_) => Ok(executor),
+            Err(_) => Err(Refusal::NoWorker),
+        }
+    }
+
+    // What the spawner does: it starts the workers that are asked for, and never takes the pool's lock.
+    fn start_all(&self) {
+        let rt = self.rt;
+        for _ in rt.forever() {
+            let number = self.shared.desk.asked(&rt);
+            let started = self.start(number).is_ok();
+            self.shared.desk.answer(&rt, started);
+        }
+    }
+
+    // A name, a share of the executor or a thread that can't be had is a refused start.
+    fn start(&self, number: u64) -> io::Result<()> {
+        let theirs = self.try_clone()?;
+        let name = format!(in self.rt.alloc(); "blocking-{number}")?;
+        let _worker = Builder::new().name(name).spawn(
+            &self.rt,
+            move || -> ()
+                requires { Lasts J.row × Lasts H.row }
+            { theirs.serve() },
+        )?;
+        Ok(())
+    }
+
+    // What a worker does.
+    fn serve(&self) {
+        let mut starter = self.starter();
+        self.work(&mut starter);
+    }
+}
+
+impl<J: Job, H: Runtime> Executor<J, H> {
+    /// One more share of the same pool.
+    pub fn try_clone(&self) -> Result<Executor<J, H>, AllocError> {
+        Ok(Executor {
+            shared: Arc::try_clone(&self.shared)?,
+            rt: self.rt,
+        })
+    }
+
+    pub(crate) fn runtime(&self) -> H {
+        self.rt
+    }
+
+    // Begins a section: takes the pool's lock. A section is over sooner than a thread that sleeps for the lock is awake again,
+    // so the lock is tried for a while before.
+    fn enter(&self) -> MutexGuard<'_, Held<J>> {
+        for turn in 0..TRIES {
+            if let Some(held) = self.shared.held.try_lock() {
+                return held;
+            }
+            pause(1u32 << turn);
+        }
+        yield_now();
+        self.shared.held.lock(&self.rt)
+    }
+
+    // Ends a section: lets the lock go, and notifies whom the section rang. A worker that looks for a job stands in for the one
+    // that would be notified.
+    fn leave(&self, held: MutexGuard<'_, Held<J>>, bell: Bell) {
+        let is_heard = matches!(bell.kind(), BellKind::One) && self.shared.lookout.claim();
+        self.shared.lookout.tell(held.is_queued());
+        drop(held);
+        match bell.kind() {
+            BellKind::One if is_heard => bell.heard(),
+            _ => bell.ring(&self.shared.condvar),
+        }
+    }
+
+    fn starter(&self) -> ThreadStarter<'_, H> {
+        ThreadStarter::new(&self.shared.desk, self.rt)
+    }
+
+    /// Adds a job, as [`Pool::add`](blocking_core::pool::Pool::add): a refused job is handed back.
+    pub fn add(&self, job: J) -> Result<JobNo, Refused<J>>
+        ensures { IfErr result (λ refused. refused.back ≡ job) }
+    {
+        let mut starter = self.starter();
+        let mut held = self.enter();
+        let (answer, bell) = held.add(job, &mut starter);
+        self.leave(held, bell);
+        answer
+    }
+
+    /// Wakes a job, as [`Pool::wake`](blocking_core::pool::Pool::wake).
+    pub fn wake(&self, note: WakeNote) -> Woke {
+        let mut starter = self.starter();
+        let mut held = self.enter();
+        let (woke, bell) = held.wake(note, &mut starter);
+        self.leave(held, bell);
+        woke
+    }
+
+    /// Puts the parked jobs that bear a mark back into the queue, where they are handed out to be dropped, and answers how
+    /// many they were. An idle worker does so too after each wait that timed out.
+    pub fn sweep(&self) -> usize {
+        let mut starter = self.starter();
+        let mut held = self.enter();
+        let (count, bell) = held.sweep(&mut starter);
+        self.leave(held, bell);
+        count
+    }
+
+    /// What a worker does from its arrival until it stops. No lock is held while a job runs or is dropped.
+    pub fn work<S: Starter>(&self, starter: &mut S) {
+        let rt = self.rt;
+        let mut held = self.enter();
+        let (took, bell) = held.arrive(starter);
+        self.leave(held, bell);
+        let mut next = took;
+        for _ in rt.forever() {
+            let Some(took) = next else {
+                return;
+            };
+            next = match took {
+                Took::Run(turn, job) => {
+                    let finish = run(&turn, job, &rt);
+                    Some(self.end(turn, finish, starter))
+                }
+                Took::Drop(turn, job) => {
+                    drop(job);
+                    Some(self.end(turn, Finish::Dropped, starter))
+                }
+                Took::Idle(pass) => self.wait(pass, starter),
+            };
+        }
+        unreachable!()
+    }
+
+    // Ends a turn and takes. A turn that isn't running in this pool is tried again under a later lock, with what came back.
+    fn end<S: Starter>(&self, turn: Turn, finish: Finish<J>, starter: &mut S) -> Took<J> {
+        let rt = self.rt;
+        let mut turn = turn;
+        let mut finish = finish;
+        for _ in rt.forever() {
+            let mut held = self.enter();
+            let (ended, bell) = held.end(turn, finish, starter);
+            self.leave(held, bell);
+            match ended {
+                Ended::Took(took) => return took,
+                Ended::Drop(turn, job) => return Took::Drop(turn, job),
+                Ended::Stranger(back, job) => {
+                    turn = back;
+                    finish = match job {
+                        Some(job) => Finish::Waiting(job),
+                        // (a job that was dropped is over as one that is done)
+                        None => Finish::Done,
+                    };
+                }
+            }
+        }
+        unreachable!()
+    }
+
+    // Looks for a job, waits for one or a timeout, and takes or stops. A worker sleeps only where it saw under the same lock that
+    // no job is queued and that it need not stop: who told of that before would have notified nobody.
+    fn wait<S: Starter>(&self, pass: WorkerPass, starter: &mut S) -> Option<Took<J>> {
+        let rt = self.rt;
+        self.shared.lookout.look();
+        for _ in rt.forever() {
+            let mut held = self.enter();
+            let mut timed_out = false;
+            if !held.is_queued() && !held.is_over_limit() {
+                let idle = Duration::from_millis(IDLE_MILLIS);
+                let (woken, waited) = self.shared.condvar.wait_timeout(&rt, held, idle);
+                held = woken;
+                timed_out = waited.timed_out();
+            }
+            if held.has_idle() {
+                let (took, bell) = held.after_wait(pass, timed_out, starter);
+                self.leave(held, bell);
+                return took;
+            }
+        }
+        unreachable!()
+    }
+}
+
+fn pause(turns: u32) {
+    for _ in 0..turns {
+        spin_loop();
+    }
+}
+
+// Runs a job until it waits or is done. One that is done is dropped.
+fn run<J: Job, R: Wait>(turn: &Turn, mut job: J, rt: &R) -> Finish<J> {
+    for _ in rt.forever() {
+        match job.step(turn.job()) {
+            JobStep::Again => {}
+            JobStep::Waiting => return Finish::Waiting(job),
+            JobStep::Done => return Finish::Done,
+        }
+    }
+    unreachable!()
+}
+
+/// Sets the limit of an executor's workers, as it is. Idle workers over a lowered limit stop; running jobs go on.
+pub fn set_max_blocking_threads<J: Job, H: Runtime>(executor: &Executor<J, H>, threads: usize)
+    requires { 0 < threads }
+{
+    let mut held = executor.enter();
+    let bell = held.set_limit(threads);
+    executor.leave(held, bell);
+}

@@ -1,0 +1,151 @@
+//! The pool as its lock holds it: each section is one call, which answers whom to notify.
+ghost use Rattle.std.specs.Prelude.{◌≡◌, ◌<◌, ◌↔◌, true, length};
+ghost use Rattle.blocking_pool.specs.declared.pool.bell.BellKind.TheVariants.{Silent};
+
+use blocking_core::pool::{
+    Bell, Finish, Gone, Job, JobNo, Pool, Refused, Starter, Took, Turn, Waited, WakeNote, Woke,
+    WorkerPass,
+};
+use std::alloc::Global;
+
+/// A pool whose bell is silent: whatever its calls rang was answered to the caller.
+#[derive(Drop)]
+pub struct Held<J: Job> {
+    pool: Pool<J>,
+    ghost silent: { pool.counts.bell ≡ Silent },
+}
+
+/// What a worker has after the end of a turn.
+pub enum Ended<J> {
+    /// What it took next.
+    Took(Took<J>),
+    /// The job that waits, which is to be dropped: its turn goes on until then.
+    Drop(Turn, J),
+    /// The turn of a job that isn't running in this pool, and the job if there was one.
+    Stranger(Turn, Option<J>),
+}
+
+impl<J: Job> Held<J> {
+    ghost use Rattle.blocking_pool.specs.Starters.{asked};
+    ghost use Rattle.blocking_executor.specs.Sections.{Adds, Starts, Wakes, Sweeps, ArrivesAndTakes, EndsAndTakes, WaitsAndTakes, SetsLimit, is_over};
+
+    pub fn new(alloc: Global, setting: Option<&str>) -> Held<J>
+        ensures { Starts setting.entry result.pool }
+    {
+        Held {
+            pool: Pool::new(alloc, setting),
+        }
+    }
+
+    /// Adds a job.
+    pub fn add<S: Starter>(&mut self, job: J, starter: &mut S) -> (Result<JobNo, Refused<J>>, Bell)
+        ensures { Adds (asked S.Starter starter.old starter.new)
+            self.old.pool job result.0 self.new.pool result.1 }
+    {
+        let answer = self.pool.add(job, starter);
+        (answer, self.pool.bell())
+    }
+
+    /// A wake reaches its job.
+    pub fn wake<S: Starter>(&mut self, note: WakeNote, starter: &mut S) -> (Woke, Bell)
+        ensures { Wakes (asked S.Starter starter.old starter.new)
+            self.old.pool note result.0 self.new.pool result.1 }
+    {
+        let woke = self.pool.wake(note, starter);
+        (woke, self.pool.bell())
+    }
+
+    /// Puts the parked jobs that bear a mark back, and answers how many they were.
+    pub fn sweep<S: Starter>(&mut self, starter: &mut S) -> (usize, Bell)
+        ensures { Sweeps J.may_answer (asked S.Starter starter.old starter.new)
+            self.old.pool result.0 self.new.pool result.1 }
+    {
+        let count = self.pool.sweep(starter);
+        (count, self.pool.bell())
+    }
+
+    /// A started worker arrives and takes; None where every started worker has arrived.
+    pub fn arrive<S: Starter>(&mut self, starter: &mut S) -> (Option<Took<J>>, Bell)
+        ensures { ArrivesAndTakes J.may_answer (asked S.Starter starter.old starter.new)
+            self.old.pool result.0 self.new.pool result.1 }
+    {
+        let Some(pass) = self.pool.arrive() else {
+            return (None, self.pool.bell());
+        };
+        let took = self.pool.take(pass, starter);
+        (Some(took), self.pool.bell())
+    }
+
+    /// A turn ends, and its worker takes.
+    pub fn end<S: Starter>(
+        &mut self,
+        turn: Turn,
+        finish: Finish<J>,
+        starter: &mut S,
+    ) -> (Ended<J>, Bell)
+        ensures { EndsAndTakes J.may_answer (asked S.Starter starter.old starter.new)
+            self.old.pool turn finish result.0 self.new.pool result.1 }
+    {
+        match self.pool.end(turn, finish) {
+            Gone::Free(pass) => {
+                let took = self.pool.take(pass, starter);
+                (Ended::Took(took), self.pool.bell())
+            }
+            Gone::Drop(turn, job) => (Ended::Drop(turn, job), self.pool.bell()),
+            Gone::Stranger(turn, job) => (Ended::Stranger(turn, job), self.pool.bell()),
+        }
+    }
+
+    /// Whether there is an idle worker that has arrived, so that a pass may be used.
+    pub fn has_idle(&self) -> bool
+        ensures { (result ≡ true) ↔ (self.now.pool.counts.arriving < self.now.pool.counts.idle) }
+    {
+        self.pool.arriving_count() < self.pool.idle_count()
+    }
+
+    /// Whether a job is queued.
+    pub fn is_queued(&self) -> bool
+        ensures { (result ≡ true) ↔ (0 < length self.now.pool.queue) }
+    {
+        self.pool.queue_len() > 0
+    }
+
+    /// Whether there are more workers than the limit.
+    pub fn is_over_limit(&self) -> bool
+        ensures { result ≡ is_over self.now.pool.counts.limit self.now.pool.counts.workers }
+    {
+        match self.pool.limit() {
+            Some(limit) => limit < self.pool.thread_count(),
+            None => false,
+        }
+    }
+
+    /// An idle worker has waited: it takes, or it stops. Where the wait timed out it sweeps first.
+    pub fn after_wait<S: Starter>(
+        &mut self,
+        pass: WorkerPass,
+        timed_out: bool,
+        starter: &mut S,
+    ) -> (Option<Took<J>>, Bell)
+        requires { self.old.pool.counts.arriving < self.old.pool.counts.idle }
+        ensures { WaitsAndTakes J.may_answer (asked S.Starter starter.old starter.new)
+            timed_out self.old.pool result.0 self.new.pool result.1 }
+    {
+        match self.pool.after_wait(pass, timed_out, starter) {
+            Waited::Stay(pass) => {
+                let took = self.pool.take(pass, starter);
+                (Some(took), self.pool.bell())
+            }
+            Waited::Stop => (None, self.pool.bell()),
+        }
+    }
+
+    /// Sets the limit of workers.
+    pub fn set_limit(&mut self, limit: usize) -> Bell
+        requires { 0 < limit }
+        ensures { SetsLimit limit self.old.pool self.new.pool result }
+    {
+        self.pool.set_limit(limit);
+        self.pool.bell()
+    }
+}

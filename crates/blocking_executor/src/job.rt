@@ -1,0 +1,180 @@
+//! The job of a call.
+ghost use Rattle.std.specs.Prelude.{◌≡◌, ◌↔◌, Some, None};
+ghost use Rattle.blocking_core.specs.declared.job.Action.{Action};
+
+use crate::slot::{Link, OwnerWaker};
+use blocking_core::job::{Action, Answer, CallCore};
+use blocking_core::pool::{Carries, Job, JobNo, JobStep};
+use blocking_core::task::{Call, Put};
+use std::marker::Model;
+use std::mem;
+use std::sync::{Arc, Wait};
+
+// What the job holds for its next action.
+#[derive(Drop)]
+enum Stage<F: Drop, T: Drop> {
+    Call(F),
+    Finish(T),
+    Deliver(OwnerWaker),
+    Done,
+}
+
+/// The job of a call: it makes the call, puts the answer into its slot, wakes the owner, and is done.
+///
+/// One that is dropped before it is done gives its slot up and calls the owner's waker, with no lock held.
+pub struct CallJob<F: Call<Out: Drop> + Drop, H: Wait + Copy> {
+    core: CallCore,
+    stage: Stage<F, F::Out>,
+    link: Arc<Link<F>>,
+    rt: H,
+}
+
+impl<F: Call<Out: Drop> + Drop, H: Wait + Copy> Model for CallJob<F, H> {
+    ghost use Rattle.blocking_executor.specs.Calls.{CallSeen, call_code};
+
+    ghost Value = { CallSeen F };
+
+    ghost coded = { call_code F.code };
+
+    ghost use Rattle.blocking_executor.specs.Stages.{call_of, Fits};
+
+    ghost view = { λ j. record { next = j.core; call = call_of j.stage } };
+
+    ghost invariant = { λ j. Fits F.may_give j.core j.stage };
+}
+
+impl<F: Call<Out: Drop> + Drop, H: Wait + Copy> CallJob<F, H> {
+    ghost use Rattle.blocking_executor.specs.Calls.{CallSeen, IsAnswered};
+
+    pub(crate) fn new(rt: H, call: F, link: Arc<Link<F>>) -> CallJob<F, H>
+        ensures { result ≡ record { next = Action.Call; call = Some call } }
+    {
+        CallJob {
+            core: CallCore::new(),
+            stage: Stage::Call(call),
+            link,
+            rt,
+        }
+    }
+
+    /// The call, if it wasn't made yet. The slot stays as it is.
+    pub(crate) fn into_call(self) -> Option<F>
+        ensures { result ≡ self.call }
+    {
+        let CallJob {
+            core: _,
+            stage,
+            link: _,
+            rt: _,
+        } = self;
+        match stage {
+            Stage::Call(call) => Some(call),
+            Stage::Finish(_) | Stage::Deliver(_) | Stage::Done => None,
+        }
+    }
+
+    fn make_call(&mut self)
+        requires { self.old.next ≡ Action.Call }
+        ensures { IsAnswered Action.Call self.new.next }
+    {
+        let Stage::Call(call) = mem::replace(&mut self.stage, Stage::Done) else {
+            unreachable!()
+        };
+        self.stage = Stage::Finish(call.call());
+        self.core.answer(Answer::Returned);
+    }
+
+    fn finish(&mut self)
+        requires { self.old.next ≡ Action.Finish }
+        ensures { IsAnswered Action.Finish self.new.next }
+    {
+        let Stage::Finish(value) = mem::replace(&mut self.stage, Stage::Done) else {
+            unreachable!()
+        };
+        let Put { back, wake } = self.link.put(&self.rt, value);
+        // (a value that nobody wants is dropped under no lock)
+        drop(back);
+        match wake {
+            Some(waker) => {
+                self.stage = Stage::Deliver(waker);
+                self.core.answer(Answer::Put { woke: true });
+            }
+            None => self.core.answer(Answer::Put { woke: false }),
+        }
+    }
+
+    fn deliver(&mut self)
+        requires { self.old.next ≡ Action.Deliver }
+        ensures { IsAnswered Action.Deliver self.new.next }
+    {
+        if let Stage::Deliver(Some(waker)) = mem::replace(&mut self.stage, Stage::Done) {
+            waker.wake();
+        }
+        self.core.answer(Answer::Delivered);
+    }
+}
+
+impl<F: Call<Out: Drop> + Drop, H: Wait + Copy> Drop for CallJob<F, H> {
+    fn drop(self) {
+        let CallJob {
+            core,
+            stage,
+            link,
+            rt,
+        } = self;
+        // The call, or a value that nobody got, is gone before the owner is told. (a waker that is dropped wakes)
+        drop(stage);
+        if let Action::Done = core.next() {
+            return;
+        }
+        if let Some(Some(waker)) = link.give_up(&rt) {
+            waker.wake();
+        }
+    }
+}
+
+// A pool of one kind of call has that call's job as its job type.
+impl<F: Call<Out: Drop> + Drop, H: Wait + Copy> Carries<CallJob<F, H>> for CallJob<F, H> {
+    ghost use Rattle.std.specs.Prelude.{Some, refl};
+
+    ghost wrapped = { λ job. job };
+
+    ghost opened = { λ job. Some job };
+
+    ghost undoes = { λ job. refl };
+
+    fn wrap(named: CallJob<F, H>) -> CallJob<F, H> {
+        named
+    }
+
+    fn unwrap(self) -> Option<CallJob<F, H>> {
+        Some(self)
+    }
+}
+
+impl<F: Call<Out: Drop> + Drop, H: Wait + Copy> Job for CallJob<F, H> {
+    ghost use Rattle.blocking_executor.specs.Calls.{IsAnswered};
+
+    // (another thread may set the mark at any time)
+    ghost may_answer = { λ _ _. Unit {0} };
+
+    fn step(&mut self, _me: JobNo) -> JobStep
+        ensures answered { IsAnswered self.old.next self.new.next }
+        ensures done { (result ≡ JobStep.Done) ↔ (self.new.next ≡ Action.Done) }
+    {
+        match self.core.next() {
+            Action::Call => self.make_call(),
+            Action::Finish => self.finish(),
+            Action::Deliver => self.deliver(),
+            Action::Done => {}
+        }
+        match self.core.next() {
+            Action::Done => JobStep::Done,
+            _ => JobStep::Again,
+        }
+    }
+
+    fn abandoned(&self) -> bool {
+        self.link.is_marked()
+    }
+}

@@ -1,0 +1,16 @@
+//! Threads that run blocking calls: the pure core of `blocking_core` under locks.
+#![tactic(auto)]
+
+mod desk;
+pub mod executor;
+mod held;
+pub mod job;
+mod lookout;
+mod runtime;
+mod slot;
+pub mod task;
+
+pub use executor::{Executor, set_max_blocking_threads};
+pub use job::CallJob;
+pub use runtime::{Host, Runtime};
+pub use task::{Cancel, Task, unblock};

@@ -1,0 +1,280 @@
+//! The owner's side of a call.
+ghost use Rattle.std.specs.Prelude.{◌≡◌, true, false, IfErr, IfOk};
+
+use crate::executor::Executor;
+use crate::job::CallJob;
+use crate::runtime::Runtime;
+use crate::slot::{Found, Link};
+use blocking_core::pool::{Carries, Job, Refusal, Refused};
+use blocking_core::task::{Call, Looked, Slotted};
+use futures::Future;
+use futures::task::{Context, Poll, Source, Waker};
+use std::sync::{Arc, Wait};
+
+/// A call under way: a future of its answer. Until the answer was taken it may be polled.
+///
+/// Dropping it gives the call up: a call that wasn't begun by then need not be made, and one that runs goes on, with an answer
+/// that nobody gets. A drop waits for no call. [`detach`](Task::detach) lets the call go on without an owner. A task
+/// whose job was dropped by somebody else stays pending.
+pub struct Task<F: Call<Out: Drop>, H: Wait + Copy> {
+    link: Arc<Link<F>>,
+    source: Source,
+    // The waker of a task whose job is gone. It is kept, since one that is dropped wakes.
+    unseated: Option<Waker>,
+    is_taken: bool,
+    rt: H,
+}
+
+impl<F: Call<Out: Drop>, H: Wait + Copy> Task<F, H> {
+    pub(crate) fn new(rt: H, link: Arc<Link<F>>) -> Task<F, H>
+        ensures { result.is_taken ≡ false }
+    {
+        Task {
+            link,
+            source: Source::new(),
+            unseated: None,
+            is_taken: false,
+            rt,
+        }
+    }
+
+    /// Whether the answer was taken. A task may be polled as long as it wasn't.
+    pub fn is_taken(&self) -> bool
+        ensures { result ≡ self.now.is_taken }
+    {
+        self.is_taken
+    }
+
+    /// Lets the call go on without an owner: it is made as any other, and its answer is dropped.
+    pub fn detach(self) {
+        let Task {
+            link,
+            source: _,
+            unseated: _,
+            is_taken: _,
+            rt,
+        } = self;
+        drop(link.abandon(&rt));
+    }
+
+    /// Gives the call up, at once: a call that wasn't begun need not be made, and one that runs goes on. The future gives the
+    /// answer that was there before, or else None once the job is over.
+    pub fn cancel(self) -> Cancel<F, H>
+        requires { self.is_taken ≡ false }
+        ensures { result.is_taken ≡ false }
+    {
+        let Task {
+            link,
+            source,
+            unseated: _,
+            is_taken: _,
+            rt,
+        } = self;
+        link.mark();
+        let found = link.abandon(&rt);
+        Cancel::new(rt, link, source, found)
+    }
+}
+
+impl<F: Call<Out: Drop>, H: Wait + Copy> Drop for Task<F, H> {
+    fn drop(self) {
+        let Task {
+            link,
+            source: _,
+            unseated: _,
+            is_taken,
+            rt,
+        } = self;
+        if !is_taken {
+            link.mark();
+            drop(link.abandon(&rt));
+        }
+    }
+}
+
+impl<F: Call<Out: Drop>, H: Wait + Copy> Future for Task<F, H> {
+    ghost use Rattle.futures.specs.Poll.{IfReady, OnPending};
+    ghost use Rattle.futures.specs.Task.{Covers, Keeps};
+
+    type Output = F::Out;
+
+    ghost can_poll = { λ task. task.is_taken ≡ false };
+
+    ghost needs = { λ task source. source ≡ task.source.id };
+
+    ghost gives = { λ task out. F.may_give out };
+
+    fn poll(&mut self, cx: &mut Context<'_>) -> Poll<F::Out>
+        requires { self.old.is_taken ≡ false }
+        ensures value { IfReady result F.may_give }
+        ensures taken { IfReady result (λ _. self.new.is_taken ≡ true) }
+        ensures again { OnPending result (self.new.is_taken ≡ false) }
+        ensures registered { OnPending result
+            (Covers cx.new (λ source. source ≡ self.new.source.id)) }
+        ensures kept { Keeps cx.old cx.new }
+    {
+        // An answer that is there needs no waker. Else the waker of an earlier poll is used again, since one that is
+        // dropped wakes its task.
+        let seat = match self.link.look(&self.rt) {
+            Looked::Value(out) => {
+                self.is_taken = true;
+                return Poll::Ready(out);
+            }
+            Looked::Seat(seat) => seat,
+        };
+        let mut waker: Option<Waker> = seat.flatten().or(self.unseated.take());
+        let pending = cx.register(&self.source, &mut waker);
+        let (answer, spare) = self.link.poll(&self.rt, waker);
+        match answer {
+            Slotted::Value(out) => {
+                self.is_taken = true;
+                Poll::Ready(out)
+            }
+            Slotted::Gone => {
+                self.unseated = spare.flatten();
+                pending
+            }
+            Slotted::Waits(_) => pending,
+        }
+    }
+}
+
+/// A call that was cancelled: a future of the answer that was there before the cancel, or else of None, which comes once the
+/// job is over. Until that was taken it may be polled.
+#[derive(Drop)]
+pub struct Cancel<F: Call<Out: Drop>, H: Wait + Copy> {
+    link: Arc<Link<F>>,
+    source: Source,
+    found: Found<F>,
+    is_taken: bool,
+    rt: H,
+}
+
+impl<F: Call<Out: Drop>, H: Wait + Copy> Cancel<F, H> {
+    ghost use Rattle.std.specs.Prelude.{IfSome};
+    ghost use Rattle.futures.specs.declared.task.Poll.{Poll};
+    ghost use Rattle.futures.specs.Poll.{IfReady, OnPending};
+    ghost use Rattle.blocking_executor.specs.SlotAnswers.{settled};
+
+    fn new(rt: H, link: Arc<Link<F>>, source: Source, found: Found<F>) -> Cancel<F, H>
+        ensures fresh { result.is_taken ≡ false }
+        ensures found { result.found ≡ found }
+        ensures source_is { result.source ≡ source }
+    {
+        Cancel {
+            link,
+            source,
+            found,
+            is_taken: false,
+            rt,
+        }
+    }
+
+    /// Whether what it gives was taken. It may be polled as long as it wasn't.
+    pub fn is_taken(&self) -> bool
+        ensures { result ≡ self.now.is_taken }
+    {
+        self.is_taken
+    }
+
+    // What it gives is given once.
+    fn give(&mut self) -> Poll<Option<F::Out>>
+        ensures result_is { result ≡ Poll.Ready self.old.found }
+        ensures taken { self.new.is_taken ≡ true }
+        ensures allowed { IfReady result (λ out. IfSome out F.may_give) }
+    {
+        self.is_taken = true;
+        Poll::Ready(self.found.take())
+    }
+
+    // Gives what was found, unless the slot still waits for its job.
+    fn settle(&mut self, answer: Slotted<F::Out>) -> Poll<Option<F::Out>>
+        requires { self.old.is_taken ≡ false }
+        ensures settled { result ≡ settled answer self.old.found }
+        ensures taken { IfReady result (λ _. self.new.is_taken ≡ true) }
+        ensures again { OnPending result
+            ((self.new.is_taken ≡ false) × (self.new.found ≡ self.old.found)) }
+        ensures waits { OnPending result (self.new ≡ self.old) }
+        ensures allowed { IfReady result (λ out. IfSome out F.may_give) }
+    {
+        match answer {
+            Slotted::Waits(_) => Poll::Pending,
+            // (an abandoned slot takes no value)
+            Slotted::Value(_) | Slotted::Gone => self.give(),
+        }
+    }
+}
+
+impl<F: Call<Out: Drop>, H: Wait + Copy> Future for Cancel<F, H> {
+    ghost use Rattle.std.specs.Prelude.{IfSome, None};
+    ghost use Rattle.futures.specs.Poll.{IfReady, OnPending};
+    ghost use Rattle.futures.specs.Task.{Covers, Keeps};
+
+    type Output = Option<F::Out>;
+
+    ghost can_poll = { λ cancel. cancel.is_taken ≡ false };
+
+    ghost needs = { λ cancel source. source ≡ cancel.source.id };
+
+    ghost gives = { λ cancel out. (out ≡ cancel.found) × IfSome out F.may_give };
+
+    fn poll(&mut self, cx: &mut Context<'_>) -> Poll<Option<F::Out>>
+        requires { self.old.is_taken ≡ false }
+        ensures value { IfReady result (λ out. (out ≡ self.old.found) × IfSome out F.may_give) }
+        ensures taken { IfReady result (λ _. self.new.is_taken ≡ true) }
+        ensures at_once { OnPending result (self.old.found ≡ None) }
+        ensures again { OnPending result
+            ((self.new.is_taken ≡ false) × (self.new.found ≡ self.old.found)) }
+        ensures registered { OnPending result
+            (Covers cx.new (λ source. source ≡ self.new.source.id)) }
+        ensures kept { Keeps cx.old cx.new }
+    {
+        if self.found.is_some() {
+            return self.give();
+        }
+        // (the waker of an earlier poll is used again, as by a task)
+        let mut waker: Option<Waker> = match self.link.look(&self.rt) {
+            Looked::Value(late) => return self.settle(Slotted::Value(late)),
+            Looked::Seat(seat) => seat.flatten(),
+        };
+        let _pending: Poll<Self::Output> = cx.register(&self.source, &mut waker);
+        let (answer, spare) = self.link.poll(&self.rt, waker);
+        drop(spare);
+        self.settle(answer)
+    }
+}
+
+/// Runs a call on the executor's pool. Its memory is had before it enters.
+///
+/// A refused call is handed back, and nothing of it is left in the pool.
+pub fn unblock<F: Call<Out: Drop> + Drop, J: Job + Carries<CallJob<F, H>>, H: Runtime>(
+    executor: &Executor<J, H>,
+    call: F,
+) -> Result<Task<F, H>, Refused<F>>
+    ensures refused { IfErr result (λ refused. refused.back ≡ call) }
+    ensures fresh { IfOk result (λ task. task.is_taken ≡ false) }
+{
+    let rt = executor.runtime();
+    let Ok(link) = Arc::new(rt.alloc(), Link::new()) else {
+        return Err(Refused {
+            back: call,
+            why: Refusal::Memory,
+        });
+    };
+    let Ok(theirs) = Arc::try_clone(&link) else {
+        return Err(Refused {
+            back: call,
+            why: Refusal::Memory,
+        });
+    };
+    match executor.add(J::wrap(CallJob::new(rt, call, theirs))) {
+        Ok(_) => Ok(Task::new(rt, link)),
+        Err(Refused { back, why }) => match back.unwrap() {
+            Some(job) => match job.into_call() {
+                Some(back) => Err(Refused { back, why }),
+                None => unreachable!(),
+            },
+            None => unreachable!(),
+        },
+    }
+}

@@ -1,6 +1,0 @@
--- Two events with one act have the same starts.
-use Rattle.blocking_laws.proofs.Growths.{same_event}
-use Rattle.blocking_laws.proofs.laws.growth.one_growth.Goals as goal
-
-pub returns : goal.returns
-returns c = same_event

@@ -1,0 +1,119 @@
+//! One short trace for each definition of which the gate tries a wrong reading: what the definition says of it, and the wrong reading
+//! doesn't. What else shows the laws stands in `blocking_theorems`.
+ghost use Rattle.std.specs.Prelude.{◌≡◌, [], Some, None, false};
+ghost use Rattle.blocking_pool.specs.declared.pool.answer.Refusal.TheVariants.{Memory, NoWorker};
+ghost use Rattle.blocking_pool.specs.declared.pool.answer.Woke.TheVariants.{Entered, Marked};
+ghost use Rattle.blocking_pool.specs.declared.pool.standing.Standing.TheVariants.{Queued, Parked, Dropped};
+ghost use Rattle.blocking_laws.specs.Seen.{events, task_cut};
+ghost use Rattle.blocking_laws.specs.Queue.{InOrder};
+ghost use Rattle.blocking_laws.specs.Growth.{GrowthLaw, known_limit};
+ghost use Rattle.blocking_laws.specs.Served.{IsServed};
+ghost use Rattle.blocking_laws.specs.Turns.{TurnLaw};
+ghost use Rattle.blocking_laws.specs.Answers.{AnswerLaw};
+ghost use Rattle.blocking_laws.specs.Seats.{task_seat};
+ghost use Rattle.blocking_laws.specs.Wakes.{NoLostWake};
+ghost use Rattle.blocking_laws.specs.Steps.{StepLaw};
+ghost use Rattle.blocking_laws.specs.Legal.{Legal};
+ghost use Rattle.blocking_laws.specs.Traces.{◌▸◌, moment, starting, refusing, Refuses, Keeps, FirstTaskLaw};
+ghost use Rattle.blocking_laws.specs.Traces.{one_queued, one_arrived, two_queued, dropped, second_dropped, late_queued};
+ghost use Rattle.blocking_laws.specs.Traces.{awaited, awaited_finished, cancelled_finished, untold_given_up};
+ghost use Rattle.blocking_laws.specs.Traces.{one_waits, one_parked, woken_waits, raised_limit, unstaffed_parked};
+ghost use Rattle.blocking_laws.specs.declared.event.Act.TheVariants.{Accepted, Refused, JobWoken, JobCancelled, LimitSet, Swept, Waits, TaskGot, TaskDetached, Arrived, Took, TookDropped, Stopped, Ended, Finished, NoAction};
+ghost use Rattle.blocking_laws.specs.declared.event.Party.TheVariants.{Task, Worker, Pool};
+ghost use Rattle.blocking_laws.specs.declared.event.HolderWaker.TheVariants.{Absent};
+ghost use Rattle.blocking_laws.specs.declared.event.WaitEnd.TheVariants.{TimedOut};
+ghost use Rattle.blocking_laws.specs.declared.step.Step.TheVariants.{Spawn, OfTask, Arrive, Take, Job, End, Late, SetLimit, Sweep, Stray, Strike};
+ghost use Rattle.blocking_laws.specs.declared.step.TaskCall.TheVariants.{Poll, Cancel};
+
+/// What the pool answers: with the next serial, with the front job and only as it was let go, by how a job stands.
+pub fn answers()
+    // accepted 1 +1 / arrived 1 / accepted 1
+    ensures refuses_serial_again { Refuses (AnswerLaw 1) one_arrived
+        (moment Spawn Pool None (Accepted 1) 2) }
+    // accepted 1 +1 / dropped / arrived 1 / took 1
+    ensures refuses_run_of_dropped { Refuses (AnswerLaw 1) dropped
+        (moment (Take 1) (Worker 1) (Some 1) (Took 1) 2) }
+    // accepted 1 +1 / arrived 1 / accepted 2 / dropped (of job 2) / took 1 dropped
+    ensures refuses_drop_of_other { Refuses (AnswerLaw 1) second_dropped
+        (moment (Take 1) (Worker 1) (Some 1) (TookDropped 1) 2) }
+    // accepted 1 +1 / dropped / arrived 1 / cancelled 1 marked / took 1 dropped
+    ensures accepts_cancel_of_queued { Legal 1 [] (dropped
+        ▸ moment (Strike 1) Pool None (JobCancelled 1 Marked) 2
+        ▸ moment (Take 1) (Worker 1) (Some 1) (TookDropped 1) 2) }
+    // .. / ended 1 parked / swept 1
+    ensures refuses_unmarked_put_back { Refuses (AnswerLaw 1) one_parked
+        (moment Sweep Pool None (Swept 1) 2) }
+    // .. / took 1 / delivered 1 marked / parked / ended 1 parked
+    ensures refuses_forgotten_wake { Refuses (AnswerLaw 1) woken_waits
+        (moment (End 1) (Worker 1) (Some 1) (Ended 1 Parked) 2) }
+    // accepted 1 +1 / arrived 1 / stopped 1, timed out
+    ensures refuses_stop_beside_queued_job { Refuses (AnswerLaw 1) one_arrived
+        (moment (Late 1) (Worker 1) None (Stopped 1 TimedOut) 2) }
+{}
+
+/// Jobs are taken in the order in which they entered.
+pub fn order()
+    // accepted 1 +1 / arrived 1 / accepted 2 / took 2
+    ensures refuses_queue_jumper { Refuses (Keeps InOrder) two_queued
+        (moment (Take 1) (Worker 1) (Some 2) (Took 2) 2) }
+{}
+
+/// Which starts there are, and the limit as it is told.
+pub fn growth()
+    // accepted 1 +1 / arrived 1, told with the number that was started as the next one
+    ensures refuses_number_of_started { Refuses (GrowthLaw 1 []) one_queued
+        (moment Arrive (Worker 1) None (Arrived 1) 1) }
+    // accepted 1 +1 / arrived 1 / accepted 2 / took 1, at limit 2
+    ensures refuses_start_left_out { Refuses (GrowthLaw 2 []) two_queued
+        (moment (Take 1) (Worker 1) (Some 1) (Took 1) 2) }
+    // .. / delivered 1 marked / parked / ended 1 queued +2
+    ensures refuses_growth_by_queuing_again { Refuses (GrowthLaw 1 []) raised_limit
+        (starting 1 (moment (End 1) (Worker 1) (Some 1) (Ended 1 Queued) 2)) }
+    // accepted 1 +1 / refused worker
+    ensures refuses_refusal_beside_worker { Refuses (GrowthLaw 1 []) one_queued
+        (moment Spawn Pool None (Refused NoWorker) 2) }
+    // .. / stopped 1 / delivered 1 entered -2 / nothing
+    ensures accepts_refused_start { IsServed (unstaffed_parked
+        ▸ refusing (moment (Stray 1) Pool None (JobWoken 1 Entered) 2)
+        ▸ moment (Take 1) (Worker 1) None NoAction 3) }
+    // swept 0 / refused memory / nothing: none of them is a growth
+    ensures limit_is_untold { known_limit 4 ([]
+        ▸ moment Sweep Pool None (Swept 0) 1
+        ▸ moment Spawn Pool None (Refused Memory) 1
+        ▸ moment Arrive Pool None NoAction 1) ≡ None }
+{}
+
+/// A job that waits does nothing.
+pub fn turns()
+    // .. / took 1 / parked / finished
+    ensures refuses_act_while_waiting { Refuses TurnLaw one_waits
+        (moment (Job 1) (Worker 1) (Some 1) (Finished Absent) 2) }
+{}
+
+/// Which event a step has.
+pub fn steps()
+    // .. / waits / .. / answered 5 / cancelled 1 marked
+    ensures refuses_cancel_of_awaited { Refuses StepLaw awaited
+        (moment (Strike 1) Pool None (JobCancelled 1 Marked) 2) }
+    // limit 2 / refused memory / swept 0 / accepted 1 +1 / waits, of task 1
+    ensures refuses_task_of_no_job { Refuses StepLaw late_queued
+        (moment (OfTask 1 Poll) (Task 1) None Waits 2) }
+    // limit 3, of a limit 2
+    ensures refuses_other_limit { Refuses StepLaw []
+        (moment (SetLimit 2) Pool None (LimitSet 3) 1) }
+    // accepted 1 +1 / detached, of a cancel
+    ensures refuses_cancel_told_as_detaching { Refuses StepLaw one_queued
+        (moment (OfTask 0 Cancel) (Task 0) None TaskDetached 2) }
+{}
+
+/// What a task finds, who is seated, and who waits.
+pub fn tasks()
+    // .. / answered 5 / cancelled / finished / got 5
+    ensures refuses_answer_after_cancel { Refuses FirstTaskLaw cancelled_finished
+        (moment (OfTask 0 Poll) (Task 0) None (TaskGot 5) 2) }
+    // .. / waits / .. / answered 5 / finished wake owner
+    ensures waker_is_taken { task_seat (task_cut 0 1 (events awaited_finished)) ≡ false }
+    // accepted 1 +1 / cancelled / waits / arrived 1 / took 1 dropped / gave up / ended 1 dropped
+    ensures refuses_wait_for_dropped { Refuses (Keeps NoLostWake) untold_given_up
+        (moment (End 1) (Worker 1) (Some 1) (Ended 1 Dropped) 2) }
+{}

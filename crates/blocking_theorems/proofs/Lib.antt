@@ -1,0 +1,5 @@
+pub mod Growths
+pub mod OneAnswer
+pub mod OneAct
+pub mod Holders
+pub mod OneEvent

@@ -1,0 +1,142 @@
+-- To each step there is one event.
+use Rattle.std.proofs.Common.{◌≡◌, refl, ℕ, ◌<◌, ◌&&◌, if◌then◌else◌, nat_lt, Bool, true, false, List, ◌∷◌, Some, ap, ◌∙◌, arith}
+use Rattle.std.proofs.lemmas.Bool.Decides.{nat_tests}
+use mathlib.Core.Path.{subst, sym}
+use Rattle.blocking_pool.specs.declared.pool.answer.Refusal.TheVariants.{Memory}
+use Rattle.blocking_laws.specs.Seen.{events, task_cut, acts_of_task, is_some_worker, is_nothing}
+use Rattle.blocking_laws.specs.Jobs.{tasks, holder}
+use Rattle.blocking_laws.specs.Turns.{Turn, GoesOn, IsWaiting, MustGiveUp, HasGivenUp, turn, hand, is_giving_up, FitsTurn, FitsTurnOf, ActsInTurn, is_job_act, TurnLaw}
+use Rattle.blocking_laws.specs.TaskLaws.{TaskLaw}
+use Rattle.blocking_laws.specs.Steps.{StepLaw, Happens, has_action, is_pool_step, is_out_of_memory, may_call, named, party}
+use Rattle.blocking_laws.specs.Legal.{Legal}
+use Rattle.blocking_laws.specs.declared.event.Act.{Act}
+use Rattle.blocking_laws.specs.declared.event.Act.TheVariants.{Refused}
+use Rattle.blocking_laws.specs.declared.event.Moment.{Moment}
+use Rattle.blocking_laws.specs.declared.event.Party.TheVariants.{Task}
+use Rattle.blocking_laws.specs.declared.step.Step.{Step}
+use Rattle.blocking_laws.specs.declared.step.Step.TheVariants.{OfTask, Job}
+use Rattle.blocking_laws.specs.declared.step.TaskCall.{TaskCall}
+use Rattle.blocking_laws.specs.declared.step.TaskCall.TheVariants.{Poll, Cancel, Detach, Drop}
+use Rattle.blocking_laws.proofs.Beginnings.{before, keeps, task_keeps}
+use Rattle.blocking_laws.proofs.Queues.{same_self}
+use Rattle.blocking_theorems.proofs.OneAct.{one_poll, one_action}
+use Rattle.blocking_theorems.proofs.OneAnswer.{same_step, one_event}
+use Rattle.blocking_theorems.proofs.Holders.{each_task, has_hand, IsJobEvent, job_event, job_law, task_in_hand}
+
+-- ---- the steps of tasks
+
+both_are : (b c : Bool) → (b && c) ≡ true → b ≡ true
+both_are true c e = refl
+both_are false c e = e
+
+is_less : (k n : ℕ) → nat_lt k n ≡ true → k < n
+is_less k n e = grind (arith, nat_tests)
+
+-- a poll of a task keeps the law of that task
+poll_law : (setting : ℕ) (plan : List Bool) (past : List Moment) (now : Moment) (k s : ℕ) → Legal setting plan (now ∷ past) → is_nothing now.event.act ≡ false → now.event.party ≡ Task k
+    → holder past s ≡ Some (Task k) → TaskLaw s (task_cut k s (events past)) now.event
+poll_law setting plan past now k s legal done by held =
+    task_keeps setting plan past now k s (keeps setting plan past now legal.pool s (Task k) held) (rw (done, by, same_self k) refl) legal
+
+-- by whom a task's step is taken
+by_task : (past : List Moment) (now : Moment) (k : ℕ) (c : TaskCall) → StepLaw past now → now.step ≡ OfTask k c → is_nothing now.event.act ≡ false → now.event.party ≡ Task k
+by_task past now k c law step done =
+    law.by ∙ ap (λ b. if b then named now.step else party past now.step) done ∙ ap (party past) step
+
+same_poll : (setting : ℕ) (plan : List Bool) (past : List Moment) (now other : Moment) (k : ℕ) → Legal setting plan (now ∷ past) → Legal setting plan (other ∷ past)
+    → has_action past (OfTask k Poll) ≡ true → now.step ≡ OfTask k Poll → other.step ≡ OfTask k Poll
+    → Happens true past (OfTask k Poll) now.event.act → Happens true past (OfTask k Poll) other.event.act → now.event.act ≡ other.event.act
+same_poll setting plan past now other k legal other_legal has step other_step happens other_happens =
+    let there = is_less k (tasks past) (both_are (nat_lt k (tasks past)) (may_call (acts_of_task k (events past)) Poll) has) in
+    let its = each_task setting plan past legal.pool.1 k there in
+    let by = by_task past now k Poll legal.steps.0 step happens.0 in
+    let other_by = by_task past other k Poll other_legal.steps.0 other_step other_happens.0 in
+    one_poll its.job (task_cut k its.job (events past)) now.event other.event (ap is_some_worker by) (ap is_some_worker other_by) happens.1 other_happens.1
+    (poll_law setting plan past now k its.job legal happens.0 by its.held) (poll_law setting plan past other k its.job other_legal other_happens.0 other_by its.held)
+
+same_call : (setting : ℕ) (plan : List Bool) (past : List Moment) (now other : Moment) (k : ℕ) (c : TaskCall) → Legal setting plan (now ∷ past) → Legal setting plan (other ∷ past)
+    → has_action past (OfTask k c) ≡ true → now.step ≡ OfTask k c → other.step ≡ OfTask k c
+    → Happens true past (OfTask k c) now.event.act → Happens true past (OfTask k c) other.event.act → now.event.act ≡ other.event.act
+same_call setting plan past now other k Poll legal other_legal has step other_step happens other_happens =
+    same_poll setting plan past now other k legal other_legal has step other_step happens other_happens
+same_call setting plan past now other k Cancel legal other_legal has step other_step happens other_happens = happens.1 ∙ sym other_happens.1
+same_call setting plan past now other k Detach legal other_legal has step other_step happens other_happens = happens.1 ∙ sym other_happens.1
+same_call setting plan past now other k Drop legal other_legal has step other_step happens other_happens = happens.1 ∙ sym other_happens.1
+
+-- ---- the steps of jobs
+
+-- where a job is in its turn, it gives up or it doesn't
+turn_says : (at : Turn) (act other : Act) → FitsTurn at act → FitsTurn at other → is_giving_up act ≡ is_giving_up other
+turn_says GoesOn act other fits other_fits = fits ∙ sym other_fits
+turn_says IsWaiting act other fits other_fits = absurd fits
+turn_says MustGiveUp act other fits other_fits = fits ∙ sym other_fits
+turn_says HasGivenUp act other fits other_fits = ap is_giving_up (fits ∙ sym other_fits)
+
+-- what a job's event keeps of the law of turns
+fits_turn : (past : List Moment) (now : Moment) (w s : ℕ) → TurnLaw past now → IsJobEvent past w now.event → hand past w ≡ Some s → FitsTurn (turn past s) now.event.act
+fits_turn past now w s law event in_hand =
+    let of : now.event.job ≡ Some s = event.of ∙ in_hand in
+    let is_act : is_job_act now.event ≡ true = rw (of, event.own) refl in
+    let acts : ActsInTurn true past now.event = subst (λ b. ActsInTurn b past now.event) is_act law.acts in
+    subst (λ j. FitsTurnOf j past now.event.act) of acts.1
+
+same_action : (setting : ℕ) (plan : List Bool) (past : List Moment) (now other : Moment) (w : ℕ) → Legal setting plan (now ∷ past) → Legal setting plan (other ∷ past)
+    → has_action past (Job w) ≡ true → now.step ≡ Job w → other.step ≡ Job w → now.event.act ≡ other.event.act
+same_action setting plan past now other w legal other_legal has step other_step =
+    let event = job_event past now w legal.steps.0 step has in
+    let other_event = job_event past other w other_legal.steps.0 other_step has in
+    let found = has_hand past w has in
+    let its = task_in_hand setting plan past (before setting plan past now legal) w found.job found.is in
+    let gives = turn_says (turn past found.job) now.event.act other.event.act (fits_turn past now w found.job legal.pool.0.turns event found.is)
+    (fits_turn past other w found.job other_legal.pool.0.turns other_event found.is) in
+    one_action found.job (task_cut its.task found.job (events past)) now.event other.event (ap is_some_worker event.by) (ap is_some_worker other_event.by) gives event.unanswered
+    (job_law setting plan past now w found.job its.task legal event found.is its.held) (job_law setting plan past other w found.job its.task other_legal other_event found.is its.held)
+
+-- ---- every step
+
+abbrev Same : Moment → Moment → Type 0
+Same now other = now.event.act ≡ other.event.act
+
+-- nothing is done twice alike
+idle_or : (b : Bool) (past : List Moment) (step : Step) (now other : Moment) → has_action past step ≡ b → Happens b past step now.event.act → Happens b past step other.event.act
+    → (has_action past step ≡ true → Happens true past step now.event.act → Happens true past step other.event.act → Same now other) → Same now other
+idle_or true past step now other has happens other_happens acts = acts has happens other_happens
+idle_or false past step now other has happens other_happens acts = happens ∙ sym other_happens
+
+-- what is done by a task or by a job is the same
+same_elsewhere : (setting : ℕ) (plan : List Bool) (past : List Moment) (step : Step) (now other : Moment) → Legal setting plan (now ∷ past) → Legal setting plan (other ∷ past)
+    → is_pool_step step ≡ false → now.step ≡ step → other.step ≡ step
+    → Happens (has_action past step) past step now.event.act → Happens (has_action past step) past step other.event.act → Same now other
+same_elsewhere setting plan past (OfTask k c) now other legal other_legal own at other_at happens other_happens =
+    idle_or (has_action past (OfTask k c)) past (OfTask k c) now other refl happens other_happens
+    (λ has acts other_acts. same_call setting plan past now other k c legal other_legal has at other_at acts other_acts)
+same_elsewhere setting plan past (Job w) now other legal other_legal own at other_at happens other_happens =
+    idle_or (has_action past (Job w)) past (Job w) now other refl happens other_happens
+    (λ has acts other_acts. same_action setting plan past now other w legal other_legal has at other_at)
+same_elsewhere setting plan past _ now other legal other_legal own at other_at happens other_happens = absurd cc
+
+memory_is : (act : Act) → is_out_of_memory act ≡ true → act ≡ Refused Memory
+memory_is (Refused Memory) e = refl
+memory_is _ e = absurd cc
+
+-- what is done at the pool is the same, want of memory too
+same_at_pool : (b : Bool) (setting : ℕ) (plan : List Bool) (past : List Moment) (now other : Moment) → now.step ≡ other.step → is_pool_step now.step ≡ true
+    → is_out_of_memory now.event.act ≡ b → is_out_of_memory other.event.act ≡ b → Legal setting plan (now ∷ past) → Legal setting plan (other ∷ past) → now.event ≡ other.event
+same_at_pool true setting plan past now other step of_pool memory other_memory legal other_legal =
+    same_step setting plan past now other step (memory_is now.event.act memory ∙ sym (memory_is other.event.act other_memory)) legal.steps.0 other_legal.steps.0 legal.pool.0 other_legal.pool.0
+same_at_pool false setting plan past now other step of_pool memory other_memory legal other_legal =
+    one_event setting plan past now other step of_pool memory other_memory legal.steps.0 other_legal.steps.0 legal.pool.0 other_legal.pool.0
+
+one_by : (b : Bool) (setting : ℕ) (plan : List Bool) (past : List Moment) (now other : Moment) → is_pool_step now.step ≡ b → now.step ≡ other.step
+    → is_out_of_memory now.event.act ≡ is_out_of_memory other.event.act → Legal setting plan (now ∷ past) → Legal setting plan (other ∷ past) → now.event ≡ other.event
+one_by true setting plan past now other of_pool step memory legal other_legal =
+    same_at_pool (is_out_of_memory other.event.act) setting plan past now other step of_pool memory refl legal other_legal
+one_by false setting plan past now other own step memory legal other_legal =
+    let other_happens = subst (λ s. Happens (has_action past s) past s other.event.act) (sym step) other_legal.steps.0.act in
+    same_step setting plan past now other step
+    (same_elsewhere setting plan past now.step now other legal other_legal own refl (sym step) legal.steps.0.act other_happens)
+    legal.steps.0 other_legal.steps.0 legal.pool.0 other_legal.pool.0
+
+pub one_legal_event : (setting : ℕ) (plan : List Bool) (past : List Moment) (now other : Moment) → now.step ≡ other.step → is_out_of_memory now.event.act ≡ is_out_of_memory other.event.act
+    → Legal setting plan (now ∷ past) → Legal setting plan (other ∷ past) → now.event ≡ other.event
+one_legal_event setting plan past now other = one_by (is_pool_step now.step) setting plan past now other refl
