@@ -1,6 +1,10 @@
 pub mod Cores
+pub mod Faults
+pub mod Machines
+pub mod OwnerCalls
 pub mod PipeAnswers
 pub mod Pipes
 pub mod Places
+pub mod Reading
 pub mod SlotAnswers
 pub mod Slots

@@ -1,4 +1,7 @@
 //! The decision cores of jobs: what a job does next, and what it makes of the answer.
+mod read;
+
+pub use self::read::{PIECE, ReadAction, ReadAnswer, ReadCore};
 use std::marker::Model;
 
 /// What a job does next.

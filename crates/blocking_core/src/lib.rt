@@ -1,8 +1,10 @@
 //! The pure core of a thread pool for blocking calls: no thread, no lock, no clock.
 #![tactic(auto)]
 
+pub mod io;
 pub mod job;
 pub mod pipe;
 pub mod task;
+pub mod unblock;
 
 pub use blocking_pool::{limit, pool};

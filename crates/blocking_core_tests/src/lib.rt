@@ -11,6 +11,8 @@ mod pipe;
 #[cfg(test)]
 mod pool;
 #[cfg(test)]
+mod reading;
+#[cfg(test)]
 mod slot;
 #[cfg(test)]
 mod stop;

@@ -1,5 +1,5 @@
 //! The worked rows of the pipe.
-mod bench;
+pub(crate) mod bench;
 
 use self::bench::Shown::{
     Are, Due, Found, Got, In, Item, Lost, Over, Parked, Sees, SeesNone, Shut, Took, Waits, Waker,

@@ -121,7 +121,7 @@ impl Starter for Starts {
 
 /// A pipe, and a pool whose jobs use it: their notes are spent there.
 #[derive(Drop)]
-pub(super) struct Bench {
+pub(crate) struct Bench {
     pipe: Pipe<u8, u8>,
     pool: Pool<Idle>,
     jobs: Vec<JobNo>,
@@ -166,7 +166,7 @@ fn add_jobs(alloc: Global, pool: &mut Pool<Idle>) -> Option<Vec<JobNo>> {
 }
 
 impl Bench {
-    pub(super) fn new(alloc: Global, capacity: usize) -> Option<Bench> {
+    pub(crate) fn new(alloc: Global, capacity: usize) -> Option<Bench> {
         if capacity == 0 {
             return None;
         }
@@ -205,7 +205,7 @@ impl Bench {
     }
 
     /// The number of the job of this serial.
-    pub(super) fn job(&self, serial: u64) -> Option<JobNo> {
+    pub(crate) fn job(&self, serial: u64) -> Option<JobNo> {
         for no in self.jobs.iter() {
             if no.serial() == serial {
                 return Some(*no);
@@ -215,7 +215,7 @@ impl Bench {
     }
 
     /// Spends a note, and tells the serial of its job.
-    pub(super) fn spend(&mut self, note: Option<WakeNote>) -> Option<u64> {
+    pub(crate) fn spend(&mut self, note: Option<WakeNote>) -> Option<u64> {
         let note = note?;
         let serial = note.job().serial();
         self.pool.wake(note, &mut Starts);

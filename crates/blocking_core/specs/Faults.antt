@@ -1,0 +1,12 @@
+-- The texts of faults, as lists of bytes.
+use Rattle.std.specs.Prelude.{ℕ, List, codes, Option, Some}
+use Rattle.blocking_pool.specs.Refusals.{reason_text}
+use Rattle.blocking_core.specs.declared.io.Fault.{Fault}
+use Rattle.blocking_core.specs.declared.io.Fault.TheVariants.{Io, WriteZero, Refused}
+
+-- why a call on a handle failed: what the handle's own error says, if that is stated; that a write got nothing on; or why no
+-- session began
+abbrev pub fault_text : {E : Type 0} → (E → Option (List ℕ)) → Fault E → Option (List ℕ)
+fault_text error_text (Io error) = error_text error
+fault_text error_text WriteZero = Some (codes "none of the bytes were taken")
+fault_text error_text (Refused why) = Some (reason_text why)

@@ -1,0 +1,31 @@
+//! What may go wrong where a handle is lent to a job.
+use blocking_pool::pool::Refusal;
+use std::error::Error;
+use std::fmt;
+
+/// Why a call on a lent handle failed.
+#[derive(Clone, Copy, Debug, PartialEq, Eq)]
+pub enum Fault<E> {
+    /// The handle failed, with this error of its own.
+    Io(E),
+    /// The handle took none of the bytes that it was offered.
+    WriteZero,
+    /// No session could begin; the handle is with its owner.
+    Refused(Refusal),
+}
+
+impl<E: fmt::Display> fmt::Display for Fault<E> {
+    ghost use Rattle.blocking_core.specs.Faults.{fault_text};
+
+    ghost output = { λ fault. fault_text E.output fault };
+
+    fn fmt<W: fmt::Write>(&self, f: &mut fmt::Formatter<W>) -> fmt::Result {
+        match self {
+            Fault::Io(error) => write!(f, "{error}"),
+            Fault::WriteZero => f.write_str("none of the bytes were taken"),
+            Fault::Refused(why) => write!(f, "{why}"),
+        }
+    }
+}
+
+impl<E: Error> Error for Fault<E> {}
