@@ -35,9 +35,9 @@ use Rattle.blocking_world.specs.declared.hand.Stage.{Stage}
 use Rattle.blocking_world.specs.declared.hand.Stage.TheVariants as stage
 use Rattle.blocking_laws.specs.declared.step.Step.{Step}
 use Rattle.blocking_world.proofs.Entries.{sweep_enters}
-use Rattle.blocking_world.proofs.Polls.{by_call}
 use Rattle.blocking_world.proofs.Quiet.{seen_at}
 use Rattle.blocking_world.proofs.Tied.{task_there, accepted_within, accepted_serial, own_place, nothing_to_sweep}
+use Rattle.blocking_lanes.proofs.acts.Calls.{by_call}
 
 -- ---- new jobs and arrivals
 

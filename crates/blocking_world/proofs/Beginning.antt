@@ -86,7 +86,7 @@ tied setting positive =
       lined = record { same = refl; once = tt; each = λ s. refl; order = refl };
       counted = counted setting positive;
       handed = handed setting;
-      tasked = record { each = λ k task there. cc; unborn = λ k beyond. refl };
+      tasked = record { count = refl; there = λ k s held. cc; once = λ k s t one other. cc; each = λ k s task held there. cc; unborn = λ k s beyond none. refl };
     }
 
 legal : (setting : ℕ) (plan : List Bool) → Legal setting plan []

@@ -16,7 +16,7 @@ use Rattle.blocking_world.specs.declared.hand.Hand.TheVariants.{Out, Free, Holds
 use Rattle.blocking_world.specs.declared.hand.JobInHand.{JobInHand}
 use Rattle.blocking_world.proofs.Alike.{remove_unparked, remove_runs}
 use Rattle.blocking_world.proofs.Hands.{free_set, free_pushed}
-use Rattle.blocking_world.proofs.Rows.{got_same, got_other, set_same}
+use Rattle.blocking_lanes.proofs.Places.{got_same, got_other, set_same}
 
 -- ---- the last of the hands
 

@@ -26,7 +26,6 @@ use Rattle.blocking_world.specs.Worlds.{Worlded, CallPool, new_call, hand_at, ta
 use Rattle.blocking_world.proofs.Entries.{new_filed, taken_filed, woken_filed, cancelled_filed, acted_filed, ended_filed, marked_filed, outcome_final, over_by, swept_same}
 use Rattle.blocking_world.proofs.Lookups.{job_put, job_out, job_changed, job_marked, mark_finds}
 use Rattle.blocking_world.proofs.Numbering.{refused_alone}
-use Rattle.blocking_world.proofs.Polls.{by_poll}
 use Rattle.blocking_world.proofs.Tied.{some_held, accepted_serial, own_place, fresh, unparked, hand_runs, never_woken, never_struck}
 use Rattle.blocking_world.specs.declared.call.CallJob.{CallJob}
 use Rattle.blocking_laws.specs.declared.event.Act.TheVariants.{JobWoken, JobCancelled}
@@ -38,7 +37,8 @@ use Rattle.blocking_world.specs.declared.hand.Hand.TheVariants.{Holds}
 use Rattle.blocking_world.specs.declared.hand.JobInHand.{JobInHand}
 use Rattle.blocking_laws.specs.declared.step.Step.TheVariants.{OfTask, Take, Stray, Strike}
 use Rattle.blocking_laws.specs.declared.step.TaskCall.TheVariants.{Poll, Cancel, Drop}
-use Rattle.blocking_world.specs.declared.task.Task.{Task}
+use Rattle.blocking_lanes.proofs.acts.Calls.{by_poll}
+use Rattle.blocking_lanes.specs.Tasks.{Task}
 
 -- what was seen of a job, of which the pool has this
 abbrev FiledHere : Option (Entry CallJob) → List Moment → ℕ → Type 0
@@ -183,7 +183,7 @@ filed_after setting plan w past (EndsTurn v in_hand pass) tied may s =
     (ended_filed in_hand.turn.serial s (in_hand.turn.serial == s) (outcome_of in_hand.stage) (get w.pool.jobs s) (standing past s) (is_woken past s) (is_cancelled past s) (is_marked past s) (has_ended past s) (acts_of s (events past))
     refl (outcome_final in_hand.stage)
     (λ is. subst (λ n. has_finished (acts_of n (events past)) || has_given_up (acts_of n (events past)) ≡ true) (eqb-true in_hand.turn.serial s is)
-    (over_by in_hand.stage in_hand.job.core in_hand.job.number (acts_of in_hand.turn.serial (events past)) known.acts_are may.1))
+    (over_by in_hand.stage in_hand.job.progress.next in_hand.job.progress.number (acts_of in_hand.turn.serial (events past)) known.acts_are may.1))
     (tied.filed s))
 filed_after setting plan w past (HasWaited v pass end) tied may s = waited_filed end (must_stop (has_timed_out end) w.pool) v pass w past tied.filed s
 filed_after setting plan w past Sweeps tied may s = swept_filed true w past s tied.filed

@@ -26,10 +26,10 @@ use Rattle.blocking_laws.specs.declared.event.Party.{Party}
 use Rattle.blocking_laws.specs.declared.step.Step.{Step}
 use Rattle.blocking_world.proofs.Counting.{workers_now, idle_some}
 use Rattle.blocking_world.proofs.Lookups.{by_unentered}
-use Rattle.blocking_world.proofs.Polls.{by_call}
 use Rattle.blocking_world.proofs.Quiet.{by_wait, seen_at, may_grow, ungrown}
 use Rattle.blocking_world.proofs.Rows.{one_out, front_in}
 use Rattle.blocking_world.proofs.Tied.{never_woken, never_struck}
+use Rattle.blocking_lanes.proofs.acts.Calls.{by_call}
 
 -- ---- no growth
 

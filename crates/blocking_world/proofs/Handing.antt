@@ -28,12 +28,12 @@ use Rattle.blocking_laws.specs.Growth.{IsPlanned}
 use Rattle.blocking_laws.specs.Queue.{queue, running as running_jobs}
 use Rattle.blocking_laws.specs.Steps.{IsPolled}
 use Rattle.blocking_laws.specs.Turns.{Turn, HasGivenUp, turn, hand, TurnLaw, HoldsOne, is_giving_up, FitsTurn}
-use Rattle.blocking_world.specs.Worlds.{Worlded, CallPool, new_call, next_at, next_of, in_hand_after_answer, in_hand_after_finish, in_hand_after_give_up, in_hand_after_wake_at, in_hand_after_wake, hand_at, has_let_go, may_be, poll_of, new_task, task_at, with_task}
+use Rattle.blocking_world.specs.Worlds.{Worlded, CallPool, new_call, next_at, next_of, in_hand_after_answer, in_hand_after_finish, in_hand_after_give_up, in_hand_after_wake_at, in_hand_after_wake, hand_at, task_at, with_task}
 use Rattle.blocking_world.specs.Crews.{Accepts, AddsTo, TakesFront, no_growth, after_wake, after_cancel}
 use Rattle.blocking_laws.specs.Answers.{wait_act}
-use Rattle.blocking_world.specs.Machine.{free_hands, seen, next_start, task_after_call, pool_after_call, after_wait, with_in_hand}
-use Rattle.blocking_world.specs.Moves.{Move, Begins, Calls, Arrives, TakesJob, TakesNone, IsAnswered, Finishes, GivesUp, CallsWaker, EndsTurn, HasWaited, IsWoken, IsStruck, May, moment_of, after, wakes_as, cancels_as, finish_wakes, giving_up_wakes, first_stage, wait_step}
-use Rattle.blocking_world.specs.Ties.{Tied, Numbered, FiledAs, ValueAs, Handed, InHandAs, ActedAs, RanAs, turn_of, let_go_in}
+use Rattle.blocking_world.specs.Machine.{free_hands, seen, next_start, pool_after_call, after_wait, with_in_hand}
+use Rattle.blocking_world.specs.Moves.{Move, Begins, Calls, Arrives, TakesJob, TakesNone, IsAnswered, Finishes, GivesUp, CallsWaker, EndsTurn, HasWaited, IsWoken, IsStruck, May, moment_of, after, wakes_as, cancels_as, finishing_wakes, giving_up_wakes, first_stage, wait_step}
+use Rattle.blocking_world.specs.Ties.{Tied, Numbered, FiledAs, ValueAs, Handed, InHandAs, ActedAs, turn_of, let_go_in}
 use Rattle.blocking_world.specs.declared.call.CallJob.{CallJob}
 use Rattle.blocking_laws.specs.declared.event.Act.{Act}
 use Rattle.blocking_laws.specs.declared.event.Act.TheVariants.{Accepted, Refused, JobWoken, JobCancelled, Waits, TaskGot, TaskGotNone, Answered, Finished, GaveUp, HolderWoken}
@@ -53,15 +53,17 @@ use Rattle.blocking_laws.specs.declared.step.Step.{Step}
 use Rattle.blocking_laws.specs.declared.step.Step.TheVariants.{Spawn, OfTask, Job as OwnStep, Io, Stray, Strike}
 use Rattle.blocking_laws.specs.declared.step.TaskCall.{TaskCall}
 use Rattle.blocking_laws.specs.declared.step.TaskCall.TheVariants.{Poll, Cancel, Detach, Drop}
-use Rattle.blocking_world.specs.declared.task.Task.{Task}
-use Rattle.blocking_world.proofs.Cutting.{acts_more}
 use Rattle.blocking_world.proofs.Lookups.{taken_runs}
-use Rattle.blocking_world.proofs.Polls.{poll_so, call_stays}
 use Rattle.blocking_world.proofs.Quiet.{by_wait}
-use Rattle.blocking_world.proofs.Rows.{got_same, front_in}
+use Rattle.blocking_world.proofs.Rows.{front_in}
 use Rattle.blocking_world.proofs.Tied.{held_within, hand_seen}
 use Rattle.blocking_world.proofs.Alike.{insert_unparked, remove_unparked, insert_runs, remove_runs, wake_kept, cancel_kept, call_kept}
 use Rattle.blocking_world.proofs.Sights.{let_go_same, let_go_stays, let_go_pushed, let_go_task, InHandHere, Known, job_acts, was_let_go, sight, KnownOf, known, handed, parts_known, kept_known, own_known, sight_after_take, take_known, end_known, idle_known, stop_known, arrive_known}
+use Rattle.blocking_lanes.specs.Tasks.{has_let_go, may_be, poll_of, new_task, task_after_call, Task}
+use Rattle.blocking_lanes.specs.Calls.{RanAs}
+use Rattle.blocking_lanes.proofs.cuts.Acts.{acts_more}
+use Rattle.blocking_lanes.proofs.acts.Calls.{poll_so, call_stays}
+use Rattle.blocking_lanes.proofs.Places.{got_same}
 
 -- ---- what a job in a hand has done, after it acts
 
@@ -97,16 +99,16 @@ woke_ran _ _ n acts new_acts st d e a = absurd (cc)
 in_hand_woken : (in_hand : JobInHand) (st : Stage) (turns : Turn) (acts new_acts : List Act) (let_go : Bool) → in_hand.stage ≡ st → next_of in_hand ≡ worker_action.Wake → new_acts ≡ HolderWoken ∷ acts → InHandAs in_hand turns acts let_go → InHandAs (in_hand_after_wake_at st in_hand) turns new_acts let_go
 in_hand_woken in_hand stage.MustWake turns acts new_acts let_go e d a h = record {
   turn_is = h.turn_is ∙ ap turn_of e;
-  acts_are = inr (a ∙ ap (λ (x : List Act). HolderWoken ∷ x) (subst (λ st. ActedAs st in_hand.job.core in_hand.job.number acts) e h.acts_are));
+  acts_are = inr (a ∙ ap (λ (x : List Act). HolderWoken ∷ x) (subst (λ st. ActedAs st in_hand.job.progress.next in_hand.job.progress.number acts) e h.acts_are));
   wanted = λ is. absurd (cc);
 }
 in_hand_woken in_hand stage.Runs turns acts new_acts let_go e d a h = record {
   turn_is = h.turn_is;
-  acts_are = woke_ran in_hand.stage in_hand.job.core in_hand.job.number acts new_acts e d a h.acts_are;
+  acts_are = woke_ran in_hand.stage in_hand.job.progress.next in_hand.job.progress.number acts new_acts e d a h.acts_are;
   wanted = h.wanted;
 }
-in_hand_woken in_hand stage.MustGiveUp turns acts new_acts let_go e d a h = (let no_next : next_at stage.MustGiveUp in_hand.job.core ≡ worker_action.Wake = ap (λ st. next_at st in_hand.job.core) (sym e) ∙ d in absurd (cc))
-in_hand_woken in_hand stage.GaveUp turns acts new_acts let_go e d a h = (let no_next : next_at stage.GaveUp in_hand.job.core ≡ worker_action.Wake = ap (λ st. next_at st in_hand.job.core) (sym e) ∙ d in absurd (cc))
+in_hand_woken in_hand stage.MustGiveUp turns acts new_acts let_go e d a h = (let no_next : next_at stage.MustGiveUp in_hand.job.progress.next ≡ worker_action.Wake = ap (λ st. next_at st in_hand.job.progress.next) (sym e) ∙ d in absurd (cc))
+in_hand_woken in_hand stage.GaveUp turns acts new_acts let_go e d a h = (let no_next : next_at stage.GaveUp in_hand.job.progress.next ≡ worker_action.Wake = ap (λ st. next_at st in_hand.job.progress.next) (sym e) ∙ d in absurd (cc))
 
 woke_turn : (st : Stage) (in_hand : JobInHand) → (in_hand_after_wake_at st in_hand).turn ≡ in_hand.turn
 woke_turn stage.Runs in_hand = refl
@@ -131,7 +133,7 @@ record Fronted (w : Worlded) (past : List Moment) (number : JobNumber) (value : 
   pub stands_is : standing past number.serial ≡ Some Queued
   pub entry_is : entry.standing ≡ Queued
   pub unacted : acts_of number.serial (events past) ≡ []
-  pub core_is : value.core ≡ action.Call
+  pub core_is : value.progress.next ≡ action.Call
   pub wanted_is : to_drop ≡ true → (is_marked past number.serial || is_cancelled past number.serial) ≡ true
 
 fronted : (setting : ℕ) (may_answer : ℕ → Bool → Type 0) (w : Worlded) (past : List Moment) (number : JobNumber) (value : CallJob) (to_drop : Bool) (growth : Growth) (new : CallPool)
@@ -154,7 +156,7 @@ fronted setting may_answer w past number value to_drop growth new t f =
       stands_is = stands;
       entry_is = entry;
       unacted = valued_as.1;
-      core_is = ap (λ (x : CallJob). x.core) is;
+      core_is = ap (λ (x : CallJob). x.progress.next) is;
       wanted_is = λ e. or_comm (is_marked past s) (is_cancelled past s) ∙ (ap (λ b. b || is_marked past s) cancelled_is ∙ ap (λ b. f.job.cancelled || b) (sym marked_is) ∙ sym f.wanted ∙ e);
     }
 
@@ -294,7 +296,7 @@ took_known setting may_answer w past v pass number value to_drop growth new t e 
     let here : InHandHere (sight_after_take (sight w past) v in_hand (insert w.pool.jobs number.serial (entry_after_take f.job)) growth.started turns) in_hand = record {
       as_is = record {
         turn_is = ap (λ b. if b then turn_of (first_stage to_drop) else turn past number.serial) (eq-eqb number.serial number.serial refl);
-        acts_are = first_as to_drop value.core value.number (job_acts past number.serial) front.core_is front.unacted;
+        acts_are = first_as to_drop value.progress.next value.progress.number (job_acts past number.serial) front.core_is front.unacted;
         wanted = first_wanted to_drop (let_go_in (slice_get w.tasks (number.serial - 1)) ≡ true) (λ is. k.marks_are number.serial (front.wanted_is is));
       };
       runs_is = taken_runs w.pool.jobs number f.job f.place;
@@ -318,7 +320,7 @@ answer_known w past v in_hand number step first k e d =
     own_known (sight w past) v in_hand (in_hand_after_answer in_hand number) w.tasks (turn past) (job_acts (at_step step event ∷ past)) k e refl
     (record {
       turn_is = h.turn_is;
-      acts_are = answered_as in_hand.stage in_hand.job.core in_hand.job.number number (job_acts past in_hand.turn.serial) (job_acts (at_step step event ∷ past) in_hand.turn.serial) d (acts_more in_hand.turn.serial event (events past) true (eq-eqb in_hand.turn.serial in_hand.turn.serial refl)) h.acts_are;
+      acts_are = answered_as in_hand.stage in_hand.job.progress.next in_hand.job.progress.number number (job_acts past in_hand.turn.serial) (job_acts (at_step step event ∷ past) in_hand.turn.serial) d (acts_more in_hand.turn.serial event (events past) true (eq-eqb in_hand.turn.serial in_hand.turn.serial refl)) h.acts_are;
       wanted = h.wanted;
     })
     (λ x o. refl) (λ x o. acts_more x event (events past) false o) (λ n. refl) refl
@@ -331,7 +333,7 @@ finish_known w past v in_hand wake new step first k e d same =
     own_known (sight w past) v in_hand (in_hand_after_finish in_hand wake) (with_task w.tasks in_hand.turn.serial new) (turn past) (job_acts (at_step step event ∷ past)) k e refl
     (record {
       turn_is = h.turn_is;
-      acts_are = finished_as in_hand.stage in_hand.job.core in_hand.job.number wake (job_acts past in_hand.turn.serial) (job_acts (at_step step event ∷ past) in_hand.turn.serial) d (acts_more in_hand.turn.serial event (events past) true (eq-eqb in_hand.turn.serial in_hand.turn.serial refl)) h.acts_are;
+      acts_are = finished_as in_hand.stage in_hand.job.progress.next in_hand.job.progress.number wake (job_acts past in_hand.turn.serial) (job_acts (at_step step event ∷ past) in_hand.turn.serial) d (acts_more in_hand.turn.serial event (events past) true (eq-eqb in_hand.turn.serial in_hand.turn.serial refl)) h.acts_are;
       wanted = h.wanted;
     })
     (λ x o. refl) (λ x o. acts_more x event (events past) false o) (let_go_same w.tasks (in_hand.turn.serial - 1) new same) (length-set w.tasks (in_hand.turn.serial - 1) new)
@@ -345,7 +347,7 @@ give_up_known w past v in_hand wake new step first k e d same =
     own_known (sight w past) v in_hand (in_hand_after_give_up in_hand wake) (with_task w.tasks in_hand.turn.serial new) (λ x. if in_hand.turn.serial == x then HasGivenUp else turn past x) (job_acts (at_step step event ∷ past)) k e refl
     (record {
       turn_is = ap (λ b. if b then HasGivenUp else turn past s) (eq-eqb s s refl) ∙ gave_up_turn wake;
-      acts_are = gave_up_as in_hand.stage in_hand.job.core in_hand.job.number wake (job_acts past s) (job_acts (at_step step event ∷ past) s) d (acts_more s event (events past) true (eq-eqb s s refl)) h.acts_are;
+      acts_are = gave_up_as in_hand.stage in_hand.job.progress.next in_hand.job.progress.number wake (job_acts past s) (job_acts (at_step step event ∷ past) s) d (acts_more s event (events past) true (eq-eqb s s refl)) h.acts_are;
       wanted = λ is. absurd (gave_up_once wake is);
     })
     (λ x o. ap (λ b. if b then HasGivenUp else turn past x) o) (λ x o. acts_more x event (events past) false o) (let_go_same w.tasks (in_hand.turn.serial - 1) new same) (length-set w.tasks (in_hand.turn.serial - 1) new)
@@ -406,7 +408,7 @@ known_after setting plan w past (TakesJob v old false number job growth pool) t 
 known_after setting plan w past (TakesJob v old true number job growth pool) t m = took_known setting (IsPlanned plan) w past v old number job true growth pool t m.0 m.1
 known_after setting plan w past (TakesNone v old pass) t m = idle_known (sight w past) v old pass (known w past t.handed) m.0
 known_after setting plan w past (IsAnswered v in_hand number) t m = answer_known w past v in_hand number (Io v (Number number)) (next_start w) (known w past t.handed) m.0 m.1
-known_after setting plan w past (Finishes v in_hand) t m = finish_known w past v in_hand (finish_wakes w in_hand) _ (OwnStep v) (next_start w) (known w past t.handed) m.0 m.1 refl
+known_after setting plan w past (Finishes v in_hand) t m = finish_known w past v in_hand (finishing_wakes w in_hand) _ (OwnStep v) (next_start w) (known w past t.handed) m.0 m.1 refl
 known_after setting plan w past (GivesUp v in_hand) t m = give_up_known w past v in_hand (giving_up_wakes w in_hand) _ (OwnStep v) (next_start w) (known w past t.handed) m.0 m.1 refl
 known_after setting plan w past (CallsWaker v in_hand) t m = wake_known w past v in_hand (OwnStep v) (next_start w) (known w past t.handed) m.0 m.1
 known_after setting plan w past (EndsTurn v in_hand pass) t m =
@@ -474,12 +476,12 @@ turn_after setting plan w past (Begins (Ok number) growth pool) t m = record { o
 turn_after setting plan w past (Calls k Poll task) t m = record { one = polls_quietly (poll_of task) past (moment_of w (Calls k Poll task)).event (poll_so task); acts = tt }
 turn_after setting plan w past (TakesJob v old false number job growth pool) t m = record { one = taken_once setting (IsPlanned plan) w past v old number job false growth pool t m.0 m.1; acts = tt }
 turn_after setting plan w past (TakesJob v old true number job growth pool) t m = record { one = taken_once setting (IsPlanned plan) w past v old number job true growth pool t m.0 m.1; acts = tt }
-turn_after setting plan w past (IsAnswered v in_hand number) t m = record { one = tt; acts = acts_in_turn past v in_hand (Answered (Number number)) (hand_tells w past v in_hand t.handed m.0) (fits_await in_hand.stage in_hand.job.core (Answered (Number number)) m.1 refl) }
+turn_after setting plan w past (IsAnswered v in_hand number) t m = record { one = tt; acts = acts_in_turn past v in_hand (Answered (Number number)) (hand_tells w past v in_hand t.handed m.0) (fits_await in_hand.stage in_hand.job.progress.next (Answered (Number number)) m.1 refl) }
 turn_after setting plan w past (Finishes v in_hand) t m =
-    record { one = tt; acts = acts_in_turn past v in_hand (Finished (waker_in (finish_wakes w in_hand))) (hand_tells w past v in_hand t.handed m.0) (fits_finish in_hand.stage in_hand.job.core (Finished (waker_in (finish_wakes w in_hand))) m.1 refl) }
+    record { one = tt; acts = acts_in_turn past v in_hand (Finished (waker_in (finishing_wakes w in_hand))) (hand_tells w past v in_hand t.handed m.0) (fits_finish in_hand.stage in_hand.job.progress.next (Finished (waker_in (finishing_wakes w in_hand))) m.1 refl) }
 turn_after setting plan w past (GivesUp v in_hand) t m =
-    record { one = tt; acts = acts_in_turn past v in_hand (GaveUp (waker_in (giving_up_wakes w in_hand))) (hand_tells w past v in_hand t.handed m.0) (fits_give_up in_hand.stage in_hand.job.core (waker_in (giving_up_wakes w in_hand)) m.1) }
-turn_after setting plan w past (CallsWaker v in_hand) t m = record { one = tt; acts = acts_in_turn past v in_hand HolderWoken (hand_tells w past v in_hand t.handed m.0) (fits_wake in_hand.stage in_hand.job.core m.1) }
+    record { one = tt; acts = acts_in_turn past v in_hand (GaveUp (waker_in (giving_up_wakes w in_hand))) (hand_tells w past v in_hand t.handed m.0) (fits_give_up in_hand.stage in_hand.job.progress.next (waker_in (giving_up_wakes w in_hand)) m.1) }
+turn_after setting plan w past (CallsWaker v in_hand) t m = record { one = tt; acts = acts_in_turn past v in_hand HolderWoken (hand_tells w past v in_hand t.handed m.0) (fits_wake in_hand.stage in_hand.job.progress.next m.1) }
 turn_after setting plan w past (EndsTurn v in_hand pass) t m = record { one = (hand_tells w past v in_hand t.handed m.0).its_job; acts = tt }
 turn_after setting plan w past (HasWaited v pass end) t m = record { one = by_wait (HoldsOne past (moment_of w (HasWaited v pass end)).event) v end tt tt (must_stop (has_timed_out end) w.pool); acts = tt }
 turn_after setting plan w past move t m = record { one = tt; acts = tt }

@@ -4,12 +4,12 @@ use Rattle.std.specs.Prelude.{slice_get, slice_set}
 use Rattle.std.proofs.lemmas.Bool.Decides.{nat_tests}
 use Rattle.std.proofs.lemmas.Bool.{eqb-true, eqb-false}
 use Rattle.std.proofs.lemmas.Option.{slice_get_past, slice_get_within}
-use Rattle.blocking_world.proofs.Rows.{got_same, got_other, got_pushed}
 use Rattle.blocking_world.specs.Worlds.{hand_at, hand_in, with_hand}
 use Rattle.blocking_world.specs.Machine.{one_if_free, free_hands}
 use Rattle.blocking_world.specs.declared.hand.Hand.{Hand}
 use Rattle.blocking_world.specs.declared.hand.Hand.TheVariants.{Out, Free, Holds}
 use Rattle.blocking_world.specs.declared.hand.JobInHand.{JobInHand}
+use Rattle.blocking_lanes.proofs.Places.{got_same, got_other, got_pushed}
 
 -- ---- the hand of a worker that is there
 

@@ -16,8 +16,8 @@ use Rattle.blocking_world.proofs.Answering.{answers_after}
 use Rattle.blocking_world.proofs.Counting.{counted_after}
 use Rattle.blocking_world.proofs.Grown.{growth_after}
 use Rattle.blocking_world.proofs.Handing.{handed_after, turn_after}
-use Rattle.blocking_world.proofs.Tasking.{tasked_after}
-use Rattle.blocking_world.proofs.TaskLawful.{tasks_after, no_lost_wake}
+use Rattle.blocking_world.proofs.Tasks.{tasks_after}
+use Rattle.blocking_world.proofs.LostWakes.{no_lost_wake}
 use Rattle.blocking_world.proofs.Staffing.{holding_after, staffed, as_seen}
 use Rattle.blocking_laws.specs.Staffed.{IsStaffed, AreAsSeen}
 use Rattle.blocking_world.specs.Machine.{free_hands, busy_hands}
@@ -34,7 +34,7 @@ tied_after setting plan w past move lawful may =
       lined = lined_after setting plan w past move lawful.tied may;
       counted = counted_after setting plan w past move lawful.tied may;
       handed = handed_after setting plan w past move lawful.tied may;
-      tasked = tasked_after setting plan w past move lawful.tied lawful.legal.tasks may;
+      tasked = (tasks_after setting plan w past move lawful.tied lawful.legal.tasks may).tied;
     }
 
 -- the law of the pool at a move
@@ -59,7 +59,7 @@ lawful_after setting plan w past move lawful may =
           record {
             steps = (step_after setting plan w past move lawful.tied may, lawful.legal.steps);
             pool = (pool_after setting plan w past move lawful.tied may, lawful.legal.pool);
-            tasks = tasks_after setting plan w past move lawful.tied may lawful.legal.tasks;
+            tasks = (tasks_after setting plan w past move lawful.tied lawful.legal.tasks may).laws;
             wakes = (no_lost_wake setting (after w move) (moment_of w move ∷ past) tied, lawful.legal.wakes);
           };
       holding = holding_after setting plan w past move lawful.tied tied may lawful.holding;

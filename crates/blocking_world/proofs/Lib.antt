@@ -10,7 +10,6 @@ pub mod Passing
 pub mod Working
 pub mod Letting
 pub mod Spawning
-pub mod Cutting
 pub mod Moving
 pub mod Stepping
 pub mod Beginning
@@ -20,17 +19,14 @@ pub mod Rows
 pub mod Lookups
 pub mod Entries
 pub mod Tied
-pub mod Polls
 pub mod Quiet
 pub mod Numbering
 pub mod Filing
 pub mod Lawful
 pub mod Counting
 pub mod Grown
-pub mod TaskSteps
-pub mod TaskCuts
-pub mod Tasking
-pub mod TaskLawful
+pub mod Tasks
+pub mod LostWakes
 pub mod Closings
 pub mod Running
 pub mod Staffing

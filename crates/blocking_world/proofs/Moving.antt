@@ -8,7 +8,7 @@ use Rattle.blocking_pool.specs.declared.pool.answer.Took.{Took}
 use Rattle.blocking_pool.specs.declared.pool.answer.Took.TheVariants.{Run, Drop as TakeToDrop, Idle}
 use Rattle.blocking_pool.specs.declared.pool.token.WorkerPass.{WorkerPass}
 use Rattle.blocking_world.specs.Crews.{TakesTo, no_growth}
-use Rattle.blocking_world.specs.Worlds.{Worlded, CallPool, next_of, hand_at, with_hand, may_be, has_let_go, task_at, is_free_hand}
+use Rattle.blocking_world.specs.Worlds.{Worlded, CallPool, next_of, hand_at, with_hand, task_at, is_free_hand}
 use Rattle.blocking_world.specs.Machine.{StepDoes, Does, DoesNothing, seen, next_start, CallsIf, CallsOf, ArrivesIf, TakesWith, took_act, took_job, hand_after_take, WaitsWith, Works, WorksWith, Answers, AnswersWith, Ends, EndsWith, LimitsIf, was_accepted, StraysIf, StrikesIf}
 use Rattle.blocking_world.specs.Moves.{Move, Idles, Begins, Calls, Arrives, TakesJob, TakesNone, IsAnswered, Finishes, GivesUp, CallsWaker, EndsTurn, HasWaited, SetsLimit, Sweeps, IsWoken, IsStruck, Moves, May, has_action_in, next_in, is_own, is_awaiting, is_ending, may_call_in, wait_step, step_of, event_of, after}
 use Rattle.blocking_laws.specs.Steps.{named}
@@ -27,7 +27,7 @@ use Rattle.blocking_laws.specs.declared.step.Answer.TheVariants.{Number}
 use Rattle.blocking_laws.specs.declared.step.Step.{Step}
 use Rattle.blocking_laws.specs.declared.step.Step.TheVariants.{Spawn, OfTask, Arrive, Take, Job, Io, End, Wait, Late, SetLimit, Sweep, Stray, Strike}
 use Rattle.blocking_laws.specs.declared.step.TaskCall.{TaskCall}
-use Rattle.blocking_world.specs.declared.task.Task.{Task}
+use Rattle.blocking_lanes.specs.Tasks.{may_be, has_let_go, Task}
 
 -- a move that does what was done
 moved_by : (may_answer : ℕ → Bool → Type 0) (w : Worlded) (e : Event) (w' : Worlded) (move : Move) → May may_answer w move → Does (event_of w move) (after w move) e w' → Moves may_answer (step_of move) w e w'

@@ -1,10 +1,10 @@
 -- Each move keeps the numbers: of the tasks, of the accepted jobs, and of who holds which.
-use Rattle.std.proofs.Common.{◌≡◌, ⊎_elim, ℕ, zero, suc, ◌+◌, ◌-◌, ◌==◌, cond, List, [], ◌∷◌, length, length-append, Bool, true, false, refl, sym, ap, ◌∙◌, subst, arith, if◌then◌else◌, nat_lt, Option, Some, None, ◌&&◌, not}
-use Rattle.std.specs.Prelude.{slice_get, slice_set, is_some, filter, Ok, Err}
+use Rattle.std.proofs.Common.{◌≡◌, ⊎_elim, ℕ, zero, suc, ◌+◌, ◌-◌, ◌==◌, List, [], ◌∷◌, length, length-append, Bool, true, false, refl, sym, ap, ◌∙◌, subst, arith, if◌then◌else◌, nat_lt, Option, Some, None, ◌&&◌}
+use Rattle.std.specs.Prelude.{slice_get, slice_set, is_some, Ok, Err}
 use Rattle.std.specs.FinMap.{get, insert, remove}
 use Rattle.std.proofs.Math.ListN.{length-set}
 use Rattle.std.proofs.lemmas.Option.{slice_get_within}
-use Rattle.std.proofs.lemmas.Bool.{and_right, eqb-true}
+use Rattle.std.proofs.lemmas.Bool.{eqb-true}
 use Rattle.std.proofs.lemmas.Bool.Decides.{nat_tests}
 use Rattle.blocking_pool.specs.Jobs.{Job as Entry, Jobs, JobNumber, new_job, entry_after_take, entry_after_wake, entry_after_cancel, entry_with, jobs_after_change, value_at, job_of}
 use Rattle.blocking_pool.specs.Counts.{Counts}
@@ -17,29 +17,30 @@ use Rattle.blocking_pool.specs.declared.pool.answer.Woke.TheVariants.{Marked}
 use Rattle.blocking_pool.specs.declared.pool.standing.Standing.{Standing}
 use Rattle.blocking_pool.specs.declared.pool.standing.Standing.TheVariants.{Queued, Running}
 use Rattle.blocking_pool.specs.declared.pool.token.WorkerPass.{WorkerPass}
+use Rattle.blocking_lanes.proofs.ties.Holders.{tasks_stay}
 use Rattle.blocking_world.specs.Crews.{Accepts, Refuses, call_after_mark, pool_after_mark_of, after_wake, after_cancel}
 use Rattle.blocking_laws.specs.Growth.{IsPlanned}
-use Rattle.blocking_laws.specs.Jobs.{accepted_jobs, accepted_by, accepts, makes_a_task, tasks, holder, newcomer, standing, is_pool}
-use Rattle.blocking_world.specs.Machine.{after_wait, task_after_call, pool_after_call}
+use Rattle.blocking_laws.specs.Jobs.{accepted_jobs, accepted_by, accepts, tasks, holder, newcomer, standing}
+use Rattle.blocking_world.specs.Machine.{after_wait, pool_after_call}
 use Rattle.blocking_world.specs.Moves.{Move, Begins, Calls, TakesJob, Finishes, GivesUp, EndsTurn, HasWaited, IsWoken, IsStruck, May, after, moment_of, wakes_as, cancels_as}
 use Rattle.blocking_laws.specs.Seen.{joined, has_timed_out}
 use Rattle.blocking_world.specs.Ties.{Tied, Numbered, Filed, holder_of}
-use Rattle.blocking_world.specs.Worlds.{Worlded, CallPool, new_call, new_task, with_task, task_at, task_in, outcome_of}
+use Rattle.blocking_world.specs.Worlds.{Worlded, CallPool, new_call, with_task, task_at, task_in, outcome_of}
 use Rattle.blocking_world.proofs.Entries.{filed_stands, stands_over}
 use Rattle.blocking_world.proofs.Lookups.{job_put, job_out, call_alone, wake_alone, cancel_alone}
-use Rattle.blocking_world.proofs.Polls.{call_number}
 use Rattle.blocking_world.proofs.Quiet.{jobs_stay_at}
-use Rattle.blocking_world.proofs.Rows.{in_pushed}
 use Rattle.blocking_world.proofs.Tied.{some_held, in_hand_runs}
 use Rattle.blocking_world.specs.declared.call.CallJob.{CallJob}
 use Rattle.blocking_laws.specs.declared.event.Moment.{Moment}
 use Rattle.blocking_laws.specs.declared.event.Party.{Party}
 use Rattle.blocking_laws.specs.declared.event.Party.TheVariants.{Task as ByTask}
-use Rattle.blocking_world.specs.declared.task.Task.{Task}
 use Rattle.blocking_world.specs.declared.hand.Hand.{Hand}
 use Rattle.blocking_laws.specs.declared.step.TaskCall.{TaskCall}
 use Rattle.blocking_laws.specs.declared.step.TaskCall.TheVariants.{Poll, Cancel, Detach, Drop}
 use Rattle.blocking_core.specs.Slots.{Slot, after_put, after_give_up}
+use Rattle.blocking_lanes.specs.Tasks.{task_after_call, new_task, Task}
+use Rattle.blocking_lanes.proofs.acts.Calls.{call_number}
+use Rattle.blocking_lanes.proofs.Places.{in_pushed}
 
 -- ---- a new job
 
@@ -216,7 +217,7 @@ parts_stay may_answer w (Calls k call task) may brings = record {
 parts_stay may_answer w (TakesJob v old to_drop turn job growth pool) may brings =
     pool_changes w pool _ (ap (λ p. p.next_serial) may.1.after_is)
     (subst (KeepsPlaces w.pool.jobs) (sym (ap (λ p. p.jobs) may.1.after_is)) (put_places w.pool.jobs turn.serial (entry_after_take may.1.job) may.1.job may.1.found refl))
-parts_stay may_answer w (Finishes v in_hand) may brings = slot_changes w in_hand.turn.serial (after_put (task_at w.tasks in_hand.turn.serial).slot in_hand.job.number) _
+parts_stay may_answer w (Finishes v in_hand) may brings = slot_changes w in_hand.turn.serial (after_put (task_at w.tasks in_hand.turn.serial).slot in_hand.job.progress.number) _
 parts_stay may_answer w (GivesUp v in_hand) may brings = slot_changes w in_hand.turn.serial (after_give_up (task_at w.tasks in_hand.turn.serial).slot) _
 parts_stay may_answer w (EndsTurn v in_hand pass) may brings = pool_changes w _ _ refl (out_places w.pool.jobs in_hand.turn.serial)
 parts_stay may_answer w (HasWaited v pass end) may brings = wait_changes w v pass (must_stop (has_timed_out end) w.pool)
@@ -230,16 +231,11 @@ parts_stay may_answer w move may brings = record { long = refl; serial = refl; t
 
 -- ---- each move
 
-same_tasks : (past : List Moment) (now : Moment) → accepted_by now.event.act ≡ [] → tasks (now ∷ past) ≡ tasks past
-same_tasks past now brings =
-    let none : makes_a_task now.event ≡ false = and_right (is_pool now.event.party) (not (length (accepted_by now.event.act) == 0)) (ap (λ a. not (length a == 0)) brings) in
-    ap (λ b. length (cond b (now ∷ filter (λ m. makes_a_task m.event) past) (filter (λ m. makes_a_task m.event) past))) none
-
 -- a move that brings no job, and after which jobs stand somewhere that did before
 keeps_numbers : (w w' : Worlded) (past : List Moment) (now : Moment) → PartsStay w w' → accepted_by now.event.act ≡ [] → ((s : ℕ) → accepts s now.event.act ≡ false)
     → ((s : ℕ) → is_some (standing (now ∷ past) s) ≡ is_some (standing past s)) → Numbered w past → Numbered w' (now ∷ past)
 keeps_numbers w w' past now parts brings none stands old =
-    let same = same_tasks past now brings in
+    let same = tasks_stay past now brings in
     let jobs : accepted_jobs (now ∷ past) ≡ accepted_jobs past = ap (joined (accepted_jobs past)) brings in
     record {
       tasks_are = parts.long ∙ old.tasks_are ∙ sym same;

@@ -13,7 +13,7 @@ use Rattle.blocking_world.specs.declared.hand.Hand.{Hand}
 use Rattle.blocking_world.specs.declared.hand.Hand.TheVariants.{Out, Free, Holds}
 use Rattle.blocking_world.specs.declared.hand.JobInHand.{JobInHand}
 use Rattle.blocking_world.proofs.Hands.{IsAt, at_in_hand}
-use Rattle.blocking_world.proofs.Rows.{got_same, set_same}
+use Rattle.blocking_lanes.proofs.Places.{got_same, set_same}
 
 -- ---- one hand
 

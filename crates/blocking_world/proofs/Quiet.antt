@@ -19,7 +19,6 @@ use Rattle.blocking_world.specs.Ties.{Filed, Tied}
 use Rattle.blocking_world.specs.Worlds.{Worlded}
 use Rattle.blocking_world.proofs.Entries.{swept_same, sweep_enters}
 use Rattle.blocking_world.proofs.Lookups.{by_unentered}
-use Rattle.blocking_world.proofs.Polls.{by_call}
 use Rattle.blocking_world.proofs.Tied.{unparked, nothing_to_sweep, never_woken, never_struck}
 use Rattle.blocking_laws.specs.declared.event.Act.{Act}
 use Rattle.blocking_laws.specs.declared.event.Act.TheVariants.{Accepted, Refused, JobWoken, JobCancelled, LimitSet, Arrived, Took, TookDropped, Stays, Stopped, Ended}
@@ -27,6 +26,7 @@ use Rattle.blocking_laws.specs.declared.event.Moment.{Moment}
 use Rattle.blocking_laws.specs.declared.event.Party.{Party}
 use Rattle.blocking_laws.specs.declared.event.WaitEnd.{WaitEnd}
 use Rattle.blocking_laws.specs.declared.step.Step.{Step}
+use Rattle.blocking_lanes.proofs.acts.Calls.{by_call}
 
 -- a moment with this act
 abbrev pub seen_at : Step → Party → Option ℕ → Act → ℕ → Growth → Moment

@@ -8,7 +8,7 @@ use Rattle.blocking_laws.specs.Seen.{events, acts_of}
 use Rattle.blocking_laws.specs.Jobs.{is_cancelled, is_marked}
 use Rattle.blocking_laws.specs.Steps.{is_there}
 use Rattle.blocking_laws.specs.Turns.{Turn, turn, hand}
-use Rattle.blocking_world.specs.Worlds.{Worlded, CallPool, hand_at, with_hand, has_let_go, task_in}
+use Rattle.blocking_world.specs.Worlds.{Worlded, CallPool, hand_at, with_hand, task_in}
 use Rattle.blocking_world.specs.Crews.{NoneParked}
 use Rattle.blocking_world.specs.Machine.{free_hands}
 use Rattle.blocking_world.specs.Ties.{Handed, HandAs, InHandAs, ActedAs, let_go_in}
@@ -18,10 +18,10 @@ use Rattle.blocking_laws.specs.declared.event.Moment.{Moment}
 use Rattle.blocking_world.specs.declared.hand.Hand.{Hand}
 use Rattle.blocking_world.specs.declared.hand.Hand.TheVariants.{Out, Free, Holds}
 use Rattle.blocking_world.specs.declared.hand.JobInHand.{JobInHand}
-use Rattle.blocking_world.specs.declared.task.Task.{Task}
 use Rattle.blocking_world.proofs.Hands.{IsAt, at_in_hand, at_free, hand_from_place, hand_set, hand_pushed, hand_next, free_set, free_pushed}
-use Rattle.blocking_world.proofs.Rows.{got_before}
 use Rattle.blocking_world.proofs.Alike.{Kept}
+use Rattle.blocking_lanes.specs.Tasks.{has_let_go, Task}
+use Rattle.blocking_lanes.proofs.Places.{got_before}
 
 -- ---- tasks that let their calls go
 
@@ -147,7 +147,7 @@ in_hand_moves : (x y : Sight) (in_hand : JobInHand) → InHandHere x in_hand →
 in_hand_moves x y in_hand h t a g r le = record {
   as_is = record {
     turn_is = t ∙ h.as_is.turn_is;
-    acts_are = subst (λ (l : List Act). ActedAs in_hand.stage in_hand.job.core in_hand.job.number l) (sym a) h.as_is.acts_are;
+    acts_are = subst (λ (l : List Act). ActedAs in_hand.stage in_hand.job.progress.next in_hand.job.progress.number l) (sym a) h.as_is.acts_are;
     wanted = λ m. g (h.as_is.wanted m);
   };
   runs_is = r ∙ h.runs_is;

@@ -6,12 +6,12 @@ use Rattle.blocking_pool.specs.Jobs.{JobNumber}
 use Rattle.blocking_pool.specs.declared.pool.answer.Refusal.{Refusal}
 use Rattle.blocking_world.specs.Crews.{AddsTo}
 use Rattle.blocking_world.specs.Machine.{Spawns, added_act, tasks_after_add, seen, next_start}
-use Rattle.blocking_world.specs.Worlds.{Worlded, CallPool, new_task}
+use Rattle.blocking_world.specs.Worlds.{Worlded, CallPool}
 use Rattle.blocking_laws.specs.declared.event.Act.{Act}
 use Rattle.blocking_laws.specs.declared.event.Act.TheVariants.{Accepted, Refused}
 use Rattle.blocking_laws.specs.declared.event.Event.{Event}
 use Rattle.blocking_laws.specs.declared.event.Party.TheVariants.{Pool}
-use Rattle.blocking_world.specs.declared.task.Task.{Task}
+use Rattle.blocking_lanes.specs.Tasks.{new_task, Task}
 
 -- a task was put at the end
 pub put_last : {A B : Type 0} (r : Result A B) (old between new : List Task) (task : Task) → between ≡ old → is_ok r ≡ true → new ≡ (if is_ok r then between ++ task ∷ [] else between) → new ≡ old ++ task ∷ []

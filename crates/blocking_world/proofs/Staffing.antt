@@ -15,7 +15,7 @@ use Rattle.blocking_world.specs.Crews.{no_growth}
 use Rattle.blocking_world.specs.Worlds.{Worlded, CallPool, hand_at, with_hand, in_hand_after_answer, in_hand_after_finish, in_hand_after_give_up, in_hand_after_wake}
 use Rattle.blocking_laws.specs.Answers.{wait_act}
 use Rattle.blocking_world.specs.Machine.{next_start, one_if_free, free_hands, one_if_busy, busy_hands, after_wait}
-use Rattle.blocking_world.specs.Moves.{Move, Begins, Calls, Arrives, TakesJob, TakesNone, IsAnswered, Finishes, GivesUp, CallsWaker, EndsTurn, HasWaited, May, moment_of, after, finish_wakes, giving_up_wakes, first_stage, wait_step}
+use Rattle.blocking_world.specs.Moves.{Move, Begins, Calls, Arrives, TakesJob, TakesNone, IsAnswered, Finishes, GivesUp, CallsWaker, EndsTurn, HasWaited, May, moment_of, after, finishing_wakes, giving_up_wakes, first_stage, wait_step}
 use Rattle.blocking_world.specs.Ties.{HandAs, Handed, Tied, Holding}
 use Rattle.blocking_world.specs.declared.call.CallJob.{CallJob}
 use Rattle.blocking_laws.specs.declared.event.Moment.{Moment}
@@ -170,7 +170,7 @@ busy_after setting plan w past (TakesNone v old pass) t m same = hand_busy w pas
 busy_after setting plan w past (IsAnswered v in_hand number) t m same =
     hand_busy w past v (Holds in_hand) (Holds (in_hand_after_answer in_hand number)) (at_in_hand w.hands v in_hand m.0) refl same
 busy_after setting plan w past (Finishes v in_hand) t m same =
-    hand_busy w past v (Holds in_hand) (Holds (in_hand_after_finish in_hand (finish_wakes w in_hand))) (at_in_hand w.hands v in_hand m.0) refl same
+    hand_busy w past v (Holds in_hand) (Holds (in_hand_after_finish in_hand (finishing_wakes w in_hand))) (at_in_hand w.hands v in_hand m.0) refl same
 busy_after setting plan w past (GivesUp v in_hand) t m same =
     hand_busy w past v (Holds in_hand) (Holds (in_hand_after_give_up in_hand (giving_up_wakes w in_hand))) (at_in_hand w.hands v in_hand m.0) refl same
 busy_after setting plan w past (CallsWaker v in_hand) t m same = hand_busy w past v (Holds in_hand) (Holds (in_hand_after_wake in_hand)) (at_in_hand w.hands v in_hand m.0) refl same

@@ -22,11 +22,11 @@ use Rattle.blocking_laws.specs.Turns.{Turn, GoesOn, turn, hand}
 use Rattle.blocking_laws.specs.JobTable.{Calling, AskCall, Finish, WakeHolder, next_of_job}
 use Rattle.blocking_laws.specs.TaskLaws.{is_gone, was_cancelled, is_let_go}
 use Rattle.blocking_laws.specs.Steps.{is_there, WorkerAction as ActionInLaws, NoNext, Does, GivesUp as MustGive, EndsTurn as MustEnd, next_in_turn, next_with, next_of_worker, is_job_action, is_answered_action, is_turn_end, is_for_cancelled, may_call, may_cancel, has_action, named, party, job_of, IsOfTask, IsBegun, Fits, Happens, StepLaw}
-use Rattle.blocking_world.specs.Worlds.{Worlded, CallPool, outcome_of, next_of, next_at, hand_at, may_be, has_let_go, task_at, is_free_hand}
+use Rattle.blocking_world.specs.Worlds.{Worlded, CallPool, outcome_of, next_of, next_at, hand_at, task_at, is_free_hand}
 use Rattle.blocking_laws.specs.Answers.{wait_act}
-use Rattle.blocking_world.specs.Machine.{seen, next_start, was_accepted, added_act, task_act}
-use Rattle.blocking_world.specs.Moves.{Move, Idles, Begins, Calls, Arrives, TakesJob, TakesNone, IsAnswered, Finishes, GivesUp, CallsWaker, EndsTurn, HasWaited, SetsLimit, Sweeps, IsWoken, IsStruck, May, has_action_in, next_in, is_own, is_awaiting, is_ending, may_call_in, wait_step, finish_wakes, giving_up_wakes, wakes_as, cancels_as, moment_of}
-use Rattle.blocking_world.specs.Ties.{Tied, Numbered, Handed, Tasked, TaskAs, HandAs, InHandAs, ActedAs, turn_of, is_gone_as, CancelAs}
+use Rattle.blocking_world.specs.Machine.{seen, next_start, was_accepted, added_act}
+use Rattle.blocking_world.specs.Moves.{Move, Idles, Begins, Calls, Arrives, TakesJob, TakesNone, IsAnswered, Finishes, GivesUp, CallsWaker, EndsTurn, HasWaited, SetsLimit, Sweeps, IsWoken, IsStruck, May, has_action_in, next_in, is_own, is_awaiting, is_ending, may_call_in, wait_step, finishing_wakes, giving_up_wakes, wakes_as, cancels_as, moment_of}
+use Rattle.blocking_world.specs.Ties.{Tied, Numbered, Handed, HandAs, InHandAs, ActedAs, turn_of}
 use Rattle.blocking_laws.specs.declared.event.Act.{Act}
 use Rattle.blocking_laws.specs.declared.event.Act.TheVariants.{JobWoken, JobCancelled, LimitSet, Arrived, Took, TookDropped, TookNone, Stays, Stopped, Ended, Answered, Finished, GaveUp, HolderWoken, NoAction}
 use Rattle.blocking_laws.specs.declared.event.Event.{Event}
@@ -48,12 +48,14 @@ use Rattle.blocking_laws.specs.declared.step.Step.{Step}
 use Rattle.blocking_laws.specs.declared.step.Step.TheVariants.{Spawn, OfTask, Arrive, Take, Job, Io, End, Wait, Late, SetLimit, Sweep, Stray, Strike}
 use Rattle.blocking_laws.specs.declared.step.TaskCall.{TaskCall}
 use Rattle.blocking_laws.specs.declared.step.TaskCall.TheVariants.{Poll, Cancel, Detach, Drop}
-use Rattle.blocking_world.specs.declared.task.Task.{Task}
-use Rattle.blocking_world.specs.declared.task.TaskStage.{TaskStage}
-use Rattle.blocking_world.specs.declared.task.TaskStage.TheVariants as task_stage
-use Rattle.blocking_world.proofs.Cutting.{own_cut}
-use Rattle.blocking_world.proofs.Polls.{poll_so, call_plainly}
+use Rattle.blocking_lanes.specs.declared.task.TaskStage.{TaskStage}
+use Rattle.blocking_lanes.specs.declared.task.TaskStage.TheVariants as task_stage
+use Rattle.blocking_world.proofs.Tasks.{tie_of}
 use Rattle.blocking_world.proofs.Tied.{task_there, accepted_within, hand_seen}
+use Rattle.blocking_lanes.specs.Tasks.{may_be, has_let_go, task_act, Task}
+use Rattle.blocking_lanes.specs.Ties.{Tasked, TaskAs, is_gone_as, CancelAs}
+use Rattle.blocking_lanes.proofs.cuts.Acts.{own_cut}
+use Rattle.blocking_lanes.proofs.acts.Calls.{poll_so, call_plainly}
 
 -- ---- workers
 
@@ -84,7 +86,7 @@ stage_next stage.GaveUp next n acts (inl acted) = ap (λ a. next_in_turn (turn_o
 stage_next stage.GaveUp next n acts (inr acted) = ap (λ a. next_in_turn (turn_of stage.GaveUp) (next_of_job Calling a)) acted
 
 in_hand_next : (in_hand : JobInHand) (turns : Turn) (acts : List Act) (let_go : Bool) → InHandAs in_hand turns acts let_go → next_in_turn turns (next_of_job Calling acts) ≡ next_in_laws (Some (next_of in_hand))
-in_hand_next in_hand turns acts let_go h = ap (λ t. next_in_turn t (next_of_job Calling acts)) h.turn_is ∙ stage_next in_hand.stage in_hand.job.core in_hand.job.number acts h.acts_are
+in_hand_next in_hand turns acts let_go h = ap (λ t. next_in_turn t (next_of_job Calling acts)) h.turn_is ∙ stage_next in_hand.stage in_hand.job.progress.next in_hand.job.progress.number acts h.acts_are
 
 -- whose job a hand holds, and what its worker does next
 next_by_hand : (w : Worlded) (past : List Moment) (v : ℕ) → Handed w past → (h : Hand) → hand_at w.hands v ≡ h → HandAs h (is_there past v) (hand past v) → next_of_worker past v ≡ next_in_laws (next_in h)
@@ -140,13 +142,13 @@ none_there : (row : List Task) (k : ℕ) → slice_get row k ≡ None → (b : B
 none_there row k none true test = let some = task_there row k (ltb-true k (length row) test) in absurd (cc)
 none_there row k none false test = refl
 
-calls_by : (w : Worlded) (past : List Moment) (k : ℕ) (call : TaskCall) → Numbered w past → Tasked w past → (found : Option Task) → slice_get w.tasks k ≡ found
+calls_by : (w : Worlded) (past : List Moment) (k : ℕ) (call : TaskCall) → Numbered w past → Tasked w.tasks past → (found : Option Task) → slice_get w.tasks k ≡ found
     → may_call_in found call ≡ (nat_lt k (tasks past) && may_call (acts_of_task k (events past)) call)
 calls_by w past k call numbered tasked None found =
     sym (ap (λ n. nat_lt k n && may_call (acts_of_task k (events past)) call) (sym numbered.tasks_are)
     ∙ ap (λ b. b && may_call (acts_of_task k (events past)) call) (none_there w.tasks k found (nat_lt k (length w.tasks)) refl))
 calls_by w past k call numbered tasked (Some task) found =
-    task_may k task (events past) call (tasked.each k task found)
+    task_may k task (events past) call (tie_of w past k task numbered tasked found)
     ∙ sym (ap (λ n. nat_lt k n && may_call (acts_of_task k (events past)) call) (sym numbered.tasks_are)
     ∙ ap (λ b. b && may_call (acts_of_task k (events past)) call) (lt-ltb k (length w.tasks) (slice_get_within w.tasks k task found)))
 
@@ -164,18 +166,18 @@ stray_is : (w : Worlded) (past : List Moment) (s : ℕ) → Numbered w past → 
 stray_is w past s numbered =
     accepted_is w past s numbered ∙ some_if (nat_lt 0 s && nat_lt (s - 1) (tasks past)) (ByTask (s - 1)) ∙ ap is_some (sym (numbered.holders s))
 
-strike_if : (w : Worlded) (past : List Moment) (s : ℕ) → Tasked w past → (b : Bool) → (nat_lt 0 s && nat_lt (s - 1) (length w.tasks)) ≡ b
+strike_if : (w : Worlded) (past : List Moment) (s : ℕ) → Numbered w past → Tasked w.tasks past → (b : Bool) → (nat_lt 0 s && nat_lt (s - 1) (length w.tasks)) ≡ b
     → (b && has_let_go (task_at w.tasks s).stage) ≡ may_cancel (if b then Some (ByTask (s - 1)) else None) past
-strike_if w past s tasked false test = refl
-strike_if w past s tasked true test =
+strike_if w past s numbered tasked false test = refl
+strike_if w past s numbered tasked true test =
     let there = task_there w.tasks (s - 1) (accepted_within w s test).1 in
     let task = task_at w.tasks s in
-    let tie = tasked.each (s - 1) task there in
+    let tie = tie_of w past (s - 1) task numbered tasked there in
     sym tie.let_go ∙ ap is_let_go (own_cut (s - 1) (s - 1 + 1) (events past))
 
-strike_is : (w : Worlded) (past : List Moment) (s : ℕ) → Numbered w past → Tasked w past → (was_accepted w s && has_let_go (task_at w.tasks s).stage) ≡ may_cancel (holder past s) past
+strike_is : (w : Worlded) (past : List Moment) (s : ℕ) → Numbered w past → Tasked w.tasks past → (was_accepted w s && has_let_go (task_at w.tasks s).stage) ≡ may_cancel (holder past s) past
 strike_is w past s numbered tasked =
-    strike_if w past s tasked (was_accepted w s) refl
+    strike_if w past s numbered tasked (was_accepted w s) refl
     ∙ ap (λ b. may_cancel (if b then Some (ByTask (s - 1)) else None) past) (accepted_is w past s numbered)
     ∙ ap (λ h. may_cancel h past) (sym (numbered.holders s))
 
@@ -295,7 +297,7 @@ step_after setting plan w past (TakesNone v old pass) tied may = step_takes_none
 step_after setting plan w past (IsAnswered v in_hand n) tied may =
     record { act = happened past (Io v (Number n)) (Answered (Number n)) (has_due setting w past tied (Io v (Number n)) v in_hand is_awaiting refl may.0 may.1) refl refl; by = refl; of = sym (hand_tells w past v in_hand tied.handed may.0); owned = refl }
 step_after setting plan w past (Finishes v in_hand) tied may =
-    record { act = happened past (Job v) (Finished (waker_in (finish_wakes w in_hand))) (has_due setting w past tied (Job v) v in_hand is_own refl may.0 may.1) refl (refl, refl); by = refl; of = sym (hand_tells w past v in_hand tied.handed may.0); owned = refl }
+    record { act = happened past (Job v) (Finished (waker_in (finishing_wakes w in_hand))) (has_due setting w past tied (Job v) v in_hand is_own refl may.0 may.1) refl (refl, refl); by = refl; of = sym (hand_tells w past v in_hand tied.handed may.0); owned = refl }
 step_after setting plan w past (GivesUp v in_hand) tied may =
     record { act = happened past (Job v) (GaveUp (waker_in (giving_up_wakes w in_hand))) (has_due setting w past tied (Job v) v in_hand is_own refl may.0 may.1) refl (refl, refl); by = refl; of = sym (hand_tells w past v in_hand tied.handed may.0); owned = refl }
 step_after setting plan w past (CallsWaker v in_hand) tied may =

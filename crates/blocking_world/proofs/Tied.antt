@@ -27,7 +27,7 @@ use Rattle.blocking_laws.specs.declared.event.Party.TheVariants.{Task as ByTask}
 use Rattle.blocking_world.specs.declared.hand.Hand.{Hand}
 use Rattle.blocking_world.specs.declared.hand.Hand.TheVariants.{Holds}
 use Rattle.blocking_world.specs.declared.hand.JobInHand.{JobInHand}
-use Rattle.blocking_world.specs.declared.task.Task.{Task}
+use Rattle.blocking_lanes.specs.Tasks.{Task}
 
 -- ---- who holds a job
 

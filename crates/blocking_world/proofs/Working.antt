@@ -18,10 +18,10 @@ use Rattle.blocking_world.specs.declared.hand.WorkerAction.TheVariants as worker
 use Rattle.blocking_world.specs.declared.hand.Hand.{Hand}
 use Rattle.blocking_world.specs.declared.hand.Hand.TheVariants.{Out, Free, Holds}
 use Rattle.blocking_world.specs.declared.hand.JobInHand.{JobInHand}
-use Rattle.blocking_world.specs.declared.task.Task.{Task}
 use Rattle.blocking_world.proofs.Hands.{at_in_hand}
 use Rattle.blocking_world.proofs.Passing.{in_hand_is, lent_as_was, nothing_done}
 use Rattle.blocking_laws.specs.Seats.{waker_in}
+use Rattle.blocking_lanes.specs.Tasks.{Task}
 
 -- what is in a hand is of a task that is there
 pub in_hand_there : (w : Worlded) (v : ℕ) (in_hand : JobInHand) → IsReady w → Some in_hand ≡ job_in (hand_at w.hands v) → IsInHand w in_hand
@@ -61,7 +61,7 @@ work_rests w v {first} {e} {in_hand} {d} {hands} holds is idle put start event =
 -- the job puts its result
 pub work_finishes : (w : Worlded) (v : ℕ) {first serial k number : ℕ} {e : Event} {w' : Worlded} {act : Act} {in_hand in_hand' : JobInHand} {wake : Bool} {task task' : Task} {hands : List Hand}
     → Some in_hand ≡ job_in (hand_at w.hands v) → worker_action.Finish ≡ next_of in_hand
-    → serial ≡ in_hand.turn.serial → number ≡ in_hand.job.number → k ≡ in_hand.turn.serial - 1 → k < length w.tasks → task ≡ slice_index_or w.tasks k task
+    → serial ≡ in_hand.turn.serial → number ≡ in_hand.job.progress.number → k ≡ in_hand.turn.serial - 1 → k < length w.tasks → task ≡ slice_index_or w.tasks k task
     → wake ≡ is_some (put_in task.slot number).wake → task' ≡ record task { slot = after_put task.slot number } → in_hand' ≡ in_hand_after_finish in_hand wake
     → hands ≡ with_hand w.hands v (Holds in_hand') → act ≡ Finished (waker_in wake) → w' ≡ record w { tasks = slice_set w.tasks k task'; hands = hands }
     → first ≡ next_start w → e ≡ seen (Worker v) (Some serial) act first no_growth → WorksWith (hand_at w.hands v) w v e w'

@@ -1,25 +1,25 @@
 -- What each step does to the parts of a world, and what is seen of it.
-use Rattle.std.specs.Prelude.{◌≡◌, ◌<◌, ◌==◌, ◌+◌, ◌-◌, nat_lt, ℕ, Bool, true, false, ◌&&◌, if◌then◌else◌, List, [], ◌∷◌, ◌++◌, length, slice_get, slice_set, Option, Some, None, is_some, Result, Ok, Err}
+use Rattle.std.specs.Prelude.{◌≡◌, ◌<◌, ◌==◌, ◌+◌, ◌-◌, nat_lt, ℕ, Bool, true, false, ◌&&◌, if◌then◌else◌, List, [], ◌∷◌, ◌++◌, length, slice_get, slice_set, Option, Some, None, Result, Ok, Err}
 use Rattle.blocking_pool.specs.Counts.{after_arrival, after_limit}
 use Rattle.blocking_pool.specs.Growth.{Growth}
 use Rattle.blocking_pool.specs.Jobs.{JobNumber, standing_of, is_running_as}
 use Rattle.blocking_pool.specs.PoolAnswers.{must_stop, is_empty}
 use Rattle.blocking_pool.specs.Counts.{after_stop}
 use Rattle.blocking_pool.specs.Pools.{without_job}
-use Rattle.blocking_core.specs.Slots.{after_put, put_in, after_give_up, waker_of_give_up}
+use Rattle.blocking_lanes.specs.Tasks.{Task, new_task, may_be, has_let_go, task_act, task_after_call, finish_wakes, task_after_finish, give_up_wakes, task_after_give_up}
 use Rattle.blocking_pool.specs.Wakes.{wake_of, cancel_of}
 use Rattle.blocking_pool.specs.declared.pool.answer.Refusal.{Refusal}
 use Rattle.blocking_pool.specs.declared.pool.answer.Took.{Took}
 use Rattle.blocking_pool.specs.declared.pool.answer.Took.TheVariants.{Run, Drop as TakeToDrop, Idle}
 use Rattle.blocking_pool.specs.declared.pool.token.WorkerPass.{WorkerPass}
 use Rattle.blocking_world.specs.Crews.{AddsTo, TakesTo, NoneParked, no_growth, pool_after_mark, after_wake, after_cancel}
-use Rattle.blocking_world.specs.Worlds.{Worlded, CallPool, next_of, outcome_of, in_hand_after_answer, in_hand_after_finish, in_hand_after_give_up, in_hand_after_wake, hand_at, with_hand, new_task, may_be, has_let_go, poll_of, task_after_poll, task_after_cancel, task_after_detach, task_after_drop, task_at, with_task}
+use Rattle.blocking_world.specs.Worlds.{Worlded, CallPool, next_of, outcome_of, in_hand_after_answer, in_hand_after_finish, in_hand_after_give_up, in_hand_after_wake, hand_at, with_hand, task_at, with_task}
 use Rattle.blocking_world.specs.declared.call.CallJob.{CallJob}
 use Rattle.blocking_laws.specs.Seats.{waker_in}
 use Rattle.blocking_laws.specs.Seen.{has_timed_out}
 use Rattle.blocking_laws.specs.Answers.{wait_act}
 use Rattle.blocking_laws.specs.declared.event.Act.{Act}
-use Rattle.blocking_laws.specs.declared.event.Act.TheVariants.{Accepted, Refused, JobWoken, JobCancelled, LimitSet, Swept, TaskCancelled, TaskDetached, HolderDropped, Arrived, Took as TookToRun, TookDropped, TookNone, Ended, Answered, Finished, GaveUp, HolderWoken, NoAction}
+use Rattle.blocking_laws.specs.declared.event.Act.TheVariants.{Accepted, Refused, JobWoken, JobCancelled, LimitSet, Swept, Arrived, Took as TookToRun, TookDropped, TookNone, Ended, Answered, Finished, GaveUp, HolderWoken, NoAction}
 use Rattle.blocking_laws.specs.declared.event.Event.{Event}
 use Rattle.blocking_laws.specs.declared.event.Party.{Party}
 use Rattle.blocking_laws.specs.declared.event.Party.TheVariants.{Task as ByTask, Worker, Pool}
@@ -37,7 +37,6 @@ use Rattle.blocking_laws.specs.declared.step.Step.{Step}
 use Rattle.blocking_laws.specs.declared.step.Step.TheVariants.{Spawn, OfTask, Arrive, Take, Job, Io, End, Wait, Late, SetLimit, Sweep, Stray, Strike}
 use Rattle.blocking_laws.specs.declared.step.TaskCall.{TaskCall}
 use Rattle.blocking_laws.specs.declared.step.TaskCall.TheVariants.{Poll, Cancel, Detach, Drop}
-use Rattle.blocking_world.specs.declared.task.Task.{Task}
 
 -- ---- what is seen
 
@@ -84,21 +83,7 @@ pub record Spawns (may_answer : ℕ → Bool → Type 0) (w : Worlded) (e : Even
 
 -- ---- a task is called
 
--- what is seen of a call of a task
-abbrev pub task_act : TaskCall → Task → Act
-task_act Poll task = poll_of task
-task_act Cancel task = TaskCancelled
-task_act Detach task = TaskDetached
-task_act Drop task = HolderDropped
-
--- the task after it
-abbrev pub task_after_call : TaskCall → Task → Task
-task_after_call Poll task = task_after_poll task
-task_after_call Cancel task = task_after_cancel task
-task_after_call Detach task = task_after_detach task
-task_after_call Drop task = task_after_drop task
-
--- the pool after it: a task that lets its call go marks it
+-- the pool after a call of a task: one that lets its call go marks it
 abbrev pub pool_after_call : TaskCall → CallPool → JobNumber → CallPool
 pool_after_call Poll pool number = pool
 pool_after_call Cancel pool number = pool_after_mark pool number
@@ -190,18 +175,18 @@ Works worker_action.Await w v in_hand e w' = DoesNothing (Worker v) w e w'
 Works worker_action.End w v in_hand e w' = DoesNothing (Worker v) w e w'
 Works worker_action.Finish w v in_hand e w' =
     (let task = task_at w.tasks in_hand.turn.serial in
-    let wake = is_some (put_in task.slot in_hand.job.number).wake in
+    let wake = finish_wakes task in_hand.job.progress.number in
     Does (seen (Worker v) (Some in_hand.turn.serial) (Finished (waker_in wake)) (next_start w) no_growth)
     (record w {
-      tasks = with_task w.tasks in_hand.turn.serial (record task { slot = after_put task.slot in_hand.job.number });
+      tasks = with_task w.tasks in_hand.turn.serial (task_after_finish task in_hand.job.progress.number);
       hands = with_in_hand w v (in_hand_after_finish in_hand wake);
     }) e w')
 Works worker_action.GiveUp w v in_hand e w' =
     (let task = task_at w.tasks in_hand.turn.serial in
-    let wake = is_some (waker_of_give_up task.slot) in
+    let wake = give_up_wakes task in
     Does (seen (Worker v) (Some in_hand.turn.serial) (GaveUp (waker_in wake)) (next_start w) no_growth)
     (record w {
-      tasks = with_task w.tasks in_hand.turn.serial (record task { slot = after_give_up task.slot });
+      tasks = with_task w.tasks in_hand.turn.serial (task_after_give_up task);
       hands = with_in_hand w v (in_hand_after_give_up in_hand wake);
     }) e w')
 Works worker_action.Wake w v in_hand e w' =

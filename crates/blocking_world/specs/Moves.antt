@@ -1,22 +1,22 @@
 -- The moves of a world: each step that has an action is one of them, and each is seen as one event. A move bears what its
 -- event doesn't tell.
-use Rattle.std.specs.Prelude.{◌≡◌, ◌<◌, ◌==◌, ◌+◌, nat_lt, not, ℕ, Bool, true, false, ◌&&◌, [], ◌∷◌, ◌++◌, length, slice_get, slice_set, Option, Some, None, is_some, Result}
+use Rattle.std.specs.Prelude.{◌≡◌, ◌<◌, ◌==◌, ◌+◌, nat_lt, not, ℕ, Bool, true, false, ◌&&◌, [], ◌∷◌, ◌++◌, length, slice_get, slice_set, Option, Some, None, Result}
 use Rattle.blocking_pool.specs.Counts.{after_arrival, after_limit}
 use Rattle.blocking_pool.specs.Growth.{Growth}
 use Rattle.blocking_pool.specs.Jobs.{JobNumber, standing_of}
 use Rattle.blocking_pool.specs.PoolAnswers.{must_stop}
 use Rattle.blocking_pool.specs.Pools.{without_job}
-use Rattle.blocking_core.specs.Slots.{after_put, put_in, after_give_up, waker_of_give_up}
+use Rattle.blocking_lanes.specs.Tasks.{finish_wakes, task_after_finish, give_up_wakes, task_after_give_up, may_be, has_let_go, task_act, task_after_call, Task}
 use Rattle.blocking_pool.specs.Wakes.{wake_of, cancel_of}
 use Rattle.blocking_pool.specs.declared.pool.answer.Refusal.{Refusal}
 use Rattle.blocking_pool.specs.declared.pool.answer.Woke.{Woke}
 use Rattle.blocking_pool.specs.declared.pool.token.WorkerPass.{WorkerPass}
 use Rattle.blocking_world.specs.Crews.{AddsTo, TakesFront, no_growth, after_wake, after_cancel}
-use Rattle.blocking_world.specs.Worlds.{Worlded, CallPool, next_of, outcome_of, in_hand_after_answer, in_hand_after_finish, in_hand_after_give_up, in_hand_after_wake, hand_at, with_hand, is_free_hand, may_be, has_let_go, task_at, with_task}
+use Rattle.blocking_world.specs.Worlds.{Worlded, CallPool, next_of, outcome_of, in_hand_after_answer, in_hand_after_finish, in_hand_after_give_up, in_hand_after_wake, hand_at, with_hand, is_free_hand, task_at, with_task}
 use Rattle.blocking_laws.specs.Seats.{waker_in}
 use Rattle.blocking_laws.specs.Seen.{has_timed_out}
 use Rattle.blocking_laws.specs.Answers.{wait_act}
-use Rattle.blocking_world.specs.Machine.{next_start, seen, nothing, added_act, tasks_after_add, task_act, task_after_call, pool_after_call, after_wait, with_in_hand, was_accepted}
+use Rattle.blocking_world.specs.Machine.{next_start, seen, nothing, added_act, tasks_after_add, pool_after_call, after_wait, with_in_hand, was_accepted}
 use Rattle.blocking_laws.specs.Steps.{named}
 use Rattle.blocking_world.specs.declared.call.CallJob.{CallJob}
 use Rattle.blocking_laws.specs.declared.event.Act.{Act}
@@ -37,7 +37,6 @@ use Rattle.blocking_laws.specs.declared.step.Answer.TheVariants.{Number}
 use Rattle.blocking_laws.specs.declared.step.Step.{Step}
 use Rattle.blocking_laws.specs.declared.step.Step.TheVariants.{Spawn, OfTask, Arrive, Take, Job, Io, End, Wait, Late, SetLimit, Sweep, Stray, Strike}
 use Rattle.blocking_laws.specs.declared.step.TaskCall.{TaskCall}
-use Rattle.blocking_world.specs.declared.task.Task.{Task}
 
 pub data Move : Type 0 where
   -- the step has no action
@@ -110,12 +109,12 @@ first_stage false = stage.Runs
 first_stage true = stage.MustGiveUp
 
 -- whether the finish of this job takes the waker of its task
-abbrev pub finish_wakes : Worlded → JobInHand → Bool
-finish_wakes w in_hand = is_some (put_in (task_at w.tasks in_hand.turn.serial).slot in_hand.job.number).wake
+abbrev pub finishing_wakes : Worlded → JobInHand → Bool
+finishing_wakes w in_hand = finish_wakes (task_at w.tasks in_hand.turn.serial) in_hand.job.progress.number
 
 -- whether the job takes the waker of its task where it gives up
 abbrev pub giving_up_wakes : Worlded → JobInHand → Bool
-giving_up_wakes w in_hand = is_some (waker_of_give_up (task_at w.tasks in_hand.turn.serial).slot)
+giving_up_wakes w in_hand = give_up_wakes (task_at w.tasks in_hand.turn.serial)
 
 -- what a wake does to job s
 abbrev pub wakes_as : Worlded → ℕ → Woke
@@ -134,7 +133,7 @@ event_of w (Arrives pass) = seen (Worker (length w.hands + 1)) None (Arrived (le
 event_of w (TakesJob v old to_drop turn job growth pool) = seen (Worker v) (Some turn.serial) (took to_drop turn.serial) (next_start w) growth
 event_of w (TakesNone v old pass) = seen (Worker v) None TookNone (next_start w) no_growth
 event_of w (IsAnswered v in_hand number) = seen (Worker v) (Some in_hand.turn.serial) (Answered (Number number)) (next_start w) no_growth
-event_of w (Finishes v in_hand) = seen (Worker v) (Some in_hand.turn.serial) (Finished (waker_in (finish_wakes w in_hand))) (next_start w) no_growth
+event_of w (Finishes v in_hand) = seen (Worker v) (Some in_hand.turn.serial) (Finished (waker_in (finishing_wakes w in_hand))) (next_start w) no_growth
 event_of w (GivesUp v in_hand) = seen (Worker v) (Some in_hand.turn.serial) (GaveUp (waker_in (giving_up_wakes w in_hand))) (next_start w) no_growth
 event_of w (CallsWaker v in_hand) = seen (Worker v) (Some in_hand.turn.serial) HolderWoken (next_start w) no_growth
 event_of w (EndsTurn v in_hand pass) = seen (Worker v) (Some in_hand.turn.serial) (Ended in_hand.turn.serial (outcome_of in_hand.stage)) (next_start w) no_growth
@@ -160,12 +159,12 @@ after w (TakesNone v old pass) = record w { hands = with_hand w.hands v (Free pa
 after w (IsAnswered v in_hand number) = record w { hands = with_in_hand w v (in_hand_after_answer in_hand number) }
 after w (Finishes v in_hand) =
     record w {
-      tasks = with_task w.tasks in_hand.turn.serial (record (task_at w.tasks in_hand.turn.serial) { slot = after_put (task_at w.tasks in_hand.turn.serial).slot in_hand.job.number });
-      hands = with_in_hand w v (in_hand_after_finish in_hand (finish_wakes w in_hand));
+      tasks = with_task w.tasks in_hand.turn.serial (task_after_finish (task_at w.tasks in_hand.turn.serial) in_hand.job.progress.number);
+      hands = with_in_hand w v (in_hand_after_finish in_hand (finishing_wakes w in_hand));
     }
 after w (GivesUp v in_hand) =
     record w {
-      tasks = with_task w.tasks in_hand.turn.serial (record (task_at w.tasks in_hand.turn.serial) { slot = after_give_up (task_at w.tasks in_hand.turn.serial).slot });
+      tasks = with_task w.tasks in_hand.turn.serial (task_after_give_up (task_at w.tasks in_hand.turn.serial));
       hands = with_in_hand w v (in_hand_after_give_up in_hand (giving_up_wakes w in_hand));
     }
 after w (CallsWaker v in_hand) = record w { hands = with_in_hand w v (in_hand_after_wake in_hand) }

@@ -1,35 +1,28 @@
 -- How the parts of a world hang together with what was seen.
-use Rattle.std.specs.Prelude.{◌≡◌, ◌<◌, ◌≤◌, ◌+◌, ◌-◌, nat_lt, min, ℕ, Bool, true, false, ◌&&◌, ◌||◌, ◌⊎◌, if◌then◌else◌, List, [], ◌∷◌, ◌++◌, length, slice_get, Option, Some, None, is_some}
+use Rattle.std.specs.Prelude.{◌≡◌, ◌<◌, ◌+◌, ◌-◌, nat_lt, min, ℕ, Bool, true, false, ◌&&◌, ◌||◌, ◌⊎◌, if◌then◌else◌, List, [], ◌∷◌, ◌++◌, length, slice_get, Option, Some, None, is_some}
 use Rattle.std.specs.FinMap.{get}
 use Rattle.blocking_pool.specs.Counts.{limit_of}
 use Rattle.blocking_pool.specs.Growth.{greatest}
 use Rattle.blocking_pool.specs.Jobs.{Job as Entry}
 use Rattle.blocking_pool.specs.Lists.{is_in, IsOnce}
-use Rattle.blocking_core.specs.SlotAnswers.{IsPending}
-use Rattle.blocking_core.specs.Slots.{Content, Empty, Full, GivenUp, Abandoned}
 use Rattle.blocking_core.specs.declared.job.Action.{Action}
-use Rattle.blocking_core.specs.declared.job.Action.TheVariants as action
 use Rattle.blocking_pool.specs.declared.pool.standing.Standing.{Standing}
 use Rattle.blocking_pool.specs.declared.pool.standing.Standing.TheVariants.{Queued, Running, Parked, Done, Dropped}
-use Rattle.blocking_laws.specs.Seen.{events, acts_of, own, task_cut}
+use Rattle.blocking_laws.specs.Seen.{events, acts_of}
 use Rattle.blocking_laws.specs.Jobs.{accepted_jobs, tasks, holder, is_queued, is_running, standing, is_woken, is_cancelled, is_marked, has_ended}
 use Rattle.blocking_laws.specs.Queue.{queue, entries, takes, running}
 use Rattle.blocking_laws.specs.Counts.{starts, stops, refused_starts, arrivals, limit}
 use Rattle.blocking_laws.specs.Growth.{known_limit}
 use Rattle.blocking_laws.specs.Turns.{Turn, GoesOn, MustGiveUp, HasGivenUp, turn, hand}
-use Rattle.blocking_laws.specs.JobTable.{number, has_finished, has_given_up}
-use Rattle.blocking_laws.specs.Seats.{task_seat}
-use Rattle.blocking_laws.specs.TaskLaws.{is_gone, was_cancelled, is_let_go, is_in_time}
-use Rattle.blocking_laws.specs.Wakes.{is_waiting, was_woken}
+use Rattle.blocking_laws.specs.JobTable.{has_finished, has_given_up}
 use Rattle.blocking_laws.specs.Staffed.{passes, turns}
 use Rattle.blocking_laws.specs.Steps.{is_there}
-use Rattle.blocking_world.specs.Worlds.{Worlded, new_call, hand_at, has_let_go}
+use Rattle.blocking_world.specs.Worlds.{Worlded, new_call, hand_at}
 use Rattle.blocking_laws.specs.Legal.{Legal}
 use Rattle.blocking_world.specs.Machine.{IsReady, free_hands, busy_hands}
 use Rattle.blocking_world.specs.declared.call.CallJob.{CallJob}
 use Rattle.blocking_laws.specs.declared.event.Act.{Act}
-use Rattle.blocking_laws.specs.declared.event.Act.TheVariants.{Answered, Finished, GaveUp, HolderWoken}
-use Rattle.blocking_laws.specs.declared.event.Event.{Event}
+use Rattle.blocking_laws.specs.declared.event.Act.TheVariants.{GaveUp, HolderWoken}
 use Rattle.blocking_laws.specs.declared.event.Moment.{Moment}
 use Rattle.blocking_laws.specs.declared.event.Party.{Party}
 use Rattle.blocking_laws.specs.declared.event.Party.TheVariants.{Task as ByTask}
@@ -39,10 +32,9 @@ use Rattle.blocking_world.specs.declared.hand.Hand.TheVariants.{Out, Free, Holds
 use Rattle.blocking_world.specs.declared.hand.JobInHand.{JobInHand}
 use Rattle.blocking_world.specs.declared.hand.Stage.{Stage}
 use Rattle.blocking_world.specs.declared.hand.Stage.TheVariants as stage
-use Rattle.blocking_laws.specs.declared.step.Answer.TheVariants.{Number}
-use Rattle.blocking_world.specs.declared.task.Task.{Task}
-use Rattle.blocking_world.specs.declared.task.TaskStage.{TaskStage}
-use Rattle.blocking_world.specs.declared.task.TaskStage.TheVariants as task_stage
+use Rattle.blocking_lanes.specs.Tasks.{Task, has_let_go}
+use Rattle.blocking_lanes.specs.Ties.{Tasked}
+use Rattle.blocking_lanes.specs.Calls.{RanAs}
 
 -- ---- jobs and tasks are numbered together
 
@@ -132,13 +124,6 @@ turn_of stage.MustGiveUp = MustGiveUp
 turn_of stage.MustWake = HasGivenUp
 turn_of stage.GaveUp = HasGivenUp
 
--- what a job that runs has done so far, by its next action
-abbrev pub RanAs : Action → ℕ → List Act → Type 0
-RanAs action.Call n acts = acts ≡ []
-RanAs action.Finish n acts = acts ≡ Answered (Number n) ∷ []
-RanAs action.Deliver n acts = acts ≡ Finished Taken ∷ Answered (Number n) ∷ []
-RanAs action.Done n acts = (acts ≡ Finished Absent ∷ Answered (Number n) ∷ []) ⊎ (acts ≡ HolderWoken ∷ Finished Taken ∷ Answered (Number n) ∷ [])
-
 -- what a job in a hand has done so far
 abbrev pub ActedAs : Stage → Action → ℕ → List Act → Type 0
 ActedAs stage.Runs next n acts = RanAs next n acts
@@ -149,7 +134,7 @@ ActedAs stage.GaveUp next n acts = (acts ≡ GaveUp Absent ∷ []) ⊎ (acts ≡
 -- A job in a hand, by what was seen of it. One that is to be dropped was let go.
 pub record InHandAs (in_hand : JobInHand) (turns : Turn) (acts : List Act) (let_go : Bool) : Type 0 where
   pub turn_is : turns ≡ turn_of in_hand.stage
-  pub acts_are : ActedAs in_hand.stage in_hand.job.core in_hand.job.number acts
+  pub acts_are : ActedAs in_hand.stage in_hand.job.progress.next in_hand.job.progress.number acts
   pub wanted : in_hand.stage ≡ stage.MustGiveUp → let_go ≡ true
 
 abbrev pub let_go_in : Option Task → Bool
@@ -165,61 +150,6 @@ pub record Handed (w : Worlded) (past : List Moment) : Type 0 where
   -- only the job of a task that let it go is marked or cancelled
   pub marks : (s : ℕ) → is_marked past s || is_cancelled past s ≡ true → let_go_in (slice_get w.tasks (s - 1)) ≡ true
 
--- ---- the tasks
-
--- what a task that is awaited finds in its slot, by whether its job finished or gave up, whether that was in time, and the number
-abbrev pub AwaitedAs : Content ℕ → Bool → Bool → Bool → ℕ → Type 0
-AwaitedAs Empty finished given_up in_time n = (finished ≡ false) × (given_up ≡ false) × (in_time ≡ false)
-AwaitedAs (Full m) finished given_up in_time n = (finished ≡ true) × (in_time ≡ true) × (m ≡ n)
-AwaitedAs GivenUp finished given_up in_time n = (finished ≡ false) × (given_up ≡ true) × (in_time ≡ false)
-AwaitedAs (Abandoned over) finished given_up in_time n = ⊥
-
--- what the cancel found
-abbrev pub FoundAs : Option ℕ → Bool → ℕ → Type 0
-FoundAs None in_time n = in_time ≡ false
-FoundAs (Some m) in_time n = (in_time ≡ true) × (m ≡ n)
-
--- what a cancelled task finds in its slot
-abbrev pub CancelledAs : Content ℕ → Option ℕ → Bool → Bool → Bool → ℕ → Type 0
-CancelledAs (Abandoned over) found finished given_up in_time n = (finished || given_up ≡ over) × FoundAs found in_time n
-CancelledAs _ found finished given_up in_time n = ⊥
-
-abbrev pub SlotAs : TaskStage → Content ℕ → Option ℕ → Bool → Bool → Bool → ℕ → Type 0
-SlotAs task_stage.Attached content found finished given_up in_time n = AwaitedAs content finished given_up in_time n
-SlotAs task_stage.Cancelled content found finished given_up in_time n = CancelledAs content found finished given_up in_time n
-SlotAs task_stage.Gone content found finished given_up in_time n = finished || given_up ≡ false → IsPending content
-SlotAs task_stage.LetGo content found finished given_up in_time n = finished || given_up ≡ false → IsPending content
-
--- whether a task is gone
-abbrev pub is_gone_as : TaskStage → Bool
-is_gone_as task_stage.Gone = true
-is_gone_as task_stage.LetGo = true
-is_gone_as _ = false
-
--- whether a task that isn't gone was cancelled
-abbrev pub CancelAs : TaskStage → Bool → Type 0
-CancelAs task_stage.Attached was = was ≡ false
-CancelAs task_stage.Cancelled was = was ≡ true
-CancelAs _ was = Unit {0}
-
--- A task by its cut: what it did itself, and what its job did.
-pub record TaskAs (task : Task) (s : ℕ) (cut : List Event) : Type 0 where
-  pub gone : is_gone (own cut) ≡ is_gone_as task.stage
-  pub cancel : CancelAs task.stage (was_cancelled (own cut))
-  pub let_go : is_let_go (own cut) ≡ has_let_go task.stage
-  pub seat : task_seat cut ≡ is_some task.slot.seat
-  pub slot :
-      SlotAs task.stage task.slot.content task.found (has_finished (acts_of s cut)) (has_given_up (acts_of s cut)) (is_in_time cut) (number (acts_of s cut))
-  -- a task that waits was woken, or sits in its seat and its job goes on
-  pub told :
-      is_waiting (own cut) ≡ true
-      → (was_woken cut ≡ true) ⊎ ((task_seat cut ≡ true) × (has_finished (acts_of s cut) || has_given_up (acts_of s cut) ≡ false))
-
-pub record Tasked (w : Worlded) (past : List Moment) : Type 0 where
-  pub each : (k : ℕ) (task : Task) → slice_get w.tasks k ≡ Some task → TaskAs task (k + 1) (task_cut k (k + 1) (events past))
-  -- nothing was seen yet of a task that isn't there
-  pub unborn : (k : ℕ) → length w.tasks ≤ k → task_cut k (k + 1) (events past) ≡ []
-
 -- ---- all of it
 
 pub record Tied (setting : ℕ) (w : Worlded) (past : List Moment) : Type 0 where
@@ -228,7 +158,7 @@ pub record Tied (setting : ℕ) (w : Worlded) (past : List Moment) : Type 0 wher
   pub lined : Lined w past
   pub counted : Counted setting w past
   pub handed : Handed w past
-  pub tasked : Tasked w past
+  pub tasked : Tasked w.tasks past
 
 -- What the workers hold: as many passes and as many turns as were seen to be held, and one turn for each running job.
 pub record Holding (w : Worlded) (past : List Moment) : Type 0 where

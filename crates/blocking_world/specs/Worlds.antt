@@ -1,22 +1,16 @@
 -- The parts of a world as contracts see them: jobs, hands and tasks, and what each small step does to one of them.
 use Rattle.std.specs.Prelude.{ℕ, Bool, true, false, ◌==◌, ◌-◌, if◌then◌else◌, List, slice_get, slice_set, refl, Option, Some, None}
 use Rattle.std.specs.Coded.{Coded, code_by, coded×, coded_list}
-use Rattle.blocking_core.specs.Cores.{call_after}
-use Rattle.blocking_pool.specs.Jobs.{JobNumber}
 use Rattle.blocking_pool.specs.Pools.{Pool, pool_code}
-use Rattle.blocking_core.specs.Slots.{Content, Empty, Full, GivenUp, Abandoned, empty_slot, after_abandon, value_in}
 use Rattle.blocking_core.specs.declared.job.Action.{Action}
 use Rattle.blocking_core.specs.declared.job.Action.TheVariants as action
-use Rattle.blocking_core.specs.declared.job.Answer.TheVariants as answer
 use Rattle.blocking_pool.specs.declared.pool.standing.Standing.{Standing}
 use Rattle.blocking_pool.specs.declared.pool.standing.Standing.TheVariants.{Done, Dropped}
 use Rattle.blocking_pool.specs.declared.pool.token.WorkerPass.{WorkerPass}
 use Rattle.blocking_world.specs.contracts.call.CallJob.{the_row as calls}
 use Rattle.blocking_world.specs.contracts.hand.Hand.{the_row as hands}
-use Rattle.blocking_world.specs.contracts.task.Task.{the_row as tasks}
+use Rattle.blocking_lanes.specs.contracts.task.Task.{the_row as tasks}
 use Rattle.blocking_world.specs.declared.call.CallJob.{CallJob}
-use Rattle.blocking_laws.specs.declared.event.Act.{Act}
-use Rattle.blocking_laws.specs.declared.event.Act.TheVariants.{Waits, TaskGot, TaskGotNone}
 use Rattle.blocking_world.specs.declared.hand.WorkerAction.{WorkerAction}
 use Rattle.blocking_world.specs.declared.hand.WorkerAction.TheVariants as worker_action
 use Rattle.blocking_world.specs.declared.hand.Hand.{Hand}
@@ -24,11 +18,8 @@ use Rattle.blocking_world.specs.declared.hand.Hand.TheVariants.{Out, Free, Holds
 use Rattle.blocking_world.specs.declared.hand.JobInHand.{JobInHand}
 use Rattle.blocking_world.specs.declared.hand.Stage.{Stage}
 use Rattle.blocking_world.specs.declared.hand.Stage.TheVariants as stage
-use Rattle.blocking_world.specs.declared.task.Task.{Task}
-use Rattle.blocking_world.specs.declared.task.TaskStage.{TaskStage}
-use Rattle.blocking_world.specs.declared.task.TaskStage.TheVariants as task_stage
-use Rattle.blocking_laws.specs.declared.step.TaskCall.{TaskCall}
-use Rattle.blocking_laws.specs.declared.step.TaskCall.TheVariants.{Poll, Drop}
+use Rattle.blocking_lanes.specs.Tasks.{Task, new_task}
+use Rattle.blocking_lanes.specs.Calls.{not_begun, progress_after_answer, progress_after_finish, progress_after_wake}
 
 -- a pool of calls
 abbrev pub CallPool : Type 0
@@ -52,7 +43,7 @@ worlded_code =
 
 -- a call that hasn't been made
 abbrev pub new_call : CallJob
-new_call = record { core = action.Call; number = 0; is_marked = false }
+new_call = record { progress = not_begun; is_marked = false }
 
 -- the next action of a worker with a job that runs, by that of the job's core
 abbrev pub next_by : Action → WorkerAction
@@ -69,7 +60,7 @@ next_at stage.MustWake next = worker_action.Wake
 next_at stage.GaveUp next = worker_action.End
 
 abbrev pub next_of : JobInHand → WorkerAction
-next_of in_hand = next_at in_hand.stage in_hand.job.core
+next_of in_hand = next_at in_hand.stage in_hand.job.progress.next
 
 -- how the turn of a job that is over ends
 abbrev pub outcome_of : Stage → Standing
@@ -80,11 +71,11 @@ outcome_of stage.GaveUp = Dropped
 
 -- the call gave this number
 abbrev pub in_hand_after_answer : JobInHand → ℕ → JobInHand
-in_hand_after_answer in_hand number = record in_hand { job = record in_hand.job { number = number; core = call_after in_hand.job.core answer.Returned } }
+in_hand_after_answer in_hand number = record in_hand { job = record in_hand.job { progress = progress_after_answer in_hand.job.progress number } }
 
 -- the result was put, and a waker taken or not
 abbrev pub in_hand_after_finish : JobInHand → Bool → JobInHand
-in_hand_after_finish in_hand woke = record in_hand { job = record in_hand.job { core = call_after in_hand.job.core (answer.Put woke) } }
+in_hand_after_finish in_hand woke = record in_hand { job = record in_hand.job { progress = progress_after_finish in_hand.job.progress woke } }
 
 -- the job gave up, and a waker was taken or not
 abbrev pub in_hand_after_give_up : JobInHand → Bool → JobInHand
@@ -93,7 +84,7 @@ in_hand_after_give_up in_hand woke = record in_hand { stage = if woke then stage
 -- the waker was called
 abbrev pub in_hand_after_wake_at : Stage → JobInHand → JobInHand
 in_hand_after_wake_at stage.MustWake in_hand = record in_hand { stage = stage.GaveUp }
-in_hand_after_wake_at _ in_hand = record in_hand { job = record in_hand.job { core = call_after in_hand.job.core answer.Delivered } }
+in_hand_after_wake_at _ in_hand = record in_hand { job = record in_hand.job { progress = progress_after_wake in_hand.job.progress } }
 
 abbrev pub in_hand_after_wake : JobInHand → JobInHand
 in_hand_after_wake in_hand = in_hand_after_wake_at in_hand.stage in_hand
@@ -139,74 +130,6 @@ over_in (Holds in_hand) = over_by (next_of in_hand) in_hand
 over_in _ = None
 
 -- ---- tasks
-
--- the task of a new job
-abbrev pub new_task : JobNumber → Task
-new_task number = record { number = number; slot = empty_slot; found = None; stage = task_stage.Attached }
-
--- whether a task may be called so: after its cancel it is only polled and dropped, and a task that is gone isn't called
-abbrev pub may_be : TaskStage → TaskCall → Bool
-may_be task_stage.Attached call = true
-may_be task_stage.Cancelled Poll = true
-may_be task_stage.Cancelled Drop = true
-may_be _ call = false
-
--- whether a task has let its call go
-abbrev pub has_let_go : TaskStage → Bool
-has_let_go task_stage.Cancelled = true
-has_let_go task_stage.LetGo = true
-has_let_go _ = false
-
--- what became of a task that was answered
-abbrev pub stage_after_answer : TaskStage → TaskStage
-stage_after_answer task_stage.Attached = task_stage.Gone
-stage_after_answer task_stage.Cancelled = task_stage.LetGo
-stage_after_answer task_stage.Gone = task_stage.Gone
-stage_after_answer task_stage.LetGo = task_stage.LetGo
-
--- what a poll finds in a slot
-abbrev pub poll_in : Content ℕ → Act
-poll_in Empty = Waits
-poll_in (Full number) = TaskGot number
-poll_in GivenUp = TaskGotNone
-poll_in (Abandoned true) = TaskGotNone
-poll_in (Abandoned false) = Waits
-
--- what a poll of a task finds: first what its cancel found
-abbrev pub poll_at : TaskStage → Option ℕ → Content ℕ → Act
-poll_at task_stage.Cancelled (Some number) content = TaskGot number
-poll_at _ found content = poll_in content
-
-abbrev pub poll_of : Task → Act
-poll_of task = poll_at task.stage task.found task.slot.content
-
--- the task after a poll of its slot
-abbrev pub task_after_poll_in : Content ℕ → Task → Task
-task_after_poll_in Empty task = record task { slot = record task.slot { seat = Some tt } }
-task_after_poll_in (Full number) task = record task { slot = record task.slot { content = Empty }; stage = stage_after_answer task.stage }
-task_after_poll_in GivenUp task = record task { stage = stage_after_answer task.stage }
-task_after_poll_in (Abandoned true) task = record task { stage = stage_after_answer task.stage }
-task_after_poll_in (Abandoned false) task = record task { slot = record task.slot { seat = Some tt } }
-
-abbrev pub task_after_poll_at : TaskStage → Option ℕ → Content ℕ → Task → Task
-task_after_poll_at task_stage.Cancelled (Some number) content task = record task { stage = task_stage.LetGo }
-task_after_poll_at _ found content task = task_after_poll_in content task
-
--- the task after a poll
-abbrev pub task_after_poll : Task → Task
-task_after_poll task = task_after_poll_at task.stage task.found task.slot.content task
-
--- the task after its cancel: it keeps an answer that was there
-abbrev pub task_after_cancel : Task → Task
-task_after_cancel task = record task { slot = after_abandon task.slot; found = value_in task.slot; stage = task_stage.Cancelled }
-
--- the task after it was detached
-abbrev pub task_after_detach : Task → Task
-task_after_detach task = record task { slot = after_abandon task.slot; stage = task_stage.Gone }
-
--- the task after it was dropped
-abbrev pub task_after_drop : Task → Task
-task_after_drop task = record task { slot = after_abandon task.slot; stage = task_stage.LetGo }
 
 -- the task of a job, by the job's serial: calls and their tasks come together, so it is the one of that place
 abbrev pub task_in : Option Task → Task

@@ -1,16 +1,15 @@
 //! The job of a call in a world.
 ghost use Rattle.std.specs.Prelude.{◌≡◌};
 
-use blocking_core::job::{Action, CallCore};
+use blocking_core::job::Action;
 use blocking_core::pool::{Job, JobNo, JobStep};
+use blocking_lanes::CallProgress;
 
 /// The job of a call whose answer comes as a step of its own.
 #[derive(Drop)]
 pub(crate) struct CallJob {
-    /// What it does next.
-    pub(crate) core: CallCore,
-    /// What the call was answered, once it was.
-    pub(crate) number: u64,
+    /// How far it is.
+    pub(crate) progress: CallProgress,
     /// Whether its task let it go while it was queued.
     pub(crate) is_marked: bool,
 }
@@ -23,8 +22,7 @@ impl CallJob {
         ensures { result ≡ new_call }
     {
         CallJob {
-            core: CallCore::new(),
-            number: 0,
+            progress: CallProgress::new(),
             is_marked: false,
         }
     }
@@ -35,7 +33,7 @@ impl Job for CallJob {
 
     // In a world the actions of a job are steps, and nobody calls this.
     fn step(&mut self, _me: JobNo) -> JobStep {
-        match self.core.next() {
+        match self.progress.next() {
             Action::Done => JobStep::Done,
             _ => JobStep::Again,
         }

@@ -5,7 +5,7 @@ ghost use Rattle.std.specs.Borrow.{sem};
 
 use crate::call::CallJob;
 use crate::crew::{Crew, Outcome};
-use blocking_core::job::{Action, Answer};
+use blocking_core::job::Action;
 use blocking_core::pool::{Turn, WorkerPass};
 use std::mem;
 
@@ -81,9 +81,9 @@ impl JobInHand {
 
     /// What the call was answered, once it was.
     pub(crate) fn number(&self) -> u64
-        ensures { result ≡ self.now.job.number }
+        ensures { result ≡ self.now.job.progress.number }
     {
-        self.job.number
+        self.job.progress.number()
     }
 
     /// The next action.
@@ -94,7 +94,7 @@ impl JobInHand {
             Stage::MustGiveUp => WorkerAction::GiveUp,
             Stage::MustWake => WorkerAction::Wake,
             Stage::GaveUp => WorkerAction::End,
-            Stage::Runs => match self.job.core.next() {
+            Stage::Runs => match self.job.progress.next() {
                 Action::Call => WorkerAction::Await,
                 Action::Finish => WorkerAction::Finish,
                 Action::Deliver => WorkerAction::Wake,
@@ -117,15 +117,14 @@ impl JobInHand {
     pub(crate) fn answer(&mut self, number: u64)
         ensures { self.new ≡ in_hand_after_answer self.old number }
     {
-        self.job.number = number;
-        self.job.core.answer(Answer::Returned);
+        self.job.progress.answer(number);
     }
 
     /// The result was put, and the waker of its task was taken, or none was there.
     pub(crate) fn finish(&mut self, woke: bool)
         ensures { self.new ≡ in_hand_after_finish self.old woke }
     {
-        self.job.core.answer(Answer::Put { woke });
+        self.job.progress.finish(woke);
     }
 
     /// The job gave up, and the waker of its task was taken, or none was there.
@@ -141,7 +140,7 @@ impl JobInHand {
     {
         match self.stage {
             Stage::MustWake => self.stage = Stage::GaveUp,
-            _ => self.job.core.answer(Answer::Delivered),
+            _ => self.job.progress.wake(),
         }
     }
 }

@@ -8,7 +8,6 @@ mod crew;
 mod hand;
 mod parts;
 mod starts;
-mod task;
 mod workers;
 mod world;
 

@@ -5,9 +5,9 @@ ghost use Rattle.blocking_world.specs.Machine.{seen as what_is_seen, nothing as 
 use crate::call::CallJob;
 use crate::crew::{Crew, Grown, NO_GROWTH};
 use crate::hand::{Hand, JobInHand, Stage, WorkerAction};
-use crate::task::Task;
 use crate::workers::Workers;
 use blocking_core::pool::{Starter, Took, Waited};
+use blocking_lanes::Task;
 use blocking_laws::event::{Act, Event, HolderWaker, Party, WaitEnd};
 use blocking_laws::step::{Answer, Step, TaskCall};
 use std::alloc::{AllocError, Global};
@@ -34,7 +34,8 @@ impl Parts {
     ghost use Rattle.std.specs.Prelude.{nat_lt, ◌==◌, ◌-◌, ◌+◌, ◌&&◌, if◌then◌else◌, slice_get};
     ghost use Rattle.blocking_pool.specs.PoolAnswers.{pool_of};
     ghost use Rattle.blocking_world.specs.Closing.{RefusesAll};
-    ghost use Rattle.blocking_world.specs.Worlds.{hand_at, is_free_hand, has_let_go, task_at};
+    ghost use Rattle.blocking_world.specs.Worlds.{hand_at, is_free_hand, task_at};
+    ghost use Rattle.blocking_lanes.specs.Tasks.{has_let_go};
     ghost use Rattle.blocking_world.specs.Machine.{IsReady, StepDoes, Spawns, CallsOf, ArrivesIf, TakesWith, WorksWith, AnswersWith, EndsWith, WaitsWith, LimitsIf, StraysIf, StrikesIf, Does, DoesNothing, was_accepted};
     ghost use Rattle.blocking_world.specs.Moves.{next_in, is_own};
     ghost use Rattle.blocking_laws.specs.declared.step.Step.TheVariants as step;
@@ -110,23 +111,11 @@ impl Parts {
             return nothing(party, first);
         }
         let task = &mut self.tasks[number];
-        let act = match call {
-            TaskCall::Poll => task.poll(),
-            TaskCall::Cancel => {
-                task.cancel();
-                self.crew.mark(task.number);
-                Act::TaskCancelled
-            }
-            TaskCall::Detach => {
-                task.detach();
-                Act::TaskDetached
-            }
-            TaskCall::Drop => {
-                task.release();
-                self.crew.mark(task.number);
-                Act::HolderDropped
-            }
-        };
+        let act = task.call(call);
+        match call {
+            TaskCall::Cancel | TaskCall::Drop => self.crew.mark(task.number()),
+            TaskCall::Poll | TaskCall::Detach => {}
+        }
         seen(party, None, act, first, NO_GROWTH)
     }
 
@@ -298,7 +287,7 @@ impl Parts {
         let Some(task_number) = self.task_number(serial) else {
             return nothing(Party::Pool, first);
         };
-        let woke = self.crew.wake(self.tasks[task_number].number, starter);
+        let woke = self.crew.wake(self.tasks[task_number].number(), starter);
         seen(
             Party::Pool,
             None,
@@ -319,10 +308,10 @@ impl Parts {
         let Some(task_number) = self.task_number(serial) else {
             return nothing(Party::Pool, first);
         };
-        if !self.tasks[task_number].let_go() {
+        if !self.tasks[task_number].has_let_go() {
             return nothing(Party::Pool, first);
         }
-        let woke = self.crew.cancel(self.tasks[task_number].number, starter);
+        let woke = self.crew.cancel(self.tasks[task_number].number(), starter);
         seen(
             Party::Pool,
             None,

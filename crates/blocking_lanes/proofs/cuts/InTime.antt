@@ -1,27 +1,15 @@
--- One more event and the cut of a task; and that a call in time has finished, where its task kept the laws.
+-- A call that finished in time has finished, where its task kept the laws.
 use Rattle.std.proofs.Common.{◌≡◌, ℕ, List, [], ◌∷◌, Bool, true, false, refl, sym, subst}
 use Rattle.std.specs.Prelude.{◌&&◌, ◌||◌, not, cond}
 use Rattle.blocking_laws.specs.Seen.{own, acts_of, task_cut, is_by_task, is_of_job, is_nothing, is_task, is_some_worker}
 use Rattle.blocking_laws.specs.JobTable.{has_finished}
 use Rattle.blocking_laws.specs.Places.{poll_task}
 use Rattle.blocking_laws.specs.TaskLaws.{in_time_by, is_in_time, was_cancelled, TaskActs, TaskMayAct, TaskLaws}
-use Rattle.blocking_world.proofs.Cutting.{no_task, acts_more}
+use Rattle.blocking_lanes.proofs.cuts.Acts.{no_task, acts_more}
 use Rattle.blocking_laws.specs.declared.event.Act.{Act}
 use Rattle.blocking_laws.specs.declared.event.Act.TheVariants.{Finished}
 use Rattle.blocking_laws.specs.declared.event.Event.{Event}
 use Rattle.blocking_laws.specs.declared.event.HolderWaker.{HolderWaker}
-
--- ---- one more event
-
--- it stands in no cut but where it is of the task or of its job
-pub cut_same : (k s : ℕ) (e : Event) (seen : List Event) → is_by_task k e || is_of_job s e ≡ false → task_cut k s (e ∷ seen) ≡ task_cut k s seen
-cut_same k s e seen out = rw out refl
-
--- and there it is the newest
-pub cut_more : (k s : ℕ) (e : Event) (seen : List Event) → is_by_task k e || is_of_job s e ≡ true → task_cut k s (e ∷ seen) ≡ e ∷ task_cut k s seen
-cut_more k s e seen inside = rw inside refl
-
--- ---- what finished in time has finished
 
 no_finish : (in_time over : Bool) (n : ℕ) (waker : HolderWaker) → Finished waker ≡ poll_task in_time over n → ⊥
 no_finish true over n wake e = cc

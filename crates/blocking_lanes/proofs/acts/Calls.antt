@@ -3,15 +3,13 @@ use Rattle.std.proofs.Common.{◌≡◌, ℕ, true, false, refl, Option, Some}
 use Rattle.blocking_core.specs.Slots.{Content, Empty, Full, GivenUp, Abandoned}
 use Rattle.blocking_laws.specs.Seen.{is_nothing}
 use Rattle.blocking_laws.specs.Steps.{IsPolled}
-use Rattle.blocking_world.specs.Machine.{task_act, task_after_call}
-use Rattle.blocking_world.specs.Worlds.{has_let_go, stage_after_answer, may_be, poll_of, poll_at, poll_in, task_after_poll, task_after_poll_at, task_after_poll_in}
+use Rattle.blocking_lanes.specs.Tasks.{Task, task_act, task_after_call, has_let_go, stage_after_answer, may_be, poll_of, poll_at, poll_in, task_after_poll, task_after_poll_at, task_after_poll_in}
 use Rattle.blocking_laws.specs.declared.event.Act.{Act}
 use Rattle.blocking_laws.specs.declared.event.Act.TheVariants.{Waits, TaskGot, TaskGotNone, TaskCancelled, TaskDetached, HolderDropped}
 use Rattle.blocking_laws.specs.declared.step.TaskCall.{TaskCall}
 use Rattle.blocking_laws.specs.declared.step.TaskCall.TheVariants.{Poll, Cancel, Detach, Drop}
-use Rattle.blocking_world.specs.declared.task.Task.{Task}
-use Rattle.blocking_world.specs.declared.task.TaskStage.{TaskStage}
-use Rattle.blocking_world.specs.declared.task.TaskStage.TheVariants as task_stage
+use Rattle.blocking_lanes.specs.declared.task.TaskStage.{TaskStage}
+use Rattle.blocking_lanes.specs.declared.task.TaskStage.TheVariants as task_stage
 
 -- what holds of each answer to a poll holds of a task's
 pub by_poll : (P : Act → Type 0) → P Waits → ((n : ℕ) → P (TaskGot n)) → P TaskGotNone → (task : Task) → P (poll_of task)

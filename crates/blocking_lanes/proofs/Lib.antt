@@ -1,0 +1,4 @@
+pub mod Places
+pub mod cuts
+pub mod acts
+pub mod ties

@@ -1,0 +1,4 @@
+pub mod Calls
+pub mod Own
+pub mod OfJob
+pub mod Steps

@@ -1,0 +1,3 @@
+pub mod Holders
+pub mod Tasks
+pub mod Wakes

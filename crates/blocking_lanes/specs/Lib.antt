@@ -1,0 +1,4 @@
+pub mod Tasks
+pub mod Calls
+pub mod Ties
+pub mod Steps
