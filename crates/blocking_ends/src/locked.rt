@@ -293,11 +293,12 @@ impl<X: Drop, R: PlaceRule<X>> OwnerToJob<X, R> {
 }
 
 impl<X: Copy, R: PlaceRule<X>> OwnerToJob<X, R> {
-    ghost use Rattle.blocking_ends.specs.Answers.{OnDrained, shown_by};
+    ghost use Rattle.blocking_ends.specs.Answers.{IfTook, OnDrained, shown_by};
     ghost use Rattle.blocking_ends.specs.Rules.{HoldFrom};
     ghost use Rattle.blocking_ends.specs.Sections.{Fills, Peeks};
 
     /// The owner fills in the first of the items, which hold at their places, as many as there is room for.
+    #[tactic(auto, using(crate::proofs::Kept::filled_some))]
     pub(crate) fn fill_or_seat(
         &mut self,
         waker: OwnerWaker,
@@ -305,7 +306,8 @@ impl<X: Copy, R: PlaceRule<X>> OwnerToJob<X, R> {
     ) -> Answered<Filled, OwnerWaker>
         requires some { 0 < length items.now }
         requires held { HoldFrom R.holds self.old.sent items.now }
-        ensures { Fills self.old waker items.now result.answer result.spare self.new }
+        ensures fills { Fills self.old waker items.now result.answer result.spare self.new }
+        ensures took { IfTook result.answer (λ n. (0 < n) × (n ≤ length items.now)) }
     {
         let most = items.len().min(self.pipe.room());
         if !self.is_open || u64::MAX - self.sent < most as u64 {
