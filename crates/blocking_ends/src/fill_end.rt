@@ -1,0 +1,110 @@
+//! The end of an owner that sends to its job.
+ghost use Rattle.std.specs.Prelude.{◌≡◌, ◌<◌, ◌≤◌, ◌+◌, length};
+ghost use Rattle.futures.specs.Task.{Covers, Keeps};
+
+use crate::locked::{OwnerToJob, OwnerWaker};
+use crate::rule::PlaceRule;
+use blocking_core::pipe::{Answered, Filled};
+use blocking_pool::pool::WakeNote;
+use futures::task::{Context, Poll, Source};
+use std::sync::{Arc, Mutex, Wait};
+
+/// The end of an owner that sends to its job: each item holds at its place, by the rule `R`.
+///
+/// A poll that finds room takes the pipe's lock once and makes no waker. One that waits is seated by the waker of its context, and
+/// leaves its seat to the next poll. As at the other end, a call uses the pipe only where that has the count that this end knows
+/// of, and else tries again.
+#[derive(Drop)]
+pub struct FillEnd<X: Drop, R: PlaceRule<X>, H: Wait + Copy> {
+    pipe: Arc<Mutex<OwnerToJob<X, R>>>,
+    sent: u64,
+    source: Source,
+    rt: H,
+}
+
+impl<X: Drop, R: PlaceRule<X>, H: Wait + Copy> FillEnd<X, R, H> {
+    pub(crate) fn new(rt: H, pipe: Arc<Mutex<OwnerToJob<X, R>>>) -> Self
+        ensures { result.sent ≡ 0 }
+    {
+        FillEnd {
+            pipe,
+            sent: 0,
+            source: Source::new(),
+            rt,
+        }
+    }
+
+    /// How many items were sent: the place of the next one.
+    pub fn sent(&self) -> u64
+        ensures { result ≡ self.now.sent }
+    {
+        self.sent
+    }
+
+    /// Closes this end, where the items may end. From then on nothing is sent. Answers the note of a job that waits, which has to
+    /// be spent. What is inside may still be received.
+    pub fn close(&mut self) -> Option<WakeNote>
+        requires { R.ended self.old.sent }
+        ensures sent { self.new.sent ≡ self.old.sent }
+        ensures source { self.new.source ≡ self.old.source }
+    {
+        for _ in self.rt.forever() {
+            let mut pipe = self.pipe.lock(&self.rt);
+            if pipe.sent() == self.sent {
+                return pipe.close_owner();
+            }
+        }
+        unreachable!()
+    }
+}
+
+impl<X: Copy, R: PlaceRule<X>, H: Wait + Copy> FillEnd<X, R, H> {
+    ghost use Rattle.blocking_ends.specs.Answers.{IfTook, OnFullWait, sent_by_fill};
+    ghost use Rattle.blocking_ends.specs.Rules.{HoldFrom};
+
+    // Asks the pipe once. The waker is seated, or it comes back.
+    fn ask(&mut self, waker: OwnerWaker, items: &[X]) -> Answered<Filled, OwnerWaker>
+        requires some { 0 < length items.now }
+        requires held { HoldFrom R.holds self.old.sent items.now }
+        ensures sent { self.new.sent ≡ self.old.sent + sent_by_fill result.answer }
+        ensures source { self.new.source ≡ self.old.source }
+        ensures took { IfTook result.answer (λ n. (0 < n) × (n ≤ length items.now)) }
+    {
+        for _ in self.rt.forever() {
+            let mut pipe = self.pipe.lock(&self.rt);
+            if pipe.sent() != self.sent {
+                continue;
+            }
+            let answered = pipe.fill_or_seat(waker, items);
+            self.sent = pipe.sent();
+            return answered;
+        }
+        unreachable!()
+    }
+
+    /// Sends the first of the items, as many as there is room for, and answers the note of a job that waits, which has to be spent.
+    /// Where the pipe is full and the job's end is open the poll waits. None is taken where the job's end is closed, or this one, or
+    /// where more than 18446744073709551615 items would be sent in all.
+    pub fn fill_or_seat(&mut self, cx: &mut Context<'_>, items: &[X]) -> Filled
+        requires some { 0 < length items.now }
+        requires held { HoldFrom R.holds self.old.sent items.now }
+        ensures sent { self.new.sent ≡ self.old.sent + sent_by_fill result }
+        ensures took { IfTook result (λ n. (0 < n) × (n ≤ length items.now)) }
+        ensures registered { OnFullWait result
+            (Covers cx.new (λ source. source ≡ self.new.source.id)) }
+        ensures source { self.new.source ≡ self.old.source }
+        ensures kept { Keeps cx.old cx.new }
+    {
+        // (asked without a waker, so that what is there needs none)
+        let Answered { answer, spare } = self.ask(None, items);
+        match answer {
+            Filled::Waits(_) => {}
+            ready => return ready,
+        }
+        // The waker of an earlier poll is used again, since one that is dropped wakes.
+        let mut waker = spare.flatten();
+        let _pending: Poll<()> = cx.register(&self.source, &mut waker);
+        let Answered { answer, spare: _ } = self.ask(waker, items);
+        answer
+    }
+}

@@ -1,0 +1,47 @@
+//! The two ends of a new pipe.
+ghost use Rattle.std.specs.Prelude.{◌≡◌, ◌<◌, IfOk};
+
+use crate::fill_end::FillEnd;
+use crate::locked::{JobToOwner, OwnerToJob};
+use crate::peek_end::PeekEnd;
+use crate::recv_end::RecvEnd;
+use crate::rule::PlaceRule;
+use crate::send_end::SendEnd;
+use std::alloc::{AllocError, AllocGlobal};
+use std::sync::{Arc, Mutex, Wait};
+
+/// A new pipe for at most `capacity` items that a job sends to its owner: the job's end and the owner's. All its memory is taken
+/// here, and where there isn't so much the answer is an [`AllocError`].
+pub fn link<X: Drop, R: PlaceRule<X>, H: Wait + AllocGlobal + Copy>(
+    rt: H,
+    capacity: usize,
+) -> Result<(SendEnd<X, R, H>, RecvEnd<X, R, H>), AllocError>
+    requires { 0 < capacity }
+    ensures sent { IfOk result (λ ends. (ends.0.sent ≡ 0) × (ends.0.free ≡ 0)) }
+    ensures received { IfOk result (λ ends. ends.1.received ≡ 0) }
+{
+    let pipe = Arc::new(
+        rt.alloc(),
+        Mutex::new(JobToOwner::new(rt.alloc(), capacity)?),
+    )?;
+    let theirs = Arc::try_clone(&pipe)?;
+    Ok((SendEnd::new(rt, theirs), RecvEnd::new(rt, pipe)))
+}
+
+/// A new pipe for at most `capacity` items that an owner sends to its job: the owner's end and the job's. All its memory is taken
+/// here, and where there isn't so much the answer is an [`AllocError`].
+pub fn link_in<X: Drop, R: PlaceRule<X>, H: Wait + AllocGlobal + Copy>(
+    rt: H,
+    capacity: usize,
+) -> Result<(FillEnd<X, R, H>, PeekEnd<X, R, H>), AllocError>
+    requires { 0 < capacity }
+    ensures sent { IfOk result (λ ends. ends.0.sent ≡ 0) }
+    ensures received { IfOk result (λ ends. (ends.1.received ≡ 0) × (ends.1.shown ≡ 0)) }
+{
+    let pipe = Arc::new(
+        rt.alloc(),
+        Mutex::new(OwnerToJob::new(rt.alloc(), capacity)?),
+    )?;
+    let theirs = Arc::try_clone(&pipe)?;
+    Ok((FillEnd::new(rt, pipe), PeekEnd::new(rt, theirs)))
+}

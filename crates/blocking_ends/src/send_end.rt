@@ -1,0 +1,135 @@
+//! The end of a job that sends to its owner.
+ghost use Rattle.std.specs.Prelude.{◌≡◌, ◌<◌, ◌≤◌, ◌+◌, ◌-◌, length};
+
+use crate::locked::{JobToOwner, OwnerWaker};
+use crate::rule::PlaceRule;
+use blocking_core::pipe::{Put, Room, Sending};
+use blocking_pool::pool::JobNo;
+use std::sync::{Arc, Mutex, Wait};
+
+/// The end of a job that sends to its owner: each item holds at its place, by the rule `R`.
+///
+/// Each call takes the pipe's lock, makes one call of the pipe and lets go. It uses the pipe only where that has the counts
+/// that this end knows of, which for the pair that was made it always has; else it lets go and tries again.
+///
+/// A waker that a call answers was taken out of its seat, and is to be called. One that is let go calls itself.
+#[derive(Drop)]
+pub struct SendEnd<X: Drop, R: PlaceRule<X>, H: Wait + Copy> {
+    pipe: Arc<Mutex<JobToOwner<X, R>>>,
+    sent: u64,
+    // How much of the room that was told is left.
+    free: usize,
+    rt: H,
+}
+
+impl<X: Drop, R: PlaceRule<X>, H: Wait + Copy> SendEnd<X, R, H> {
+    ghost use Rattle.blocking_ends.specs.Answers.{IfFree, free_after, sent_by_send, ComesBack};
+
+    pub(crate) fn new(rt: H, pipe: Arc<Mutex<JobToOwner<X, R>>>) -> Self
+        ensures sent { result.sent ≡ 0 }
+        ensures free { result.free ≡ 0 }
+    {
+        SendEnd {
+            pipe,
+            sent: 0,
+            free: 0,
+            rt,
+        }
+    }
+
+    /// How many items were sent: the place of the next one.
+    pub fn sent(&self) -> u64
+        ensures { result ≡ self.now.sent }
+    {
+        self.sent
+    }
+
+    /// Looks for room for items, of which `put` may use as much as is told. The job is seated where there is none.
+    pub fn room_or_seat(&mut self, me: JobNo) -> Room
+        ensures sent { self.new.sent ≡ self.old.sent }
+        ensures free { self.new.free ≡ free_after result self.old.free }
+        ensures some { IfFree result (λ n. 0 < n) }
+    {
+        for _ in self.rt.forever() {
+            let mut pipe = self.pipe.lock(&self.rt);
+            if pipe.sent() != self.sent || pipe.room() < self.free {
+                continue;
+            }
+            let room = pipe.room_or_seat(me);
+            drop(pipe);
+            if let Room::Free(free) = room {
+                self.free = free;
+            }
+            return room;
+        }
+        unreachable!()
+    }
+
+    /// Sends an item. Where the pipe is full the job is seated and the item comes back; it also comes back where the owner's end
+    /// is closed, or this one, or where no more than 18446744073709551615 items may be sent in all.
+    pub fn send(&mut self, me: JobNo, item: X) -> Sending<X, OwnerWaker>
+        requires { R.holds self.old.sent item }
+        ensures sent { self.new.sent ≡ self.old.sent + sent_by_send result }
+        ensures free { self.new.free ≡ self.old.free - sent_by_send result }
+        ensures back { ComesBack item result }
+    {
+        for _ in self.rt.forever() {
+            let mut pipe = self.pipe.lock(&self.rt);
+            if pipe.sent() != self.sent || pipe.room() < self.free {
+                continue;
+            }
+            let sending = pipe.send(me, item);
+            self.sent = pipe.sent();
+            drop(pipe);
+            if let Sending::Sent(_) = &sending {
+                self.free = self.free.saturating_sub(1);
+            }
+            return sending;
+        }
+        unreachable!()
+    }
+
+    /// Closes this end, where the items may end. From then on nothing is sent. Answers the waker of an owner who waits.
+    pub fn close(&mut self) -> Option<OwnerWaker>
+        requires { R.ended self.old.sent }
+        ensures sent { self.new.sent ≡ self.old.sent }
+        ensures free { self.new.free ≡ self.old.free }
+    {
+        for _ in self.rt.forever() {
+            let mut pipe = self.pipe.lock(&self.rt);
+            if pipe.sent() == self.sent && self.free <= pipe.room() {
+                return pipe.close_job();
+            }
+        }
+        unreachable!()
+    }
+}
+
+impl<X: Copy, R: PlaceRule<X>, H: Wait + Copy> SendEnd<X, R, H> {
+    ghost use Rattle.blocking_ends.specs.Answers.{sent_by_put};
+    ghost use Rattle.blocking_ends.specs.Rules.{HoldFrom};
+
+    /// Puts items into the room that was told last and wasn't used since. They are lost where the owner's end is closed, or this
+    /// one, or where more than 18446744073709551615 items would be sent in all.
+    pub fn put(&mut self, items: &[X]) -> Put<OwnerWaker>
+        requires fits { length items.now ≤ self.old.free }
+        requires held { HoldFrom R.holds self.old.sent items.now }
+        ensures sent { self.new.sent ≡ self.old.sent + sent_by_put result (length items.now) }
+        ensures free { self.new.free ≡ self.old.free - sent_by_put result (length items.now) }
+    {
+        for _ in self.rt.forever() {
+            let mut pipe = self.pipe.lock(&self.rt);
+            if pipe.sent() != self.sent || pipe.room() < self.free {
+                continue;
+            }
+            let put = pipe.put(items);
+            self.sent = pipe.sent();
+            drop(pipe);
+            if let Put::In(_) = &put {
+                self.free -= items.len();
+            }
+            return put;
+        }
+        unreachable!()
+    }
+}
