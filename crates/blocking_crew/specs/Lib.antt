@@ -1,0 +1,5 @@
+pub mod Tickets
+pub mod Crews
+pub mod Moves
+pub mod Closing
+pub mod HandLends
