@@ -1,8 +1,5 @@
+pub mod Rows
 pub mod Worlds
-pub mod Crews
-pub mod Machine
 pub mod Moves
 pub mod Ties
 pub mod Runs
-pub mod Closing
-pub mod HandLends

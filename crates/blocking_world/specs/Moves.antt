@@ -1,203 +1,140 @@
--- The moves of a world: each step that has an action is one of them, and each is seen as one event. A move bears what its
--- event doesn't tell.
-use Rattle.std.specs.Prelude.{◌≡◌, ◌<◌, ◌==◌, ◌+◌, nat_lt, not, ℕ, Bool, true, false, ◌&&◌, [], ◌∷◌, ◌++◌, length, slice_get, slice_set, Option, Some, None, Result}
-use Rattle.blocking_pool.specs.Counts.{after_arrival, after_limit}
-use Rattle.blocking_pool.specs.Growth.{Growth}
-use Rattle.blocking_pool.specs.Jobs.{JobNumber, standing_of}
-use Rattle.blocking_pool.specs.PoolAnswers.{must_stop}
-use Rattle.blocking_pool.specs.Pools.{without_job}
-use Rattle.blocking_lanes.specs.Tasks.{finish_wakes, task_after_finish, give_up_wakes, task_after_give_up, may_be, has_let_go, task_act, task_after_call, Task}
-use Rattle.blocking_pool.specs.Wakes.{wake_of, cancel_of}
-use Rattle.blocking_pool.specs.declared.pool.answer.Refusal.{Refusal}
-use Rattle.blocking_pool.specs.declared.pool.answer.Woke.{Woke}
-use Rattle.blocking_pool.specs.declared.pool.token.WorkerPass.{WorkerPass}
-use Rattle.blocking_world.specs.Crews.{AddsTo, TakesFront, no_growth, after_wake, after_cancel}
-use Rattle.blocking_world.specs.Worlds.{Worlded, CallPool, next_of, outcome_of, in_hand_after_answer, in_hand_after_finish, in_hand_after_give_up, in_hand_after_wake, hand_at, with_hand, is_free_hand, task_at, with_task}
-use Rattle.blocking_laws.specs.Seats.{waker_in}
-use Rattle.blocking_laws.specs.Seen.{has_timed_out}
-use Rattle.blocking_laws.specs.Answers.{wait_act}
-use Rattle.blocking_world.specs.Machine.{next_start, seen, nothing, added_act, tasks_after_add, pool_after_call, after_wait, with_in_hand, was_accepted}
+-- The moves of a world: each step that has an action is one of them, which has one move of the crew and says what becomes of a row and a task.
+use Rattle.std.specs.Prelude.{◌≡◌, ℕ, Bool, true, false, ◌-◌, ◌&&◌, List, [], ◌∷◌, ◌++◌, length, slice_get, slice_set, Option, Some, None, is_some, Result, Ok, Err}
+use Rattle.blocking_crew.specs.Crews.{hand_at}
+use Rattle.blocking_crew.specs.Moves as crew
+use Rattle.blocking_crew.specs.Moves.{next_start, nothing}
+use Rattle.blocking_crew.specs.Tickets.{JobPool}
+use Rattle.blocking_crew.specs.declared.hand.Hand.TheVariants.{Holds}
+use Rattle.blocking_crew.specs.declared.hand.Held.{Held}
+use Rattle.blocking_lanes.specs.Steps.{TaskStep, IsCalled, IsAnswered, Finishes, GivesUp, CallsWaker, act_of, task_after}
+use Rattle.blocking_lanes.specs.Tasks.{Task, new_task, may_be, task_act}
 use Rattle.blocking_laws.specs.Steps.{named}
-use Rattle.blocking_world.specs.declared.call.CallJob.{CallJob}
 use Rattle.blocking_laws.specs.declared.event.Act.{Act}
-use Rattle.blocking_laws.specs.declared.event.Act.TheVariants.{JobWoken, JobCancelled, LimitSet, Swept, Arrived, Took, TookDropped, TookNone, Ended, Answered, Finished, GaveUp, HolderWoken}
 use Rattle.blocking_laws.specs.declared.event.Event.{Event}
 use Rattle.blocking_laws.specs.declared.event.Moment.{Moment}
-use Rattle.blocking_laws.specs.declared.event.Party.TheVariants.{Task as ByTask, Worker, Pool}
+use Rattle.blocking_laws.specs.declared.event.Party.TheVariants.{Task as ByTask, Pool}
 use Rattle.blocking_laws.specs.declared.event.WaitEnd.{WaitEnd}
 use Rattle.blocking_laws.specs.declared.event.WaitEnd.TheVariants.{Woken, TimedOut}
-use Rattle.blocking_world.specs.declared.hand.WorkerAction.{WorkerAction}
-use Rattle.blocking_world.specs.declared.hand.WorkerAction.TheVariants as worker_action
-use Rattle.blocking_world.specs.declared.hand.Hand.{Hand}
-use Rattle.blocking_world.specs.declared.hand.Hand.TheVariants.{Free, Holds}
-use Rattle.blocking_world.specs.declared.hand.JobInHand.{JobInHand}
-use Rattle.blocking_world.specs.declared.hand.Stage.{Stage}
-use Rattle.blocking_world.specs.declared.hand.Stage.TheVariants as stage
 use Rattle.blocking_laws.specs.declared.step.Answer.TheVariants.{Number}
 use Rattle.blocking_laws.specs.declared.step.Step.{Step}
 use Rattle.blocking_laws.specs.declared.step.Step.TheVariants.{Spawn, OfTask, Arrive, Take, Job, Io, End, Wait, Late, SetLimit, Sweep, Stray, Strike}
 use Rattle.blocking_laws.specs.declared.step.TaskCall.{TaskCall}
+use Rattle.blocking_laws.specs.declared.step.TaskCall.TheVariants.{Poll, Cancel, Detach, Drop}
+use Rattle.blocking_pool.specs.Growth.{Growth}
+use Rattle.blocking_pool.specs.Jobs.{JobNumber}
+use Rattle.blocking_pool.specs.declared.pool.answer.Refusal.{Refusal}
+use Rattle.blocking_pool.specs.declared.pool.answer.Woke.{Woke}
+use Rattle.blocking_world.specs.Rows.{place_of, new_row, progress_of, next_of, own_step, row_after}
+use Rattle.blocking_world.specs.Worlds.{Parts, row_of, job_at, next_is, is_own, is_awaiting, is_ending, let_go_of, let_go_by}
+use Rattle.blocking_world.specs.declared.row.Row.{Row}
+use Rattle.blocking_world.specs.declared.row.WorkerAction.TheVariants as worker_action
 
 pub data Move : Type 0 where
   -- the step has no action
   Idles : Step → Move
   -- a new call, by what the pool answers
-  Begins : Result JobNumber Refusal → Growth → CallPool → Move
+  Begins : Result JobNumber Refusal → Growth → JobPool → Move
   -- task k is called
   Calls : ℕ → TaskCall → Task → Move
-  -- a worker arrives
-  Arrives : WorkerPass → Move
-  -- worker v takes a job, to be dropped (true) or to be run
-  TakesJob : ℕ → WorkerPass → Bool → JobNumber → CallJob → Growth → CallPool → Move
-  -- worker v finds no job
-  TakesNone : ℕ → WorkerPass → WorkerPass → Move
-  -- the call of worker v's job is answered
-  IsAnswered : ℕ → JobInHand → ℕ → Move
-  -- the job of worker v puts its result
-  Finishes : ℕ → JobInHand → Move
-  -- the job of worker v gives up
-  GivesUp : ℕ → JobInHand → Move
-  -- the job of worker v calls the waker that it took
-  CallsWaker : ℕ → JobInHand → Move
-  -- the turn of worker v's job ends
-  EndsTurn : ℕ → JobInHand → WorkerPass → Move
-  -- worker v has waited, and its wait ended so
-  HasWaited : ℕ → WorkerPass → WaitEnd → Move
-  -- the limit is set
-  SetsLimit : ℕ → Move
-  -- a sweep finds no parked job
-  Sweeps : Move
-  -- job s is woken by nobody
-  IsWoken : ℕ → Move
+  -- the job in the hand of worker v takes this step of its task
+  Acts : ℕ → Held → Row → Task → TaskStep → Move
+  -- the crew alone does this
+  Passes : crew.Move → Move
+  -- job s is woken by nobody in particular
+  IsWoken : ℕ → JobNumber → Woke → Growth → JobPool → Move
   -- job s is cancelled in the pool
-  IsStruck : ℕ → Move
+  IsStruck : ℕ → JobNumber → Woke → Growth → JobPool → Move
 
--- ---- which step it is, what is seen of it, and what it leaves
+-- ---- which step it is
 
 -- a wait, by how it ended
 abbrev pub wait_step : WaitEnd → ℕ → Step
 wait_step Woken v = Wait v
 wait_step TimedOut v = Late v
 
+-- the step of worker v in which its job does this
+abbrev pub work_step : ℕ → TaskStep → Step
+work_step v (IsAnswered n) = Io v (Number n)
+work_step v step = Job v
+
+-- the step that is the crew's alone; there is none of its other moves
+abbrev pub step_by : crew.Move → Step
+step_by (crew.Arrives pass) = Arrive
+step_by (crew.TakesJob v old to_drop turn ticket growth pool) = Take v
+step_by (crew.TakesNone v old pass) = Take v
+step_by (crew.EndsTurn v held pass) = End v
+step_by (crew.HasWaited v pass end waited growth pool) = wait_step end v
+step_by (crew.SetsLimit n) = SetLimit n
+step_by _ = Sweep
+
 -- the step of a move
 abbrev pub step_of : Move → Step
 step_of (Idles step) = step
 step_of (Begins added growth pool) = Spawn
 step_of (Calls k call task) = OfTask k call
-step_of (Arrives pass) = Arrive
-step_of (TakesJob v old to_drop turn job growth pool) = Take v
-step_of (TakesNone v old pass) = Take v
-step_of (IsAnswered v in_hand number) = Io v (Number number)
-step_of (Finishes v in_hand) = Job v
-step_of (GivesUp v in_hand) = Job v
-step_of (CallsWaker v in_hand) = Job v
-step_of (EndsTurn v in_hand pass) = End v
-step_of (HasWaited v pass end) = wait_step end v
-step_of (SetsLimit n) = SetLimit n
-step_of Sweeps = Sweep
-step_of (IsWoken s) = Stray s
-step_of (IsStruck s) = Strike s
+step_of (Acts v held row task step) = work_step v step
+step_of (Passes move) = step_by move
+step_of (IsWoken s number woke growth pool) = Stray s
+step_of (IsStruck s number woke growth pool) = Strike s
 
--- what is seen of a job that is taken
-abbrev pub took : Bool → ℕ → Act
-took false s = Took s
-took true s = TookDropped s
+-- ---- the move of the crew
 
--- where a job that is taken begins its turn
-abbrev pub first_stage : Bool → Stage
-first_stage false = stage.Runs
-first_stage true = stage.MustGiveUp
+-- what a call of task k is to the crew: a task that is cancelled or dropped lets go of its job
+abbrev pub call_move : ℕ → TaskCall → Task → crew.Move
+call_move k Poll task = crew.Tells (ByTask k) (task_act Poll task)
+call_move k Cancel task = crew.IsLetGo (ByTask k) (task_act Cancel task) task.number
+call_move k Detach task = crew.Tells (ByTask k) (task_act Detach task)
+call_move k Drop task = crew.IsLetGo (ByTask k) (task_act Drop task) task.number
 
--- whether the finish of this job takes the waker of its task
-abbrev pub finishing_wakes : Worlded → JobInHand → Bool
-finishing_wakes w in_hand = finish_wakes (task_at w.tasks in_hand.turn.serial) in_hand.job.progress.number
+-- the crew's part of a move that isn't idle
+abbrev pub crew_move : Move → crew.Move
+crew_move (Idles step) = crew.Idles crew.Sweep
+crew_move (Begins added growth pool) = crew.Adds Pool added growth pool
+crew_move (Calls k call task) = call_move k call task
+crew_move (Acts v held row task step) = crew.Works v held (act_of step task)
+crew_move (Passes move) = move
+crew_move (IsWoken s number woke growth pool) = crew.IsWoken Pool number woke growth pool
+crew_move (IsStruck s number woke growth pool) = crew.IsCancelled Pool number woke growth pool
 
--- whether the job takes the waker of its task where it gives up
-abbrev pub giving_up_wakes : Worlded → JobInHand → Bool
-giving_up_wakes w in_hand = give_up_wakes (task_at w.tasks in_hand.turn.serial)
+-- ---- what is seen of it, and what it leaves
 
--- what a wake does to job s
-abbrev pub wakes_as : Worlded → ℕ → Woke
-wakes_as w s = wake_of (standing_of w.pool.jobs (task_at w.tasks s).number)
-
--- what a cancel does to job s
-abbrev pub cancels_as : Worlded → ℕ → Woke
-cancels_as w s = cancel_of (standing_of w.pool.jobs (task_at w.tasks s).number)
-
--- the event of a move
-abbrev pub event_of : Worlded → Move → Event
-event_of w (Idles step) = nothing (named step) (next_start w)
-event_of w (Begins added growth pool) = seen Pool None (added_act added) (next_start w) growth
-event_of w (Calls k call task) = seen (ByTask k) None (task_act call task) (next_start w) no_growth
-event_of w (Arrives pass) = seen (Worker (length w.hands + 1)) None (Arrived (length w.hands + 1)) (next_start w) no_growth
-event_of w (TakesJob v old to_drop turn job growth pool) = seen (Worker v) (Some turn.serial) (took to_drop turn.serial) (next_start w) growth
-event_of w (TakesNone v old pass) = seen (Worker v) None TookNone (next_start w) no_growth
-event_of w (IsAnswered v in_hand number) = seen (Worker v) (Some in_hand.turn.serial) (Answered (Number number)) (next_start w) no_growth
-event_of w (Finishes v in_hand) = seen (Worker v) (Some in_hand.turn.serial) (Finished (waker_in (finishing_wakes w in_hand))) (next_start w) no_growth
-event_of w (GivesUp v in_hand) = seen (Worker v) (Some in_hand.turn.serial) (GaveUp (waker_in (giving_up_wakes w in_hand))) (next_start w) no_growth
-event_of w (CallsWaker v in_hand) = seen (Worker v) (Some in_hand.turn.serial) HolderWoken (next_start w) no_growth
-event_of w (EndsTurn v in_hand pass) = seen (Worker v) (Some in_hand.turn.serial) (Ended in_hand.turn.serial (outcome_of in_hand.stage)) (next_start w) no_growth
-event_of w (HasWaited v pass end) = seen (Worker v) None (wait_act v end (must_stop (has_timed_out end) w.pool)) (next_start w) no_growth
-event_of w (SetsLimit n) = seen Pool None (LimitSet n) (next_start w) no_growth
-event_of w Sweeps = seen Pool None (Swept 0) (next_start w) no_growth
-event_of w (IsWoken s) = seen Pool None (JobWoken s (wakes_as w s)) (next_start w) no_growth
-event_of w (IsStruck s) = seen Pool None (JobCancelled s (cancels_as w s)) (next_start w) no_growth
+-- the event of a move: the crew's, and no owner's job is among the calls
+abbrev pub event_of : Parts → Move → Event
+event_of w (Idles step) = nothing (named step) (next_start w.crew)
+event_of w move = crew.event_of w.crew (crew_move move)
 
 -- the moment of a move
-abbrev pub moment_of : Worlded → Move → Moment
+abbrev pub moment_of : Parts → Move → Moment
 moment_of w move = record { step = step_of move; event = event_of w move }
 
+-- the rows and the tasks after a new call, which gets the next ones where it is accepted
+abbrev pub rows_after_add : List Row → ℕ → Result JobNumber Refusal → List Row
+rows_after_add rows k (Ok number) = rows ++ new_row number k ∷ []
+rows_after_add rows k (Err why) = rows
+
+abbrev pub tasks_after_add : List Task → Result JobNumber Refusal → List Task
+tasks_after_add tasks (Ok number) = tasks ++ new_task number ∷ []
+tasks_after_add tasks (Err why) = tasks
+
+-- the rows after a move
+abbrev pub rows_after : Parts → Move → List Row
+rows_after w (Begins added growth pool) = rows_after_add w.rows (length w.tasks) added
+rows_after w (Acts v held row task step) = slice_set w.rows (held.turn.serial - 1) (row_after step held.stage task row)
+rows_after w move = w.rows
+
+-- the tasks after a move
+abbrev pub all_after : Parts → Move → List Task
+all_after w (Begins added growth pool) = tasks_after_add w.tasks added
+all_after w (Calls k call task) = slice_set w.tasks k (task_after (IsCalled call) task)
+all_after w (Acts v held row task step) = slice_set w.tasks (place_of row.holder) (task_after step task)
+all_after w move = w.tasks
+
 -- the parts after a move
-abbrev pub after : Worlded → Move → Worlded
+abbrev pub after : Parts → Move → Parts
 after w (Idles step) = w
-after w (Begins added growth pool) = record w { pool = pool; tasks = tasks_after_add w.tasks added }
-after w (Calls k call task) = record w { pool = pool_after_call call w.pool task.number; tasks = slice_set w.tasks k (task_after_call call task) }
-after w (Arrives pass) = record w { pool = record w.pool { counts = after_arrival w.pool.counts }; hands = w.hands ++ Free pass ∷ [] }
-after w (TakesJob v old to_drop turn job growth pool) =
-    record w { pool = pool; hands = with_in_hand w v (record { turn = turn; job = job; stage = first_stage to_drop }) }
-after w (TakesNone v old pass) = record w { hands = with_hand w.hands v (Free pass) }
-after w (IsAnswered v in_hand number) = record w { hands = with_in_hand w v (in_hand_after_answer in_hand number) }
-after w (Finishes v in_hand) =
-    record w {
-      tasks = with_task w.tasks in_hand.turn.serial (task_after_finish (task_at w.tasks in_hand.turn.serial) in_hand.job.progress.number);
-      hands = with_in_hand w v (in_hand_after_finish in_hand (finishing_wakes w in_hand));
-    }
-after w (GivesUp v in_hand) =
-    record w {
-      tasks = with_task w.tasks in_hand.turn.serial (task_after_give_up (task_at w.tasks in_hand.turn.serial));
-      hands = with_in_hand w v (in_hand_after_give_up in_hand (giving_up_wakes w in_hand));
-    }
-after w (CallsWaker v in_hand) = record w { hands = with_in_hand w v (in_hand_after_wake in_hand) }
-after w (EndsTurn v in_hand pass) = record w { pool = without_job w.pool in_hand.turn.serial; hands = with_hand w.hands v (Free pass) }
-after w (HasWaited v pass end) = after_wait w v pass (must_stop (has_timed_out end) w.pool)
-after w (SetsLimit n) = record w { pool = record w.pool { counts = after_limit n w.pool.counts } }
-after w Sweeps = w
-after w (IsWoken s) = record w { pool = after_wake (wakes_as w s) w.pool (task_at w.tasks s).number }
-after w (IsStruck s) = record w { pool = after_cancel (cancels_as w s) w.pool (task_at w.tasks s).number }
+after w move = record { crew = crew.after w.crew (crew_move move); rows = rows_after w move; tasks = all_after w move }
 
 -- ---- which steps have an action
-
--- the next action of a worker with this hand
-abbrev pub next_in : Hand → Option WorkerAction
-next_in (Holds in_hand) = Some (next_of in_hand)
-next_in _ = None
-
--- whether that is an action of the job's own
-abbrev pub is_own : Option WorkerAction → Bool
-is_own (Some worker_action.Finish) = true
-is_own (Some worker_action.GiveUp) = true
-is_own (Some worker_action.Wake) = true
-is_own _ = false
-
--- whether the job's call is to be answered
-abbrev pub is_awaiting : Option WorkerAction → Bool
-is_awaiting (Some worker_action.Await) = true
-is_awaiting _ = false
-
--- whether the turn is to end
-abbrev pub is_ending : Option WorkerAction → Bool
-is_ending (Some worker_action.End) = true
-is_ending _ = false
 
 -- whether a task is there and may be called so
 abbrev pub may_call_in : Option Task → TaskCall → Bool
@@ -205,49 +142,65 @@ may_call_in None call = false
 may_call_in (Some task) call = may_be task.stage call
 
 -- whether a step has an action
-abbrev pub has_action_in : Worlded → Step → Bool
+abbrev pub has_action_in : Parts → Step → Bool
 has_action_in w Spawn = true
 has_action_in w (OfTask k call) = may_call_in (slice_get w.tasks k) call
-has_action_in w Arrive = nat_lt 0 w.pool.counts.arriving
-has_action_in w (Take v) = is_free_hand (hand_at w.hands v)
-has_action_in w (Job v) = is_own (next_in (hand_at w.hands v))
-has_action_in w (Io v answer) = is_awaiting (next_in (hand_at w.hands v))
-has_action_in w (End v) = is_ending (next_in (hand_at w.hands v))
-has_action_in w (Wait v) = is_free_hand (hand_at w.hands v)
-has_action_in w (Late v) = is_free_hand (hand_at w.hands v)
-has_action_in w (SetLimit n) = not (n == 0)
+has_action_in w Arrive = crew.has_action w.crew crew.Arrive
+has_action_in w (Take v) = crew.has_action w.crew (crew.Take v)
+has_action_in w (Job v) = next_is is_own (job_at w v)
+has_action_in w (Io v answer) = next_is is_awaiting (job_at w v)
+has_action_in w (End v) = next_is is_ending (job_at w v)
+has_action_in w (Wait v) = crew.has_action w.crew (crew.Wait v Woken)
+has_action_in w (Late v) = crew.has_action w.crew (crew.Wait v TimedOut)
+has_action_in w (SetLimit n) = crew.has_action w.crew (crew.SetLimit n)
 has_action_in w Sweep = true
-has_action_in w (Stray s) = was_accepted w s
-has_action_in w (Strike s) = was_accepted w s && has_let_go (task_at w.tasks s).stage
+has_action_in w (Stray s) = is_some (row_of w.rows s)
+has_action_in w (Strike s) = let_go_by w.tasks (row_of w.rows s)
 
 -- ---- which moves there may be
 
--- job s was accepted at some time
-abbrev pub WasAccepted : Worlded → ℕ → Type 0
-WasAccepted w s = was_accepted w s ≡ true
+-- whether a step of its task is what a job does next
+abbrev pub IsNext : TaskStep → Held → Row → Type 0
+IsNext (IsCalled call) held row = ⊥
+IsNext (IsAnswered n) held row = next_of held.stage row.core ≡ worker_action.Await
+IsNext step held row = own_step held.stage row.core ≡ Some step
 
-abbrev pub May : (ℕ → Bool → Type 0) → Worlded → Move → Type 0
-May may_answer w (Idles step) = has_action_in w step ≡ false
-May may_answer w (Begins added growth pool) = AddsTo may_answer w.pool added growth pool
-May may_answer w (Calls k call task) = (slice_get w.tasks k ≡ Some task) × (may_be task.stage call ≡ true)
-May may_answer w (Arrives pass) = 0 < w.pool.counts.arriving
-May may_answer w (TakesJob v old to_drop turn job growth pool) = (hand_at w.hands v ≡ Free old) × TakesFront may_answer w.pool turn job to_drop growth pool
-May may_answer w (TakesNone v old pass) = (hand_at w.hands v ≡ Free old) × (w.pool.queue ≡ [])
-May may_answer w (IsAnswered v in_hand number) = (hand_at w.hands v ≡ Holds in_hand) × (next_of in_hand ≡ worker_action.Await)
-May may_answer w (Finishes v in_hand) = (hand_at w.hands v ≡ Holds in_hand) × (next_of in_hand ≡ worker_action.Finish)
-May may_answer w (GivesUp v in_hand) = (hand_at w.hands v ≡ Holds in_hand) × (next_of in_hand ≡ worker_action.GiveUp)
-May may_answer w (CallsWaker v in_hand) = (hand_at w.hands v ≡ Holds in_hand) × (next_of in_hand ≡ worker_action.Wake)
-May may_answer w (EndsTurn v in_hand pass) = (hand_at w.hands v ≡ Holds in_hand) × (next_of in_hand ≡ worker_action.End)
-May may_answer w (HasWaited v pass end) = hand_at w.hands v ≡ Free pass
-May may_answer w (SetsLimit n) = 0 < n
-May may_answer w Sweeps = Unit {0}
-May may_answer w (IsWoken s) = WasAccepted w s
-May may_answer w (IsStruck s) = WasAccepted w s × (has_let_go (task_at w.tasks s).stage ≡ true)
+-- whether a move of the crew is a step by itself; at the end of a turn nothing is left to do
+abbrev pub PassesBy : Parts → crew.Move → Type 0
+PassesBy w (crew.Arrives pass) = Unit {0}
+PassesBy w (crew.TakesJob v old to_drop turn ticket growth pool) = Unit {0}
+PassesBy w (crew.TakesNone v old pass) = Unit {0}
+PassesBy w (crew.EndsTurn v held pass) = next_is is_ending (job_at w v) ≡ true
+PassesBy w (crew.HasWaited v pass end waited growth pool) = Unit {0}
+PassesBy w (crew.SetsLimit n) = Unit {0}
+PassesBy w (crew.Sweeps growth pool) = Unit {0}
+PassesBy w move = ⊥
+
+-- A job in the hand of worker v with its row and its task.
+pub record IsInHand (w : Parts) (v : ℕ) (held : Held) (row : Row) (task : Task) : Type 0 where
+  pub holds : hand_at w.crew.hands v ≡ Holds held
+  pub has_row : row_of w.rows held.turn.serial ≡ Some row
+  pub has_task : slice_get w.tasks (place_of row.holder) ≡ Some task
+
+abbrev pub MayDo : Parts → Move → Type 0
+MayDo w (Idles step) = has_action_in w step ≡ false
+MayDo w (Begins added growth pool) = Unit {0}
+MayDo w (Calls k call task) = (slice_get w.tasks k ≡ Some task) × (may_be task.stage call ≡ true)
+MayDo w (Acts v held row task step) = IsInHand w v held row task × IsNext step held row
+MayDo w (Passes move) = PassesBy w move
+MayDo w (IsWoken s number woke growth pool) = (row : Row) × (row_of w.rows s ≡ Some row) × (row.number ≡ number)
+MayDo w (IsStruck s number woke growth pool) = (row : Row) × (row_of w.rows s ≡ Some row) × (row.number ≡ number) × (let_go_of w.tasks row ≡ true)
+
+-- whether the crew may do its part
+abbrev pub CrewMay : (ℕ → Bool → Type 0) → Parts → Move → Type 0
+CrewMay may_answer w (Idles step) = Unit {0}
+CrewMay may_answer w move = crew.May may_answer w.crew (crew_move move)
 
 -- A step is a move that there may be.
-pub record Moves (may_answer : ℕ → Bool → Type 0) (step : Step) (w : Worlded) (e : Event) (w' : Worlded) : Type 0 where
+pub record Moves (may_answer : ℕ → Bool → Type 0) (step : Step) (w : Parts) (e : Event) (w' : Parts) : Type 0 where
   pub move : Move
-  pub may : May may_answer w move
+  pub may : MayDo w move
+  pub crew_may : CrewMay may_answer w move
   pub step_is : step ≡ step_of move
   pub event_is : e ≡ event_of w move
   pub after_is : w' ≡ after w move

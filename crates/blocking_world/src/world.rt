@@ -4,7 +4,7 @@ ghost use Rattle.blocking_pool.specs.Limits.{limit_of_setting};
 ghost use Rattle.blocking_laws.specs.Counts.{workers, idle};
 ghost use Rattle.blocking_laws.specs.Growth.{IsPlanned, known_limit};
 ghost use Rattle.blocking_laws.specs.Legal.{Legal};
-ghost use Rattle.blocking_world.specs.Machine.{IsReady, StepDoes};
+ghost use Rattle.blocking_world.specs.Moves.{Moves};
 ghost use Rattle.blocking_laws.specs.Queue.{queue};
 ghost use Rattle.blocking_world.specs.Runs.{Adds, StopsShort};
 ghost use Rattle.blocking_laws.specs.Served.{IsServed};
@@ -30,7 +30,7 @@ pub struct World {
 
 impl Model for World {
     ghost use Rattle.std.specs.Prelude.{reverse};
-    ghost use Rattle.blocking_world.specs.Machine.{free_hands, busy_hands};
+    ghost use Rattle.blocking_crew.specs.Crews.{free_hands, busy_hands};
     ghost use Rattle.blocking_world.specs.Runs.{WorldValue};
     ghost use Rattle.blocking_world.specs.Ties.{IsLawful};
 
@@ -38,15 +38,15 @@ impl Model for World {
 
     ghost view = { λ w. record {
       history = record {
-        setting = w.parts.pool.counts.setting;
+        setting = w.parts.crew.pool.counts.setting;
         plan = w.plan.items;
         past = reverse w.trace.items;
       };
-      passes = free_hands w.parts.hands;
-      turns = busy_hands w.parts.hands;
+      passes = free_hands w.parts.crew.hands;
+      turns = busy_hands w.parts.crew.hands;
     } };
 
-    ghost invariant = { λ w. IsLawful w.parts.pool.counts.setting w.plan.items w.parts
+    ghost invariant = { λ w. IsLawful w.parts.crew.pool.counts.setting w.plan.items w.parts
         (reverse w.trace.items) };
 }
 
@@ -145,8 +145,7 @@ fn step_with<L: Ledger>(
     requires name { blank.name ≡ L.name }
     requires parts { blank.parts ≡ L.parts }
     requires some { 0 < L.parts }
-    requires ready { IsReady parts.old }
-    ensures ok { IfOk result (λ e. StepDoes (IsPlanned plan.now) step parts.old e parts.new) }
+    ensures ok { IfOk result (λ e. Moves (IsPlanned plan.now) step parts.old e parts.new) }
     ensures err { OnErr result (parts.new ≡ parts.old) }
 {
     let mut starter = PlannedStarts::<L>::new(plan, blank);
@@ -155,7 +154,6 @@ fn step_with<L: Ledger>(
 
 // Ends the parts, by starts that are all refused.
 fn close_with<L: Ledger>(parts: Parts, blank: Blank)
-    requires ready { IsReady parts }
     requires name { blank.name ≡ L.name }
     requires parts { blank.parts ≡ L.parts }
     requires some { 0 < L.parts }
