@@ -1,0 +1,3 @@
+pub mod growth
+pub mod jobs
+pub mod hands
