@@ -1,3 +1,4 @@
 pub mod growth
 pub mod jobs
 pub mod hands
+pub mod closing

@@ -184,3 +184,16 @@ filter_none test (n ∷ ns) none = ap (λ (b : Bool). cond b (n ∷ filter test 
 -- and a sweep puts nothing back
 pub sweeps_nothing : (pool : JobPool) → NoneDue pool → to_sweep pool ≡ []
 sweeps_nothing pool none = filter_none (λ serial. is_due_to_sweep (get pool.jobs serial)) (serials_below pool.next_serial) none
+
+-- ---- after one was taken out
+
+pub removed_valued : (jobs : Jobs Ticket) (t : ℕ) → AreValued jobs → AreValued (remove jobs t)
+removed_valued jobs t valued s = ap is_valued (job_out jobs t s (t == s) refl) ∙ by (t == s)
+  where
+    by : (b : Bool) → is_valued (if b then None else get jobs s) ≡ true
+    by true = refl
+    by false = valued s
+
+-- the others run on
+pub removed_runs : (jobs : Jobs Ticket) (t : ℕ) (number : JobNumber) → (t == number.serial) ≡ false → is_running_as (remove jobs t) number ≡ is_running_as jobs number
+removed_runs jobs t number apart = ap (λ (o : Option (Job Ticket)). is_running_job (if_at number.place o)) (job_out jobs t number.serial false apart)
