@@ -2,3 +2,4 @@ pub mod growth
 pub mod jobs
 pub mod hands
 pub mod closing
+pub mod ready
