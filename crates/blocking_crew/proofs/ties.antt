@@ -8,3 +8,4 @@ pub mod Jobs
 pub mod Queue
 pub mod Serials
 pub mod Counts
+pub mod Hands

@@ -16,7 +16,7 @@ use Rattle.blocking_pool.specs.declared.pool.answer.Waited.TheVariants.{Stay, St
 use Rattle.blocking_pool.specs.declared.pool.answer.Woke.TheVariants.{Entered, Marked, Nothing}
 use Rattle.blocking_pool.specs.declared.pool.token.WorkerPass.{WorkerPass}
 use Rattle.blocking_laws.specs.Counts.{added, starts, refused_starts, arrivals, stops as all_stops, workers, limit, limit_by, is_arrival, is_stop}
-use Rattle.blocking_laws.specs.Growth.{IsPlanned, known_limit, has_limit, grows, is_limit_set}
+use Rattle.blocking_laws.specs.Growth.{IsPlanned, HasWorker, known_limit, has_limit, grows, is_limit_set}
 use Rattle.blocking_laws.specs.Queue.{running, ended_by, taken_by, to_sweep as seen_to_sweep}
 use Rattle.blocking_laws.specs.Seen.{joined, without_all, has_timed_out}
 use Rattle.blocking_laws.specs.declared.event.Act.{Act}
@@ -148,14 +148,14 @@ stop_grew rings old between new growth grew some fewer stopped g =
     }
 
 -- how an act itself changes workers and limit: no worker arrives, so many stop, and the limit stays
-record Steady (gone : ℕ) (act : Act) : Type 0 where
-  came : is_arrival act ≡ false
-  stop : one_if (is_stop act) ≡ gone
-  most : (l : ℕ) → limit_by act l ≡ l
-  set : is_limit_set act ≡ false
+pub record Steady (gone : ℕ) (act : Act) : Type 0 where
+  pub came : is_arrival act ≡ false
+  pub stop : one_if (is_stop act) ≡ gone
+  pub most : (l : ℕ) → limit_by act l ≡ l
+  pub set : is_limit_set act ≡ false
 
 -- whether an act is none that moves a job, starts, brings or stops a worker, or sets the limit
-abbrev is_quiet : Act → Bool
+abbrev pub is_quiet : Act → Bool
 is_quiet (Accepted s) = false
 is_quiet (Refused NoWorker) = false
 is_quiet (JobWoken s Entered) = false
@@ -170,12 +170,13 @@ is_quiet (Stopped v end) = false
 is_quiet (Ended s how) = false
 is_quiet _ = true
 
-record Quiet (past : List Moment) (act : Act) : Type 0 where
-  steady : Steady 0 act
-  ungrown_is : grows past act ≡ false
-  busy : joined (without_all (ended_by act) (running past)) (taken_by act) ≡ running past
+pub record Quiet (past : List Moment) (act : Act) : Type 0 where
+  pub steady : Steady 0 act
+  pub ungrown_is : grows past act ≡ false
+  pub worker : (n : ℕ) → HasWorker act n
+  pub busy : joined (without_all (ended_by act) (running past)) (taken_by act) ≡ running past
 
-quiet : (past : List Moment) (act : Act) → is_quiet act ≡ true → Quiet past act
+pub quiet : (past : List Moment) (act : Act) → is_quiet act ≡ true → Quiet past act
 quiet past (Accepted s) is = absurd cc
 quiet past (Refused NoWorker) is = absurd cc
 quiet past (JobWoken s Entered) is = absurd cc
@@ -188,7 +189,7 @@ quiet past (TookDropped s) is = absurd cc
 quiet past (Stays v end) is = absurd cc
 quiet past (Stopped v end) is = absurd cc
 quiet past (Ended s how) is = absurd cc
-quiet past act is = record { steady = record { came = refl; stop = refl; most = λ l. refl; set = refl }; ungrown_is = refl; busy = refl }
+quiet past act is = record { steady = record { came = refl; stop = refl; most = λ l. refl; set = refl }; ungrown_is = refl; worker = λ n. tt; busy = refl }
 
 abbrev growth_in : Moment → Growth
 growth_in now = record { started = now.event.started; refused = now.event.start_refused }
@@ -366,7 +367,8 @@ module _ (setting : ℕ) (plan : List Bool) (crew : Crew) (past : List Moment) (
       (record { came = refl; stop = refl; most = λ l. refl; set = refl }) (ungrown (after_release crew.pool.counts) pool.counts bell same) (omega (arith, idle_are, fewer)) (length-set crew.hands (v - 1) (Free pass))
       (omega (arith, left, fewer))
 
-  swept : (late : Bool) (growth : Growth) (between : JobPool) → SweepsIf late (IsPlanned plan) crew.pool growth between → GrewBy 0 crew.pool.counts between.counts growth (not (length (if late then seen_to_sweep past else []) == 0))
+  -- the counts after a sweep, if there was one
+  pub swept : (late : Bool) (growth : Growth) (between : JobPool) → SweepsIf late (IsPlanned plan) crew.pool growth between → GrewBy 0 crew.pool.counts between.counts growth (not (length (if late then seen_to_sweep past else []) == 0))
   swept true growth between sweeps =
       subst (λ (ns : List ℕ). GrewBy 0 crew.pool.counts between.counts growth (not (length ns == 0))) (sweep_same setting plan crew past h)
       (sweep_grew_to (IsPlanned plan) crew.pool between growth (to_sweep crew.pool) sweeps)

@@ -34,7 +34,8 @@ module _ (setting : ℕ) (plan : List Bool) (crew : Crew) (past : List Moment) (
   refused_line Numbers growth pool adds = ap (λ (p : JobPool). p.queue) adds.2
   refused_line NoWorker growth pool adds = ap (λ (p : JobPool). p.queue) adds.after_is
 
-  swept_line : (late : Bool) (new : JobPool) → IsSwept late crew.pool new past → new.queue ≡ joined (queue past) (if late then to_sweep past else [])
+  -- the queue after a sweep, if there was one
+  pub swept_line : (late : Bool) (new : JobPool) → IsSwept late crew.pool new past → new.queue ≡ joined (queue past) (if late then to_sweep past else [])
   swept_line late new swept = swept.line ∙ ap (λ (ns : List ℕ). joined ns (if late then to_sweep past else [])) h.tied.lined
 
   -- Each move keeps the pool's queue that of the past.
