@@ -198,7 +198,7 @@ count_one : (b : Bool) (now : Moment) (past : List Moment) → length (cond b (n
 count_one true now past = omega arith
 count_one false now past = omega arith
 
-sum_busy : (row : List Hand) → sum_of one_if_busy row ≡ busy_hands row
+pub sum_busy : (row : List Hand) → sum_of one_if_busy row ≡ busy_hands row
 sum_busy [] = refl
 sum_busy (hand ∷ row) = ap (λ n. one_if_busy hand + n) (sum_busy row)
 
