@@ -1,0 +1,5 @@
+pub mod growth
+pub mod jobs
+pub mod hands
+pub mod closing
+pub mod ready

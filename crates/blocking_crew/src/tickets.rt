@@ -101,10 +101,10 @@ struct Before {
 impl Tickets {
     ghost use Rattle.blocking_pool.specs.PoolAnswers.{Arrives, pool_of};
     ghost use Rattle.blocking_pool.specs.Jobs.{is_running_as};
-    ghost use Rattle.blocking_pool.specs.Pools.{without_job};
+    ghost use Rattle.blocking_pool.specs.Pools.{IsSound, without_job};
     ghost use Rattle.blocking_pool.specs.Counts.{after_limit};
     ghost use Rattle.blocking_crew.specs.Closing.{NoneDue, PassesOver};
-    ghost use Rattle.blocking_crew.specs.Tickets.{AddsTo, TakesTo, Wakes, Cancels, AreValued, to_sweep, SweepsTo, WaitsSo, ParksSo, pool_after_mark};
+    ghost use Rattle.blocking_crew.specs.Tickets.{AddsTo, TakesTo, Wakes, Cancels, AreValued, to_sweep, SweepsTo, SweepsIf, WaitsSo, ParksSo, pool_after_mark};
 
     // A pool with no job and no worker.
     pub(crate) fn new(alloc: Global, setting: Option<&str>) -> Tickets
@@ -127,6 +127,7 @@ impl Tickets {
     fn before(&self) -> Before
         ensures workers { result.workers ≡ self.now.counts.workers }
         ensures limit { result.limit ≡ limit_of self.now.counts }
+        ensures sound { IsSound self.now }
     {
         Before {
             workers: self.pool.thread_count(),
@@ -221,6 +222,8 @@ impl Tickets {
         ensures count { result.0 ≡ length (to_sweep self.old) }
         ensures after { SweepsTo (S.may_answer starter.old)
             self.old (to_sweep self.old) result.1 self.new }
+        ensures valued { AreValued self.new.jobs }
+        ensures due { NoneDue self.new }
     {
         let before = self.before();
         let count = self.pool.sweep(starter);
@@ -243,16 +246,27 @@ impl Tickets {
     ) -> (Waited, Grown)
         requires valued { AreValued self.old.jobs }
         requires free { self.old.counts.arriving < self.old.counts.idle }
-        ensures { WaitsSo (S.may_answer starter.old) timed_out
+        ensures waits { WaitsSo (S.may_answer starter.old) timed_out
             self.old result.0 result.1 self.new }
+        ensures valued { AreValued self.new.jobs }
+        ensures due { timed_out ≡ true → NoneDue self.new }
     {
-        let growth = if timed_out {
-            let (_count, growth) = self.sweep(starter);
-            growth
-        } else {
-            NO_GROWTH
-        };
+        let growth = self.sweep_if(timed_out, starter);
         (self.pool.after_wait(pass, timed_out, starter), growth)
+    }
+
+    // A wait that timed out sweeps.
+    fn sweep_if<S: Starter>(&mut self, timed_out: bool, starter: &mut S) -> Grown
+        requires { AreValued self.old.jobs }
+        ensures after { SweepsIf timed_out (S.may_answer starter.old) self.old result self.new }
+        ensures valued { AreValued self.new.jobs }
+        ensures due { timed_out ≡ true → NoneDue self.new }
+    {
+        if !timed_out {
+            return NO_GROWTH;
+        }
+        let (_count, growth) = self.sweep(starter);
+        growth
     }
 
     // The turn of a job that is over ends.
