@@ -21,7 +21,7 @@ use Rattle.blocking_laws.specs.declared.event.Moment.{Moment}
 use Rattle.blocking_laws.specs.declared.event.Party.{Party}
 use Rattle.blocking_laws.specs.declared.step.Step.{Step}
 use Rattle.blocking_crew.specs.Crews.{Crew, IsReady, hand_at, free_hands, busy_hands}
-use Rattle.blocking_crew.specs.Moves.{Move, Parks, IsWoken, IsCancelled, IsLetGo, event_of, next_start, is_aside}
+use Rattle.blocking_crew.specs.Moves.{Move, Call, Park, Wake, Cancel, LetGo, event_of, next_start, is_aside}
 use Rattle.blocking_crew.specs.Tickets.{JobPool}
 use Rattle.blocking_crew.specs.declared.hand.Hand.{Hand}
 use Rattle.blocking_crew.specs.declared.hand.Hand.TheVariants.{Out, Free, Holds}
@@ -146,14 +146,14 @@ pub record HoldsAlone (past : List Moment) (party : Party) (s : ℕ) : Type 0 wh
   pub accepted : is_some (standing past s) ≡ true
   pub alone : (t : ℕ) → has_ended past t ≡ false → is_holder (holder past t) party ≡ (s == t)
 
--- What a move asks of the layer above, which knows what each job is for: that a number is its job's; that the ticket of a job that waits
+-- What a call asks of the layer above, which knows what each job is for: that a number is its job's; that the ticket of a job that waits
 -- bears its mark; and that who lets go of a job holds it.
-abbrev pub IsAsked : Crew → List Moment → Move → Type 0
-IsAsked crew past (Parks v held ticket parked pool) = ticket.is_marked ≡ is_marked past held.turn.serial
-IsAsked crew past (IsWoken party number woke growth pool) = IsNumberOf crew.pool number
-IsAsked crew past (IsCancelled party number woke growth pool) = IsNumberOf crew.pool number
-IsAsked crew past (IsLetGo party act number) = IsNumberOf crew.pool number × HoldsAlone past party number.serial
-IsAsked crew past move = Unit {0}
+abbrev pub IsAsked : Crew → List Moment → Call → Type 0
+IsAsked crew past (Park v ticket) = (held : Held) → hand_at crew.hands v ≡ Holds held → ticket.is_marked ≡ is_marked past held.turn.serial
+IsAsked crew past (Wake party number) = IsNumberOf crew.pool number
+IsAsked crew past (Cancel party number) = IsNumberOf crew.pool number
+IsAsked crew past (LetGo party act number) = IsNumberOf crew.pool number × HoldsAlone past party number.serial
+IsAsked crew past call = Unit {0}
 
 -- An event of the layer above that is nothing to the crew: it starts nobody, and is no act of a job or of the pool.
 pub record IsAside (crew : Crew) (e : Event) : Type 0 where
