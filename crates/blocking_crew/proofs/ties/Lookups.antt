@@ -41,7 +41,7 @@ pub job_marked : (pool : JobPool) (number : JobNumber) (s : ℕ) (b : Bool) → 
 job_marked pool number s b is placed =
     marked_by pool number s value ∙ ap (λ c. if c then option_map (mark_by value) (get pool.jobs s) else get pool.jobs s) is ∙ by b is
   where
-    abbrev value : Option Ticket
+    value : Option Ticket
     value = value_at (job_of pool.jobs number)
 
     by : (b : Bool) → (number.serial == s) ≡ b → (if b then option_map (mark_by value) (get pool.jobs s) else get pool.jobs s) ≡ (if b then option_map mark_in (get pool.jobs s) else get pool.jobs s)
