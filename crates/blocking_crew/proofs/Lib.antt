@@ -3,3 +3,5 @@ pub mod jobs
 pub mod hands
 pub mod closing
 pub mod ready
+pub mod ties
+pub mod laws

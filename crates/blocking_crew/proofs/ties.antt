@@ -9,3 +9,5 @@ pub mod Queue
 pub mod Serials
 pub mod Counts
 pub mod Hands
+pub mod Starts
+pub mod Numbers

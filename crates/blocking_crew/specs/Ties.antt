@@ -1,5 +1,5 @@
 -- How a crew hangs together with what was seen.
-use Rattle.std.specs.Prelude.{◌≡◌, ◌+◌, ◌==◌, ◌||◌, min, ℕ, Bool, true, false, List, [], ◌∷◌, length, Option, Some, None, is_some}
+use Rattle.std.specs.Prelude.{◌≡◌, ◌<◌, ◌+◌, ◌==◌, ◌||◌, min, ℕ, Bool, true, false, List, [], ◌∷◌, length, Option, Some, None, is_some}
 use Rattle.std.specs.FinMap.{get}
 use Rattle.blocking_pool.specs.Counts.{limit_of}
 use Rattle.blocking_pool.specs.Growth.{greatest}
@@ -13,6 +13,7 @@ use Rattle.blocking_laws.specs.Jobs.{accepted_jobs, holder, is_holder, standing,
 use Rattle.blocking_laws.specs.Legal.{PoolLaw}
 use Rattle.blocking_laws.specs.Queue.{queue, running}
 use Rattle.blocking_laws.specs.Seen.{EachMayFollow, is_nothing}
+use Rattle.blocking_laws.specs.Served.{IsServed}
 use Rattle.blocking_laws.specs.Staffed.{passes, turns}
 use Rattle.blocking_laws.specs.Steps.{is_there}
 use Rattle.blocking_laws.specs.Turns.{Turn, GoesOn, IsWaiting, MustGiveUp, HasGivenUp, turn, hand}
@@ -128,6 +129,11 @@ pub record Holding (crew : Crew) (past : List Moment) : Type 0 where
   pub passes_are : free_hands crew.hands ≡ passes past
   pub turns_are : busy_hands crew.hands ≡ turns past
   pub jobs_are : turns past ≡ length (running past)
+
+-- Queued jobs are served: the limit is above 0, and where no worker is left for them, the last start that was tried was refused.
+pub record Served (setting : ℕ) (past : List Moment) : Type 0 where
+  pub positive : 0 < limit setting past
+  pub served : IsServed past
 
 -- What every crew keeps: it hangs together with what was seen, its calls may be made, and the law of the pool has held at every moment.
 pub record CrewHolds (setting : ℕ) (plan : List Bool) (crew : Crew) (past : List Moment) : Type 0 where

@@ -19,7 +19,7 @@ use Rattle.blocking_laws.specs.Counts.{workers, limit}
 use Rattle.blocking_laws.specs.Growth.{IsPlanned}
 use Rattle.blocking_laws.specs.Jobs.{accepted_jobs, standing, is_woken, is_cancelled, is_marked, is_to_drop, has_ended}
 use Rattle.blocking_laws.specs.Queue.{queue, to_sweep as seen_to_sweep}
-use Rattle.blocking_laws.specs.Seen.{joined, has_timed_out}
+use Rattle.blocking_laws.specs.Seen.{joined, has_timed_out, is_nothing}
 use Rattle.blocking_laws.specs.Turns.{Turn, turn}
 use Rattle.blocking_laws.specs.declared.event.Act.{Act}
 use Rattle.blocking_laws.specs.declared.event.Act.TheVariants.{Took, TookDropped, Ended, HandedOut}
@@ -27,7 +27,7 @@ use Rattle.blocking_laws.specs.declared.event.Moment.{Moment}
 use Rattle.blocking_laws.specs.declared.event.WaitEnd.{WaitEnd}
 use Rattle.blocking_laws.specs.declared.step.Step.{Step}
 use Rattle.blocking_crew.specs.Crews.{Crew, hand_at, may_end, outcome_of, standing_after}
-use Rattle.blocking_crew.specs.Moves.{Move, Adds, Arrives, TakesJob, TakesNone, Works, EndsTurn, Parks, HasWaited, Sweeps, IsWoken, IsCancelled, IsLetGo, Tells, May, took_act, parked_act}
+use Rattle.blocking_crew.specs.Moves.{Move, Adds, Arrives, TakesJob, TakesNone, Works, EndsTurn, Parks, HasWaited, Sweeps, IsWoken, IsCancelled, IsLetGo, Tells, May, call_of, took_act, parked_act, is_aside}
 use Rattle.blocking_crew.specs.Tickets.{JobPool, TakesFront, SweepsIf, ParksTo, ParksSo}
 use Rattle.blocking_crew.specs.Ties.{FiledAs, FiledHere, ValueAs, IsNumberOf, IsAsked, CrewHolds, turn_of, moment_of}
 use Rattle.blocking_crew.specs.declared.hand.Hand.TheVariants.{Holds}
@@ -162,8 +162,12 @@ module _ (setting : ℕ) (plan : List Bool) (crew : Crew) (past : List Moment) (
   met_rightly answer number done dropped placed =
       met_as answer (get crew.pool.jobs number.serial) number.place (standing past number.serial) _ _ _ _ done dropped placed (h.tied.filed number.serial)
 
+  -- an event that is nothing to the crew needs no answer
+  pub answer_aside : (last : Moment) (act : Act) → (is_aside act || is_nothing act) ≡ true → PoolAnswers setting past last act
+  answer_aside last act is = by_aside (λ act. PoolAnswers setting past last act) tt (λ n. tt) tt tt tt act is
+
   -- Each move is answered as the law of answers says.
-  pub answer_law : (move : Move) → May (IsPlanned plan) crew move → IsAsked crew past move → AnswerLaw setting past (moment_of crew move step owner)
+  pub answer_law : (move : Move) → May (IsPlanned plan) crew move → IsAsked crew past (call_of move) → AnswerLaw setting past (moment_of crew move step owner)
   answer_law (Adds who (Ok number) growth pool) may asked = (may.serial ∙ h.tied.numbered.next, subst (λ (s : ℕ). s < greatest) (sym may.serial) may.left)
   answer_law (Adds who (Err NoWorker) growth pool) may asked = subst (λ (s : ℕ). s < greatest) h.tied.numbered.next may.left
   answer_law (Adds who (Err Numbers) growth pool) may asked = sym h.tied.numbered.next ∙ may.0
@@ -176,14 +180,14 @@ module _ (setting : ℕ) (plan : List Bool) (crew : Crew) (past : List Moment) (
   answer_law (Works v held act) may asked =
       by_work (λ at act. PoolAnswers setting past (moment_of crew (Works v held act) step owner) act) (λ a. tt) tt (λ w. tt) tt (λ w. tt) tt held.stage act may.1
   answer_law (EndsTurn v held pass) may asked = ends held v may.0 may.1
-  answer_law (Parks v held ticket (parking.Parked pass) pool) may asked = parks held v ticket (parking.Parked pass) pool may.0 may.1 may.2 asked
-  answer_law (Parks v held ticket (parking.Queued pass) pool) may asked = parks held v ticket (parking.Queued pass) pool may.0 may.1 may.2 asked
-  answer_law (Parks v held ticket (parking.HandedOut back) pool) may asked = parks held v ticket (parking.HandedOut back) pool may.0 may.1 may.2 asked
+  answer_law (Parks v held ticket (parking.Parked pass) pool) may asked = parks held v ticket (parking.Parked pass) pool may.0 may.1 may.2 (asked held may.0)
+  answer_law (Parks v held ticket (parking.Queued pass) pool) may asked = parks held v ticket (parking.Queued pass) pool may.0 may.1 may.2 (asked held may.0)
+  answer_law (Parks v held ticket (parking.HandedOut back) pool) may asked = parks held v ticket (parking.HandedOut back) pool may.0 may.1 may.2 (asked held may.0)
   answer_law (HasWaited v pass end (Stay back) growth pool) may asked = stop_is end growth may.1.between may.1.sweep ∙ may.1.answer.0
   answer_law (HasWaited v pass end Stop growth pool) may asked = stop_is end growth may.1.between may.1.sweep ∙ may.1.answer.0
   answer_law (Sweeps growth pool) may asked = ap length (sweep_same setting plan crew past h)
   answer_law (IsWoken who number woke growth pool) may asked = may.answer ∙ met_rightly wake_of number refl refl asked
   answer_law (IsCancelled who number woke growth pool) may asked = may.answer ∙ met_rightly cancel_of number refl refl asked
   answer_law (IsLetGo who act number) may asked = by_let_go (λ act. PoolAnswers setting past (moment_of crew (IsLetGo who act number) step owner) act) tt tt act may
-  answer_law (Tells who act) may asked = by_aside (λ act. PoolAnswers setting past (moment_of crew (Tells who act) step owner) act) tt (λ n. tt) tt tt tt act (aside_or act may)
+  answer_law (Tells who act) may asked = answer_aside (moment_of crew (Tells who act) step owner) act (aside_or act may)
   answer_law move may asked = tt

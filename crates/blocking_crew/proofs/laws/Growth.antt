@@ -1,5 +1,5 @@
 -- Each move grows as the law of growth says.
-use Rattle.std.proofs.Common.{◌≡◌, ℕ, ◌<◌, ◌+◌, ◌-◌, ◌==◌, min, List, [], ◌∷◌, ◌++◌, Bool, true, false, length, length-append, refl, sym, ap, ◌∙◌, subst, arith, if◌then◌else◌, Option, Some, None}
+use Rattle.std.proofs.Common.{◌≡◌, ℕ, ◌<◌, ◌+◌, ◌-◌, ◌==◌, ◌||◌, min, List, [], ◌∷◌, ◌++◌, Bool, true, false, length, length-append, refl, sym, ap, ◌∙◌, subst, arith, if◌then◌else◌, Option, Some, None}
 use Rattle.std.specs.Prelude.{not, Result, Ok, Err}
 use Rattle.std.proofs.lemmas.Bool.Decides.{nat_tests}
 use Rattle.blocking_pool.specs.Counts.{limit_of, after_pickup}
@@ -13,7 +13,7 @@ use Rattle.blocking_pool.specs.declared.pool.token.WorkerPass.{WorkerPass}
 use Rattle.blocking_laws.specs.Counts.{starts, refused_starts, workers, limit}
 use Rattle.blocking_laws.specs.Growth.{IsPlanned, StartsRightly, GrowthLaw, HasWorker, grows, turned_away}
 use Rattle.blocking_laws.specs.Queue.{queue, running, to_sweep as seen_to_sweep}
-use Rattle.blocking_laws.specs.Seen.{joined, has_timed_out}
+use Rattle.blocking_laws.specs.Seen.{joined, has_timed_out, is_nothing}
 use Rattle.blocking_laws.specs.declared.event.Act.{Act}
 use Rattle.blocking_laws.specs.declared.event.Act.TheVariants.{Accepted, Refused, JobWoken, JobCancelled, LimitSet, Swept, Arrived, Took, TookDropped, TookNone, Stays, Stopped, Ended, HandedOut, NoAction}
 use Rattle.blocking_laws.specs.declared.event.Moment.{Moment}
@@ -23,7 +23,7 @@ use Rattle.blocking_laws.specs.declared.event.WaitEnd.{WaitEnd}
 use Rattle.blocking_laws.specs.declared.event.WaitEnd.TheVariants.{Woken, TimedOut}
 use Rattle.blocking_laws.specs.declared.step.Step.{Step}
 use Rattle.blocking_crew.specs.Crews.{Crew, hand_at, outcome_of, standing_after}
-use Rattle.blocking_crew.specs.Moves.{Move, Idles, Adds, Arrives, TakesJob, TakesNone, Works, EndsTurn, Parks, HasWaited, SetsLimit, Sweeps, IsWoken, IsCancelled, IsLetGo, Tells, May, next_start, named}
+use Rattle.blocking_crew.specs.Moves.{Move, Idles, Adds, Arrives, TakesJob, TakesNone, Works, EndsTurn, Parks, HasWaited, SetsLimit, Sweeps, IsWoken, IsCancelled, IsLetGo, Tells, May, next_start, named, is_aside}
 use Rattle.blocking_crew.specs.Tickets.{JobPool, no_growth, GrowsBy, TakesFront, SweepsTo, SweepsIf, to_sweep}
 use Rattle.blocking_crew.specs.Ties.{CrewHolds, moment_of}
 use Rattle.blocking_crew.specs.declared.hand.Hand.TheVariants.{Free}
@@ -135,6 +135,10 @@ module _ (setting : ℕ) (plan : List Bool) (crew : Crew) (past : List Moment) (
   ungrown : (who : Party) (act : Act) (growth : Growth) → growth ≡ no_growth → is_quiet act ≡ true → GrowthLaw setting plan past (now who None act growth)
   ungrown who act growth none is = subst (λ (g : Growth). GrowthLaw setting plan past (now who None act g)) (sym none) (quiet_law who None act is)
 
+  -- an event that is nothing to the crew starts nobody
+  pub growth_aside : (who : Party) (act : Act) → (is_aside act || is_nothing act) ≡ true → GrowthLaw setting plan past (now who None act no_growth)
+  growth_aside who act is = quiet_law who None act (by_aside (λ act. is_quiet act ≡ true) refl (λ n. refl) refl refl refl act is)
+
   -- Each move grows as the law of growth says.
   pub growth_law : (move : Move) → May (IsPlanned plan) crew move → GrowthLaw setting plan past (moment_of crew move step owner)
   growth_law (Idles call) may = quiet_law (named call) None NoAction refl
@@ -162,4 +166,4 @@ module _ (setting : ℕ) (plan : List Bool) (crew : Crew) (past : List Moment) (
   growth_law (IsCancelled who number Marked growth pool) may = ungrown who (JobCancelled number.serial Marked) growth may.effect.0 refl
   growth_law (IsCancelled who number Nothing growth pool) may = ungrown who (JobCancelled number.serial Nothing) growth may.effect.0 refl
   growth_law (IsLetGo who act number) may = quiet_law who None act (by_let_go (λ act. is_quiet act ≡ true) refl refl act may)
-  growth_law (Tells who act) may = quiet_law who None act (by_aside (λ act. is_quiet act ≡ true) refl (λ n. refl) refl refl refl act (aside_or act may))
+  growth_law (Tells who act) may = growth_aside who act (aside_or act may)

@@ -18,7 +18,7 @@ use Rattle.blocking_pool.specs.declared.pool.token.WorkerPass.{WorkerPass}
 use Rattle.blocking_laws.specs.Counts.{added, starts, refused_starts, arrivals, stops as all_stops, workers, limit, limit_by, is_arrival, is_stop}
 use Rattle.blocking_laws.specs.Growth.{IsPlanned, HasWorker, known_limit, has_limit, grows, is_limit_set}
 use Rattle.blocking_laws.specs.Queue.{running, ended_by, taken_by, to_sweep as seen_to_sweep}
-use Rattle.blocking_laws.specs.Seen.{joined, without_all, has_timed_out}
+use Rattle.blocking_laws.specs.Seen.{joined, without_all, has_timed_out, is_nothing}
 use Rattle.blocking_laws.specs.declared.event.Act.{Act}
 use Rattle.blocking_laws.specs.declared.event.Act.TheVariants.{Accepted, Refused, JobWoken, JobCancelled, LimitSet, Swept, Arrived, Took, TookDropped, TookNone, Stays, Stopped, Ended, HandedOut, NoAction}
 use Rattle.blocking_laws.specs.declared.event.Moment.{Moment}
@@ -27,7 +27,7 @@ use Rattle.blocking_laws.specs.declared.event.Party.TheVariants.{Worker, Pool}
 use Rattle.blocking_laws.specs.declared.event.WaitEnd.{WaitEnd}
 use Rattle.blocking_laws.specs.declared.step.Step.{Step}
 use Rattle.blocking_crew.specs.Crews.{Crew, hand_at, with_hand, held_after_act, outcome_of, standing_after, one_if_busy, busy_hands}
-use Rattle.blocking_crew.specs.Moves.{Move, Idles, Adds, Arrives, TakesJob, TakesNone, Works, EndsTurn, Parks, HasWaited, SetsLimit, Sweeps, IsWoken, IsCancelled, IsLetGo, Tells, May, after, next_start, hand_after_park}
+use Rattle.blocking_crew.specs.Moves.{Move, Idles, Adds, Arrives, TakesJob, TakesNone, Works, EndsTurn, Parks, HasWaited, SetsLimit, Sweeps, IsWoken, IsCancelled, IsLetGo, Tells, May, after, next_start, hand_after_park, is_aside}
 use Rattle.blocking_crew.specs.Tickets.{JobPool, no_growth, GrowsBy, SweepsTo, SweepsIf, to_sweep}
 use Rattle.blocking_crew.specs.Ties.{Counted, CrewHolds, moment_of}
 use Rattle.blocking_crew.specs.declared.hand.Hand.{Hand}
@@ -37,7 +37,7 @@ use Rattle.blocking_crew.specs.declared.tickets.Parking.TheVariants as parking
 use Rattle.blocking_crew.proofs.growth.Reads.{numbers_last}
 use Rattle.blocking_crew.proofs.hands.Rows.{at_held, at_free, sum_of, sum_set, sum_pushed, free_set}
 use Rattle.blocking_crew.proofs.ties.Acts.{now_with, by_work, by_aside, by_let_go, by_end, aside_or}
-use Rattle.blocking_crew.proofs.ties.Lookups.{mark_alone}
+use Rattle.blocking_crew.proofs.jobs.Marks.{mark_alone}
 use Rattle.blocking_crew.proofs.ties.Known.{held_once}
 use Rattle.blocking_crew.proofs.ties.Sweeps.{sweep_same}
 
@@ -390,6 +390,10 @@ module _ (setting : ℕ) (plan : List Bool) (crew : Crew) (past : List Moment) (
 
   -- ---- every move
 
+  -- an event that is nothing to the crew keeps them
+  pub counts_aside : (who : Party) (act : Act) → (is_aside act || is_nothing act) ≡ true → Counted setting crew (now who None act no_growth ∷ past)
+  counts_aside who act is = still crew who None act (by_aside (λ act. is_quiet act ≡ true) refl (λ n. refl) refl refl refl act is) refl refl h.tied.counted.busy_are
+
   -- Each move keeps the counts what the past tells.
   pub counts_after : (move : Move) → May (IsPlanned plan) crew move → Counted setting (after crew move) (moment_of crew move step owner ∷ past)
   counts_after (Idles call) may = still crew _ None NoAction refl refl refl h.tied.counted.busy_are
@@ -456,4 +460,4 @@ module _ (setting : ℕ) (plan : List Bool) (crew : Crew) (past : List Moment) (
   counts_after (IsLetGo who act number) may =
       still (after crew (IsLetGo who act number)) who None act (by_let_go (λ act. is_quiet act ≡ true) refl refl act may)
       (ap (λ (p : JobPool). p.counts) (mark_alone crew.pool number (value_at (job_of crew.pool.jobs number)))) refl h.tied.counted.busy_are
-  counts_after (Tells who act) may = still crew who None act (by_aside (λ act. is_quiet act ≡ true) refl (λ n. refl) refl refl refl act (aside_or act may)) refl refl h.tied.counted.busy_are
+  counts_after (Tells who act) may = counts_aside who act (aside_or act may)

@@ -10,6 +10,7 @@ use Rattle.blocking_pool.specs.declared.pool.standing.Standing.TheVariants.{Queu
 use Rattle.blocking_pool.specs.declared.pool.token.WorkerPass.{WorkerPass}
 use Rattle.blocking_laws.specs.Growth.{IsPlanned}
 use Rattle.blocking_laws.specs.Jobs.{standing, is_running}
+use Rattle.blocking_laws.specs.Seen.{is_nothing}
 use Rattle.blocking_laws.specs.Steps.{is_there}
 use Rattle.blocking_laws.specs.Turns.{Turn, GoesOn, IsWaiting, MustGiveUp, HasGivenUp, turn, hand}
 use Rattle.blocking_laws.specs.declared.event.Act.{Act}
@@ -21,7 +22,7 @@ use Rattle.blocking_laws.specs.declared.event.Party.{Party}
 use Rattle.blocking_laws.specs.declared.event.Party.TheVariants.{Worker}
 use Rattle.blocking_laws.specs.declared.step.Step.{Step}
 use Rattle.blocking_crew.specs.Crews.{Crew, hand_at, with_hand, may_act, stage_after, held_after_act, outcome_of, standing_after}
-use Rattle.blocking_crew.specs.Moves.{Move, Adds, Arrives, TakesJob, TakesNone, Works, EndsTurn, Parks, HasWaited, IsLetGo, Tells, May, after, next_start, first_stage}
+use Rattle.blocking_crew.specs.Moves.{Move, Adds, Arrives, TakesJob, TakesNone, Works, EndsTurn, Parks, HasWaited, IsLetGo, Tells, May, after, next_start, first_stage, is_aside}
 use Rattle.blocking_crew.specs.Tickets.{JobPool, TakesFront, no_growth}
 use Rattle.blocking_crew.specs.Ties.{HandAs, Handed, turn_of, CrewHolds, moment_of}
 use Rattle.blocking_crew.specs.declared.hand.Hand.{Hand}
@@ -172,6 +173,14 @@ module _ (setting : ℕ) (plan : List Bool) (crew : Crew) (past : List Moment) (
 
   -- ---- every move
 
+  -- an event that is nothing to the crew keeps them
+  pub hands_aside : (who : Party) (act : Act) → (is_aside act || is_nothing act) ≡ true → Handed crew (now who None act no_growth ∷ past)
+  hands_aside who act is =
+      by_aside (λ act. Handed crew (now who None act no_growth ∷ past))
+      (record { each = h.tied.handed.each; turn_is = h.tied.handed.turn_is }) (λ n. record { each = h.tied.handed.each; turn_is = h.tied.handed.turn_is })
+      (record { each = h.tied.handed.each; turn_is = h.tied.handed.turn_is }) (record { each = h.tied.handed.each; turn_is = h.tied.handed.turn_is })
+      (record { each = h.tied.handed.each; turn_is = h.tied.handed.turn_is }) act is
+
   -- Each move keeps the hands as they were seen.
   pub hands_after : (move : Move) → May (IsPlanned plan) crew move → Handed (after crew move) (moment_of crew move step owner ∷ past)
   hands_after (Adds who (Ok number) growth pool) may = record { each = h.tied.handed.each; turn_is = h.tied.handed.turn_is }
@@ -195,9 +204,5 @@ module _ (setting : ℕ) (plan : List Bool) (crew : Crew) (past : List Moment) (
   hands_after (IsLetGo who act number) may =
       by_let_go (λ act. Handed (after crew (IsLetGo who act number)) (now who None act no_growth ∷ past)) (record { each = h.tied.handed.each; turn_is = h.tied.handed.turn_is })
       (record { each = h.tied.handed.each; turn_is = h.tied.handed.turn_is }) act may
-  hands_after (Tells who act) may =
-      by_aside (λ act. Handed crew (now who None act no_growth ∷ past))
-      (record { each = h.tied.handed.each; turn_is = h.tied.handed.turn_is }) (λ n. record { each = h.tied.handed.each; turn_is = h.tied.handed.turn_is })
-      (record { each = h.tied.handed.each; turn_is = h.tied.handed.turn_is }) (record { each = h.tied.handed.each; turn_is = h.tied.handed.turn_is })
-      (record { each = h.tied.handed.each; turn_is = h.tied.handed.turn_is }) act (aside_or act may)
+  hands_after (Tells who act) may = hands_aside who act (aside_or act may)
   hands_after move may = record { each = h.tied.handed.each; turn_is = h.tied.handed.turn_is }

@@ -18,7 +18,7 @@ use Rattle.blocking_pool.specs.declared.pool.standing.Standing.TheVariants.{Queu
 use Rattle.blocking_laws.specs.Answers.{wait_act}
 use Rattle.blocking_laws.specs.Growth.{IsPlanned}
 use Rattle.blocking_laws.specs.Jobs.{standing, holder, is_holder, is_woken, is_cancelled, is_marked, is_parked, has_ended}
-use Rattle.blocking_laws.specs.Seen.{has_timed_out}
+use Rattle.blocking_laws.specs.Seen.{has_timed_out, is_nothing}
 use Rattle.blocking_laws.specs.declared.event.Act.{Act}
 use Rattle.blocking_laws.specs.declared.event.Act.TheVariants.{Accepted, JobWoken, JobCancelled, Ended, Stays, Stopped}
 use Rattle.blocking_laws.specs.declared.event.Moment.{Moment}
@@ -28,7 +28,7 @@ use Rattle.blocking_laws.specs.declared.event.WaitEnd.{WaitEnd}
 use Rattle.blocking_laws.specs.declared.event.WaitEnd.TheVariants.{Woken, TimedOut}
 use Rattle.blocking_laws.specs.declared.step.Step.{Step}
 use Rattle.blocking_crew.specs.Crews.{Crew, hand_at}
-use Rattle.blocking_crew.specs.Moves.{Move, Adds, TakesJob, Works, EndsTurn, Parks, HasWaited, Sweeps, IsWoken, IsCancelled, IsLetGo, Tells, May, after, next_start, took_act, parked_act, is_stop}
+use Rattle.blocking_crew.specs.Moves.{Move, Adds, TakesJob, Works, EndsTurn, Parks, HasWaited, Sweeps, IsWoken, IsCancelled, IsLetGo, Tells, May, after, call_of, next_start, took_act, parked_act, is_aside}
 use Rattle.blocking_crew.specs.Tickets.{JobPool, new_ticket, no_growth, Accepts, AddsTo, TakesFront, EntersAgain, WakesTo, CancelsTo, Wakes, Cancels, ParksTo, ParksSo, pool_after_mark}
 use Rattle.blocking_crew.specs.Ties.{FiledAs, FiledHere, Filed, IsNumberOf, HoldsAlone, IsAsked, CrewHolds, moment_of}
 use Rattle.blocking_crew.specs.declared.hand.Hand.TheVariants.{Holds}
@@ -37,7 +37,8 @@ use Rattle.blocking_crew.specs.declared.ticket.Ticket.{Ticket}
 use Rattle.blocking_crew.specs.declared.tickets.Parking.{Parking}
 use Rattle.blocking_crew.specs.declared.tickets.Parking.TheVariants as parking
 use Rattle.blocking_crew.proofs.ties.Acts.{now_with, by_work, by_aside, by_let_go, by_wait, by_end, aside_or}
-use Rattle.blocking_crew.proofs.ties.Lookups.{job_put, job_out, job_changed, job_marked, mark_in, found_at, mark_finds}
+use Rattle.blocking_crew.proofs.jobs.Lookups.{job_put, job_out, job_changed}
+use Rattle.blocking_crew.proofs.ties.Lookups.{job_marked, found_at, there_by}
 use Rattle.blocking_crew.proofs.ties.Entries.{new_filed, taken_filed, woken_filed, cancelled_filed, requeued_filed, ended_filed, parked_filed, returned_filed, marked_filed}
 use Rattle.blocking_crew.proofs.ties.Known.{fresh}
 use Rattle.blocking_crew.proofs.ties.Sweeps.{IsSwept, is_swept, is_swept_if}
@@ -192,7 +193,7 @@ module _ (setting : ℕ) (plan : List Bool) (crew : Crew) (past : List Moment) (
 
   there_at : (number : JobNumber) (s : ℕ) → is_some (standing_of crew.pool.jobs number) ≡ true → (number.serial == s) ≡ true → is_some (get crew.pool.jobs s) ≡ true
   there_at number s some is =
-      ap (λ n. is_some (get crew.pool.jobs n)) (sym (eqb-true number.serial s is)) ∙ mark_finds number.place (get crew.pool.jobs number.serial) (stands_some (job_of crew.pool.jobs number) some)
+      ap (λ n. is_some (get crew.pool.jobs n)) (sym (eqb-true number.serial s is)) ∙ there_by number.place (get crew.pool.jobs number.serial) (stands_some (job_of crew.pool.jobs number) some)
 
   parked_at : (number : JobNumber) (s : ℕ) → standing_of crew.pool.jobs number ≡ Some Parked → (number.serial == s) ≡ true → standing past s ≡ Some Parked
   parked_at number s parked is =
@@ -268,8 +269,13 @@ module _ (setting : ℕ) (plan : List Bool) (crew : Crew) (past : List Moment) (
 
   -- ---- every move
 
+  -- an event that is nothing to the crew keeps them
+  pub jobs_aside : (who : Party) (act : Act) → (is_aside act || is_nothing act) ≡ true → Filed crew.pool (now who None act no_growth ∷ past)
+  jobs_aside who act is s =
+      by_aside (λ act. FiledHere (get crew.pool.jobs s) (now who None act no_growth ∷ past) s) (h.tied.filed s) (λ n. h.tied.filed s) (h.tied.filed s) (h.tied.filed s) (h.tied.filed s) act is
+
   -- Each move keeps the pool's jobs as they were seen.
-  pub jobs_after : (move : Move) → May (IsPlanned plan) crew move → IsAsked crew past move → Filed (after crew move).pool (moment_of crew move step owner ∷ past)
+  pub jobs_after : (move : Move) → May (IsPlanned plan) crew move → IsAsked crew past (call_of move) → Filed (after crew move).pool (moment_of crew move step owner ∷ past)
   jobs_after (Adds who (Ok number) growth pool) may asked s = accepted_filed who number growth pool may s
   jobs_after (Adds who (Err why) growth pool) may asked s = subst (λ (jobs : Jobs Ticket). FiledHere (get jobs s) past s) (sym (refused_jobs why growth pool may)) (h.tied.filed s)
   jobs_after (TakesJob v old to_drop turn ticket growth pool) may asked s = took_filed to_drop to_drop v turn ticket growth pool may.1 s
@@ -281,7 +287,7 @@ module _ (setting : ℕ) (plan : List Bool) (crew : Crew) (past : List Moment) (
       let both = ended_here v held s in
       subst (λ o. FiledHere o (moment_of crew (EndsTurn v held pass) step owner ∷ past) s) (sym (job_out crew.pool.jobs t s (t == s) refl))
       (by_end (λ act. FiledHere (if t == s then None else get crew.pool.jobs s) (now (Worker v) (Some t) act no_growth ∷ past) s) t both.0 both.1 held.stage)
-  jobs_after (Parks v held ticket parked pool) may asked s = parks_filed v held ticket parked pool may.2 asked s
+  jobs_after (Parks v held ticket parked pool) may asked s = parks_filed v held ticket parked pool may.2 (asked held may.0) s
   jobs_after (HasWaited v pass end (Stay back) growth pool) may asked s =
       waited_filed v end false growth pool (subst (λ (p : JobPool). IsSwept (has_timed_out end) crew.pool p past) (sym may.1.answer.1) (is_swept_if setting plan crew past h (IsPlanned plan) (has_timed_out end) growth may.1.between may.1.sweep)) s
   jobs_after (HasWaited v pass end Stop growth pool) may asked s =
@@ -293,6 +299,5 @@ module _ (setting : ℕ) (plan : List Bool) (crew : Crew) (past : List Moment) (
   jobs_after (IsLetGo who act number) may asked s =
       by_let_go (λ act. FiledHere (get (pool_after_mark crew.pool number).jobs s) (now who None act no_growth ∷ past) s)
       (let_go_filed who number s asked.0 asked.1) (let_go_filed who number s asked.0 asked.1) act may
-  jobs_after (Tells who act) may asked s =
-      by_aside (λ act. FiledHere (get crew.pool.jobs s) (now who None act no_growth ∷ past) s) (h.tied.filed s) (λ n. h.tied.filed s) (h.tied.filed s) (h.tied.filed s) (h.tied.filed s) act (aside_or act may)
+  jobs_after (Tells who act) may asked s = jobs_aside who act (aside_or act may) s
   jobs_after move may asked s = h.tied.filed s

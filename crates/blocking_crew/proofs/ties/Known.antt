@@ -24,7 +24,7 @@ use Rattle.blocking_crew.specs.declared.hand.Hand.TheVariants.{Holds}
 use Rattle.blocking_crew.specs.declared.hand.Held.{Held}
 use Rattle.blocking_crew.specs.declared.ticket.Ticket.{Ticket}
 use Rattle.blocking_crew.proofs.ties.Lists.{in_times, front_once, times_below, times_first, without_times}
-use Rattle.blocking_crew.proofs.ties.Lookups.{runs_at}
+use Rattle.blocking_crew.proofs.jobs.Lookups.{runs_at}
 use Rattle.blocking_crew.proofs.ties.Entries.{filed_runs, filed_none}
 
 unknown_is : (st : Option Standing) → one_if (is_some st) ≡ 0 → st ≡ None

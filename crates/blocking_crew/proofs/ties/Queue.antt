@@ -1,5 +1,5 @@
 -- Each move keeps the pool's queue that of the past.
-use Rattle.std.proofs.Common.{◌≡◌, ℕ, if◌then◌else◌, List, [], ◌∷◌, ◌++◌, Bool, true, false, refl, sym, ap, ◌∙◌, Option, Some, None}
+use Rattle.std.proofs.Common.{◌≡◌, ℕ, if◌then◌else◌, ◌||◌, List, [], ◌∷◌, ◌++◌, Bool, true, false, refl, sym, ap, ◌∙◌, Option, Some, None}
 use Rattle.std.specs.Prelude.{Result, Ok, Err}
 use Rattle.blocking_pool.specs.Growth.{Growth}
 use Rattle.blocking_pool.specs.Jobs.{JobNumber, job_of, value_at}
@@ -9,19 +9,19 @@ use Rattle.blocking_pool.specs.declared.pool.answer.Waited.TheVariants.{Stay, St
 use Rattle.blocking_pool.specs.declared.pool.answer.Woke.TheVariants.{Entered, Marked, Nothing}
 use Rattle.blocking_laws.specs.Growth.{IsPlanned}
 use Rattle.blocking_laws.specs.Queue.{queue, to_sweep}
-use Rattle.blocking_laws.specs.Seen.{joined, has_timed_out}
+use Rattle.blocking_laws.specs.Seen.{joined, has_timed_out, is_nothing}
 use Rattle.blocking_laws.specs.declared.event.Act.{Act}
 use Rattle.blocking_laws.specs.declared.event.Moment.{Moment}
 use Rattle.blocking_laws.specs.declared.event.Party.{Party}
 use Rattle.blocking_laws.specs.declared.event.Party.TheVariants.{Worker}
 use Rattle.blocking_laws.specs.declared.step.Step.{Step}
 use Rattle.blocking_crew.specs.Crews.{Crew}
-use Rattle.blocking_crew.specs.Moves.{Move, Adds, TakesJob, Works, EndsTurn, Parks, HasWaited, Sweeps, IsWoken, IsCancelled, IsLetGo, Tells, May, after, next_start}
+use Rattle.blocking_crew.specs.Moves.{Move, Adds, TakesJob, Works, EndsTurn, Parks, HasWaited, Sweeps, IsWoken, IsCancelled, IsLetGo, Tells, May, after, next_start, is_aside}
 use Rattle.blocking_crew.specs.Tickets.{JobPool, no_growth, AddsTo}
 use Rattle.blocking_crew.specs.Ties.{Lined, CrewHolds, moment_of}
 use Rattle.blocking_crew.specs.declared.tickets.Parking.TheVariants as parking
 use Rattle.blocking_crew.proofs.ties.Acts.{now_with, by_work, by_aside, by_let_go, by_end, aside_or}
-use Rattle.blocking_crew.proofs.ties.Lookups.{mark_alone}
+use Rattle.blocking_crew.proofs.jobs.Marks.{mark_alone}
 use Rattle.blocking_crew.proofs.ties.Known.{front_out}
 use Rattle.blocking_crew.proofs.ties.Sweeps.{IsSwept, is_swept, is_swept_if}
 
@@ -37,6 +37,11 @@ module _ (setting : ℕ) (plan : List Bool) (crew : Crew) (past : List Moment) (
   -- the queue after a sweep, if there was one
   pub swept_line : (late : Bool) (new : JobPool) → IsSwept late crew.pool new past → new.queue ≡ joined (queue past) (if late then to_sweep past else [])
   swept_line late new swept = swept.line ∙ ap (λ (ns : List ℕ). joined ns (if late then to_sweep past else [])) h.tied.lined
+
+  -- an event that is nothing to the crew keeps it
+  pub queue_aside : (who : Party) (act : Act) → (is_aside act || is_nothing act) ≡ true → Lined crew.pool (now who None act no_growth ∷ past)
+  queue_aside who act is =
+      by_aside (λ act. crew.pool.queue ≡ queue (now who None act no_growth ∷ past)) h.tied.lined (λ n. h.tied.lined) h.tied.lined h.tied.lined h.tied.lined act is
 
   -- Each move keeps the pool's queue that of the past.
   pub queue_after : (move : Move) → May (IsPlanned plan) crew move → Lined (after crew move).pool (moment_of crew move step owner ∷ past)
@@ -68,6 +73,5 @@ module _ (setting : ℕ) (plan : List Bool) (crew : Crew) (past : List Moment) (
   queue_after (IsLetGo who act number) may =
       let same = ap (λ (p : JobPool). p.queue) (mark_alone crew.pool number (value_at (job_of crew.pool.jobs number))) ∙ h.tied.lined in
       by_let_go (λ act. (after crew (IsLetGo who act number)).pool.queue ≡ queue (now who None act no_growth ∷ past)) same same act may
-  queue_after (Tells who act) may =
-      by_aside (λ act. crew.pool.queue ≡ queue (now who None act no_growth ∷ past)) h.tied.lined (λ n. h.tied.lined) h.tied.lined h.tied.lined h.tied.lined act (aside_or act may)
+  queue_after (Tells who act) may = queue_aside who act (aside_or act may)
   queue_after move may = h.tied.lined

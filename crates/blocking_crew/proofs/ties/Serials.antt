@@ -1,5 +1,5 @@
 -- Each move keeps the serials those of the jobs that were accepted.
-use Rattle.std.proofs.Common.{◌≡◌, ℕ, ◌+◌, List, [], ◌∷◌, ◌++◌, length, length-append, Bool, true, false, refl, sym, ap, ◌∙◌, arith, suc, Option, Some, None}
+use Rattle.std.proofs.Common.{◌≡◌, ℕ, ◌+◌, List, [], ◌∷◌, ◌++◌, length, length-append, Bool, true, false, refl, sym, ap, ◌∙◌, ◌||◌, arith, suc, Option, Some, None}
 use Rattle.std.specs.Prelude.{Result, Ok, Err}
 use Rattle.blocking_pool.specs.Growth.{Growth}
 use Rattle.blocking_pool.specs.Jobs.{JobNumber, job_of, value_at}
@@ -10,7 +10,7 @@ use Rattle.blocking_pool.specs.declared.pool.answer.Waited.TheVariants.{Stay, St
 use Rattle.blocking_pool.specs.declared.pool.answer.Woke.TheVariants.{Entered, Marked, Nothing}
 use Rattle.blocking_laws.specs.Growth.{IsPlanned}
 use Rattle.blocking_laws.specs.Jobs.{accepted_jobs}
-use Rattle.blocking_laws.specs.Seen.{has_timed_out}
+use Rattle.blocking_laws.specs.Seen.{has_timed_out, is_nothing}
 use Rattle.blocking_laws.specs.declared.event.Act.{Act}
 use Rattle.blocking_laws.specs.declared.event.Act.TheVariants.{Accepted}
 use Rattle.blocking_laws.specs.declared.event.Moment.{Moment}
@@ -18,12 +18,12 @@ use Rattle.blocking_laws.specs.declared.event.Party.{Party}
 use Rattle.blocking_laws.specs.declared.event.Party.TheVariants.{Worker}
 use Rattle.blocking_laws.specs.declared.step.Step.{Step}
 use Rattle.blocking_crew.specs.Crews.{Crew}
-use Rattle.blocking_crew.specs.Moves.{Move, Adds, TakesJob, Works, EndsTurn, Parks, HasWaited, Sweeps, IsWoken, IsCancelled, IsLetGo, Tells, May, after, next_start, took_act, parked_act}
+use Rattle.blocking_crew.specs.Moves.{Move, Adds, TakesJob, Works, EndsTurn, Parks, HasWaited, Sweeps, IsWoken, IsCancelled, IsLetGo, Tells, May, after, next_start, is_aside}
 use Rattle.blocking_crew.specs.Tickets.{JobPool, no_growth, Accepts, AddsTo}
 use Rattle.blocking_crew.specs.Ties.{Numbered, CrewHolds, moment_of}
 use Rattle.blocking_crew.specs.declared.tickets.Parking.TheVariants as parking
 use Rattle.blocking_crew.proofs.ties.Acts.{now_with, by_work, by_aside, by_let_go, by_end, aside_or}
-use Rattle.blocking_crew.proofs.ties.Lookups.{mark_alone}
+use Rattle.blocking_crew.proofs.jobs.Marks.{mark_alone}
 use Rattle.blocking_crew.proofs.ties.Sweeps.{IsSwept, is_swept, is_swept_if}
 
 module _ (setting : ℕ) (plan : List Bool) (crew : Crew) (past : List Moment) (step : Step) (owner : Option ℕ) (h : CrewHolds setting plan crew past) where
@@ -52,6 +52,12 @@ module _ (setting : ℕ) (plan : List Bool) (crew : Crew) (past : List Moment) (
   refused Memory growth pool adds = ap (λ (p : JobPool). p.next_serial) adds.1
   refused Numbers growth pool adds = ap (λ (p : JobPool). p.next_serial) adds.2
   refused NoWorker growth pool adds = ap (λ (p : JobPool). p.next_serial) adds.after_is
+
+  -- an event that is nothing to the crew keeps them
+  pub serials_aside : (who : Party) (act : Act) → (is_aside act || is_nothing act) ≡ true → Numbered crew.pool (now who None act no_growth ∷ past)
+  serials_aside who act is =
+      by_aside (λ act. Numbered crew.pool (now who None act no_growth ∷ past))
+      (kept crew.pool _ refl refl) (λ m. kept crew.pool _ refl refl) (kept crew.pool _ refl refl) (kept crew.pool _ refl refl) (kept crew.pool _ refl refl) act is
 
   -- Each move keeps the serials those of the jobs that were accepted.
   pub serials_after : (move : Move) → May (IsPlanned plan) crew move → Numbered (after crew move).pool (moment_of crew move step owner ∷ past)
@@ -84,7 +90,5 @@ module _ (setting : ℕ) (plan : List Bool) (crew : Crew) (past : List Moment) (
       let new = (after crew (IsLetGo who act number)).pool in
       let same : new.next_serial ≡ crew.pool.next_serial = ap (λ (p : JobPool). p.next_serial) (mark_alone crew.pool number (value_at (job_of crew.pool.jobs number))) in
       by_let_go (λ act. Numbered new (now who None act no_growth ∷ past)) (kept new _ same refl) (kept new _ same refl) act may
-  serials_after (Tells who act) may =
-      by_aside (λ act. Numbered crew.pool (now who None act no_growth ∷ past))
-      (kept crew.pool _ refl refl) (λ m. kept crew.pool _ refl refl) (kept crew.pool _ refl refl) (kept crew.pool _ refl refl) (kept crew.pool _ refl refl) act (aside_or act may)
+  serials_after (Tells who act) may = serials_aside who act (aside_or act may)
   serials_after move may = kept (after crew move).pool _ refl refl

@@ -18,7 +18,7 @@ use Rattle.blocking_crew.specs.Tickets.{JobPool, SweepsTo, SweepsIf, to_sweep, i
 use Rattle.blocking_crew.specs.Ties.{CrewHolds}
 use Rattle.blocking_crew.specs.declared.ticket.Ticket.{Ticket}
 use Rattle.blocking_crew.proofs.ties.Lists.{same_filter}
-use Rattle.blocking_crew.proofs.ties.Lookups.{jobs_again}
+use Rattle.blocking_crew.proofs.jobs.Lookups.{job_requeued}
 use Rattle.blocking_crew.proofs.ties.Entries.{due_filed}
 use Rattle.blocking_crew.proofs.ties.Known.{get_zero, accepted_in}
 
@@ -83,7 +83,7 @@ module _ (setting : ℕ) (plan : List Bool) (crew : Crew) (past : List Moment) (
       let all = swept_by may_answer crew.pool new growth (to_sweep crew.pool) sweeps in
       record {
         jobs = λ s.
-            ap (λ (jobs : Jobs Ticket). get jobs s) all.0 ∙ jobs_again (to_sweep crew.pool) crew.pool.jobs s
+            ap (λ (jobs : Jobs Ticket). get jobs s) all.0 ∙ job_requeued (to_sweep crew.pool) crew.pool.jobs s
             ∙ ap (λ (b : Bool). if b then option_map entry_after_requeue (get crew.pool.jobs s) else get crew.pool.jobs s) (due_test s);
         line = all.1 ∙ ap (joined crew.pool.queue) sweep_same;
         serial = all.2;
