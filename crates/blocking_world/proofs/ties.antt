@@ -1,1 +1,4 @@
 pub mod Found
+pub mod Jobs
+pub mod Acts
+pub mod Tasks
