@@ -1,4 +1,6 @@
 pub mod Found
 pub mod Jobs
 pub mod Acts
+pub mod Kept
 pub mod Tasks
+pub mod Rows
