@@ -153,7 +153,9 @@ impl Parts {
     {
         let in_hand = self.crew.in_hand(worker)?;
         let serial = in_hand.number.serial();
-        let row = self.row(serial)?;
+        let Some(row) = self.row(serial) else {
+            return None;
+        };
         let task = row.holder.task();
         if task >= self.tasks.len() {
             return None;

@@ -104,35 +104,33 @@ impl Row {
         ensures row { self.new ≡ row_after_own (own_step stage self.old.core) stage task.old self.old }
         ensures task { task.new ≡ task_after_own (own_step stage self.old.core) task.old }
     {
-        let Core::Call(mut progress) = self.core;
-        let act = match self.next(stage) {
-            WorkerAction::Await | WorkerAction::End | WorkerAction::Rest => return None,
+        let next = self.next(stage);
+        let Core::Call(progress) = &mut self.core;
+        match next {
+            WorkerAction::Await | WorkerAction::End | WorkerAction::Rest => None,
             WorkerAction::Finish => {
                 let wake = task.finish(progress.number());
                 progress.finish(wake);
-                Act::Finished(HolderWaker::in_seat(wake))
+                Some(Act::Finished(HolderWaker::in_seat(wake)))
             }
             WorkerAction::GiveUp => {
                 let wake = task.give_up();
-                Act::GaveUp(HolderWaker::in_seat(wake))
+                Some(Act::GaveUp(HolderWaker::in_seat(wake)))
             }
             WorkerAction::Wake => {
                 if let Stage::Runs = stage {
                     progress.wake();
                 }
-                Act::HolderWoken
+                Some(Act::HolderWoken)
             }
-        };
-        self.core = Core::Call(progress);
-        Some(act)
+        }
     }
 
     /// The call of the job gave this number.
     pub(crate) fn answer(&mut self, number: u64)
         ensures { self.new ≡ row_after_answer number self.old }
     {
-        let Core::Call(mut progress) = self.core;
+        let Core::Call(progress) = &mut self.core;
         progress.answer(number);
-        self.core = Core::Call(progress);
     }
 }

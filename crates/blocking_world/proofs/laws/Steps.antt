@@ -8,7 +8,7 @@ use Rattle.blocking_core.specs.declared.job.Action.{Action}
 use Rattle.blocking_core.specs.declared.job.Action.TheVariants as action
 use Rattle.blocking_crew.specs.Crews.{hand_at, is_free_hand}
 use Rattle.blocking_crew.specs.Moves as crew
-use Rattle.blocking_crew.specs.Moves.{added_act, next_start, no_growth, seen}
+use Rattle.blocking_crew.specs.Moves.{added_act, next_start, seen}
 use Rattle.blocking_crew.specs.Ties.{HandAs, turn_of}
 use Rattle.blocking_crew.specs.Tickets.{JobPool}
 use Rattle.blocking_crew.specs.declared.hand.Hand.{Hand}

@@ -294,7 +294,7 @@ module _ (setting : ℕ) (plan : List Bool) (w : Parts) (past : List Moment) (t 
       })
     where
       allowed : (how : Woke) → how ≡ wake_of (standing past number.serial) → (n : ℕ) (row : Row) → Allows (JobWoken number.serial how) n (standing past n) row.core (acts_of n (events past))
-      allowed Entered is n row same = ap (standing past) (sym (eqb-true number.serial n same)) ∙ woken_parked (standing past number.serial) is
+      allowed Entered is n row = λ same. ap (standing past) (sym (eqb-true number.serial n same)) ∙ woken_parked (standing past number.serial) is
       allowed Marked is n row = tt
       allowed Nothing is n row = tt
 
@@ -312,7 +312,7 @@ module _ (setting : ℕ) (plan : List Bool) (w : Parts) (past : List Moment) (t 
       })
     where
       allowed : (how : Woke) → how ≡ cancel_of (standing past number.serial) → (n : ℕ) (row : Row) → Allows (JobCancelled number.serial how) n (standing past n) row.core (acts_of n (events past))
-      allowed Entered is n row same = ap (standing past) (sym (eqb-true number.serial n same)) ∙ cancelled_parked (standing past number.serial) is
+      allowed Entered is n row = λ same. ap (standing past) (sym (eqb-true number.serial n same)) ∙ cancelled_parked (standing past number.serial) is
       allowed Marked is n row = tt
       allowed Nothing is n row = tt
 
