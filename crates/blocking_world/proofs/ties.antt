@@ -6,3 +6,4 @@ pub mod Kept
 pub mod Tasks
 pub mod Rows
 pub mod Calls
+pub mod Begins

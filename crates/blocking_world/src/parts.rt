@@ -37,10 +37,11 @@ impl Model for Parts {
 }
 
 impl Parts {
+    ghost use Rattle.std.specs.Prelude.{slice_get};
     ghost use Rattle.blocking_pool.specs.PoolAnswers.{pool_of};
     ghost use Rattle.blocking_crew.specs.Closing.{RefusesAll};
     ghost use Rattle.blocking_crew.specs.Moves.{NeverAsked};
-    ghost use Rattle.blocking_world.specs.Worlds.{row_of, job_at, is_own_job, let_go_of};
+    ghost use Rattle.blocking_world.specs.Worlds.{row_of, job_at, is_own_job, let_go_in};
     ghost use Rattle.blocking_world.specs.Moves.{Moves, wait_step};
     ghost use Rattle.blocking_laws.specs.declared.step.Step.TheVariants as step;
 
@@ -245,11 +246,11 @@ impl Parts {
         self.crew.wake(Party::Pool, row.number, starter)
     }
 
-    // Whether the holder of this job has let go of it.
-    fn has_let_go(&self, row: Row) -> bool
-        ensures { result ≡ let_go_of self.now.tasks row }
+    // Whether this task is there and has let go of its job.
+    fn has_let_go(&self, task: usize) -> bool
+        ensures { result ≡ let_go_in (slice_get self.now.tasks task) }
     {
-        match self.tasks.get(row.holder.task()) {
+        match self.tasks.get(task) {
             Some(task) => task.has_let_go(),
             None => false,
         }
@@ -262,10 +263,11 @@ impl Parts {
         let Some(row) = self.row(serial) else {
             return self.crew.nothing(Party::Pool);
         };
-        if !self.has_let_go(row) {
+        let number = row.number;
+        if !self.has_let_go(row.holder.task()) {
             return self.crew.nothing(Party::Pool);
         }
-        self.crew.cancel(Party::Pool, row.number, starter)
+        self.crew.cancel(Party::Pool, number, starter)
     }
 
     /// Whether the job of this worker has a next action that is its own to take.

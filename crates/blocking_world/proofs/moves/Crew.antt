@@ -1,6 +1,6 @@
 -- What a call of the crew answers is a move of the world.
 use Rattle.std.proofs.Common.{◌≡◌, ℕ, List, [], ◌∷◌, length, if◌then◌else◌, Bool, true, false, refl, sym, ap, ◌∙◌, subst, Option, Some, None}
-use Rattle.std.specs.Prelude.{nat_lt, Result, Ok, Err, is_some, slice_get, slice_set}
+use Rattle.std.specs.Prelude.{nat_lt, Result, Ok, Err, IfOk, is_some, slice_get, slice_set}
 use Rattle.blocking_pool.specs.Growth.{Growth, Narrows}
 use Rattle.blocking_pool.specs.Jobs.{JobNumber}
 use Rattle.blocking_pool.specs.declared.pool.answer.Refusal.{Refusal}
@@ -272,3 +272,8 @@ tell_does crew_now who act e m = by m.move m.may m.call_is m.event_is m.after_is
         let same : crew.Tells party done ≡ crew.Tells who act = cc in
         event ∙ ap (crew.event_of crew_now) same
     by _ may is event after = absurd cc
+
+-- what holds of a value holds of it under another name
+pub ok_map : {A B : Type 0} (r : Result A B) (P Q : A → Type 0) → ((a : A) → P a → Q a) → IfOk r P → IfOk r Q
+ok_map (Ok a) P Q f is = f a is
+ok_map (Err e) P Q f is = is

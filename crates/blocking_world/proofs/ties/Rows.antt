@@ -125,12 +125,12 @@ queued_as stand core acts same is = subst (λ (o : Option Standing). StandsAs o 
 
 module _ (setting : ℕ) (plan : List Bool) (w : Parts) (past : List Moment) (t : Tied setting plan w past) where
   -- the number of each row stays its job's
-  numbers : (move : crew.Move) → crew.May (IsPlanned plan) w.crew move → IsAsked w.crew past (crew.call_of move) → (s : ℕ) (row : Row) → row_of w.rows s ≡ Some row → IsNumberOf (crew.after w.crew move).pool row.number
+  pub numbers : (move : crew.Move) → crew.May (IsPlanned plan) w.crew move → IsAsked w.crew past (crew.call_of move) → (s : ℕ) (row : Row) → row_of w.rows s ≡ Some row → IsNumberOf (crew.after w.crew move).pool row.number
   numbers move may asked s row found =
       let as_row = t.rowed.each s row found in
       number_after setting plan w.crew past t.crewed row.number move may asked (ap (λ n. is_some (standing past n)) as_row.serial ∙ row_known setting plan w past t s row found) as_row.number
 
-  same_tasks : (k : ℕ) (task : Task) → slice_get w.tasks k ≡ Some task → (old : Task) × (slice_get w.tasks k ≡ Some old) × (old.number ≡ task.number)
+  pub same_tasks : (k : ℕ) (task : Task) → slice_get w.tasks k ≡ Some task → (old : Task) × (slice_get w.tasks k ≡ Some old) × (old.number ≡ task.number)
   same_tasks k task found = (task, found, refl)
 
   -- A crew's move by which nothing but the crew changes keeps the rows: what it owes.
