@@ -7,3 +7,4 @@ pub mod Tasks
 pub mod Rows
 pub mod Calls
 pub mod Begins
+pub mod Worked

@@ -30,6 +30,8 @@ use Rattle.blocking_world.specs.Moves.{Move, Idles, Passes, IsWoken, IsStruck, M
 use Rattle.blocking_world.specs.Rows.{next_at, place_of, progress_of}
 use Rattle.blocking_world.specs.Worlds.{Parts, row_of, job_at, job_in, job_by, job_if, next_is, is_ending, let_go_of}
 use Rattle.blocking_world.specs.declared.row.Row.{Row}
+use Rattle.blocking_world.specs.declared.row.WorkerAction.{WorkerAction}
+use Rattle.blocking_world.specs.declared.row.WorkerAction.TheVariants as worker_action
 
 -- ---- moves
 
@@ -277,3 +279,12 @@ tell_does crew_now who act e m = by m.move m.may m.call_is m.event_is m.after_is
 pub ok_map : {A B : Type 0} (r : Result A B) (P Q : A → Type 0) → ((a : A) → P a → Q a) → IfOk r P → IfOk r Q
 ok_map (Ok a) P Q f is = f a is
 ok_map (Err e) P Q f is = is
+
+-- a job whose next action isn't the end of its turn doesn't end it
+pub not_ending : (next : WorkerAction) → (next ≡ worker_action.End → ⊥) → is_ending next ≡ false
+not_ending worker_action.End never = absurd (never refl)
+not_ending worker_action.Await never = refl
+not_ending worker_action.Finish never = refl
+not_ending worker_action.GiveUp never = refl
+not_ending worker_action.Wake never = refl
+not_ending worker_action.Rest never = refl

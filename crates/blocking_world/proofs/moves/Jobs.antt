@@ -238,12 +238,12 @@ io_rests w v answer e found at none event =
     record { move = Idles (Io v answer); may = ap (next_is is_awaiting) at ∙ none; crew_may = tt; step_is = refl; event_is = event; after_is = refl }
 
 pub not_awaiting : (next : WorkerAction) → (next ≡ worker_action.Await → ⊥) → is_awaiting next ≡ false
-not_awaiting worker_action.Await no = absurd (no refl)
-not_awaiting worker_action.Finish no = refl
-not_awaiting worker_action.GiveUp no = refl
-not_awaiting worker_action.Wake no = refl
-not_awaiting worker_action.End no = refl
-not_awaiting worker_action.Rest no = refl
+not_awaiting worker_action.Await never = absurd (never refl)
+not_awaiting worker_action.Finish never = refl
+not_awaiting worker_action.GiveUp never = refl
+not_awaiting worker_action.Wake never = refl
+not_awaiting worker_action.End never = refl
+not_awaiting worker_action.Rest never = refl
 
 pub io_answers : (w : Parts) (v : ℕ) (n : ℕ) (job : JobAt) (old_row new_row : Row) (e : Event) (new : Crew) → Some job ≡ job_at w v → job.next ≡ worker_action.Await
     → old_row ≡ slice_index_or w.rows job.row old_row → new_row ≡ row_after_answer n old_row → crew.Moves NeverAsked (crew.Work v (Answered (Number n))) w.crew e new

@@ -137,46 +137,37 @@ module _ (setting : ℕ) (plan : List Bool) (w : Parts) (past : List Moment) (t 
             (same_row s row found);
       }
     where
-      abbrev the_move : crew.Move
-      the_move = crew.Adds Pool (Ok number) growth pool
-
-      abbrev the_moment : Moment
-      the_moment = moment_of w (Begins (Ok number) growth pool)
-
-      abbrev the_parts : Parts
-      the_parts = after w (Begins (Ok number) growth pool)
-
-      older : (s : ℕ) (row : Row) → (number.serial == s) ≡ false → row_of w.rows s ≡ Some row → crew.May (IsPlanned plan) w.crew the_move → CrewHolds setting plan (crew.after w.crew the_move) (the_moment ∷ past)
-          → RowAs the_parts (the_moment ∷ past) s row
+      older : (s : ℕ) (row : Row) → (number.serial == s) ≡ false → row_of w.rows s ≡ Some row → crew.May (IsPlanned plan) w.crew (crew.Adds Pool (Ok number) growth pool) → CrewHolds setting plan (crew.after w.crew (crew.Adds Pool (Ok number) growth pool)) ((moment_of w (Begins (Ok number) growth pool)) ∷ past)
+          → RowAs (after w (Begins (Ok number) growth pool)) ((moment_of w (Begins (Ok number) growth pool)) ∷ past) s row
       older s row other found may later =
           let as_row = t.rowed.each s row found in
           record {
             serial = as_row.serial;
-            number = numbers setting plan w past t the_move may tt s row found;
-            held_by = holder_grows past the_moment number.serial s (record { party_is = refl; act_is = refl }) ∙ ap (λ b. if b then Some (ByTask (tasks past)) else holder past s) other ∙ as_row.held_by;
-            stands = subst (StandsAs (standing (the_moment ∷ past) s) row.core) (sym (acts_more s the_moment.event (events past) false refl)) (stands_after past the_moment s row.core (acts_of s (events past)) other as_row.stands);
+            number = numbers setting plan w past t (crew.Adds Pool (Ok number) growth pool) may tt s row found;
+            held_by = holder_grows past (moment_of w (Begins (Ok number) growth pool)) number.serial s (record { party_is = refl; act_is = refl }) ∙ ap (λ b. if b then Some (ByTask (tasks past)) else holder past s) other ∙ as_row.held_by;
+            stands = subst (StandsAs (standing ((moment_of w (Begins (Ok number) growth pool)) ∷ past) s) row.core) (sym (acts_more s (moment_of w (Begins (Ok number) growth pool)).event (events past) false refl)) (stands_after past (moment_of w (Begins (Ok number) growth pool)) s row.core (acts_of s (events past)) other as_row.stands);
           }
 
-      newest : crew.May (IsPlanned plan) w.crew the_move → (s : ℕ) (row : Row) → (number.serial == s) ≡ true → new_row number (length w.tasks) ≡ row → RowAs the_parts (the_moment ∷ past) s row
+      newest : crew.May (IsPlanned plan) w.crew (crew.Adds Pool (Ok number) growth pool) → (s : ℕ) (row : Row) → (number.serial == s) ≡ true → new_row number (length w.tasks) ≡ row → RowAs (after w (Begins (Ok number) growth pool)) ((moment_of w (Begins (Ok number) growth pool)) ∷ past) s row
       newest may s row here is =
           let same = eqb-true number.serial s here in
-          let held : holder (the_moment ∷ past) s ≡ Some (ByTask (length w.tasks)) =
-          holder_grows past the_moment number.serial s (record { party_is = refl; act_is = refl }) ∙ ap (λ b. if b then Some (ByTask (tasks past)) else holder past s) here ∙ ap (λ n. Some (ByTask n)) (sym t.tasked.count) in
-          let queued : standing (the_moment ∷ past) s ≡ Some Queued = ap (λ b. if b then Some Queued else standing past s) here in
-          let acts : acts_of s (events (the_moment ∷ past)) ≡ [] = acts_more s the_moment.event (events past) false refl ∙ ap (λ n. acts_of n (events past)) (sym same ∙ may.serial) ∙ unseen in
-          subst (RowAs the_parts (the_moment ∷ past) s) is
+          let held : holder ((moment_of w (Begins (Ok number) growth pool)) ∷ past) s ≡ Some (ByTask (length w.tasks)) =
+          holder_grows past (moment_of w (Begins (Ok number) growth pool)) number.serial s (record { party_is = refl; act_is = refl }) ∙ ap (λ b. if b then Some (ByTask (tasks past)) else holder past s) here ∙ ap (λ n. Some (ByTask n)) (sym t.tasked.count) in
+          let queued : standing ((moment_of w (Begins (Ok number) growth pool)) ∷ past) s ≡ Some Queued = ap (λ b. if b then Some Queued else standing past s) here in
+          let acts : acts_of s (events ((moment_of w (Begins (Ok number) growth pool)) ∷ past)) ≡ [] = acts_more s (moment_of w (Begins (Ok number) growth pool)).event (events past) false refl ∙ ap (λ n. acts_of n (events past)) (sym same ∙ may.serial) ∙ unseen in
+          subst (RowAs (after w (Begins (Ok number) growth pool)) ((moment_of w (Begins (Ok number) growth pool)) ∷ past) s) is
           (record {
             serial = same;
             number = number_of_new plan w.crew.pool pool number growth may;
             held_by = held;
-            stands = subst (λ (o : Option Standing). StandsAs o (new_row number (length w.tasks)).core (acts_of s (events (the_moment ∷ past)))) (sym queued) (refl, acts);
+            stands = subst (λ (o : Option Standing). StandsAs o (new_row number (length w.tasks)).core (acts_of s (events ((moment_of w (Begins (Ok number) growth pool)) ∷ past)))) (sym queued) (refl, acts);
           })
 
-      nobody : (s : ℕ) (b : Bool) → (number.serial == s) ≡ b → (if b then Some (new_row number (length w.tasks)) else row_of w.rows s) ≡ None → (holder (the_moment ∷ past) s ≡ None) × (standing (the_moment ∷ past) s ≡ None)
+      nobody : (s : ℕ) (b : Bool) → (number.serial == s) ≡ b → (if b then Some (new_row number (length w.tasks)) else row_of w.rows s) ≡ None → (holder ((moment_of w (Begins (Ok number) growth pool)) ∷ past) s ≡ None) × (standing ((moment_of w (Begins (Ok number) growth pool)) ∷ past) s ≡ None)
       nobody s true is none = absurd cc
       nobody s false is none =
           let unborn = t.rowed.unborn s none in
           (
-            holder_grows past the_moment number.serial s (record { party_is = refl; act_is = refl }) ∙ ap (λ b. if b then Some (ByTask (tasks past)) else holder past s) is ∙ unborn.0,
+            holder_grows past (moment_of w (Begins (Ok number) growth pool)) number.serial s (record { party_is = refl; act_is = refl }) ∙ ap (λ b. if b then Some (ByTask (tasks past)) else holder past s) is ∙ unborn.0,
             ap (λ b. if b then Some Queued else standing past s) is ∙ unborn.1,
           )

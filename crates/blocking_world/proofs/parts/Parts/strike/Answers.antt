@@ -1,12 +1,14 @@
 use Rattle.std.proofs.Common.{refl, sym, ap, ◌∙◌}
-use Rattle.blocking_laws.specs.declared.step.Step.TheVariants.{Strike}
-use Rattle.blocking_world.specs.Worlds.{let_go_by, let_go_in}
 use Rattle.std.specs.Prelude.{slice_get}
+use Rattle.blocking_laws.specs.declared.step.Step.TheVariants.{Strike}
+use Rattle.blocking_world.specs.Worlds.{Parts, row_of, let_go_by, let_go_in}
 use Rattle.blocking_world.specs.contracts.parts.Parts.{the_view}
 use Rattle.blocking_world.proofs.moves.Crew.{idled, cancel_moved}
 use Rattle.blocking_world.proofs.parts.Parts.strike.Goals as goal
 
 pub returns-in_default : goal.returns-in_default
 returns-in_default g c =
+    let found = ap (λ (p : Parts). row_of p.rows c.args.serial) c.self.view_is ∙ sym c.in_default.ensures in
     rw (sym c.self.view_is)
-    (idled (g.S.Starter.may_answer c.args.starter.now) (the_view c.self.inside) (Strike c.args.serial) c.nothing.result c.self.inside.crew (ap (let_go_by c.self.inside.tasks.items) (sym c.in_default.ensures)) c.nothing.ensures refl)
+    (idled (g.S.Starter.may_answer c.args.starter.now) (the_view c.self.inside) (Strike c.args.serial) c.nothing.result c.self.inside.crew
+    (ap (let_go_by (the_view c.self.inside).tasks) found) c.nothing.ensures refl)

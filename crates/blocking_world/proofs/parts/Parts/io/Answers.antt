@@ -1,0 +1,22 @@
+use Rattle.std.proofs.Common.{refl, sym, ap, ◌∙◌}
+use Rattle.blocking_laws.specs.declared.step.Answer.TheVariants.{Number}
+use Rattle.blocking_world.specs.Worlds.{Parts, job_at}
+use Rattle.blocking_world.specs.contracts.parts.Parts.{the_view}
+use Rattle.blocking_world.proofs.moves.Jobs.{row_within, io_rests, io_answers, not_awaiting}
+use Rattle.blocking_world.proofs.parts.Parts.io.Goals as goal
+
+pub returns-in_default : goal.returns-in_default
+returns-in_default c =
+    let found = ap (λ (p : Parts). job_at p c.args.worker) c.self.view_is ∙ sym c.in_default.ensures in
+    rw (sym c.self.view_is) (io_rests (the_view c.self.inside) c.args.worker c.args.answer c.nothing.result _ found refl c.nothing.ensures)
+
+pub returns-in_default-next : goal.returns-in_default-next
+returns-in_default-next c =
+    let found = ap (λ (p : Parts). job_at p c.args.worker) c.self.view_is ∙ sym c.in-Some.ensures in
+    rw (sym c.self.view_is)
+    (io_rests (the_view c.self.inside) c.args.worker c.args.answer c.nothing-in_default-next.result _ found (not_awaiting c.in-Some.job.next c.in_default-next.not-Await) c.nothing-in_default-next.ensures)
+
+pub index_mut-requires : goal.index_mut-requires
+index_mut-requires c =
+    let found = c.in-Some.ensures ∙ ap (λ (p : Parts). job_at p c.args.worker) (sym c.self.view_is) in
+    row_within (the_view c.self.inside) c.args.worker c.in-Some.job found
