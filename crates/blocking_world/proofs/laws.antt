@@ -1,3 +1,4 @@
 pub mod Running
 pub mod Steps
 pub mod Wakes
+pub mod Whole

@@ -42,7 +42,7 @@ impl Parts {
     ghost use Rattle.blocking_crew.specs.Closing.{RefusesAll};
     ghost use Rattle.blocking_crew.specs.Moves.{NeverAsked};
     ghost use Rattle.blocking_world.specs.Worlds.{row_of, job_at, is_own_job, let_go_in};
-    ghost use Rattle.blocking_world.specs.Moves.{Moves, wait_step};
+    ghost use Rattle.blocking_world.specs.Moves.{Moves, may_call_in, wait_step};
     ghost use Rattle.blocking_laws.specs.declared.step.Step.TheVariants as step;
 
     /// The parts of a new world. Takes no memory.
@@ -106,15 +106,22 @@ impl Parts {
         Ok(added.event)
     }
 
+    // Whether this task is there and may be called so.
+    fn may(&self, number: usize, call: TaskCall) -> bool
+        ensures { result ≡ may_call_in (slice_get self.now.tasks number) call }
+    {
+        match self.tasks.get(number) {
+            Some(task) => task.may(call),
+            None => false,
+        }
+    }
+
     /// A call of the task of this number. A task that is cancelled or dropped lets go of its job.
     pub(crate) fn of_task(&mut self, number: usize, call: TaskCall) -> Event
         ensures { Moves NeverAsked (step.OfTask number call) self.old result self.new }
     {
         let party = Party::Task(number);
-        let Some(task) = self.tasks.get(number) else {
-            return self.crew.nothing(party);
-        };
-        if !task.may(call) {
+        if !self.may(number, call) {
             return self.crew.nothing(party);
         }
         let task = &mut self.tasks[number];

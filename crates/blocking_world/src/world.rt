@@ -166,7 +166,7 @@ fn close_with<L: Ledger>(parts: Parts, blank: Blank)
 ///
 /// Err where there was no room for the world's own lists: the world is then where the steps so far left it. The room for a
 /// step and its event is had before the step acts.
-#[tactic(auto, using(crate::proofs::Grown::served, crate::proofs::Lawful::staffed_now, crate::proofs::Lawful::held_now))]
+#[tactic(auto, using(crate::proofs::laws::Whole::served_now, crate::proofs::laws::Whole::staffed_now, crate::proofs::laws::Whole::held_now))]
 pub fn run(alloc: Global, world: &mut World, steps: &[Step]) -> Result<Vec<Event>, AllocError>
     ensures ok { IfOk result
         (λ events. Adds steps.now events.items world.old.history world.new.history) }

@@ -83,7 +83,7 @@ module _ (setting : ℕ) (plan : List Bool) (w : Parts) (past : List Moment) (t 
   -- a row is an older one, or the new one of this serial
   which : (number : JobNumber) (new row : Row) (s : ℕ) → number.serial ≡ w.crew.pool.next_serial → row_of (w.rows ++ new ∷ []) s ≡ Some row
       → ((number.serial == s) ≡ false) × (row_of w.rows s ≡ Some row) ⊎ ((number.serial == s) ≡ true) × (new ≡ row)
-  which number new row s serial found = by (number.serial == s) refl (sym (ap (λ n. if n == s then Some new else row_of w.rows s) (serial ∙ next_place)) ∙ sym (row_pushed w.rows s new) ∙ found)
+  which number new row s serial found = by (number.serial == s) refl (ap (λ n. if n == s then Some new else row_of w.rows s) (serial ∙ next_place) ∙ sym (row_pushed w.rows s new) ∙ found)
     where
       by : (b : Bool) → (number.serial == s) ≡ b → (if b then Some new else row_of w.rows s) ≡ Some row
           → ((number.serial == s) ≡ false) × (row_of w.rows s ≡ Some row) ⊎ ((number.serial == s) ≡ true) × (new ≡ row)
@@ -107,7 +107,7 @@ module _ (setting : ℕ) (plan : List Bool) (w : Parts) (past : List Moment) (t 
         count =
             length-append w.rows (row_new ∷ []) ∙ ap (λ n. n + 1) t.rowed.count ∙ sym (length-append (accepted_jobs past) (number.serial ∷ []));
         each = λ s row found. ⊎_elim (λ old. older s row old.0 old.1 may later) (λ is. newest may s row is.0 is.1) (same_row s row found);
-        unborn = λ s none. nobody s (number.serial == s) refl (sym (ap (λ n. if n == s then Some row_new else row_of w.rows s) last) ∙ sym (row_pushed w.rows s row_new) ∙ none);
+        unborn = λ s none. nobody s (number.serial == s) refl (ap (λ n. if n == s then Some row_new else row_of w.rows s) last ∙ sym (row_pushed w.rows s row_new) ∙ none);
         of_task = λ k task found.
             ⊎_elim
             (λ before.

@@ -143,7 +143,7 @@ module _ (setting : ℕ) (plan : List Bool) (w : Parts) (past : List Moment) (t 
         → (hand_at w.crew.hands v ≡ Holds held) ⊎ HeldAs w past held row
     pub marks : (s : ℕ) (row : Row) → row_of w.rows s ≡ Some row → is_to_drop (now ∷ past) s ≡ true → (is_to_drop past s ≡ true) ⊎ (let_go_of w.tasks row ≡ true)
 
-  quiet : (move : crew.Move) (now : Moment) → crew.May (IsPlanned plan) w.crew move → IsAsked w.crew past (crew.call_of move) → CrewHolds setting plan (crew.after w.crew move) (now ∷ past) → IsQuiet move now
+  pub quiet : (move : crew.Move) (now : Moment) → crew.May (IsPlanned plan) w.crew move → IsAsked w.crew past (crew.call_of move) → CrewHolds setting plan (crew.after w.crew move) (now ∷ past) → IsQuiet move now
       → Rowed (record w { crew = crew.after w.crew move }) (now ∷ past)
   quiet move now may asked later q =
       rows_kept setting plan w (record w { crew = crew.after w.crew move }) past now t
@@ -192,9 +192,9 @@ module _ (setting : ℕ) (plan : List Bool) (w : Parts) (past : List Moment) (t 
 
   -- ---- the steps that are the crew's alone
 
-  passes : (move : crew.Move) → PassesBy w move → crew.May (IsPlanned plan) w.crew move → CrewHolds setting plan (crew.after w.crew move) (moment_of w (Passes move) ∷ past)
+  pub passes_kept : (move : crew.Move) → PassesBy w move → crew.May (IsPlanned plan) w.crew move → CrewHolds setting plan (crew.after w.crew move) (moment_of w (Passes move) ∷ past)
       → Rowed (record w { crew = crew.after w.crew move }) (moment_of w (Passes move) ∷ past)
-  passes (crew.Arrives pass) p may later =
+  passes_kept (crew.Arrives pass) p may later =
       quiet (crew.Arrives pass) _ may tt later
       (record {
         accepted = refl;
@@ -203,7 +203,7 @@ module _ (setting : ℕ) (plan : List Bool) (w : Parts) (past : List Moment) (t 
         hands = λ u held row holds found. inl (free_or (length w.crew.hands + 1 == u) (Free pass) (hand_at w.crew.hands u) held (λ other is. cc) (sym (hand_pushed w.crew.hands u (Free pass)) ∙ holds));
         marks = λ s row found drop. inl drop;
       })
-  passes (crew.TakesJob v old true turn ticket growth pool) p may later =
+  passes_kept (crew.TakesJob v old true turn ticket growth pool) p may later =
       quiet (crew.TakesJob v old true turn ticket growth pool) _ may tt later
       (record {
         accepted = refl;
@@ -213,7 +213,7 @@ module _ (setting : ℕ) (plan : List Bool) (w : Parts) (past : List Moment) (t 
             (taken_as turn true (front_stands setting plan w.crew past t.crewed (IsPlanned plan) turn ticket true growth pool may.1) (λ is. dropped_by past turn.serial (ready past) later.laws.0.answers));
         marks = λ s row found drop. inl drop;
       })
-  passes (crew.TakesJob v old false turn ticket growth pool) p may later =
+  passes_kept (crew.TakesJob v old false turn ticket growth pool) p may later =
       quiet (crew.TakesJob v old false turn ticket growth pool) _ may tt later
       (record {
         accepted = refl;
@@ -223,7 +223,7 @@ module _ (setting : ℕ) (plan : List Bool) (w : Parts) (past : List Moment) (t 
             (taken_as turn false (front_stands setting plan w.crew past t.crewed (IsPlanned plan) turn ticket false growth pool may.1) (λ is. absurd cc));
         marks = λ s row found drop. inl drop;
       })
-  passes (crew.TakesNone v old pass) p may later =
+  passes_kept (crew.TakesNone v old pass) p may later =
       quiet (crew.TakesNone v old pass) _ may tt later
       (record {
         accepted = refl;
@@ -232,7 +232,7 @@ module _ (setting : ℕ) (plan : List Bool) (w : Parts) (past : List Moment) (t 
         hands = changed v (Free old) (Free pass) (at_free w.crew.hands v old may.0) (λ other is. cc);
         marks = λ s row found drop. inl drop;
       })
-  passes (crew.EndsTurn v held pass) p may later =
+  passes_kept (crew.EndsTurn v held pass) p may later =
       let s = held.turn.serial in
       let acted : (row : Row) → row_of w.rows s ≡ Some row → has_finished (acts_of s (events past)) || has_given_up (acts_of s (events past)) ≡ true =
       λ row found.
@@ -252,7 +252,7 @@ module _ (setting : ℕ) (plan : List Bool) (w : Parts) (past : List Moment) (t 
         hands = changed v (Holds held) (Free pass) (at_held w.crew.hands v held may.0) (λ other is. cc);
         marks = λ s row found drop. inl drop;
       })
-  passes (crew.HasWaited v pass end (Stay back) growth pool) p may later =
+  passes_kept (crew.HasWaited v pass end (Stay back) growth pool) p may later =
       quiet (crew.HasWaited v pass end (Stay back) growth pool) _ may tt later
       (record {
         accepted = refl;
@@ -261,7 +261,7 @@ module _ (setting : ℕ) (plan : List Bool) (w : Parts) (past : List Moment) (t 
         hands = changed v (Free pass) (Free back) (at_free w.crew.hands v pass may.0) (λ other is. cc);
         marks = λ s row found drop. inl drop;
       })
-  passes (crew.HasWaited v pass end Stop growth pool) p may later =
+  passes_kept (crew.HasWaited v pass end Stop growth pool) p may later =
       quiet (crew.HasWaited v pass end Stop growth pool) _ may tt later
       (record {
         accepted = refl;
@@ -270,17 +270,17 @@ module _ (setting : ℕ) (plan : List Bool) (w : Parts) (past : List Moment) (t 
         hands = changed v (Free pass) Out (at_free w.crew.hands v pass may.0) (λ other is. cc);
         marks = λ s row found drop. inl drop;
       })
-  passes (crew.SetsLimit n) p may later =
+  passes_kept (crew.SetsLimit n) p may later =
       quiet (crew.SetsLimit n) _ may tt later
       (record { accepted = refl; outside = λ s. refl; allows = λ s row found. tt; hands = λ v held row holds found. inl holds; marks = λ s row found drop. inl drop })
-  passes (crew.Sweeps growth pool) p may later =
+  passes_kept (crew.Sweeps growth pool) p may later =
       quiet (crew.Sweeps growth pool) _ may tt later
       (record { accepted = refl; outside = λ s. refl; allows = λ s row found. tt; hands = λ v held row holds found. inl holds; marks = λ s row found drop. inl drop })
-  passes _ p may later = absurd p
+  passes_kept _ p may later = absurd p
 
   -- ---- wakes and cancels
 
-  woken : (s : ℕ) (number : JobNumber) (woke : Woke) (growth : Growth) (pool : JobPool) → MayDo w (IsWoken s number woke growth pool) → crew.May (IsPlanned plan) w.crew (crew.IsWoken Pool number woke growth pool)
+  pub woken : (s : ℕ) (number : JobNumber) (woke : Woke) (growth : Growth) (pool : JobPool) → MayDo w (IsWoken s number woke growth pool) → crew.May (IsPlanned plan) w.crew (crew.IsWoken Pool number woke growth pool)
       → CrewHolds setting plan (crew.after w.crew (crew.IsWoken Pool number woke growth pool)) (moment_of w (IsWoken s number woke growth pool) ∷ past)
       → Rowed (record w { crew = crew.after w.crew (crew.IsWoken Pool number woke growth pool) }) (moment_of w (IsWoken s number woke growth pool) ∷ past)
   woken s number woke growth pool m may later =
@@ -298,7 +298,7 @@ module _ (setting : ℕ) (plan : List Bool) (w : Parts) (past : List Moment) (t 
       allowed Marked is n row = tt
       allowed Nothing is n row = tt
 
-  struck : (s : ℕ) (number : JobNumber) (woke : Woke) (growth : Growth) (pool : JobPool) → MayDo w (IsStruck s number woke growth pool) → crew.May (IsPlanned plan) w.crew (crew.IsCancelled Pool number woke growth pool)
+  pub struck : (s : ℕ) (number : JobNumber) (woke : Woke) (growth : Growth) (pool : JobPool) → MayDo w (IsStruck s number woke growth pool) → crew.May (IsPlanned plan) w.crew (crew.IsCancelled Pool number woke growth pool)
       → CrewHolds setting plan (crew.after w.crew (crew.IsCancelled Pool number woke growth pool)) (moment_of w (IsStruck s number woke growth pool) ∷ past)
       → Rowed (record w { crew = crew.after w.crew (crew.IsCancelled Pool number woke growth pool) }) (moment_of w (IsStruck s number woke growth pool) ∷ past)
   struck s number woke growth pool m may later =

@@ -1,8 +1,8 @@
-use Rattle.std.proofs.Common.{refl, sym, ap, ◌∙◌}
+use Rattle.std.proofs.Common.{refl, sym, ap, ◌∙◌, arith}
 use Rattle.blocking_laws.specs.declared.step.Answer.TheVariants.{Number}
 use Rattle.blocking_world.specs.Worlds.{Parts, job_at}
 use Rattle.blocking_world.specs.contracts.parts.Parts.{the_view}
-use Rattle.blocking_world.proofs.moves.Jobs.{row_within, io_rests, io_answers, not_awaiting}
+use Rattle.blocking_world.proofs.moves.Jobs.{row_within, io_rests, io_does, not_awaiting}
 use Rattle.blocking_world.proofs.parts.Parts.io.Goals as goal
 
 pub returns-in_default : goal.returns-in_default
@@ -19,4 +19,13 @@ returns-in_default-next c =
 pub index_mut-requires : goal.index_mut-requires
 index_mut-requires c =
     let found = c.in-Some.ensures ∙ ap (λ (p : Parts). job_at p c.args.worker) (sym c.self.view_is) in
-    row_within (the_view c.self.inside) c.args.worker c.in-Some.job found
+    let within = row_within (the_view c.self.inside) c.args.worker c.in-Some.job found in
+    let len = c.self.inside.rows.ok.0 in
+    omega (arith, within, len)
+
+pub returns : goal.returns
+returns c =
+    let found = c.in-Some.ensures ∙ ap (λ (p : Parts). job_at p c.args.worker) (sym c.self.view_is) in
+    rw (sym c.self.view_is)
+    (io_does (the_view c.self.inside) c.args.worker c.args.answer c.in-Some.job c.index_mut.result.now c.answer.new.self c.work.result c.work.new.self found c.in-Await.is
+    c.index_mut.ensures.value c.answer.ensures c.work.ensures)

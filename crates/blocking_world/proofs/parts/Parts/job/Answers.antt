@@ -1,4 +1,4 @@
-use Rattle.std.proofs.Common.{refl, sym, ap, ◌∙◌}
+use Rattle.std.proofs.Common.{refl, sym, ap, ◌∙◌, arith}
 use Rattle.blocking_world.specs.Worlds.{Parts, job_at}
 use Rattle.blocking_world.specs.contracts.parts.Parts.{the_view}
 use Rattle.blocking_world.proofs.moves.Jobs.{row_within, job_acts, job_waits, job_rests}
@@ -12,7 +12,9 @@ returns-in_default c =
 pub index_mut-requires : goal.index_mut-requires
 index_mut-requires c =
     let found = c.in-Some.ensures ∙ ap (λ (p : Parts). job_at p c.args.worker) (sym c.self.view_is) in
-    row_within (the_view c.self.inside) c.args.worker c.in-Some.job found
+    let within = row_within (the_view c.self.inside) c.args.worker c.in-Some.job found in
+    let len = c.self.inside.rows.ok.0 in
+    omega (arith, within, len)
 
 pub returns-in_default-act : goal.returns-in_default-act
 returns-in_default-act c =

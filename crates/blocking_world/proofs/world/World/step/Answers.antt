@@ -1,10 +1,10 @@
 use Rattle.std.proofs.Common.{Result, is_ok, true, List, if◌then◌else◌, arith, ◌≡◌, ◌∷◌, [], ◌++◌, reverse, ap, sym, subst, ◌∙◌}
 use Rattle.std.proofs.lemmas.List.{reverse-append}
 use Rattle.blocking_laws.specs.Growth.{IsPlanned}
-use Rattle.blocking_world.specs.Machine.{StepDoes}
+use Rattle.blocking_world.specs.Moves.{Moves}
 use Rattle.blocking_world.specs.Ties.{IsLawful}
 use Rattle.blocking_laws.specs.declared.event.Moment.{Moment}
-use Rattle.blocking_world.proofs.Lawful.{stays_lawful, same_setting}
+use Rattle.blocking_world.proofs.laws.Whole.{stays_lawful, same_setting}
 use Rattle.blocking_world.proofs.world.World.step.Goals as goal
 
 put_at_end : {A B : Type 0} (r : Result A B) (old between new : List Moment) (moment : Moment) → between ≡ old → is_ok r ≡ true
@@ -13,8 +13,8 @@ put_at_end r old between new moment same ok is =
     is ∙ ap (λ b. if b then between ++ moment ∷ [] else between) ok ∙ ap (λ (row : List Moment). row ++ moment ∷ []) same
 
 -- the step as the parts did it
-does : (c : goal.After-push) → StepDoes (IsPlanned c.self.inside.plan.items) c.args.step c.self.inside.parts c.in_ok-event.event c.step_with.new.parts
-does c = subst (λ plan. StepDoes (IsPlanned plan) c.args.step c.self.inside.parts c.in_ok-event.event c.step_with.new.parts) c.deref.ensures.value c.in_ok-event.ensures.ok
+does : (c : goal.After-push) → Moves (IsPlanned c.self.inside.plan.items) c.args.step c.self.inside.parts c.in_ok-event.event c.step_with.new.parts
+does c = subst (λ plan. Moves (IsPlanned plan) c.args.step c.self.inside.parts c.in_ok-event.event c.step_with.new.parts) c.deref.ensures.value c.in_ok-event.ensures.ok
 
 -- the moment stands at the end of the trace
 at_end : (c : goal.After-push) → c.push.new.self.items ≡ c.self.inside.trace.items ++ record { step = c.args.step; event = c.in_ok-event.event } ∷ []
@@ -27,22 +27,22 @@ at_end c =
 newest : (c : goal.After-push) → reverse c.push.new.self.items ≡ record { step = c.args.step; event = c.in_ok-event.event } ∷ reverse c.self.inside.trace.items
 newest c = ap reverse (at_end c) ∙ reverse-append c.self.inside.trace.items (record { step = c.args.step; event = c.in_ok-event.event } ∷ [])
 
-kept : (c : goal.After-push) → c.step_with.new.parts.pool.counts.setting ≡ c.self.inside.parts.pool.counts.setting
+kept : (c : goal.After-push) → c.step_with.new.parts.crew.pool.counts.setting ≡ c.self.inside.parts.crew.pool.counts.setting
 kept c =
-    same_setting c.self.inside.parts.pool.counts.setting c.self.inside.plan.items c.self.inside.parts c.step_with.new.parts (reverse c.self.inside.trace.items)
-    c.args.step c.in_ok-event.event c.self.invariant (does c)
+    same_setting c.self.inside.parts.crew.pool.counts.setting c.self.inside.plan.items c.self.inside.parts (reverse c.self.inside.trace.items) c.self.invariant c.step_with.new.parts
+    c.args.step c.in_ok-event.event (does c)
 
 -- the world stays lawful
 pub invariant_of-self-2 : goal.invariant_of-self-2
 invariant_of-self-2 c =
     subst (λ setting. IsLawful setting c.self.inside.plan.items c.step_with.new.parts (reverse c.push.new.self.items)) (sym (kept c))
-    (subst (λ past. IsLawful c.self.inside.parts.pool.counts.setting c.self.inside.plan.items c.step_with.new.parts past) (sym (newest c))
-    (stays_lawful c.self.inside.parts.pool.counts.setting c.self.inside.plan.items c.self.inside.parts c.step_with.new.parts (reverse c.self.inside.trace.items)
-    c.args.step c.in_ok-event.event c.self.invariant (does c)))
+    (subst (λ past. IsLawful c.self.inside.parts.crew.pool.counts.setting c.self.inside.plan.items c.step_with.new.parts past) (sym (newest c))
+    (stays_lawful c.self.inside.parts.crew.pool.counts.setting c.self.inside.plan.items c.self.inside.parts (reverse c.self.inside.trace.items) c.self.invariant c.step_with.new.parts
+    c.args.step c.in_ok-event.event (does c)))
 
 -- one moment more was seen
 pub returns-clause-ok : goal.returns-clause-ok
 returns-clause-ok c =
     rw (sym c.self.view_is)
     (ap (λ setting. record { setting = setting; plan = c.self.inside.plan.items; past = reverse c.push.new.self.items }) (kept c)
-    ∙ ap (λ past. record { setting = c.self.inside.parts.pool.counts.setting; plan = c.self.inside.plan.items; past = past }) (newest c))
+    ∙ ap (λ past. record { setting = c.self.inside.parts.crew.pool.counts.setting; plan = c.self.inside.plan.items; past = past }) (newest c))
