@@ -2,7 +2,7 @@
 use Rattle.std.specs.Prelude.{◌≡◌, ◌⊎◌, ◌-◌, ◌||◌, ℕ, Bool, true, false, List, [], ◌∷◌, length, slice_get, Option, Some, None}
 use Rattle.blocking_core.specs.declared.job.Action.{Action}
 use Rattle.blocking_crew.specs.Crews.{hand_at}
-use Rattle.blocking_crew.specs.Ties.{CrewHolds, IsNumberOf, Served}
+use Rattle.blocking_crew.specs.Ties.{CrewHolds, Holding, IsNumberOf, Served}
 use Rattle.blocking_crew.specs.declared.hand.Hand.TheVariants.{Holds}
 use Rattle.blocking_crew.specs.declared.hand.Held.{Held}
 use Rattle.blocking_crew.specs.declared.hand.Stage.{Stage}
@@ -84,3 +84,4 @@ pub record IsLawful (setting : ℕ) (plan : List Bool) (w : Parts) (past : List 
   pub tied : Tied setting plan w past
   pub legal : Legal setting plan past
   pub served : Served setting past
+  pub holding : Holding w.crew past

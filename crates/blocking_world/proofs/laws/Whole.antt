@@ -1,6 +1,6 @@
 -- Each move keeps the ties and the laws: so every world is lawful.
-use Rattle.std.proofs.Common.{◌≡◌, ◌<◌, ◌==◌, ℕ, List, [], ◌∷◌, Bool, true, false, refl, sym, ap, ◌∙◌, subst, arith, Option, Some, None, if◌then◌else◌}
-use Rattle.std.specs.Prelude.{Result, Ok, Err}
+use Rattle.std.proofs.Common.{◌≡◌, ◌<◌, ◌-◌, ◌==◌, ℕ, List, [], ◌∷◌, Bool, true, false, refl, sym, ap, ◌∙◌, subst, arith, Option, Some, None, if◌then◌else◌}
+use Rattle.std.specs.Prelude.{Result, Ok, Err, slice_get}
 use Rattle.std.specs.FinMap as map
 use Rattle.std.specs.Ordering.{nat_cmp}
 use Rattle.blocking_pool.specs.Jobs.{JobNumber}
@@ -14,7 +14,7 @@ use Rattle.blocking_crew.specs.Ties.{CrewHolds, IsAsked, IsNumberOf, Served}
 use Rattle.blocking_crew.specs.declared.hand.Hand.{Hand}
 use Rattle.blocking_crew.specs.declared.hand.Hand.TheVariants.{Out, Holds}
 use Rattle.blocking_crew.proofs.laws.Service.{served_after}
-use Rattle.blocking_crew.proofs.laws.Staffing.{staffed, as_seen, counts_are}
+use Rattle.blocking_crew.proofs.laws.Staffing.{holding, staffed, as_seen}
 use Rattle.blocking_crew.proofs.laws.Whole.{holds_after, holds_aside, begins}
 use Rattle.blocking_laws.specs.Growth.{IsPlanned}
 use Rattle.blocking_laws.specs.Legal.{Legal}
@@ -26,6 +26,7 @@ use Rattle.blocking_laws.specs.declared.step.Step.{Step}
 use Rattle.blocking_world.specs.Moves.{Move, Idles, Begins, Calls, Acts, Passes, IsWoken, IsStruck, Moves, MayDo, CrewMay, PassesBy, after, moment_of, event_of, step_of, crew_move, call_move}
 use Rattle.blocking_world.specs.Ties.{Tied, Rowed, IsLawful}
 use Rattle.blocking_world.specs.Worlds.{Parts, row_of}
+use Rattle.blocking_world.specs.declared.row.Row.{Row}
 use Rattle.blocking_world.proofs.laws.Steps.{step_law}
 use Rattle.blocking_world.proofs.laws.Wakes.{no_lost_wake}
 use Rattle.blocking_world.proofs.ties.Begins.{refused, accepted}
@@ -91,21 +92,21 @@ module _ (setting : ℕ) (plan : List Bool) (w : Parts) (past : List Moment) (la
 
   crewed : (move : Move) → MayDo w move → CrewMay (IsPlanned plan) w move → CrewHolds setting plan (after w move).crew (moment_of w move ∷ past)
   crewed (Idles step) may crew_may = holds_aside setting plan w.crew past t.crewed (moment_of w (Idles step)) (record { act = refl; job = refl; first = refl; started = refl; refused = refl })
-  crewed (Begins added growth pool) may crew_may = crew_after _ _ crew_may tt
-  crewed (Calls k call task) may crew_may = crew_after (call_move k call task) _ crew_may (asked (Calls k call task) may)
-  crewed (Acts v held row task step) may crew_may = crew_after _ _ crew_may tt
-  crewed (Passes move) may crew_may = crew_after move _ crew_may (pass_asked move may)
-  crewed (IsWoken s number woke growth pool) may crew_may = crew_after _ _ crew_may (asked (IsWoken s number woke growth pool) may)
-  crewed (IsStruck s number woke growth pool) may crew_may = crew_after _ _ crew_may (asked (IsStruck s number woke growth pool) may)
+  crewed (Begins added growth pool) may crew_may = crew_after (crew_move (Begins added growth pool)) (step_of (Begins added growth pool)) crew_may (asked (Begins added growth pool) may)
+  crewed (Calls k call task) may crew_may = crew_after (call_move k call task) (step_of (Calls k call task)) crew_may (asked (Calls k call task) may)
+  crewed (Acts v held row task step) may crew_may = crew_after (crew_move (Acts v held row task step)) (step_of (Acts v held row task step)) crew_may (asked (Acts v held row task step) may)
+  crewed (Passes move) may crew_may = crew_after move (step_of (Passes move)) crew_may (pass_asked move may)
+  crewed (IsWoken s number woke growth pool) may crew_may = crew_after (crew_move (IsWoken s number woke growth pool)) (step_of (IsWoken s number woke growth pool)) crew_may (asked (IsWoken s number woke growth pool) may)
+  crewed (IsStruck s number woke growth pool) may crew_may = crew_after (crew_move (IsStruck s number woke growth pool)) (step_of (IsStruck s number woke growth pool)) crew_may (asked (IsStruck s number woke growth pool) may)
 
   served : (move : Move) → MayDo w move → CrewMay (IsPlanned plan) w move → Served setting (moment_of w move ∷ past)
   served (Idles step) may crew_may = record { positive = lawful.served.positive; served = lawful.served.served }
-  served (Begins added growth pool) may crew_may = served_by _ _ crew_may tt
-  served (Calls k call task) may crew_may = served_by (call_move k call task) _ crew_may (asked (Calls k call task) may)
-  served (Acts v held row task step) may crew_may = served_by _ _ crew_may tt
-  served (Passes move) may crew_may = served_by move _ crew_may (pass_asked move may)
-  served (IsWoken s number woke growth pool) may crew_may = served_by _ _ crew_may (asked (IsWoken s number woke growth pool) may)
-  served (IsStruck s number woke growth pool) may crew_may = served_by _ _ crew_may (asked (IsStruck s number woke growth pool) may)
+  served (Begins added growth pool) may crew_may = served_by (crew_move (Begins added growth pool)) (step_of (Begins added growth pool)) crew_may (asked (Begins added growth pool) may)
+  served (Calls k call task) may crew_may = served_by (call_move k call task) (step_of (Calls k call task)) crew_may (asked (Calls k call task) may)
+  served (Acts v held row task step) may crew_may = served_by (crew_move (Acts v held row task step)) (step_of (Acts v held row task step)) crew_may (asked (Acts v held row task step) may)
+  served (Passes move) may crew_may = served_by move (step_of (Passes move)) crew_may (pass_asked move may)
+  served (IsWoken s number woke growth pool) may crew_may = served_by (crew_move (IsWoken s number woke growth pool)) (step_of (IsWoken s number woke growth pool)) crew_may (asked (IsWoken s number woke growth pool) may)
+  served (IsStruck s number woke growth pool) may crew_may = served_by (crew_move (IsStruck s number woke growth pool)) (step_of (IsStruck s number woke growth pool)) crew_may (asked (IsStruck s number woke growth pool) may)
 
   -- ---- the rows
 
@@ -136,6 +137,7 @@ module _ (setting : ℕ) (plan : List Bool) (w : Parts) (past : List Moment) (la
           wakes = (no_lost_wake setting plan (after w move) (moment_of w move ∷ past) tied, lawful.legal.wakes);
         };
         served = served move may crew_may;
+        holding = holding setting (after w move).crew (moment_of w move ∷ past) holds.tied;
       }
 
   -- the same, of a step as it was seen
@@ -169,11 +171,11 @@ abbrev pub first_world : ℕ → Parts
 first_world setting = record { crew = record { pool = empty_pool setting 1 1; hands = [] }; rows = []; tasks = [] }
 
 no_row : (s : ℕ) → row_of [] s ≡ None
-no_row s = by (s == 0)
+no_row s = by (s == 0) (slice_get [] (s - 1)) refl
   where
-    by : (b : Bool) → (if b then None else None) ≡ None
-    by true = refl
-    by false = refl
+    by : (b : Bool) (o : Option Row) → o ≡ None → (if b then None else o) ≡ None
+    by true o none = refl
+    by false o none = none
 
 no_hand : (v : ℕ) → hand_at [] v ≡ Out
 no_hand v = by (v == 0)
@@ -208,6 +210,7 @@ begins_lawful setting plan positive = record {
   };
   legal = record { steps = tt; pool = tt; tasks = λ k s held. tt; wakes = record { tasks = λ k s held. cc } };
   served = record { positive = positive; served = λ some none. absurd (some refl) };
+  holding = record { passes_are = refl; turns_are = refl; jobs_are = refl };
 }
 
 -- the same, of parts that are those of a new world

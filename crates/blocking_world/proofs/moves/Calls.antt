@@ -1,6 +1,6 @@
 -- What a call of a task, and a new one, do to the parts.
-use Rattle.std.proofs.Common.{◌≡◌, ◌⊎◌, inl, inr, ℕ, ◌<◌, ◌++◌, List, [], ◌∷◌, length, Bool, true, false, refl, sym, ap, ◌∙◌, subst, Option, Some, None}
-use Rattle.std.specs.Prelude.{slice_index_or, slice_get, slice_set, Result, Ok, Err}
+use Rattle.std.proofs.Common.{◌≡◌, ◌⊎◌, inl, inr, if◌then◌else◌, ℕ, ◌<◌, ◌++◌, List, [], ◌∷◌, length, Bool, true, false, refl, sym, ap, ◌∙◌, subst, Option, Some, None}
+use Rattle.std.specs.Prelude.{slice_index_or, slice_get, slice_set, is_ok, Result, Ok, Err}
 use Rattle.std.proofs.lemmas.Option.{slice_get_within, slice_get_read}
 use Rattle.blocking_pool.specs.Jobs.{JobNumber}
 use Rattle.blocking_pool.specs.declared.pool.answer.Refusal.{Refusal}
@@ -115,5 +115,12 @@ spawn_refused may_answer w why rows tasks e new moves rows_are tasks_are =
       crew_may = so.adds;
       step_is = refl;
       event_is = so.event_is;
-      after_is = rw (so.after_is, rows_are, tasks_are) refl;
+      after_is =
+          ap (λ (c : Crew). record { crew = c; rows = rows; tasks = tasks }) so.after_is
+          ∙ ap (λ (l : List Row). record { crew = crew.after w.crew (crew.Adds Pool (Err why) so.growth so.pool); rows = l; tasks = tasks }) rows_are
+          ∙ ap (λ (l : List Task). record { crew = crew.after w.crew (crew.Adds Pool (Err why) so.growth so.pool); rows = w.rows; tasks = l }) tasks_are;
     }
+
+-- one more was put at the end, where there was room
+pub put_last : {A B X : Type 0} (r : Result A B) (old between new : List X) (x : X) → between ≡ old → is_ok r ≡ true → new ≡ (if is_ok r then between ++ x ∷ [] else between) → new ≡ old ++ x ∷ []
+put_last r old between new x same ok is = is ∙ ap (λ b. if b then between ++ x ∷ [] else between) ok ∙ ap (λ l. l ++ x ∷ []) same

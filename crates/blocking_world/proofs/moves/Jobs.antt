@@ -13,7 +13,6 @@ use Rattle.blocking_crew.specs.declared.hand.Stage.{Stage}
 use Rattle.blocking_lanes.proofs.Places.{set_same}
 use Rattle.blocking_lanes.specs.Steps.{TaskStep, IsCalled, IsAnswered, Finishes, GivesUp, CallsWaker, act_of, task_after}
 use Rattle.blocking_lanes.specs.Tasks.{Task, finish_wakes, give_up_wakes}
-use Rattle.blocking_laws.specs.JobTable.{number_in}
 use Rattle.blocking_laws.specs.declared.event.Act.{Act}
 use Rattle.blocking_laws.specs.declared.event.Act.TheVariants.{Answered}
 use Rattle.blocking_laws.specs.declared.event.Event.{Event}
@@ -269,8 +268,14 @@ io_answers w v n job old_row new_row e new is awaits at_row row_is moves =
           ∙ ap (λ (l : List Task). record { crew = (after w (Acts v h.held h.row h.task (IsAnswered n))).crew; rows = (after w (Acts v h.held h.row h.task (IsAnswered n))).rows; tasks = l }) tasks_same;
     }
 
+-- an answer is a number
+pub answer_only : (a : Answer) → (n : ℕ) × (a ≡ Number n)
+answer_only (Number n) = (n, refl)
+
 -- The call of the job gave what the step says.
-pub io_does : (w : Parts) (v : ℕ) (answer : Answer) (job : JobAt) (old_row new_row : Row) (e : Event) (new : Crew) → Some job ≡ job_at w v → job.next ≡ worker_action.Await
-    → old_row ≡ slice_index_or w.rows job.row old_row → new_row ≡ row_after_answer (number_in answer) old_row → crew.Moves NeverAsked (crew.Work v (Answered answer)) w.crew e new
+pub io_does : (w : Parts) (v : ℕ) {answer : Answer} {n : ℕ} {job : JobAt} {old_row new_row : Row} {e : Event} {new : Crew} → answer ≡ Number n → Some job ≡ job_at w v → job.next ≡ worker_action.Await
+    → old_row ≡ slice_index_or w.rows job.row old_row → new_row ≡ row_after_answer n old_row → crew.Moves NeverAsked (crew.Work v (Answered answer)) w.crew e new
     → Moves NeverAsked (Io v answer) w e (record { crew = new; rows = slice_set w.rows job.row new_row; tasks = w.tasks })
-io_does w v (Number n) job old_row new_row e new is awaits at_row row_is moves = io_answers w v n job old_row new_row e new is awaits at_row row_is moves
+io_does w v {answer} {n} {job} {old_row} {new_row} {e} {new} said is awaits at_row row_is moves =
+    subst (λ a. Moves NeverAsked (Io v a) w e (record { crew = new; rows = slice_set w.rows job.row new_row; tasks = w.tasks })) (sym said)
+    (io_answers w v n job old_row new_row e new is awaits at_row row_is (subst (λ a. crew.Moves NeverAsked (crew.Work v (Answered a)) w.crew e new) said moves))
