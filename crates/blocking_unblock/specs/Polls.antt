@@ -57,6 +57,14 @@ pub record Stands {T H E : Type 0} (poll : OwnerMachine E) (place : Place T H) :
   pub fits : FitsAction poll.call poll.state poll.next
   pub at : IsAt poll.state place
 
+-- An action can be done where the handle is so, with a buffer of so many bytes.
+abbrev pub CanDo : {T H E : Type 0} → OwnerAction E → Place T H → ℕ → Type 0
+CanDo act.Begin place room = IsAt Idle place
+CanDo act.Close place room = IsAt (Reading Open) place
+CanDo (act.Drain most) place room = IsAt (Reading Open) place × (most ≡ room) × (0 < room)
+CanDo act.PollSlot place room = (end : OwnerEnd) × IsAt (Reading end) place
+CanDo _ place room = ⊥
+
 -- What the doing of an action brings: its answer, whether a note was taken, and where the handle is then. A wait is registered.
 abbrev pub Does : {T H E : Type 0} → OwnerAction E → Place T H → OwnerAnswer E → Bool → Place T H → Type 0 → Type 0
 Does act.Begin old by.Begun false new armed = IsAt (Reading Open) new

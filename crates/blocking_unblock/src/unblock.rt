@@ -129,7 +129,7 @@ impl<T: Read + Drop, I: Drop, J: Job + Carries<ReadJob<T, H>>, H: Runtime> Unblo
     ghost use Rattle.blocking_core.specs.declared.unblock.State.TheVariants.{Idle, Reading};
     ghost use Rattle.blocking_core.specs.declared.unblock.OwnerAction.TheVariants.{Begin as BeginAction, Close as CloseAction, Drain as DrainAction, PollSlot as SlotAction};
     ghost use Rattle.blocking_unblock.specs.Owners.{IsClosed, IsAt, Reaches, Follows, has, wanted};
-    ghost use Rattle.blocking_unblock.specs.Polls.{Does, Stands, IsGoing, IfWaits};
+    ghost use Rattle.blocking_unblock.specs.Polls.{CanDo, Does, FitsReply, Stands, IsGoing, IfWaits};
 
     // Adds a job, which comes back where it is refused.
     fn enter(&self, job: ReadJob<T, H>) -> Result<(), Refused<ReadJob<T, H>>>
@@ -242,5 +242,79 @@ impl<T: Read + Drop, I: Drop, J: Job + Carries<ReadJob<T, H>>, H: Runtime> Unblo
             }
             Err(seat) => OwnerAnswer::Waits(seat),
         }
+    }
+
+    // Does what is next, which is something yet.
+    fn act(
+        &mut self,
+        action: OwnerAction<io::Error>,
+        cx: &mut Context<'_>,
+        out: &mut [u8],
+    ) -> (OwnerAnswer<io::Error>, Option<WakeNote>)
+        requires going { IsGoing action }
+        requires can { CanDo action self.old.place (length out.old) }
+        ensures does { Does action self.old.place result.0 (has result.1) self.new.place (IsArmed cx.new) }
+        ensures kept { Keeps cx.old cx.new }
+        ensures same_length { length out.new ≡ length out.old }
+    {
+        match action {
+            OwnerAction::Begin => (self.begin(), None),
+            OwnerAction::Close => self.close(),
+            OwnerAction::Drain(_) => self.drain(cx, out),
+            OwnerAction::PollSlot => (self.poll_slot(cx), None),
+            OwnerAction::Deliver | OwnerAction::Reply(_) | OwnerAction::Pending => unreachable!(),
+        }
+    }
+
+    // Does what is next, and tells the machine what came of it. A note that was taken out of the job's seat is spent at once.
+    fn turn(
+        &mut self,
+        poll: &mut OwnerCall<io::Error>,
+        cx: &mut Context<'_>,
+        out: &mut [u8],
+    )
+        requires going { IsGoing poll.old.next }
+        requires stands { Stands poll.old self.old.place }
+        requires wants { wanted poll.old.call ≡ length out.old }
+        ensures stands { Stands poll.new self.new.place }
+        ensures reaches { Reaches poll.old poll.new }
+        ensures waits { IfWaits poll.new.next (IsArmed cx.new) }
+        ensures call_same { poll.new.call ≡ poll.old.call }
+        ensures kept { Keeps cx.old cx.new }
+        ensures same_length { length out.new ≡ length out.old }
+    {
+        let (answer, note) = self.act(poll.next(), cx, out);
+        poll.answer(answer);
+        if let Some(note) = note {
+            let _woke = self.executor.wake(note);
+            poll.answer(OwnerAnswer::Delivered);
+        }
+    }
+
+    // Polls: the machine of this call is asked what is next until it has a reply or waits.
+    fn poll(
+        &mut self,
+        call: PollCall,
+        cx: &mut Context<'_>,
+        out: &mut [u8],
+    ) -> Poll<Reply<io::Error>>
+        requires open { IsClosed self.old.place → ⊥ }
+        requires wants { wanted call ≡ length out.old }
+        ensures follows { Follows call self.old.place result self.new.place }
+        ensures fits { IfReady result (λ reply. (state : _) × IsAt state self.new.place × FitsReply call state reply) }
+        ensures armed { OnPending result (IsArmed cx.new) }
+        ensures kept { Keeps cx.old cx.new }
+        ensures same_length { length out.new ≡ length out.old }
+    {
+        let rt = self.executor.runtime();
+        let mut poll = OwnerCall::new(call, self.state());
+        for _ in rt.forever() {
+            match poll.next() {
+                OwnerAction::Reply(reply) => return Poll::Ready(reply),
+                OwnerAction::Pending => return Poll::Pending,
+                _ => self.turn(&mut poll, cx, out),
+            }
+        }
+        unreachable!()
     }
 }
