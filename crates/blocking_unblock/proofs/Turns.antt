@@ -14,7 +14,7 @@ use Rattle.blocking_core.specs.declared.unblock.OwnerAction.{OwnerAction}
 use Rattle.blocking_core.specs.declared.unblock.OwnerAction.TheVariants as act
 use Rattle.blocking_core.specs.declared.unblock.OwnerAnswer.{OwnerAnswer}
 use Rattle.blocking_core.specs.declared.unblock.OwnerAnswer.TheVariants as by
-use Rattle.blocking_unblock.specs.Owners.{IsAt, AnswersTo, Runs, Reaches, wanted}
+use Rattle.blocking_unblock.specs.Owners.{IsAt, AnswersTo, Runs, Reaches, has, wanted}
 use Rattle.blocking_unblock.specs.Polls.{WantsBytes, FitsReply, FitsAction, IfWaits, IsGoing, Stands, CanDo, Does}
 use Rattle.blocking_unblock.specs.declared.unblock.Place.{Place}
 
@@ -253,6 +253,27 @@ module _ {T H E : Type 0} (armed : Type 0) (old new : Place T H) where
       let is : record poll { is_waking = false } ≡ poll = rw stands.awake refl in
       let P : OwnerMachine E → Type 0 = λ m. Turned m (told noted m answer) new armed in
       subst P is (goes poll.call poll.state poll.is_at_end poll.next answer noted stands.fits stands.at does)
+
+  -- the same where no note was taken, and where one was
+  pub turned_plain : {N : Type 0} (poll after : OwnerMachine E) (action : OwnerAction E) (answer : OwnerAnswer E) (note : Option N) → Stands poll old
+      → action ≡ owner_next poll → Does action old answer (has note) new armed → note ≡ None → after ≡ owner_after poll answer → Turned poll after new armed
+  turned_plain {N} poll after action answer note stands is does none end =
+      let next : action ≡ poll.next = is ∙ (rw stands.awake refl) in
+      let P : OwnerAction E → Type 0 = λ a. Does a old answer (has note) new armed in
+      let Q : Option N → Type 0 = λ n. Does poll.next old answer (has n) new armed in
+      let R : OwnerMachine E → Type 0 = λ m. Turned poll m new armed in
+      subst R (sym end) (turned poll answer false stands (subst Q none (subst P next does)))
+
+  pub turned_noted : {N : Type 0} (poll mid after : OwnerMachine E) (action : OwnerAction E) (answer : OwnerAnswer E) (note : Option N) (taken : N) → Stands poll old
+      → action ≡ owner_next poll → Does action old answer (has note) new armed → note ≡ Some taken → mid ≡ owner_after poll answer → after ≡ owner_after mid by.Delivered
+      → Turned poll after new armed
+  turned_noted {N} poll mid after action answer note taken stands is does some first end =
+      let next : action ≡ poll.next = is ∙ (rw stands.awake refl) in
+      let P : OwnerAction E → Type 0 = λ a. Does a old answer (has note) new armed in
+      let Q : Option N → Type 0 = λ n. Does poll.next old answer (has n) new armed in
+      let R : OwnerMachine E → Type 0 = λ m. Turned poll m new armed in
+      let whole : told true poll answer ≡ after = ap (λ m. owner_after m by.Delivered) (sym first) ∙ sym end in
+      subst R whole (turned poll answer true stands (subst Q some (subst P next does)))
 
   -- what such a machine names can be done
   pub can_do : (poll : OwnerMachine E) (room : ℕ) → Stands poll old → IsGoing poll.next → wanted poll.call ≡ room → CanDo (owner_next poll) old room
