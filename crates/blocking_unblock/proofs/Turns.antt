@@ -5,16 +5,15 @@ use Rattle.blocking_core.specs.OwnerCalls.{OwnerMachine, table, after_back, new_
 use Rattle.blocking_core.specs.declared.io.Fault.{Fault}
 use Rattle.blocking_core.specs.declared.unblock.PollCall.{PollCall}
 use Rattle.blocking_core.specs.declared.unblock.PollCall.TheVariants.{Read, GetMut}
-use Rattle.blocking_core.specs.declared.unblock.OwnerEnd.{OwnerEnd}
 use Rattle.blocking_core.specs.declared.unblock.OwnerEnd.TheVariants.{Open, Shut}
 use Rattle.blocking_core.specs.declared.unblock.State.{State}
 use Rattle.blocking_core.specs.declared.unblock.State.TheVariants.{Idle, Reading}
-use Rattle.blocking_core.specs.declared.unblock.Reply.TheVariants.{Count, Handle, Failed}
+use Rattle.blocking_core.specs.declared.unblock.Reply.TheVariants.{Count, Failed}
 use Rattle.blocking_core.specs.declared.unblock.OwnerAction.{OwnerAction}
 use Rattle.blocking_core.specs.declared.unblock.OwnerAction.TheVariants as act
 use Rattle.blocking_core.specs.declared.unblock.OwnerAnswer.{OwnerAnswer}
 use Rattle.blocking_core.specs.declared.unblock.OwnerAnswer.TheVariants as by
-use Rattle.blocking_unblock.specs.Owners.{IsAt, AnswersTo, Runs, Reaches, has, wanted}
+use Rattle.blocking_unblock.specs.Owners.{IsAt, Runs, Reaches, has, wanted}
 use Rattle.blocking_unblock.specs.Polls.{WantsBytes, FitsReply, FitsAction, IfWaits, IsGoing, Stands, CanDo, Does}
 use Rattle.blocking_unblock.specs.declared.unblock.Place.{Place}
 

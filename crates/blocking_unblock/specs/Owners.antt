@@ -5,12 +5,10 @@ use Rattle.blocking_core.specs.declared.io.Fault.{Fault}
 use Rattle.blocking_core.specs.declared.io.Fault.TheVariants as fault
 use Rattle.blocking_core.specs.declared.unblock.PollCall.{PollCall}
 use Rattle.blocking_core.specs.declared.unblock.PollCall.TheVariants.{Read, GetMut}
-use Rattle.blocking_core.specs.declared.unblock.OwnerEnd.{OwnerEnd}
-use Rattle.blocking_core.specs.declared.unblock.OwnerEnd.TheVariants.{Open, Shut}
 use Rattle.blocking_core.specs.declared.unblock.State.{State}
 use Rattle.blocking_core.specs.declared.unblock.State.TheVariants as state
 use Rattle.blocking_core.specs.declared.unblock.Reply.{Reply}
-use Rattle.blocking_core.specs.declared.unblock.Reply.TheVariants.{Count, Handle, Failed}
+use Rattle.blocking_core.specs.declared.unblock.Reply.TheVariants.{Count, Failed}
 use Rattle.blocking_core.specs.declared.unblock.OwnerAction.{OwnerAction}
 use Rattle.blocking_core.specs.declared.unblock.OwnerAction.TheVariants as act
 use Rattle.blocking_core.specs.declared.unblock.OwnerAnswer.{OwnerAnswer}

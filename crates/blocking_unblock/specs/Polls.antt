@@ -1,5 +1,5 @@
 -- What holds of the machine of a poll between two actions. No public clause cites this file.
-use Rattle.std.specs.Prelude.{◌≡◌, ◌<◌, ◌≤◌, ℕ, Bool, true, false}
+use Rattle.std.specs.Prelude.{◌≡◌, ◌<◌, ◌≤◌, ℕ, Bool, false}
 use Rattle.blocking_core.specs.OwnerCalls.{OwnerMachine}
 use Rattle.blocking_core.specs.declared.unblock.PollCall.{PollCall}
 use Rattle.blocking_core.specs.declared.unblock.PollCall.TheVariants.{Read, GetMut}

@@ -9,16 +9,16 @@ use crate::read_job::ReadJob;
 use crate::session::{Parts, Session};
 use blocking_core::pipe::{DEFAULT_BYTES, Drained};
 use blocking_core::pool::{Carries, Job, Refusal, Refused, WakeNote};
-use blocking_core::unblock::{OwnerAction, OwnerAnswer, OwnerCall, OwnerEnd, PollCall, Reply, State};
+use blocking_core::unblock::{
+    OwnerAction, OwnerAnswer, OwnerCall, OwnerEnd, PollCall, Reply, State,
+};
 use blocking_executor::{Executor, Runtime};
 use futures::task::{Context, Poll};
-use std::fmt;
 use std::fmt::{Debug, Formatter};
-use std::io;
 use std::io::Read;
 use std::marker::PhantomData;
-use std::mem;
 use std::sync::Wait;
+use std::{fmt, io, mem};
 
 // Where the handle is.
 #[derive(Drop)]
@@ -58,7 +58,9 @@ impl<T: Drop, I: Drop, J: Job, H: Runtime> Unblock<T, I, J, H> {
     {
         Unblock {
             place: Place::Idle(handle),
-            capacity: Capacity { bytes: DEFAULT_BYTES },
+            capacity: Capacity {
+                bytes: DEFAULT_BYTES,
+            },
             executor,
             items: PhantomData,
         }
@@ -267,12 +269,7 @@ impl<T: Read + Drop, I: Drop, J: Job + Carries<ReadJob<T, H>>, H: Runtime> Unblo
     }
 
     // Does what is next, and tells the machine what came of it. A note that was taken out of the job's seat is spent at once.
-    fn turn(
-        &mut self,
-        poll: &mut OwnerCall<io::Error>,
-        cx: &mut Context<'_>,
-        out: &mut [u8],
-    )
+    fn turn(&mut self, poll: &mut OwnerCall<io::Error>, cx: &mut Context<'_>, out: &mut [u8])
         requires going { IsGoing poll.old.next }
         requires stands { Stands poll.old self.old.place }
         requires wants { wanted poll.old.call ≡ length out.old }
@@ -316,5 +313,48 @@ impl<T: Read + Drop, I: Drop, J: Job + Carries<ReadJob<T, H>>, H: Runtime> Unblo
             }
         }
         unreachable!()
+    }
+
+    /// The handle itself. A session that is under way is stopped first: what was read ahead is lost, and its fault isn't told.
+    ///
+    /// A poll that waits has registered, and is polled again.
+    pub fn poll_get_mut(&mut self, cx: &mut Context<'_>) -> Poll<&mut T>
+        requires { IsClosed self.old.place → ⊥ }
+        ensures armed { OnPending result (IsArmed cx.new) }
+        ensures kept { Keeps cx.old cx.new }
+    {
+        let polled = self.poll(PollCall::GetMut, cx, &mut []);
+        if let Poll::Pending = polled {
+            return Poll::Pending;
+        }
+        match &mut self.place {
+            Place::Idle(handle) => Poll::Ready(handle),
+            _ => unreachable!(),
+        }
+    }
+}
+
+impl<T: Read + Drop, I: Drop, J: Job + Carries<ReadJob<T, H>>, H: Runtime> AsyncRead
+    for Unblock<T, I, J, H> {
+    ghost use Rattle.blocking_core.specs.declared.unblock.PollCall.TheVariants.{Read as ReadCall};
+    ghost use Rattle.blocking_unblock.specs.Owners.{IsClosed, Follows, IfRefused, reply_of_read};
+
+    ghost closed = { λ owner. IsClosed owner.place };
+
+    fn poll_read(&mut self, cx: &mut Context<'_>, buf: &mut [u8]) -> Poll<Result<usize, IoFault>>
+        requires { IsClosed self.old.place → ⊥ }
+        ensures follows { Follows (ReadCall (length buf.old)) self.old.place (reply_of_read result) self.new.place }
+        ensures open { IsClosed self.new.place → ⊥ }
+        ensures count { IfReady result (λ r. IfOk r (λ n. n ≤ length buf.old)) }
+        ensures same_length { length buf.new ≡ length buf.old }
+        ensures armed { OnPending result (IsArmed cx.new) }
+        ensures kept { Keeps cx.old cx.new }
+    {
+        match self.poll(PollCall::Read(buf.len()), cx, buf) {
+            Poll::Pending => Poll::Pending,
+            Poll::Ready(Reply::Count(count)) => Poll::Ready(Ok(count)),
+            Poll::Ready(Reply::Failed(why)) => Poll::Ready(Err(why)),
+            Poll::Ready(Reply::Handle) => unreachable!(),
+        }
     }
 }

@@ -1,4 +1,3 @@
-use Rattle.std.proofs.Common.{◌≡◌, sym, ◌∙◌, ap}
 use Rattle.blocking_unblock.proofs.unblock.Unblock.enter.Goals as goal
 
 pub returns-in-Some : goal.returns-in-Some

@@ -1,4 +1,3 @@
-use Rattle.std.proofs.Common.{◌≡◌}
 use Rattle.futures.specs.Task.{IsArmed}
 use Rattle.blocking_unblock.proofs.Turns.{turned_plain, turned_noted}
 use Rattle.blocking_unblock.proofs.unblock.Unblock.turn.Goals as goal
