@@ -5,4 +5,6 @@
 #[cfg(test)]
 mod reader;
 #[cfg(test)]
-mod whole;
+mod rows;
+#[cfg(test)]
+mod scene;
