@@ -8,3 +8,5 @@ mod reader;
 mod rows;
 #[cfg(test)]
 mod scene;
+#[cfg(test)]
+mod whole;

@@ -1,4 +1,6 @@
 //! Readers of the tests: one of many bytes, and one that goes by a plan.
+ghost use Rattle.std.specs.Prelude.{◌≤◌, length};
+
 use std::fmt::{Debug, Formatter};
 use std::io::Read;
 use std::sync::Arc;
@@ -158,7 +160,9 @@ impl Planned {
     }
 
     // The next bytes.
-    fn give(&mut self, bytes: &[u8], buf: &mut [u8]) -> usize {
+    fn give(&mut self, bytes: &[u8], buf: &mut [u8]) -> usize
+        ensures { result ≤ length buf.new }
+    {
         let rest = bytes.get(self.front..).unwrap_or(&[]);
         let count = rest.len().min(buf.len());
         buf[..count].copy_from_slice(&rest[..count]);
