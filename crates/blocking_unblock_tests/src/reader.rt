@@ -1,6 +1,7 @@
 //! Readers of the tests: one of many bytes, and one that goes by a plan.
 ghost use Rattle.std.specs.Prelude.{◌≤◌, length};
 
+use std::alloc::{AllocError, Global};
 use std::fmt::{Debug, Formatter};
 use std::io::Read;
 use std::sync::Arc;
@@ -33,18 +34,55 @@ pub(crate) struct Pace {
     pub millis: u64,
 }
 
-/// A long reader, whose byte i is i as `u8`.
+// How many bytes of a long reader are compared or come at once, at most.
+const PIECE: usize = 65_536;
+
+/// The bytes of a long reader: byte i is i as `u8`.
+#[derive(Drop)]
+pub(crate) struct Cycle {
+    // From a place that is a multiple of 256 on.
+    bytes: Vec<u8>,
+}
+
+impl Cycle {
+    pub(crate) fn new(alloc: Global) -> Result<Cycle, AllocError> {
+        let mut bytes = Vec::with_capacity(alloc, PIECE + 256)?;
+        let mut byte = 0u8;
+        for _ in 0..PIECE + 256 {
+            bytes.push(byte)?;
+            byte = byte.wrapping_add(1);
+        }
+        Ok(Cycle { bytes })
+    }
+
+    /// So many bytes from this place on. (fewer where they are more than 65,536)
+    pub(crate) fn at(&self, place: u64, count: usize) -> &[u8]
+        ensures { length result.now ≤ count }
+    {
+        let start = (place % 256) as usize;
+        let rest = self.bytes.get(start..).unwrap_or(&[]);
+        &rest[..count.min(rest.len())]
+    }
+}
+
+/// A long reader.
 #[derive(Drop)]
 pub(crate) struct Cycling<R: Clock> {
     rt: R,
     pace: Pace,
-    // How many came.
+    cycle: Cycle,
+    // How many bytes came.
     given: u64,
 }
 
 impl<R: Clock> Cycling<R> {
-    pub(crate) fn new(rt: R, pace: Pace) -> Cycling<R> {
-        Cycling { rt, pace, given: 0 }
+    pub(crate) fn new(rt: R, pace: Pace, cycle: Cycle) -> Cycling<R> {
+        Cycling {
+            rt,
+            pace,
+            cycle,
+            given: 0,
+        }
     }
 }
 
@@ -55,12 +93,10 @@ impl<R: Clock> Read for Cycling<R> {
         }
         let left = self.pace.bytes.saturating_sub(self.given);
         let left = usize::try_from(left).unwrap_or(usize::MAX);
-        let count = buf.len().min(self.pace.at_once).min(left);
-        let mut byte = (self.given % 256) as u8;
-        for place in &mut buf[..count] {
-            *place = byte;
-            byte = byte.wrapping_add(1);
-        }
+        let most = buf.len().min(self.pace.at_once).min(left);
+        let bytes = self.cycle.at(self.given, most);
+        let count = bytes.len();
+        buf[..count].copy_from_slice(bytes);
         self.given = self.given.saturating_add(count as u64);
         Ok(count)
     }

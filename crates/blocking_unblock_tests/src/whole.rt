@@ -1,5 +1,5 @@
 //! Many bytes, each of which has to come in its place.
-use crate::reader::{Cycling, Pace};
+use crate::reader::{Cycle, Cycling, Pace};
 use blocking::{Executor, Host, Runtime};
 use blocking_core::pool::{Carries, Job};
 use blocking_unblock::{AsyncRead, ReadJob, Unblock};
@@ -21,19 +21,8 @@ struct Whole<J: Job + Carries<ReadJob<Cycling<H>, H>>, H: Runtime> {
     rt: H,
     owner: Owner<J, H>,
     buffer: Vec<u8>,
+    cycle: Cycle,
     came: u64,
-}
-
-// Whether these are the bytes from this place on.
-fn are_next(place: u64, bytes: &[u8]) -> bool {
-    let mut next = (place % 256) as u8;
-    for byte in bytes {
-        if *byte != next {
-            return false;
-        }
-        next = next.wrapping_add(1);
-    }
-    true
 }
 
 impl<J: Job + Carries<ReadJob<Cycling<H>, H>>, H: Runtime> Future for Whole<J, H> {
@@ -48,7 +37,8 @@ impl<J: Job + Carries<ReadJob<Cycling<H>, H>>, H: Runtime> Future for Whole<J, H
             match self.owner.poll_read(cx, &mut self.buffer) {
                 Poll::Pending => return Poll::Pending,
                 Poll::Ready(Ok(0)) => return Poll::Ready(Some(self.came)),
-                Poll::Ready(Ok(count)) if are_next(self.came, &self.buffer[..count]) => {
+                Poll::Ready(Ok(count))
+                    if &self.buffer[..count] == self.cycle.at(self.came, count) => {
                     self.came = self.came.saturating_add(count as u64);
                 }
                 Poll::Ready(_) => return Poll::Ready(None),
@@ -63,7 +53,7 @@ type Readers<H> = Executor<ReadJob<Cycling<H>, H>, H>;
 // How many bytes come, where each is that of its place.
 fn come<H: Host>(rt: H, executor: &Readers<H>, row: &Row) -> io::Result<Option<u64>> {
     let executor = executor.try_clone()?;
-    let reader = Cycling::new(rt, row.pace);
+    let reader = Cycling::new(rt, row.pace, Cycle::new(rt.alloc())?);
     let owner = match row.capacity {
         Some(capacity) if capacity > 0 => Unblock::with_capacity(capacity, executor, reader),
         _ => Unblock::new(executor, reader),
@@ -72,6 +62,7 @@ fn come<H: Host>(rt: H, executor: &Readers<H>, row: &Row) -> io::Result<Option<u
         rt,
         owner,
         buffer: vec![in rt.alloc(); 0u8; BUFFER]?,
+        cycle: Cycle::new(rt.alloc())?,
         came: 0,
     };
     block_on(&rt, whole)
