@@ -26,5 +26,6 @@ pub mod OwnerSteps
 pub mod Legal
 pub mod WithOwners
 pub mod Traces
+pub mod OwnerTraces
 pub mod Served
 pub mod Staffed
