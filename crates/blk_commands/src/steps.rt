@@ -173,11 +173,10 @@ fn take_all(
     ensures { OnOk result (Takes (PlaysInstruction (instruction.JobAll worker))
         world.old.history world.new.history events.old.items events.new.items) }
 {
-    let step = Step::Job(worker);
-    take(alloc, world, &step, events)?;
+    take(alloc, world, &Step::Job(worker), events)?;
     // (It ends, since each action is an event more, and no list has room for endless ones.)
     while world.has_job_action(worker) {
-        take(alloc, world, &step, events)?;
+        take(alloc, world, &Step::Job(worker), events)?;
     }
     Ok(())
 }

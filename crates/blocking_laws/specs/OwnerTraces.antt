@@ -3,7 +3,10 @@ use Rattle.std.specs.Prelude.{ℕ, List, [], ◌∷◌, Some, None}
 use Rattle.blocking_pool.specs.declared.pool.answer.Woke.TheVariants.{Entered}
 use Rattle.blocking_pool.specs.declared.pool.standing.Standing.TheVariants.{Parked, Done}
 use Rattle.blocking_laws.specs.Seen.{events, cut}
+use Rattle.blocking_laws.specs.Ends.{EndsTruly}
+use Rattle.blocking_laws.specs.Passed.{PassesOn}
 use Rattle.blocking_laws.specs.OwnerLaws.{OwnerLaw, OwnerLaws}
+use Rattle.blocking_laws.specs.OwnerWakes.{IsNotLost}
 use Rattle.blocking_laws.specs.Traces.{◌▸◌, moment, starting, of_owner}
 use Rattle.blocking_laws.specs.declared.event.Act.{Act}
 use Rattle.blocking_laws.specs.declared.event.Act.TheVariants.{Made, Asked, Accepted, OwnerClosed, JobWoken, Got, GotEnd, Back, Replied, Waits, HolderDropped, Arrived, Took, Ended, Answered, RoomFree, RoomShut, JobParked, Put, JobClosed, Finished, HolderWoken}
@@ -12,7 +15,7 @@ use Rattle.blocking_laws.specs.declared.event.Moment.{Moment}
 use Rattle.blocking_laws.specs.declared.event.Party.TheVariants.{Owner, Worker}
 use Rattle.blocking_laws.specs.declared.event.Reply.TheVariants.{Count}
 use Rattle.blocking_laws.specs.declared.step.Answer.{Answer}
-use Rattle.blocking_laws.specs.declared.step.Answer.TheVariants.{Gave}
+use Rattle.blocking_laws.specs.declared.step.Answer.TheVariants.{Gave, Failed}
 use Rattle.blocking_laws.specs.declared.step.HandleCall.{HandleCall}
 use Rattle.blocking_laws.specs.declared.step.HandleCall.TheVariants.{Read, GetMut}
 use Rattle.blocking_laws.specs.declared.step.Step.TheVariants.{New, Ask, Own, DropOwner, Arrive, Take, Job, Io, End}
@@ -43,13 +46,26 @@ given s answer = of_owner 0 (moment (Io 1 answer) (Worker 1) (Some s) (Answered 
 abbrev pub ends : ℕ → Act → Moment
 ends s act = of_owner 0 (moment (End 1) (Worker 1) (Some s) act 2)
 
--- the law of owner 0
+-- the law of owner h, and of owner 0
+abbrev pub LawOfOwner : ℕ → List Moment → Moment → Type 0
+LawOfOwner h past now = OwnerLaw (cut h (events past)) now.event
+
 abbrev pub FirstOwnerLaw : List Moment → Moment → Type 0
-FirstOwnerLaw past now = OwnerLaw (cut 0 (events past)) now.event
+FirstOwnerLaw past now = LawOfOwner 0 past now
 
 -- the law of owner 0, at each event of its cut
 abbrev pub KeepsFirstOwner : List Moment → Type 0
 KeepsFirstOwner past = OwnerLaws (cut 0 (events past))
+
+-- the law of ends of owner 0; what passed in its last session; and that it doesn't wait in vain for job 1
+abbrev pub FirstOwnerEnds : List Moment → Moment → Type 0
+FirstOwnerEnds past now = EndsTruly (cut 0 (events past)) now.event.act
+
+abbrev pub FirstOwnerPasses : List Moment → Type 0
+FirstOwnerPasses past = PassesOn (cut 0 (events past))
+
+abbrev pub FirstOwnerIsNotLost : List Moment → Type 0
+FirstOwnerIsNotLost past = IsNotLost past 1 (cut 0 (events past))
 
 -- ---- an owner that reads
 
@@ -150,6 +166,38 @@ stop_finished = stop_closed ▸ works 1 (Finished Taken) ▸ works 1 HolderWoken
 -- .. / ended 1 done / asked (for the handle) / back
 abbrev pub stop_back : List Moment
 stop_back = stop_finished ▸ asks GetMut 2 ▸ polls Back 2
+
+-- ---- a reader that fails
+
+-- .. / room 4 / answered fault 8
+abbrev pub failed : List Moment
+failed = room_found ▸ given 1 (Failed 8)
+
+-- .. / answered fault 8 / closed wake owner / delivered owner / finished / ended 1 done
+abbrev pub failed_done : List Moment
+failed_done = failed ▸ works 1 (JobClosed Taken) ▸ works 1 HolderWoken ▸ works 1 (Finished Absent) ▸ ends 1 (Ended 1 Done)
+
+-- .. / ended 1 done / asked / got end / back
+abbrev pub failed_back : List Moment
+failed_back = failed_done ▸ asks (Read 2) 2 ▸ polls GotEnd 2 ▸ polls Back 2
+
+-- ---- wakes that are forgotten, which the seats refuse
+
+-- .. / answered 61626364 / put 4 / parked: the waiting owner isn't told
+abbrev pub untold_parked : List Moment
+untold_parked = four_given ▸ works 1 (Put 4 Absent) ▸ works 1 JobParked
+
+-- .. / answered fault 8 / closed / finished: nor here
+abbrev pub untold_finished : List Moment
+untold_finished = failed ▸ works 1 (JobClosed Absent) ▸ works 1 (Finished Absent)
+
+-- .. / ended 1 parked / asked / got 61626364 / replied ok 4 / asked: the parked job isn't told
+abbrev pub untold_job : List Moment
+untold_job = reader_parked
+    ▸ asks (Read 4) 2
+    ▸ polls (Got (97 ∷ 98 ∷ 99 ∷ 100 ∷ []) None) 2
+    ▸ polls (Replied (Count 4)) 2
+    ▸ asks (Read 4) 2
 
 -- ---- an owner that is dropped
 

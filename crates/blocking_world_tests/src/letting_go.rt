@@ -1,7 +1,7 @@
 //! Tasks that let their calls go, and worlds that end, at each stage.
 use crate::row::Line::{Counts, Sees};
-use crate::row::{NO_SETTING, Row, play};
 use crate::row::PlainStep::{Arrive, End, Io, Job, OfTask, Spawn, Stray, Strike, Take};
+use crate::row::{NO_SETTING, Row, play};
 use blocking_laws::step::TaskCall::{Cancel, Detach, Drop as Release, Poll};
 use std::test::Fail;
 

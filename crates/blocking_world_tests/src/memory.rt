@@ -1,10 +1,10 @@
 //! Worlds whose memory is refused. `rt try --test --fail-alloc N` refuses the Nth piece that a test asks for: the test here
 //! ends as without, whichever it is, and says what came of it.
-use crate::row::{PlainStep, Place, agree, counts};
+use crate::row::PlainStep::{Arrive, End, Io, Job, Late, OfTask, Spawn, Take};
+use crate::row::{Place, PlainStep, agree, counts};
 use blocking_core::pool::Refusal;
 use blocking_laws::event::{Act, Event};
 use blocking_laws::step::Step;
-use crate::row::PlainStep::{Arrive, End, Io, Job, Late, OfTask, Spawn, Take};
 use blocking_laws::step::TaskCall::Poll;
 use blocking_world::{World, run};
 use std::alloc::Global;
@@ -12,7 +12,12 @@ use std::fmt::Write;
 use std::test::Fail;
 
 // Takes a step until there is room for it, twice at most: until then the world is as it was.
-fn insists(rt: &impl Print, alloc: Global, world: &mut World, step: PlainStep) -> Result<Event, Fail> {
+fn insists(
+    rt: &impl Print,
+    alloc: Global,
+    world: &mut World,
+    step: PlainStep,
+) -> Result<Event, Fail> {
     for _ in 0..2 {
         let before = counts(world);
         let outcome = run(alloc, world, &[step.step()]);
@@ -36,7 +41,14 @@ fn insists(rt: &impl Print, alloc: Global, world: &mut World, step: PlainStep) -
 
 // Six calls to be handed in.
 fn six_calls() -> [Step; 6] {
-    [Step::Spawn, Step::Spawn, Step::Spawn, Step::Spawn, Step::Spawn, Step::Spawn]
+    [
+        Step::Spawn,
+        Step::Spawn,
+        Step::Spawn,
+        Step::Spawn,
+        Step::Spawn,
+        Step::Spawn,
+    ]
 }
 
 // Hands in all six calls in one run, and in a second those that the first left out.

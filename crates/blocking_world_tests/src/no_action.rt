@@ -1,11 +1,10 @@
 //! Steps that have no action.
 use crate::row::Line::{Counts, Futile, Sees};
-use crate::row::{NO_SETTING, Row, play};
-use crate::row::PlainStep;
 use crate::row::PlainStep::{
     Arrive, DropOwner, End, Io, IoFails, Job, Late, OfTask, Own, SetLimit, Spawn, Stray, Strike,
     Take, Wait,
 };
+use crate::row::{NO_SETTING, PlainStep, Row, play};
 use blocking_laws::step::TaskCall::{Cancel, Detach, Drop as Release, Poll};
 use std::test::Fail;
 
@@ -41,15 +40,7 @@ const STRANGERS: &[PlainStep] = &[
 ];
 
 // Steps of the first worker, which has no action before it arrives and after it stops.
-const ABSENT_WORKER: &[PlainStep] = &[
-    Take(1),
-    Job(1),
-    Io(1, 1),
-    End(1),
-    Wait(1),
-    Late(1),
-    Arrive,
-];
+const ABSENT_WORKER: &[PlainStep] = &[Take(1), Job(1), Io(1, 1), End(1), Wait(1), Late(1), Arrive];
 
 // The life of a call, from its entry to the end of its worker, and what is futile at each stage of it.
 const ROWS: &[Row] = &[
@@ -88,25 +79,19 @@ const ROWS: &[Row] = &[
             Sees(Arrive, "arrived 1"),
             Futile(&[Job(1), Io(1, 1), End(1), Arrive, Strike(1)]),
             Sees(Take(1), "took 1"),
-            Futile(&[Take(1), Wait(1), Late(1), Job(1), IoFails(1, 4), End(1), Strike(1)]),
-            Sees(Io(1, 3), "answered 3"),
-            Futile(&[
-                Take(1),
-                Wait(1),
-                Late(1),
-                Io(1, 4),
-                End(1),
-                Strike(1),
-            ]),
-            Sees(Job(1), "finished"),
             Futile(&[
                 Take(1),
                 Wait(1),
                 Late(1),
                 Job(1),
-                Io(1, 4),
+                IoFails(1, 4),
+                End(1),
                 Strike(1),
             ]),
+            Sees(Io(1, 3), "answered 3"),
+            Futile(&[Take(1), Wait(1), Late(1), Io(1, 4), End(1), Strike(1)]),
+            Sees(Job(1), "finished"),
+            Futile(&[Take(1), Wait(1), Late(1), Job(1), Io(1, 4), Strike(1)]),
             Sees(End(1), "ended 1 done"),
             Futile(&[Job(1), Io(1, 1), End(1), Arrive, Strike(1)]),
             Sees(OfTask(0, Poll), "got 3"),

@@ -69,13 +69,22 @@ fn texts_of_holders(rt: HostRuntime) -> Result<(), Fail> {
         (Act::OwnerClosed(None), "closed"),
         (Act::OwnerClosed(Some(4)), "closed wake 4"),
         (Act::Got(bytes(rt.alloc(), b"abc")?, None), "got 616263"),
-        (Act::Got(bytes(rt.alloc(), &[0, 255])?, Some(7)), "got 00ff wake 7"),
+        (
+            Act::Got(bytes(rt.alloc(), &[0, 255])?, Some(7)),
+            "got 00ff wake 7",
+        ),
         (Act::GotEnd, "got end"),
         (Act::Back, "back"),
         (Act::Replied(Reply::Count(0)), "replied ok 0"),
         (Act::Replied(Reply::Handle), "replied handle"),
-        (Act::Replied(Reply::Failed(Fault::Io(5))), "replied fault io 5"),
-        (Act::Replied(Reply::Failed(Fault::WriteZero)), "replied fault write-zero"),
+        (
+            Act::Replied(Reply::Failed(Fault::Io(5))),
+            "replied fault io 5",
+        ),
+        (
+            Act::Replied(Reply::Failed(Fault::WriteZero)),
+            "replied fault write-zero",
+        ),
         (
             Act::Replied(Reply::Failed(Fault::Refused(Refusal::NoWorker))),
             "replied fault refused worker",
@@ -119,9 +128,18 @@ fn texts_of_workers(rt: HostRuntime) -> Result<(), Fail> {
 #[test]
 fn texts_of_jobs(rt: HostRuntime) -> Result<(), Fail> {
     let rows = [
-        (Act::Answered(Answer::Number(u64::MAX)), "answered 18446744073709551615"),
-        (Act::Answered(Answer::Gave(bytes(rt.alloc(), b"a~")?)), "answered 617e"),
-        (Act::Answered(Answer::Gave(bytes(rt.alloc(), &[])?)), "answered -"),
+        (
+            Act::Answered(Answer::Number(u64::MAX)),
+            "answered 18446744073709551615",
+        ),
+        (
+            Act::Answered(Answer::Gave(bytes(rt.alloc(), b"a~")?)),
+            "answered 617e",
+        ),
+        (
+            Act::Answered(Answer::Gave(bytes(rt.alloc(), &[])?)),
+            "answered -",
+        ),
         (Act::Answered(Answer::Failed(8)), "answered fault 8"),
         (Act::RoomFree(4), "room 4"),
         (Act::RoomShut, "shut"),
@@ -149,9 +167,21 @@ fn starts_stand_at_the_end(rt: HostRuntime) -> Result<(), Fail> {
     let rows = [
         (Act::Accepted(1), 1, 1, false, "accepted 1 +1"),
         (Act::Took(1), 2, 3, false, "took 1 +2 +3 +4"),
-        (Act::Refused(Refusal::NoWorker), 1, 0, true, "refused worker -1"),
+        (
+            Act::Refused(Refusal::NoWorker),
+            1,
+            0,
+            true,
+            "refused worker -1",
+        ),
         (Act::Accepted(6), 2, 1, true, "accepted 6 +2 -3"),
-        (Act::Accepted(7), u64::MAX, 0, true, "accepted 7 -18446744073709551615"),
+        (
+            Act::Accepted(7),
+            u64::MAX,
+            0,
+            true,
+            "accepted 7 -18446744073709551615",
+        ),
         (
             Act::Swept(9),
             u64::MAX,

@@ -1,9 +1,9 @@
 //! Worlds, step by step.
 use crate::row::Line::{Counts, HasAction, Sees};
-use crate::row::{NO_SETTING, Row, play};
 use crate::row::PlainStep::{
     Arrive, End, Io, Job, Late, OfTask, SetLimit, Spawn, Stray, Sweep, Take, Wait,
 };
+use crate::row::{NO_SETTING, Row, play};
 use blocking_laws::step::TaskCall::{Cancel, Poll};
 use std::test::Fail;
 
