@@ -4,6 +4,9 @@
 mod io;
 mod link;
 mod read_job;
+mod session;
+mod unblock;
 
-pub use io::IoFault;
+pub use io::{AsyncRead, IoFault};
 pub use read_job::ReadJob;
+pub use unblock::Unblock;
