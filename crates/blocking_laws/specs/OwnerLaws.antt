@@ -13,7 +13,7 @@ use Rattle.blocking_laws.specs.OwnerSeats.{noted, pipe_seat, slot_seat}
 use Rattle.blocking_laws.specs.Ends.{EndsTruly}
 use Rattle.blocking_laws.specs.Steps.{IsBegun, IsWakeOf}
 use Rattle.blocking_laws.specs.declared.event.Act.{Act}
-use Rattle.blocking_laws.specs.declared.event.Act.TheVariants.{Made, Asked, Accepted, OwnerClosed, Back, Replied, HolderDropped, JobClosed, Finished, GaveUp, HolderWoken}
+use Rattle.blocking_laws.specs.declared.event.Act.TheVariants.{Made, Asked, Accepted, OwnerClosed, Replied, HolderDropped, JobClosed, Finished, GaveUp, HolderWoken}
 use Rattle.blocking_laws.specs.declared.event.Event.{Event}
 
 -- a session begins, with a job that the owner had not before, or is refused
