@@ -199,6 +199,15 @@ untold_job = reader_parked
     ▸ polls (Replied (Count 4)) 2
     ▸ asks (Read 4) 2
 
+-- .. / delivered 1 entered / replied ok 2 / asked / waits / took 1 / parked: a wake was delivered, but before the wait
+abbrev pub told_before : List Moment
+told_before = two_told
+    ▸ polls (Replied (Count 2)) 2
+    ▸ asks (Read 2) 2
+    ▸ polls Waits 2
+    ▸ takes 1 (Took 1)
+    ▸ works 1 JobParked
+
 -- ---- an owner that is dropped
 
 -- .. / ended 1 parked / dropped

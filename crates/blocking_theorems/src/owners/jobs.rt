@@ -1,5 +1,6 @@
 //! What the job of an owner does.
-ghost use Rattle.std.specs.Prelude.{[], ◌∷◌};
+ghost use Rattle.std.specs.Prelude.{◌≡◌, [], ◌∷◌};
+ghost use Rattle.blocking_laws.specs.JobTable.{Reading, AskBytes, next_of_job};
 ghost use Rattle.blocking_laws.specs.Traces.{◌▸◌, Refuses};
 ghost use Rattle.blocking_laws.specs.OwnerTraces.{takes, works, given, FirstOwnerLaw, KeepsFirstOwner};
 ghost use Rattle.blocking_laws.specs.OwnerTraces.{reader_taken, room_found, four_given, four_put, end_given, reader_done};
@@ -12,6 +13,8 @@ ghost use Rattle.blocking_laws.specs.declared.step.Answer.TheVariants.{Number, G
 pub fn tables()
     // .. / closed wake 1 / .. / shut / closed / finished wake owner / delivered owner / ended 1 done
     ensures accepts_stopped_job { KeepsFirstOwner stop_finished }
+    // room 70000: no more than a piece is asked for at once
+    ensures asks_for_piece { next_of_job Reading (RoomFree 70000 ∷ []) ≡ AskBytes 65536 }
     // .. / took 1 / answered 6162: it has found no room
     ensures refuses_answer_before_room { Refuses FirstOwnerLaw reader_taken (given 1 (Gave (97 ∷ 98 ∷ []))) }
     // .. / room 4 / answered 6162636465

@@ -1,10 +1,12 @@
 //! What owner and job are answered at their pipe and their slot.
-ghost use Rattle.std.specs.Prelude.{[], ◌∷◌, Some};
-ghost use Rattle.blocking_laws.specs.Traces.{◌▸◌, Refuses};
+ghost use Rattle.std.specs.Prelude.{[], ◌∷◌, Some, None};
+ghost use Rattle.blocking_laws.specs.Traces.{◌▸◌, moment, Refuses};
 ghost use Rattle.blocking_laws.specs.OwnerTraces.{asks, polls, works, FirstOwnerLaw, KeepsFirstOwner};
 ghost use Rattle.blocking_laws.specs.OwnerTraces.{one_begun, reader_taken, four_given, four_put, reader_parked, reader_done, end_seen, stop_waits, stop_finished};
-ghost use Rattle.blocking_laws.specs.declared.event.Act.TheVariants.{Got, GotEnd, Back, Waits, RoomFree, RoomShut, JobParked, Put, Lost};
+ghost use Rattle.blocking_laws.specs.declared.event.Act.TheVariants.{Made, Accepted, Got, GotEnd, Back, Waits, RoomFree, RoomShut, JobParked, Put, Lost};
 ghost use Rattle.blocking_laws.specs.declared.event.HolderWaker.TheVariants.{Taken};
+ghost use Rattle.blocking_laws.specs.declared.event.Party.TheVariants.{Owner};
+ghost use Rattle.blocking_laws.specs.declared.step.Step.TheVariants.{New};
 ghost use Rattle.blocking_laws.specs.declared.step.HandleCall.TheVariants.{Read, GetMut};
 
 /// An owner takes the front of what is inside, waits beside an empty pipe, and sees the end of one that is closed.
@@ -32,6 +34,10 @@ pub fn owner_at_pipe()
 
 /// A job finds the room that there is, puts all that it was given, and sees its owner's closed end.
 pub fn job_at_pipe()
+    // made 0, with no number of bytes / asked / accepted 1 +1 / room 8388608
+    ensures accepts_default_capacity { KeepsFirstOwner ([]
+        ▸ moment (New 0) (Owner 0) None (Made 0 0) 1 ▸ asks (Read 2) 1
+        ▸ polls (Accepted 1) 1 ▸ works 1 (RoomFree 8388608)) }
     // .. / took 1 / room 3: it is 4
     ensures refuses_less_room { Refuses FirstOwnerLaw reader_taken (works 1 (RoomFree 3)) }
     // .. / took 1 / parked: there is room

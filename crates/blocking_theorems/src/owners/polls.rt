@@ -5,8 +5,8 @@ ghost use Rattle.blocking_pool.specs.declared.pool.answer.Refusal.TheVariants.{M
 ghost use Rattle.blocking_laws.specs.Traces.{◌▸◌, Refuses};
 ghost use Rattle.blocking_laws.specs.OwnerTraces.{asks, polls, drops, FirstOwnerLaw, KeepsFirstOwner};
 ghost use Rattle.blocking_laws.specs.OwnerTraces.{one_made, one_asked, two_got, two_told, end_read, reader_back};
-ghost use Rattle.blocking_laws.specs.OwnerTraces.{handle_asked, stop_back, failed_back};
-ghost use Rattle.blocking_laws.specs.declared.event.Act.TheVariants.{Accepted, Refused, Got, Back, Replied, Waits};
+ghost use Rattle.blocking_laws.specs.OwnerTraces.{handle_asked, stop_back, failed_done, failed_back};
+ghost use Rattle.blocking_laws.specs.declared.event.Act.TheVariants.{Accepted, Refused, OwnerClosed, Got, Back, Replied, Waits};
 ghost use Rattle.blocking_laws.specs.declared.event.Reply.TheVariants.{Count, Handle, Failed};
 ghost use Rattle.blocking_laws.specs.declared.step.HandleCall.TheVariants.{Read, GetMut};
 
@@ -16,6 +16,11 @@ pub fn tables()
     ensures accepts_session { KeepsFirstOwner end_read }
     // .. / asked / closed wake 1 / delivered 1 entered / waits / .. / asked / back / replied handle
     ensures accepts_stop { KeepsFirstOwner (stop_back ▸ polls (Replied Handle) 2) }
+    // .. / got end / back / replied ok 0 / asked / replied handle
+    ensures accepts_handle_after_end { KeepsFirstOwner (end_read ▸ asks GetMut 2 ▸ polls (Replied Handle) 2) }
+    // .. / asked / back / replied handle / asked / accepted 2 / waits: the new pipe is open
+    ensures accepts_session_after_stop { KeepsFirstOwner (stop_back
+        ▸ polls (Replied Handle) 2 ▸ asks (Read 2) 2 ▸ polls (Accepted 2) 2 ▸ polls Waits 2) }
     // made 0 / asked / replied ok 0: the buffer is empty
     ensures accepts_empty_buffer { KeepsFirstOwner (one_made ▸ asks (Read 0) 1 ▸ polls (Replied (Count 0)) 1) }
     // made 0 / asked / replied handle / dropped
@@ -48,6 +53,9 @@ pub fn tables()
 pub fn faults()
     // .. / answered fault 8 / closed wake owner / .. / got end / back / replied fault io 8
     ensures accepts_fault { KeepsFirstOwner (failed_back ▸ polls (Replied (Failed (fault.Io 8))) 2) }
+    // .. / answered fault 8 / .. / ended 1 done / asked, for the handle / closed / back / replied handle
+    ensures accepts_untold_fault { KeepsFirstOwner (failed_done
+        ▸ asks GetMut 2 ▸ polls (OwnerClosed None) 2 ▸ polls Back 2 ▸ polls (Replied Handle) 2) }
     // .. / back / replied ok 0
     ensures refuses_end_in_its_place { Refuses FirstOwnerLaw failed_back (polls (Replied (Count 0)) 2) }
     // .. / back / replied fault io 9
