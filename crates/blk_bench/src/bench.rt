@@ -1,5 +1,6 @@
 //! The benchmarks by their names.
 use crate::calls::Calls;
+use crate::ends::Ends;
 use crate::figures::{Figures, Request};
 use crate::pipe;
 use blocking::Host;
@@ -10,22 +11,26 @@ use std::io;
 pub(crate) enum Bench {
     Calls(Calls),
     Pipe,
+    Ends(Ends),
 }
 
 impl Bench {
-    pub(crate) const ALL: [Bench; 6] = [
+    pub(crate) const ALL: [Bench; 8] = [
         Bench::Calls(Calls::Roundtrip),
         Bench::Calls(Calls::RoundtripAwait),
         Bench::Calls(Calls::Burst),
         Bench::Calls(Calls::BurstLimited),
         Bench::Calls(Calls::Idle),
         Bench::Pipe,
+        Bench::Ends(Ends::Bytes),
+        Bench::Ends(Ends::Items),
     ];
 
     pub(crate) fn name(self) -> &'static str {
         match self {
             Bench::Calls(calls) => calls.name(),
             Bench::Pipe => "pipe",
+            Bench::Ends(ends) => ends.name(),
         }
     }
 
@@ -42,6 +47,7 @@ impl Bench {
         match self {
             Bench::Calls(calls) => calls.unit(),
             Bench::Pipe => "MB/s",
+            Bench::Ends(ends) => ends.unit(),
         }
     }
 
@@ -49,6 +55,7 @@ impl Bench {
         match self {
             Bench::Calls(calls) => calls.size(),
             Bench::Pipe => 200_000_000,
+            Bench::Ends(ends) => ends.size(),
         }
     }
 
@@ -64,6 +71,7 @@ impl Bench {
         match self {
             Bench::Calls(calls) => calls.run(rt, host, setting, request, figures),
             Bench::Pipe => pipe::run(rt, request, figures),
+            Bench::Ends(ends) => ends.run(rt, host, request, figures),
         }
     }
 }

@@ -5,6 +5,7 @@
 
 mod bench;
 mod calls;
+mod ends;
 mod figures;
 mod pipe;
 

@@ -25,8 +25,8 @@ pub(crate) fn run(rt: HostRuntime, request: Request, figures: &mut Figures) -> i
     Ok(())
 }
 
-// Byte i is i as u8.
-fn pattern(alloc: Global, size: usize) -> io::Result<Vec<u8>> {
+/// Byte i is i as u8.
+pub(crate) fn pattern(alloc: Global, size: usize) -> io::Result<Vec<u8>> {
     let mut bytes = Vec::with_capacity(alloc, size)?;
     let mut byte = 0u8;
     for _ in 0..size {
@@ -70,6 +70,7 @@ fn pass(pipe: &mut BytePipe<u8>, piece: &[u8], buffer: &mut [u8])
     }
 }
 
-fn failed() -> io::Error {
+/// A wrong result, or want of a pool.
+pub(crate) fn failed() -> io::Error {
     io::Error::from(io::ErrorKind::Other)
 }

@@ -3,6 +3,7 @@
 
 mod host;
 mod own_job;
+mod own_rule;
 mod refusal;
 mod two_kinds;
 
@@ -50,5 +51,7 @@ fn more<H: Host>(rt: H) -> Result<()> {
     println!(rt; "12 squared is {square}; 12 is even: {is_even}")?;
     let serial = own_job::woken(rt)?;
     println!(rt; "job {serial} waited, and was woken")?;
+    let count = own_rule::received(rt)?;
+    println!(rt; "{count} numbers came in order")?;
     refusal::show(rt)
 }
