@@ -8,13 +8,14 @@ use Rattle.blocking_core.specs.declared.unblock.PollCall.TheVariants.{Read, GetM
 use Rattle.blocking_core.specs.declared.unblock.State.{State}
 use Rattle.blocking_core.specs.declared.unblock.State.TheVariants as state
 use Rattle.blocking_core.specs.declared.unblock.Reply.{Reply}
-use Rattle.blocking_core.specs.declared.unblock.Reply.TheVariants.{Count, Failed}
+use Rattle.blocking_core.specs.declared.unblock.Reply.TheVariants.{Count, Handle, Failed}
 use Rattle.blocking_core.specs.declared.unblock.OwnerAction.{OwnerAction}
 use Rattle.blocking_core.specs.declared.unblock.OwnerAction.TheVariants as act
 use Rattle.blocking_core.specs.declared.unblock.OwnerAnswer.{OwnerAnswer}
 use Rattle.blocking_core.specs.declared.unblock.OwnerAnswer.TheVariants as by
 use Rattle.futures.specs.declared.task.Poll.{Poll}
 use Rattle.futures.specs.declared.task.Poll.TheVariants.{Ready, Pending}
+use Rattle.std.specs.declared.io.Error.{Error}
 use Rattle.blocking_unblock.specs.declared.unblock.Place.{Place}
 use Rattle.blocking_unblock.specs.declared.unblock.Place.TheVariants as place
 
@@ -73,6 +74,11 @@ module _ {E : Type 0} where
   reply_of_read (Ready (Ok count)) = Ready (Count count)
   reply_of_read (Ready (Err why)) = Ready (Failed why)
   reply_of_read Pending = Pending
+
+-- what the call for the handle answers, as a reply
+abbrev pub reply_of_get : {A : Type 0} → Poll A → Poll (Reply Error)
+reply_of_get (Ready handle) = Ready Handle
+reply_of_get Pending = Pending
 
 -- What a poll does and answers: its machine begins by the call and where the handle is, gets answers, each to the action that was
 -- next, and ends where the handle is then; the reply is the machine's.

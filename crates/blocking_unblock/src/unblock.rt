@@ -126,11 +126,12 @@ impl<T: Debug + Drop, I: Drop, J: Job, H: Runtime> Debug for Unblock<T, I, J, H>
 
 // What a poll does with the handle, one action each.
 impl<T: Read + Drop, I: Drop, J: Job + Carries<ReadJob<T, H>>, H: Runtime> Unblock<T, I, J, H> {
-    ghost use Rattle.blocking_core.specs.OwnerCalls.{new_poll};
+    ghost use Rattle.blocking_core.specs.declared.unblock.PollCall.TheVariants.{GetMut as GetMutCall};
+    ghost use Rattle.blocking_unblock.specs.declared.unblock.Place.TheVariants.{Idle as AtOwner};
     ghost use Rattle.blocking_core.specs.declared.unblock.OwnerEnd.TheVariants.{Open};
     ghost use Rattle.blocking_core.specs.declared.unblock.State.TheVariants.{Idle, Reading};
     ghost use Rattle.blocking_core.specs.declared.unblock.OwnerAction.TheVariants.{Begin as BeginAction, Close as CloseAction, Drain as DrainAction, PollSlot as SlotAction};
-    ghost use Rattle.blocking_unblock.specs.Owners.{IsClosed, IsAt, Reaches, Follows, has, wanted};
+    ghost use Rattle.blocking_unblock.specs.Owners.{IsClosed, IsAt, Reaches, Follows, has, reply_of_get, wanted};
     ghost use Rattle.blocking_unblock.specs.Polls.{CanDo, Does, FitsReply, Stands, IsGoing, IfWaits};
 
     // Adds a job, which comes back where it is refused.
@@ -320,6 +321,8 @@ impl<T: Read + Drop, I: Drop, J: Job + Carries<ReadJob<T, H>>, H: Runtime> Unblo
     /// A poll that waits has registered, and is polled again.
     pub fn poll_get_mut(&mut self, cx: &mut Context<'_>) -> Poll<&mut T>
         requires { IsClosed self.old.place → ⊥ }
+        ensures follows { (place : _) × Follows GetMutCall self.old.place (reply_of_get result) place
+            × IfReady result (λ handle. place ≡ AtOwner handle.now) }
         ensures armed { OnPending result (IsArmed cx.new) }
         ensures kept { Keeps cx.old cx.new }
     {
