@@ -1,13 +1,12 @@
 //! Scenes: two owners over one executor of one worker, played step by step. A step that shows something else than it must ends its
 //! scene. The player promises nothing.
 use crate::reader::{Given, LOOKS, Planned, Track};
-use blocking::{Executor, Host, Runtime};
+use blocking::{AsyncRead, Executor, Host, IoFault, ReadJob, Runtime, Unblock};
 use blocking_core::io::Fault;
 use blocking_core::pool::{Carries, Job};
-use blocking_unblock::{AsyncRead, IoFault, ReadJob, Unblock};
 use futures::task::Poll;
 use futures::test::MockTask;
-use std::alloc::Global;
+use std::alloc::{AllocGlobal, Global};
 use std::random::RandomSource;
 use std::sync::Arc;
 use std::{io, thread};
@@ -19,6 +18,8 @@ pub(crate) enum Step {
     Poll(usize, Sight),
     /// Polls into it, each after a wake, until one doesn't wait.
     Read(usize, Sight),
+    /// The same of an idle reader. Where its session is refused, that is printed, and the owner has its text as before and tries once more.
+    Begin(usize, Sight),
     /// Reads into it to the end, of which all bytes are put into one text, with a `!` for each fault.
     ReadAll(usize, &'static str),
     /// A poll for the reader.
@@ -91,6 +92,24 @@ impl<J: Job + Carries<ReadJob<Planned, H>>, H: Runtime> Seen<J, H> {
             }
         }
         None
+    }
+
+    // Reads from an idle reader, whose session may be refused once.
+    fn begins<R: AllocGlobal + Print>(
+        &mut self,
+        rt: &R,
+        buffer: &mut [u8],
+    ) -> io::Result<Came<Result<usize, IoFault>>> {
+        let came = self.read(buffer);
+        let Some(Poll::Ready(Err(Fault::Refused(why)))) = &came else {
+            return Ok(came);
+        };
+        println!(rt; "refused: {why}")?;
+        if self.says(rt.alloc(), "Unblock { io: 0 }")? {
+            Ok(self.read(buffer))
+        } else {
+            Ok(None)
+        }
     }
 
     // How many bytes the reader gave, once it is there.
@@ -182,7 +201,7 @@ struct Scene<J: Job, H: Runtime> {
     owners: Vec<Seen<J, H>>,
 }
 
-impl<J: Job + Carries<ReadJob<Planned, H>>, H: Runtime + RandomSource> Scene<J, H> {
+impl<J: Job + Carries<ReadJob<Planned, H>>, H: Runtime + RandomSource + Print> Scene<J, H> {
     // One more owner. No capacity is the default.
     fn begin(&mut self, capacity: usize, plan: &'static [Given]) -> io::Result<()> {
         let track = Arc::new(self.rt.alloc(), Track::new())?;
@@ -219,6 +238,11 @@ impl<J: Job + Carries<ReadJob<Planned, H>>, H: Runtime + RandomSource> Scene<J, 
             Step::Read(size, sight) => {
                 let mut buffer = vec![in alloc; 0u8; size]?;
                 let came = seen.read(&mut buffer);
+                Ok(is_read(came, &buffer, sight))
+            }
+            Step::Begin(size, sight) => {
+                let mut buffer = vec![in alloc; 0u8; size]?;
+                let came = seen.begins(&self.rt, &mut buffer)?;
                 Ok(is_read(came, &buffer, sight))
             }
             Step::ReadAll(size, text) => seen.reads_all(alloc, size, text),
@@ -275,9 +299,9 @@ pub(crate) struct Row {
 }
 
 /// The place of the first step of a scene that shows something else than it must, if there is one.
-pub(crate) fn first_wrong<H: Host>(rt: H, row: &Row) -> io::Result<Option<usize>> {
+pub(crate) fn first_wrong<H: Host + Print>(rt: H, row: &Row) -> io::Result<Option<usize>> {
     let Ok(executor) = Executor::<ReadJob<Planned, H>, H>::new(rt, Some("1")) else {
-        return Ok(Some(0));
+        return Err(io::Error::from(io::ErrorKind::Other));
     };
     let mut scene = Scene {
         rt,

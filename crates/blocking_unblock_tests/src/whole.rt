@@ -1,8 +1,7 @@
 //! Many bytes, each of which has to come in its place.
 use crate::reader::{Cycle, Cycling, Pace};
-use blocking::{Executor, Host, Runtime};
+use blocking::{AsyncRead, Executor, Host, ReadJob, Runtime, Unblock};
 use blocking_core::pool::{Carries, Job};
-use blocking_unblock::{AsyncRead, ReadJob, Unblock};
 use futures::Future;
 use futures::executor::block_on;
 use futures::task::{Context, Poll};
