@@ -116,7 +116,10 @@ impl<J: Job, H: Runtime> Executor<J, H> {
         })
     }
 
-    pub(crate) fn runtime(&self) -> H {
+    /// The handles that its polls and workers use.
+    pub fn runtime(&self) -> H
+        ensures { result ≡ self.now.rt }
+    {
         self.rt
     }
 
