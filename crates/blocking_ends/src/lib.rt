@@ -2,7 +2,6 @@
 #![tactic(auto)]
 
 mod fill_end;
-mod lock;
 mod locked;
 mod pair;
 mod peek_end;

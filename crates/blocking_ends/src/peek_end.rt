@@ -1,10 +1,10 @@
 //! The end of a job that receives from its owner.
 ghost use Rattle.std.specs.Prelude.{◌≡◌, ◌<◌, ◌≤◌, ◌+◌, ◌-◌, length, take, drop};
 
-use crate::lock::enter;
 use crate::locked::{OwnerToJob, OwnerWaker};
 use crate::rule::PlaceRule;
 use blocking_core::pipe::Peeked;
+use blocking_lock::enter;
 use blocking_pool::pool::JobNo;
 use std::sync::{Arc, Mutex, Wait};
 

@@ -2,10 +2,10 @@
 ghost use Rattle.std.specs.Prelude.{◌≡◌, ◌<◌, ◌≤◌, ◌+◌, length, take, drop};
 ghost use Rattle.futures.specs.Task.{Covers, Keeps};
 
-use crate::lock::enter;
 use crate::locked::{JobToOwner, OwnerWaker};
 use crate::rule::PlaceRule;
 use blocking_core::pipe::{Answered, Drained, Received};
+use blocking_lock::enter;
 use blocking_pool::pool::WakeNote;
 use futures::task::{Context, Poll, Source};
 use std::sync::{Arc, Mutex, Wait};

@@ -1,10 +1,10 @@
 //! The end of a job that sends to its owner.
 ghost use Rattle.std.specs.Prelude.{◌≡◌, ◌<◌, ◌≤◌, ◌+◌, ◌-◌, length};
 
-use crate::lock::enter;
 use crate::locked::{JobToOwner, OwnerWaker};
 use crate::rule::PlaceRule;
 use blocking_core::pipe::{Put, Room, Sending};
+use blocking_lock::enter;
 use blocking_pool::pool::JobNo;
 use std::sync::{Arc, Mutex, Wait};
 

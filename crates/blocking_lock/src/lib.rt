@@ -1,4 +1,6 @@
-//! How an end takes its pipe's lock.
+//! How a lock is taken whose sections are short.
+#![tactic(auto)]
+
 use std::hint::spin_loop;
 use std::sync::{Mutex, MutexGuard, Wait};
 use std::thread::yield_now;
@@ -8,15 +10,15 @@ const TRIES: u32 = 6;
 
 /// Takes the lock. A section is mostly over sooner than a thread that sleeps for the lock is awake again, so the lock is tried for a
 /// while before.
-pub(crate) fn enter<'a, T, H: Wait>(pipe: &'a Mutex<T>, rt: &H) -> MutexGuard<'a, T> {
+pub fn enter<'a, T, H: Wait>(lock: &'a Mutex<T>, rt: &H) -> MutexGuard<'a, T> {
     for turn in 0..TRIES {
-        if let Some(held) = pipe.try_lock() {
+        if let Some(held) = lock.try_lock() {
             return held;
         }
         pause(1u32 << turn);
     }
     yield_now();
-    pipe.lock(rt)
+    lock.lock(rt)
 }
 
 fn pause(turns: u32) {
