@@ -69,7 +69,8 @@ fn shows<J: Job + Carries<ReadJob<Planned, H>>, H: Host>(
         }
         Step::ToEnd(bytes) => {
             let read = block_on(rt, owner.read_to_end(&mut out))?;
-            matches!(read, Ok(count) if count + 1 == bytes.len()) && out.as_slice() == bytes
+            matches!(read, Ok(count) if count.saturating_add(1) == bytes.len())
+                && out.as_slice() == bytes
         }
         Step::ToFault(bytes) => {
             let read = block_on(rt, owner.read_to_end(&mut out))?;
