@@ -12,5 +12,3 @@ mod rows;
 mod scene;
 #[cfg(test)]
 mod whole;
-#[cfg(test)]
-mod whole_reads;
