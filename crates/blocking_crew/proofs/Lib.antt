@@ -3,3 +3,4 @@ pub mod jobs
 pub mod hands
 pub mod closing
 pub mod ready
+pub mod calls
