@@ -3,10 +3,12 @@ use Rattle.std.proofs.Common.{◌≡◌, ℕ, ◌+◌, ◌-◌, ◌<◌, ◌==�
 use Rattle.std.proofs.lemmas.Bool.{eqb-true}
 use Rattle.std.specs.Prelude.{slice_get}
 use Rattle.blocking_pool.specs.Jobs.{JobNumber, is_running_as}
+use Rattle.std.specs.FinMap.{get-empty}
+use Rattle.std.specs.Ordering.{nat_cmp}
 use Rattle.blocking_pool.specs.Pools.{empty_pool}
 use Rattle.blocking_pool.specs.declared.pool.token.WorkerPass.{WorkerPass}
 use Rattle.blocking_crew.specs.Crews.{Crew, IsReady, hand_at, hand_in, with_hand, one_if_free, free_hands}
-use Rattle.blocking_crew.specs.Tickets.{JobPool, AreValued}
+use Rattle.blocking_crew.specs.Tickets.{JobPool, AreValued, is_valued}
 use Rattle.blocking_crew.specs.declared.hand.Hand.{Hand}
 use Rattle.blocking_crew.specs.declared.hand.Hand.TheVariants.{Out, Free, Holds}
 use Rattle.blocking_crew.specs.declared.hand.Held.{Held}
@@ -96,5 +98,5 @@ empty_ready setting pool hands empty none =
       idle = refl;
       runs = λ v held is. absurd (no_hand (v == 0) v held is);
       apart = λ v w one other is there same. absurd (no_hand (v == 0) v one is);
-      valued = λ s. refl;
+      valued = λ s. ap is_valued (get-empty nat_cmp s);
     }))

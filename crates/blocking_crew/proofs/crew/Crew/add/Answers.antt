@@ -2,6 +2,7 @@ use Rattle.std.proofs.Common.{◌≡◌, ap, ◌∙◌, sym, subst, refl, Result
 use Rattle.blocking_pool.specs.Jobs.{JobNumber}
 use Rattle.blocking_pool.specs.declared.pool.answer.Refusal.{Refusal}
 use Rattle.blocking_laws.specs.declared.event.Act.{Act}
+use Rattle.blocking_laws.specs.declared.event.Act.TheVariants.{Accepted}
 use Rattle.blocking_crew.specs.Crews.{Crew}
 use Rattle.blocking_crew.specs.Moves.{Moves, Add, Adds, added_act, seen, next_start}
 use Rattle.blocking_crew.specs.contracts.crew.Crew.{the_view}
@@ -10,10 +11,13 @@ use Rattle.blocking_crew.proofs.crew.Crew.add.Goals as goal
 use Rattle.blocking_crew.proofs.crew.Crew.add.Goals.{in-Ok, in-Err}
 
 number_is : (g : _) (c : goal.After-seen-event g) → c.match-number.number ≡ c.add-number.result.0
-number_is g c = elim c.match-number.branch [ in-Ok w ↦ w.number-is | in-Err w ↦ w.number-is ]
+number_is g c = elim c.match-number.branch [ in-Ok w ↦ w.number-is ∙ sym w.in-Ok.is | in-Err w ↦ w.number-is ∙ sym w.in-Err.is ]
 
 act_is : (g : _) (c : goal.After-seen-event g) → c.match-number.act ≡ added_act c.match-number.number
-act_is g c = elim c.match-number.branch [ in-Ok w ↦ ? | in-Err w ↦ ? ]
+act_is g c = elim c.match-number.branch [
+  | in-Ok w ↦ w.act-is ∙ ap Accepted w.serial.ensures ∙ ap added_act (sym w.number-is)
+  | in-Err w ↦ w.act-is ∙ ap added_act (sym w.number-is)
+]
 
 -- the move that it is
 moved : (g : _) (c : goal.After-seen-event g)

@@ -23,5 +23,5 @@ invariant_of-self c = moved_ready NeverAsked (SetLimit c.args.limit) (the_view c
 pub returns-then-limit-eq0 : goal.returns-then-limit-eq0
 returns-then-limit-eq0 c =
     let zero : not (c.args.limit == 0) ≡ false = (let none = c.if-limit-eq0.true in grind (arith, nat_tests, none)) in
-    subst (λ (crew : Crew). Moves NeverAsked (SetLimit c.args.limit) crew c.nothing.result (the_view c.self.inside)) c.self.view_is
+    subst (λ (crew : Crew). Moves NeverAsked (SetLimit c.args.limit) crew c.nothing.result crew) c.self.view_is
     (idles NeverAsked (SetLimit c.args.limit) (the_view c.self.inside) c.self.inside.workers zero refl (c.next_start-first.ensures ∙ ap next_start (sym c.self.view_is)) c.nothing.ensures)
