@@ -1,27 +1,23 @@
 -- Each call of a crew is a move, by what its parts did.
-use Rattle.std.proofs.Common.{◌≡◌, ◌-◌, ◌+◌, ◌<◌, ◌==◌, nat_lt, not, ℕ, Bool, true, false, List, [], ◌∷◌, ◌++◌, length, if◌then◌else◌, ap, sym, subst, refl, ◌∙◌, arith, Option, Some, None, Result}
-use Rattle.std.specs.Prelude.{is_some, slice_set}
+use Rattle.std.proofs.Common.{◌≡◌, ◌-◌, ◌<◌, nat_lt, ℕ, Bool, true, false, List, if◌then◌else◌, ap, sym, subst, refl, ◌∙◌, arith, Option, Some, None}
+use Rattle.std.specs.Prelude.{is_some}
 use Rattle.std.proofs.lemmas.Bool.Decides.{nat_tests}
-use Rattle.blocking_pool.specs.Counts.{after_arrival, after_limit}
+use Rattle.blocking_pool.specs.Counts.{after_arrival}
 use Rattle.blocking_pool.specs.Growth.{Growth}
-use Rattle.blocking_pool.specs.Jobs.{JobNumber}
 use Rattle.blocking_pool.specs.Pools.{without_job}
-use Rattle.blocking_pool.specs.declared.pool.answer.Refusal.{Refusal}
 use Rattle.blocking_pool.specs.declared.pool.answer.Took.{Took}
 use Rattle.blocking_pool.specs.declared.pool.answer.Took.TheVariants.{Run, Drop, Idle}
 use Rattle.blocking_pool.specs.declared.pool.answer.Waited.{Waited}
-use Rattle.blocking_pool.specs.declared.pool.answer.Woke.{Woke}
 use Rattle.blocking_pool.specs.declared.pool.token.WorkerPass.{WorkerPass}
 use Rattle.blocking_laws.specs.Answers.{wait_act}
 use Rattle.blocking_laws.specs.Seen.{has_timed_out}
 use Rattle.blocking_laws.specs.declared.event.Act.{Act}
 use Rattle.blocking_laws.specs.declared.event.Act.TheVariants.{Arrived, Ended}
 use Rattle.blocking_laws.specs.declared.event.Event.{Event}
-use Rattle.blocking_laws.specs.declared.event.Party.{Party}
 use Rattle.blocking_laws.specs.declared.event.Party.TheVariants.{Worker, Pool}
 use Rattle.blocking_laws.specs.declared.event.WaitEnd.{WaitEnd}
-use Rattle.blocking_crew.specs.Crews.{Crew, IsReady, Joins, hand_at, hand_of, with_hand, is_free_hand, pass_in, held_if, over_in, waiting_in, is_waiting, may_end, may_act, acting_in, held_after_act, hand_after_act, outcome_of, standing_after}
-use Rattle.blocking_crew.specs.Moves.{Call, Take, Work, End, Park, Wait, Arrive, Move, Idles, Arrives, TakesJob, TakesNone, Works, EndsTurn, Parks, HasWaited, Moves, has_action, named, next_start, seen, nothing, job_of_take, act_of_take, hand_after_take, parked_act, hand_after_park, hand_after_wait, is_stop}
+use Rattle.blocking_crew.specs.Crews.{Crew, IsReady, Joins, hand_at, hand_of, with_hand, is_free_hand, pass_in, held_if, over_in, waiting_in, is_waiting, may_end, may_act, acting_in, hand_after_act, outcome_of, standing_after}
+use Rattle.blocking_crew.specs.Moves.{Call, Take, Work, End, Park, Wait, Arrive, Idles, Arrives, TakesJob, TakesNone, Works, EndsTurn, Parks, HasWaited, Moves, has_action, named, next_start, seen, nothing, job_of_take, act_of_take, hand_after_take, parked_act, hand_after_park, hand_after_wait, is_stop}
 use Rattle.blocking_crew.specs.Tickets.{JobPool, no_growth, TakesTo, WaitsSo, ParksSo}
 use Rattle.blocking_crew.specs.declared.hand.Hand.{Hand}
 use Rattle.blocking_crew.specs.declared.hand.Hand.TheVariants.{Out, Free, Holds}

@@ -1,8 +1,8 @@
 -- A crew stays ready where its pool changes, and where one hand changes with it.
-use Rattle.std.proofs.Common.{◌≡◌, ℕ, ◌+◌, ◌-◌, ◌<◌, ◌==◌, Bool, true, false, if◌then◌else◌, List, [], ◌∷◌, ◌++◌, length, refl, sym, ap, ◌∙◌, subst, arith}
+use Rattle.std.proofs.Common.{◌≡◌, ℕ, ◌+◌, ◌-◌, ◌==◌, Bool, true, false, if◌then◌else◌, List, [], ◌∷◌, ◌++◌, length, refl, sym, ap, ◌∙◌, subst, arith}
 use Rattle.std.proofs.lemmas.Bool.{eqb-true}
 use Rattle.std.specs.Prelude.{slice_get}
-use Rattle.blocking_pool.specs.Jobs.{JobNumber, is_running_as}
+use Rattle.blocking_pool.specs.Jobs.{is_running_as}
 use Rattle.std.specs.FinMap.{get-empty}
 use Rattle.std.specs.Ordering.{nat_cmp}
 use Rattle.blocking_pool.specs.Pools.{empty_pool}
@@ -13,7 +13,7 @@ use Rattle.blocking_crew.specs.declared.hand.Hand.{Hand}
 use Rattle.blocking_crew.specs.declared.hand.Hand.TheVariants.{Out, Free, Holds}
 use Rattle.blocking_crew.specs.declared.hand.Held.{Held}
 use Rattle.blocking_crew.proofs.jobs.Kept.{AreKept, runs_on, stay_valued}
-use Rattle.blocking_crew.proofs.hands.Rows.{IsAt, hand_set, hand_pushed, hand_next, free_set, free_pushed}
+use Rattle.blocking_crew.proofs.hands.Rows.{IsAt, hand_set, hand_pushed, free_set, free_pushed}
 
 -- What a change of the pool leaves: jobs run on and have their tickets, and as many idle workers have arrived as before.
 pub record PoolKept (old new : JobPool) : Type 0 where

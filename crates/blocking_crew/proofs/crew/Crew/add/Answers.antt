@@ -1,10 +1,7 @@
-use Rattle.std.proofs.Common.{◌≡◌, ap, ◌∙◌, sym, subst, refl, Result, Ok, Err}
-use Rattle.blocking_pool.specs.Jobs.{JobNumber}
-use Rattle.blocking_pool.specs.declared.pool.answer.Refusal.{Refusal}
-use Rattle.blocking_laws.specs.declared.event.Act.{Act}
+use Rattle.std.proofs.Common.{◌≡◌, ap, ◌∙◌, sym, subst, refl}
 use Rattle.blocking_laws.specs.declared.event.Act.TheVariants.{Accepted}
 use Rattle.blocking_crew.specs.Crews.{Crew}
-use Rattle.blocking_crew.specs.Moves.{Moves, Add, Adds, added_act, seen, next_start}
+use Rattle.blocking_crew.specs.Moves.{Moves, Add, Adds, added_act, next_start}
 use Rattle.blocking_crew.specs.contracts.crew.Crew.{the_view}
 use Rattle.blocking_crew.proofs.ready.Moves.{moved_ready}
 use Rattle.blocking_crew.proofs.crew.Crew.add.Goals as goal

@@ -1,7 +1,5 @@
-use Rattle.std.proofs.Common.{◌≡◌, ◌-◌, ◌==◌, ℕ, Bool, true, false, sym, ap, ◌∙◌, subst, refl, Option, Some, None}
 use Rattle.std.specs.Prelude.{option_map}
 use Rattle.blocking_pool.specs.Limits.{limit_of_setting}
-use Rattle.blocking_pool.specs.Pools.{empty_pool}
 use Rattle.blocking_crew.proofs.ready.Changes.{empty_ready}
 use Rattle.blocking_crew.proofs.crew.Crew.new.Goals as goal
 

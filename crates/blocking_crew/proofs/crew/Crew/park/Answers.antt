@@ -1,4 +1,4 @@
-use Rattle.std.proofs.Common.{◌≡◌, ap, ◌∙◌, sym, subst, refl}
+use Rattle.std.proofs.Common.{ap, ◌∙◌, sym, subst}
 use Rattle.blocking_crew.specs.Crews.{Crew}
 use Rattle.blocking_crew.specs.contracts.crew.Crew.{the_view}
 use Rattle.blocking_crew.proofs.calls.Moved.{park_idles, parks_so, held_is_out, held_runs}

@@ -2,9 +2,9 @@ use Rattle.std.proofs.Common.{◌≡◌, ap, ◌∙◌, sym, subst, refl}
 use Rattle.blocking_crew.specs.Crews.{Crew}
 use Rattle.blocking_crew.specs.contracts.crew.Crew.{the_view}
 use Rattle.blocking_crew.proofs.calls.Moved.{idles}
-use Rattle.blocking_crew.specs.Moves.{Moves, NeverAsked, SetLimit, SetsLimit, seen, next_start}
+use Rattle.blocking_crew.specs.Moves.{Moves, NeverAsked, SetLimit, SetsLimit, next_start}
 use Rattle.blocking_crew.specs.Tickets.{JobPool}
-use Rattle.std.proofs.Common.{arith, true, false, not, ◌==◌, ℕ}
+use Rattle.std.proofs.Common.{arith, false, not, ◌==◌}
 use Rattle.std.proofs.lemmas.Bool.Decides.{nat_tests}
 use Rattle.blocking_crew.proofs.ready.Moves.{moved_ready}
 use Rattle.blocking_crew.proofs.crew.Crew.set_limit.Goals as goal

@@ -1,7 +1,7 @@
-use Rattle.std.proofs.Common.{◌≡◌, ap, ◌∙◌, sym, subst, refl}
+use Rattle.std.proofs.Common.{subst, refl}
 use Rattle.blocking_crew.specs.Crews.{Crew}
 use Rattle.blocking_crew.specs.contracts.crew.Crew.{the_view}
-use Rattle.blocking_crew.specs.Moves.{Moves, Sweep, Sweeps, seen}
+use Rattle.blocking_crew.specs.Moves.{Moves, Sweep, Sweeps}
 use Rattle.blocking_crew.proofs.ready.Moves.{moved_ready}
 use Rattle.blocking_crew.proofs.crew.Crew.sweep.Goals as goal
 

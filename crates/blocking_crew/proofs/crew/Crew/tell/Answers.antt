@@ -1,4 +1,4 @@
-use Rattle.std.proofs.Common.{◌≡◌, refl}
+use Rattle.std.proofs.Common.{refl}
 use Rattle.blocking_crew.specs.Moves.{Tells}
 use Rattle.blocking_crew.proofs.crew.Crew.tell.Goals as goal
 
