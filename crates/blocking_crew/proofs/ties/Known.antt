@@ -1,25 +1,22 @@
 -- What a crew and the laws tell of one job: the next one stands nowhere, the one in a hand runs, the front one is queued.
-use Rattle.std.proofs.Common.{◌≡◌, ℕ, ◌+◌, ◌==◌, if◌then◌else◌, List, [], ◌∷◌, length, Bool, true, false, refl, sym, ap, ◌∙◌, subst, arith, Option, Some, None}
+use Rattle.std.proofs.Common.{◌≡◌, ℕ, ◌+◌, ◌==◌, List, ◌∷◌, length, Bool, true, false, refl, sym, ap, ◌∙◌, subst, arith, Option, Some, None}
 use Rattle.std.specs.Prelude.{nat_lt, is_some}
 use Rattle.std.specs.FinMap.{get}
 use Rattle.std.proofs.lemmas.Bool.{eq-eqb}
 use Rattle.std.proofs.lemmas.Bool.Decides.{nat_tests}
 use Rattle.blocking_pool.specs.Growth.{Growth}
-use Rattle.blocking_pool.specs.Jobs.{Job as Entry, JobNumber, is_running_job, one_if}
+use Rattle.blocking_pool.specs.Jobs.{JobNumber, is_running_job, one_if}
 use Rattle.blocking_pool.specs.Lists.{is_in, without}
 use Rattle.blocking_pool.specs.declared.pool.standing.Standing.{Standing}
 use Rattle.blocking_pool.specs.declared.pool.standing.Standing.TheVariants.{Queued, Running}
 use Rattle.blocking_pool.proofs.Lists.{without-first}
-use Rattle.blocking_laws.specs.Jobs.{accepted_jobs, standing, is_woken, is_cancelled, is_marked, has_ended, is_queued, is_running}
-use Rattle.blocking_laws.specs.Legal.{PoolLaw}
+use Rattle.blocking_laws.specs.Jobs.{accepted_jobs, standing, is_queued, is_running}
 use Rattle.blocking_laws.specs.Queue.{queue, running, times}
-use Rattle.blocking_laws.specs.Seen.{EachMayFollow}
 use Rattle.blocking_laws.specs.declared.event.Moment.{Moment}
 use Rattle.blocking_laws.proofs.Queues.{queued_so, runs_so, known_so}
-use Rattle.blocking_crew.specs.Crews.{Crew, IsReady, hand_at}
+use Rattle.blocking_crew.specs.Crews.{Crew, hand_at}
 use Rattle.blocking_crew.specs.Tickets.{JobPool, TakesFront}
-use Rattle.blocking_crew.specs.Ties.{FiledAs, FiledHere, Filed, Lined, Numbered, CrewHolds}
-use Rattle.blocking_crew.specs.declared.hand.Hand.{Hand}
+use Rattle.blocking_crew.specs.Ties.{FiledHere, CrewHolds}
 use Rattle.blocking_crew.specs.declared.hand.Hand.TheVariants.{Holds}
 use Rattle.blocking_crew.specs.declared.hand.Held.{Held}
 use Rattle.blocking_crew.specs.declared.ticket.Ticket.{Ticket}

@@ -1,5 +1,5 @@
 use Rattle.std.proofs.Common.{is_some, ap, ◌∙◌, sym, if◌then◌else◌}
-use Rattle.blocking_crew.specs.Crews.{hand_at, hand_in, with_hand, hand_after_act}
+use Rattle.blocking_crew.specs.Crews.{hand_in, with_hand, hand_after_act}
 use Rattle.blocking_crew.specs.declared.hand.Hand.{Hand}
 use Rattle.blocking_crew.proofs.hands.Lent.{hand_is, lent_hand, changed_if}
 use Rattle.blocking_crew.proofs.workers.Workers.work.Goals as goal
