@@ -16,7 +16,7 @@ ghost use Rattle.blocking_crew.specs.Ties.{IsAsked, IsAside, IsNumberOf, seen_as
 
 /// Whatever call a crew takes, whatever step of the layer above it was and whoever's job: the crew hangs together with what was
 /// seen, and the law of the pool holds, if the layer above gave what the call asks of it. The number of a job stays its number,
-/// and queued jobs are served as before.
+/// and queued jobs are served as before. An event that is nothing to the crew changes none of it.
 pub fn each_call()
     ensures holds { (setting : ℕ) (plan : List Bool) (crew new : Crew) (past : List Moment)
         (call : Call) (e : Event) (step : Step) (owner : Option ℕ) →
@@ -32,11 +32,7 @@ pub fn each_call()
         CrewHolds setting plan crew past → Moves (IsPlanned plan) call crew e new →
         IsAsked crew past call → is_some (standing past number.serial) ≡ true →
         IsNumberOf crew.pool number → IsNumberOf new.pool number }
-{}
-
-/// An event that is nothing to a crew changes none of it.
-pub fn each_aside()
-    ensures holds { (setting : ℕ) (plan : List Bool) (crew : Crew) (past : List Moment)
+    ensures aside { (setting : ℕ) (plan : List Bool) (crew : Crew) (past : List Moment)
         (last : Moment) → CrewHolds setting plan crew past → IsAside crew last.event →
         CrewHolds setting plan crew (last ∷ past) }
 {}
