@@ -1,5 +1,5 @@
 -- How a crew hangs together with what was seen.
-use Rattle.std.specs.Prelude.{◌≡◌, ◌<◌, ◌+◌, ◌==◌, ◌||◌, min, ℕ, Bool, true, false, List, [], ◌∷◌, length, Option, Some, None, is_some}
+use Rattle.std.specs.Prelude.{◌≡◌, ◌<◌, ◌+◌, ◌==◌, ◌||◌, min, ℕ, Bool, true, false, List, ◌∷◌, length, Option, Some, None, is_some}
 use Rattle.std.specs.FinMap.{get}
 use Rattle.blocking_pool.specs.Counts.{limit_of}
 use Rattle.blocking_pool.specs.Growth.{greatest}

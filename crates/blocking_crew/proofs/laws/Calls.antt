@@ -1,8 +1,7 @@
 -- What holds after each call of a crew: the number of a job stays its number, and queued jobs are served.
-use Rattle.std.proofs.Common.{◌≡◌, ℕ, List, [], ◌∷◌, Bool, true, false, sym, ap, ◌∙◌, subst, Option}
-use Rattle.std.specs.Prelude.{Result, Ok, Err, is_some}
+use Rattle.std.proofs.Common.{◌≡◌, ℕ, List, ◌∷◌, Bool, true, false, sym, ap, ◌∙◌, subst, Option}
+use Rattle.std.specs.Prelude.{Ok, is_some}
 use Rattle.blocking_pool.specs.Jobs.{JobNumber}
-use Rattle.blocking_pool.specs.declared.pool.answer.Refusal.{Refusal}
 use Rattle.blocking_laws.specs.Growth.{IsPlanned}
 use Rattle.blocking_laws.specs.Jobs.{standing}
 use Rattle.blocking_laws.specs.declared.event.Event.{Event}
@@ -11,7 +10,7 @@ use Rattle.blocking_laws.specs.declared.event.Party.{Party}
 use Rattle.blocking_laws.specs.declared.step.Step.{Step}
 use Rattle.blocking_crew.specs.Crews.{Crew}
 use Rattle.blocking_crew.specs.Moves.{Call, Add, Move, Idles, Adds, May, Moves, call_of, has_action, after}
-use Rattle.blocking_crew.specs.Tickets.{JobPool, AddsTo}
+use Rattle.blocking_crew.specs.Tickets.{AddsTo}
 use Rattle.blocking_crew.specs.Ties.{CrewHolds, Served, IsAsked, IsNumberOf, seen_as}
 use Rattle.blocking_crew.proofs.ties.Numbers.{number_after, number_of_new}
 use Rattle.blocking_crew.proofs.laws.Service.{served_after}

@@ -1,5 +1,5 @@
 -- A job that has to give up was let go or cancelled: so say the laws of every past that keeps them.
-use Rattle.std.proofs.Common.{◌≡◌, ℕ, ◌==◌, ◌||◌, if◌then◌else◌, Bool, true, false, List, [], ◌∷◌, refl, sym, ap, ◌∙◌, subst}
+use Rattle.std.proofs.Common.{◌≡◌, ℕ, ◌==◌, ◌||◌, if◌then◌else◌, Bool, true, false, List, [], ◌∷◌, refl, ap, ◌∙◌, subst}
 use Rattle.std.proofs.lemmas.Bool.{eqb-true}
 use Rattle.blocking_laws.specs.Answers.{PoolAnswers, take_from, end_of}
 use Rattle.blocking_laws.specs.Jobs.{is_cancelled, is_marked, is_to_drop}

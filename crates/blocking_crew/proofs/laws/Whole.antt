@@ -10,7 +10,7 @@ use Rattle.blocking_laws.specs.declared.event.Event.{Event}
 use Rattle.blocking_laws.specs.declared.event.Moment.{Moment}
 use Rattle.blocking_laws.specs.declared.step.Step.{Step}
 use Rattle.blocking_laws.proofs.Queues.{order_after}
-use Rattle.blocking_crew.specs.Crews.{Crew, IsReady, hand_at, hand_in}
+use Rattle.blocking_crew.specs.Crews.{Crew, hand_at, hand_in}
 use Rattle.blocking_crew.specs.Moves.{Call, Move, May, Moves, call_of, after, next_start}
 use Rattle.blocking_crew.specs.Tickets.{no_growth, is_valued}
 use Rattle.blocking_crew.specs.Ties.{FiledAs, HandAs, Crewed, CrewHolds, IsAsked, IsAside, seen_as, moment_of}
