@@ -1,0 +1,4 @@
+pub mod Reads
+pub mod Entries
+pub mod Again
+pub mod Sweeps

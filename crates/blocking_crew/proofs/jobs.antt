@@ -1,0 +1,4 @@
+pub mod Lookups
+pub mod Marks
+pub mod Kept
+pub mod PassedOver

@@ -1,0 +1,199 @@
+-- Jobs that run on, and have their tickets, whatever becomes of others.
+use Rattle.std.proofs.Common.{◌≡◌, ℕ, zero, suc, ◌<◌, ◌≤◌, ◌==◌, ◌||◌, cond, Bool, true, false, refl, sym, ap, ◌∙◌, subst, if◌then◌else◌, List, [], ◌∷◌, Option, Some, None, inl, inr, arith}
+use Rattle.std.specs.Prelude.{option_map, is_some, filter, ◌&&◌}
+use Rattle.std.specs.FinMap.{get, insert, remove}
+use Rattle.std.proofs.lemmas.Bool.{eqb-true, cases_eq, cases_lt}
+use Rattle.blocking_pool.specs.Jobs.{Job, Jobs, JobNumber, amend, if_at, is_running, is_parked, is_running_job, is_parked_job, is_running_as, jobs_after_requeue, entry_after_requeue}
+use Rattle.blocking_pool.specs.Lists.{is_in}
+use Rattle.blocking_pool.specs.Sweeps.{serials_below}
+use Rattle.blocking_pool.specs.declared.pool.standing.Standing.{Standing}
+use Rattle.blocking_pool.specs.declared.pool.standing.Standing.TheVariants.{Queued, Running, Parked, Done, Dropped}
+use Rattle.blocking_pool.proofs.Lists.{is_in-last, is_in-push}
+use Rattle.blocking_crew.specs.Tickets.{JobPool, is_valued, AreValued, is_due_to_sweep, is_marked_ticket, to_sweep}
+use Rattle.blocking_crew.specs.Closing.{NoneDue}
+use Rattle.blocking_crew.specs.declared.ticket.Ticket.{Ticket}
+use Rattle.blocking_crew.proofs.jobs.Lookups.{job_put, job_out, job_changed, job_requeued, runs_at, filter_passes}
+
+-- ---- one job
+
+-- a job that runs at its place runs on there, and one that has its ticket where it doesn't run has it
+pub record IsKept (old new : Option (Job Ticket)) : Type 0 where
+  pub runs : (place : ℕ) → is_running_job (if_at place old) ≡ true → is_running_job (if_at place new) ≡ true
+  pub valued : is_valued old ≡ true → is_valued new ≡ true
+
+pub same_kept : (found : Option (Job Ticket)) → IsKept found found
+same_kept found = record { runs = λ place runs. runs; valued = λ valued. valued }
+
+kept_if : (b : Bool) (old new : Option (Job Ticket)) → (b ≡ true → IsKept old new) → IsKept old (if b then new else old)
+kept_if true old new kept = kept refl
+kept_if false old new kept = same_kept old
+
+if_alike : (b : Bool) (job new : Job Ticket) → new.standing ≡ job.standing → is_running_job (if b then Some new else None) ≡ is_running_job (if b then Some job else None)
+if_alike true job new e = ap is_running e
+if_alike false job new e = refl
+
+place_alike : (p : ℕ) (job new : Job Ticket) → new.standing ≡ job.standing → new.place ≡ job.place → is_running_job (if_at p (Some new)) ≡ is_running_job (if_at p (Some job))
+place_alike p job new st pl = ap (λ (n : ℕ). is_running_job (if n == p then Some new else None)) pl ∙ if_alike (job.place == p) job new st
+
+-- a job whose standing and place stay is kept, if its value is
+pub changed_kept : (change : Job Ticket → Job Ticket) → ((job : Job Ticket) → (change job).standing ≡ job.standing) → ((job : Job Ticket) → (change job).place ≡ job.place)
+    → ((job : Job Ticket) → is_valued (Some job) ≡ true → is_valued (Some (change job)) ≡ true) → (found : Option (Job Ticket)) → IsKept found (option_map change found)
+changed_kept change standing place valued None = same_kept None
+changed_kept change standing place valued (Some job) = record {
+  runs = λ p runs. place_alike p job (change job) (standing job) (place job) ∙ runs;
+  valued = λ has. valued job has;
+}
+
+pub or_true : (b : Bool) → (b || true) ≡ true
+or_true true = refl
+or_true false = refl
+
+-- a job with its ticket is valued
+pub with_ticket : (job : Job Ticket) (ticket : Ticket) → job.value ≡ Some ticket → is_valued (Some job) ≡ true
+with_ticket job ticket has = ap (λ (o : Option Ticket). is_running job.standing || is_some o) has ∙ or_true (is_running job.standing)
+
+not_parked : (standing : Standing) → is_running standing ≡ true → is_parked standing ≡ true → ⊥
+not_parked Running runs parked = cc
+not_parked Queued runs parked = cc
+not_parked Parked runs parked = cc
+not_parked Done runs parked = cc
+not_parked Dropped runs parked = cc
+
+parked_has : (standing : Standing) (value : Option Ticket) → is_parked standing ≡ true → (is_running standing || is_some value) ≡ true → is_some value ≡ true
+parked_has Parked value parked has = has
+parked_has Queued value parked has = absurd cc
+parked_has Running value parked has = absurd cc
+parked_has Done value parked has = absurd cc
+parked_has Dropped value parked has = absurd cc
+
+-- a parked job that enters again is kept
+pub parked_kept : (found : Option (Job Ticket)) → is_parked_job found ≡ true → IsKept found (option_map entry_after_requeue found)
+parked_kept None parked = absurd cc
+parked_kept (Some job) parked = record {
+  runs = λ place runs. absurd (not_parked job.standing (runs_at place (Some job) runs) parked);
+  valued = λ has. parked_has job.standing job.value parked has;
+}
+
+-- ---- the jobs of a pool
+
+abbrev pub AreKept : Jobs Ticket → Jobs Ticket → Type 0
+AreKept jobs new = (s : ℕ) → IsKept (get jobs s) (get new s)
+
+pub all_kept : (jobs : Jobs Ticket) → AreKept jobs jobs
+all_kept jobs s = same_kept (get jobs s)
+
+pub kept_then : (jobs between new : Jobs Ticket) → AreKept jobs between → AreKept between new → AreKept jobs new
+kept_then jobs between new first second s =
+    record { runs = λ place runs. (second s).runs place ((first s).runs place runs); valued = λ has. (second s).valued ((first s).valued has) }
+
+-- what ran runs on
+pub runs_on : (jobs new : Jobs Ticket) (number : JobNumber) → AreKept jobs new → is_running_as jobs number ≡ true → is_running_as new number ≡ true
+runs_on jobs new number kept runs = (kept number.serial).runs number.place runs
+
+pub stay_valued : (jobs new : Jobs Ticket) → AreKept jobs new → AreValued jobs → AreValued new
+stay_valued jobs new kept valued s = (kept s).valued (valued s)
+
+-- after one has changed
+pub amended_kept : (jobs : Jobs Ticket) (t : ℕ) (change : Job Ticket → Job Ticket) → IsKept (get jobs t) (option_map change (get jobs t)) → AreKept jobs (amend jobs t change)
+amended_kept jobs t change kept s =
+    subst (IsKept (get jobs s)) (sym (job_changed jobs t change s (t == s) refl))
+    (kept_if (t == s) (get jobs s) (option_map change (get jobs s)) (λ same. subst (λ (n : ℕ). IsKept (get jobs n) (option_map change (get jobs n))) (eqb-true t s same) kept))
+
+fresh_kept : (found : Option (Job Ticket)) (job : Job Ticket) → found ≡ None → is_valued (Some job) ≡ true → IsKept found (Some job)
+fresh_kept None job none valued = record { runs = λ place runs. absurd cc; valued = λ has. valued }
+fresh_kept (Some other) job none valued = absurd cc
+
+-- after a new one was put in
+pub inserted_kept : (jobs : Jobs Ticket) (t : ℕ) (job : Job Ticket) → get jobs t ≡ None → is_valued (Some job) ≡ true → AreKept jobs (insert jobs t job)
+inserted_kept jobs t job fresh valued s =
+    subst (IsKept (get jobs s)) (sym (job_put jobs t job s (t == s) refl))
+    (kept_if (t == s) (get jobs s) (Some job) (λ same. fresh_kept (get jobs s) job (ap (get jobs) (sym (eqb-true t s same)) ∙ fresh) valued))
+
+-- after parked ones entered again
+pub requeued_kept : (jobs : Jobs Ticket) (serials : List ℕ) → ((s : ℕ) → is_in s serials ≡ true → is_parked_job (get jobs s) ≡ true) → AreKept jobs (jobs_after_requeue jobs serials)
+requeued_kept jobs serials parked s =
+    subst (IsKept (get jobs s)) (sym (job_requeued serials jobs s))
+    (kept_if (is_in s serials) (get jobs s) (option_map entry_after_requeue (get jobs s)) (λ found. parked_kept (get jobs s) (parked s found)))
+
+-- ---- sweeps
+
+and_left : (b c : Bool) → (b && c) ≡ true → b ≡ true
+and_left true c both = refl
+and_left false c both = both
+
+due_parked : (found : Option (Job Ticket)) → is_due_to_sweep found ≡ true → is_parked_job found ≡ true
+due_parked None due = due
+due_parked (Some job) due = and_left (is_parked job.standing) (is_marked_ticket job.value) due
+
+-- what a sweep puts back is parked
+pub swept_parked : (pool : JobPool) (s : ℕ) → is_in s (to_sweep pool) ≡ true → is_parked_job (get pool.jobs s) ≡ true
+swept_parked pool s found =
+    due_parked (get pool.jobs s) (filter_passes (λ serial. is_due_to_sweep (get pool.jobs serial)) (serials_below pool.next_serial) s found)
+
+below_in : (s next : ℕ) → s < next → is_in s (serials_below next) ≡ true
+below_in s zero under = absurd (omega (arith, under))
+below_in s (suc next) under =
+    elim (cases_eq s next) [
+      | inl same ↦ is_in-last s next (serials_below next) same
+      | inr far ↦ is_in-push s next (serials_below next) far ∙ below_in s next (omega (arith, far, under))
+    ]
+
+filter_keeps_by : (b c : Bool) (test : ℕ → Bool) (n s : ℕ) (ns kept : List ℕ) → test n ≡ b → (s == n) ≡ c → test s ≡ true → (is_in s ns ≡ true → is_in s kept ≡ true) → (c || is_in s ns) ≡ true
+    → is_in s (cond b (n ∷ kept) kept) ≡ true
+filter_keeps_by true true test n s ns kept tests same passes rest found = ap (λ (c : Bool). c || is_in s kept) same
+filter_keeps_by true false test n s ns kept tests same passes rest found = ap (λ (c : Bool). c || is_in s kept) same ∙ rest found
+filter_keeps_by false true test n s ns kept tests same passes rest found = let bad : true ≡ false = sym passes ∙ ap test (eqb-true s n same) ∙ tests in absurd cc
+filter_keeps_by false false test n s ns kept tests same passes rest found = rest found
+
+filter_keeps : (test : ℕ → Bool) (ns : List ℕ) (s : ℕ) → test s ≡ true → is_in s ns ≡ true → is_in s (filter test ns) ≡ true
+filter_keeps test [] s passes found = absurd cc
+filter_keeps test (n ∷ ns) s passes found =
+    filter_keeps_by (test n) (s == n) test n s ns (filter test ns) refl refl passes (filter_keeps test ns s passes) found
+
+requeued_undue : (found : Option (Job Ticket)) → is_due_to_sweep (option_map entry_after_requeue found) ≡ false
+requeued_undue None = refl
+requeued_undue (Some job) = refl
+
+undue_if : (b : Bool) (found : Option (Job Ticket)) → (is_due_to_sweep found ≡ true → b ≡ true) → is_due_to_sweep (if b then option_map entry_after_requeue found else found) ≡ false
+undue_if true found due = requeued_undue found
+undue_if false found due = by (is_due_to_sweep found) refl
+  where
+    by : (d : Bool) → is_due_to_sweep found ≡ d → is_due_to_sweep found ≡ false
+    by true is = let bad : false ≡ true = due is in absurd cc
+    by false is = is
+
+-- after a sweep of a pool whose jobs have serials below the next, none is due
+pub none_due : (pool : JobPool) (jobs : Jobs Ticket) → ((s : ℕ) → pool.next_serial ≤ s → get pool.jobs s ≡ None) → jobs ≡ jobs_after_requeue pool.jobs (to_sweep pool)
+    → (s : ℕ) → is_due_to_sweep (get jobs s) ≡ false
+none_due pool jobs unused swept s =
+    ap (λ (j : Jobs Ticket). is_due_to_sweep (get j s)) swept ∙ ap is_due_to_sweep (job_requeued (to_sweep pool) pool.jobs s)
+    ∙ undue_if (is_in s (to_sweep pool)) (get pool.jobs s) (λ due.
+    filter_keeps (λ serial. is_due_to_sweep (get pool.jobs serial)) (serials_below pool.next_serial) s due (below_in s pool.next_serial (within due)))
+  where
+    within : is_due_to_sweep (get pool.jobs s) ≡ true → s < pool.next_serial
+    within due =
+        elim (cases_lt s pool.next_serial) [
+          | inl under ↦ under
+          | inr over ↦ (let bad : true ≡ false = sym due ∙ ap is_due_to_sweep (unused s over) in absurd cc)
+        ]
+
+filter_none : (test : ℕ → Bool) (ns : List ℕ) → ((n : ℕ) → test n ≡ false) → filter test ns ≡ []
+filter_none test [] none = refl
+filter_none test (n ∷ ns) none = ap (λ (b : Bool). cond b (n ∷ filter test ns) (filter test ns)) (none n) ∙ filter_none test ns none
+
+-- and a sweep puts nothing back
+pub sweeps_nothing : (pool : JobPool) → NoneDue pool → to_sweep pool ≡ []
+sweeps_nothing pool none = filter_none (λ serial. is_due_to_sweep (get pool.jobs serial)) (serials_below pool.next_serial) none
+
+-- ---- after one was taken out
+
+pub removed_valued : (jobs : Jobs Ticket) (t : ℕ) → AreValued jobs → AreValued (remove jobs t)
+removed_valued jobs t valued s = ap is_valued (job_out jobs t s (t == s) refl) ∙ by (t == s)
+  where
+    by : (b : Bool) → is_valued (if b then None else get jobs s) ≡ true
+    by true = refl
+    by false = valued s
+
+-- the others run on
+pub removed_runs : (jobs : Jobs Ticket) (t : ℕ) (number : JobNumber) → (t == number.serial) ≡ false → is_running_as (remove jobs t) number ≡ is_running_as jobs number
+removed_runs jobs t number apart = ap (λ (o : Option (Job Ticket)). is_running_job (if_at number.place o)) (job_out jobs t number.serial false apart)

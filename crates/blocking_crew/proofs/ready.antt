@@ -1,0 +1,4 @@
+pub mod Changes
+pub mod Pools
+pub mod Hands
+pub mod Moves

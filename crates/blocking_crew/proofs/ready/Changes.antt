@@ -1,0 +1,102 @@
+-- A crew stays ready where its pool changes, and where one hand changes with it.
+use Rattle.std.proofs.Common.{◌≡◌, ℕ, ◌+◌, ◌-◌, ◌==◌, Bool, true, false, if◌then◌else◌, List, [], ◌∷◌, ◌++◌, length, refl, sym, ap, ◌∙◌, subst, arith}
+use Rattle.std.proofs.lemmas.Bool.{eqb-true}
+use Rattle.std.specs.Prelude.{slice_get}
+use Rattle.blocking_pool.specs.Jobs.{is_running_as}
+use Rattle.std.specs.FinMap.{get-empty}
+use Rattle.std.specs.Ordering.{nat_cmp}
+use Rattle.blocking_pool.specs.Pools.{empty_pool}
+use Rattle.blocking_pool.specs.declared.pool.token.WorkerPass.{WorkerPass}
+use Rattle.blocking_crew.specs.Crews.{Crew, IsReady, hand_at, hand_in, with_hand, one_if_free, free_hands}
+use Rattle.blocking_crew.specs.Tickets.{JobPool, AreValued, is_valued}
+use Rattle.blocking_crew.specs.declared.hand.Hand.{Hand}
+use Rattle.blocking_crew.specs.declared.hand.Hand.TheVariants.{Out, Free, Holds}
+use Rattle.blocking_crew.specs.declared.hand.Held.{Held}
+use Rattle.blocking_crew.proofs.jobs.Kept.{AreKept, runs_on, stay_valued}
+use Rattle.blocking_crew.proofs.hands.Rows.{IsAt, hand_set, hand_pushed, free_set, free_pushed}
+
+-- What a change of the pool leaves: jobs run on and have their tickets, and as many idle workers have arrived as before.
+pub record PoolKept (old new : JobPool) : Type 0 where
+  pub jobs : AreKept old.jobs new.jobs
+  pub level : new.counts.idle + old.counts.arriving ≡ old.counts.idle + new.counts.arriving
+
+pub pool_ready : (crew : Crew) (pool : JobPool) → IsReady crew → PoolKept crew.pool pool → IsReady (record crew { pool = pool })
+pool_ready crew pool ready kept = record {
+  idle = let idle = ready.idle in let level = kept.level in omega (arith, idle, level);
+  runs = λ v held at. runs_on crew.pool.jobs pool.jobs held.turn kept.jobs (ready.runs v held at);
+  apart = ready.apart;
+  valued = stay_valued crew.pool.jobs pool.jobs kept.jobs ready.valued;
+}
+
+-- ---- one hand changes
+
+-- What has to be known where the hand of worker v, which was this one, becomes that one: the other jobs in hands run on; what is put into
+-- the hand runs, and is in no other; and the idle workers are counted.
+pub record HandFits (crew : Crew) (pool : JobPool) (v : ℕ) (old new : Hand) : Type 0 where
+  pub at : IsAt crew.hands v old
+  pub level : pool.counts.idle + one_if_free old + crew.pool.counts.arriving ≡ crew.pool.counts.idle + pool.counts.arriving + one_if_free new
+  pub others : (u : ℕ) (held : Held) → (v == u) ≡ false → hand_at crew.hands u ≡ Holds held → is_running_as pool.jobs held.turn ≡ true
+  pub own : (held : Held) → new ≡ Holds held → is_running_as pool.jobs held.turn ≡ true
+  pub alone : (u : ℕ) (held other : Held) → (v == u) ≡ false → new ≡ Holds held → hand_at crew.hands u ≡ Holds other → held.turn.serial ≡ other.turn.serial → ⊥
+  pub valued : AreValued pool.jobs
+
+module _ (crew : Crew) (pool : JobPool) (v : ℕ) (old new : Hand) (ready : IsReady crew) (fits : HandFits crew pool v old new) where
+  row : List Hand
+  row = with_hand crew.hands v new
+
+  runs_by : (u : ℕ) (held : Held) (b : Bool) → (v == u) ≡ b → (if b then new else hand_at crew.hands u) ≡ Holds held → is_running_as pool.jobs held.turn ≡ true
+  runs_by u held true same is = fits.own held is
+  runs_by u held false apart is = fits.others u held apart is
+
+  apart_by : (u w : ℕ) (one other : Held) (b c : Bool) → (v == u) ≡ b → (v == w) ≡ c → (if b then new else hand_at crew.hands u) ≡ Holds one → (if c then new else hand_at crew.hands w) ≡ Holds other
+      → one.turn.serial ≡ other.turn.serial → u ≡ w
+  apart_by u w one other true true e f is there same = sym (eqb-true v u e) ∙ eqb-true v w f
+  apart_by u w one other true false e f is there same = absurd (fits.alone w one other f is there same)
+  apart_by u w one other false true e f is there same = absurd (fits.alone u other one e there is (sym same))
+  apart_by u w one other false false e f is there same = ready.apart u w one other is there same
+
+  pub hand_ready : IsReady (record { pool = pool; hands = with_hand crew.hands v new })
+  hand_ready = record {
+    idle = let level = fits.level in let idle = ready.idle in let free = free_set crew.hands (v - 1) old new fits.at.got in omega (arith, level, idle, free);
+    runs = λ u held is. runs_by u held (v == u) refl (sym (hand_set crew.hands v u old new fits.at) ∙ is);
+    apart =
+        λ u w one other is there same.
+        apart_by u w one other (v == u) (v == w) refl refl (sym (hand_set crew.hands v u old new fits.at) ∙ is) (sym (hand_set crew.hands v w old new fits.at) ∙ there) same;
+    valued = fits.valued;
+  }
+
+-- ---- one more hand
+
+pushed_by : (crew : Crew) (pass : WorkerPass) (u : ℕ) (held : Held) (b : Bool) → (if b then Free pass else hand_at crew.hands u) ≡ Holds held → hand_at crew.hands u ≡ Holds held
+pushed_by crew pass u held true is = absurd (cc)
+pushed_by crew pass u held false is = is
+
+pushed_at : (crew : Crew) (pass : WorkerPass) (u : ℕ) (held : Held) → hand_at (crew.hands ++ Free pass ∷ []) u ≡ Holds held → hand_at crew.hands u ≡ Holds held
+pushed_at crew pass u held is = pushed_by crew pass u held (length crew.hands + 1 == u) (sym (hand_pushed crew.hands u (Free pass)) ∙ is)
+
+pub push_ready : (crew : Crew) (pool : JobPool) (pass : WorkerPass) → IsReady crew → pool.jobs ≡ crew.pool.jobs
+    → pool.counts.idle + crew.pool.counts.arriving ≡ crew.pool.counts.idle + pool.counts.arriving + 1
+    → IsReady (record { pool = pool; hands = crew.hands ++ Free pass ∷ [] })
+push_ready crew pool pass ready same level = record {
+  idle = let idle = ready.idle in let free : free_hands (crew.hands ++ Free pass ∷ []) ≡ free_hands crew.hands + 1 = free_pushed crew.hands (Free pass) in omega (arith, level, idle, free);
+  runs = λ u held is. ap (λ jobs. is_running_as jobs held.turn) same ∙ ready.runs u held (pushed_at crew pass u held is);
+  apart = λ u w one other is there serial. ready.apart u w one other (pushed_at crew pass u one is) (pushed_at crew pass w other there) serial;
+  valued = subst AreValued (sym same) ready.valued;
+}
+
+-- ---- a new crew
+
+no_hand : (b : Bool) (v : ℕ) (held : Held) → (if b then Out else hand_in (slice_get [] (v - 1))) ≡ Holds held → ⊥
+no_hand true v held is = cc
+no_hand false v held is = cc
+
+pub empty_ready : (setting : ℕ) (pool : JobPool) (hands : List Hand) → pool ≡ empty_pool setting 1 1 → hands ≡ [] → IsReady (record { pool = pool; hands = hands })
+empty_ready setting pool hands empty none =
+    subst (λ (p : JobPool). IsReady (record { pool = p; hands = hands })) (sym empty)
+    (subst (λ (row : List Hand). IsReady (record { pool = empty_pool setting 1 1; hands = row })) (sym none)
+    (record {
+      idle = refl;
+      runs = λ v held is. absurd (no_hand (v == 0) v held is);
+      apart = λ v w one other is there same. absurd (no_hand (v == 0) v one is);
+      valued = λ s. ap is_valued (get-empty nat_cmp s);
+    }))

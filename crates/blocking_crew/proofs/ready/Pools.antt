@@ -1,0 +1,146 @@
+-- What each change of a crew's pool keeps.
+use Rattle.std.proofs.Common.{◌≡◌, ℕ, ◌+◌, ◌==◌, ◌||◌, Bool, true, false, refl, sym, ap, ◌∙◌, subst, if◌then◌else◌, [], ◌∷◌, Option, Some, None, Result, Ok, Err, arith}
+use Rattle.std.specs.Prelude.{option_map, is_some}
+use Rattle.std.specs.FinMap.{get}
+use Rattle.std.proofs.lemmas.Bool.{eqb-true, eq-eqb}
+use Rattle.blocking_pool.specs.Growth.{Growth}
+use Rattle.blocking_pool.specs.Jobs.{Job, Jobs, JobNumber, if_at, is_running, is_parked_job, standing_of, entry_after_wake, entry_after_cancel, entry_with, new_job, value_at, job_of}
+use Rattle.blocking_pool.specs.Lists.{is_in}
+use Rattle.blocking_pool.specs.Pools.{with_job}
+use Rattle.blocking_pool.specs.Wakes.{wake_of, cancel_of}
+use Rattle.blocking_pool.specs.declared.pool.answer.Refusal.{Refusal}
+use Rattle.blocking_pool.specs.declared.pool.answer.Refusal.TheVariants.{Memory, NoWorker, Numbers}
+use Rattle.blocking_pool.specs.declared.pool.answer.Woke.{Woke}
+use Rattle.blocking_pool.specs.declared.pool.answer.Woke.TheVariants.{Entered, Marked, Nothing}
+use Rattle.blocking_pool.specs.declared.pool.standing.Standing.{Standing}
+use Rattle.blocking_pool.specs.declared.pool.standing.Standing.TheVariants.{Parked}
+use Rattle.blocking_crew.specs.Tickets.{JobPool, new_ticket, ticket_after_mark, pool_after_mark_of, pool_after_mark, AddsTo, Wakes, WakesTo, Cancels, CancelsTo, EntersAgain, SweepsTo, SweepsIf, to_sweep}
+use Rattle.blocking_crew.specs.declared.ticket.Ticket.{Ticket}
+use Rattle.blocking_crew.proofs.growth.Sweeps.{sweep_keeps, sweep_levels, sweeps_if_keeps, sweeps_if_levels}
+use Rattle.blocking_crew.proofs.jobs.Kept.{AreKept, changed_kept, with_ticket, all_kept, kept_then, amended_kept, inserted_kept, requeued_kept}
+use Rattle.blocking_crew.proofs.jobs.Lookups.{job_changed}
+use Rattle.blocking_crew.proofs.ready.Changes.{PoolKept}
+
+-- the same pool
+pub same_pool : (old new : JobPool) → new ≡ old → PoolKept old new
+same_pool old new same = record {
+  jobs = subst (AreKept old.jobs) (sym (ap (λ (p : JobPool). p.jobs) same)) (all_kept old.jobs);
+  level = let idle = ap (λ (p : JobPool). p.counts.idle) same in let arriving = ap (λ (p : JobPool). p.counts.arriving) same in omega (arith, idle, arriving);
+}
+
+-- the jobs change so, and the counts grow
+grown_pool : (old new : JobPool) (growth : Growth) → new.counts.idle ≡ old.counts.idle + growth.started → new.counts.arriving ≡ old.counts.arriving + growth.started
+    → AreKept old.jobs new.jobs → PoolKept old new
+grown_pool old new growth idle arriving kept = record { jobs = kept; level = omega (arith, idle, arriving) }
+
+-- ---- new jobs
+
+pub adds_keep : (may_answer : ℕ → Bool → Type 0) (old new : JobPool) (added : Result JobNumber Refusal) (growth : Growth) → AddsTo may_answer old added growth new → PoolKept old new
+adds_keep may_answer old new (Ok number) growth adds =
+    grown_pool old new growth (ap (λ (p : JobPool). p.counts.idle) adds.after_is) (ap (λ (p : JobPool). p.counts.arriving) adds.after_is)
+    (subst (AreKept old.jobs) (sym (ap (λ (p : JobPool). p.jobs) adds.after_is)) (inserted_kept old.jobs old.next_serial (new_job number.place new_ticket) adds.unused refl))
+adds_keep may_answer old new (Err Numbers) growth adds = same_pool old new adds.2
+adds_keep may_answer old new (Err Memory) growth adds = same_pool old new adds.1
+adds_keep may_answer old new (Err NoWorker) growth adds =
+    grown_pool old new growth (ap (λ (p : JobPool). p.counts.idle) adds.after_is) (ap (λ (p : JobPool). p.counts.arriving) adds.after_is)
+    (subst (AreKept old.jobs) (sym (ap (λ (p : JobPool). p.jobs) adds.after_is)) (all_kept old.jobs))
+
+-- ---- wakes and cancels
+
+found_parked : (place : ℕ) (found : Option (Job Ticket)) → option_map (λ job. job.standing) (if_at place found) ≡ Some Parked → is_parked_job found ≡ true
+found_parked place None is = absurd cc
+found_parked place (Some job) is = by (job.place == place) is
+  where
+    by : (b : Bool) → option_map (λ job. job.standing) (if b then Some job else None) ≡ Some Parked → is_parked_job (Some job) ≡ true
+    by true is = let e : job.standing ≡ Parked = cc in ap (λ (s : Standing). is_parked_job (Some (record job { standing = s }))) e
+    by false is = absurd cc
+
+woken_is : (st : Option Standing) → Entered ≡ wake_of st → st ≡ Some Parked
+woken_is (Some Parked) e = refl
+woken_is _ e = absurd cc
+
+cancelled_is : (st : Option Standing) → Entered ≡ cancel_of st → st ≡ Some Parked
+cancelled_is (Some Parked) e = refl
+cancelled_is _ e = absurd cc
+
+-- one parked job alone enters again
+one_parked : (jobs : Jobs Ticket) (t : ℕ) → is_parked_job (get jobs t) ≡ true → (s : ℕ) → is_in s (t ∷ []) ≡ true → is_parked_job (get jobs s) ≡ true
+one_parked jobs t parked s found = by (s == t) refl found
+  where
+    by : (b : Bool) → (s == t) ≡ b → (b || false) ≡ true → is_parked_job (get jobs s) ≡ true
+    by true same is = ap (λ (n : ℕ). is_parked_job (get jobs n)) (eqb-true s t same) ∙ parked
+    by false same is = absurd cc
+
+enters_keep : (may_answer : ℕ → Bool → Type 0) (old new : JobPool) (t : ℕ) (growth : Growth) → is_parked_job (get old.jobs t) ≡ true → EntersAgain may_answer old (t ∷ []) growth new → PoolKept old new
+enters_keep may_answer old new t growth parked enters =
+    grown_pool old new growth (ap (λ (p : JobPool). p.counts.idle) enters.after_is) (ap (λ (p : JobPool). p.counts.arriving) enters.after_is)
+    (subst (AreKept old.jobs) (sym (ap (λ (p : JobPool). p.jobs) enters.after_is)) (requeued_kept old.jobs (t ∷ []) (one_parked old.jobs t parked)))
+
+-- a flag of a job
+flag_keeps : (old new : JobPool) (t : ℕ) (change : Job Ticket → Job Ticket) → ((job : Job Ticket) → (change job).standing ≡ job.standing) → ((job : Job Ticket) → (change job).place ≡ job.place)
+    → ((job : Job Ticket) → (change job).value ≡ job.value) → new ≡ with_job old t change → PoolKept old new
+flag_keeps old new t change standing place value is = record {
+  jobs =
+      subst (AreKept old.jobs) (sym (ap (λ (p : JobPool). p.jobs) is))
+      (amended_kept old.jobs t change
+      (changed_kept change standing place (λ job has. ap (λ (s : Standing). is_running s || is_some (change job).value) (standing job) ∙ ap (λ (v : Option Ticket). is_running job.standing || is_some v) (value job) ∙ has)
+      (get old.jobs t)));
+  level = let idle : new.counts.idle ≡ old.counts.idle = ap (λ (p : JobPool). p.counts.idle) is in let arriving : new.counts.arriving ≡ old.counts.arriving = ap (λ (p : JobPool). p.counts.arriving) is in omega (arith, idle, arriving);
+}
+
+wake_keeps : (may_answer : ℕ → Bool → Type 0) (old new : JobPool) (number : JobNumber) (woke : Woke) (growth : Growth) → woke ≡ wake_of (standing_of old.jobs number)
+    → WakesTo may_answer old number.serial woke growth new → PoolKept old new
+wake_keeps may_answer old new number Entered growth answer effect =
+    enters_keep may_answer old new number.serial growth (found_parked number.place (get old.jobs number.serial) (woken_is (standing_of old.jobs number) answer)) effect
+wake_keeps may_answer old new number Marked growth answer effect = flag_keeps old new number.serial entry_after_wake (λ job. refl) (λ job. refl) (λ job. refl) effect.1
+wake_keeps may_answer old new number Nothing growth answer effect = same_pool old new effect.1
+
+pub wakes_keep : (may_answer : ℕ → Bool → Type 0) (old new : JobPool) (number : JobNumber) (woke : Woke) (growth : Growth) → Wakes may_answer old number woke growth new → PoolKept old new
+wakes_keep may_answer old new number woke growth wakes = wake_keeps may_answer old new number woke growth wakes.answer wakes.effect
+
+-- one after the other
+pool_then : (old between new : JobPool) → PoolKept old between → PoolKept between new → PoolKept old new
+pool_then old between new first second = record {
+  jobs = kept_then old.jobs between.jobs new.jobs first.jobs second.jobs;
+  level = let one = first.level in let two = second.level in omega (arith, one, two);
+}
+
+flagged_parked : (found : Option (Job Ticket)) → is_parked_job (option_map entry_after_cancel found) ≡ is_parked_job found
+flagged_parked None = refl
+flagged_parked (Some job) = refl
+
+cancel_keeps : (may_answer : ℕ → Bool → Type 0) (old new : JobPool) (number : JobNumber) (woke : Woke) (growth : Growth) → woke ≡ cancel_of (standing_of old.jobs number)
+    → CancelsTo may_answer old number.serial woke growth new → PoolKept old new
+cancel_keeps may_answer old new number Entered growth answer effect =
+    let between = with_job old number.serial entry_after_cancel in
+    let parked = found_parked number.place (get old.jobs number.serial) (cancelled_is (standing_of old.jobs number) answer) in
+    let still : is_parked_job (get between.jobs number.serial) ≡ true =
+    ap is_parked_job (job_changed old.jobs number.serial entry_after_cancel number.serial true (eq-eqb number.serial number.serial refl)) ∙ flagged_parked (get old.jobs number.serial) ∙ parked in
+    pool_then old between new (flag_keeps old between number.serial entry_after_cancel (λ job. refl) (λ job. refl) (λ job. refl) refl)
+    (enters_keep may_answer between new number.serial growth still effect)
+cancel_keeps may_answer old new number Marked growth answer effect = flag_keeps old new number.serial entry_after_cancel (λ job. refl) (λ job. refl) (λ job. refl) effect.1
+cancel_keeps may_answer old new number Nothing growth answer effect = same_pool old new effect.1
+
+pub cancels_keep : (may_answer : ℕ → Bool → Type 0) (old new : JobPool) (number : JobNumber) (woke : Woke) (growth : Growth) → Cancels may_answer old number woke growth new → PoolKept old new
+cancels_keep may_answer old new number woke growth cancels = cancel_keeps may_answer old new number woke growth cancels.answer cancels.effect
+
+-- ---- sweeps and marks
+
+pub sweep_keeps_pool : (may_answer : ℕ → Bool → Type 0) (old new : JobPool) (growth : Growth) → SweepsTo may_answer old (to_sweep old) growth new → PoolKept old new
+sweep_keeps_pool may_answer old new growth sweeps = record { jobs = sweep_keeps may_answer old new growth sweeps; level = (sweep_levels may_answer old new growth sweeps).level }
+
+pub sweep_if_keeps_pool : (timed_out : Bool) (may_answer : ℕ → Bool → Type 0) (old new : JobPool) (growth : Growth) → SweepsIf timed_out may_answer old growth new → PoolKept old new
+sweep_if_keeps_pool timed_out may_answer old new growth sweeps =
+    record { jobs = sweeps_if_keeps timed_out may_answer old new growth sweeps; level = (sweeps_if_levels timed_out may_answer old new growth sweeps).level }
+
+mark_of_keeps : (pool : JobPool) (number : JobNumber) (value : Option Ticket) → PoolKept pool (pool_after_mark_of pool number value)
+mark_of_keeps pool number None = same_pool pool pool refl
+mark_of_keeps pool number (Some ticket) = record {
+  jobs =
+      amended_kept pool.jobs number.serial (entry_with (ticket_after_mark ticket))
+      (changed_kept (entry_with (ticket_after_mark ticket)) (λ job. refl) (λ job. refl) (λ job has. with_ticket (entry_with (ticket_after_mark ticket) job) (ticket_after_mark ticket) refl) (get pool.jobs number.serial));
+  level = refl;
+}
+
+pub mark_keeps_pool : (pool : JobPool) (number : JobNumber) → PoolKept pool (pool_after_mark pool number)
+mark_keeps_pool pool number = mark_of_keeps pool number (value_at (job_of pool.jobs number))

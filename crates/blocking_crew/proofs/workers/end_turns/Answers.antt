@@ -1,0 +1,31 @@
+use Rattle.std.proofs.Common.{slice_index_or, arith}
+use Rattle.blocking_crew.proofs.closing.Hands.{got_index, runs_at, still_left, jobless_next, all_idle}
+use Rattle.blocking_crew.proofs.workers.end_turns.Goals as goal
+
+pub loop-place-init : goal.loop-place-init
+loop-place-init c = (c.requires, λ n held early. absurd (omega (arith, early)))
+
+pub end_turn-requires : goal.end_turn-requires
+end_turn-requires c =
+    let lengths = c.loop-place.auto.hands in
+    let within = c.loop-place-test.true in
+    runs_at c.loop-place.tickets c.loop-place.hands c.loop-place.place (slice_index_or c.loop-place.hands c.loop-place.place c.index-hands-place.result) c.loop-place.invariant.0
+    (got_index c.loop-place.hands c.loop-place.place c.index-hands-place.result (omega (arith, lengths, within)))
+
+pub loop-place-preserved : goal.loop-place-preserved
+loop-place-preserved c =
+    let lengths = c.loop-place.auto.hands in
+    let within = c.loop-place-test.true in
+    let hand = slice_index_or c.loop-place.hands c.loop-place.place c.index-hands-place.result in
+    let found = got_index c.loop-place.hands c.loop-place.place c.index-hands-place.result (omega (arith, lengths, within)) in (
+      still_left c.loop-place.tickets c.end_turn.new.tickets c.loop-place.hands c.loop-place.place hand c.end_turn.new.self c.loop-place.invariant.0 found c.end_turn.ensures,
+      jobless_next c.loop-place.tickets c.end_turn.new.tickets c.loop-place.hands c.loop-place.place hand c.end_turn.new.self c.loop-place.invariant.1 found c.end_turn.ensures,
+    )
+
+pub returns : goal.returns
+returns c =
+    let lengths = c.loop-place.auto.hands in
+    let bound = c.loop-place.auto.place-end in
+    let past = c.loop-place-test.false in
+    all_idle c.loop-place.tickets c.loop-place.hands c.loop-place.invariant.0
+    (λ n held early. c.loop-place.invariant.1 n held (omega (arith, early, lengths, bound, past)))
