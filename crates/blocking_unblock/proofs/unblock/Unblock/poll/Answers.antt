@@ -1,4 +1,4 @@
-use Rattle.std.proofs.Common.{◌∙◌}
+use Rattle.std.proofs.Common.{◌∙◌, ap, sym, refl, []}
 use Rattle.blocking_unblock.proofs.Turns.{first_kept, first_stands, first_waits, reaches_on, refused_by}
 use Rattle.blocking_unblock.proofs.unblock.Unblock.poll.Goals as goal
 
@@ -31,4 +31,4 @@ loop-preserved g c = (
 pub returns-in-Reply-clause-refused : goal.returns-in-Reply-clause-refused
 returns-in-Reply-clause-refused g c = λ most is idle.
     let first = c.loop.invariant.8 most (ap (λ m. m.call) c.new-poll.ensures ∙ is) idle in
-    refused_by _ _ _ _ c.loop.invariant.2 (sym c.in-Reply.is ∙ c.next.ensures) first
+    refused_by _ _ _ _ c.loop.invariant.2 (sym c.in-Reply.is ∙ c.next-in-loop.ensures) first

@@ -16,4 +16,4 @@ invariant-loop g l =
     × Keeps l.initial.cx l.cx
     × (length l.out ≡ length l.initial.out)
     × ((most : ℕ) → l.initial.poll.call ≡ Read most → IsAt Idle l.initial.self.place
-      → KeepsFirst l.poll.next l.poll.is_at_end l.self.place l.initial.self.place)
+    → KeepsFirst l.poll.next l.poll.is_at_end l.self.place l.initial.self.place)
