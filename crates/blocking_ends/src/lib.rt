@@ -2,6 +2,7 @@
 #![tactic(auto)]
 
 mod fill_end;
+mod lock;
 mod locked;
 mod pair;
 mod peek_end;

@@ -76,3 +76,16 @@ pub record OwnerLaw (cut : List Event) (now : Event) : Type 0 where
 -- the law of an owner, at each event of its cut
 abbrev pub OwnerLaws : List Event → Type 0
 OwnerLaws cut = EachMayFollow OwnerLaw cut
+
+-- whether an act is of a poll that is under way: not the making of an owner, the beginning of a poll, or the drop of an owner
+abbrev pub is_of_poll : Act → Bool
+is_of_poll (Made h capacity) = false
+is_of_poll (Asked call) = false
+is_of_poll HolderDropped = false
+is_of_poll _ = true
+
+-- whether the cut alone says what is seen of this action: the pool answers whether a session begins, and what a wake does
+abbrev pub is_settled : OwnerAction → Bool
+is_settled Begin = false
+is_settled (WakeJob s) = false
+is_settled _ = true

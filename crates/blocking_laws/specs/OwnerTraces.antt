@@ -167,6 +167,21 @@ stop_finished = stop_closed ▸ works 1 (Finished Taken) ▸ works 1 HolderWoken
 abbrev pub stop_back : List Moment
 stop_back = stop_finished ▸ asks GetMut 2 ▸ polls Back 2
 
+-- .. / replied ok 2 / asked (for the handle) / closed / took 1 / shut / closed / finished / ended 1 done / asked / back
+abbrev pub all_stopped_back : List Moment
+all_stopped_back = four_read
+    ▸ asks GetMut 2
+    ▸ polls (OwnerClosed None) 2
+    ▸ polls Waits 2
+    ▸ takes 1 (Took 1)
+    ▸ works 1 RoomShut
+    ▸ works 1 (JobClosed Absent)
+    ▸ works 1 (Finished Taken)
+    ▸ works 1 HolderWoken
+    ▸ ends 1 (Ended 1 Done)
+    ▸ asks (Read 2) 2
+    ▸ polls Back 2
+
 -- ---- a reader that fails
 
 -- .. / room 4 / answered fault 8

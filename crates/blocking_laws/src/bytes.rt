@@ -52,7 +52,7 @@ impl fmt::Display for Bytes {
         if self.items.is_empty() {
             return f.write_str("-");
         }
-        write_digits(f, self.items.as_slice())
+        write_digits(f, self.as_slice())
     }
 }
 

@@ -39,6 +39,16 @@ fn bytes(alloc: Global, items: &[u8]) -> Result<Bytes, AllocError> {
 }
 
 #[test]
+fn bytes_are_copied(rt: HostRuntime) -> Result<(), Fail> {
+    let copy = bytes(rt.alloc(), b"ab")?.try_clone()?;
+    if copy.as_slice() == b"ab".as_slice() {
+        Ok(())
+    } else {
+        Err(Fail::new("other bytes"))
+    }
+}
+
+#[test]
 fn texts_at_the_pool(rt: HostRuntime) -> Result<(), Fail> {
     let rows = [
         (Act::Accepted(12), "accepted 12"),

@@ -25,6 +25,8 @@ ghost use Rattle.blocking_laws.specs.declared.event.WaitEnd.TheVariants.{TimedOu
 ghost use Rattle.blocking_laws.specs.declared.step.Step.TheVariants.{Spawn, OfTask, Arrive, Take, Job, End, Late, SetLimit, Sweep, Stray, Strike};
 ghost use Rattle.blocking_laws.specs.declared.step.TaskCall.TheVariants.{Poll, Cancel};
 ghost use Rattle.std.specs.Prelude.{◌∷◌, true};
+ghost use Rattle.blocking_laws.specs.Seen.{cut};
+ghost use Rattle.blocking_laws.specs.Passed.{inside};
 ghost use Rattle.blocking_laws.specs.Jobs.{is_marked};
 ghost use Rattle.blocking_laws.specs.OwnerSteps.{StepLawWithOwners};
 ghost use Rattle.blocking_laws.specs.OwnerWakes.{NoLostOwnerWake};
@@ -135,9 +137,8 @@ pub fn owners()
     ensures refuses_poll_after_wait { Refuses StepLawWithOwners reader_waits (polls (Replied (Count 0)) 2) }
     // .. / got 6162 wake 1 / replied ok 2
     ensures refuses_undelivered_note { Refuses FirstOwnerLaw two_got (polls (Replied (Count 2)) 2) }
-    // .. / got 6162 wake 1 / delivered 1 entered / replied ok 2 / asked / got 6162
-    ensures refuses_bytes_twice { Refuses FirstOwnerLaw (two_told ▸ polls (Replied (Count 2)) 2 ▸ asks (Read 2) 2)
-        (polls (Got (97 ∷ 98 ∷ []) None) 2) }
+    // .. / answered 61626364 / put 4 wake owner / .. / got 6162 wake 1
+    ensures rest_is_inside { inside (cut 0 (events two_got)) ≡ 99 ∷ 100 ∷ [] }
     // .. / got 6162 wake 1 / delivered 1 entered / replied ok 2 / asked / got 6364 wake 1
     ensures refuses_note_twice { Refuses FirstOwnerLaw (two_told ▸ polls (Replied (Count 2)) 2 ▸ asks (Read 2) 2)
         (polls (Got (99 ∷ 100 ∷ []) (Some 1)) 2) }

@@ -1,13 +1,14 @@
 //! What the job of an owner does.
-ghost use Rattle.std.specs.Prelude.{◌≡◌, [], ◌∷◌};
-ghost use Rattle.blocking_laws.specs.JobTable.{Reading, AskBytes, next_of_job};
+ghost use Rattle.std.specs.Prelude.{◌≡◌, [], ◌∷◌, Some};
+ghost use Rattle.blocking_core.specs.declared.io.Fault.TheVariants.{Io};
+ghost use Rattle.blocking_laws.specs.JobTable.{Reading, AskBytes, fault, next_of_job};
 ghost use Rattle.blocking_laws.specs.Traces.{◌▸◌, Refuses};
 ghost use Rattle.blocking_laws.specs.OwnerTraces.{takes, works, given, FirstOwnerLaw, KeepsFirstOwner};
 ghost use Rattle.blocking_laws.specs.OwnerTraces.{reader_taken, room_found, four_given, four_put, end_given, reader_done};
 ghost use Rattle.blocking_laws.specs.OwnerTraces.{stop_finished, reader_dropped, failed};
-ghost use Rattle.blocking_laws.specs.declared.event.Act.TheVariants.{TookDropped, RoomFree, Put, Finished, GaveUp};
+ghost use Rattle.blocking_laws.specs.declared.event.Act.TheVariants.{TookDropped, Answered, RoomFree, Put, Finished, GaveUp};
 ghost use Rattle.blocking_laws.specs.declared.event.HolderWaker.TheVariants.{Taken, Absent};
-ghost use Rattle.blocking_laws.specs.declared.step.Answer.TheVariants.{Number, Gave};
+ghost use Rattle.blocking_laws.specs.declared.step.Answer.TheVariants.{Number, Gave, Failed};
 
 /// A reading job looks for room, asks its reader, puts what it was given, and closes its end before it finishes.
 pub fn tables()
@@ -15,6 +16,8 @@ pub fn tables()
     ensures accepts_stopped_job { KeepsFirstOwner stop_finished }
     // room 70000: no more than a piece is asked for at once
     ensures asks_for_piece { next_of_job Reading (RoomFree 70000 ∷ []) ≡ AskBytes 65536 }
+    // answered fault 1 / answered fault 2
+    ensures tells_first_fault { fault (Answered (Failed 2) ∷ Answered (Failed 1) ∷ []) ≡ Some (Io 1) }
     // .. / took 1 / answered 6162: it has found no room
     ensures refuses_answer_before_room { Refuses FirstOwnerLaw reader_taken (given 1 (Gave (97 ∷ 98 ∷ []))) }
     // .. / room 4 / answered 6162636465

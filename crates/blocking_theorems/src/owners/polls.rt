@@ -18,6 +18,9 @@ pub fn tables()
     ensures accepts_stop { KeepsFirstOwner (stop_back ▸ polls (Replied Handle) 2) }
     // .. / got end / back / replied ok 0 / asked / replied handle
     ensures accepts_handle_after_end { KeepsFirstOwner (end_read ▸ asks GetMut 2 ▸ polls (Replied Handle) 2) }
+    // .. / got end / back / replied ok 0 / asked / accepted 2 / waits
+    ensures accepts_session_after_end { KeepsFirstOwner (end_read
+        ▸ asks (Read 2) 2 ▸ polls (Accepted 2) 2 ▸ polls Waits 2) }
     // .. / asked / back / replied handle / asked / accepted 2 / waits: the new pipe is open
     ensures accepts_session_after_stop { KeepsFirstOwner (stop_back
         ▸ polls (Replied Handle) 2 ▸ asks (Read 2) 2 ▸ polls (Accepted 2) 2 ▸ polls Waits 2) }
