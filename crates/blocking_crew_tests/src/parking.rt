@@ -1,10 +1,9 @@
 //! Jobs that park, are woken, swept, cancelled and handed out.
+use crate::row::JobAct::{GivesUp, Parks};
 use crate::row::Step::{
     Add, Arrive, Cancel, Detach, End, LetGo, Park, SetLimit, Sweep, Take, Wait, Wake, Work,
 };
 use crate::row::{Row, play};
-use blocking_laws::Act::{GaveUp, JobParked};
-use blocking_laws::event::HolderWaker::Absent;
 use blocking_laws::event::WaitEnd::{TimedOut, Woken};
 use std::test::Fail;
 
@@ -24,8 +23,8 @@ const ROWS: &[Row] = &[
             (Park(1, false), "nothing"),
             (Take(1), "took 1"),
             (Park(1, false), "nothing"),
-            (Work(1, JobParked), "parked"),
-            (Work(1, JobParked), "nothing"),
+            (Work(1, Parks), "parked"),
+            (Work(1, Parks), "nothing"),
             (End(1), "nothing"),
             (Park(1, false), "ended 1 parked"),
             (Wake(0), "delivered 1 entered"),
@@ -44,7 +43,7 @@ const ROWS: &[Row] = &[
             (Arrive, "arrived 1"),
             (Take(1), "took 1"),
             (Wake(0), "delivered 1 marked"),
-            (Work(1, JobParked), "parked"),
+            (Work(1, Parks), "parked"),
             (Park(1, false), "ended 1 queued"),
             (Take(1), "took 1"),
         ],
@@ -57,9 +56,9 @@ const ROWS: &[Row] = &[
             (Arrive, "arrived 1"),
             (Take(1), "took 1"),
             (LetGo(0), "dropped"),
-            (Work(1, JobParked), "parked"),
+            (Work(1, Parks), "parked"),
             (Park(1, true), "drop 1"),
-            (Work(1, GaveUp(Absent)), "gave up"),
+            (Work(1, GivesUp), "gave up"),
             (End(1), "ended 1 dropped"),
         ],
         ..AT_LIMIT_1
@@ -71,11 +70,11 @@ const ROWS: &[Row] = &[
             (Add, "accepted 1 +1"),
             (Arrive, "arrived 1"),
             (Take(1), "took 1"),
-            (Work(1, JobParked), "parked"),
+            (Work(1, Parks), "parked"),
             (Park(1, false), "ended 1 parked"),
             (Add, "accepted 2"),
             (Take(1), "took 2"),
-            (Work(1, JobParked), "parked"),
+            (Work(1, Parks), "parked"),
             (Park(1, false), "ended 2 parked"),
             (Sweep, "swept 0"),
             (LetGo(0), "dropped"),
@@ -96,16 +95,16 @@ const ROWS: &[Row] = &[
             (Add, "accepted 1 +1"),
             (Arrive, "arrived 1"),
             (Take(1), "took 1"),
-            (Work(1, JobParked), "parked"),
+            (Work(1, Parks), "parked"),
             (Park(1, false), "ended 1 parked"),
             (LetGo(0), "dropped"),
             (Wait(1, TimedOut), "stays 1"),
             (Take(1), "took 1 dropped"),
-            (Work(1, GaveUp(Absent)), "gave up"),
+            (Work(1, GivesUp), "gave up"),
             (End(1), "ended 1 dropped"),
             (Add, "accepted 2"),
             (Take(1), "took 2"),
-            (Work(1, JobParked), "parked"),
+            (Work(1, Parks), "parked"),
             (Park(1, false), "ended 2 parked"),
             (Cancel(1), "cancelled 2 entered"),
             (Take(1), "took 2 dropped"),
@@ -118,11 +117,11 @@ const ROWS: &[Row] = &[
             (Add, "accepted 1 +1"),
             (Arrive, "arrived 1"),
             (Take(1), "took 1"),
-            (Work(1, JobParked), "parked"),
+            (Work(1, Parks), "parked"),
             (Park(1, false), "ended 1 parked"),
             (Add, "accepted 2"),
             (Take(1), "took 2"),
-            (Work(1, JobParked), "parked"),
+            (Work(1, Parks), "parked"),
             (Park(1, false), "ended 2 parked"),
             (LetGo(0), "dropped"),
             (Add, "accepted 3"),

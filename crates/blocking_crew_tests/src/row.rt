@@ -3,12 +3,30 @@ ghost use Rattle.std.specs.Prelude.{◌≡◌, ◌<◌};
 
 use blocking_core::pool::{JobNo, Starter};
 use blocking_crew::{Crew, NoStarts, PlannedStarts, Ticket};
-use blocking_laws::event::WaitEnd;
+use blocking_laws::event::{HolderWaker, WaitEnd};
 use blocking_laws::{Act, Event, Party};
 use std::alloc::Global;
 use std::marker::Brand;
 use std::sync::ledger::{Blank, Ledger};
 use std::test::Fail;
+
+// What a job does in its turn.
+#[derive(Clone, Copy)]
+pub(crate) enum JobAct {
+    Parks,
+    // with nobody in its holder's seat
+    GivesUp,
+}
+
+impl JobAct {
+    // (a row of data can't hold an act, which may carry bytes)
+    fn seen(self) -> Act {
+        match self {
+            JobAct::Parks => Act::JobParked,
+            JobAct::GivesUp => Act::GaveUp(HolderWaker::Absent),
+        }
+    }
+}
 
 // A call of a crew. Jobs are named by the order in which they were accepted, from 0.
 #[derive(Clone, Copy)]
@@ -16,7 +34,7 @@ pub(crate) enum Step {
     Add,
     Arrive,
     Take(usize),
-    Work(usize, Act),
+    Work(usize, JobAct),
     End(usize),
     // whether the job's holder let it go
     Park(usize, bool),
@@ -64,7 +82,7 @@ fn call<S: Starter>(
         }
         Step::Arrive => crew.arrive()?,
         Step::Take(worker) => crew.take(worker, starter),
-        Step::Work(worker, act) => crew.work(worker, act),
+        Step::Work(worker, act) => crew.work(worker, act.seen()),
         Step::End(worker) => crew.end(worker),
         Step::Park(worker, is_marked) => crew.park(worker, Ticket { is_marked }),
         Step::Wait(worker, end) => crew.wait(worker, end, starter),
