@@ -3,6 +3,7 @@ use crate::calls::Calls;
 use crate::ends::Ends;
 use crate::figures::{Figures, Request};
 use crate::pipe;
+use crate::reads::Reads;
 use blocking::Host;
 use std::io;
 
@@ -12,10 +13,11 @@ pub(crate) enum Bench {
     Calls(Calls),
     Pipe,
     Ends(Ends),
+    Reads(Reads),
 }
 
 impl Bench {
-    pub(crate) const ALL: [Bench; 8] = [
+    pub(crate) const ALL: [Bench; 15] = [
         Bench::Calls(Calls::Roundtrip),
         Bench::Calls(Calls::RoundtripAwait),
         Bench::Calls(Calls::Burst),
@@ -24,6 +26,13 @@ impl Bench {
         Bench::Pipe,
         Bench::Ends(Ends::Bytes),
         Bench::Ends(Ends::Items),
+        Bench::Reads(Reads::Short),
+        Bench::Reads(Reads::ShortBy64K),
+        Bench::Reads(Reads::ShortBy4K),
+        Bench::Reads(Reads::Long),
+        Bench::Reads(Reads::LongBy64K),
+        Bench::Reads(Reads::LongBy4K),
+        Bench::Reads(Reads::File),
     ];
 
     pub(crate) fn name(self) -> &'static str {
@@ -31,6 +40,7 @@ impl Bench {
             Bench::Calls(calls) => calls.name(),
             Bench::Pipe => "pipe",
             Bench::Ends(ends) => ends.name(),
+            Bench::Reads(reads) => reads.name(),
         }
     }
 
@@ -48,6 +58,7 @@ impl Bench {
             Bench::Calls(calls) => calls.unit(),
             Bench::Pipe => "MB/s",
             Bench::Ends(ends) => ends.unit(),
+            Bench::Reads(_) => "MB/s",
         }
     }
 
@@ -56,6 +67,7 @@ impl Bench {
             Bench::Calls(calls) => calls.size(),
             Bench::Pipe => 200_000_000,
             Bench::Ends(ends) => ends.size(),
+            Bench::Reads(reads) => reads.size(),
         }
     }
 
@@ -72,6 +84,7 @@ impl Bench {
             Bench::Calls(calls) => calls.run(rt, host, setting, request, figures),
             Bench::Pipe => pipe::run(rt, request, figures),
             Bench::Ends(ends) => ends.run(rt, host, request, figures),
+            Bench::Reads(reads) => reads.run(rt, host, request, figures),
         }
     }
 }

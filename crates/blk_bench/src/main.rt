@@ -8,6 +8,7 @@ mod calls;
 mod ends;
 mod figures;
 mod pipe;
+mod reads;
 
 use crate::bench::Bench;
 use crate::figures::{Figures, Request};

@@ -36,6 +36,12 @@ pub(crate) fn pattern(alloc: Global, size: usize) -> io::Result<Vec<u8>> {
     Ok(bytes)
 }
 
+/// Whether the piece's first and last byte are those of these places.
+pub(crate) fn is_right(place: u64, piece: &[u8]) -> bool {
+    let last = place.wrapping_add(piece.len() as u64).wrapping_sub(1);
+    piece.first() == Some(&((place % 256) as u8)) && piece.last() == Some(&((last % 256) as u8))
+}
+
 // All pieces of the source, one after another.
 fn pass_through(alloc: Global, source: &[u8], buffer: &mut [u8]) -> io::Result<()> {
     let mut pipe = Pipe::new(alloc, PIECE)?;

@@ -248,6 +248,7 @@ is_aside Waits = true
 is_aside (TaskGot n) = true
 is_aside TaskGotNone = true
 is_aside TaskDetached = true
+is_aside NoAction = true
 is_aside _ = false
 
 abbrev pub May : (ℕ → Bool → Type 0) → Crew → Move → Type 0

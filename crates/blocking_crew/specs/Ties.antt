@@ -1,5 +1,5 @@
 -- How a crew hangs together with what was seen.
-use Rattle.std.specs.Prelude.{◌≡◌, ◌<◌, ◌+◌, ◌==◌, ◌||◌, min, ℕ, Bool, true, false, List, [], ◌∷◌, length, Option, Some, None, is_some}
+use Rattle.std.specs.Prelude.{◌≡◌, ◌<◌, ◌+◌, ◌==◌, ◌||◌, min, ℕ, Bool, true, false, List, ◌∷◌, length, Option, Some, None, is_some}
 use Rattle.std.specs.FinMap.{get}
 use Rattle.blocking_pool.specs.Counts.{limit_of}
 use Rattle.blocking_pool.specs.Growth.{greatest}
@@ -33,7 +33,8 @@ use Rattle.blocking_crew.specs.declared.ticket.Ticket.{Ticket}
 
 -- ---- the pool's jobs
 
--- A job that is queued or parked has its ticket, which bears its mark; a running one's is made anew where its turn ends waiting.
+-- A job that is queued or parked has its ticket, which bears its mark; a running one's is made anew where its turn ends
+-- waiting.
 abbrev pub ValueAs : Standing → Option Ticket → Bool → Type 0
 ValueAs Queued value mark = value ≡ Some (record { is_marked = mark })
 ValueAs Running value mark = value ≡ None
@@ -48,7 +49,8 @@ AbsentAs (Some Done) wake cancel mark ended = ended ≡ true
 AbsentAs (Some Dropped) wake cancel mark ended = ended ≡ true
 AbsentAs _ wake cancel mark ended = ⊥
 
--- an entry of the pool, by what was seen of its job: how it stands, whether it was woken, cancelled, marked, and whether it is over
+-- an entry of the pool, by what was seen of its job: how it stands, whether it was woken, cancelled, marked, and whether it
+-- is over
 abbrev pub FiledAs : Option (Entry Ticket) → Option Standing → Bool → Bool → Bool → Bool → Type 0
 FiledAs None stand wake cancel mark ended = AbsentAs stand wake cancel mark ended
 FiledAs (Some entry) stand wake cancel mark ended =
@@ -130,12 +132,14 @@ pub record Holding (crew : Crew) (past : List Moment) : Type 0 where
   pub turns_are : busy_hands crew.hands ≡ turns past
   pub jobs_are : turns past ≡ length (running past)
 
--- Queued jobs are served: the limit is above 0, and where no worker is left for them, the last start that was tried was refused.
+-- Queued jobs are served: the limit is above 0, and where no worker is left for them, the last start that was tried was
+-- refused.
 pub record Served (setting : ℕ) (past : List Moment) : Type 0 where
   pub positive : 0 < limit setting past
   pub served : IsServed past
 
--- What every crew keeps: it hangs together with what was seen, its calls may be made, and the law of the pool has held at every moment.
+-- What every crew keeps: it hangs together with what was seen, its calls may be made, and the law of the pool has held at
+-- every moment.
 pub record CrewHolds (setting : ℕ) (plan : List Bool) (crew : Crew) (past : List Moment) : Type 0 where
   pub tied : Crewed setting crew past
   pub ready : IsReady crew
@@ -143,17 +147,21 @@ pub record CrewHolds (setting : ℕ) (plan : List Bool) (crew : Crew) (past : Li
 
 -- ---- what the layer above adds to a move, and what it owes
 
--- The moment of a move: the layer above knows which step it was, and whose owner's job it is.
+-- The moment of an event: the layer above knows which step it was, and whose owner's job it is.
+abbrev pub seen_as : Step → Event → Option ℕ → Moment
+seen_as step e owner = record { step = step; event = record e { owner = owner } }
+
+-- the moment of a move
 abbrev pub moment_of : Crew → Move → Step → Option ℕ → Moment
-moment_of crew move step owner = record { step = step; event = record (event_of crew move) { owner = owner } }
+moment_of crew move step owner = seen_as step (event_of crew move) owner
 
 -- a party holds job s, which was accepted, and no other that isn't over
 pub record HoldsAlone (past : List Moment) (party : Party) (s : ℕ) : Type 0 where
   pub accepted : is_some (standing past s) ≡ true
   pub alone : (t : ℕ) → has_ended past t ≡ false → is_holder (holder past t) party ≡ (s == t)
 
--- What a call asks of the layer above, which knows what each job is for: that a number is its job's; that the ticket of a job that waits
--- bears its mark; and that who lets go of a job holds it.
+-- What a call asks of the layer above, which knows what each job is for: that a number is its job's; that the ticket of a job
+-- that waits bears its mark; and that who lets go of a job holds it.
 abbrev pub IsAsked : Crew → List Moment → Call → Type 0
 IsAsked crew past (Park v ticket) = (held : Held) → hand_at crew.hands v ≡ Holds held → ticket.is_marked ≡ is_marked past held.turn.serial
 IsAsked crew past (Wake party number) = IsNumberOf crew.pool number

@@ -1,6 +1,7 @@
 //! The pool's half of a world: each kind of step of the pool is one call, and answers what is seen of it.
 ghost use Rattle.std.specs.Prelude.{◌≡◌, [], true, IfOk, OnErr};
-ghost use Rattle.blocking_crew.specs.Moves.{Moves, NeverAsked, hand_after_take, job_of_take, act_of_take, seen as what_is_seen, nothing as what_is_not};
+ghost use Rattle.blocking_laws.specs.Answers.{wait_act};
+ghost use Rattle.blocking_crew.specs.Moves.{Moves, NeverAsked, hand_after_take, job_of_take, act_of_take, hand_after_park, parked_act, hand_after_wait, is_stop, seen as what_is_seen, nothing as what_is_not};
 
 use crate::hand::{Hand, Held, Stage};
 use crate::ticket::Ticket;
@@ -21,7 +22,7 @@ pub struct Crew {
 }
 
 /// What became of a new job.
-#[derive(Clone, Copy)]
+#[derive(Drop)]
 pub struct Added {
     /// Its number, or why it was refused.
     pub number: Result<JobNo, Refusal>,
@@ -57,6 +58,7 @@ impl Crew {
     ghost use Rattle.blocking_crew.specs.Crews.{IsReady, hand_at, in_hand_of};
     ghost use Rattle.blocking_crew.specs.Moves.{Add, Arrive, Take, Work, End, Park, Wait, SetLimit, Sweep, Wake, Cancel, LetGo, Tell, next_start, is_aside};
     ghost use Rattle.blocking_laws.specs.Jobs.{lets_go};
+    ghost use Rattle.blocking_laws.specs.declared.event.Act.TheVariants.{NoAction};
 
     /// A crew of this setting, with no job and no worker. Jobs, workers and starts are numbered from 1. Takes no memory.
     pub fn new(alloc: Global, setting: Option<&str>) -> Crew
@@ -117,7 +119,7 @@ impl Crew {
     {
         let first = self.next_start();
         let party = Party::Worker(worker);
-        let Some(serial) = self.workers.work(worker, act) else {
+        let Some(serial) = self.workers.work(worker, &act) else {
             return nothing(party, first);
         };
         seen(party, Some(serial), act, first, NO_GROWTH)
@@ -154,14 +156,7 @@ impl Crew {
         };
         let Held { turn, stage: _ } = held;
         let serial = turn.job().serial();
-        let (hand, act) = match self.tickets.park(turn, ticket) {
-            Parking::Parked(pass) => (Hand::Free(pass), Act::Ended(serial, Standing::Parked)),
-            Parking::Queued(pass) => (Hand::Free(pass), Act::Ended(serial, Standing::Queued)),
-            Parking::HandedOut(turn) => {
-                let stage = Stage::MustGiveUp;
-                (Hand::Holds(Held { turn, stage }), Act::HandedOut(serial))
-            }
-        };
+        let (hand, act) = parked(self.tickets.park(turn, ticket), serial);
         self.workers.put(worker, hand);
         seen(party, Some(serial), act, first, NO_GROWTH)
     }
@@ -177,13 +172,8 @@ impl Crew {
             return nothing(party, first);
         };
         let (waited, growth) = self.tickets.after_wait(pass, end.has_timed_out(), starter);
-        let act = match waited {
-            Waited::Stay(pass) => {
-                self.workers.put(worker, Hand::Free(pass));
-                Act::Stays(worker, end)
-            }
-            Waited::Stop => Act::Stopped(worker, end),
-        };
+        let (hand, act) = settled(waited, worker, end);
+        self.workers.put(worker, hand);
         seen(party, None, act, first, growth)
     }
 
@@ -253,7 +243,8 @@ impl Crew {
 
     /// What is seen of a step that has no action, and names this party.
     pub fn nothing(&self, party: Party) -> Event
-        ensures { result ≡ what_is_not party (next_start self.now) }
+        ensures event { result ≡ what_is_not party (next_start self.now) }
+        ensures moves { Moves NeverAsked (Tell party NoAction) self.now result self.now }
     {
         nothing(party, self.next_start())
     }
@@ -325,6 +316,32 @@ fn received(took: Took<Ticket>) -> (Hand, Option<u64>, Act)
                 Act::TookDropped(serial),
             )
         }
+    }
+}
+
+// What a worker has in hand after the run of this job ended waiting, and what is seen of it.
+fn parked(parking: Parking, serial: u64) -> (Hand, Act)
+    ensures hand { result.0 ≡ hand_after_park parking }
+    ensures act { result.1 ≡ parked_act parking serial }
+{
+    match parking {
+        Parking::Parked(pass) => (Hand::Free(pass), Act::Ended(serial, Standing::Parked)),
+        Parking::Queued(pass) => (Hand::Free(pass), Act::Ended(serial, Standing::Queued)),
+        Parking::HandedOut(turn) => {
+            let stage = Stage::MustGiveUp;
+            (Hand::Holds(Held { turn, stage }), Act::HandedOut(serial))
+        }
+    }
+}
+
+// What a worker has in hand after a wait that ended so, and what is seen of it.
+fn settled(waited: Waited, worker: usize, end: WaitEnd) -> (Hand, Act)
+    ensures hand { result.0 ≡ hand_after_wait waited }
+    ensures act { result.1 ≡ wait_act worker end (is_stop waited) }
+{
+    match waited {
+        Waited::Stay(pass) => (Hand::Free(pass), Act::Stays(worker, end)),
+        Waited::Stop => (Hand::Out, Act::Stopped(worker, end)),
     }
 }
 

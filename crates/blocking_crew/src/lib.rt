@@ -6,10 +6,13 @@
 
 mod crew;
 mod hand;
+pub mod kept;
+mod starts;
 mod ticket;
 mod tickets;
 mod workers;
 
 pub use crew::{Added, Crew, InHand};
 pub use hand::{Hand, Held, Stage};
+pub use starts::{NoStarts, PlannedStarts};
 pub use ticket::Ticket;

@@ -97,6 +97,15 @@ const ROWS: &[Row] = &[
         ],
     ),
     (
+        "a sender that closes",
+        &[
+            (Step::Receive, Shown::Waits),
+            (Step::CloseSender, Shown::Closed(true)),
+            (Step::Receive, Shown::Over),
+            (Step::CloseReceiver, Shown::Closed(false)),
+        ],
+    ),
+    (
         "a receiver that closes",
         &[
             (Step::Put(&[5, 6]), Shown::In(false)),
@@ -123,6 +132,15 @@ const ROWS: &[Row] = &[
             (Step::Fill(&[9]), Shown::Shut),
             (Step::Take(1), Shown::Items(1, 8, false)),
             (Step::Taken, Shown::Count(4)),
+            (Step::Take(1), Shown::Over),
+            (Step::CloseTaker, Shown::Closed(false)),
+        ],
+    ),
+    (
+        "a filler that closes",
+        &[
+            (Step::Take(1), Shown::Waits),
+            (Step::CloseFiller, Shown::Closed(true)),
             (Step::Take(1), Shown::Over),
         ],
     ),

@@ -3,7 +3,12 @@
 
 mod io;
 mod link;
+mod read_ext;
 mod read_job;
+mod session;
+mod unblock;
 
-pub use io::IoFault;
+pub use io::{AsyncRead, IoFault};
+pub use read_ext::{AsyncReadExt, ReadExact, ReadSome, ReadToEnd};
 pub use read_job::ReadJob;
+pub use unblock::Unblock;

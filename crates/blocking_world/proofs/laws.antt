@@ -1,3 +1,4 @@
+pub mod Bare
 pub mod Running
 pub mod Steps
 pub mod Wakes

@@ -15,9 +15,10 @@ use Rattle.blocking_laws.specs.declared.event.Moment.{Moment}
 use Rattle.blocking_laws.specs.declared.event.Party.TheVariants.{Task as ByTask, Pool}
 use Rattle.blocking_laws.specs.declared.event.WaitEnd.{WaitEnd}
 use Rattle.blocking_laws.specs.declared.event.WaitEnd.TheVariants.{Woken, TimedOut}
+use Rattle.blocking_laws.specs.declared.step.Answer.{Answer}
 use Rattle.blocking_laws.specs.declared.step.Answer.TheVariants.{Number}
 use Rattle.blocking_laws.specs.declared.step.Step.{Step}
-use Rattle.blocking_laws.specs.declared.step.Step.TheVariants.{Spawn, OfTask, Arrive, Take, Job, Io, End, Wait, Late, SetLimit, Sweep, Stray, Strike}
+use Rattle.blocking_laws.specs.declared.step.Step.TheVariants.{New, Ask, Own, DropOwner, Spawn, OfTask, Arrive, Take, Job, Io, End, Wait, Late, SetLimit, Sweep, Stray, Strike}
 use Rattle.blocking_laws.specs.declared.step.TaskCall.{TaskCall}
 use Rattle.blocking_laws.specs.declared.step.TaskCall.TheVariants.{Poll, Cancel, Detach, Drop}
 use Rattle.blocking_pool.specs.Growth.{Growth}
@@ -141,14 +142,23 @@ abbrev pub may_call_in : Option Task → TaskCall → Bool
 may_call_in None call = false
 may_call_in (Some task) call = may_be task.stage call
 
--- whether a step has an action
+-- whether an answer is a number, as a call gives it
+abbrev pub is_number : Answer → Bool
+is_number (Number n) = true
+is_number _ = false
+
+-- Whether a step has an action. Nobody is an owner: a step of one has none.
 abbrev pub has_action_in : Parts → Step → Bool
+has_action_in w (New capacity) = false
+has_action_in w (Ask h call) = false
+has_action_in w (Own h) = false
+has_action_in w (DropOwner h) = false
 has_action_in w Spawn = true
 has_action_in w (OfTask k call) = may_call_in (slice_get w.tasks k) call
 has_action_in w Arrive = crew.has_action w.crew crew.Arrive
 has_action_in w (Take v) = crew.has_action w.crew (crew.Take v)
 has_action_in w (Job v) = next_is is_own (job_at w v)
-has_action_in w (Io v answer) = next_is is_awaiting (job_at w v)
+has_action_in w (Io v answer) = is_number answer && next_is is_awaiting (job_at w v)
 has_action_in w (End v) = next_is is_ending (job_at w v)
 has_action_in w (Wait v) = crew.has_action w.crew (crew.Wait v Woken)
 has_action_in w (Late v) = crew.has_action w.crew (crew.Wait v TimedOut)

@@ -7,7 +7,6 @@
 
 mod parts;
 mod row;
-mod starts;
 mod world;
 
 pub use blocking_laws::{Act, Answer, Event, Moment, Party, Step, TaskCall};

@@ -63,27 +63,31 @@ impl Parts {
     /// Takes a step, and answers what is seen of it. Where there is no room for what it makes, nothing is done.
     pub(crate) fn step<S: Starter>(
         &mut self,
-        step: Step,
+        step: &Step,
         starter: &mut S,
     ) -> Result<Event, AllocError>
         ensures ok { IfOk result
-            (λ e. Moves (S.may_answer starter.old) step self.old e self.new) }
+            (λ e. Moves (S.may_answer starter.old) step.now self.old e self.new) }
         ensures err { OnErr result (self.new ≡ self.old) }
     {
         match step {
+            Step::New(_) => Ok(self.crew.nothing(Party::Pool)),
+            Step::Ask(owner, _) | Step::Own(owner) | Step::DropOwner(owner) => {
+                Ok(self.crew.nothing(Party::Owner(*owner)))
+            }
             Step::Spawn => self.spawn(starter),
-            Step::OfTask(number, call) => Ok(self.of_task(number, call)),
+            Step::OfTask(number, call) => Ok(self.of_task(*number, *call)),
             Step::Arrive => self.arrive(),
-            Step::Take(worker) => Ok(self.take(worker, starter)),
-            Step::Job(worker) => Ok(self.job(worker)),
-            Step::Io(worker, answer) => Ok(self.io(worker, answer)),
-            Step::End(worker) => Ok(self.end(worker)),
-            Step::Wait(worker) => Ok(self.wait(worker, WaitEnd::Woken, starter)),
-            Step::Late(worker) => Ok(self.wait(worker, WaitEnd::TimedOut, starter)),
-            Step::SetLimit(limit) => Ok(self.set_limit(limit)),
+            Step::Take(worker) => Ok(self.take(*worker, starter)),
+            Step::Job(worker) => Ok(self.job(*worker)),
+            Step::Io(worker, answer) => Ok(self.io(*worker, answer)),
+            Step::End(worker) => Ok(self.end(*worker)),
+            Step::Wait(worker) => Ok(self.wait(*worker, WaitEnd::Woken, starter)),
+            Step::Late(worker) => Ok(self.wait(*worker, WaitEnd::TimedOut, starter)),
+            Step::SetLimit(limit) => Ok(self.set_limit(*limit)),
             Step::Sweep => Ok(self.sweep(starter)),
-            Step::Stray(serial) => Ok(self.stray(serial, starter)),
-            Step::Strike(serial) => Ok(self.strike(serial, starter)),
+            Step::Stray(serial) => Ok(self.stray(*serial, starter)),
+            Step::Strike(serial) => Ok(self.strike(*serial, starter)),
         }
     }
 
@@ -192,19 +196,22 @@ impl Parts {
     }
 
     /// The call of a worker's job is answered.
-    pub(crate) fn io(&mut self, worker: usize, answer: Answer) -> Event
-        ensures { Moves NeverAsked (step.Io worker answer) self.old result self.new }
+    pub(crate) fn io(&mut self, worker: usize, answer: &Answer) -> Event
+        ensures { Moves NeverAsked (step.Io worker answer.now) self.old result self.new }
     {
         let party = Party::Worker(worker);
+        let Answer::Number(number) = *answer else {
+            return self.crew.nothing(party);
+        };
         let Some(job) = self.job_at(worker) else {
             return self.crew.nothing(party);
         };
         let WorkerAction::Await = job.next else {
             return self.crew.nothing(party);
         };
-        let Answer::Number(number) = answer;
         self.rows[job.row].answer(number);
-        self.crew.work(worker, Act::Answered(answer))
+        self.crew
+            .work(worker, Act::Answered(Answer::Number(number)))
     }
 
     /// The turn of a worker's job ends, where nothing is left to do.

@@ -1,6 +1,6 @@
 //! Bytes that the owner fills in, and that a job on a worker peeks and consumes.
 use crate::figures::{Figures, Request};
-use crate::pipe::{failed, pattern};
+use crate::pipe::{failed, is_right, pattern};
 use blocking::{AnyPlace, Executor, FillEnd, Host, PeekEnd, Runtime, link_in};
 use blocking_core::pipe::{Filled, Peeked};
 use blocking_core::pool::{Job, JobNo, JobStep, WakeNote};
@@ -21,12 +21,6 @@ struct Taker<H: Runtime> {
     end: PeekEnd<u8, AnyPlace, H>,
     buffer: Vec<u8>,
     told: Option<oneshot::Sender<u64>>,
-}
-
-// Whether the piece's first and last byte are those of these places.
-fn is_right(place: u64, piece: &[u8]) -> bool {
-    let last = place.wrapping_add(piece.len() as u64).wrapping_sub(1);
-    piece.first() == Some(&((place % 256) as u8)) && piece.last() == Some(&((last % 256) as u8))
 }
 
 impl<H: Runtime> Job for Taker<H> {

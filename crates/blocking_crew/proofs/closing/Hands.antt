@@ -7,14 +7,14 @@ use Rattle.blocking_pool.specs.Jobs.{Jobs, JobNumber, is_running_as}
 use Rattle.blocking_pool.specs.Pools.{without_job}
 use Rattle.blocking_pool.specs.declared.pool.token.WorkerPass.{WorkerPass}
 use Rattle.blocking_crew.specs.Closing.{RunsIn, EndsTurn, AreLeft, AreIdle}
-use Rattle.blocking_crew.specs.Crews.{one_if_free, free_hands}
+use Rattle.blocking_crew.specs.Crews.{Crew, IsReady, one_if_free, free_hands}
 use Rattle.blocking_crew.specs.Tickets.{JobPool, AreValued}
 use Rattle.blocking_crew.specs.declared.ticket.Ticket.{Ticket}
 use Rattle.blocking_crew.specs.declared.hand.Hand.{Hand}
 use Rattle.blocking_crew.specs.declared.hand.Hand.TheVariants.{Out, Free, Holds}
 use Rattle.blocking_crew.specs.declared.hand.Held.{Held}
 use Rattle.blocking_crew.proofs.jobs.Kept.{removed_valued, removed_runs}
-use Rattle.blocking_crew.proofs.hands.Rows.{free_set, free_pushed}
+use Rattle.blocking_crew.proofs.hands.Rows.{free_set, free_pushed, hand_from_place}
 use Rattle.blocking_crew.proofs.hands.Places.{got_same, got_other, set_same}
 
 -- ---- the last of the hands
@@ -155,3 +155,14 @@ module _ (pool : JobPool) (hands row : List Hand) (hand : Hand) (popped : hands 
     idle = level (free_hands row) (let now = whole.idle in let more = free_pushed row hand in omega (arith, now, more));
     jobless = λ n held found. whole.jobless n held (early_at row (hand ∷ []) n (Holds held) found);
   }
+
+-- ---- a crew that is ready
+
+pub ready_left : (crew : Crew) → IsReady crew → AreLeft crew.pool crew.hands
+ready_left crew ready = record {
+  valued = ready.valued;
+  idle = ready.idle;
+  runs = λ n held found. ready.runs (n + 1) held (hand_from_place crew.hands n (Holds held) found);
+  apart = λ m n one other first second same.
+      (let next = ready.apart (m + 1) (n + 1) one other (hand_from_place crew.hands m (Holds one) first) (hand_from_place crew.hands n (Holds other) second) same in omega (arith, next));
+}

@@ -1,13 +1,13 @@
 -- What wakes and cancels do, with the growth that was read.
-use Rattle.std.proofs.Common.{◌≡◌, ℕ, ◌+◌, ◌≤◌, Bool, List, [], ◌∷◌, ◌++◌, length, ap, ◌∙◌, subst, refl}
+use Rattle.std.proofs.Common.{◌≡◌, ℕ, ◌+◌, ◌≤◌, List, [], ◌∷◌, ◌++◌, length, ap, ◌∙◌, subst}
 use Rattle.blocking_pool.specs.Counts.{Counts, limit_of, after_ring}
 use Rattle.blocking_pool.specs.declared.pool.bell.BellKind.TheVariants.{One}
 use Rattle.blocking_pool.specs.Growth.{Asking, greatest, Growth, number_after}
 use Rattle.blocking_pool.specs.Pools.{EnterAgain, after_requeue, with_job}
 use Rattle.blocking_pool.specs.Jobs.{JobNumber, entry_after_cancel}
-use Rattle.blocking_pool.specs.PoolAnswers.{Wakes as CoreWakes, WakesTo as CoreWakesTo, Cancels as CoreCancels}
+use Rattle.blocking_pool.specs.PoolAnswers.{Wakes as CoreWakes, Cancels as CoreCancels}
 use Rattle.blocking_pool.specs.declared.pool.answer.Woke.{Woke}
-use Rattle.blocking_pool.specs.declared.pool.answer.Woke.TheVariants.{Entered, Marked, Nothing}
+use Rattle.blocking_pool.specs.declared.pool.answer.Woke.TheVariants.{Entered}
 use Rattle.blocking_crew.specs.Tickets.{JobPool, EntersAgain, Wakes, Cancels}
 use Rattle.blocking_crew.proofs.growth.Reads.{IsRead, Reads, reads}
 

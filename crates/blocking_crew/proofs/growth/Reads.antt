@@ -1,5 +1,5 @@
 -- What a pool has grown, read off its counts before and after.
-use Rattle.std.proofs.Common.{◌≡◌, ℕ, ◌+◌, ◌-◌, ◌<◌, ◌≤◌, Bool, true, false, arith, ap, ◌∙◌, subst, sym, inl, inr}
+use Rattle.std.proofs.Common.{◌≡◌, ℕ, ◌+◌, ◌-◌, ◌≤◌, Bool, true, false, arith, ap, ◌∙◌, subst, sym, inl, inr}
 use Rattle.std.proofs.lemmas.Bool.{cases_lt}
 use Rattle.blocking_pool.specs.Counts.{Counts, limit_of}
 use Rattle.blocking_pool.specs.Growth.{Asking, greatest, is_due, StartAnswer, Growth, IsGrowth, Grows, after_growth, number_after}
@@ -85,4 +85,3 @@ reads asking ready old new growth seen grows read =
     let is_told = told asking ready old new growth grows in
     subst (λ (g : Growth). Reads asking.may_answer ready old new g) (read_is ready old new growth seen is_told read)
     (record { starts = grows.starts; counts = grows.counts; numbers = is_told.numbers })
-

@@ -3,7 +3,7 @@ use Rattle.std.proofs.Common.{◌≡◌, ◌-◌, ◌==◌, ℕ, zero, suc, Bool
 use Rattle.std.specs.Prelude.{OnSome}
 use Rattle.std.proofs.lemmas.Bool.Decides.{nat_tests}
 use Rattle.blocking_pool.specs.declared.pool.token.WorkerPass.{WorkerPass}
-use Rattle.blocking_crew.specs.Crews.{hand_at, hand_in, hand_of, with_hand, pass_in, held_if, may_end, is_waiting}
+use Rattle.blocking_crew.specs.Crews.{hand_at, hand_in, hand_of, with_hand, pass_in, held_if}
 use Rattle.blocking_crew.specs.declared.hand.Hand.{Hand}
 use Rattle.blocking_crew.specs.declared.hand.Hand.TheVariants.{Out, Free, Holds}
 use Rattle.blocking_crew.specs.declared.hand.Held.{Held}

@@ -1,9 +1,9 @@
 -- Jobs that run on, and have their tickets, whatever becomes of others.
-use Rattle.std.proofs.Common.{◌≡◌, ℕ, zero, suc, ◌<◌, ◌≤◌, ◌==◌, ◌||◌, cond, Bool, true, false, refl, sym, ap, ◌∙◌, subst, if◌then◌else◌, List, [], ◌∷◌, ◌++◌, Option, Some, None, inl, inr, arith}
+use Rattle.std.proofs.Common.{◌≡◌, ℕ, zero, suc, ◌<◌, ◌≤◌, ◌==◌, ◌||◌, cond, Bool, true, false, refl, sym, ap, ◌∙◌, subst, if◌then◌else◌, List, [], ◌∷◌, Option, Some, None, inl, inr, arith}
 use Rattle.std.specs.Prelude.{option_map, is_some, filter, ◌&&◌}
 use Rattle.std.specs.FinMap.{get, insert, remove}
-use Rattle.std.proofs.lemmas.Bool.{eqb-true, eq-eqb, cases_eq, cases_lt}
-use Rattle.blocking_pool.specs.Jobs.{Job, Jobs, JobNumber, amend, if_at, is_running, is_parked, is_running_job, is_parked_job, is_running_as, standing_of, jobs_after_requeue, entry_after_requeue}
+use Rattle.std.proofs.lemmas.Bool.{eqb-true, cases_eq, cases_lt}
+use Rattle.blocking_pool.specs.Jobs.{Job, Jobs, JobNumber, amend, if_at, is_running, is_parked, is_running_job, is_parked_job, is_running_as, jobs_after_requeue, entry_after_requeue}
 use Rattle.blocking_pool.specs.Lists.{is_in}
 use Rattle.blocking_pool.specs.Sweeps.{serials_below}
 use Rattle.blocking_pool.specs.declared.pool.standing.Standing.{Standing}
@@ -168,7 +168,7 @@ pub none_due : (pool : JobPool) (jobs : Jobs Ticket) → ((s : ℕ) → pool.nex
 none_due pool jobs unused swept s =
     ap (λ (j : Jobs Ticket). is_due_to_sweep (get j s)) swept ∙ ap is_due_to_sweep (job_requeued (to_sweep pool) pool.jobs s)
     ∙ undue_if (is_in s (to_sweep pool)) (get pool.jobs s) (λ due.
-      filter_keeps (λ serial. is_due_to_sweep (get pool.jobs serial)) (serials_below pool.next_serial) s due (below_in s pool.next_serial (within due)))
+    filter_keeps (λ serial. is_due_to_sweep (get pool.jobs serial)) (serials_below pool.next_serial) s due (below_in s pool.next_serial (within due)))
   where
     within : is_due_to_sweep (get pool.jobs s) ≡ true → s < pool.next_serial
     within due =

@@ -1,5 +1,5 @@
 -- A free worker passes over the jobs of a queue.
-use Rattle.std.proofs.Common.{◌≡◌, ◌⊎◌, ℕ, ◌+◌, ◌-◌, ◌<◌, ◌==◌, Bool, true, false, if◌then◌else◌, ap, ◌∙◌, subst, sym, refl, inl, inr, arith, Option, Some, None}
+use Rattle.std.proofs.Common.{◌≡◌, ◌⊎◌, ℕ, ◌+◌, ◌-◌, ◌<◌, ◌==◌, Bool, true, false, if◌then◌else◌, ap, ◌∙◌, subst, refl, inl, inr, arith, Option, None}
 use Rattle.std.specs.FinMap.{get, insert, remove}
 use Rattle.blocking_pool.specs.Counts.{Counts, after_pickup, after_release}
 use Rattle.blocking_pool.specs.Growth.{Growth, after_growth}
@@ -7,7 +7,7 @@ use Rattle.blocking_pool.specs.Jobs.{Job, Jobs, JobNumber, is_running_as, entry_
 use Rattle.blocking_pool.specs.Pools.{without_job}
 use Rattle.blocking_pool.specs.declared.pool.answer.Took.{Took}
 use Rattle.blocking_pool.specs.declared.pool.answer.Took.TheVariants.{Run, Drop}
-use Rattle.blocking_crew.specs.Closing.{NoneDue, PassesOver}
+use Rattle.blocking_crew.specs.Closing.{PassesOver}
 use Rattle.blocking_crew.specs.Tickets.{JobPool, AreValued, is_valued, is_due_to_sweep, TakesFront, TakesTo}
 use Rattle.blocking_crew.specs.declared.ticket.Ticket.{Ticket}
 use Rattle.blocking_crew.proofs.jobs.Lookups.{job_put, job_out, taken_runs as taken_runs_in}

@@ -1,5 +1,5 @@
 -- Each move is answered as the law of answers says.
-use Rattle.std.proofs.Common.{◌≡◌, ◌<◌, ◌≤◌, ◌==◌, ◌+◌, ◌-◌, ◌&&◌, ◌||◌, nat_lt, ℕ, Bool, true, false, if◌then◌else◌, List, [], ◌∷◌, length, refl, sym, ap, ap₂, ◌∙◌, subst, arith, Option, Some, None, option_map, Result, Ok, Err}
+use Rattle.std.proofs.Common.{◌≡◌, ◌<◌, ◌==◌, ◌+◌, ◌&&◌, ◌||◌, nat_lt, ℕ, Bool, true, false, if◌then◌else◌, List, [], ◌∷◌, length, refl, sym, ap, ap₂, ◌∙◌, subst, arith, Option, Some, None, option_map, Ok, Err}
 use Rattle.std.proofs.lemmas.Bool.{eq-eqb}
 use Rattle.std.proofs.lemmas.Bool.Decides.{nat_tests}
 use Rattle.std.specs.FinMap.{get}
@@ -8,7 +8,6 @@ use Rattle.blocking_pool.specs.Growth.{Growth, greatest, limit_after}
 use Rattle.blocking_pool.specs.Jobs.{Job as Entry, JobNumber, if_at, standing_of}
 use Rattle.blocking_pool.specs.PoolAnswers.{is_empty, must_stop}
 use Rattle.blocking_pool.specs.Wakes.{wake_of, cancel_of}
-use Rattle.blocking_pool.specs.declared.pool.answer.Refusal.{Refusal}
 use Rattle.blocking_pool.specs.declared.pool.answer.Refusal.TheVariants.{Memory, NoWorker, Numbers}
 use Rattle.blocking_pool.specs.declared.pool.answer.Waited.TheVariants.{Stay, Stop}
 use Rattle.blocking_pool.specs.declared.pool.answer.Woke.{Woke}
@@ -17,12 +16,12 @@ use Rattle.blocking_pool.specs.declared.pool.standing.Standing.TheVariants.{Queu
 use Rattle.blocking_laws.specs.Answers.{PoolAnswers, AnswerLaw, take_from, end_of, take_answer, end_answer}
 use Rattle.blocking_laws.specs.Counts.{workers, limit}
 use Rattle.blocking_laws.specs.Growth.{IsPlanned}
-use Rattle.blocking_laws.specs.Jobs.{accepted_jobs, standing, is_woken, is_cancelled, is_marked, is_to_drop, has_ended}
+use Rattle.blocking_laws.specs.Jobs.{standing, is_woken, is_cancelled, is_marked, is_to_drop, has_ended}
 use Rattle.blocking_laws.specs.Queue.{queue, to_sweep as seen_to_sweep}
 use Rattle.blocking_laws.specs.Seen.{joined, has_timed_out, is_nothing}
-use Rattle.blocking_laws.specs.Turns.{Turn, turn}
+use Rattle.blocking_laws.specs.Turns.{Turn}
 use Rattle.blocking_laws.specs.declared.event.Act.{Act}
-use Rattle.blocking_laws.specs.declared.event.Act.TheVariants.{Took, TookDropped, Ended, HandedOut}
+use Rattle.blocking_laws.specs.declared.event.Act.TheVariants.{Took, TookDropped, Ended}
 use Rattle.blocking_laws.specs.declared.event.Moment.{Moment}
 use Rattle.blocking_laws.specs.declared.event.WaitEnd.{WaitEnd}
 use Rattle.blocking_laws.specs.declared.step.Step.{Step}

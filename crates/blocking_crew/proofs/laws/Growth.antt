@@ -1,6 +1,6 @@
 -- Each move grows as the law of growth says.
-use Rattle.std.proofs.Common.{◌≡◌, ℕ, ◌<◌, ◌+◌, ◌-◌, ◌==◌, ◌||◌, min, List, [], ◌∷◌, ◌++◌, Bool, true, false, length, length-append, refl, sym, ap, ◌∙◌, subst, arith, if◌then◌else◌, Option, Some, None}
-use Rattle.std.specs.Prelude.{not, Result, Ok, Err}
+use Rattle.std.proofs.Common.{◌≡◌, ℕ, ◌+◌, ◌-◌, ◌==◌, ◌||◌, List, [], ◌∷◌, ◌++◌, Bool, true, false, length, length-append, refl, sym, ap, ◌∙◌, subst, arith, Option, Some, None}
+use Rattle.std.specs.Prelude.{not, Ok, Err}
 use Rattle.std.proofs.lemmas.Bool.Decides.{nat_tests}
 use Rattle.blocking_pool.specs.Counts.{limit_of, after_pickup}
 use Rattle.blocking_pool.specs.Growth.{Growth, IsGrowth, StartAnswer}
@@ -10,7 +10,7 @@ use Rattle.blocking_pool.specs.declared.pool.answer.Refusal.TheVariants.{Memory,
 use Rattle.blocking_pool.specs.declared.pool.answer.Waited.TheVariants.{Stay, Stop}
 use Rattle.blocking_pool.specs.declared.pool.answer.Woke.TheVariants.{Entered, Marked, Nothing}
 use Rattle.blocking_pool.specs.declared.pool.token.WorkerPass.{WorkerPass}
-use Rattle.blocking_laws.specs.Counts.{starts, refused_starts, workers, limit}
+use Rattle.blocking_laws.specs.Counts.{workers}
 use Rattle.blocking_laws.specs.Growth.{IsPlanned, StartsRightly, GrowthLaw, HasWorker, grows, turned_away}
 use Rattle.blocking_laws.specs.Queue.{queue, running, to_sweep as seen_to_sweep}
 use Rattle.blocking_laws.specs.Seen.{joined, has_timed_out, is_nothing}
@@ -24,10 +24,9 @@ use Rattle.blocking_laws.specs.declared.event.WaitEnd.TheVariants.{Woken, TimedO
 use Rattle.blocking_laws.specs.declared.step.Step.{Step}
 use Rattle.blocking_crew.specs.Crews.{Crew, hand_at, outcome_of, standing_after}
 use Rattle.blocking_crew.specs.Moves.{Move, Idles, Adds, Arrives, TakesJob, TakesNone, Works, EndsTurn, Parks, HasWaited, SetsLimit, Sweeps, IsWoken, IsCancelled, IsLetGo, Tells, May, next_start, named, is_aside}
-use Rattle.blocking_crew.specs.Tickets.{JobPool, no_growth, GrowsBy, TakesFront, SweepsTo, SweepsIf, to_sweep}
+use Rattle.blocking_crew.specs.Tickets.{JobPool, no_growth, GrowsBy, SweepsTo, SweepsIf, to_sweep}
 use Rattle.blocking_crew.specs.Ties.{CrewHolds, moment_of}
 use Rattle.blocking_crew.specs.declared.hand.Hand.TheVariants.{Free}
-use Rattle.blocking_crew.specs.declared.ticket.Ticket.{Ticket}
 use Rattle.blocking_crew.specs.declared.tickets.Parking.TheVariants as parking
 use Rattle.blocking_crew.proofs.ties.Acts.{now_with, by_work, by_aside, by_let_go, aside_or}
 use Rattle.blocking_crew.proofs.ties.Counts.{is_quiet, quiet, workers_now, idle_some}
@@ -124,9 +123,10 @@ module _ (setting : ℕ) (plan : List Bool) (crew : Crew) (past : List Moment) (
 
   waited : (v : ℕ) (end : WaitEnd) (growth : Growth) (between : JobPool) → SweepsIf (has_timed_out end) (IsPlanned plan) crew.pool growth between
       → GrowthLaw setting plan past (now (Worker v) None (Stays v end) growth) × GrowthLaw setting plan past (now (Worker v) None (Stopped v end) growth)
-  waited v TimedOut growth between sweeps =
-      (swept (Worker v) (Stays v TimedOut) growth between refl (λ n. tt) refl refl refl (to_sweep crew.pool) due sweeps,
-      swept (Worker v) (Stopped v TimedOut) growth between refl (λ n. tt) refl refl refl (to_sweep crew.pool) due sweeps)
+  waited v TimedOut growth between sweeps = (
+    swept (Worker v) (Stays v TimedOut) growth between refl (λ n. tt) refl refl refl (to_sweep crew.pool) due sweeps,
+    swept (Worker v) (Stopped v TimedOut) growth between refl (λ n. tt) refl refl refl (to_sweep crew.pool) due sweeps,
+  )
   waited v Woken growth between same =
       subst (λ (g : Growth). GrowthLaw setting plan past (now (Worker v) None (Stays v Woken) g) × GrowthLaw setting plan past (now (Worker v) None (Stopped v Woken) g)) (sym same.0)
       (plain_law (Worker v) None (Stays v Woken) refl (λ n. tt), plain_law (Worker v) None (Stopped v Woken) refl (λ n. tt))

@@ -1,5 +1,5 @@
 -- Jobs are taken in the order in which they entered.
-use Rattle.std.proofs.Common.{◌≡◌, ℕ, List, ◌∷◌, Bool, Option}
+use Rattle.std.proofs.Common.{ℕ, List, ◌∷◌, Bool, Option}
 use Rattle.blocking_laws.specs.Growth.{IsPlanned}
 use Rattle.blocking_laws.specs.Queue.{InOrder}
 use Rattle.blocking_laws.specs.declared.event.Moment.{Moment}

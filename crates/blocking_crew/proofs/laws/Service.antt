@@ -1,28 +1,25 @@
 -- Where jobs are queued and no worker is left, the last start that was tried was refused.
-use Rattle.std.proofs.Common.{◌≡◌, ◌<◌, ◌≤◌, ◌+◌, ◌-◌, ◌*◌, ◌&&◌, ◌||◌, nat_lt, ℕ, Bool, true, false, if◌then◌else◌, List, [], ◌∷◌, ◌++◌, length, length-append, refl, sym, ap, ◌∙◌, subst, arith, Option, Some, None, zero, suc, Result, Ok, Err}
+use Rattle.std.proofs.Common.{◌≡◌, ◌<◌, ◌≤◌, ◌+◌, ◌-◌, ◌&&◌, ◌||◌, nat_lt, ℕ, Bool, true, false, List, [], ◌∷◌, ◌++◌, length, length-append, refl, sym, ap, ◌∙◌, subst, arith, Option, zero, suc, Ok, Err}
 use Rattle.std.proofs.lemmas.Bool.Decides.{nat_tests}
 use Rattle.blocking_pool.specs.Counts.{Counts, limit_of}
-use Rattle.blocking_pool.specs.Growth.{Growth, IsGrowth, StartAnswer, is_due, limit_after}
-use Rattle.blocking_pool.specs.Jobs.{JobNumber, job_of, value_at}
-use Rattle.blocking_pool.specs.PoolAnswers.{is_empty, must_stop}
-use Rattle.blocking_pool.specs.declared.pool.answer.Refusal.{Refusal}
+use Rattle.blocking_pool.specs.Growth.{Growth, is_due, limit_after}
+use Rattle.blocking_pool.specs.Jobs.{job_of, value_at}
+use Rattle.blocking_pool.specs.PoolAnswers.{is_empty}
 use Rattle.blocking_pool.specs.declared.pool.answer.Refusal.TheVariants.{Memory, NoWorker, Numbers}
 use Rattle.blocking_pool.specs.declared.pool.answer.Waited.TheVariants.{Stay, Stop}
 use Rattle.blocking_pool.specs.declared.pool.answer.Woke.TheVariants.{Entered, Marked, Nothing}
 use Rattle.blocking_pool.specs.declared.pool.token.WorkerPass.{WorkerPass}
 use Rattle.blocking_laws.specs.Counts.{workers, limit, limit_by}
 use Rattle.blocking_laws.specs.Growth.{IsPlanned}
-use Rattle.blocking_laws.specs.Queue.{queue}
-use Rattle.blocking_laws.specs.Seen.{has_timed_out, is_nothing}
-use Rattle.blocking_laws.specs.Served.{IsServed, last_refused, last_refused_by}
-use Rattle.blocking_laws.specs.declared.event.Act.{Act}
+use Rattle.blocking_laws.specs.Seen.{has_timed_out}
+use Rattle.blocking_laws.specs.Served.{last_refused, last_refused_by}
 use Rattle.blocking_laws.specs.declared.event.Moment.{Moment}
 use Rattle.blocking_laws.specs.declared.event.WaitEnd.{WaitEnd}
 use Rattle.blocking_laws.specs.declared.step.Step.{Step}
-use Rattle.blocking_crew.specs.Crews.{Crew, hand_at, one_if_busy}
-use Rattle.blocking_crew.specs.Moves.{Move, Idles, Adds, Arrives, TakesJob, TakesNone, Works, EndsTurn, Parks, HasWaited, SetsLimit, Sweeps, IsWoken, IsCancelled, IsLetGo, Tells, May, after, call_of, event_of, is_aside}
-use Rattle.blocking_crew.specs.Tickets.{JobPool, no_growth, GrowsBy, SweepsTo, SweepsIf, to_sweep}
-use Rattle.blocking_crew.specs.Ties.{CrewHolds, Crewed, Served, IsAsked, IsAside, moment_of}
+use Rattle.blocking_crew.specs.Crews.{Crew, hand_at}
+use Rattle.blocking_crew.specs.Moves.{Move, Adds, TakesJob, Works, EndsTurn, Parks, HasWaited, SetsLimit, Sweeps, IsWoken, IsCancelled, IsLetGo, Tells, May, after, call_of, event_of}
+use Rattle.blocking_crew.specs.Tickets.{JobPool, no_growth, GrowsBy, SweepsTo, to_sweep}
+use Rattle.blocking_crew.specs.Ties.{CrewHolds, Served, IsAsked, moment_of}
 use Rattle.blocking_crew.specs.declared.hand.Hand.TheVariants.{Free, Holds}
 use Rattle.blocking_crew.specs.declared.hand.Held.{Held}
 use Rattle.blocking_crew.specs.declared.tickets.Parking.TheVariants as parking

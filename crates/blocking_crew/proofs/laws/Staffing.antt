@@ -1,14 +1,13 @@
 -- What the workers hold is what was seen: so many passes, and a turn for each running job.
-use Rattle.std.proofs.Common.{◌≡◌, ℕ, ◌+◌, ◌-◌, List, [], ◌∷◌, Bool, length, refl, sym, ap, ◌∙◌, subst, arith, Option, Some, None, zero, suc}
+use Rattle.std.proofs.Common.{◌≡◌, ℕ, ◌+◌, List, [], ◌∷◌, Bool, length, refl, sym, ap, ◌∙◌, subst, arith, Option, Some, zero, suc}
 use Rattle.std.specs.Prelude.{◌&&◌, slice_get, is_some, is_none}
 use Rattle.blocking_pool.specs.Jobs.{one_if}
 use Rattle.blocking_laws.specs.Counts.{workers, idle}
-use Rattle.blocking_laws.specs.Queue.{running}
 use Rattle.blocking_laws.specs.Staffed.{count_to, passes, turns, IsStaffed, AreAsSeen}
 use Rattle.blocking_laws.specs.Steps.{is_there, is_free}
 use Rattle.blocking_laws.specs.Turns.{hand}
 use Rattle.blocking_laws.specs.declared.event.Moment.{Moment}
-use Rattle.blocking_crew.specs.Crews.{Crew, IsReady, hand_at, one_if_free, free_hands, one_if_busy, busy_hands}
+use Rattle.blocking_crew.specs.Crews.{Crew, IsReady, one_if_free, free_hands, one_if_busy, busy_hands}
 use Rattle.blocking_crew.specs.Ties.{HandAs, Crewed, Holding}
 use Rattle.blocking_crew.specs.declared.hand.Hand.{Hand}
 use Rattle.blocking_crew.specs.declared.hand.Hand.TheVariants.{Out, Free, Holds}

@@ -1,22 +1,22 @@
 -- Whatever a crew does, it hangs together with what was seen, and the law of the pool holds.
-use Rattle.std.proofs.Common.{◌≡◌, ◌||◌, ℕ, List, [], ◌∷◌, Bool, true, false, refl, sym, ap, ◌∙◌, subst, if◌then◌else◌, Option, Some, None}
+use Rattle.std.proofs.Common.{◌≡◌, ℕ, List, [], ◌∷◌, Bool, true, false, refl, sym, ap, ◌∙◌, subst, if◌then◌else◌, Option, None}
 use Rattle.std.specs.FinMap as map
 use Rattle.std.specs.Ordering.{nat_cmp}
 use Rattle.blocking_pool.specs.Growth.{Narrows}
 use Rattle.blocking_pool.specs.Pools.{empty_pool}
 use Rattle.blocking_laws.specs.Growth.{IsPlanned}
 use Rattle.blocking_laws.specs.Legal.{PoolLaw}
-use Rattle.blocking_laws.specs.Seen.{is_nothing}
 use Rattle.blocking_laws.specs.declared.event.Event.{Event}
 use Rattle.blocking_laws.specs.declared.event.Moment.{Moment}
 use Rattle.blocking_laws.specs.declared.step.Step.{Step}
 use Rattle.blocking_laws.proofs.Queues.{order_after}
-use Rattle.blocking_crew.specs.Crews.{Crew, IsReady, hand_at, hand_in}
-use Rattle.blocking_crew.specs.Moves.{Call, Move, May, Moves, call_of, after, next_start, is_aside, event_of}
-use Rattle.blocking_crew.specs.Tickets.{no_growth}
-use Rattle.blocking_crew.specs.Ties.{FiledAs, HandAs, Crewed, CrewHolds, IsAsked, IsAside, moment_of}
+use Rattle.blocking_crew.specs.Crews.{Crew, hand_at, hand_in}
+use Rattle.blocking_crew.specs.Moves.{Call, Move, May, Moves, call_of, after, next_start}
+use Rattle.blocking_crew.specs.Tickets.{no_growth, is_valued}
+use Rattle.blocking_crew.specs.Ties.{FiledAs, HandAs, Crewed, CrewHolds, IsAsked, IsAside, seen_as, moment_of}
 use Rattle.blocking_crew.specs.declared.hand.Hand.{Hand}
 use Rattle.blocking_crew.specs.declared.hand.Hand.TheVariants.{Out, Holds}
+use Rattle.blocking_crew.specs.declared.hand.Held.{Held}
 use Rattle.blocking_crew.proofs.ready.Moves.{ready_after}
 use Rattle.blocking_crew.proofs.ties.Acts.{now_with}
 use Rattle.blocking_crew.proofs.ties.Counts.{counts_after, counts_aside}
@@ -60,10 +60,10 @@ module _ (setting : ℕ) (plan : List Bool) (crew : Crew) (past : List Moment) (
 
   -- after each call, whatever step of the layer above it was, and whoever's job,
   pub holds_moved : (may_answer : ℕ → Bool → Type 0) (call : Call) (e : Event) (new : Crew) (step : Step) (owner : Option ℕ) → Narrows (IsPlanned plan) may_answer → Moves may_answer call crew e new → IsAsked crew past call
-      → CrewHolds setting plan new (record { step = step; event = record e { owner = owner } } ∷ past)
+      → CrewHolds setting plan new (seen_as step e owner ∷ past)
   holds_moved may_answer call e new step owner narrow moves asked =
-      subst (λ (c : Crew). CrewHolds setting plan c (record { step = step; event = record e { owner = owner } } ∷ past)) (sym moves.after_is)
-      (subst (λ (f : Event). CrewHolds setting plan (after crew moves.move) (record { step = step; event = record f { owner = owner } } ∷ past)) (sym moves.event_is)
+      subst (λ (c : Crew). CrewHolds setting plan c (seen_as step e owner ∷ past)) (sym moves.after_is)
+      (subst (λ (f : Event). CrewHolds setting plan (after crew moves.move) (seen_as step f owner ∷ past)) (sym moves.event_is)
       (holds_after moves.move step owner (may_more (IsPlanned plan) may_answer narrow crew moves.move moves.may) (subst (IsAsked crew past) moves.call_is asked)))
 
   -- and after an event that is nothing to the crew.
@@ -110,9 +110,12 @@ no_hand v = hand_or _
 out_hand : (v : ℕ) (hand : Hand) → hand ≡ Out → HandAs hand false None
 out_hand v hand is = subst (λ h. HandAs h false None) (sym is) (refl, refl)
 
+no_held : (v : ℕ) (held : Held) → hand_at [] v ≡ Holds held → ⊥
+no_held v held there = let out : Out ≡ Holds held = sym (no_hand v) ∙ there in absurd cc
+
 -- A new crew hangs together with what was seen, which is nothing.
-pub begins : (setting : ℕ) (plan : List Bool) → IsReady (record { pool = empty_pool setting 1 1; hands = [] }) → CrewHolds setting plan (record { pool = empty_pool setting 1 1; hands = [] }) []
-begins setting plan ready = record {
+pub begins : (setting : ℕ) (plan : List Bool) → CrewHolds setting plan (record { pool = empty_pool setting 1 1; hands = [] }) []
+begins setting plan = record {
   tied = record {
     numbered = record { next = refl; all_are = refl };
     filed = λ s. subst (λ entry. FiledAs entry None false false false false) (sym (map.get-empty nat_cmp s)) (refl, refl, refl, refl);
@@ -128,8 +131,13 @@ begins setting plan ready = record {
       known_is = refl;
       next_is = refl;
     };
-    handed = record { each = λ v. out_hand v (hand_at [] v) (no_hand v); turn_is = λ v held there. let out : Out ≡ Holds held = sym (no_hand v) ∙ there in absurd cc };
+    handed = record { each = λ v. out_hand v (hand_at [] v) (no_hand v); turn_is = λ v held there. absurd (no_held v held there) };
   };
-  ready = ready;
+  ready = record {
+    idle = refl;
+    runs = λ v held there. absurd (no_held v held there);
+    apart = λ v w one other here there same. absurd (no_held v one here);
+    valued = λ s. ap is_valued (map.get-empty nat_cmp s);
+  };
   laws = tt;
 }

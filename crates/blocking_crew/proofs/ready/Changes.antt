@@ -1,15 +1,19 @@
 -- A crew stays ready where its pool changes, and where one hand changes with it.
-use Rattle.std.proofs.Common.{◌≡◌, ℕ, ◌+◌, ◌-◌, ◌<◌, ◌==◌, Bool, true, false, if◌then◌else◌, List, [], ◌∷◌, ◌++◌, length, refl, sym, ap, ◌∙◌, subst, arith}
+use Rattle.std.proofs.Common.{◌≡◌, ℕ, ◌+◌, ◌-◌, ◌==◌, Bool, true, false, if◌then◌else◌, List, [], ◌∷◌, ◌++◌, length, refl, sym, ap, ◌∙◌, subst, arith}
 use Rattle.std.proofs.lemmas.Bool.{eqb-true}
-use Rattle.blocking_pool.specs.Jobs.{JobNumber, is_running_as}
+use Rattle.std.specs.Prelude.{slice_get}
+use Rattle.blocking_pool.specs.Jobs.{is_running_as}
+use Rattle.std.specs.FinMap.{get-empty}
+use Rattle.std.specs.Ordering.{nat_cmp}
+use Rattle.blocking_pool.specs.Pools.{empty_pool}
 use Rattle.blocking_pool.specs.declared.pool.token.WorkerPass.{WorkerPass}
-use Rattle.blocking_crew.specs.Crews.{Crew, IsReady, hand_at, with_hand, one_if_free, free_hands}
-use Rattle.blocking_crew.specs.Tickets.{JobPool, AreValued}
+use Rattle.blocking_crew.specs.Crews.{Crew, IsReady, hand_at, hand_in, with_hand, one_if_free, free_hands}
+use Rattle.blocking_crew.specs.Tickets.{JobPool, AreValued, is_valued}
 use Rattle.blocking_crew.specs.declared.hand.Hand.{Hand}
-use Rattle.blocking_crew.specs.declared.hand.Hand.TheVariants.{Free, Holds}
+use Rattle.blocking_crew.specs.declared.hand.Hand.TheVariants.{Out, Free, Holds}
 use Rattle.blocking_crew.specs.declared.hand.Held.{Held}
 use Rattle.blocking_crew.proofs.jobs.Kept.{AreKept, runs_on, stay_valued}
-use Rattle.blocking_crew.proofs.hands.Rows.{IsAt, hand_set, hand_pushed, hand_next, free_set, free_pushed}
+use Rattle.blocking_crew.proofs.hands.Rows.{IsAt, hand_set, hand_pushed, free_set, free_pushed}
 
 -- What a change of the pool leaves: jobs run on and have their tickets, and as many idle workers have arrived as before.
 pub record PoolKept (old new : JobPool) : Type 0 where
@@ -79,3 +83,20 @@ push_ready crew pool pass ready same level = record {
   apart = λ u w one other is there serial. ready.apart u w one other (pushed_at crew pass u one is) (pushed_at crew pass w other there) serial;
   valued = subst AreValued (sym same) ready.valued;
 }
+
+-- ---- a new crew
+
+no_hand : (b : Bool) (v : ℕ) (held : Held) → (if b then Out else hand_in (slice_get [] (v - 1))) ≡ Holds held → ⊥
+no_hand true v held is = cc
+no_hand false v held is = cc
+
+pub empty_ready : (setting : ℕ) (pool : JobPool) (hands : List Hand) → pool ≡ empty_pool setting 1 1 → hands ≡ [] → IsReady (record { pool = pool; hands = hands })
+empty_ready setting pool hands empty none =
+    subst (λ (p : JobPool). IsReady (record { pool = p; hands = hands })) (sym empty)
+    (subst (λ (row : List Hand). IsReady (record { pool = empty_pool setting 1 1; hands = row })) (sym none)
+    (record {
+      idle = refl;
+      runs = λ v held is. absurd (no_hand (v == 0) v held is);
+      apart = λ v w one other is there same. absurd (no_hand (v == 0) v one is);
+      valued = λ s. ap is_valued (get-empty nat_cmp s);
+    }))

@@ -1,12 +1,11 @@
 -- A crew stays ready where a worker's hand changes with its pool.
-use Rattle.std.proofs.Common.{◌≡◌, ◌≢◌, ℕ, ◌+◌, ◌-◌, ◌<◌, ◌==◌, ◌||◌, Bool, true, false, if◌then◌else◌, length, refl, sym, ap, ◌∙◌, subst, arith, Option, Some, None}
+use Rattle.std.proofs.Common.{◌≡◌, ℕ, ◌+◌, ◌-◌, ◌<◌, ◌==◌, Bool, true, false, if◌then◌else◌, refl, sym, ap, ◌∙◌, subst, arith, Option, Some, None}
 use Rattle.std.specs.Prelude.{option_map}
 use Rattle.std.specs.FinMap.{get, insert}
-use Rattle.std.proofs.lemmas.Bool.{eq-eqb, ne_eqb, eqb-false}
-use Rattle.blocking_pool.specs.Counts.{Counts, after_stop}
+use Rattle.std.proofs.lemmas.Bool.{ne_eqb, eqb-false}
+use Rattle.blocking_pool.specs.Counts.{after_stop}
 use Rattle.blocking_pool.specs.Growth.{Growth}
 use Rattle.blocking_pool.specs.Jobs.{Job, Jobs, JobNumber, amend, if_at, is_running_job, is_running_as, entry_after_take, entry_after_park, entry_after_requeue}
-use Rattle.blocking_pool.specs.PoolAnswers.{is_empty}
 use Rattle.blocking_pool.specs.Pools.{without_job, after_park, after_return}
 use Rattle.blocking_pool.specs.declared.pool.standing.Standing.{Standing}
 use Rattle.blocking_pool.specs.declared.pool.token.WorkerPass.{WorkerPass}
@@ -20,7 +19,7 @@ use Rattle.blocking_crew.specs.declared.ticket.Ticket.{Ticket}
 use Rattle.blocking_crew.proofs.hands.Rows.{IsAt, at_free, at_held, free_set}
 use Rattle.blocking_crew.proofs.jobs.Kept.{removed_valued, removed_runs, with_ticket}
 use Rattle.blocking_crew.proofs.jobs.Lookups.{job_put, job_changed, taken_runs, runs_at}
-use Rattle.blocking_crew.proofs.ready.Changes.{HandFits, hand_ready}
+use Rattle.blocking_crew.proofs.ready.Changes.{hand_ready}
 
 -- the workers of two numbers that differ are two
 two_workers : (v u : ℕ) → (v == u) ≡ false → v ≡ u → ⊥
@@ -137,8 +136,8 @@ pub return_ready : (crew : Crew) (v : ℕ) (held : Held) (ticket : Ticket) (pass
 return_ready crew v held ticket pass ready at =
     ended_ready crew (after_return crew.pool held.turn.serial ticket) v held pass ready at refl refl
     (λ number apart.
-      amended_runs (amend crew.pool.jobs held.turn.serial (entry_after_park ticket)) held.turn.serial entry_after_requeue number apart
-      ∙ amended_runs crew.pool.jobs held.turn.serial (entry_after_park ticket) number apart)
+    amended_runs (amend crew.pool.jobs held.turn.serial (entry_after_park ticket)) held.turn.serial entry_after_requeue number apart
+    ∙ amended_runs crew.pool.jobs held.turn.serial (entry_after_park ticket) number apart)
     (returned_valued crew.pool.jobs held.turn.serial ticket ready.valued)
 
 -- ---- a worker stops

@@ -1,6 +1,6 @@
 -- Every move that there may be keeps a crew ready.
-use Rattle.std.proofs.Common.{◌≡◌, ℕ, ◌+◌, ◌-◌, ◌<◌, Bool, not, refl, sym, ap, ◌∙◌, subst, arith}
-use Rattle.blocking_pool.specs.Counts.{after_arrival, after_stop}
+use Rattle.std.proofs.Common.{◌≡◌, ℕ, Bool, not, refl, sym, subst, arith}
+use Rattle.blocking_pool.specs.Counts.{after_arrival}
 use Rattle.blocking_pool.specs.PoolAnswers.{StaysOrStops, is_empty}
 use Rattle.blocking_pool.specs.declared.pool.answer.Waited.{Waited}
 use Rattle.blocking_pool.specs.declared.pool.answer.Waited.TheVariants.{Stay, Stop}
@@ -11,7 +11,6 @@ use Rattle.blocking_crew.specs.Crews.{Crew, IsReady, hand_at, with_hand}
 use Rattle.blocking_crew.specs.Moves.{Call, Move, Idles, Adds, Arrives, TakesJob, TakesNone, Works, EndsTurn, Parks, HasWaited, SetsLimit, Sweeps, IsWoken, IsCancelled, IsLetGo, Tells, May, Moves, after, first_stage, hand_after_park, hand_after_wait}
 use Rattle.blocking_crew.specs.Crews.{stage_after}
 use Rattle.blocking_crew.specs.Tickets.{JobPool, ParksTo, ParksSo}
-use Rattle.blocking_crew.specs.declared.hand.Hand.{Hand}
 use Rattle.blocking_crew.specs.declared.hand.Hand.TheVariants.{Free, Holds}
 use Rattle.blocking_crew.specs.declared.hand.Held.{Held}
 use Rattle.blocking_crew.specs.declared.ticket.Ticket.{Ticket}

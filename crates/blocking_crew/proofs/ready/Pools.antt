@@ -1,10 +1,10 @@
 -- What each change of a crew's pool keeps.
-use Rattle.std.proofs.Common.{◌≡◌, ℕ, ◌+◌, ◌==◌, ◌||◌, Bool, true, false, refl, sym, ap, ◌∙◌, subst, if◌then◌else◌, List, [], ◌∷◌, ◌++◌, Option, Some, None, Result, Ok, Err, arith}
+use Rattle.std.proofs.Common.{◌≡◌, ℕ, ◌+◌, ◌==◌, ◌||◌, Bool, true, false, refl, sym, ap, ◌∙◌, subst, if◌then◌else◌, [], ◌∷◌, Option, Some, None, Result, Ok, Err, arith}
 use Rattle.std.specs.Prelude.{option_map, is_some}
 use Rattle.std.specs.FinMap.{get}
 use Rattle.std.proofs.lemmas.Bool.{eqb-true, eq-eqb}
 use Rattle.blocking_pool.specs.Growth.{Growth}
-use Rattle.blocking_pool.specs.Jobs.{Job, Jobs, JobNumber, amend, if_at, is_running, is_parked_job, standing_of, entry_after_wake, entry_after_cancel, entry_with, jobs_after_requeue, new_job, value_at, job_of}
+use Rattle.blocking_pool.specs.Jobs.{Job, Jobs, JobNumber, if_at, is_running, is_parked_job, standing_of, entry_after_wake, entry_after_cancel, entry_with, new_job, value_at, job_of}
 use Rattle.blocking_pool.specs.Lists.{is_in}
 use Rattle.blocking_pool.specs.Pools.{with_job}
 use Rattle.blocking_pool.specs.Wakes.{wake_of, cancel_of}
@@ -13,7 +13,7 @@ use Rattle.blocking_pool.specs.declared.pool.answer.Refusal.TheVariants.{Memory,
 use Rattle.blocking_pool.specs.declared.pool.answer.Woke.{Woke}
 use Rattle.blocking_pool.specs.declared.pool.answer.Woke.TheVariants.{Entered, Marked, Nothing}
 use Rattle.blocking_pool.specs.declared.pool.standing.Standing.{Standing}
-use Rattle.blocking_pool.specs.declared.pool.standing.Standing.TheVariants.{Queued, Running, Parked, Done, Dropped}
+use Rattle.blocking_pool.specs.declared.pool.standing.Standing.TheVariants.{Parked}
 use Rattle.blocking_crew.specs.Tickets.{JobPool, new_ticket, ticket_after_mark, pool_after_mark_of, pool_after_mark, AddsTo, Wakes, WakesTo, Cancels, CancelsTo, EntersAgain, SweepsTo, SweepsIf, to_sweep}
 use Rattle.blocking_crew.specs.declared.ticket.Ticket.{Ticket}
 use Rattle.blocking_crew.proofs.growth.Sweeps.{sweep_keeps, sweep_levels, sweeps_if_keeps, sweeps_if_levels}

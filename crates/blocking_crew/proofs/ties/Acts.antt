@@ -1,5 +1,5 @@
 -- What holds of each act that a job, a holder or a worker may be seen to do here holds of the one that was seen.
-use Rattle.std.proofs.Common.{◌≡◌, ℕ, ◌||◌, Bool, true, false, refl, ap, Option}
+use Rattle.std.proofs.Common.{◌≡◌, ℕ, ◌||◌, Bool, true, false, ap, Option}
 use Rattle.blocking_pool.specs.Growth.{Growth}
 use Rattle.blocking_pool.specs.declared.pool.standing.Standing.TheVariants.{Done, Dropped}
 use Rattle.blocking_laws.specs.Answers.{wait_act}

@@ -1,11 +1,11 @@
 -- Each move keeps the counts of a crew what the past tells.
 use Rattle.std.proofs.Common.{◌≡◌, ◌≢◌, ℕ, ◌<◌, ◌≤◌, ◌+◌, ◌-◌, ◌==◌, min, List, [], ◌∷◌, ◌++◌, Bool, true, false, cond, length, length-append, length-set, refl, sym, ap, ◌∙◌, subst, ap₂, arith, if◌then◌else◌, Option, Some, None, zero, suc}
-use Rattle.std.specs.Prelude.{◌||◌, not, filter, slice_get, slice_set, Result, Ok, Err}
+use Rattle.std.specs.Prelude.{◌||◌, not, filter, slice_get, slice_set, Ok, Err}
 use Rattle.std.proofs.lemmas.Bool.{eqb-true, eqb-false}
 use Rattle.std.proofs.lemmas.Bool.Decides.{nat_tests}
 use Rattle.blocking_pool.specs.Counts.{Counts, limit_of, louder, after_pickup, after_release, after_stop}
-use Rattle.blocking_pool.specs.Growth.{greatest, Growth, IsGrowth, StartAnswer, after_growth, limit_after, number_after}
-use Rattle.blocking_pool.specs.Jobs.{JobNumber, job_of, value_at, one_if}
+use Rattle.blocking_pool.specs.Growth.{greatest, Growth, after_growth, limit_after, number_after}
+use Rattle.blocking_pool.specs.Jobs.{job_of, value_at, one_if}
 use Rattle.blocking_pool.specs.PoolAnswers.{is_empty}
 use Rattle.blocking_pool.specs.Pools.{without_job}
 use Rattle.blocking_pool.specs.declared.pool.bell.BellKind.TheVariants.{One}
@@ -16,7 +16,7 @@ use Rattle.blocking_pool.specs.declared.pool.answer.Waited.TheVariants.{Stay, St
 use Rattle.blocking_pool.specs.declared.pool.answer.Woke.TheVariants.{Entered, Marked, Nothing}
 use Rattle.blocking_pool.specs.declared.pool.token.WorkerPass.{WorkerPass}
 use Rattle.blocking_laws.specs.Counts.{added, starts, refused_starts, arrivals, stops as all_stops, workers, limit, limit_by, is_arrival, is_stop}
-use Rattle.blocking_laws.specs.Growth.{IsPlanned, HasWorker, known_limit, has_limit, grows, is_limit_set}
+use Rattle.blocking_laws.specs.Growth.{IsPlanned, HasWorker, has_limit, grows, is_limit_set}
 use Rattle.blocking_laws.specs.Queue.{running, ended_by, taken_by, to_sweep as seen_to_sweep}
 use Rattle.blocking_laws.specs.Seen.{joined, without_all, has_timed_out, is_nothing}
 use Rattle.blocking_laws.specs.declared.event.Act.{Act}
@@ -36,7 +36,7 @@ use Rattle.blocking_crew.specs.declared.hand.Held.{Held}
 use Rattle.blocking_crew.specs.declared.tickets.Parking.TheVariants as parking
 use Rattle.blocking_crew.proofs.growth.Reads.{numbers_last}
 use Rattle.blocking_crew.proofs.hands.Rows.{at_held, at_free, sum_of, sum_set, sum_pushed, free_set}
-use Rattle.blocking_crew.proofs.ties.Acts.{now_with, by_work, by_aside, by_let_go, by_end, aside_or}
+use Rattle.blocking_crew.proofs.ties.Acts.{now_with, by_work, by_aside, by_let_go, aside_or}
 use Rattle.blocking_crew.proofs.jobs.Marks.{mark_alone}
 use Rattle.blocking_crew.proofs.ties.Known.{held_once}
 use Rattle.blocking_crew.proofs.ties.Sweeps.{sweep_same}

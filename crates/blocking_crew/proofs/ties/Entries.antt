@@ -1,5 +1,5 @@
 -- An entry of the pool by what was seen of its job, over plain values: what it tells, and each kind of change.
-use Rattle.std.proofs.Common.{◌≡◌, ℕ, ◌==◌, Bool, true, false, refl, sym, ap, ◌∙◌, subst, if◌then◌else◌, Option, Some, None, ◌&&◌, ◌||◌, ◌⊎◌, inl, inr, not}
+use Rattle.std.proofs.Common.{◌≡◌, ℕ, Bool, true, false, refl, sym, ap, ◌∙◌, subst, if◌then◌else◌, Option, Some, None, ◌&&◌, ◌||◌, ◌⊎◌, inl, inr, not}
 use Rattle.std.specs.Prelude.{option_map, is_some}
 use Rattle.blocking_pool.specs.Jobs.{Job as Entry, new_job, entry_after_take, entry_after_wake, entry_after_cancel, entry_after_requeue, entry_after_park, is_running_job, is_parked as is_parked_so}
 use Rattle.blocking_pool.specs.declared.pool.standing.Standing.{Standing}

@@ -1,15 +1,13 @@
 -- Each move keeps the pool's jobs as they were seen.
-use Rattle.std.proofs.Common.{◌≡◌, ℕ, ◌==◌, ◌&&◌, ◌||◌, ◌⊎◌, inl, inr, not, if◌then◌else◌, List, [], ◌∷◌, Bool, true, false, refl, sym, ap, ◌∙◌, subst, Option, Some, None}
-use Rattle.std.specs.Prelude.{Result, Ok, Err, option_map, is_some}
+use Rattle.std.proofs.Common.{◌≡◌, ℕ, ◌==◌, ◌&&◌, ◌||◌, inl, inr, not, if◌then◌else◌, List, ◌∷◌, Bool, true, false, refl, sym, ap, ◌∙◌, subst, Option, Some, None}
+use Rattle.std.specs.Prelude.{Ok, Err, option_map, is_some}
 use Rattle.std.specs.FinMap.{get}
-use Rattle.std.proofs.lemmas.Bool.{eqb-true, eq-eqb}
+use Rattle.std.proofs.lemmas.Bool.{eqb-true}
 use Rattle.blocking_pool.specs.Growth.{Growth}
 use Rattle.blocking_pool.specs.Jobs.{Job as Entry, Jobs, JobNumber, if_at, job_of, standing_of, amend, new_job, entry_after_take, entry_after_wake, entry_after_cancel, entry_after_requeue, entry_after_park}
-use Rattle.blocking_pool.specs.Pools.{with_job}
 use Rattle.blocking_pool.specs.Wakes.{wake_of, cancel_of}
 use Rattle.blocking_pool.specs.declared.pool.answer.Refusal.{Refusal}
 use Rattle.blocking_pool.specs.declared.pool.answer.Refusal.TheVariants.{Memory, NoWorker, Numbers}
-use Rattle.blocking_pool.specs.declared.pool.answer.Waited.{Waited}
 use Rattle.blocking_pool.specs.declared.pool.answer.Waited.TheVariants.{Stay, Stop}
 use Rattle.blocking_pool.specs.declared.pool.answer.Woke.{Woke}
 use Rattle.blocking_pool.specs.declared.pool.answer.Woke.TheVariants.{Entered, Marked, Nothing}
@@ -20,23 +18,21 @@ use Rattle.blocking_laws.specs.Growth.{IsPlanned}
 use Rattle.blocking_laws.specs.Jobs.{standing, holder, is_holder, is_woken, is_cancelled, is_marked, is_parked, has_ended}
 use Rattle.blocking_laws.specs.Seen.{has_timed_out, is_nothing}
 use Rattle.blocking_laws.specs.declared.event.Act.{Act}
-use Rattle.blocking_laws.specs.declared.event.Act.TheVariants.{Accepted, JobWoken, JobCancelled, Ended, Stays, Stopped}
+use Rattle.blocking_laws.specs.declared.event.Act.TheVariants.{Accepted, JobWoken, JobCancelled, Ended}
 use Rattle.blocking_laws.specs.declared.event.Moment.{Moment}
 use Rattle.blocking_laws.specs.declared.event.Party.{Party}
-use Rattle.blocking_laws.specs.declared.event.Party.TheVariants.{Worker, Pool}
+use Rattle.blocking_laws.specs.declared.event.Party.TheVariants.{Worker}
 use Rattle.blocking_laws.specs.declared.event.WaitEnd.{WaitEnd}
-use Rattle.blocking_laws.specs.declared.event.WaitEnd.TheVariants.{Woken, TimedOut}
 use Rattle.blocking_laws.specs.declared.step.Step.{Step}
-use Rattle.blocking_crew.specs.Crews.{Crew, hand_at}
+use Rattle.blocking_crew.specs.Crews.{Crew}
 use Rattle.blocking_crew.specs.Moves.{Move, Adds, TakesJob, Works, EndsTurn, Parks, HasWaited, Sweeps, IsWoken, IsCancelled, IsLetGo, Tells, May, after, call_of, next_start, took_act, parked_act, is_aside}
-use Rattle.blocking_crew.specs.Tickets.{JobPool, new_ticket, no_growth, Accepts, AddsTo, TakesFront, EntersAgain, WakesTo, CancelsTo, Wakes, Cancels, ParksTo, ParksSo, pool_after_mark}
+use Rattle.blocking_crew.specs.Tickets.{JobPool, new_ticket, no_growth, Accepts, AddsTo, TakesFront, WakesTo, CancelsTo, ParksTo, ParksSo, pool_after_mark}
 use Rattle.blocking_crew.specs.Ties.{FiledAs, FiledHere, Filed, IsNumberOf, HoldsAlone, IsAsked, CrewHolds, moment_of}
-use Rattle.blocking_crew.specs.declared.hand.Hand.TheVariants.{Holds}
 use Rattle.blocking_crew.specs.declared.hand.Held.{Held}
 use Rattle.blocking_crew.specs.declared.ticket.Ticket.{Ticket}
 use Rattle.blocking_crew.specs.declared.tickets.Parking.{Parking}
 use Rattle.blocking_crew.specs.declared.tickets.Parking.TheVariants as parking
-use Rattle.blocking_crew.proofs.ties.Acts.{now_with, by_work, by_aside, by_let_go, by_wait, by_end, aside_or}
+use Rattle.blocking_crew.proofs.ties.Acts.{now_with, by_work, by_aside, by_let_go, by_end, aside_or}
 use Rattle.blocking_crew.proofs.jobs.Lookups.{job_put, job_out, job_changed}
 use Rattle.blocking_crew.proofs.ties.Lookups.{job_marked, found_at, there_by}
 use Rattle.blocking_crew.proofs.ties.Entries.{new_filed, taken_filed, woken_filed, cancelled_filed, requeued_filed, ended_filed, parked_filed, returned_filed, marked_filed}
@@ -133,9 +129,10 @@ module _ (setting : ℕ) (plan : List Bool) (crew : Crew) (past : List Moment) (
   ended_here : (v : ℕ) (held : Held) (s : ℕ) → (let t = held.turn.serial in FiledHere (if t == s then None else get crew.pool.jobs s) (now (Worker v) (Some t) (Ended t Done) no_growth ∷ past) s
       × FiledHere (if t == s then None else get crew.pool.jobs s) (now (Worker v) (Some t) (Ended t Dropped) no_growth ∷ past) s)
   ended_here v held s =
-      let t = held.turn.serial in
-      (ended_filed (t == s) Done (get crew.pool.jobs s) (standing past s) (is_woken past s) (is_cancelled past s) (is_marked past s) (has_ended past s) (inl refl) (h.tied.filed s),
-      ended_filed (t == s) Dropped (get crew.pool.jobs s) (standing past s) (is_woken past s) (is_cancelled past s) (is_marked past s) (has_ended past s) (inr refl) (h.tied.filed s))
+      let t = held.turn.serial in (
+        ended_filed (t == s) Done (get crew.pool.jobs s) (standing past s) (is_woken past s) (is_cancelled past s) (is_marked past s) (has_ended past s) (inl refl) (h.tied.filed s),
+        ended_filed (t == s) Dropped (get crew.pool.jobs s) (standing past s) (is_woken past s) (is_cancelled past s) (is_marked past s) (has_ended past s) (inr refl) (h.tied.filed s),
+      )
 
   parks_filed : (v : ℕ) (held : Held) (ticket : Ticket) (parked : Parking) (pool : JobPool) → ParksSo crew.pool held.turn ticket parked pool → ticket.is_marked ≡ is_marked past held.turn.serial
       → Filed pool (now (Worker v) (Some held.turn.serial) (parked_act parked held.turn.serial) no_growth ∷ past)

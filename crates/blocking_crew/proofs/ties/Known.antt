@@ -1,25 +1,22 @@
 -- What a crew and the laws tell of one job: the next one stands nowhere, the one in a hand runs, the front one is queued.
-use Rattle.std.proofs.Common.{◌≡◌, ℕ, ◌+◌, ◌==◌, if◌then◌else◌, List, [], ◌∷◌, length, Bool, true, false, refl, sym, ap, ◌∙◌, subst, arith, Option, Some, None}
-use Rattle.std.specs.Prelude.{nat_lt, is_some}
+use Rattle.std.proofs.Common.{◌≡◌, ℕ, ◌+◌, ◌==◌, List, ◌∷◌, length, Bool, true, false, refl, sym, ap, ◌∙◌, subst, arith, Option, Some, None}
+use Rattle.std.specs.Prelude.{◌&&◌, not, nat_lt, is_some}
 use Rattle.std.specs.FinMap.{get}
 use Rattle.std.proofs.lemmas.Bool.{eq-eqb}
 use Rattle.std.proofs.lemmas.Bool.Decides.{nat_tests}
 use Rattle.blocking_pool.specs.Growth.{Growth}
-use Rattle.blocking_pool.specs.Jobs.{Job as Entry, JobNumber, is_running_job, one_if}
+use Rattle.blocking_pool.specs.Jobs.{JobNumber, is_running_job, one_if}
 use Rattle.blocking_pool.specs.Lists.{is_in, without}
 use Rattle.blocking_pool.specs.declared.pool.standing.Standing.{Standing}
 use Rattle.blocking_pool.specs.declared.pool.standing.Standing.TheVariants.{Queued, Running}
 use Rattle.blocking_pool.proofs.Lists.{without-first}
-use Rattle.blocking_laws.specs.Jobs.{accepted_jobs, standing, is_woken, is_cancelled, is_marked, has_ended, is_queued, is_running}
-use Rattle.blocking_laws.specs.Legal.{PoolLaw}
+use Rattle.blocking_laws.specs.Jobs.{accepted_jobs, standing, is_queued, is_running}
 use Rattle.blocking_laws.specs.Queue.{queue, running, times}
-use Rattle.blocking_laws.specs.Seen.{EachMayFollow}
 use Rattle.blocking_laws.specs.declared.event.Moment.{Moment}
 use Rattle.blocking_laws.proofs.Queues.{queued_so, runs_so, known_so}
-use Rattle.blocking_crew.specs.Crews.{Crew, IsReady, hand_at}
+use Rattle.blocking_crew.specs.Crews.{Crew, hand_at}
 use Rattle.blocking_crew.specs.Tickets.{JobPool, TakesFront}
-use Rattle.blocking_crew.specs.Ties.{FiledAs, FiledHere, Filed, Lined, Numbered, CrewHolds}
-use Rattle.blocking_crew.specs.declared.hand.Hand.{Hand}
+use Rattle.blocking_crew.specs.Ties.{FiledHere, CrewHolds}
 use Rattle.blocking_crew.specs.declared.hand.Hand.TheVariants.{Holds}
 use Rattle.blocking_crew.specs.declared.hand.Held.{Held}
 use Rattle.blocking_crew.specs.declared.ticket.Ticket.{Ticket}
@@ -37,6 +34,15 @@ one_more false n e = absurd (omega (arith, e))
 
 none_less : (b : Bool) (n : ℕ) → n + one_if b ≡ 0 → n ≡ 0
 none_less b n e = omega (arith, e)
+
+known_by : (k z l : Bool) → one_if k + one_if z ≡ one_if l → k ≡ (not z && l)
+known_by true true true e = absurd (omega (arith, e))
+known_by true true false e = absurd (omega (arith, e))
+known_by true false true e = refl
+known_by true false false e = absurd (omega (arith, e))
+known_by false true l e = refl
+known_by false false true e = absurd (omega (arith, e))
+known_by false false false e = refl
 
 module _ (setting : ℕ) (plan : List Bool) (crew : Crew) (past : List Moment) (h : CrewHolds setting plan crew past) where
   serials : (s : ℕ) → times s (accepted_jobs past) + one_if (0 == s) ≡ one_if (nat_lt s crew.pool.next_serial)
@@ -63,6 +69,12 @@ module _ (setting : ℕ) (plan : List Bool) (crew : Crew) (past : List Moment) (
   -- what was accepted stands somewhere
   pub accepted_in : (s : ℕ) → is_in s (accepted_jobs past) ≡ is_some (standing past s)
   accepted_in s = in_times s (accepted_jobs past) (is_some (standing past s)) (known_so setting plan past h.laws s)
+
+  -- and that is each job from 1 up to the next
+  pub known_is : (s : ℕ) → is_some (standing past s) ≡ (not (0 == s) && nat_lt s crew.pool.next_serial)
+  known_is s =
+      known_by (is_some (standing past s)) (0 == s) (nat_lt s crew.pool.next_serial)
+      (ap (λ k. k + one_if (0 == s)) (sym (known_so setting plan past h.laws s)) ∙ serials s)
 
   -- the job in a hand runs
   pub held_here : (v : ℕ) (held : Held) → hand_at crew.hands v ≡ Holds held → is_running_job (get crew.pool.jobs held.turn.serial) ≡ true

@@ -1,23 +1,21 @@
 -- The number of a job stays its number, whatever the crew does.
-use Rattle.std.proofs.Common.{◌≡◌, ℕ, ◌==◌, if◌then◌else◌, List, [], ◌∷◌, Bool, true, false, refl, sym, ap, ◌∙◌, subst, Option, Some, None}
-use Rattle.std.specs.Prelude.{Result, Ok, Err, option_map, is_some}
+use Rattle.std.proofs.Common.{◌≡◌, ℕ, ◌==◌, if◌then◌else◌, List, Bool, true, false, refl, sym, ap, ◌∙◌, subst, Option, Some, None}
+use Rattle.std.specs.Prelude.{Ok, Err, option_map, is_some}
 use Rattle.std.specs.FinMap.{get, insert}
 use Rattle.std.proofs.lemmas.Bool.{eqb-true, eq-eqb}
 use Rattle.blocking_pool.specs.Growth.{Growth}
-use Rattle.blocking_pool.specs.Jobs.{Job as Entry, Jobs, JobNumber, amend, jobs_after_requeue, new_job, entry_after_take, entry_after_wake, entry_after_cancel, entry_after_requeue, entry_after_park}
-use Rattle.blocking_pool.specs.Lists.{is_in}
+use Rattle.blocking_pool.specs.Jobs.{Job as Entry, Jobs, JobNumber, amend, new_job, entry_after_take, entry_after_wake, entry_after_cancel, entry_after_requeue, entry_after_park}
 use Rattle.blocking_pool.specs.declared.pool.answer.Refusal.{Refusal}
 use Rattle.blocking_pool.specs.declared.pool.answer.Refusal.TheVariants.{Memory, NoWorker, Numbers}
 use Rattle.blocking_pool.specs.declared.pool.answer.Waited.TheVariants.{Stay, Stop}
 use Rattle.blocking_pool.specs.declared.pool.answer.Woke.TheVariants.{Entered, Marked, Nothing}
 use Rattle.blocking_laws.specs.Growth.{IsPlanned}
-use Rattle.blocking_laws.specs.Jobs.{standing, is_marked, is_parked}
+use Rattle.blocking_laws.specs.Jobs.{standing}
 use Rattle.blocking_laws.specs.Seen.{has_timed_out}
 use Rattle.blocking_laws.specs.declared.event.Moment.{Moment}
-use Rattle.blocking_laws.specs.declared.event.Party.{Party}
 use Rattle.blocking_crew.specs.Crews.{Crew}
 use Rattle.blocking_crew.specs.Moves.{Move, Adds, TakesJob, EndsTurn, Parks, HasWaited, Sweeps, IsWoken, IsCancelled, IsLetGo, May, after, call_of}
-use Rattle.blocking_crew.specs.Tickets.{JobPool, new_ticket, AddsTo, ticket_after_mark}
+use Rattle.blocking_crew.specs.Tickets.{JobPool, new_ticket, AddsTo}
 use Rattle.blocking_crew.specs.Ties.{IsNumberOf, IsAsked, CrewHolds}
 use Rattle.blocking_crew.specs.declared.ticket.Ticket.{Ticket}
 use Rattle.blocking_crew.specs.declared.tickets.Parking.TheVariants as parking
@@ -73,7 +71,6 @@ number_of_new plan old new number growth adds entry found =
 module _ (setting : ℕ) (plan : List Bool) (crew : Crew) (past : List Moment) (h : CrewHolds setting plan crew past) (number : JobNumber) where
   abbrev s : ℕ
   s = number.serial
-
 
   -- a job of the pool has changed
   changes : (t : ℕ) (change : Entry Ticket → Entry Ticket) → ((entry : Entry Ticket) → (change entry).place ≡ entry.place) → (jobs : Jobs Ticket) → Stays (get jobs s) (get (amend jobs t change) s)

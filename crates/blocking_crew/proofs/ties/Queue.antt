@@ -1,8 +1,8 @@
 -- Each move keeps the pool's queue that of the past.
-use Rattle.std.proofs.Common.{◌≡◌, ℕ, if◌then◌else◌, ◌||◌, List, [], ◌∷◌, ◌++◌, Bool, true, false, refl, sym, ap, ◌∙◌, Option, Some, None}
-use Rattle.std.specs.Prelude.{Result, Ok, Err}
+use Rattle.std.proofs.Common.{◌≡◌, ℕ, if◌then◌else◌, ◌||◌, List, [], ◌∷◌, ◌++◌, Bool, true, false, sym, ap, ◌∙◌, Option, Some, None}
+use Rattle.std.specs.Prelude.{Ok, Err}
 use Rattle.blocking_pool.specs.Growth.{Growth}
-use Rattle.blocking_pool.specs.Jobs.{JobNumber, job_of, value_at}
+use Rattle.blocking_pool.specs.Jobs.{job_of, value_at}
 use Rattle.blocking_pool.specs.declared.pool.answer.Refusal.{Refusal}
 use Rattle.blocking_pool.specs.declared.pool.answer.Refusal.TheVariants.{Memory, NoWorker, Numbers}
 use Rattle.blocking_pool.specs.declared.pool.answer.Waited.TheVariants.{Stay, Stop}

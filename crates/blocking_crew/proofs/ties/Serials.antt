@@ -1,6 +1,6 @@
 -- Each move keeps the serials those of the jobs that were accepted.
 use Rattle.std.proofs.Common.{◌≡◌, ℕ, ◌+◌, List, [], ◌∷◌, ◌++◌, length, length-append, Bool, true, false, refl, sym, ap, ◌∙◌, ◌||◌, arith, suc, Option, Some, None}
-use Rattle.std.specs.Prelude.{Result, Ok, Err}
+use Rattle.std.specs.Prelude.{Ok, Err}
 use Rattle.blocking_pool.specs.Growth.{Growth}
 use Rattle.blocking_pool.specs.Jobs.{JobNumber, job_of, value_at}
 use Rattle.blocking_pool.specs.Sweeps.{serials_below}
@@ -24,7 +24,7 @@ use Rattle.blocking_crew.specs.Ties.{Numbered, CrewHolds, moment_of}
 use Rattle.blocking_crew.specs.declared.tickets.Parking.TheVariants as parking
 use Rattle.blocking_crew.proofs.ties.Acts.{now_with, by_work, by_aside, by_let_go, by_end, aside_or}
 use Rattle.blocking_crew.proofs.jobs.Marks.{mark_alone}
-use Rattle.blocking_crew.proofs.ties.Sweeps.{IsSwept, is_swept, is_swept_if}
+use Rattle.blocking_crew.proofs.ties.Sweeps.{is_swept, is_swept_if}
 
 module _ (setting : ℕ) (plan : List Bool) (crew : Crew) (past : List Moment) (step : Step) (owner : Option ℕ) (h : CrewHolds setting plan crew past) where
   abbrev now : Party → Option ℕ → Act → Growth → Moment

@@ -1,8 +1,8 @@
 -- A move that there may be under some answers of a starter may be there under more of them.
-use Rattle.std.proofs.Common.{◌≡◌, ℕ, ◌+◌, ◌<◌, List, [], ◌∷◌, Bool, true, false, length}
+use Rattle.std.proofs.Common.{ℕ, ◌+◌, List, [], ◌∷◌, Bool, true, false, length}
 use Rattle.std.specs.Prelude.{Result, Ok, Err}
-use Rattle.blocking_pool.specs.Counts.{Counts, limit_of, after_pickup}
-use Rattle.blocking_pool.specs.Growth.{Growth, IsGrowth, StartAnswer, Narrows}
+use Rattle.blocking_pool.specs.Counts.{Counts, after_pickup}
+use Rattle.blocking_pool.specs.Growth.{Growth, Narrows}
 use Rattle.blocking_pool.specs.Jobs.{JobNumber}
 use Rattle.blocking_pool.specs.declared.pool.answer.Refusal.{Refusal}
 use Rattle.blocking_pool.specs.declared.pool.answer.Refusal.TheVariants.{Memory, NoWorker, Numbers}

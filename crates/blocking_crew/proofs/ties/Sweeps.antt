@@ -1,14 +1,13 @@
 -- A sweep puts back what was seen to be parked and marked, in the order in which it was accepted.
-use Rattle.std.proofs.Common.{◌≡◌, ℕ, ◌==◌, ◌&&◌, ◌||◌, not, if◌then◌else◌, cond, Bool, true, false, List, [], ◌∷◌, ◌++◌, refl, sym, ap, ◌∙◌, subst, Option, Some, None}
+use Rattle.std.proofs.Common.{◌≡◌, ℕ, ◌==◌, ◌&&◌, ◌||◌, if◌then◌else◌, cond, Bool, true, false, List, [], ◌∷◌, refl, ap, ◌∙◌, Option, Some, None}
 use Rattle.std.specs.Prelude.{option_map, is_some, filter}
 use Rattle.std.specs.FinMap.{get}
 use Rattle.std.proofs.lemmas.Bool.{eqb-true}
 use Rattle.blocking_pool.specs.Growth.{Growth}
-use Rattle.blocking_pool.specs.Jobs.{Job as Entry, Jobs, jobs_after_requeue, entry_after_requeue}
+use Rattle.blocking_pool.specs.Jobs.{Jobs, jobs_after_requeue, entry_after_requeue}
 use Rattle.blocking_pool.specs.Lists.{is_in}
 use Rattle.blocking_pool.specs.declared.pool.standing.Standing.{Standing}
 use Rattle.blocking_pool.specs.declared.pool.standing.Standing.TheVariants.{Queued, Running, Parked, Done, Dropped}
-use Rattle.blocking_pool.proofs.Lists.{turned}
 use Rattle.blocking_laws.specs.Jobs.{accepted_jobs, standing, is_parked, is_woken, is_cancelled, is_marked, has_ended}
 use Rattle.blocking_laws.specs.Queue.{to_sweep as seen_to_sweep}
 use Rattle.blocking_laws.specs.Seen.{joined}

@@ -10,7 +10,9 @@ use Rattle.blocking_crew.specs.Crews.{hand_at, is_free_hand}
 use Rattle.blocking_crew.specs.Moves as crew
 use Rattle.blocking_crew.specs.Moves.{added_act, next_start, seen}
 use Rattle.blocking_crew.specs.Ties.{HandAs, turn_of}
-use Rattle.blocking_crew.specs.Tickets.{JobPool}
+use Rattle.blocking_crew.specs.Tickets.{JobPool, TakesFront}
+use Rattle.blocking_crew.specs.declared.ticket.Ticket.{Ticket}
+use Rattle.blocking_crew.proofs.ties.Known.{front_stands}
 use Rattle.blocking_crew.specs.declared.hand.Hand.{Hand}
 use Rattle.blocking_crew.specs.declared.hand.Hand.TheVariants.{Out, Free, Holds}
 use Rattle.blocking_crew.specs.declared.hand.Held.{Held}
@@ -24,11 +26,11 @@ use Rattle.blocking_lanes.specs.declared.task.TaskStage.TheVariants as task_stag
 use Rattle.blocking_lanes.proofs.cuts.Acts.{own_cut}
 use Rattle.blocking_lanes.proofs.acts.Calls.{poll_so, call_plainly}
 use Rattle.blocking_laws.specs.JobTable.{Calling, AskCall, Finish, WakeHolder, next_of_job}
-use Rattle.blocking_laws.specs.Jobs.{tasks, holder}
+use Rattle.blocking_laws.specs.Jobs.{tasks, holder, as_owner}
 use Rattle.blocking_laws.specs.Counts.{starts, arrivals}
 use Rattle.blocking_laws.specs.Growth.{IsPlanned}
 use Rattle.blocking_laws.specs.Seen.{events, acts_of, acts_of_task, own, task_cut, is_nothing}
-use Rattle.blocking_laws.specs.Steps.{is_there, WorkerAction as ActionInLaws, NoNext, Does, GivesUp as MustGive, EndsTurn as MustEnd, next_in_turn, next_with, next_of_worker, is_job_action, is_answered_action, is_turn_end, is_for_cancelled, may_call, may_cancel, has_action, Happens, Fits, StepLaw, IsBegun, IsOfTask, named, party, job_of}
+use Rattle.blocking_laws.specs.Steps.{is_there, WorkerAction as ActionInLaws, NoNext, Does, GivesUp as MustGive, EndsTurn as MustEnd, next_in_turn, next_with, next_of_worker, is_job_action, is_answered_action, is_turn_end, is_for_cancelled, may_call, may_cancel, has_action, kind_by, owner_of, Happens, Fits, StepLaw, IsBegun, IsOfTask, named, party, job_of}
 use Rattle.blocking_laws.specs.TaskLaws.{is_gone, was_cancelled, is_let_go}
 use Rattle.blocking_laws.specs.Turns.{GoesOn, turn, hand}
 use Rattle.blocking_laws.specs.declared.event.Act.{Act}
@@ -40,16 +42,16 @@ use Rattle.blocking_laws.specs.declared.event.Party.TheVariants.{Task as ByTask,
 use Rattle.blocking_laws.specs.declared.event.WaitEnd.{WaitEnd}
 use Rattle.blocking_laws.specs.declared.event.WaitEnd.TheVariants.{Woken, TimedOut}
 use Rattle.blocking_laws.specs.declared.step.Answer.{Answer}
-use Rattle.blocking_laws.specs.declared.step.Answer.TheVariants.{Number}
+use Rattle.blocking_laws.specs.declared.step.Answer.TheVariants.{Number, Gave, Failed}
 use Rattle.blocking_laws.specs.declared.step.Step.{Step}
-use Rattle.blocking_laws.specs.declared.step.Step.TheVariants.{Spawn, OfTask, Arrive, Take, Job, Io, End, Wait, Late, SetLimit, Sweep, Stray, Strike}
+use Rattle.blocking_laws.specs.declared.step.Step.TheVariants.{New, Ask, Own, DropOwner, Spawn, OfTask, Arrive, Take, Job, Io, End, Wait, Late, SetLimit, Sweep, Stray, Strike}
 use Rattle.blocking_laws.specs.declared.step.TaskCall.{TaskCall}
 use Rattle.blocking_laws.specs.declared.step.TaskCall.TheVariants.{Poll, Cancel, Detach, Drop}
 use Rattle.blocking_pool.specs.Growth.{Growth}
 use Rattle.blocking_pool.specs.Jobs.{JobNumber}
 use Rattle.blocking_pool.specs.declared.pool.answer.Refusal.{Refusal}
 use Rattle.blocking_pool.specs.declared.pool.answer.Waited.TheVariants.{Stay, Stop}
-use Rattle.blocking_world.specs.Moves.{Move, Idles, Begins, Calls, Acts, Passes, IsWoken, IsStruck, MayDo, CrewMay, IsInHand, IsNext, PassesBy, has_action_in, may_call_in, step_of, work_step, wait_step, event_of, moment_of}
+use Rattle.blocking_world.specs.Moves.{Move, Idles, Begins, Calls, Acts, Passes, IsWoken, IsStruck, MayDo, CrewMay, IsInHand, IsNext, PassesBy, has_action_in, is_number, may_call_in, step_of, work_step, wait_step, event_of, moment_of}
 use Rattle.blocking_world.specs.Rows.{place_of, party_of, progress_of, next_of, next_at, step_by}
 use Rattle.blocking_world.specs.Ties.{Tied, ActedAs}
 use Rattle.blocking_world.specs.Worlds.{Parts, row_of, job_at, job_in, job_by, job_if, next_is, is_own, is_awaiting, is_ending, let_go_in, let_go_of, let_go_by}
@@ -57,7 +59,7 @@ use Rattle.blocking_world.specs.declared.parts.JobAt.{JobAt}
 use Rattle.blocking_world.specs.declared.row.Row.{Row}
 use Rattle.blocking_world.specs.declared.row.WorkerAction.{WorkerAction}
 use Rattle.blocking_world.specs.declared.row.WorkerAction.TheVariants as worker_action
-use Rattle.blocking_world.proofs.ties.Found.{task_there, one_row}
+use Rattle.blocking_world.proofs.ties.Found.{task_there, row_stands}
 use Rattle.blocking_world.proofs.ties.Jobs.{hand_row, row_task, row_holder, task_holds, task_tie}
 
 -- ---- workers
@@ -105,11 +107,31 @@ own_action (Some job) = by job.next
     by worker_action.End = refl
     by worker_action.Rest = refl
 
-awaited_action : (d : Option JobAt) (answer : Answer) → next_is is_awaiting d ≡ is_answered_action (job_in_laws d) answer
-awaited_action None answer = refl
+awaited_action : (d : Option JobAt) (answer : Answer) → (is_number answer && next_is is_awaiting d) ≡ is_answered_action (job_in_laws d) answer
+awaited_action None (Number n) = refl
+awaited_action None (Gave bytes) = refl
+awaited_action None (Failed why) = refl
 awaited_action (Some job) (Number n) = by job.next
   where
     by : (next : WorkerAction) → is_awaiting next ≡ is_answered_action (in_laws next) (Number n)
+    by worker_action.Await = refl
+    by worker_action.Finish = refl
+    by worker_action.GiveUp = refl
+    by worker_action.Wake = refl
+    by worker_action.End = refl
+    by worker_action.Rest = refl
+awaited_action (Some job) (Gave bytes) = by job.next
+  where
+    by : (next : WorkerAction) → false ≡ is_answered_action (in_laws next) (Gave bytes)
+    by worker_action.Await = refl
+    by worker_action.Finish = refl
+    by worker_action.GiveUp = refl
+    by worker_action.Wake = refl
+    by worker_action.End = refl
+    by worker_action.Rest = refl
+awaited_action (Some job) (Failed why) = by job.next
+  where
+    by : (next : WorkerAction) → false ≡ is_answered_action (in_laws next) (Failed why)
     by worker_action.Await = refl
     by worker_action.Finish = refl
     by worker_action.GiveUp = refl
@@ -183,6 +205,7 @@ module _ (setting : ℕ) (plan : List Bool) (w : Parts) (past : List Moment) (t 
       let task = row_task setting plan w past t s row.0 row.1 in
       let as_held = t.rowed.in_hand v held row.0 at row.1 in
       ap (λ j. next_with j past) tie.1
+      ∙ ap (λ o. next_in_turn (turn past s) (next_of_job (kind_by o past s) (acts_of s (events past)))) (row_holder setting plan w past t s row.0 row.1)
       ∙ ap (λ u. next_in_turn u (next_of_job Calling (acts_of s (events past)))) (t.crewed.tied.handed.turn_is v held at)
       ∙ stage_next held.stage (progress_of row.0.core).next (progress_of row.0.core).number (acts_of s (events past)) as_held.acted
       ∙ sym (next_with_row held row.0 task.0 row.1 task.1)
@@ -214,6 +237,10 @@ module _ (setting : ℕ) (plan : List Bool) (w : Parts) (past : List Moment) (t 
 
   -- a step has an action in the world exactly where it has one by what was seen
   pub has_is : (step : Step) → has_action_in w step ≡ has_action past step
+  has_is (New capacity) = refl
+  has_is (Ask h call) = refl
+  has_is (Own h) = refl
+  has_is (DropOwner h) = refl
   has_is Spawn = refl
   has_is (OfTask k call) = calls_by k call (slice_get w.tasks k) refl
   has_is Arrive =
@@ -301,6 +328,18 @@ module _ (setting : ℕ) (plan : List Bool) (w : Parts) (past : List Moment) (t 
   own_due worker_action.Wake n step is = refl
   own_due _ n step is = absurd cc
 
+  -- what stands somewhere is no owner's
+  no_owner : (s : ℕ) (row : Row) → row_of w.rows s ≡ Some row → None ≡ owner_of (Some s) past
+  no_owner s row found = ap as_owner (sym (row_holder setting plan w past t s row found))
+
+  front_owned : (turn : JobNumber) (ticket : Ticket) (to_drop : Bool) (growth : Growth) (pool : JobPool) → TakesFront (IsPlanned plan) w.crew.pool turn ticket to_drop growth pool → None ≡ owner_of (Some turn.serial) past
+  front_owned turn ticket to_drop growth pool takes =
+      let row = row_stands w past turn.serial t.rowed (ap is_some (front_stands setting plan w.crew past t.crewed (IsPlanned plan) turn ticket to_drop growth pool takes)) in
+      no_owner turn.serial row.0 row.1
+
+  held_owned : (v : ℕ) (held : Held) → hand_at w.crew.hands v ≡ Holds held → None ≡ owner_of (Some held.turn.serial) past
+  held_owned v held at = let row = hand_row setting plan w past t v held at in no_owner held.turn.serial row.0 row.1
+
   step_acts : (v : ℕ) (held : Held) (row : Row) (task : Task) (step : TaskStep) → IsInHand w v held row task → IsNext step held row → StepLaw past (moment_of w (Acts v held row task step))
   step_acts v held row task (IsCalled call) i next = absurd next
   step_acts v held row task (IsAnswered n) i next =
@@ -308,28 +347,28 @@ module _ (setting : ℕ) (plan : List Bool) (w : Parts) (past : List Moment) (t 
         act = happened past (Io v (Number n)) (act_of (IsAnswered n) task) (due_next (Io v (Number n)) v is_awaiting held row task refl i (ap is_awaiting next)) refl refl;
         by = refl;
         of = sym (in_hand_is v held i.holds);
-        owned = refl;
+        owned = no_owner held.turn.serial row i.has_row;
       }
   step_acts v held row task (Finishes n) i next =
       record {
         act = happened past (Job v) (act_of (Finishes n) task) (due_next (Job v) v is_own held row task refl i (own_due (next_of held.stage row.core) _ (Finishes n) next)) refl (refl, refl);
         by = refl;
         of = sym (in_hand_is v held i.holds);
-        owned = refl;
+        owned = no_owner held.turn.serial row i.has_row;
       }
   step_acts v held row task GivesUp i next =
       record {
         act = happened past (Job v) (act_of GivesUp task) (due_next (Job v) v is_own held row task refl i (own_due (next_of held.stage row.core) _ GivesUp next)) refl (refl, refl);
         by = refl;
         of = sym (in_hand_is v held i.holds);
-        owned = refl;
+        owned = no_owner held.turn.serial row i.has_row;
       }
   step_acts v held row task CallsWaker i next =
       record {
         act = happened past (Job v) (act_of CallsWaker task) (due_next (Job v) v is_own held row task refl i (own_due (next_of held.stage row.core) _ CallsWaker next)) refl (refl, refl);
         by = refl;
         of = sym (in_hand_is v held i.holds);
-        owned = refl;
+        owned = no_owner held.turn.serial row i.has_row;
       }
 
   -- the steps that are the crew's alone
@@ -340,12 +379,12 @@ module _ (setting : ℕ) (plan : List Bool) (w : Parts) (past : List Moment) (t 
       let next : length w.crew.hands + 1 ≡ 1 + arrivals past = omega (arith, many) in
       record { act = happened past Arrive _ (due Arrive has) refl (ap Arrived next); by = ap Worker next; of = refl; owned = refl }
   step_passes (crew.TakesJob v old true turn ticket growth pool) passes may =
-      record { act = happened past (Take v) _ (due (Take v) (ap is_free_hand may.0)) refl refl; by = refl; of = refl; owned = refl }
+      record { act = happened past (Take v) _ (due (Take v) (ap is_free_hand may.0)) refl refl; by = refl; of = refl; owned = front_owned turn ticket true growth pool may.1 }
   step_passes (crew.TakesJob v old false turn ticket growth pool) passes may =
-      record { act = happened past (Take v) _ (due (Take v) (ap is_free_hand may.0)) refl refl; by = refl; of = refl; owned = refl }
+      record { act = happened past (Take v) _ (due (Take v) (ap is_free_hand may.0)) refl refl; by = refl; of = refl; owned = front_owned turn ticket false growth pool may.1 }
   step_passes (crew.TakesNone v old pass) passes may = record { act = happened past (Take v) _ (due (Take v) (ap is_free_hand may.0)) refl refl; by = refl; of = refl; owned = refl }
   step_passes (crew.EndsTurn v held pass) passes may =
-      record { act = happened past (End v) _ (due (End v) passes) refl (in_hand_is v held may.0); by = refl; of = sym (in_hand_is v held may.0); owned = refl }
+      record { act = happened past (End v) _ (due (End v) passes) refl (in_hand_is v held may.0); by = refl; of = sym (in_hand_is v held may.0); owned = held_owned v held may.0 }
   step_passes (crew.HasWaited v pass Woken (Stay back) growth pool) passes may =
       record { act = happened past (Wait v) _ (due (Wait v) (ap is_free_hand may.0)) refl (refl, refl); by = refl; of = refl; owned = refl }
   step_passes (crew.HasWaited v pass Woken Stop growth pool) passes may =

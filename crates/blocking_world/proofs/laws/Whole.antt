@@ -1,18 +1,13 @@
 -- Each move keeps the ties and the laws: so every world is lawful.
 use Rattle.std.proofs.Common.{◌≡◌, ◌<◌, ◌-◌, ◌==◌, ℕ, List, [], ◌∷◌, Bool, true, false, refl, sym, ap, ◌∙◌, subst, arith, Option, Some, None, if◌then◌else◌}
 use Rattle.std.specs.Prelude.{Result, Ok, Err, slice_get}
-use Rattle.std.specs.FinMap as map
-use Rattle.std.specs.Ordering.{nat_cmp}
 use Rattle.blocking_pool.specs.Jobs.{JobNumber}
 use Rattle.blocking_pool.specs.Limits.{limit_of_setting, limit_by, number_of}
 use Rattle.blocking_pool.specs.Pools.{empty_pool}
 use Rattle.blocking_pool.specs.declared.pool.answer.Waited.TheVariants.{Stay, Stop}
-use Rattle.blocking_crew.specs.Crews.{Crew, IsReady, free_hands, busy_hands, hand_at, hand_in}
+use Rattle.blocking_crew.specs.Crews.{Crew, free_hands, busy_hands}
 use Rattle.blocking_crew.specs.Moves as crew
-use Rattle.blocking_crew.specs.Tickets.{is_valued}
 use Rattle.blocking_crew.specs.Ties.{CrewHolds, IsAsked, IsNumberOf, Served}
-use Rattle.blocking_crew.specs.declared.hand.Hand.{Hand}
-use Rattle.blocking_crew.specs.declared.hand.Hand.TheVariants.{Out, Holds}
 use Rattle.blocking_crew.proofs.laws.Service.{served_after}
 use Rattle.blocking_crew.proofs.laws.Staffing.{holding, staffed, as_seen}
 use Rattle.blocking_crew.proofs.laws.Whole.{holds_after, holds_aside, begins}
@@ -177,27 +172,11 @@ no_row s = by (s == 0) (slice_get [] (s - 1)) refl
     by true o none = refl
     by false o none = none
 
-no_hand : (v : ℕ) → hand_at [] v ≡ Out
-no_hand v = by (v == 0)
-  where
-    by : (b : Bool) → (if b then Out else hand_in None) ≡ Out
-    by true = refl
-    by false = refl
-
--- its crew's calls may be made
-ready : (setting : ℕ) → IsReady (first_world setting).crew
-ready setting = record {
-  idle = refl;
-  runs = λ v held at. let out : Out ≡ Holds held = sym (no_hand v) ∙ at in absurd cc;
-  apart = λ v u one other at there same. let out : Out ≡ Holds one = sym (no_hand v) ∙ at in absurd cc;
-  valued = λ s. ap is_valued (map.get-empty nat_cmp s);
-}
-
 -- a new world is lawful
 pub begins_lawful : (setting : ℕ) (plan : List Bool) → 0 < setting → IsLawful setting plan (first_world setting) []
 begins_lawful setting plan positive = record {
   tied = record {
-    crewed = begins setting plan (ready setting);
+    crewed = begins setting plan;
     tasked = record { count = refl; there = λ k s held. cc; once = λ k s u one other. cc; each = λ k s task held there. cc; unborn = λ k s beyond none. refl };
     rowed = record {
       count = refl;

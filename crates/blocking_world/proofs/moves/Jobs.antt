@@ -1,6 +1,6 @@
 -- What a step does at the row and at the task of the job in a worker's hand.
 use Rattle.std.proofs.Common.{◌≡◌, ℕ, ◌-◌, ◌<◌, List, length, Bool, true, false, refl, sym, ap, ◌∙◌, subst, Option, Some, None}
-use Rattle.std.specs.Prelude.{nat_lt, slice_index_or, slice_get, slice_set, is_some, option_map}
+use Rattle.std.specs.Prelude.{◌&&◌, nat_lt, slice_index_or, slice_get, slice_set, is_some, option_map}
 use Rattle.std.proofs.lemmas.Bool.{ltb-true}
 use Rattle.std.proofs.lemmas.Option.{slice_get_within, slice_get_read}
 use Rattle.blocking_crew.specs.Crews.{Crew, hand_at, may_act}
@@ -18,9 +18,9 @@ use Rattle.blocking_laws.specs.declared.event.Act.TheVariants.{Answered}
 use Rattle.blocking_laws.specs.declared.event.Event.{Event}
 use Rattle.blocking_laws.specs.declared.event.Party.TheVariants.{Worker}
 use Rattle.blocking_laws.specs.declared.step.Answer.{Answer}
-use Rattle.blocking_laws.specs.declared.step.Answer.TheVariants.{Number}
+use Rattle.blocking_laws.specs.declared.step.Answer.TheVariants.{Number, Gave, Failed}
 use Rattle.blocking_laws.specs.declared.step.Step.TheVariants.{Job, Io}
-use Rattle.blocking_world.specs.Moves.{Moves, Idles, Acts, IsInHand, IsNext, work_step, after}
+use Rattle.blocking_world.specs.Moves.{Moves, Idles, Acts, IsInHand, IsNext, is_number, work_step, after}
 use Rattle.blocking_world.specs.Rows.{place_of, progress_of, next_of, own_step, step_by, row_after, row_after_own, row_after_answer, task_after_own}
 use Rattle.blocking_world.specs.Worlds.{Parts, row_of, job_at, job_in, job_by, job_if, next_is, is_own, is_awaiting}
 use Rattle.blocking_world.specs.declared.parts.JobAt.{JobAt}
@@ -235,7 +235,16 @@ job_waits w v job old_row new_row old_task new_task e is at_row at_task none row
 
 pub io_rests : (w : Parts) (v : ℕ) (answer : Answer) (e : Event) (found : Option JobAt) → job_at w v ≡ found → next_is is_awaiting found ≡ false → e ≡ nothing (Worker v) (next_start w.crew) → Moves NeverAsked (Io v answer) w e w
 io_rests w v answer e found at none event =
-    record { move = Idles (Io v answer); may = ap (next_is is_awaiting) at ∙ none; crew_may = tt; step_is = refl; event_is = event; after_is = refl }
+    record { move = Idles (Io v answer); may = none_is answer (ap (next_is is_awaiting) at ∙ none); crew_may = tt; step_is = refl; event_is = event; after_is = refl }
+  where
+    none_is : (a : Answer) → next_is is_awaiting (job_at w v) ≡ false → (is_number a && next_is is_awaiting (job_at w v)) ≡ false
+    none_is (Number n) is = is
+    none_is (Gave bytes) is = refl
+    none_is (Failed why) is = refl
+
+pub io_other : (w : Parts) (v : ℕ) (answer : Answer) (e : Event) → is_number answer ≡ false → e ≡ nothing (Worker v) (next_start w.crew) → Moves NeverAsked (Io v answer) w e w
+io_other w v answer e none event =
+    record { move = Idles (Io v answer); may = ap (λ b. b && next_is is_awaiting (job_at w v)) none; crew_may = tt; step_is = refl; event_is = event; after_is = refl }
 
 pub not_awaiting : (next : WorkerAction) → (next ≡ worker_action.Await → ⊥) → is_awaiting next ≡ false
 not_awaiting worker_action.Await never = absurd (never refl)
@@ -268,14 +277,16 @@ io_answers w v n job old_row new_row e new is awaits at_row row_is moves =
           ∙ ap (λ (l : List Task). record { crew = (after w (Acts v h.held h.row h.task (IsAnswered n))).crew; rows = (after w (Acts v h.held h.row h.task (IsAnswered n))).rows; tasks = l }) tasks_same;
     }
 
--- an answer is a number
-pub answer_only : (a : Answer) → (n : ℕ) × (a ≡ Number n)
-answer_only (Number n) = (n, refl)
-
--- The call of the job gave what the step says.
+-- The call of the job gave this number.
 pub io_does : (w : Parts) (v : ℕ) {answer : Answer} {n : ℕ} {job : JobAt} {old_row new_row : Row} {e : Event} {new : Crew} → answer ≡ Number n → Some job ≡ job_at w v → job.next ≡ worker_action.Await
-    → old_row ≡ slice_index_or w.rows job.row old_row → new_row ≡ row_after_answer n old_row → crew.Moves NeverAsked (crew.Work v (Answered answer)) w.crew e new
+    → old_row ≡ slice_index_or w.rows job.row old_row → new_row ≡ row_after_answer n old_row → crew.Moves NeverAsked (crew.Work v (Answered (Number n))) w.crew e new
     → Moves NeverAsked (Io v answer) w e (record { crew = new; rows = slice_set w.rows job.row new_row; tasks = w.tasks })
 io_does w v {answer} {n} {job} {old_row} {new_row} {e} {new} said is awaits at_row row_is moves =
     subst (λ a. Moves NeverAsked (Io v a) w e (record { crew = new; rows = slice_set w.rows job.row new_row; tasks = w.tasks })) (sym said)
-    (io_answers w v n job old_row new_row e new is awaits at_row row_is (subst (λ a. crew.Moves NeverAsked (crew.Work v (Answered a)) w.crew e new) said moves))
+    (io_answers w v n job old_row new_row e new is awaits at_row row_is moves)
+
+-- no call gives this
+pub not_number : (answer : Answer) → ((n : ℕ) → answer ≡ Number n → ⊥) → is_number answer ≡ false
+not_number (Number n) never = absurd (never n refl)
+not_number (Gave bytes) never = refl
+not_number (Failed why) never = refl

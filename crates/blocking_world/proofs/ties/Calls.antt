@@ -19,7 +19,7 @@ use Rattle.blocking_laws.specs.declared.event.Act.{Act}
 use Rattle.blocking_laws.specs.declared.event.Act.TheVariants.{TaskCancelled, TaskDetached, HolderDropped}
 use Rattle.blocking_laws.specs.declared.event.Moment.{Moment}
 use Rattle.blocking_laws.specs.declared.event.Party.{Party}
-use Rattle.blocking_laws.specs.declared.event.Party.TheVariants.{Task as ByTask, Worker, Pool}
+use Rattle.blocking_laws.specs.declared.event.Party.TheVariants.{Owner, Task as ByTask, Worker, Pool}
 use Rattle.blocking_laws.specs.declared.step.Step.{Step}
 use Rattle.blocking_laws.specs.declared.step.Step.TheVariants.{OfTask}
 use Rattle.blocking_laws.specs.declared.step.TaskCall.{TaskCall}
@@ -37,6 +37,7 @@ use Rattle.blocking_world.proofs.ties.Rows.{numbers, same_tasks}
 holder_of : (k : ℕ) (o : Option Party) → is_holder o (ByTask k) ≡ true → o ≡ Some (ByTask k)
 holder_of k None is = absurd cc
 holder_of k (Some (ByTask j)) is = ap (λ n. Some (ByTask n)) (sym (eqb-true k j is))
+holder_of k (Some (Owner h)) is = absurd cc
 holder_of k (Some (Worker v)) is = absurd cc
 holder_of k (Some Pool) is = absurd cc
 

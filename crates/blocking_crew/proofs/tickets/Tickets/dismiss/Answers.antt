@@ -1,4 +1,4 @@
-use Rattle.std.proofs.Common.{◌≡◌, true, refl, arith}
+use Rattle.std.proofs.Common.{true, arith}
 use Rattle.blocking_crew.proofs.growth.Sweeps.{stop_levels, stay_levels}
 use Rattle.blocking_crew.proofs.tickets.Tickets.dismiss.Goals as goal
 

@@ -1,4 +1,4 @@
-use Rattle.std.proofs.Common.{◌≡◌, true, refl, arith}
+use Rattle.std.proofs.Common.{true, refl, arith}
 use Rattle.blocking_crew.proofs.growth.Sweeps.{stop_levels, no_stay}
 use Rattle.blocking_crew.proofs.tickets.Tickets.dismiss_swept.Goals as goal
 

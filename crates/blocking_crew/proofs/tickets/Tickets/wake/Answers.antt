@@ -1,7 +1,7 @@
 use Rattle.std.proofs.Common.{◌≡◌, ap, ◌∙◌, subst, arith}
 use Rattle.blocking_pool.specs.Jobs.{JobNumber}
 use Rattle.blocking_pool.specs.declared.pool.answer.Woke.TheVariants.{Entered}
-use Rattle.blocking_crew.specs.Tickets.{JobPool, Wakes, Cancels}
+use Rattle.blocking_crew.specs.Tickets.{JobPool, Wakes}
 use Rattle.blocking_pool.specs.Starters.{asked}
 use Rattle.blocking_crew.proofs.growth.Reads.{read_as}
 use Rattle.blocking_crew.proofs.growth.Again.{woke_grew, woke_so}

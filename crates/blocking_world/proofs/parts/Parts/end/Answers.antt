@@ -10,14 +10,14 @@ pub returns-in_default : goal.returns-in_default
 returns-in_default c =
     let found = ap (λ (p : Parts). job_at p c.args.worker) c.self.view_is ∙ sym c.in_default.ensures in
     rw (sym c.self.view_is)
-    (idled NeverAsked (the_view c.self.inside) (End c.args.worker) c.nothing.result c.self.inside.crew (ap (next_is is_ending) found) c.nothing.ensures refl)
+    (idled NeverAsked (the_view c.self.inside) (End c.args.worker) c.nothing.result c.self.inside.crew (ap (next_is is_ending) found) c.nothing.ensures.event refl)
 
 pub returns-in_default-next : goal.returns-in_default-next
 returns-in_default-next c =
     let found = ap (λ (p : Parts). job_at p c.args.worker) c.self.view_is ∙ sym c.in-Some.ensures in
     rw (sym c.self.view_is)
     (idled NeverAsked (the_view c.self.inside) (End c.args.worker) c.nothing-in_default-next.result c.self.inside.crew
-    (ap (next_is is_ending) found ∙ not_ending c.in-Some.job.next c.in_default-next.not-End) c.nothing-in_default-next.ensures refl)
+    (ap (next_is is_ending) found ∙ not_ending c.in-Some.job.next c.in_default-next.not-End) c.nothing-in_default-next.ensures.event refl)
 
 pub returns : goal.returns
 returns c =

@@ -2,19 +2,19 @@ use Rattle.std.proofs.Common.{refl, sym, ap, ◌∙◌, arith}
 use Rattle.blocking_laws.specs.declared.step.Answer.TheVariants.{Number}
 use Rattle.blocking_world.specs.Worlds.{Parts, job_at}
 use Rattle.blocking_world.specs.contracts.parts.Parts.{the_view}
-use Rattle.blocking_world.proofs.moves.Jobs.{row_within, io_rests, io_does, not_awaiting, answer_only}
+use Rattle.blocking_world.proofs.moves.Jobs.{row_within, io_rests, io_does, not_awaiting}
 use Rattle.blocking_world.proofs.parts.Parts.io.Goals as goal
 
 pub returns-in_default : goal.returns-in_default
 returns-in_default c =
     let found = ap (λ (p : Parts). job_at p c.args.worker) c.self.view_is ∙ sym c.in_default.ensures in
-    rw (sym c.self.view_is) (io_rests (the_view c.self.inside) c.args.worker c.args.answer c.nothing.result _ found refl c.nothing.ensures)
+    rw (sym c.self.view_is) (io_rests (the_view c.self.inside) c.args.worker c.args.answer.now c.nothing.result _ found refl c.nothing.ensures.event)
 
 pub returns-in_default-next : goal.returns-in_default-next
 returns-in_default-next c =
     let found = ap (λ (p : Parts). job_at p c.args.worker) c.self.view_is ∙ sym c.in-Some.ensures in
     rw (sym c.self.view_is)
-    (io_rests (the_view c.self.inside) c.args.worker c.args.answer c.nothing-in_default-next.result _ found (not_awaiting c.in-Some.job.next c.in_default-next.not-Await) c.nothing-in_default-next.ensures)
+    (io_rests (the_view c.self.inside) c.args.worker c.args.answer.now c.nothing-in_default-next.result _ found (not_awaiting c.in-Some.job.next c.in_default-next.not-Await) c.nothing-in_default-next.ensures.event)
 
 pub index_mut-requires : goal.index_mut-requires
 index_mut-requires c =
@@ -26,6 +26,5 @@ index_mut-requires c =
 pub returns : goal.returns
 returns c =
     let found = c.in-Some.ensures ∙ ap (λ (p : Parts). job_at p c.args.worker) (sym c.self.view_is) in
-    let answer = answer_only c.args.answer in
     rw (sym c.self.view_is)
-    (io_does (the_view c.self.inside) c.args.worker answer.1 found c.in-Await.is c.index_mut.ensures.value (rw answer.1 at c.answer.ensures) c.work.ensures)
+    (io_does (the_view c.self.inside) c.args.worker c.in-Number.is found c.in-Await.is c.index_mut.ensures.value c.answer.ensures c.work.ensures)

@@ -12,7 +12,7 @@ use Rattle.blocking_world.proofs.parts.Parts.of_task.Goals as goal
 pub returns-then-not-may : goal.returns-then-not-may
 returns-then-not-may c =
     let none = ap (λ (p : Parts). may_call_in (slice_get p.tasks c.args.number) c.args.call) c.self.view_is ∙ sym c.if-not-may.ensures in
-    rw (sym c.self.view_is) (idled NeverAsked (the_view c.self.inside) (OfTask c.args.number c.args.call) c.nothing.result c.self.inside.crew none c.nothing.ensures refl)
+    rw (sym c.self.view_is) (idled NeverAsked (the_view c.self.inside) (OfTask c.args.number c.args.call) c.nothing.result c.self.inside.crew none c.nothing.ensures.event refl)
 
 pub index_mut-task-requires : goal.index_mut-task-requires
 index_mut-task-requires c =

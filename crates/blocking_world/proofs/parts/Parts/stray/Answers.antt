@@ -10,7 +10,7 @@ pub returns-in_default : goal.returns-in_default
 returns-in_default g c =
     let found = ap (λ (p : Parts). row_of p.rows c.args.serial) c.self.view_is ∙ sym c.in_default.ensures in
     rw (sym c.self.view_is)
-    (idled (g.S.Starter.may_answer c.args.starter.now) (the_view c.self.inside) (Stray c.args.serial) c.nothing.result c.self.inside.crew (ap is_some found) c.nothing.ensures refl)
+    (idled (g.S.Starter.may_answer c.args.starter.now) (the_view c.self.inside) (Stray c.args.serial) c.nothing.result c.self.inside.crew (ap is_some found) c.nothing.ensures.event refl)
 
 pub returns : goal.returns
 returns g c =

@@ -11,7 +11,7 @@ returns-in_default g c =
     let found = ap (λ (p : Parts). row_of p.rows c.args.serial) c.self.view_is ∙ sym c.in_default.ensures in
     rw (sym c.self.view_is)
     (idled (g.S.Starter.may_answer c.args.starter.now) (the_view c.self.inside) (Strike c.args.serial) c.nothing.result c.self.inside.crew
-    (ap (let_go_by (the_view c.self.inside).tasks) found) c.nothing.ensures refl)
+    (ap (let_go_by (the_view c.self.inside).tasks) found) c.nothing.ensures.event refl)
 
 pub returns-then-not-has_let_go : goal.returns-then-not-has_let_go
 returns-then-not-has_let_go g c =
@@ -19,7 +19,7 @@ returns-then-not-has_let_go g c =
     let found = ap (λ (p : Parts). row_of p.rows c.args.serial) c.self.view_is ∙ sym c.in-Some.ensures in
     let none = ap (λ k. let_go_in (slice_get w.tasks k)) (sym c.task.ensures) ∙ ap (λ (p : Parts). let_go_in (slice_get p.tasks c.task.result)) c.self.view_is ∙ sym c.if-not-has_let_go.ensures in
     rw (sym c.self.view_is)
-    (idled (g.S.Starter.may_answer c.args.starter.now) w (Strike c.args.serial) c.nothing-then-not-has_let_go.result c.self.inside.crew (ap (let_go_by w.tasks) found ∙ none) c.nothing-then-not-has_let_go.ensures refl)
+    (idled (g.S.Starter.may_answer c.args.starter.now) w (Strike c.args.serial) c.nothing-then-not-has_let_go.result c.self.inside.crew (ap (let_go_by w.tasks) found ∙ none) c.nothing-then-not-has_let_go.ensures.event refl)
 
 pub returns : goal.returns
 returns g c =

@@ -1,4 +1,4 @@
-//! What starts the workers of a world: a plan says which starts are refused.
+//! What starts the workers of a crew: a plan says which starts are refused.
 ghost use Rattle.std.specs.Prelude.{◌≡◌, ◌<◌, ◌+◌, ℕ};
 
 use blocking_core::pool::{StartRefused, Starter};
@@ -40,13 +40,14 @@ impl<L: Ledger> Refusals<L> {
 
 /// Refuses the starts that a plan refuses, which begins with start 1. Beyond its end no start is refused.
 #[derive(Drop)]
-pub(crate) struct PlannedStarts<'a, L: Ledger> {
+pub struct PlannedStarts<'a, L: Ledger> {
     plan: &'a [bool],
     refusals: Refusals<L>,
 }
 
 impl<'a, L: Ledger> PlannedStarts<'a, L> {
-    pub(crate) fn new(plan: &'a [bool], blank: Blank) -> Self
+    /// Starts by this plan: of each start whether it is refused.
+    pub fn new(plan: &'a [bool], blank: Blank) -> Self
         requires name { blank.name ≡ L.name }
         requires parts { blank.parts ≡ L.parts }
         requires some { 0 < L.parts }
@@ -78,12 +79,13 @@ impl<'a, L: Ledger> Starter for PlannedStarts<'a, L> {
 
 /// Refuses every start.
 #[derive(Drop)]
-pub(crate) struct NoStarts<L: Ledger> {
+pub struct NoStarts<L: Ledger> {
     refusals: Refusals<L>,
 }
 
 impl<L: Ledger> NoStarts<L> {
-    pub(crate) fn new(blank: Blank) -> Self
+    /// No start at all.
+    pub fn new(blank: Blank) -> Self
         requires name { blank.name ≡ L.name }
         requires parts { blank.parts ≡ L.parts }
         requires some { 0 < L.parts }

@@ -1,0 +1,219 @@
+-- Each call of a crew is a move, by what its parts did.
+use Rattle.std.proofs.Common.{◌≡◌, ◌-◌, ◌<◌, nat_lt, ℕ, Bool, true, false, List, if◌then◌else◌, ap, sym, subst, refl, ◌∙◌, arith, Option, Some, None}
+use Rattle.std.specs.Prelude.{is_some}
+use Rattle.std.proofs.lemmas.Bool.Decides.{nat_tests}
+use Rattle.blocking_pool.specs.Counts.{after_arrival}
+use Rattle.blocking_pool.specs.Growth.{Growth}
+use Rattle.blocking_pool.specs.Pools.{without_job}
+use Rattle.blocking_pool.specs.declared.pool.answer.Took.{Took}
+use Rattle.blocking_pool.specs.declared.pool.answer.Took.TheVariants.{Run, Drop, Idle}
+use Rattle.blocking_pool.specs.declared.pool.answer.Waited.{Waited}
+use Rattle.blocking_pool.specs.declared.pool.token.WorkerPass.{WorkerPass}
+use Rattle.blocking_laws.specs.Answers.{wait_act}
+use Rattle.blocking_laws.specs.Seen.{has_timed_out}
+use Rattle.blocking_laws.specs.declared.event.Act.{Act}
+use Rattle.blocking_laws.specs.declared.event.Act.TheVariants.{Arrived, Ended}
+use Rattle.blocking_laws.specs.declared.event.Event.{Event}
+use Rattle.blocking_laws.specs.declared.event.Party.TheVariants.{Worker, Pool}
+use Rattle.blocking_laws.specs.declared.event.WaitEnd.{WaitEnd}
+use Rattle.blocking_crew.specs.Crews.{Crew, IsReady, Joins, hand_at, hand_of, with_hand, is_free_hand, pass_in, held_if, over_in, waiting_in, is_waiting, may_end, may_act, acting_in, hand_after_act, outcome_of, standing_after}
+use Rattle.blocking_crew.specs.Moves.{Call, Take, Work, End, Park, Wait, Arrive, Idles, Arrives, TakesJob, TakesNone, Works, EndsTurn, Parks, HasWaited, Moves, has_action, named, next_start, seen, nothing, job_of_take, act_of_take, hand_after_take, parked_act, hand_after_park, hand_after_wait, is_stop}
+use Rattle.blocking_crew.specs.Tickets.{JobPool, no_growth, TakesTo, WaitsSo, ParksSo}
+use Rattle.blocking_crew.specs.declared.hand.Hand.{Hand}
+use Rattle.blocking_crew.specs.declared.hand.Hand.TheVariants.{Out, Free, Holds}
+use Rattle.blocking_crew.specs.declared.hand.Held.{Held}
+use Rattle.blocking_crew.specs.declared.hand.Stage.{Stage}
+use Rattle.blocking_crew.specs.declared.hand.Stage.TheVariants as stage
+use Rattle.blocking_crew.specs.declared.ticket.Ticket.{Ticket}
+use Rattle.blocking_crew.specs.declared.tickets.Parking.{Parking}
+use Rattle.blocking_crew.proofs.hands.Lent.{pass_is, held_is, is_out, set_twice}
+use Rattle.blocking_crew.proofs.hands.Rows.{at_free, at_held}
+use Rattle.blocking_crew.proofs.ready.Hands.{one_free}
+
+-- ---- a call without an action
+
+pub idles : (may_answer : ℕ → Bool → Type 0) (call : Call) (crew : Crew) (hands : List Hand) {first : ℕ} {event : Event} → has_action crew call ≡ false → hands ≡ crew.hands
+    → first ≡ next_start crew → event ≡ nothing (named call) first → Moves may_answer call crew event (record { pool = crew.pool; hands = hands })
+idles may_answer call crew hands none same start event = record {
+  move = Idles call;
+  may = none;
+  call_is = refl;
+  event_is = event ∙ ap (nothing (named call)) start;
+  after_is = ap (λ (row : List Hand). record crew { hands = row }) same;
+}
+
+no_pass : (hand : Hand) → None ≡ pass_in hand → is_free_hand hand ≡ false
+no_pass Out none = refl
+no_pass (Free pass) none = absurd cc
+no_pass (Holds held) none = refl
+
+-- a worker that isn't idle takes nothing
+pub take_idles : (may_answer : ℕ → Bool → Type 0) (crew : Crew) (v : ℕ) (hands : List Hand) {first : ℕ} {event : Event} → None ≡ pass_in (hand_at crew.hands v) → hands ≡ crew.hands
+    → first ≡ next_start crew → event ≡ nothing (Worker v) first → Moves may_answer (Take v) crew event (record { pool = crew.pool; hands = hands })
+take_idles may_answer crew v hands none same start event = idles may_answer (Take v) crew hands (no_pass (hand_at crew.hands v) none) same start event
+
+-- and doesn't wait
+pub wait_idles : (may_answer : ℕ → Bool → Type 0) (crew : Crew) (v : ℕ) (end : WaitEnd) (hands : List Hand) {first : ℕ} {event : Event} → None ≡ pass_in (hand_at crew.hands v) → hands ≡ crew.hands
+    → first ≡ next_start crew → event ≡ nothing (Worker v) first → Moves may_answer (Wait v end) crew event (record { pool = crew.pool; hands = hands })
+wait_idles may_answer crew v end hands none same start event = idles may_answer (Wait v end) crew hands (no_pass (hand_at crew.hands v) none) same start event
+
+-- no turn may end
+pub end_idles : (may_answer : ℕ → Bool → Type 0) (crew : Crew) (v : ℕ) (hands : List Hand) {first : ℕ} {event : Event} → None ≡ over_in (hand_at crew.hands v) → hands ≡ crew.hands
+    → first ≡ next_start crew → event ≡ nothing (Worker v) first → Moves may_answer (End v) crew event (record { pool = crew.pool; hands = hands })
+end_idles may_answer crew v hands none same start event = idles may_answer (End v) crew hands (ap is_some (sym none)) same start event
+
+-- no job waits
+pub park_idles : (may_answer : ℕ → Bool → Type 0) (crew : Crew) (v : ℕ) (ticket : Ticket) (hands : List Hand) {first : ℕ} {event : Event} → None ≡ waiting_in (hand_at crew.hands v) → hands ≡ crew.hands
+    → first ≡ next_start crew → event ≡ nothing (Worker v) first → Moves may_answer (Park v ticket) crew event (record { pool = crew.pool; hands = hands })
+park_idles may_answer crew v ticket hands none same start event = idles may_answer (Park v ticket) crew hands (ap is_some (sym none)) same start event
+
+-- no job may act so
+pub work_idles : (may_answer : ℕ → Bool → Type 0) (crew : Crew) (v : ℕ) (act : Act) (hands : List Hand) {first : ℕ} {event : Event} → None ≡ acting_in (hand_at crew.hands v) act → hands ≡ crew.hands
+    → first ≡ next_start crew → event ≡ nothing (Worker v) first → Moves may_answer (Work v act) crew event (record { pool = crew.pool; hands = hands })
+work_idles may_answer crew v act hands none same start event = idles may_answer (Work v act) crew hands (ap is_some (sym none)) same start event
+
+-- ---- a hand that was let out and filled
+
+module _ (row out : List Hand) (v : ℕ) (outs : out ≡ with_hand row v Out) where
+  pub refilled : (hands : List Hand) (hand : Hand) → hands ≡ with_hand out v hand → hands ≡ with_hand row v hand
+  refilled hands hand is = is ∙ ap (λ (r : List Hand). with_hand r v hand) outs ∙ set_twice row (v - 1) Out hand
+
+  -- a pass was taken out
+  pub pass_is_out : (pass : WorkerPass) → Some pass ≡ pass_in (hand_at row v) → hand_of out v ≡ Some Out
+  pass_is_out pass is = ap (λ (r : List Hand). hand_of r v) outs ∙ is_out row v (Free pass) (at_free row v pass (pass_is (hand_at row v) pass is))
+
+  -- a job was taken out
+  pub held_is_out : (test : Stage → Bool) (held : Held) → Some held ≡ held_if test (hand_at row v) → hand_of out v ≡ Some Out
+  held_is_out test held is = ap (λ (r : List Hand). hand_of r v) outs ∙ is_out row v (Holds held) (at_held row v held (held_is test (hand_at row v) held is).0)
+
+-- whose pass it is
+pub pass_free : (crew : Crew) (v : ℕ) (pass : WorkerPass) → IsReady crew → Some pass ≡ pass_in (hand_at crew.hands v) → crew.pool.counts.arriving < crew.pool.counts.idle
+pass_free crew v pass ready is = one_free crew v pass ready (pass_is (hand_at crew.hands v) pass is)
+
+-- ---- takes
+
+takes_by : (may_answer : ℕ → Bool → Type 0) (crew : Crew) (v : ℕ) (old : WorkerPass) (took : Took Ticket) (growth : Growth) (pool : JobPool) (event : Event) (hands : List Hand) → hand_at crew.hands v ≡ Free old
+    → TakesTo may_answer crew.pool took growth pool → event ≡ seen (Worker v) (job_of_take took) (act_of_take took) (next_start crew) growth → hands ≡ with_hand crew.hands v (hand_after_take took)
+    → Moves may_answer (Take v) crew event (record { pool = pool; hands = hands })
+takes_by may_answer crew v old (Run turn ticket) growth pool event hands at takes is after =
+    record { move = TakesJob v old false turn ticket growth pool; may = (at, takes); call_is = refl; event_is = is; after_is = ap (λ (row : List Hand). record { pool = pool; hands = row }) after }
+takes_by may_answer crew v old (Drop turn ticket) growth pool event hands at takes is after =
+    record { move = TakesJob v old true turn ticket growth pool; may = (at, takes); call_is = refl; event_is = is; after_is = ap (λ (row : List Hand). record { pool = pool; hands = row }) after }
+takes_by may_answer crew v old (Idle pass) growth pool event hands at takes is after = record {
+  move = TakesNone v old pass;
+  may = (at, takes.0);
+  call_is = refl;
+  event_is = is ∙ ap (λ (g : Growth). seen (Worker v) None (act_of_take (Idle pass)) (next_start crew) g) takes.1;
+  after_is = ap (λ (p : JobPool). record { pool = p; hands = hands }) takes.2 ∙ ap (λ (row : List Hand). record { pool = crew.pool; hands = row }) after;
+}
+
+pub takes_so : (may_answer : ℕ → Bool → Type 0) (crew : Crew) (v : ℕ) (old : WorkerPass) (took : Took Ticket) (growth : Growth) (pool : JobPool) {out hands : List Hand} {hand : Hand} {job : Option ℕ} {act : Act} {first : ℕ} {event : Event}
+    → Some old ≡ pass_in (hand_at crew.hands v) → out ≡ with_hand crew.hands v Out → TakesTo may_answer crew.pool took growth pool
+    → hand ≡ hand_after_take took → job ≡ job_of_take took → act ≡ act_of_take took → hands ≡ with_hand out v hand → first ≡ next_start crew → event ≡ seen (Worker v) job act first growth
+    → Moves may_answer (Take v) crew event (record { pool = pool; hands = hands })
+takes_so may_answer crew v old took growth pool {out} {hands} {hand} {job} {act} {first} {event} is outs takes hand_is job_is act_is put start event_is =
+    takes_by may_answer crew v old took growth pool event hands (pass_is (hand_at crew.hands v) old is) takes (cc (event_is, job_is, act_is, start))
+    (refilled crew.hands out v outs hands hand put ∙ ap (with_hand crew.hands v) hand_is)
+
+-- ---- waits
+
+pub waits_so : (may_answer : ℕ → Bool → Type 0) (crew : Crew) (v : ℕ) (old : WorkerPass) (end : WaitEnd) (timed_out : Bool) (waited : Waited) (growth : Growth) (pool : JobPool) {out hands : List Hand} {hand : Hand} {act : Act} {first : ℕ} {event : Event}
+    → Some old ≡ pass_in (hand_at crew.hands v) → out ≡ with_hand crew.hands v Out → timed_out ≡ has_timed_out end → WaitsSo may_answer timed_out crew.pool waited growth pool
+    → hand ≡ hand_after_wait waited → act ≡ wait_act v end (is_stop waited) → hands ≡ with_hand out v hand → first ≡ next_start crew → event ≡ seen (Worker v) None act first growth
+    → Moves may_answer (Wait v end) crew event (record { pool = pool; hands = hands })
+waits_so may_answer crew v old end timed_out waited growth pool {out} {hands} {hand} {act} {first} {event} is outs late waits hand_is act_is put start event_is = record {
+  move = HasWaited v old end waited growth pool;
+  may = (pass_is (hand_at crew.hands v) old is, subst (λ (b : Bool). WaitsSo may_answer b crew.pool waited growth pool) late waits);
+  call_is = refl;
+  event_is = cc (event_is, act_is, start);
+  after_is = ap (λ (row : List Hand). record { pool = pool; hands = row }) (refilled crew.hands out v outs hands hand put ∙ ap (with_hand crew.hands v) hand_is);
+}
+
+-- ---- turns
+
+-- what is in a hand runs
+pub held_runs : (crew : Crew) (v : ℕ) (test : Stage → Bool) (held : Held) → Some held ≡ held_if test (hand_at crew.hands v) → hand_at crew.hands v ≡ Holds held
+held_runs crew v test held is = (held_is test (hand_at crew.hands v) held is).0
+
+pub ends_so : (may_answer : ℕ → Bool → Type 0) (crew : Crew) (v : ℕ) (held : Held) (pass : WorkerPass) (pool : JobPool) {out hands : List Hand} {serial : ℕ} {act : Act} {first : ℕ} {event : Event}
+    → Some held ≡ over_in (hand_at crew.hands v) → out ≡ with_hand crew.hands v Out → pool ≡ without_job crew.pool held.turn.serial → serial ≡ held.turn.serial
+    → act ≡ Ended serial (standing_after (outcome_of held.stage)) → hands ≡ with_hand out v (Free pass) → first ≡ next_start crew → event ≡ seen (Worker v) (Some serial) act first no_growth
+    → Moves may_answer (End v) crew event (record { pool = pool; hands = hands })
+ends_so may_answer crew v held pass pool {out} {hands} {serial} {act} {first} {event} is outs left serial_is act_is put start event_is = record {
+  move = EndsTurn v held pass;
+  may = held_is may_end (hand_at crew.hands v) held is;
+  call_is = refl;
+  event_is = cc (event_is, act_is, serial_is, start);
+  after_is = ap (λ (p : JobPool). record { pool = p; hands = hands }) left ∙ ap (λ (row : List Hand). record { pool = without_job crew.pool held.turn.serial; hands = row }) (refilled crew.hands out v outs hands (Free pass) put);
+}
+
+waits_at : (at : Stage) → is_waiting at ≡ true → at ≡ stage.Waits
+waits_at stage.Waits is = refl
+waits_at _ is = absurd cc
+
+pub parks_so : (may_answer : ℕ → Bool → Type 0) (crew : Crew) (v : ℕ) (held : Held) (ticket : Ticket) (parked : Parking) (pool : JobPool) {out hands : List Hand} {hand : Hand} {serial : ℕ} {act : Act} {first : ℕ} {event : Event}
+    → Some held ≡ waiting_in (hand_at crew.hands v) → out ≡ with_hand crew.hands v Out → ParksSo crew.pool held.turn ticket parked pool
+    → hand ≡ hand_after_park parked → serial ≡ held.turn.serial → act ≡ parked_act parked serial → hands ≡ with_hand out v hand → first ≡ next_start crew → event ≡ seen (Worker v) (Some serial) act first no_growth
+    → Moves may_answer (Park v ticket) crew event (record { pool = pool; hands = hands })
+parks_so may_answer crew v held ticket parked pool {out} {hands} {hand} {serial} {act} {first} {event} is outs parks hand_is serial_is act_is put start event_is =
+    let holds = held_is is_waiting (hand_at crew.hands v) held is in
+    record {
+      move = Parks v held ticket parked pool;
+      may = (holds.0, waits_at held.stage holds.1, parks);
+      call_is = refl;
+      event_is = cc (event_is, act_is, serial_is, start);
+      after_is = ap (λ (row : List Hand). record { pool = pool; hands = row }) (refilled crew.hands out v outs hands hand put ∙ ap (with_hand crew.hands v) hand_is);
+    }
+
+acts_by : (may_answer : ℕ → Bool → Type 0) (crew : Crew) (v : ℕ) (hand : Hand) (act : Act) (serial : ℕ) (event : Event) (hands : List Hand) → hand_at crew.hands v ≡ hand → Some serial ≡ acting_in hand act
+    → hands ≡ with_hand crew.hands v (hand_after_act hand act) → event ≡ seen (Worker v) (Some serial) act (next_start crew) no_growth → Moves may_answer (Work v act) crew event (record { pool = crew.pool; hands = hands })
+acts_by may_answer crew v Out act serial event hands at acts after is = absurd cc
+acts_by may_answer crew v (Free pass) act serial event hands at acts after is = absurd cc
+acts_by may_answer crew v (Holds held) act serial event hands at acts after is = by (may_act held.stage act) refl acts
+  where
+    by : (b : Bool) → may_act held.stage act ≡ b → Some serial ≡ (if b then Some held.turn.serial else None) → Moves may_answer (Work v act) crew event (record { pool = crew.pool; hands = hands })
+    by true may acts = record {
+      move = Works v held act;
+      may = (at, may);
+      call_is = refl;
+      event_is = is ∙ ap (λ (job : Option ℕ). seen (Worker v) job act (next_start crew) no_growth) acts;
+      after_is = ap (λ (row : List Hand). record { pool = crew.pool; hands = row }) after;
+    }
+    by false may acts = absurd cc
+
+pub works_so : (may_answer : ℕ → Bool → Type 0) (crew : Crew) (v : ℕ) (act : Act) (serial : ℕ) {first : ℕ} {event : Event} {hands : List Hand} → Some serial ≡ acting_in (hand_at crew.hands v) act
+    → hands ≡ with_hand crew.hands v (hand_after_act (hand_at crew.hands v) act) → first ≡ next_start crew → event ≡ seen (Worker v) (Some serial) act first no_growth
+    → Moves may_answer (Work v act) crew event (record { pool = crew.pool; hands = hands })
+works_so may_answer crew v act serial {first} {event} {hands} acts after start is =
+    acts_by may_answer crew v (hand_at crew.hands v) act serial event hands refl acts after (is ∙ ap (λ (n : ℕ). seen (Worker v) (Some serial) act n no_growth) start)
+
+-- ---- arrivals
+
+arrives_by : (may_answer : ℕ → Bool → Type 0) (crew : Crew) (worker : Option ℕ) (pool : JobPool) (hands : List Hand) (event : Event) → Joins crew.pool crew.hands worker pool hands
+    → ((v : ℕ) → worker ≡ Some v → event ≡ seen (Worker v) None (Arrived v) (next_start crew) no_growth) → (worker ≡ None → event ≡ nothing Pool (next_start crew))
+    → Moves may_answer Arrive crew event (record { pool = pool; hands = hands })
+arrives_by may_answer crew None pool hands event joins some none =
+    let never : nat_lt 0 crew.pool.counts.arriving ≡ false = (let zero = joins.0 in grind (arith, nat_tests, zero)) in
+    record {
+      move = Idles Arrive;
+      may = never;
+      call_is = refl;
+      event_is = none refl;
+      after_is = ap (λ (p : JobPool). record { pool = p; hands = hands }) joins.1 ∙ ap (λ (row : List Hand). record { pool = crew.pool; hands = row }) joins.2;
+    }
+arrives_by may_answer crew (Some v) pool hands event joins some none = record {
+  move = Arrives joins.3.0;
+  may = joins.0;
+  call_is = refl;
+  event_is = some v refl ∙ ap (λ (n : ℕ). seen (Worker n) None (Arrived n) (next_start crew) no_growth) joins.1;
+  after_is =
+      ap (λ (p : JobPool). record { pool = p; hands = hands }) joins.2
+      ∙ ap (λ (row : List Hand). record { pool = record crew.pool { counts = after_arrival crew.pool.counts }; hands = row }) joins.3.1;
+}
+
+pub arrives_so : (may_answer : ℕ → Bool → Type 0) (crew : Crew) (worker : Option ℕ) (pool : JobPool) (hands : List Hand) {first : ℕ} {event : Event} → Joins crew.pool crew.hands worker pool hands
+    → first ≡ next_start crew → ((v : ℕ) → worker ≡ Some v → event ≡ seen (Worker v) None (Arrived v) first no_growth) → (worker ≡ None → event ≡ nothing Pool first)
+    → Moves may_answer Arrive crew event (record { pool = pool; hands = hands })
+arrives_so may_answer crew worker pool hands {first} {event} joins start some none =
+    arrives_by may_answer crew worker pool hands event joins
+    (λ v is. some v is ∙ ap (λ (n : ℕ). seen (Worker v) None (Arrived v) n no_growth) start) (λ is. none is ∙ ap (nothing Pool) start)
