@@ -72,9 +72,9 @@ impl Parts {
     {
         match step {
             Step::New(_) => Ok(self.crew.nothing(Party::Pool)),
-            Step::Ask(owner, _) | Step::Own(owner) | Step::DropOwner(owner) => {
-                Ok(self.crew.nothing(Party::Owner(*owner)))
-            }
+            Step::Ask(owner, _) => Ok(self.crew.nothing(Party::Owner(*owner))),
+            Step::Own(owner) => Ok(self.crew.nothing(Party::Owner(*owner))),
+            Step::DropOwner(owner) => Ok(self.crew.nothing(Party::Owner(*owner))),
             Step::Spawn => self.spawn(starter),
             Step::OfTask(number, call) => Ok(self.of_task(*number, *call)),
             Step::Arrive => self.arrive(),

@@ -21,11 +21,12 @@ use Rattle.blocking_laws.specs.Steps.{named}
 use Rattle.blocking_laws.specs.declared.event.Act.{Act}
 use Rattle.blocking_laws.specs.declared.event.Event.{Event}
 use Rattle.blocking_laws.specs.declared.event.Party.{Party}
-use Rattle.blocking_laws.specs.declared.event.Party.TheVariants.{Pool}
+use Rattle.blocking_laws.specs.declared.event.Party.TheVariants.{Owner, Pool}
 use Rattle.blocking_laws.specs.declared.event.WaitEnd.{WaitEnd}
 use Rattle.blocking_laws.specs.declared.event.WaitEnd.TheVariants.{Woken, TimedOut}
 use Rattle.blocking_laws.specs.declared.step.Step.{Step}
-use Rattle.blocking_laws.specs.declared.step.Step.TheVariants.{Arrive, Take, End, SetLimit, Sweep, Stray, Strike}
+use Rattle.blocking_laws.specs.declared.step.Step.TheVariants.{New, Ask, Own, DropOwner, Arrive, Take, End, SetLimit, Sweep, Stray, Strike}
+use Rattle.blocking_laws.specs.declared.step.HandleCall.{HandleCall}
 use Rattle.blocking_world.specs.Moves.{Move, Idles, Passes, IsWoken, IsStruck, Moves, MayDo, CrewMay, PassesBy, step_by, wait_step, has_action_in, event_of, crew_move}
 use Rattle.blocking_world.specs.Rows.{next_at, place_of, progress_of}
 use Rattle.blocking_world.specs.Worlds.{Parts, row_of, job_at, job_in, job_by, job_if, next_is, is_ending, let_go_of}
@@ -288,3 +289,20 @@ not_ending worker_action.Finish never = refl
 not_ending worker_action.GiveUp never = refl
 not_ending worker_action.Wake never = refl
 not_ending worker_action.Rest never = refl
+
+-- ---- nobody is an owner
+
+idle_step : (may_answer : ℕ → Bool → Type 0) (w : Parts) (step said : Step) (e : Event) → said ≡ step → has_action_in w step ≡ false → e ≡ nothing (named step) (next_start w.crew) → Moves may_answer said w e w
+idle_step may_answer w step said e is none event = subst (λ s. Moves may_answer s w e w) (sym is) (idled may_answer w step e w.crew none event refl)
+
+pub none_made : (may_answer : ℕ → Bool → Type 0) (w : Parts) {said : Step} {capacity : ℕ} {e : Event} → said ≡ New capacity → e ≡ nothing Pool (next_start w.crew) → Moves may_answer said w e w
+none_made may_answer w {said} {capacity} {e} is event = idle_step may_answer w (New capacity) said e is refl event
+
+pub none_asked : (may_answer : ℕ → Bool → Type 0) (w : Parts) {said : Step} {h : ℕ} {call : HandleCall} {e : Event} → said ≡ Ask h call → e ≡ nothing (Owner h) (next_start w.crew) → Moves may_answer said w e w
+none_asked may_answer w {said} {h} {call} {e} is event = idle_step may_answer w (Ask h call) said e is refl event
+
+pub none_polled : (may_answer : ℕ → Bool → Type 0) (w : Parts) {said : Step} {h : ℕ} {e : Event} → said ≡ Own h → e ≡ nothing (Owner h) (next_start w.crew) → Moves may_answer said w e w
+none_polled may_answer w {said} {h} {e} is event = idle_step may_answer w (Own h) said e is refl event
+
+pub none_dropped : (may_answer : ℕ → Bool → Type 0) (w : Parts) {said : Step} {h : ℕ} {e : Event} → said ≡ DropOwner h → e ≡ nothing (Owner h) (next_start w.crew) → Moves may_answer said w e w
+none_dropped may_answer w {said} {h} {e} is event = idle_step may_answer w (DropOwner h) said e is refl event
