@@ -1,6 +1,7 @@
-use Rattle.std.proofs.Common.{◌≡◌, ◌++◌, ◌∷◌, [], List, Result, is_ok, true, if◌then◌else◌, arith, ap, sym, subst, ◌∙◌}
+use Rattle.std.proofs.Common.{◌≡◌, ◌++◌, ◌∷◌, [], List, length, Result, is_ok, true, if◌then◌else◌, arith, ap, sym, subst, ◌∙◌}
 use Rattle.blocking_laws.specs.declared.step.Step.TheVariants.{Spawn}
 use Rattle.blocking_world.specs.Moves.{Moves}
+use Rattle.blocking_world.specs.Rows.{new_row}
 use Rattle.blocking_world.specs.contracts.parts.Parts.{the_view}
 use Rattle.blocking_world.proofs.moves.Calls.{spawn_accepted, spawn_refused, put_last}
 use Rattle.blocking_world.proofs.parts.Parts.spawn.Goals as goal
@@ -10,9 +11,16 @@ pub returns-clause-ok : goal.returns-clause-ok
 returns-clause-ok g c =
     let w = the_view c.self.inside in
     let may_answer = g.S.Starter.may_answer c.args.starter.now in
+    let kept_rows = c.reserve.ensures.items in
+    let room_rows = c.in_ok-reserve.ensures.ok in
+    let kept_tasks = c.reserve-2.ensures.items in
+    let room_tasks = c.in_ok-reserve-2.ensures.ok in
     let done : Moves may_answer Spawn w c.add-added.result.event c.match-added.self = elim c.match-added.branch [
-      | in-Ok b ↦ spawn_accepted may_answer w b.in-Ok.number b.new-row.result b.new.result b.push.new.self.items b.push-2.new.self.items c.add-added.result.event c.add-added.new.self
-          c.add-added.ensures b.new-row.ensures b.new.ensures b.push.ensures.items b.push-2.ensures.items
-      | in-Err b ↦ spawn_refused may_answer w b.in-Err._why c.reserve.new.self.items c.reserve-2.new.self.items c.add-added.result.event c.add-added.new.self c.add-added.ensures c.reserve.ensures.items c.reserve-2.ensures.items
+      | in-Ok b ↦
+          (let rows = put_last b.push.result w.rows c.reserve.new.self.items b.push.new.self.items b.new.result kept_rows (b.push.ensures.succeeds (omega (arith, room_rows))) b.push.ensures.items in
+          let tasks = put_last b.push-in-Ok.result w.tasks c.reserve-2.new.self.items b.push-in-Ok.new.self.items b.new-in-Ok.result kept_tasks (b.push-in-Ok.ensures.succeeds (omega (arith, room_tasks))) b.push-in-Ok.ensures.items in
+          spawn_accepted may_answer w b.in-Ok.number b.new.result b.new-in-Ok.result b.push.new.self.items b.push-in-Ok.new.self.items c.add-added.result.event c.add-added.new.self
+          c.add-added.ensures (b.new.ensures ∙ ap (new_row b.in-Ok.number) (b.len.ensures.value ∙ ap length kept_tasks)) b.new-in-Ok.ensures rows tasks)
+      | in-Err b ↦ spawn_refused may_answer w b.in-Err._why c.reserve.new.self.items c.reserve-2.new.self.items c.add-added.result.event c.add-added.new.self c.add-added.ensures kept_rows kept_tasks
     ] in
     rw (sym c.self.view_is) done
