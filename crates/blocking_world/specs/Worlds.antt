@@ -38,8 +38,8 @@ job_if true held row =
     Some (record { row = held.turn.serial - 1; task = place_of row.holder; stage = held.stage; next = next_of held.stage row.core })
 
 abbrev pub job_by : List Task → Held → Option Row → Option JobAt
-job_by tasks held None = None
-job_by tasks held (Some row) = job_if (nat_lt (place_of row.holder) (length tasks)) held row
+job_by all held None = None
+job_by all held (Some row) = job_if (nat_lt (place_of row.holder) (length all)) held row
 
 abbrev pub job_in : Parts → Hand → Option JobAt
 job_in w (Holds held) = job_by w.tasks held (row_of w.rows held.turn.serial)
@@ -87,5 +87,5 @@ let_go_of tasks row = let_go_in (slice_get tasks (place_of row.holder))
 
 -- the same, where there is such a job
 abbrev pub let_go_by : List Task → Option Row → Bool
-let_go_by tasks None = false
-let_go_by tasks (Some row) = let_go_of tasks row
+let_go_by all None = false
+let_go_by all (Some row) = let_go_of all row

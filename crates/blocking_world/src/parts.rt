@@ -48,9 +48,9 @@ impl Parts {
     /// The parts of a new world. Takes no memory.
     pub(crate) fn new(alloc: Global, setting: Option<&str>) -> Parts
         ensures { result ≡ record {
-            crew = record { pool = pool_of setting.entry 1 1; hands = [] };
-            rows = [];
-            tasks = [];
+          crew = record { pool = pool_of setting.entry 1 1; hands = [] };
+          rows = [];
+          tasks = [];
         } }
     {
         Parts {

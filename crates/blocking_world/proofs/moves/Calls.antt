@@ -87,11 +87,11 @@ tell_moved w k call old left act e which may value acts left_is moves =
 -- ---- new calls
 
 -- A new call was accepted.
-pub spawn_accepted : (may_answer : ℕ → Bool → Type 0) (w : Parts) (number : JobNumber) (row : Row) (task : Task) (rows : List Row) (tasks : List Task) (e : Event) (new : Crew)
-    → crew.Moves may_answer (crew.Add Pool (Ok number)) w.crew e new → row ≡ new_row number (length w.tasks) → task ≡ new_task number → rows ≡ w.rows ++ row ∷ [] → tasks ≡ w.tasks ++ task ∷ []
+pub spawn_accepted : (may_answer : ℕ → Bool → Type 0) (w : Parts) (answer : Result JobNumber Refusal) (number : JobNumber) (row : Row) (task : Task) (rows : List Row) (tasks : List Task) (e : Event) (new : Crew)
+    → answer ≡ Ok number → crew.Moves may_answer (crew.Add Pool answer) w.crew e new → row ≡ new_row number (length w.tasks) → task ≡ new_task number → rows ≡ w.rows ++ row ∷ [] → tasks ≡ w.tasks ++ task ∷ []
     → Moves may_answer Spawn w e (record { crew = new; rows = rows; tasks = tasks })
-spawn_accepted may_answer w number row task rows tasks e new moves row_is task_is rows_are tasks_are =
-    let so = add_does may_answer w.crew (Ok number) e new moves in
+spawn_accepted may_answer w answer number row task rows tasks e new is moves row_is task_is rows_are tasks_are =
+    let so = add_does may_answer w.crew (Ok number) e new (subst (λ a. crew.Moves may_answer (crew.Add Pool a) w.crew e new) is moves) in
     record {
       move = Begins (Ok number) so.growth so.pool;
       may = tt;
@@ -105,10 +105,10 @@ spawn_accepted may_answer w number row task rows tasks e new moves row_is task_i
     }
 
 -- It was refused.
-pub spawn_refused : (may_answer : ℕ → Bool → Type 0) (w : Parts) (why : Refusal) (rows : List Row) (tasks : List Task) (e : Event) (new : Crew)
-    → crew.Moves may_answer (crew.Add Pool (Err why)) w.crew e new → rows ≡ w.rows → tasks ≡ w.tasks → Moves may_answer Spawn w e (record { crew = new; rows = rows; tasks = tasks })
-spawn_refused may_answer w why rows tasks e new moves rows_are tasks_are =
-    let so = add_does may_answer w.crew (Err why) e new moves in
+pub spawn_refused : (may_answer : ℕ → Bool → Type 0) (w : Parts) (answer : Result JobNumber Refusal) (why : Refusal) (rows : List Row) (tasks : List Task) (e : Event) (new : Crew)
+    → answer ≡ Err why → crew.Moves may_answer (crew.Add Pool answer) w.crew e new → rows ≡ w.rows → tasks ≡ w.tasks → Moves may_answer Spawn w e (record { crew = new; rows = rows; tasks = tasks })
+spawn_refused may_answer w answer why rows tasks e new is moves rows_are tasks_are =
+    let so = add_does may_answer w.crew (Err why) e new (subst (λ a. crew.Moves may_answer (crew.Add Pool a) w.crew e new) is moves) in
     record {
       move = Begins (Err why) so.growth so.pool;
       may = tt;

@@ -151,7 +151,7 @@ own_job CallsWaker v at row is = refl
 
 acts_so : (w : Parts) (v : ℕ) (job : JobAt) (h : JobHere w v job) (step : TaskStep) (e : Event) (new : Crew) → own_step job.stage h.row.core ≡ Some step → crew.Moves NeverAsked (crew.Work v (act_of step h.task)) w.crew e new
     → Moves NeverAsked (Job v) w e
-      (record { crew = new; rows = slice_set w.rows job.row (row_after step job.stage h.task h.row); tasks = slice_set w.tasks job.task (task_after step h.task) })
+    (record { crew = new; rows = slice_set w.rows job.row (row_after step job.stage h.task h.row); tasks = slice_set w.tasks job.task (task_after step h.task) })
 acts_so w v job h step e new is moves =
     let here : own_step h.held.stage h.row.core ≡ Some step = ap (λ s. own_step s h.row.core) (sym h.stage_is) ∙ is in
     let fits = own_fits step h.held.stage h.row h.task here in

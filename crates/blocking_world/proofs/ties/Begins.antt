@@ -111,13 +111,13 @@ module _ (setting : ℕ) (plan : List Bool) (w : Parts) (past : List Moment) (t 
         of_task = λ k task found.
             ⊎_elim
             (λ before.
-                let row = t.rowed.of_task k task before in
-                (row.0, row_stays row_new row.0 task.number.serial row.1, row.2, row.3))
+            let row = t.rowed.of_task k task before in
+            (row.0, row_stays row_new row.0 task.number.serial row.1, row.2, row.3))
             (λ new_one.
-                let number_is : number ≡ task.number = ap (λ (x : Task). x.number) new_one.1 in
-                let at : row_of (w.rows ++ row_new ∷ []) task.number.serial ≡ Some row_new =
-                row_pushed w.rows task.number.serial row_new ∙ ap (λ b. if b then Some row_new else row_of w.rows task.number.serial) (eq-eqb (length w.rows + 1) task.number.serial (sym last ∙ ap (λ (n : JobNumber). n.serial) number_is)) in
-                (row_new, at, number_is, sym new_one.0))
+            let number_is : number ≡ task.number = ap (λ (x : Task). x.number) new_one.1 in
+            let at : row_of (w.rows ++ row_new ∷ []) task.number.serial ≡ Some row_new =
+            row_pushed w.rows task.number.serial row_new ∙ ap (λ b. if b then Some row_new else row_of w.rows task.number.serial) (eq-eqb (length w.rows + 1) task.number.serial (sym last ∙ ap (λ (n : JobNumber). n.serial) number_is)) in
+            (row_new, at, number_is, sym new_one.0))
             (in_pushed w.tasks (new_task number) k task found);
         in_hand = λ v held row at found.
             let old = hand_row setting plan w past t v held at in
@@ -131,9 +131,9 @@ module _ (setting : ℕ) (plan : List Bool) (w : Parts) (past : List Moment) (t 
         marks = λ s row found drop.
             ⊎_elim (λ old. stay row (t.rowed.marks s row old.1 drop))
             (λ is.
-                let here : s ≡ w.crew.pool.next_serial = sym (eqb-true number.serial s is.0) ∙ may.serial in
-                let none = ap (is_to_drop past) here ∙ unmarked in
-                absurd cc)
+            let here : s ≡ w.crew.pool.next_serial = sym (eqb-true number.serial s is.0) ∙ may.serial in
+            let none = ap (is_to_drop past) here ∙ unmarked in
+            absurd cc)
             (same_row s row found);
       }
     where
@@ -166,8 +166,7 @@ module _ (setting : ℕ) (plan : List Bool) (w : Parts) (past : List Moment) (t 
       nobody : (s : ℕ) (b : Bool) → (number.serial == s) ≡ b → (if b then Some (new_row number (length w.tasks)) else row_of w.rows s) ≡ None → (holder ((moment_of w (Begins (Ok number) growth pool)) ∷ past) s ≡ None) × (standing ((moment_of w (Begins (Ok number) growth pool)) ∷ past) s ≡ None)
       nobody s true is none = absurd cc
       nobody s false is none =
-          let unborn = t.rowed.unborn s none in
-          (
+          let unborn = t.rowed.unborn s none in (
             holder_grows past (moment_of w (Begins (Ok number) growth pool)) number.serial s (record { party_is = refl; act_is = refl }) ∙ ap (λ b. if b then Some (ByTask (tasks past)) else holder past s) is ∙ unborn.0,
             ap (λ b. if b then Some Queued else standing past s) is ∙ unborn.1,
           )

@@ -236,12 +236,12 @@ module _ (setting : ℕ) (plan : List Bool) (w : Parts) (past : List Moment) (t 
       let s = held.turn.serial in
       let acted : (row : Row) → row_of w.rows s ≡ Some row → has_finished (acts_of s (events past)) || has_given_up (acts_of s (events past)) ≡ true =
       λ row found.
-          let task = row_task setting plan w past t s row found in
-          let ends = ending_if true held row
-              (sym (ap (λ b. next_is is_ending (job_if b held row)) (lt-ltb (place_of row.holder) (length w.tasks) (slice_get_within w.tasks (place_of row.holder) task.0 task.1)))
-              ∙ sym (ap (λ o. next_is is_ending (job_by w.tasks held o)) found)
-              ∙ sym (ap (λ h. next_is is_ending (job_in w h)) may.0) ∙ p) in
-          over_acts held.stage (progress_of row.core).next (progress_of row.core).number (acts_of s (events past)) ends (t.rowed.in_hand v held row may.0 found).acted in
+      let task = row_task setting plan w past t s row found in
+      let ends = ending_if true held row
+      (sym (ap (λ b. next_is is_ending (job_if b held row)) (lt-ltb (place_of row.holder) (length w.tasks) (slice_get_within w.tasks (place_of row.holder) task.0 task.1)))
+      ∙ sym (ap (λ o. next_is is_ending (job_by w.tasks held o)) found)
+      ∙ sym (ap (λ h. next_is is_ending (job_in w h)) may.0) ∙ p) in
+      over_acts held.stage (progress_of row.core).next (progress_of row.core).number (acts_of s (events past)) ends (t.rowed.in_hand v held row may.0 found).acted in
       quiet (crew.EndsTurn v held pass) _ may tt later
       (record {
         accepted = refl;

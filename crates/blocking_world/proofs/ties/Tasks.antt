@@ -47,10 +47,10 @@ module _ (setting : ℕ) (plan : List Bool) (w : Parts) (past : List Moment) (t 
   next_free =
       none_by (holder past w.crew.pool.next_serial)
       (λ who held.
-          let row = row_held w past w.crew.pool.next_serial who t.rowed held in
-          let some = row_known setting plan w past t w.crew.pool.next_serial row.0 row.1 in
-          let none = ap is_some (fresh setting plan w.crew past t.crewed) in
-          absurd cc)
+      let row = row_held w past w.crew.pool.next_serial who t.rowed held in
+      let some = row_known setting plan w past t w.crew.pool.next_serial row.0 row.1 in
+      let none = ap is_some (fresh setting plan w.crew past t.crewed) in
+      absurd cc)
 
   begins : (added : Result JobNumber Refusal) (growth : Growth) (pool : JobPool) → AddsTo (IsPlanned plan) w.crew.pool added growth pool
       → TasksHold (after w (Begins added growth pool)).tasks (moment_of w (Begins added growth pool) ∷ past)

@@ -127,8 +127,8 @@ runs_as : (stand : Option Standing) (row : Row) (acts : List Act) → stand ≡ 
 runs_as stand row acts is = subst (λ (o : Option Standing). StandsAs o row.core acts) (sym is) tt
 
 module _ (setting : ℕ) (plan : List Bool) (w : Parts) (past : List Moment) (t : Tied setting plan w past) (v : ℕ) (held : Held) (row : Row) (task : Task) (step : TaskStep)
-  (i : IsInHand w v held row task) (next : IsNext step held row) (may : crew.May (IsPlanned plan) w.crew (crew.Works v held (act_of step task)))
-  (later : CrewHolds setting plan (crew.after w.crew (crew.Works v held (act_of step task))) (moment_of w (Acts v held row task step) ∷ past)) where
+    (i : IsInHand w v held row task) (next : IsNext step held row) (may : crew.May (IsPlanned plan) w.crew (crew.Works v held (act_of step task)))
+    (later : CrewHolds setting plan (crew.after w.crew (crew.Works v held (act_of step task))) (moment_of w (Acts v held row task step) ∷ past)) where
   abbrev s : ℕ
   s = held.turn.serial
 

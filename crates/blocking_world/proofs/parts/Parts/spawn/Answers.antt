@@ -17,10 +17,14 @@ returns-clause-ok g c =
     let room_tasks = c.in_ok-reserve-2.ensures.ok in
     let done : Moves may_answer Spawn w c.add-added.result.event c.match-added.self = elim c.match-added.branch [
       | in-Ok b ↦
-          (let rows = put_last b.push.result w.rows c.reserve.new.self.items b.push.new.self.items b.new.result kept_rows (b.push.ensures.succeeds (omega (arith, room_rows))) b.push.ensures.items in
+          (let told = b.len.ensures in
+          let is_length = c.reserve-2.new.self.ok.0 in
+          let same = ap length kept_tasks in
+          let many : b.len.result ≡ length w.tasks = omega (arith, told, is_length, same) in
+          let rows = put_last b.push.result w.rows c.reserve.new.self.items b.push.new.self.items b.new.result kept_rows (b.push.ensures.succeeds (omega (arith, room_rows))) b.push.ensures.items in
           let tasks = put_last b.push-in-Ok.result w.tasks c.reserve-2.new.self.items b.push-in-Ok.new.self.items b.new-in-Ok.result kept_tasks (b.push-in-Ok.ensures.succeeds (omega (arith, room_tasks))) b.push-in-Ok.ensures.items in
-          spawn_accepted may_answer w b.in-Ok.number b.new.result b.new-in-Ok.result b.push.new.self.items b.push-in-Ok.new.self.items c.add-added.result.event c.add-added.new.self
-          c.add-added.ensures (b.new.ensures ∙ ap (new_row b.in-Ok.number) (b.len.ensures.value ∙ ap length kept_tasks)) b.new-in-Ok.ensures rows tasks)
-      | in-Err b ↦ spawn_refused may_answer w b.in-Err._why c.reserve.new.self.items c.reserve-2.new.self.items c.add-added.result.event c.add-added.new.self c.add-added.ensures kept_rows kept_tasks
+          subst (Moves may_answer Spawn w c.add-added.result.event) (sym b.self-is) (spawn_accepted may_answer w c.add-added.result.number b.in-Ok.number b.new.result b.new-in-Ok.result b.push.new.self.items b.push-in-Ok.new.self.items c.add-added.result.event c.add-added.new.self
+          b.in-Ok.is c.add-added.ensures (b.new.ensures ∙ ap (new_row b.in-Ok.number) many) b.new-in-Ok.ensures rows tasks))
+      | in-Err b ↦ subst (Moves may_answer Spawn w c.add-added.result.event) (sym b.self-is) (spawn_refused may_answer w c.add-added.result.number b.in-Err._why c.reserve.new.self.items c.reserve-2.new.self.items c.add-added.result.event c.add-added.new.self b.in-Err.is c.add-added.ensures kept_rows kept_tasks)
     ] in
     rw (sym c.self.view_is) done
