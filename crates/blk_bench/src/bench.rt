@@ -1,7 +1,9 @@
 //! The benchmarks by their names.
 use crate::calls::Calls;
+use crate::ends::Ends;
 use crate::figures::{Figures, Request};
 use crate::pipe;
+use crate::reads::Reads;
 use blocking::Host;
 use std::io;
 
@@ -10,22 +12,35 @@ use std::io;
 pub(crate) enum Bench {
     Calls(Calls),
     Pipe,
+    Ends(Ends),
+    Reads(Reads),
 }
 
 impl Bench {
-    pub(crate) const ALL: [Bench; 6] = [
+    pub(crate) const ALL: [Bench; 15] = [
         Bench::Calls(Calls::Roundtrip),
         Bench::Calls(Calls::RoundtripAwait),
         Bench::Calls(Calls::Burst),
         Bench::Calls(Calls::BurstLimited),
         Bench::Calls(Calls::Idle),
         Bench::Pipe,
+        Bench::Ends(Ends::Bytes),
+        Bench::Ends(Ends::Items),
+        Bench::Reads(Reads::Short),
+        Bench::Reads(Reads::ShortBy64K),
+        Bench::Reads(Reads::ShortBy4K),
+        Bench::Reads(Reads::Long),
+        Bench::Reads(Reads::LongBy64K),
+        Bench::Reads(Reads::LongBy4K),
+        Bench::Reads(Reads::File),
     ];
 
     pub(crate) fn name(self) -> &'static str {
         match self {
             Bench::Calls(calls) => calls.name(),
             Bench::Pipe => "pipe",
+            Bench::Ends(ends) => ends.name(),
+            Bench::Reads(reads) => reads.name(),
         }
     }
 
@@ -42,6 +57,8 @@ impl Bench {
         match self {
             Bench::Calls(calls) => calls.unit(),
             Bench::Pipe => "MB/s",
+            Bench::Ends(ends) => ends.unit(),
+            Bench::Reads(_) => "MB/s",
         }
     }
 
@@ -49,6 +66,8 @@ impl Bench {
         match self {
             Bench::Calls(calls) => calls.size(),
             Bench::Pipe => 200_000_000,
+            Bench::Ends(ends) => ends.size(),
+            Bench::Reads(reads) => reads.size(),
         }
     }
 
@@ -64,6 +83,8 @@ impl Bench {
         match self {
             Bench::Calls(calls) => calls.run(rt, host, setting, request, figures),
             Bench::Pipe => pipe::run(rt, request, figures),
+            Bench::Ends(ends) => ends.run(rt, host, request, figures),
+            Bench::Reads(reads) => reads.run(rt, host, request, figures),
         }
     }
 }

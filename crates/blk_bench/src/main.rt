@@ -5,8 +5,10 @@
 
 mod bench;
 mod calls;
+mod ends;
 mod figures;
 mod pipe;
+mod reads;
 
 use crate::bench::Bench;
 use crate::figures::{Figures, Request};

@@ -25,8 +25,8 @@ pub(crate) fn run(rt: HostRuntime, request: Request, figures: &mut Figures) -> i
     Ok(())
 }
 
-// Byte i is i as u8.
-fn pattern(alloc: Global, size: usize) -> io::Result<Vec<u8>> {
+/// Byte i is i as u8.
+pub(crate) fn pattern(alloc: Global, size: usize) -> io::Result<Vec<u8>> {
     let mut bytes = Vec::with_capacity(alloc, size)?;
     let mut byte = 0u8;
     for _ in 0..size {
@@ -34,6 +34,12 @@ fn pattern(alloc: Global, size: usize) -> io::Result<Vec<u8>> {
         byte = byte.wrapping_add(1);
     }
     Ok(bytes)
+}
+
+/// Whether the piece's first and last byte are those of these places.
+pub(crate) fn is_right(place: u64, piece: &[u8]) -> bool {
+    let last = place.wrapping_add(piece.len() as u64).wrapping_sub(1);
+    piece.first() == Some(&((place % 256) as u8)) && piece.last() == Some(&((last % 256) as u8))
 }
 
 // All pieces of the source, one after another.
@@ -70,6 +76,7 @@ fn pass(pipe: &mut BytePipe<u8>, piece: &[u8], buffer: &mut [u8])
     }
 }
 
-fn failed() -> io::Error {
+/// A wrong result, or want of a pool.
+pub(crate) fn failed() -> io::Error {
     io::Error::from(io::ErrorKind::Other)
 }

@@ -8,7 +8,7 @@ use blocking_world::{Answer, Step, TaskCall};
 use std::alloc::{AllocError, Global};
 
 /// An instruction: what a line has the script do.
-#[derive(Clone, Copy, Debug)]
+#[derive(Debug, Drop)]
 pub enum Instruction {
     /// One step.
     One(Step),
@@ -17,7 +17,7 @@ pub enum Instruction {
 }
 
 /// What a line says by itself.
-#[derive(Clone, Copy, Debug)]
+#[derive(Debug, Drop)]
 pub(crate) enum Saying {
     /// Nothing: it is empty, or a comment.
     Nothing,

@@ -12,7 +12,7 @@ use crate::script::{Script, read_script};
 use blocking_world::{Event, Step, World, run};
 use std::alloc::{AllocError, Global};
 use std::io::{ErrorKind, Read};
-use std::{fmt, io};
+use std::{fmt, io, slice};
 
 /// How a pool stands when a script is over.
 #[derive(Clone, Copy, Debug, PartialEq, Eq)]
@@ -128,7 +128,7 @@ fn play(
 {
     let mut events = Vec::new(alloc);
     for instruction in instructions {
-        play_instruction(alloc, world, *instruction, &mut events)?;
+        play_instruction(alloc, world, instruction, &mut events)?;
     }
     Ok(events)
 }
@@ -137,15 +137,15 @@ fn play(
 fn play_instruction(
     alloc: Global,
     world: &mut World,
-    instruction: Instruction,
+    instruction: &Instruction,
     events: &mut Vec<Event>,
 ) -> Result<(), AllocError>
-    ensures { OnOk result (Takes (PlaysInstruction instruction)
+    ensures { OnOk result (Takes (PlaysInstruction instruction.now)
         world.old.history world.new.history events.old.items events.new.items) }
 {
     match instruction {
         Instruction::One(step) => take(alloc, world, step, events),
-        Instruction::JobAll(worker) => take_all(alloc, world, worker, events),
+        Instruction::JobAll(worker) => take_all(alloc, world, *worker, events),
     }
 }
 
@@ -153,14 +153,14 @@ fn play_instruction(
 fn take(
     alloc: Global,
     world: &mut World,
-    step: Step,
+    step: &Step,
     events: &mut Vec<Event>,
 ) -> Result<(), AllocError>
-    ensures { OnOk result (Takes (PlaysInstruction (instruction.One step))
+    ensures { OnOk result (Takes (PlaysInstruction (instruction.One step.now))
         world.old.history world.new.history events.old.items events.new.items) }
 {
-    let seen = run(alloc, world, &[step])?;
-    events.extend_from_slice(seen.as_slice())
+    let mut seen = run(alloc, world, slice::from_ref(step))?;
+    events.append(&mut seen)
 }
 
 // Takes the next action of this worker's job, and then again while it has one.
@@ -173,10 +173,10 @@ fn take_all(
     ensures { OnOk result (Takes (PlaysInstruction (instruction.JobAll worker))
         world.old.history world.new.history events.old.items events.new.items) }
 {
-    take(alloc, world, Step::Job(worker), events)?;
+    take(alloc, world, &Step::Job(worker), events)?;
     // (It ends, since each action is an event more, and no list has room for endless ones.)
     while world.has_job_action(worker) {
-        take(alloc, world, Step::Job(worker), events)?;
+        take(alloc, world, &Step::Job(worker), events)?;
     }
     Ok(())
 }

@@ -6,3 +6,6 @@ pub use blocking_executor::{
     CallJob, Cancel, Counts, Executor, Host, Runtime, Task, executor, job,
     set_max_blocking_threads, task, unblock,
 };
+pub use blocking_unblock::{
+    AsyncRead, AsyncReadExt, IoFault, ReadExact, ReadJob, ReadSome, ReadToEnd, Unblock,
+};

@@ -4,3 +4,5 @@ pub mod hands
 pub mod closing
 pub mod ready
 pub mod calls
+pub mod ties
+pub mod laws

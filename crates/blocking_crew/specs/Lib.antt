@@ -3,3 +3,4 @@ pub mod Crews
 pub mod Moves
 pub mod Closing
 pub mod HandLends
+pub mod Ties

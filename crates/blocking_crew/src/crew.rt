@@ -22,7 +22,7 @@ pub struct Crew {
 }
 
 /// What became of a new job.
-#[derive(Clone, Copy)]
+#[derive(Drop)]
 pub struct Added {
     /// Its number, or why it was refused.
     pub number: Result<JobNo, Refusal>,
@@ -119,7 +119,7 @@ impl Crew {
     {
         let first = self.next_start();
         let party = Party::Worker(worker);
-        let Some(serial) = self.workers.work(worker, act) else {
+        let Some(serial) = self.workers.work(worker, &act) else {
             return nothing(party, first);
         };
         seen(party, Some(serial), act, first, NO_GROWTH)

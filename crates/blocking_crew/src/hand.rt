@@ -44,8 +44,8 @@ impl Stage {
     ghost use Rattle.blocking_crew.specs.Crews.{may_act, stage_after, may_end, outcome_of};
 
     /// Whether a job may act so, where it is in its turn.
-    pub fn may(self, act: Act) -> bool
-        ensures { result ≡ may_act self act }
+    pub fn may(self, act: &Act) -> bool
+        ensures { result ≡ may_act self act.now }
     {
         match act {
             Act::Answered(_) | Act::JobParked | Act::Finished(_) => matches!(self, Stage::Runs),
@@ -56,8 +56,8 @@ impl Stage {
     }
 
     /// Where the job is after it acted so.
-    pub fn after(self, act: Act) -> Stage
-        ensures { result ≡ stage_after act self }
+    pub fn after(self, act: &Act) -> Stage
+        ensures { result ≡ stage_after act.now self }
     {
         match act {
             Act::JobParked => Stage::Waits,
@@ -163,9 +163,9 @@ impl Hand {
     }
 
     // The job in the hand acts so, and its serial comes back; None, and no change, where it may not.
-    pub(crate) fn work(&mut self, act: Act) -> Option<u64>
-        ensures serial { result ≡ acting_in self.old act }
-        ensures after { self.new ≡ (if is_some result then hand_after_act self.old act else self.old) }
+    pub(crate) fn work(&mut self, act: &Act) -> Option<u64>
+        ensures serial { result ≡ acting_in self.old act.now }
+        ensures after { self.new ≡ (if is_some result then hand_after_act self.old act.now else self.old) }
     {
         let Hand::Holds(held) = self else {
             return None;

@@ -6,6 +6,7 @@
 
 mod crew;
 mod hand;
+pub mod kept;
 mod starts;
 mod ticket;
 mod tickets;

@@ -95,10 +95,10 @@ impl Workers {
     }
 
     // The job in the hand of this worker acts so, and its serial comes back; None, and no change, where it may not.
-    pub(crate) fn work(&mut self, worker: usize, act: Act) -> Option<u64>
-        ensures serial { result ≡ acting_in (hand_at self.old worker) act }
+    pub(crate) fn work(&mut self, worker: usize, act: &Act) -> Option<u64>
+        ensures serial { result ≡ acting_in (hand_at self.old worker) act.now }
         ensures after { self.new ≡ (if is_some result
-            then with_hand self.old worker (hand_after_act (hand_at self.old worker) act)
+            then with_hand self.old worker (hand_after_act (hand_at self.old worker) act.now)
             else self.old) }
     {
         self.at(worker)?.work(act)

@@ -3,7 +3,7 @@ ghost use Rattle.std.specs.Prelude.{◌≡◌, ◌<◌};
 
 use blocking_core::pool::{JobNo, Starter};
 use blocking_crew::{Crew, NoStarts, PlannedStarts, Ticket};
-use blocking_laws::event::WaitEnd;
+use blocking_laws::event::{HolderWaker, WaitEnd};
 use blocking_laws::{Act, Event, Party};
 use std::alloc::Global;
 use std::marker::Brand;
@@ -16,7 +16,10 @@ pub(crate) enum Step {
     Add,
     Arrive,
     Take(usize),
-    Work(usize, Act),
+    // the job in a worker's hand finds that it has to wait
+    JobParks(usize),
+    // it gives up, with nobody to wake
+    JobGivesUp(usize),
     End(usize),
     // whether the job's holder let it go
     Park(usize, bool),
@@ -64,7 +67,8 @@ fn call<S: Starter>(
         }
         Step::Arrive => crew.arrive()?,
         Step::Take(worker) => crew.take(worker, starter),
-        Step::Work(worker, act) => crew.work(worker, act),
+        Step::JobParks(worker) => crew.work(worker, Act::JobParked),
+        Step::JobGivesUp(worker) => crew.work(worker, Act::GaveUp(HolderWaker::Absent)),
         Step::End(worker) => crew.end(worker),
         Step::Park(worker, is_marked) => crew.park(worker, Ticket { is_marked }),
         Step::Wait(worker, end) => crew.wait(worker, end, starter),

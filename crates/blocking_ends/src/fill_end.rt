@@ -5,6 +5,7 @@ ghost use Rattle.futures.specs.Task.{Covers, Keeps};
 use crate::locked::{OwnerToJob, OwnerWaker};
 use crate::rule::PlaceRule;
 use blocking_core::pipe::{Answered, Filled};
+use blocking_lock::enter;
 use blocking_pool::pool::WakeNote;
 use futures::task::{Context, Poll, Source};
 use std::sync::{Arc, Mutex, Wait};
@@ -49,7 +50,7 @@ impl<X: Drop, R: PlaceRule<X>, H: Wait + Copy> FillEnd<X, R, H> {
         ensures source { self.new.source ≡ self.old.source }
     {
         for _ in self.rt.forever() {
-            let mut pipe = self.pipe.lock(&self.rt);
+            let mut pipe = enter(&self.pipe, &self.rt);
             if pipe.sent() == self.sent {
                 return pipe.close_owner();
             }
@@ -71,7 +72,7 @@ impl<X: Copy, R: PlaceRule<X>, H: Wait + Copy> FillEnd<X, R, H> {
         ensures took { IfTook result.answer (λ n. (0 < n) × (n ≤ length items.now)) }
     {
         for _ in self.rt.forever() {
-            let mut pipe = self.pipe.lock(&self.rt);
+            let mut pipe = enter(&self.pipe, &self.rt);
             if pipe.sent() != self.sent {
                 continue;
             }

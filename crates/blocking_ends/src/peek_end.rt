@@ -4,6 +4,7 @@ ghost use Rattle.std.specs.Prelude.{◌≡◌, ◌<◌, ◌≤◌, ◌+◌, ◌-
 use crate::locked::{OwnerToJob, OwnerWaker};
 use crate::rule::PlaceRule;
 use blocking_core::pipe::Peeked;
+use blocking_lock::enter;
 use blocking_pool::pool::JobNo;
 use std::sync::{Arc, Mutex, Wait};
 
@@ -51,7 +52,7 @@ impl<X: Drop, R: PlaceRule<X>, H: Wait + Copy> PeekEnd<X, R, H> {
         ensures shown { self.new.shown ≡ self.old.shown - count }
     {
         for _ in self.rt.forever() {
-            let mut pipe = self.pipe.lock(&self.rt);
+            let mut pipe = enter(&self.pipe, &self.rt);
             if pipe.received() != self.received || pipe.len() < self.shown {
                 continue;
             }
@@ -69,7 +70,7 @@ impl<X: Drop, R: PlaceRule<X>, H: Wait + Copy> PeekEnd<X, R, H> {
         ensures shown { self.new.shown ≡ self.old.shown }
     {
         for _ in self.rt.forever() {
-            let mut pipe = self.pipe.lock(&self.rt);
+            let mut pipe = enter(&self.pipe, &self.rt);
             if pipe.received() == self.received && self.shown <= pipe.len() {
                 return pipe.close_job();
             }
@@ -94,7 +95,7 @@ impl<X: Copy, R: PlaceRule<X>, H: Wait + Copy> PeekEnd<X, R, H> {
         ensures ended { OnDrained result (R.ended self.old.received) }
     {
         for _ in self.rt.forever() {
-            let mut pipe = self.pipe.lock(&self.rt);
+            let mut pipe = enter(&self.pipe, &self.rt);
             if pipe.received() != self.received || pipe.len() < self.shown {
                 continue;
             }

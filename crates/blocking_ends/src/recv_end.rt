@@ -5,6 +5,7 @@ ghost use Rattle.futures.specs.Task.{Covers, Keeps};
 use crate::locked::{JobToOwner, OwnerWaker};
 use crate::rule::PlaceRule;
 use blocking_core::pipe::{Answered, Drained, Received};
+use blocking_lock::enter;
 use blocking_pool::pool::WakeNote;
 use futures::task::{Context, Poll, Source};
 use std::sync::{Arc, Mutex, Wait};
@@ -51,7 +52,7 @@ impl<X: Drop, R: PlaceRule<X>, H: Wait + Copy> RecvEnd<X, R, H> {
         ensures ended { OnEnd result.answer (R.ended self.old.received) }
     {
         for _ in self.rt.forever() {
-            let mut pipe = self.pipe.lock(&self.rt);
+            let mut pipe = enter(&self.pipe, &self.rt);
             if pipe.received() != self.received {
                 continue;
             }
@@ -93,7 +94,7 @@ impl<X: Drop, R: PlaceRule<X>, H: Wait + Copy> RecvEnd<X, R, H> {
         ensures source { self.new.source ≡ self.old.source }
     {
         for _ in self.rt.forever() {
-            let mut pipe = self.pipe.lock(&self.rt);
+            let mut pipe = enter(&self.pipe, &self.rt);
             if pipe.received() == self.received {
                 return pipe.close_owner();
             }
@@ -119,7 +120,7 @@ impl<X: Copy, R: PlaceRule<X>, H: Wait + Copy> RecvEnd<X, R, H> {
         ensures ended { OnDrainsEnd result.answer (R.ended self.old.received) }
     {
         for _ in self.rt.forever() {
-            let mut pipe = self.pipe.lock(&self.rt);
+            let mut pipe = enter(&self.pipe, &self.rt);
             if pipe.received() != self.received {
                 continue;
             }

@@ -4,6 +4,7 @@ ghost use Rattle.std.specs.Prelude.{◌≡◌, ◌<◌, ◌≤◌, ◌+◌, ◌-
 use crate::locked::{JobToOwner, OwnerWaker};
 use crate::rule::PlaceRule;
 use blocking_core::pipe::{Put, Room, Sending};
+use blocking_lock::enter;
 use blocking_pool::pool::JobNo;
 use std::sync::{Arc, Mutex, Wait};
 
@@ -51,7 +52,7 @@ impl<X: Drop, R: PlaceRule<X>, H: Wait + Copy> SendEnd<X, R, H> {
         ensures some { IfFree result (λ n. 0 < n) }
     {
         for _ in self.rt.forever() {
-            let mut pipe = self.pipe.lock(&self.rt);
+            let mut pipe = enter(&self.pipe, &self.rt);
             if pipe.sent() != self.sent || pipe.room() < self.free {
                 continue;
             }
@@ -74,7 +75,7 @@ impl<X: Drop, R: PlaceRule<X>, H: Wait + Copy> SendEnd<X, R, H> {
         ensures back { ComesBack item result }
     {
         for _ in self.rt.forever() {
-            let mut pipe = self.pipe.lock(&self.rt);
+            let mut pipe = enter(&self.pipe, &self.rt);
             if pipe.sent() != self.sent || pipe.room() < self.free {
                 continue;
             }
@@ -96,7 +97,7 @@ impl<X: Drop, R: PlaceRule<X>, H: Wait + Copy> SendEnd<X, R, H> {
         ensures free { self.new.free ≡ self.old.free }
     {
         for _ in self.rt.forever() {
-            let mut pipe = self.pipe.lock(&self.rt);
+            let mut pipe = enter(&self.pipe, &self.rt);
             if pipe.sent() == self.sent && self.free <= pipe.room() {
                 return pipe.close_job();
             }
@@ -118,7 +119,7 @@ impl<X: Copy, R: PlaceRule<X>, H: Wait + Copy> SendEnd<X, R, H> {
         ensures free { self.new.free ≡ self.old.free - sent_by_put result (length items.now) }
     {
         for _ in self.rt.forever() {
-            let mut pipe = self.pipe.lock(&self.rt);
+            let mut pipe = enter(&self.pipe, &self.rt);
             if pipe.sent() != self.sent || pipe.room() < self.free {
                 continue;
             }

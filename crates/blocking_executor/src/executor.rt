@@ -11,17 +11,13 @@ use blocking_core::pool::{
     Woke, WorkerPass,
 };
 use std::alloc::AllocError;
-use std::hint::spin_loop;
 use std::io;
 use std::sync::{Arc, Condvar, Mutex, MutexGuard, Wait};
-use std::thread::{Builder, Threads, yield_now};
+use std::thread::{Builder, Threads};
 use std::time::Duration;
 
 // How long an idle worker waits before it may stop.
 const IDLE_MILLIS: u64 = 500;
-
-// How often the pool's lock is tried before a thread sleeps for it. The pause after each try is twice the one before.
-const TRIES: u32 = 6;
 
 #[derive(Drop)]
 struct Shared<J: Job> {
@@ -116,21 +112,16 @@ impl<J: Job, H: Runtime> Executor<J, H> {
         })
     }
 
-    pub(crate) fn runtime(&self) -> H {
+    /// The handles that its polls and workers use.
+    pub fn runtime(&self) -> H
+        ensures { result ≡ self.now.rt }
+    {
         self.rt
     }
 
-    // Begins a section: takes the pool's lock. A section is over sooner than a thread that sleeps for the lock is awake again,
-    // so the lock is tried for a while before.
+    // Begins a section: takes the pool's lock, which is tried for a while before a thread sleeps for it.
     fn enter(&self) -> MutexGuard<'_, Held<J>> {
-        for turn in 0..TRIES {
-            if let Some(held) = self.shared.held.try_lock() {
-                return held;
-            }
-            pause(1u32 << turn);
-        }
-        yield_now();
-        self.shared.held.lock(&self.rt)
+        blocking_lock::enter(&self.shared.held, &self.rt)
     }
 
     // Ends a section: lets the lock go, and notifies whom the section rang. A worker that looks for a job stands in for the one
@@ -259,12 +250,6 @@ impl<J: Job, H: Runtime> Executor<J, H> {
             }
         }
         unreachable!()
-    }
-}
-
-fn pause(turns: u32) {
-    for _ in 0..turns {
-        spin_loop();
     }
 }
 

@@ -15,9 +15,9 @@ use Rattle.blocking_pool.specs.declared.pool.standing.Standing.{Standing}
 use Rattle.blocking_pool.specs.declared.pool.standing.Standing.TheVariants.{Queued, Running, Parked, Done, Dropped}
 use Rattle.blocking_laws.specs.Seen.{EachMayFollow, without_all, joined, is_worker}
 use Rattle.blocking_laws.specs.Jobs.{accepted_by, accepted_jobs, standing, stands_by, sweeps, is_queued, is_running, is_parked, is_marked, is_to_drop, is_woken}
-use Rattle.blocking_laws.specs.Queue.{to_sweep, entered_by, taken_by, ended_by, entries, takes, queue, running, times}
+use Rattle.blocking_laws.specs.Queue.{to_sweep, entered_by, taken_by, ended_by, entries, takes, queue, running, times, InOrder}
 use Rattle.blocking_laws.specs.Turns.{Turn, GoesOn, IsWaiting, MustGiveUp, HasGivenUp, turn, hand, hand_by, hand_of, HoldsOne}
-use Rattle.blocking_laws.specs.Answers.{PoolAnswers, take_answer, take_from, end_of}
+use Rattle.blocking_laws.specs.Answers.{PoolAnswers, AnswerLaw, take_answer, take_from, end_of}
 use Rattle.blocking_laws.specs.Steps.{job_taken}
 use Rattle.blocking_laws.specs.Legal.{PoolLaw}
 use Rattle.blocking_laws.specs.declared.event.Act.{Act}
@@ -513,3 +513,7 @@ held_so setting plan past laws = (sound_of setting plan past laws).hands.held
 -- what stands somewhere was accepted, once
 pub known_so : (setting : ℕ) (plan : List Bool) (past : List Moment) → EachMayFollow (PoolLaw setting plan) past → (s : ℕ) → times s (accepted_jobs past) ≡ (if is_some (standing past s) then 1 else 0)
 known_so setting plan past laws = (sound_of setting plan past laws).accepted
+
+-- where the answers are right, the order of entry is kept
+pub order_after : (setting : ℕ) (plan : List Bool) (past : List Moment) (now : Moment) → EachMayFollow (PoolLaw setting plan) past → AnswerLaw setting past now → InOrder (now ∷ past)
+order_after setting plan past now laws answers = (queue (now ∷ past), entered_after setting past now now.event.act (sound_of setting plan past laws) answers)

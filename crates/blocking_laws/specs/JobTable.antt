@@ -1,19 +1,32 @@
 -- The table of a job: what it does next, read from its own acts, the newest first.
-use Rattle.std.specs.Prelude.{◌≡◌, ℕ, Bool, true, false, List, [], ◌∷◌}
+use Rattle.std.specs.Prelude.{◌≡◌, ℕ, nat_le, min, Bool, true, false, List, [], ◌∷◌, length, Option, Some, None}
+use Rattle.blocking_core.specs.declared.io.Fault.{Fault}
+use Rattle.blocking_core.specs.declared.io.Fault.TheVariants.{Io}
 use Rattle.blocking_laws.specs.declared.event.Act.{Act}
-use Rattle.blocking_laws.specs.declared.event.Act.TheVariants.{Answered, Finished, GaveUp}
+use Rattle.blocking_laws.specs.declared.event.Act.TheVariants.{RoomFree, RoomShut, Answered, Put, Lost, JobClosed, Finished, GaveUp}
 use Rattle.blocking_laws.specs.declared.event.HolderWaker.{HolderWaker}
 use Rattle.blocking_laws.specs.declared.event.HolderWaker.TheVariants.{Taken, Absent}
 use Rattle.blocking_laws.specs.declared.step.Answer.{Answer}
-use Rattle.blocking_laws.specs.declared.step.Answer.TheVariants.{Number}
+use Rattle.blocking_laws.specs.declared.step.Answer.TheVariants.{Number, Gave}
+use Rattle.blocking_laws.specs.declared.step.Answer.TheVariants as answer
 
--- what a job is for: to make a call
+-- what a job is for: to make a call, or to read ahead for an owner
 pub data Kind : Type 0 where
   Calling : Kind
+  Reading : Kind
 
--- the next action of a job: it asks for its call's answer, puts its result, calls the waker that it took, or has nothing left to do
+-- the most bytes that a reader is asked for at once
+abbrev pub piece : ℕ
+piece = 65536
+
+-- The next action of a job: it asks for its call's answer; it asks its reader for at most so many bytes, looks for room in the pipe,
+-- puts these bytes there, closes its end; it puts its result, calls the waker that it took, or has nothing left to do.
 pub data JobAction : Type 0 where
   AskCall : JobAction
+  AskBytes : ℕ → JobAction
+  FindRoom : JobAction
+  PutPiece : List ℕ → JobAction
+  CloseEnd : JobAction
   Finish : JobAction
   WakeHolder : JobAction
   Over : JobAction
@@ -21,15 +34,23 @@ pub data JobAction : Type 0 where
 -- the first action of a job
 abbrev pub first_action : Kind → JobAction
 first_action Calling = AskCall
+first_action Reading = FindRoom
 
--- the action after an answer to this one
+-- the action after an answer to this one: bytes of a reader are put, and after none, and after a failure, the job closes its end
 abbrev pub next_after_answer : JobAction → Answer → JobAction
+next_after_answer (AskBytes n) (Gave (b ∷ bs)) = PutPiece (b ∷ bs)
+next_after_answer (AskBytes n) answer = CloseEnd
 next_after_answer action answer = Finish
 
--- the job's next action, were no waker to be called first
+-- the job's next action, were no waker to be called first; after a wait it is the same again
 abbrev pub next_but_wake : Kind → List Act → JobAction
 next_but_wake kind [] = first_action kind
 next_but_wake kind (Answered answer ∷ past) = next_after_answer (next_but_wake kind past) answer
+next_but_wake kind (RoomFree n ∷ past) = AskBytes (min n piece)
+next_but_wake kind (RoomShut ∷ past) = CloseEnd
+next_but_wake kind (Put n waker ∷ past) = FindRoom
+next_but_wake kind (Lost n ∷ past) = CloseEnd
+next_but_wake kind (JobClosed waker ∷ past) = Finish
 next_but_wake kind (Finished waker ∷ past) = Over
 next_but_wake kind (GaveUp waker ∷ past) = Over
 next_but_wake kind (_ ∷ past) = next_but_wake kind past
@@ -41,6 +62,8 @@ is_taken Absent = false
 
 -- whether an act took the holder's waker out of its seat
 abbrev pub takes_waker : Act → Bool
+takes_waker (Put n waker) = is_taken waker
+takes_waker (JobClosed waker) = is_taken waker
 takes_waker (Finished waker) = is_taken waker
 takes_waker (GaveUp waker) = is_taken waker
 takes_waker _ = false
@@ -55,14 +78,17 @@ abbrev pub next_of_job : Kind → List Act → JobAction
 next_of_job kind [] = first_action kind
 next_of_job kind (act ∷ past) = wake_first (takes_waker act) (next_but_wake kind (act ∷ past))
 
--- whether this is an answer to what the job asks for
+-- whether this is an answer to what the job asks for: a reader gives no more bytes than it was asked for, or fails
 abbrev pub is_answer : JobAction → Answer → Bool
 is_answer AskCall (Number n) = true
+is_answer (AskBytes n) (Gave bytes) = nat_le (length bytes) n
+is_answer (AskBytes n) (answer.Failed e) = true
 is_answer action answer = false
 
 -- whether the job waits for an answer from outside
 abbrev pub is_asking : JobAction → Bool
 is_asking AskCall = true
+is_asking (AskBytes n) = true
 is_asking _ = false
 
 -- whether the job has nothing left to do
@@ -75,15 +101,38 @@ abbrev pub IsAnswerTo : JobAction → Act → Type 0
 IsAnswerTo action (Answered answer) = is_answer action answer ≡ true
 IsAnswerTo action _ = ⊥
 
--- the number in an answer
-abbrev pub number_in : Answer → ℕ
-number_in (Number n) = n
+-- the number in an answer, or the one before it
+abbrev pub number_in : Answer → ℕ → ℕ
+number_in (Number n) before = n
+number_in _ before = before
 
 -- the last number that the job was answered
 abbrev pub number : List Act → ℕ
 number [] = 0
-number (Answered answer ∷ past) = number_in answer
+number (Answered answer ∷ past) = number_in answer (number past)
 number (_ ∷ past) = number past
+
+-- the fault in an answer
+abbrev pub fault_in : Answer → Option (Fault ℕ)
+fault_in (answer.Failed e) = Some (Io e)
+fault_in _ = None
+
+-- the first of two faults
+abbrev pub earlier : Option (Fault ℕ) → Option (Fault ℕ) → Option (Fault ℕ)
+earlier (Some why) later = Some why
+earlier None later = later
+
+-- the job's fault: the first one
+abbrev pub fault : List Act → Option (Fault ℕ)
+fault [] = None
+fault (Answered answer ∷ past) = earlier (fault past) (fault_in answer)
+fault (_ ∷ past) = fault past
+
+-- whether the job closed its end of the pipe
+abbrev pub has_closed : List Act → Bool
+has_closed [] = false
+has_closed (JobClosed waker ∷ past) = true
+has_closed (_ ∷ past) = has_closed past
 
 -- whether the job has put its result
 abbrev pub has_finished : List Act → Bool

@@ -3,13 +3,13 @@ use Rattle.std.specs.Prelude.{ℕ, ◌==◌, ◌&&◌, ◌||◌, not, if◌then�
 use Rattle.blocking_pool.specs.declared.pool.answer.Woke.TheVariants.{Entered, Marked}
 use Rattle.blocking_pool.specs.declared.pool.standing.Standing.{Standing}
 use Rattle.blocking_pool.specs.declared.pool.standing.Standing.TheVariants.{Queued, Running, Parked, Done, Dropped}
-use Rattle.blocking_laws.specs.Seen.{joined, is_task, has_timed_out}
+use Rattle.blocking_laws.specs.Seen.{joined, is_owner, is_task, has_timed_out}
 use Rattle.blocking_laws.specs.declared.event.Act.{Act}
 use Rattle.blocking_laws.specs.declared.event.Act.TheVariants.{Accepted, JobWoken, JobCancelled, Took, TookDropped, Ended, Swept, Stays, Stopped, HolderDropped, TaskCancelled}
 use Rattle.blocking_laws.specs.declared.event.Event.{Event}
 use Rattle.blocking_laws.specs.declared.event.Moment.{Moment}
 use Rattle.blocking_laws.specs.declared.event.Party.{Party}
-use Rattle.blocking_laws.specs.declared.event.Party.TheVariants.{Task, Pool}
+use Rattle.blocking_laws.specs.declared.event.Party.TheVariants.{Owner, Task, Pool}
 
 -- ---- who holds a job
 
@@ -41,7 +41,7 @@ makes_a_task e = is_pool e.party && not (length (accepted_by e.act) == 0)
 abbrev pub tasks : List Moment → ℕ
 tasks past = length (filter (λ now. makes_a_task now.event) past)
 
--- who holds a job that this party brings now: for the pool, the task that comes with it
+-- who holds a job that this party brings now: for the pool, the task that comes with it; else the owner whose session begins
 abbrev pub newcomer : List Moment → Party → Party
 newcomer past Pool = Task (tasks past)
 newcomer past party = party
@@ -53,10 +53,12 @@ holder (now ∷ past) s = if accepts s now.event.act then Some (newcomer past no
 
 -- the owner that a holder is: a task is none
 abbrev pub as_owner : Option Party → Option ℕ
+as_owner (Some (Owner h)) = Some h
 as_owner _ = None
 
 -- whether this holder is this party
 abbrev pub is_holder : Option Party → Party → Bool
+is_holder (Some (Owner h)) party = is_owner h party
 is_holder (Some (Task k)) party = is_task k party
 is_holder _ party = false
 

@@ -6,7 +6,7 @@ use Rattle.blocking_laws.specs.declared.event.Act.TheVariants.{Took, TookDropped
 use Rattle.blocking_laws.specs.declared.event.Event.{Event}
 use Rattle.blocking_laws.specs.declared.event.Moment.{Moment}
 use Rattle.blocking_laws.specs.declared.event.Party.{Party}
-use Rattle.blocking_laws.specs.declared.event.Party.TheVariants.{Task, Worker}
+use Rattle.blocking_laws.specs.declared.event.Party.TheVariants.{Owner, Task, Worker}
 use Rattle.blocking_laws.specs.declared.event.WaitEnd.{WaitEnd}
 use Rattle.blocking_laws.specs.declared.event.WaitEnd.TheVariants.{Woken, TimedOut}
 
@@ -42,6 +42,11 @@ joined ns (m ∷ ms) = ns ++ m ∷ ms
 abbrev pub is_this : ℕ → Option ℕ → Bool
 is_this n None = false
 is_this n (Some m) = m == n
+
+-- whether the party is this owner
+abbrev pub is_owner : ℕ → Party → Bool
+is_owner h (Owner g) = g == h
+is_owner h _ = false
 
 -- whether the party is this task
 abbrev pub is_task : ℕ → Party → Bool
@@ -96,6 +101,18 @@ acts_of_task k seen = map (λ e. e.act) (filter (is_by_task k) seen)
 abbrev pub task_cut : ℕ → ℕ → List Event → List Event
 task_cut k s seen = filter (λ e. is_by_task k e || is_of_job s e) seen
 
+-- whether an event is of this owner or of one of its jobs: none that the pool decides, and something was done
+abbrev pub is_in_cut : ℕ → Event → Bool
+is_in_cut h e = not (is_of_pool e.act) && not (is_nothing e.act) && (is_owner h e.party || is_some_worker e.party && is_this h e.owner)
+
+-- The cut of an owner: the events of the owner and of its jobs. The laws of an owner see nothing else.
+abbrev pub cut : ℕ → List Event → List Event
+cut h seen = filter (is_in_cut h) seen
+
 -- in a cut, the acts of the holder itself: those that are no worker's, the newest first
 abbrev pub own : List Event → List Act
 own cut = map (λ e. e.act) (filter (λ e. not (is_some_worker e.party)) cut)
+
+-- the acts of an owner, the newest first
+abbrev pub acts_of_owner : ℕ → List Event → List Act
+acts_of_owner h seen = own (cut h seen)

@@ -1,22 +1,23 @@
 -- Steps and their events: which steps have an action, and what is seen of them.
-use Rattle.std.specs.Prelude.{◌≡◌, ℕ, ◌+◌, nat_lt, ◌&&◌, ◌||◌, ◌==◌, not, if◌then◌else◌, Bool, true, false, List, [], ◌∷◌, Option, Some, None, is_some, is_none}
+use Rattle.std.specs.Prelude.{◌≡◌, ℕ, ◌+◌, nat_lt, ◌&&◌, ◌||◌, ◌==◌, not, if◌then◌else◌, Bool, true, false, List, [], ◌∷◌, length, filter, Option, Some, None, is_some, is_none}
 use Rattle.blocking_pool.specs.declared.pool.answer.Refusal.TheVariants.{Memory}
-use Rattle.blocking_laws.specs.Seen.{events, acts_of, acts_of_task, is_of_pool, is_nothing}
+use Rattle.blocking_laws.specs.Seen.{events, acts_of, acts_of_task, acts_of_owner, is_of_pool, is_nothing}
 use Rattle.blocking_laws.specs.Jobs.{tasks, holder, as_owner}
 use Rattle.blocking_laws.specs.Counts.{starts, arrivals}
 use Rattle.blocking_laws.specs.Turns.{Turn, GoesOn, IsWaiting, MustGiveUp, HasGivenUp, turn, hand}
 use Rattle.blocking_laws.specs.JobTable.{Kind, Calling, JobAction, next_of_job, is_answer, is_asking, is_over}
+use Rattle.blocking_laws.specs.Sessions.{kind_of_job, is_dropped}
 use Rattle.blocking_laws.specs.TaskLaws.{is_gone, was_cancelled, is_let_go}
 use Rattle.blocking_laws.specs.declared.event.Act.{Act}
-use Rattle.blocking_laws.specs.declared.event.Act.TheVariants.{Accepted, Refused, JobWoken, JobCancelled, LimitSet, Swept, Waits, TaskGot, TaskGotNone, TaskCancelled, TaskDetached, HolderDropped, Arrived, Took, TookDropped, TookNone, Stays, Stopped, Ended, HandedOut, Answered, NoAction}
+use Rattle.blocking_laws.specs.declared.event.Act.TheVariants.{Made, Asked, Accepted, Refused, JobWoken, JobCancelled, LimitSet, Swept, Waits, TaskGot, TaskGotNone, TaskCancelled, TaskDetached, HolderDropped, Arrived, Took, TookDropped, TookNone, Stays, Stopped, Ended, HandedOut, Answered, NoAction}
 use Rattle.blocking_laws.specs.declared.event.Moment.{Moment}
 use Rattle.blocking_laws.specs.declared.event.Party.{Party}
-use Rattle.blocking_laws.specs.declared.event.Party.TheVariants.{Task, Worker, Pool}
+use Rattle.blocking_laws.specs.declared.event.Party.TheVariants.{Owner, Task, Worker, Pool}
 use Rattle.blocking_laws.specs.declared.event.WaitEnd.{WaitEnd}
 use Rattle.blocking_laws.specs.declared.event.WaitEnd.TheVariants.{Woken, TimedOut}
 use Rattle.blocking_laws.specs.declared.step.Answer.{Answer}
 use Rattle.blocking_laws.specs.declared.step.Step.{Step}
-use Rattle.blocking_laws.specs.declared.step.Step.TheVariants.{Spawn, OfTask, Arrive, Take, Job, Io, End, Wait, Late, SetLimit, Sweep, Stray, Strike}
+use Rattle.blocking_laws.specs.declared.step.Step.TheVariants.{New, Ask, Own, DropOwner, Spawn, OfTask, Arrive, Take, Job, Io, End, Wait, Late, SetLimit, Sweep, Stray, Strike}
 use Rattle.blocking_laws.specs.declared.step.TaskCall.{TaskCall}
 use Rattle.blocking_laws.specs.declared.step.TaskCall.TheVariants.{Poll, Cancel, Detach, Drop}
 
@@ -37,9 +38,10 @@ is_there (now ∷ past) w = is_there_by now.event.act w (is_there past w)
 abbrev pub is_free : List Moment → ℕ → Bool
 is_free past w = is_there past w && is_none (hand past w)
 
--- the kind of a job, by its holder
-abbrev pub kind_by : Option Party → Kind
-kind_by _ = Calling
+-- the kind of a job, by its holder: of an owner's that of its session
+abbrev pub kind_by : Option Party → List Moment → ℕ → Kind
+kind_by (Some (Owner h)) past s = kind_of_job s (acts_of_owner h (events past))
+kind_by _ past s = Calling
 
 -- What a worker does next: nothing, an action of its job, giving the job up, or ending the turn.
 pub data WorkerAction : Type 0 where
@@ -58,7 +60,7 @@ next_in_turn HasGivenUp action = if is_over action then EndsTurn else Does actio
 -- the next action of a worker with this job in its hand
 abbrev pub next_with : Option ℕ → List Moment → WorkerAction
 next_with None past = NoNext
-next_with (Some s) past = next_in_turn (turn past s) (next_of_job (kind_by (holder past s)) (acts_of s (events past)))
+next_with (Some s) past = next_in_turn (turn past s) (next_of_job (kind_by (holder past s) past s) (acts_of s (events past)))
 
 -- the next action of a worker
 abbrev pub next_of_worker : List Moment → ℕ → WorkerAction
@@ -92,15 +94,32 @@ is_for_cancelled _ = false
 abbrev pub may_call : List Act → TaskCall → Bool
 may_call acts c = not (is_gone acts) && (not (was_cancelled acts) || is_for_cancelled c)
 
+-- ---- owners
+
+-- whether an act makes an owner
+abbrev pub is_making : Act → Bool
+is_making (Made h capacity) = true
+is_making _ = false
+
+-- how many owners there are
+abbrev pub owners : List Moment → ℕ
+owners past = length (filter (λ now. is_making now.event.act) past)
+
 -- whether the holder of a job let it go, so that it may be cancelled in the pool
 abbrev pub may_cancel : Option Party → List Moment → Bool
+may_cancel (Some (Owner h)) past = is_dropped (acts_of_owner h (events past))
 may_cancel (Some (Task k)) past = is_let_go (acts_of_task k (events past))
 may_cancel _ past = false
 
 -- ---- steps
 
--- Whether a step names a party that is there and has an action of that kind.
+-- Whether a step names a party that is there and has an action of that kind. Where no owner is ever made, none is there; `OwnerSteps`
+-- says it of owners.
 abbrev pub has_action : List Moment → Step → Bool
+has_action past (New capacity) = false
+has_action past (Ask h call) = false
+has_action past (Own h) = false
+has_action past (DropOwner h) = false
 has_action past Spawn = true
 has_action past (OfTask k c) = nat_lt k (tasks past) && may_call (acts_of_task k (events past)) c
 has_action past Arrive = nat_lt (arrivals past) (starts past)
@@ -117,6 +136,9 @@ has_action past (Strike s) = may_cancel (holder past s) past
 
 -- the party that a step names
 abbrev pub named : Step → Party
+named (Ask h call) = Owner h
+named (Own h) = Owner h
+named (DropOwner h) = Owner h
 named (OfTask k c) = Task k
 named (Take w) = Worker w
 named (Job w) = Worker w
@@ -126,8 +148,9 @@ named (Wait w) = Worker w
 named (Late w) = Worker w
 named step = Pool
 
--- who takes a step: the party that it names, and the next worker where one arrives
+-- who takes a step: the party that it names, and the next owner or worker where one is made or arrives
 abbrev pub party : List Moment → Step → Party
+party past (New capacity) = Owner (owners past)
 party past Arrive = Worker (1 + arrivals past)
 party past step = named step
 
@@ -209,8 +232,12 @@ abbrev pub IsCancelOf : ℕ → Act → Type 0
 IsCancelOf s (JobCancelled t woke) = t ≡ s
 IsCancelOf s _ = ⊥
 
--- What is seen of a step is of its kind and has its numbers. What tasks and jobs may do is the matter of their own laws.
+-- What is seen of a step is of its kind and has its numbers. What owners, tasks and jobs may do is the matter of their own laws.
 abbrev pub Fits : List Moment → Step → Act → Type 0
+Fits past (New capacity) act = act ≡ Made (owners past) capacity
+Fits past (Ask h call) act = act ≡ Asked call
+Fits past (Own h) act = is_of_pool act ≡ false
+Fits past (DropOwner h) act = act ≡ HolderDropped
 Fits past Spawn act = IsBegun act
 Fits past (OfTask k c) act = IsOfTask c act
 Fits past Arrive act = act ≡ Arrived (1 + arrivals past)
@@ -238,8 +265,9 @@ pub record StepLaw (past : List Moment) (now : Moment) : Type 0 where
   pub of : now.event.job ≡ (if is_nothing now.event.act then None else job_of past now.step now.event.act)
   pub owned : now.event.owner ≡ owner_of now.event.job past
 
--- whether a step is one that the pool answers: all but what tasks are asked and what jobs do
+-- whether a step is one that the pool answers: all but what tasks are asked and what polls and jobs do
 abbrev pub is_pool_step : Step → Bool
+is_pool_step (Own h) = false
 is_pool_step (OfTask k c) = false
 is_pool_step (Job w) = false
 is_pool_step step = true

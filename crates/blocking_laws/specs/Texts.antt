@@ -1,17 +1,22 @@
 -- The texts of events, as lists of bytes.
-use Rattle.std.specs.Prelude.{ℕ, zero, suc, ◌+◌, Bool, true, false, List, [], ◌++◌, codes, decimal}
+use Rattle.std.specs.Prelude.{ℕ, zero, suc, ◌+◌, Bool, true, false, List, [], ◌++◌, codes, decimal, Option, Some, None}
+use Rattle.blocking_core.specs.declared.io.Fault.TheVariants as fault
 use Rattle.blocking_pool.specs.declared.pool.answer.Refusal.{Refusal}
 use Rattle.blocking_pool.specs.declared.pool.answer.Refusal.TheVariants.{Memory, NoWorker, Numbers}
 use Rattle.blocking_pool.specs.declared.pool.answer.Woke.{Woke}
 use Rattle.blocking_pool.specs.declared.pool.answer.Woke.TheVariants.{Entered, Marked, Nothing}
 use Rattle.blocking_pool.specs.declared.pool.standing.Standing.{Standing}
 use Rattle.blocking_pool.specs.declared.pool.standing.Standing.TheVariants.{Queued, Running, Parked, Done, Dropped}
-use Rattle.blocking_laws.specs.declared.step.Answer.TheVariants.{Number}
+use Rattle.blocking_laws.specs.Hex.{hex_text}
+use Rattle.blocking_laws.specs.declared.step.Answer.{Answer}
+use Rattle.blocking_laws.specs.declared.step.Answer.TheVariants as answer
 use Rattle.blocking_laws.specs.declared.event.Act.{Act}
-use Rattle.blocking_laws.specs.declared.event.Act.TheVariants.{Accepted, Refused, JobWoken, JobCancelled, LimitSet, Swept, Waits, TaskGot, TaskGotNone, TaskCancelled, TaskDetached, HolderDropped, Arrived, Took, TookDropped, TookNone, Stays, Stopped, Ended, HandedOut, Answered, JobParked, Finished, GaveUp, HolderWoken, NoAction}
+use Rattle.blocking_laws.specs.declared.event.Act.TheVariants.{Made, Asked, OwnerClosed, Got, GotEnd, Back, Replied, RoomFree, RoomShut, Put, Lost, JobClosed, Accepted, Refused, JobWoken, JobCancelled, LimitSet, Swept, Waits, TaskGot, TaskGotNone, TaskCancelled, TaskDetached, HolderDropped, Arrived, Took, TookDropped, TookNone, Stays, Stopped, Ended, HandedOut, Answered, JobParked, Finished, GaveUp, HolderWoken, NoAction}
 use Rattle.blocking_laws.specs.declared.event.Event.{Event}
 use Rattle.blocking_laws.specs.declared.event.HolderWaker.{HolderWaker}
 use Rattle.blocking_laws.specs.declared.event.HolderWaker.TheVariants.{Taken, Absent}
+use Rattle.blocking_laws.specs.declared.event.Reply.{Reply}
+use Rattle.blocking_laws.specs.declared.event.Reply.TheVariants.{Count, Handle, Failed}
 
 -- why a job is refused
 abbrev pub refusal_text : Refusal → List ℕ
@@ -38,8 +43,34 @@ abbrev pub wake_text : HolderWaker → List ℕ
 wake_text Taken = codes " wake owner"
 wake_text Absent = []
 
+-- the job whose note was taken stands at the end of a text
+abbrev pub note_text : Option ℕ → List ℕ
+note_text (Some s) = codes " wake " ++ decimal s
+note_text None = []
+
+-- what a job is answered
+abbrev pub answer_text : Answer → List ℕ
+answer_text (answer.Number n) = decimal n
+answer_text (answer.Gave bytes) = hex_text bytes
+answer_text (answer.Failed e) = codes "fault " ++ decimal e
+
+-- what a poll replies
+abbrev pub reply_text : Reply → List ℕ
+reply_text (Count n) = codes "ok " ++ decimal n
+reply_text Handle = codes "handle"
+reply_text (Failed (fault.Io e)) = codes "fault io " ++ decimal e
+reply_text (Failed fault.WriteZero) = codes "fault write-zero"
+reply_text (Failed (fault.Refused why)) = codes "fault refused " ++ refusal_text why
+
 -- the text of an act
 abbrev pub act_text : Act → List ℕ
+act_text (Made h capacity) = codes "made " ++ decimal h
+act_text (Asked call) = codes "asked"
+act_text (OwnerClosed note) = codes "closed" ++ note_text note
+act_text (Got bytes note) = codes "got " ++ hex_text bytes ++ note_text note
+act_text GotEnd = codes "got end"
+act_text Back = codes "back"
+act_text (Replied reply) = codes "replied " ++ reply_text reply
 act_text (Accepted s) = codes "accepted " ++ decimal s
 act_text (Refused why) = codes "refused " ++ refusal_text why
 act_text (JobWoken s woke) = codes "delivered " ++ decimal s ++ codes " " ++ woke_text woke
@@ -60,8 +91,13 @@ act_text (Stays w end) = codes "stays " ++ decimal w
 act_text (Stopped w end) = codes "stopped " ++ decimal w
 act_text (Ended s how) = codes "ended " ++ decimal s ++ codes " " ++ standing_text how
 act_text (HandedOut s) = codes "drop " ++ decimal s
-act_text (Answered (Number n)) = codes "answered " ++ decimal n
+act_text (Answered answer) = codes "answered " ++ answer_text answer
+act_text (RoomFree n) = codes "room " ++ decimal n
+act_text RoomShut = codes "shut"
 act_text JobParked = codes "parked"
+act_text (Put n waker) = codes "put " ++ decimal n ++ wake_text waker
+act_text (Lost n) = codes "lost " ++ decimal n
+act_text (JobClosed waker) = codes "closed" ++ wake_text waker
 act_text (Finished waker) = codes "finished" ++ wake_text waker
 act_text (GaveUp waker) = codes "gave up" ++ wake_text waker
 act_text HolderWoken = codes "delivered owner"

@@ -1,12 +1,17 @@
 //! What is seen of a step.
 ghost use Rattle.std.specs.Prelude.{◌≡◌};
 
-use crate::step::{Answer, Step};
+use crate::bytes::Bytes;
+use crate::step::{Answer, HandleCall, Step};
+use blocking_core::io::Fault;
 use blocking_core::pool::{Refusal, Standing, Woke};
+use std::alloc::AllocError;
 
 /// Who took a step.
 #[derive(Clone, Copy, Debug, PartialEq, Eq)]
 pub enum Party {
+    /// The owner of this number, from 0.
+    Owner(usize),
     /// The task of this number, from 0.
     Task(usize),
     /// The worker of this number, from 1.
@@ -59,9 +64,35 @@ impl HolderWaker {
     }
 }
 
+/// What a poll of an owner replies.
+#[derive(Clone, Copy, Debug, PartialEq, Eq)]
+pub enum Reply {
+    /// So many bytes were read; none for an empty buffer, and at the reader's end.
+    Count(u64),
+    /// The handle.
+    Handle,
+    /// A fault; an error of the handle is told by its number.
+    Failed(Fault<u64>),
+}
+
 /// What was done. Jobs go by their serials.
-#[derive(Clone, Copy, Debug)]
+#[derive(Debug, Drop)]
 pub enum Act {
+    // of an owner
+    /// The owner of this number was made, and the pipes of its sessions hold so many bytes; 0 stands for the default.
+    Made(usize, usize),
+    /// A poll began, and asked for this.
+    Asked(HandleCall),
+    /// The owner closed its end of the pipe, and took the note of this job out of its seat, if one was seated.
+    OwnerClosed(Option<u64>),
+    /// These bytes came out of the pipe, one at least; and the note of this job out of its seat, if one was seated.
+    Got(Bytes, Option<u64>),
+    /// The pipe was found empty, with the job's end closed.
+    GotEnd,
+    /// The handle came back.
+    Back,
+    /// The poll replied so, and is over.
+    Replied(Reply),
     // at the pool
     /// A job was accepted.
     Accepted(u64),
@@ -75,9 +106,12 @@ pub enum Act {
     LimitSet(usize),
     /// A sweep put back so many jobs.
     Swept(usize),
-    // of a task
-    /// A poll found no answer yet.
+    // of an owner or a task
+    /// A poll found nothing yet, and is over.
     Waits,
+    /// The owner or the task was dropped.
+    HolderDropped,
+    // of a task
     /// A poll found this answer.
     TaskGot(u64),
     /// A poll found that no answer will come.
@@ -86,8 +120,6 @@ pub enum Act {
     TaskCancelled,
     /// The task was detached.
     TaskDetached,
-    /// The task was dropped.
-    HolderDropped,
     // of a worker
     /// The worker of this number arrived.
     Arrived(usize),
@@ -108,8 +140,18 @@ pub enum Act {
     // of a job, by its worker
     /// What the job asked for was answered so.
     Answered(Answer),
+    /// The job found room for so many bytes in the pipe, one at least.
+    RoomFree(usize),
+    /// The job found the owner's end of the pipe closed.
+    RoomShut,
     /// The job found that it has to wait for a wake.
     JobParked,
+    /// The job put so many bytes into the pipe, and found this in the owner's seat.
+    Put(usize, HolderWaker),
+    /// So many bytes were lost, since the owner's end of the pipe is closed.
+    Lost(usize),
+    /// The job closed its end of the pipe, and found this in the owner's seat.
+    JobClosed(HolderWaker),
     /// The job put its result where its holder finds it, and found this in the holder's seat.
     Finished(HolderWaker),
     /// The job gave up: no result will come. It found this in the holder's seat.
@@ -121,14 +163,66 @@ pub enum Act {
     NoAction,
 }
 
+impl Act {
+    ghost use Rattle.std.specs.Prelude.{IfOk, IsOk, true};
+    ghost use Rattle.blocking_laws.specs.Bare.{is_bare};
+
+    /// The same act once more. Err where there is no memory for its bytes: an act without bytes is always had.
+    pub fn try_clone(&self) -> Result<Act, AllocError>
+        ensures same { IfOk result (λ act. act ≡ self.now) }
+        ensures bare { is_bare self.now ≡ true → IsOk result }
+    {
+        Ok(match self {
+            Act::Made(owner, capacity) => Act::Made(*owner, *capacity),
+            Act::Asked(call) => Act::Asked(*call),
+            Act::OwnerClosed(note) => Act::OwnerClosed(*note),
+            Act::Got(bytes, note) => Act::Got(bytes.try_clone()?, *note),
+            Act::GotEnd => Act::GotEnd,
+            Act::Back => Act::Back,
+            Act::Replied(reply) => Act::Replied(*reply),
+            Act::Accepted(serial) => Act::Accepted(*serial),
+            Act::Refused(why) => Act::Refused(*why),
+            Act::JobWoken(serial, woke) => Act::JobWoken(*serial, *woke),
+            Act::JobCancelled(serial, woke) => Act::JobCancelled(*serial, *woke),
+            Act::LimitSet(limit) => Act::LimitSet(*limit),
+            Act::Swept(count) => Act::Swept(*count),
+            Act::Waits => Act::Waits,
+            Act::HolderDropped => Act::HolderDropped,
+            Act::TaskGot(number) => Act::TaskGot(*number),
+            Act::TaskGotNone => Act::TaskGotNone,
+            Act::TaskCancelled => Act::TaskCancelled,
+            Act::TaskDetached => Act::TaskDetached,
+            Act::Arrived(worker) => Act::Arrived(*worker),
+            Act::Took(serial) => Act::Took(*serial),
+            Act::TookDropped(serial) => Act::TookDropped(*serial),
+            Act::TookNone => Act::TookNone,
+            Act::Stays(worker, end) => Act::Stays(*worker, *end),
+            Act::Stopped(worker, end) => Act::Stopped(*worker, *end),
+            Act::Ended(serial, how) => Act::Ended(*serial, *how),
+            Act::HandedOut(serial) => Act::HandedOut(*serial),
+            Act::Answered(answer) => Act::Answered(answer.try_clone()?),
+            Act::RoomFree(room) => Act::RoomFree(*room),
+            Act::RoomShut => Act::RoomShut,
+            Act::JobParked => Act::JobParked,
+            Act::Put(count, waker) => Act::Put(*count, *waker),
+            Act::Lost(count) => Act::Lost(*count),
+            Act::JobClosed(waker) => Act::JobClosed(*waker),
+            Act::Finished(waker) => Act::Finished(*waker),
+            Act::GaveUp(waker) => Act::GaveUp(*waker),
+            Act::HolderWoken => Act::HolderWoken,
+            Act::NoAction => Act::NoAction,
+        })
+    }
+}
+
 /// What is seen of one step, with the workers that it started.
 ///
 /// Starts are numbered from 1, refused ones too. The greatest number of 64 bits stands for every number from there on.
-#[derive(Clone, Copy, Debug)]
+#[derive(Debug, Drop)]
 pub struct Event {
     /// Who took the step; where nothing was done, whom it names.
     pub party: Party,
-    /// The number of the job's owner, from 0; a task is no owner, so an event of a call's job has none.
+    /// The number of the owner of that job, from 0; a task is no owner, so an event of a call's job has none.
     pub owner: Option<usize>,
     /// The serial of the job that a worker's event is of, from 1.
     pub job: Option<u64>,
@@ -142,8 +236,29 @@ pub struct Event {
     pub start_refused: bool,
 }
 
+impl Event {
+    ghost use Rattle.std.specs.Prelude.{IfOk, IsOk, true};
+    ghost use Rattle.blocking_laws.specs.Bare.{is_bare};
+
+    /// The same event once more. Err where there is no memory for its act's bytes: that of an act without bytes is always had.
+    pub fn twin(&self) -> Result<Event, AllocError>
+        ensures same { IfOk result (λ event. event ≡ self.now) }
+        ensures bare { is_bare self.now.act ≡ true → IsOk result }
+    {
+        Ok(Event {
+            party: self.party,
+            owner: self.owner,
+            job: self.job,
+            act: self.act.try_clone()?,
+            first: self.first,
+            started: self.started,
+            start_refused: self.start_refused,
+        })
+    }
+}
+
 /// A step with its event.
-#[derive(Clone, Copy, Debug)]
+#[derive(Debug, Drop)]
 pub struct Moment {
     /// What was asked for.
     pub step: Step,

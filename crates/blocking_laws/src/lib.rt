@@ -5,10 +5,11 @@
 //! short traces that it accepts and short traces that it refuses, as theorems; [`laws`] has those that machines cite.
 #![tactic(auto)]
 
+pub mod bytes;
 pub mod event;
 pub mod laws;
 pub mod step;
 mod text;
 
-pub use event::{Act, Event, HolderWaker, Moment, Party, WaitEnd};
-pub use step::{Answer, Step, TaskCall};
+pub use event::{Act, Event, HolderWaker, Moment, Party, Reply, WaitEnd};
+pub use step::{Answer, HandleCall, Step, TaskCall};

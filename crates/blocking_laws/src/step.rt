@@ -1,11 +1,23 @@
 //! What a party may be asked to do next.
+ghost use Rattle.std.specs.Prelude.{◌≡◌, IfOk};
+
+use crate::bytes::Bytes;
+use std::alloc::AllocError;
 
 /// One step. It may name anyone and ask for anything: a step that has no action then changes nothing.
 ///
-/// Tasks are numbered from 0 in the order in which their calls were accepted, workers from 1 in the order in which they
-/// arrived, and jobs by their serials, from 1.
-#[derive(Clone, Copy, Debug)]
+/// Owners are numbered from 0 in the order in which they were made, tasks from 0 in the order in which their calls were
+/// accepted, workers from 1 in the order in which they arrived, and jobs by their serials, from 1.
+#[derive(Debug, Drop)]
 pub enum Step {
+    /// An owner is made, with an idle handle. Its sessions' pipes hold so many bytes; 0 stands for the default.
+    New(usize),
+    /// A poll of this owner, by its number from 0, begins, and asks for this.
+    Ask(usize, HandleCall),
+    /// The poll of this owner, by its number from 0, takes its next action.
+    Own(usize),
+    /// This owner, by its number from 0, is dropped.
+    DropOwner(usize),
     /// A call is handed to the pool, whose answer comes by a step of its own.
     Spawn,
     /// This task, by its number from 0, is polled, cancelled, detached or dropped.
@@ -34,6 +46,42 @@ pub enum Step {
     Strike(u64),
 }
 
+impl Step {
+    /// The same step once more. Err where there is no memory for its bytes.
+    pub fn try_clone(&self) -> Result<Step, AllocError>
+        ensures { IfOk result (λ step. step ≡ self.now) }
+    {
+        Ok(match self {
+            Step::New(capacity) => Step::New(*capacity),
+            Step::Ask(owner, call) => Step::Ask(*owner, *call),
+            Step::Own(owner) => Step::Own(*owner),
+            Step::DropOwner(owner) => Step::DropOwner(*owner),
+            Step::Spawn => Step::Spawn,
+            Step::OfTask(task, call) => Step::OfTask(*task, *call),
+            Step::Arrive => Step::Arrive,
+            Step::Take(worker) => Step::Take(*worker),
+            Step::Job(worker) => Step::Job(*worker),
+            Step::Io(worker, answer) => Step::Io(*worker, answer.try_clone()?),
+            Step::End(worker) => Step::End(*worker),
+            Step::Wait(worker) => Step::Wait(*worker),
+            Step::Late(worker) => Step::Late(*worker),
+            Step::SetLimit(limit) => Step::SetLimit(*limit),
+            Step::Sweep => Step::Sweep,
+            Step::Stray(serial) => Step::Stray(*serial),
+            Step::Strike(serial) => Step::Strike(*serial),
+        })
+    }
+}
+
+/// What the poll of an owner may ask for.
+#[derive(Clone, Copy, Debug, PartialEq, Eq)]
+pub enum HandleCall {
+    /// To read at most so many bytes.
+    Read(u64),
+    /// To have the handle itself.
+    GetMut,
+}
+
 /// What may be asked of a task.
 #[derive(Clone, Copy, Debug, PartialEq, Eq)]
 pub enum TaskCall {
@@ -47,9 +95,30 @@ pub enum TaskCall {
     Drop,
 }
 
-/// What a job's call answers.
-#[derive(Clone, Copy, Debug, PartialEq, Eq)]
+/// What a job is answered from outside: by its call, or by the handle that was lent to it.
+#[derive(Debug, Drop)]
 pub enum Answer {
-    /// This number.
+    /// This number, which a call gave.
     Number(u64),
+    /// These bytes, which a reader gave; none at its end.
+    Gave(Bytes),
+    /// The handle failed, with the error of this number.
+    Failed(u64),
+}
+
+impl Answer {
+    ghost use Rattle.std.specs.Prelude.{IsOk, true};
+    ghost use Rattle.blocking_laws.specs.Bare.{is_bare_answer};
+
+    /// The same answer once more. Err where there is no memory for its bytes: an answer without bytes is always had.
+    pub fn try_clone(&self) -> Result<Answer, AllocError>
+        ensures same { IfOk result (λ answer. answer ≡ self.now) }
+        ensures bare { is_bare_answer self.now ≡ true → IsOk result }
+    {
+        match self {
+            Answer::Number(number) => Ok(Answer::Number(*number)),
+            Answer::Gave(bytes) => Ok(Answer::Gave(bytes.try_clone()?)),
+            Answer::Failed(error) => Ok(Answer::Failed(*error)),
+        }
+    }
 }

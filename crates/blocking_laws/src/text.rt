@@ -1,10 +1,11 @@
 //! The texts of events.
 ghost use Rattle.std.specs.Prelude.{◌≡◌, Some};
 ghost use Rattle.std.specs.Fmt.{WritesOnOk};
-ghost use Rattle.blocking_laws.specs.Texts.{act_text, event_text, starts_text, wake_text, refusal_text, woke_text, standing_text};
+ghost use Rattle.blocking_laws.specs.Texts.{act_text, answer_text, event_text, note_text, reply_text, starts_text, wake_text, refusal_text, woke_text, standing_text};
 
-use crate::event::{Act, Event, HolderWaker};
+use crate::event::{Act, Event, HolderWaker, Reply};
 use crate::step::Answer;
+use blocking_core::io::Fault;
 use blocking_core::pool::{Refusal, Standing, Woke};
 use std::fmt;
 
@@ -12,7 +13,7 @@ impl fmt::Display for Event {
     ghost output = { λ event. Some (event_text event) };
 
     fn fmt<W: fmt::Write>(&self, f: &mut fmt::Formatter<W>) -> fmt::Result {
-        let act = self.act;
+        let act = &self.act;
         write!(f, "{act}")?;
         write_starts(f, self.first, self.started)?;
         if self.start_refused {
@@ -38,33 +39,86 @@ impl fmt::Display for Act {
     ghost output = { λ act. Some (act_text act) };
 
     fn fmt<W: fmt::Write>(&self, f: &mut fmt::Formatter<W>) -> fmt::Result {
-        match *self {
+        match self {
+            Act::Made(owner, _) => write!(f, "made {owner}"),
+            Act::Asked(_) => f.write_str("asked"),
+            Act::OwnerClosed(note) => write!(f, "closed{}", Noted(*note)),
+            Act::Got(bytes, note) => write!(f, "got {bytes}{}", Noted(*note)),
+            Act::GotEnd => f.write_str("got end"),
+            Act::Back => f.write_str("back"),
+            Act::Replied(reply) => write!(f, "replied {reply}"),
             Act::Accepted(serial) => write!(f, "accepted {serial}"),
-            Act::Refused(why) => write!(f, "refused {}", refusal_word(why)),
-            Act::JobWoken(serial, woke) => write!(f, "delivered {serial} {}", woke_word(woke)),
-            Act::JobCancelled(serial, woke) => write!(f, "cancelled {serial} {}", woke_word(woke)),
+            Act::Refused(why) => write!(f, "refused {}", refusal_word(*why)),
+            Act::JobWoken(serial, woke) => write!(f, "delivered {serial} {}", woke_word(*woke)),
+            Act::JobCancelled(serial, woke) => write!(f, "cancelled {serial} {}", woke_word(*woke)),
             Act::LimitSet(limit) => write!(f, "limit {limit}"),
             Act::Swept(count) => write!(f, "swept {count}"),
             Act::Waits => f.write_str("waits"),
+            Act::HolderDropped => f.write_str("dropped"),
             Act::TaskGot(number) => write!(f, "got {number}"),
             Act::TaskGotNone => f.write_str("got none"),
             Act::TaskCancelled => f.write_str("cancelled"),
             Act::TaskDetached => f.write_str("detached"),
-            Act::HolderDropped => f.write_str("dropped"),
             Act::Arrived(worker) => write!(f, "arrived {worker}"),
             Act::Took(serial) => write!(f, "took {serial}"),
             Act::TookDropped(serial) => write!(f, "took {serial} dropped"),
             Act::TookNone => f.write_str("idle"),
             Act::Stays(worker, _) => write!(f, "stays {worker}"),
             Act::Stopped(worker, _) => write!(f, "stopped {worker}"),
-            Act::Ended(serial, how) => write!(f, "ended {serial} {}", standing_word(how)),
+            Act::Ended(serial, how) => write!(f, "ended {serial} {}", standing_word(*how)),
             Act::HandedOut(serial) => write!(f, "drop {serial}"),
-            Act::Answered(Answer::Number(number)) => write!(f, "answered {number}"),
+            Act::Answered(answer) => write!(f, "answered {answer}"),
+            Act::RoomFree(room) => write!(f, "room {room}"),
+            Act::RoomShut => f.write_str("shut"),
             Act::JobParked => f.write_str("parked"),
-            Act::Finished(waker) => write!(f, "finished{}", wake_word(waker)),
-            Act::GaveUp(waker) => write!(f, "gave up{}", wake_word(waker)),
+            Act::Put(count, waker) => write!(f, "put {count}{}", wake_word(*waker)),
+            Act::Lost(count) => write!(f, "lost {count}"),
+            Act::JobClosed(waker) => write!(f, "closed{}", wake_word(*waker)),
+            Act::Finished(waker) => write!(f, "finished{}", wake_word(*waker)),
+            Act::GaveUp(waker) => write!(f, "gave up{}", wake_word(*waker)),
             Act::HolderWoken => f.write_str("delivered owner"),
             Act::NoAction => f.write_str("nothing"),
+        }
+    }
+}
+
+impl fmt::Display for Answer {
+    ghost output = { λ answer. Some (answer_text answer) };
+
+    fn fmt<W: fmt::Write>(&self, f: &mut fmt::Formatter<W>) -> fmt::Result {
+        match self {
+            Answer::Number(number) => write!(f, "{number}"),
+            Answer::Gave(bytes) => write!(f, "{bytes}"),
+            Answer::Failed(error) => write!(f, "fault {error}"),
+        }
+    }
+}
+
+impl fmt::Display for Reply {
+    ghost output = { λ reply. Some (reply_text reply) };
+
+    fn fmt<W: fmt::Write>(&self, f: &mut fmt::Formatter<W>) -> fmt::Result {
+        match *self {
+            Reply::Count(count) => write!(f, "ok {count}"),
+            Reply::Handle => f.write_str("handle"),
+            Reply::Failed(Fault::Io(error)) => write!(f, "fault io {error}"),
+            Reply::Failed(Fault::WriteZero) => f.write_str("fault write-zero"),
+            Reply::Failed(Fault::Refused(why)) => write!(f, "fault refused {}", refusal_word(why)),
+        }
+    }
+}
+
+// The job whose note was taken out of its seat, if one was seated.
+#[derive(Clone, Copy)]
+struct Noted(Option<u64>);
+
+impl fmt::Display for Noted {
+    ghost output = { λ noted. Some (note_text noted.0) };
+
+    fn fmt<W: fmt::Write>(&self, f: &mut fmt::Formatter<W>) -> fmt::Result {
+        match self.0 {
+            Some(serial) => write!(f, " wake {serial}"),
+            None => Ok(()),
         }
     }
 }

@@ -7,7 +7,7 @@ use Rattle.blocking_laws.specs.Seen.{EachMayFollow, joined, events, task_cut, is
 use Rattle.blocking_laws.specs.Jobs.{accepts, accepted_by, accepted_jobs, is_pool, makes_a_task, tasks, newcomer, holder}
 use Rattle.blocking_laws.specs.Queue.{times}
 use Rattle.blocking_laws.specs.Turns.{hand}
-use Rattle.blocking_laws.specs.JobTable.{JobAction, AskCall, Finish, WakeHolder, Over, next_of_job, Calling}
+use Rattle.blocking_laws.specs.JobTable.{JobAction, AskCall, Finish, WakeHolder, next_of_job, Calling}
 use Rattle.blocking_laws.specs.TaskLaws.{Calls, TaskMayAct, TaskLaw}
 use Rattle.blocking_laws.specs.Seen.{acts_of}
 use Rattle.blocking_laws.specs.Steps.{StepLaw, Happens, has_action, is_answered, is_job_action, job_of, named, party, next_with}
@@ -17,9 +17,9 @@ use Rattle.blocking_laws.specs.declared.event.Act.TheVariants.{Accepted}
 use Rattle.blocking_laws.specs.declared.event.Event.{Event}
 use Rattle.blocking_laws.specs.declared.event.Moment.{Moment}
 use Rattle.blocking_laws.specs.declared.event.Party.{Party}
-use Rattle.blocking_laws.specs.declared.event.Party.TheVariants.{Task, Worker, Pool}
+use Rattle.blocking_laws.specs.declared.event.Party.TheVariants.{Owner, Task, Worker, Pool}
 use Rattle.blocking_laws.specs.declared.step.Step.{Step}
-use Rattle.blocking_laws.specs.declared.step.Step.TheVariants.{Arrive, Take, Job, Io, End, Wait, Late}
+use Rattle.blocking_laws.specs.declared.step.Step.TheVariants.{New, Ask, Own, DropOwner, Arrive, Take, Job, Io, End, Wait, Late}
 use Rattle.blocking_laws.proofs.Beginnings.{before, keeps, task_keeps}
 use Rattle.blocking_laws.proofs.Queues.{same_self, times_both, times_one, held_so, known_so}
 
@@ -159,7 +159,7 @@ accepts_none : (cut : List Event) (action : JobAction) (t : ℕ) → Calls cut a
 accepts_none cut AskCall t law = law
 accepts_none cut Finish t law = absurd cc
 accepts_none cut WakeHolder t law = absurd cc
-accepts_none cut Over t law = law
+accepts_none cut _ t law = law
 
 by_job : (setting : ℕ) (plan : List Bool) (past : List Moment) (now : Moment) (w t : ℕ) → Legal setting plan (now ∷ past) → AreTasks past
     → now.step ≡ Job w → has_action past (Job w) ≡ true → now.event.act ≡ Accepted t → ⊥
@@ -194,16 +194,42 @@ by_worker setting plan past now w t legal tasks_so_far by accepted =
     let at = accepts_at (has_action past now.step) past now.step w t refl (subst (λ a. Happens (has_action past now.step) past now.step a) accepted law.act) takes in
     by_job setting plan past now at.0 t legal tasks_so_far at.1 at.2 accepted
 
--- a new job's holder is a task, unless a worker took the step
-new_holder : (past : List Moment) (party p : Party) → newcomer past party ≡ p → ((w : ℕ) → party ≡ Worker w → ⊥) → IsTask p
+-- no owner is there to accept one
+by_owner : (b : Bool) (past : List Moment) (step : Step) (h t : ℕ) → has_action past step ≡ b → Happens b past step (Accepted t) → Owner h ≡ party past step → ⊥
+by_owner false past step h t has happens by = cc
+by_owner true past (New capacity) h t has happens by = cc
+by_owner true past (Ask g call) h t has happens by = cc
+by_owner true past (Own g) h t has happens by = cc
+by_owner true past (DropOwner g) h t has happens by = cc
+by_owner true past Arrive h t has happens by = cc
+by_owner true past (Take v) h t has happens by = cc
+by_owner true past (Job v) h t has happens by = cc
+by_owner true past (Io v answer) h t has happens by = cc
+by_owner true past (End v) h t has happens by = cc
+by_owner true past (Wait v) h t has happens by = cc
+by_owner true past (Late v) h t has happens by = cc
+by_owner true past _ h t has happens by = cc
+
+not_by_owner : (past : List Moment) (now : Moment) (h t : ℕ) → StepLaw past now → now.event.party ≡ Owner h → now.event.act ≡ Accepted t → ⊥
+not_by_owner past now h t law by accepted =
+    by_owner (has_action past now.step) past now.step h t refl (subst (λ a. Happens (has_action past now.step) past now.step a) accepted law.act)
+    (sym by ∙ law.by ∙ ap (λ a. if is_nothing a then named now.step else party past now.step) accepted)
+
+-- neither a worker nor an owner took the step
+abbrev IsByOther : Party → Type 0
+IsByOther p = ((w : ℕ) → p ≡ Worker w → ⊥) × ((h : ℕ) → p ≡ Owner h → ⊥)
+
+-- a new job's holder is a task, unless a worker or an owner took the step
+new_holder : (past : List Moment) (party p : Party) → newcomer past party ≡ p → IsByOther party → IsTask p
 new_holder past Pool p e never = record { task = tasks past; is = sym e }
 new_holder past (Task k) p e never = record { task = k; is = sym e }
-new_holder past (Worker w) p e never = absurd (never w refl)
+new_holder past (Worker w) p e never = absurd (never.0 w refl)
+new_holder past (Owner h) p e never = absurd (never.1 h refl)
 
 some_is : (p q : Party) → Some p ≡ Some q → p ≡ q
 some_is p q e = cc
 
-held_by : (b : Bool) (past : List Moment) (party p : Party) (held : Option Party) → (held ≡ Some p → IsTask p) → (b ≡ true → (w : ℕ) → party ≡ Worker w → ⊥)
+held_by : (b : Bool) (past : List Moment) (party p : Party) (held : Option Party) → (held ≡ Some p → IsTask p) → (b ≡ true → IsByOther party)
     → (if b then Some (newcomer past party) else held) ≡ Some p → IsTask p
 held_by true past party p held earlier never e = new_holder past party p (some_is (newcomer past party) p e) (never refl)
 held_by false past party p held earlier never e = earlier e
@@ -217,7 +243,10 @@ are_tasks setting plan [] legal = λ s p e. absurd cc
 are_tasks setting plan (now ∷ past) legal =
     let so_far = are_tasks setting plan past (before setting plan past now legal) in
     λ s p e. held_by (accepts s now.event.act) past now.event.party p (holder past s) (so_far s p)
-    (λ accepts w by. by_worker setting plan past now w (accepted_is now.event.act s accepts).0 legal so_far by (accepted_is now.event.act s accepts).1) e
+    (λ accepts. let found = accepted_is now.event.act s accepts in (
+      λ w by. by_worker setting plan past now w found.0 legal so_far by found.1,
+      λ h by. not_by_owner past now h found.0 legal.steps.0 by found.1,
+    )) e
 
 -- ---- so each job in a hand has a task
 

@@ -3,3 +3,4 @@ pub mod OneAnswer
 pub mod OneAct
 pub mod Holders
 pub mod OneEvent
+pub mod OneOwnerAct

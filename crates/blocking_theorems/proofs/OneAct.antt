@@ -3,7 +3,7 @@ use Rattle.std.proofs.Common.{◌≡◌, refl, ℕ, Bool, true, false, List, ap,
 use mathlib.Core.Path.{subst, sym}
 use Rattle.blocking_laws.specs.Seen.{is_some_worker, acts_of}
 use Rattle.blocking_laws.specs.Turns.{is_giving_up}
-use Rattle.blocking_laws.specs.JobTable.{Calling, JobAction, AskCall, Finish, WakeHolder, Over, IsAnswerTo, next_of_job}
+use Rattle.blocking_laws.specs.JobTable.{Calling, JobAction, AskCall, Finish, WakeHolder, IsAnswerTo, next_of_job}
 use Rattle.blocking_laws.specs.Seats.{task_seat, waker_in}
 use Rattle.blocking_laws.specs.TaskLaws.{poll_answer, TaskActs, Calls, CallActs, TaskMayAct, TaskLaw}
 use Rattle.blocking_laws.specs.Steps.{IsPolled, is_answered}
@@ -40,7 +40,7 @@ one_line : (cut : List Event) (action : JobAction) (act other : Act) → is_answ
 one_line cut AskCall act other own law other_law = absurd (unanswered act own law)
 one_line cut Finish act other own law other_law = law ∙ sym other_law
 one_line cut WakeHolder act other own law other_law = law ∙ sym other_law
-one_line cut Over act other own law other_law = absurd law
+one_line cut _ act other own law other_law = absurd law
 
 one_by : (b : Bool) (s : ℕ) (cut : List Event) (act other : Act) → is_giving_up act ≡ b → is_giving_up other ≡ b → is_answered act ≡ false → CallActs s cut act → CallActs s cut other → act ≡ other
 one_by true s cut act other gives other_gives own law other_law = given_up s cut act gives law ∙ sym (given_up s cut other other_gives other_law)

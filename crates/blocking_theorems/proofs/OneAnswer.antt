@@ -22,7 +22,7 @@ use Rattle.blocking_laws.specs.declared.event.Party.{Party}
 use Rattle.blocking_laws.specs.declared.event.WaitEnd.{WaitEnd}
 use Rattle.blocking_laws.specs.declared.event.WaitEnd.TheVariants.{Woken, TimedOut}
 use Rattle.blocking_laws.specs.declared.step.Step.{Step}
-use Rattle.blocking_laws.specs.declared.step.Step.TheVariants.{Spawn, Arrive, Take, Io, End, Wait, Late, SetLimit, Sweep, Stray, Strike}
+use Rattle.blocking_laws.specs.declared.step.Step.TheVariants.{New, Ask, DropOwner, Spawn, Arrive, Take, Io, End, Wait, Late, SetLimit, Sweep, Stray, Strike}
 
 -- ---- what each step is answered
 
@@ -175,6 +175,9 @@ acts_of_kind : (setting : ℕ) (plan : List Bool) (past : List Moment) (step : S
 acts_of_kind setting plan past Spawn now other of_pool memory other_memory kind other_kind law other_law =
     same_job setting plan past now other now.event.act other.event.act kind other_kind memory other_memory law.answers other_law.answers law.growth other_law.growth
 acts_of_kind setting plan past Arrive now other of_pool memory other_memory kind other_kind law other_law = kind ∙ sym other_kind
+acts_of_kind setting plan past (New capacity) now other of_pool memory other_memory kind other_kind law other_law = kind ∙ sym other_kind
+acts_of_kind setting plan past (Ask h call) now other of_pool memory other_memory kind other_kind law other_law = kind ∙ sym other_kind
+acts_of_kind setting plan past (DropOwner h) now other of_pool memory other_memory kind other_kind law other_law = kind ∙ sym other_kind
 acts_of_kind setting plan past (Take w) now other of_pool memory other_memory kind other_kind law other_law =
     take_is setting past now now.event.act kind law.answers ∙ sym (take_is setting past other other.event.act other_kind other_law.answers)
 acts_of_kind setting plan past (Io w answer) now other of_pool memory other_memory kind other_kind law other_law = kind ∙ sym other_kind

@@ -14,7 +14,7 @@ use Rattle.blocking_laws.specs.declared.event.Act.TheVariants.{Refused}
 use Rattle.blocking_laws.specs.declared.event.Moment.{Moment}
 use Rattle.blocking_laws.specs.declared.event.Party.TheVariants.{Task}
 use Rattle.blocking_laws.specs.declared.step.Step.{Step}
-use Rattle.blocking_laws.specs.declared.step.Step.TheVariants.{OfTask, Job}
+use Rattle.blocking_laws.specs.declared.step.Step.TheVariants.{Own, OfTask, Job}
 use Rattle.blocking_laws.specs.declared.step.TaskCall.{TaskCall}
 use Rattle.blocking_laws.specs.declared.step.TaskCall.TheVariants.{Poll, Cancel, Detach, Drop}
 use Rattle.blocking_laws.proofs.Beginnings.{before, keeps, task_keeps}
@@ -113,6 +113,7 @@ same_elsewhere setting plan past (OfTask k c) now other legal other_legal own at
 same_elsewhere setting plan past (Job w) now other legal other_legal own at other_at happens other_happens =
     idle_or (has_action past (Job w)) past (Job w) now other refl happens other_happens
     (λ has acts other_acts. same_action setting plan past now other w legal other_legal has at other_at)
+same_elsewhere setting plan past (Own h) now other legal other_legal own at other_at happens other_happens = happens ∙ sym other_happens
 same_elsewhere setting plan past _ now other legal other_legal own at other_at happens other_happens = absurd cc
 
 memory_is : (act : Act) → is_out_of_memory act ≡ true → act ≡ Refused Memory

@@ -30,3 +30,4 @@ pub mod LostWakes
 pub mod Closings
 pub mod Running
 pub mod Staffing
+pub mod Bare

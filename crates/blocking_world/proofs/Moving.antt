@@ -23,9 +23,9 @@ use Rattle.blocking_world.specs.declared.hand.Hand.{Hand}
 use Rattle.blocking_world.specs.declared.hand.Hand.TheVariants.{Out, Free, Holds}
 use Rattle.blocking_world.specs.declared.hand.JobInHand.{JobInHand}
 use Rattle.blocking_laws.specs.declared.step.Answer.{Answer}
-use Rattle.blocking_laws.specs.declared.step.Answer.TheVariants.{Number}
+use Rattle.blocking_laws.specs.declared.step.Answer.TheVariants.{Number, Gave, Failed}
 use Rattle.blocking_laws.specs.declared.step.Step.{Step}
-use Rattle.blocking_laws.specs.declared.step.Step.TheVariants.{Spawn, OfTask, Arrive, Take, Job, Io, End, Wait, Late, SetLimit, Sweep, Stray, Strike}
+use Rattle.blocking_laws.specs.declared.step.Step.TheVariants.{New, Ask, Own, DropOwner, Spawn, OfTask, Arrive, Take, Job, Io, End, Wait, Late, SetLimit, Sweep, Stray, Strike}
 use Rattle.blocking_laws.specs.declared.step.TaskCall.{TaskCall}
 use Rattle.blocking_lanes.specs.Tasks.{may_be, has_let_go, Task}
 
@@ -112,6 +112,12 @@ answer_with : (may_answer : ℕ → Bool → Type 0) (w : Worlded) (v : ℕ) (an
 answer_with may_answer w v (Number n) e w' Out holds does = idle_move may_answer w e w' (Io v (Number n)) (ap (λ h. is_awaiting (next_in h)) holds) does
 answer_with may_answer w v (Number n) e w' (Free pass) holds does = idle_move may_answer w e w' (Io v (Number n)) (ap (λ h. is_awaiting (next_in h)) holds) does
 answer_with may_answer w v (Number n) e w' (Holds in_hand) holds does = answer_by may_answer w v in_hand n e w' holds (next_of in_hand) refl does
+answer_with may_answer w v (Gave bytes) e w' Out holds does = idle_move may_answer w e w' (Io v (Gave bytes)) refl does
+answer_with may_answer w v (Gave bytes) e w' (Free pass) holds does = idle_move may_answer w e w' (Io v (Gave bytes)) refl does
+answer_with may_answer w v (Gave bytes) e w' (Holds in_hand) holds does = idle_move may_answer w e w' (Io v (Gave bytes)) refl does
+answer_with may_answer w v (Failed n) e w' Out holds does = idle_move may_answer w e w' (Io v (Failed n)) refl does
+answer_with may_answer w v (Failed n) e w' (Free pass) holds does = idle_move may_answer w e w' (Io v (Failed n)) refl does
+answer_with may_answer w v (Failed n) e w' (Holds in_hand) holds does = idle_move may_answer w e w' (Io v (Failed n)) refl does
 
 end_by : (may_answer : ℕ → Bool → Type 0) (w : Worlded) (v : ℕ) (in_hand : JobInHand) (e : Event) (w' : Worlded) → hand_at w.hands v ≡ Holds in_hand
     → (next : WorkerAction) → next_of in_hand ≡ next → Ends next w v in_hand e w' → Moves may_answer (End v) w e w'
@@ -145,6 +151,10 @@ strike_if may_answer w s e w' true test does =
 
 -- a step does what a move does
 pub moved : (may_answer : ℕ → Bool → Type 0) (step : Step) (w : Worlded) (e : Event) (w' : Worlded) → StepDoes may_answer step w e w' → Moves may_answer step w e w'
+moved may_answer (New capacity) w e w' does = idle_move may_answer w e w' (New capacity) refl does
+moved may_answer (Ask h call) w e w' does = idle_move may_answer w e w' (Ask h call) refl does
+moved may_answer (Own h) w e w' does = idle_move may_answer w e w' (Own h) refl does
+moved may_answer (DropOwner h) w e w' does = idle_move may_answer w e w' (DropOwner h) refl does
 moved may_answer Spawn w e w' does = record { move = Begins does.added does.growth does.pool; may = does.adds; step_is = refl; event_is = does.does.0; after_is = does.does.1 }
 moved may_answer (OfTask k call) w e w' does = call_of may_answer w e w' k call (slice_get w.tasks k) refl does
 moved may_answer Arrive w e w' does = arrive_if may_answer w e w' (nat_lt 0 w.pool.counts.arriving) refl does

@@ -15,17 +15,17 @@ use Rattle.blocking_world.specs.declared.call.CallJob.{CallJob}
 use Rattle.blocking_pool.specs.Jobs.{JobNumber}
 use Rattle.blocking_laws.specs.Seats.{waker_in}
 use Rattle.blocking_laws.specs.Seen.{events, acts_of, acts_of_task, own, task_cut, is_nothing, has_timed_out}
-use Rattle.blocking_laws.specs.Jobs.{tasks, holder}
+use Rattle.blocking_laws.specs.Jobs.{tasks, holder, as_owner}
 use Rattle.blocking_laws.specs.Counts.{starts, arrivals}
 use Rattle.blocking_laws.specs.Growth.{IsPlanned}
 use Rattle.blocking_laws.specs.Turns.{Turn, GoesOn, turn, hand}
-use Rattle.blocking_laws.specs.JobTable.{Calling, AskCall, Finish, WakeHolder, next_of_job}
+use Rattle.blocking_laws.specs.JobTable.{Kind, Calling, AskCall, Finish, WakeHolder, next_of_job}
 use Rattle.blocking_laws.specs.TaskLaws.{is_gone, was_cancelled, is_let_go}
-use Rattle.blocking_laws.specs.Steps.{is_there, WorkerAction as ActionInLaws, NoNext, Does, GivesUp as MustGive, EndsTurn as MustEnd, next_in_turn, next_with, next_of_worker, is_job_action, is_answered_action, is_turn_end, is_for_cancelled, may_call, may_cancel, has_action, named, party, job_of, IsOfTask, IsBegun, Fits, Happens, StepLaw}
+use Rattle.blocking_laws.specs.Steps.{is_there, WorkerAction as ActionInLaws, NoNext, Does, GivesUp as MustGive, EndsTurn as MustEnd, next_in_turn, next_with, next_of_worker, is_job_action, is_answered_action, is_turn_end, is_for_cancelled, may_call, may_cancel, kind_by, has_action, named, party, job_of, IsOfTask, IsBegun, Fits, Happens, StepLaw}
 use Rattle.blocking_world.specs.Worlds.{Worlded, CallPool, outcome_of, next_of, next_at, hand_at, task_at, is_free_hand}
 use Rattle.blocking_laws.specs.Answers.{wait_act}
 use Rattle.blocking_world.specs.Machine.{seen, next_start, was_accepted, added_act}
-use Rattle.blocking_world.specs.Moves.{Move, Idles, Begins, Calls, Arrives, TakesJob, TakesNone, IsAnswered, Finishes, GivesUp, CallsWaker, EndsTurn, HasWaited, SetsLimit, Sweeps, IsWoken, IsStruck, May, has_action_in, next_in, is_own, is_awaiting, is_ending, may_call_in, wait_step, finishing_wakes, giving_up_wakes, wakes_as, cancels_as, moment_of}
+use Rattle.blocking_world.specs.Moves.{Move, Idles, Begins, Calls, Arrives, TakesJob, TakesNone, IsAnswered, Finishes, GivesUp, CallsWaker, EndsTurn, HasWaited, SetsLimit, Sweeps, IsWoken, IsStruck, May, has_action_in, is_number, next_in, is_own, is_awaiting, is_ending, may_call_in, wait_step, finishing_wakes, giving_up_wakes, wakes_as, cancels_as, moment_of}
 use Rattle.blocking_world.specs.Ties.{Tied, Numbered, Handed, HandAs, InHandAs, ActedAs, turn_of}
 use Rattle.blocking_laws.specs.declared.event.Act.{Act}
 use Rattle.blocking_laws.specs.declared.event.Act.TheVariants.{JobWoken, JobCancelled, LimitSet, Arrived, Took, TookDropped, TookNone, Stays, Stopped, Ended, Answered, Finished, GaveUp, HolderWoken, NoAction}
@@ -45,7 +45,7 @@ use Rattle.blocking_world.specs.declared.hand.Stage.TheVariants as stage
 use Rattle.blocking_laws.specs.declared.step.Answer.{Answer}
 use Rattle.blocking_laws.specs.declared.step.Answer.TheVariants.{Number}
 use Rattle.blocking_laws.specs.declared.step.Step.{Step}
-use Rattle.blocking_laws.specs.declared.step.Step.TheVariants.{Spawn, OfTask, Arrive, Take, Job, Io, End, Wait, Late, SetLimit, Sweep, Stray, Strike}
+use Rattle.blocking_laws.specs.declared.step.Step.TheVariants.{New, Ask, Own, DropOwner, Spawn, OfTask, Arrive, Take, Job, Io, End, Wait, Late, SetLimit, Sweep, Stray, Strike}
 use Rattle.blocking_laws.specs.declared.step.TaskCall.{TaskCall}
 use Rattle.blocking_laws.specs.declared.step.TaskCall.TheVariants.{Poll, Cancel, Detach, Drop}
 use Rattle.blocking_lanes.specs.declared.task.TaskStage.{TaskStage}
@@ -88,25 +88,45 @@ stage_next stage.GaveUp next n acts (inr acted) = ap (λ a. next_in_turn (turn_o
 in_hand_next : (in_hand : JobInHand) (turns : Turn) (acts : List Act) (let_go : Bool) → InHandAs in_hand turns acts let_go → next_in_turn turns (next_of_job Calling acts) ≡ next_in_laws (Some (next_of in_hand))
 in_hand_next in_hand turns acts let_go h = ap (λ t. next_in_turn t (next_of_job Calling acts)) h.turn_is ∙ stage_next in_hand.stage in_hand.job.progress.next in_hand.job.progress.number acts h.acts_are
 
--- whose job a hand holds, and what its worker does next
-next_by_hand : (w : Worlded) (past : List Moment) (v : ℕ) → Handed w past → (h : Hand) → hand_at w.hands v ≡ h → HandAs h (is_there past v) (hand past v) → next_of_worker past v ≡ next_in_laws (next_in h)
-next_by_hand w past v handed Out holds tie = ap (λ j. next_with j past) tie.1
-next_by_hand w past v handed (Free pass) holds tie = ap (λ j. next_with j past) tie.1
-next_by_hand w past v handed (Holds in_hand) holds tie =
-    ap (λ j. next_with j past) tie.1 ∙ in_hand_next in_hand (turn past in_hand.turn.serial) (acts_of in_hand.turn.serial (events past)) _ (handed.in_hand v in_hand holds)
+-- each job is that of a task: of a call, and of no owner
+calling_by : (b : Bool) (k s : ℕ) (past : List Moment) → kind_by (if b then Some (ByTask k) else None) past s ≡ Calling
+calling_by true k s past = refl
+calling_by false k s past = refl
 
-next_agrees : (w : Worlded) (past : List Moment) (v : ℕ) → Handed w past → next_of_worker past v ≡ next_in_laws (next_in (hand_at w.hands v))
-next_agrees w past v handed = next_by_hand w past v handed (hand_at w.hands v) refl (handed.each v)
+calling : (w : Worlded) (past : List Moment) (s : ℕ) → Numbered w past → kind_by (holder past s) past s ≡ Calling
+calling w past s numbered = ap (λ h. kind_by h past s) (numbered.holders s) ∙ calling_by (nat_lt 0 s && nat_lt (s - 1) (tasks past)) (s - 1) s past
+
+unowned_by : (b : Bool) (k : ℕ) → None ≡ as_owner (if b then Some (ByTask k) else None)
+unowned_by true k = refl
+unowned_by false k = refl
+
+unowned : (w : Worlded) (past : List Moment) (s : ℕ) → Numbered w past → None ≡ as_owner (holder past s)
+unowned w past s numbered = unowned_by (nat_lt 0 s && nat_lt (s - 1) (tasks past)) (s - 1) ∙ ap as_owner (sym (numbered.holders s))
+
+-- whose job a hand holds, and what its worker does next
+next_by_hand : (w : Worlded) (past : List Moment) (v : ℕ) → Numbered w past → Handed w past → (h : Hand) → hand_at w.hands v ≡ h → HandAs h (is_there past v) (hand past v) → next_of_worker past v ≡ next_in_laws (next_in h)
+next_by_hand w past v numbered handed Out holds tie = ap (λ j. next_with j past) tie.1
+next_by_hand w past v numbered handed (Free pass) holds tie = ap (λ j. next_with j past) tie.1
+next_by_hand w past v numbered handed (Holds in_hand) holds tie =
+    ap (λ j. next_with j past) tie.1
+    ∙ ap (λ (k : Kind). next_in_turn (turn past in_hand.turn.serial) (next_of_job k (acts_of in_hand.turn.serial (events past)))) (calling w past in_hand.turn.serial numbered)
+    ∙ in_hand_next in_hand (turn past in_hand.turn.serial) (acts_of in_hand.turn.serial (events past)) _ (handed.in_hand v in_hand holds)
+
+next_agrees : (w : Worlded) (past : List Moment) (v : ℕ) → Numbered w past → Handed w past → next_of_worker past v ≡ next_in_laws (next_in (hand_at w.hands v))
+next_agrees w past v numbered handed = next_by_hand w past v numbered handed (hand_at w.hands v) refl (handed.each v)
 
 own_action : (d : Option WorkerAction) → is_own d ≡ is_job_action (next_in_laws d)
 own_action None = refl
 own_action (Some worker_action.Await) = refl
 own_action (Some _) = refl
 
-awaited_action : (d : Option WorkerAction) (answer : Answer) → is_awaiting d ≡ is_answered_action (next_in_laws d) answer
-awaited_action None answer = refl
+awaited_action : (d : Option WorkerAction) (answer : Answer) → (is_number answer && is_awaiting d) ≡ is_answered_action (next_in_laws d) answer
+awaited_action None (Number n) = refl
 awaited_action (Some worker_action.Await) (Number n) = refl
-awaited_action (Some _) answer = refl
+awaited_action (Some _) (Number n) = refl
+awaited_action None _ = refl
+awaited_action (Some worker_action.Await) _ = refl
+awaited_action (Some _) _ = refl
 
 ending_action : (d : Option WorkerAction) → is_ending d ≡ is_turn_end (next_in_laws d)
 ending_action None = refl
@@ -191,13 +211,17 @@ limit_by n false false zeroed above = absurd (grind (arith, nat_tests))
 
 -- a step has an action in the world exactly where it has one by what was seen
 pub has_is : (setting : ℕ) (w : Worlded) (past : List Moment) → Tied setting w past → (step : Step) → has_action_in w step ≡ has_action past step
+has_is setting w past tied (New capacity) = refl
+has_is setting w past tied (Ask h call) = refl
+has_is setting w past tied (Own h) = refl
+has_is setting w past tied (DropOwner h) = refl
 has_is setting w past tied Spawn = refl
 has_is setting w past tied (OfTask k call) = calls_by w past k call tied.numbered tied.tasked (slice_get w.tasks k) refl
 has_is setting w past tied Arrive = arrive_by w.pool.counts.arriving (arrivals past) (starts past) tied.counted.arriving_are (nat_lt 0 w.pool.counts.arriving) (nat_lt (arrivals past) (starts past)) refl refl
 has_is setting w past tied (Take v) = free_by (hand_at w.hands v) (is_there past v) (hand past v) (tied.handed.each v)
-has_is setting w past tied (Job v) = own_action (next_in (hand_at w.hands v)) ∙ ap is_job_action (sym (next_agrees w past v tied.handed))
-has_is setting w past tied (Io v answer) = awaited_action (next_in (hand_at w.hands v)) answer ∙ ap (λ next_of_worker. is_answered_action next_of_worker answer) (sym (next_agrees w past v tied.handed))
-has_is setting w past tied (End v) = ending_action (next_in (hand_at w.hands v)) ∙ ap is_turn_end (sym (next_agrees w past v tied.handed))
+has_is setting w past tied (Job v) = own_action (next_in (hand_at w.hands v)) ∙ ap is_job_action (sym (next_agrees w past v tied.numbered tied.handed))
+has_is setting w past tied (Io v answer) = awaited_action (next_in (hand_at w.hands v)) answer ∙ ap (λ next_of_worker. is_answered_action next_of_worker answer) (sym (next_agrees w past v tied.numbered tied.handed))
+has_is setting w past tied (End v) = ending_action (next_in (hand_at w.hands v)) ∙ ap is_turn_end (sym (next_agrees w past v tied.numbered tied.handed))
 has_is setting w past tied (Wait v) = free_by (hand_at w.hands v) (is_there past v) (hand past v) (tied.handed.each v)
 has_is setting w past tied (Late v) = free_by (hand_at w.hands v) (is_there past v) (hand past v) (tied.handed.each v)
 has_is setting w past tied (SetLimit n) = limit_by n (n == 0) (nat_lt 0 n) refl refl
@@ -258,10 +282,12 @@ step_arrives w past pass many has =
     let next : length w.hands + 1 ≡ 1 + arrivals past = omega (arith, many) in
     record { act = happened past Arrive (Arrived (length w.hands + 1)) has refl (ap Arrived next); by = ap Worker next; of = refl; owned = refl }
 
-step_takes : (w : Worlded) (past : List Moment) (v : ℕ) (old : WorkerPass) (to_drop : Bool) (turn : JobNumber) (job : CallJob) (growth : Growth) (pool : CallPool) → has_action past (Take v) ≡ true
+step_takes : (w : Worlded) (past : List Moment) (v : ℕ) (old : WorkerPass) (to_drop : Bool) (turn : JobNumber) (job : CallJob) (growth : Growth) (pool : CallPool) → Numbered w past → has_action past (Take v) ≡ true
     → StepLaw past (moment_of w (TakesJob v old to_drop turn job growth pool))
-step_takes w past v old false turn job growth pool has = record { act = happened past (Take v) (Took turn.serial) has refl refl; by = refl; of = refl; owned = refl }
-step_takes w past v old true turn job growth pool has = record { act = happened past (Take v) (TookDropped turn.serial) has refl refl; by = refl; of = refl; owned = refl }
+step_takes w past v old false turn job growth pool numbered has =
+    record { act = happened past (Take v) (Took turn.serial) has refl refl; by = refl; of = refl; owned = unowned w past turn.serial numbered }
+step_takes w past v old true turn job growth pool numbered has =
+    record { act = happened past (Take v) (TookDropped turn.serial) has refl refl; by = refl; of = refl; owned = unowned w past turn.serial numbered }
 
 step_takes_none : (w : Worlded) (past : List Moment) (v : ℕ) (old pass : WorkerPass) → has_action past (Take v) ≡ true → StepLaw past (moment_of w (TakesNone v old pass))
 step_takes_none w past v old pass has = record { act = happened past (Take v) TookNone has refl refl; by = refl; of = refl; owned = refl }
@@ -292,18 +318,18 @@ step_after setting plan w past (Arrives pass) tied may =
     let has : nat_lt 0 w.pool.counts.arriving ≡ true = grind (arith, nat_tests) in
     step_arrives w past pass tied.counted.hands_are (sym (has_is setting w past tied Arrive) ∙ has)
 step_after setting plan w past (TakesJob v old to_drop turn job growth pool) tied may =
-    step_takes w past v old to_drop turn job growth pool (sym (has_is setting w past tied (Take v)) ∙ ap is_free_hand may.0)
+    step_takes w past v old to_drop turn job growth pool tied.numbered (sym (has_is setting w past tied (Take v)) ∙ ap is_free_hand may.0)
 step_after setting plan w past (TakesNone v old pass) tied may = step_takes_none w past v old pass (sym (has_is setting w past tied (Take v)) ∙ ap is_free_hand may.0)
 step_after setting plan w past (IsAnswered v in_hand n) tied may =
-    record { act = happened past (Io v (Number n)) (Answered (Number n)) (has_due setting w past tied (Io v (Number n)) v in_hand is_awaiting refl may.0 may.1) refl refl; by = refl; of = sym (hand_tells w past v in_hand tied.handed may.0); owned = refl }
+    record { act = happened past (Io v (Number n)) (Answered (Number n)) (has_due setting w past tied (Io v (Number n)) v in_hand is_awaiting refl may.0 may.1) refl refl; by = refl; of = sym (hand_tells w past v in_hand tied.handed may.0); owned = unowned w past in_hand.turn.serial tied.numbered }
 step_after setting plan w past (Finishes v in_hand) tied may =
-    record { act = happened past (Job v) (Finished (waker_in (finishing_wakes w in_hand))) (has_due setting w past tied (Job v) v in_hand is_own refl may.0 may.1) refl (refl, refl); by = refl; of = sym (hand_tells w past v in_hand tied.handed may.0); owned = refl }
+    record { act = happened past (Job v) (Finished (waker_in (finishing_wakes w in_hand))) (has_due setting w past tied (Job v) v in_hand is_own refl may.0 may.1) refl (refl, refl); by = refl; of = sym (hand_tells w past v in_hand tied.handed may.0); owned = unowned w past in_hand.turn.serial tied.numbered }
 step_after setting plan w past (GivesUp v in_hand) tied may =
-    record { act = happened past (Job v) (GaveUp (waker_in (giving_up_wakes w in_hand))) (has_due setting w past tied (Job v) v in_hand is_own refl may.0 may.1) refl (refl, refl); by = refl; of = sym (hand_tells w past v in_hand tied.handed may.0); owned = refl }
+    record { act = happened past (Job v) (GaveUp (waker_in (giving_up_wakes w in_hand))) (has_due setting w past tied (Job v) v in_hand is_own refl may.0 may.1) refl (refl, refl); by = refl; of = sym (hand_tells w past v in_hand tied.handed may.0); owned = unowned w past in_hand.turn.serial tied.numbered }
 step_after setting plan w past (CallsWaker v in_hand) tied may =
-    record { act = happened past (Job v) HolderWoken (has_due setting w past tied (Job v) v in_hand is_own refl may.0 may.1) refl (refl, refl); by = refl; of = sym (hand_tells w past v in_hand tied.handed may.0); owned = refl }
+    record { act = happened past (Job v) HolderWoken (has_due setting w past tied (Job v) v in_hand is_own refl may.0 may.1) refl (refl, refl); by = refl; of = sym (hand_tells w past v in_hand tied.handed may.0); owned = unowned w past in_hand.turn.serial tied.numbered }
 step_after setting plan w past (EndsTurn v in_hand pass) tied may =
-    record { act = happened past (End v) (Ended in_hand.turn.serial (outcome_of in_hand.stage)) (has_due setting w past tied (End v) v in_hand is_ending refl may.0 may.1) refl (hand_tells w past v in_hand tied.handed may.0); by = refl; of = sym (hand_tells w past v in_hand tied.handed may.0); owned = refl }
+    record { act = happened past (End v) (Ended in_hand.turn.serial (outcome_of in_hand.stage)) (has_due setting w past tied (End v) v in_hand is_ending refl may.0 may.1) refl (hand_tells w past v in_hand tied.handed may.0); by = refl; of = sym (hand_tells w past v in_hand tied.handed may.0); owned = unowned w past in_hand.turn.serial tied.numbered }
 step_after setting plan w past (HasWaited v pass end) tied may =
     step_waits w past v end (must_stop (has_timed_out end) w.pool) (sym (has_is setting w past tied (wait_step end v)) ∙ waiter_free w v end (ap is_free_hand may))
 step_after setting plan w past (SetsLimit n) tied may =

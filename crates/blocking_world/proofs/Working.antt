@@ -103,23 +103,36 @@ not_awaiting w v e w' worker_action.GiveUp in_hand n free does = does
 not_awaiting w v e w' worker_action.Wake in_hand n free does = does
 not_awaiting w v e w' worker_action.End in_hand n free does = does
 
+-- no call is answered so
+pub answer_unfit : (w : Worlded) (v : ℕ) (a : Answer) {first : ℕ} {e : Event} {w' : Worlded} → ((n : ℕ) → a ≡ Number n → ⊥) → w' ≡ w
+    → first ≡ next_start w → e ≡ nothing (Worker v) first → AnswersWith (hand_at w.hands v) w v a e w'
+answer_unfit w v a {first} {e} {w'} unfit same start event = by (hand_at w.hands v) a unfit
+  where
+    does : DoesNothing (Worker v) w e w'
+    does = (event ∙ ap (nothing (Worker v)) start, same)
+
+    by : (hand : Hand) (b : Answer) → ((n : ℕ) → b ≡ Number n → ⊥) → AnswersWith hand w v b e w'
+    by hand (Number n) never = absurd (never n refl)
+    by Out _ never = does
+    by (Free pass) _ never = does
+    by (Holds in_hand) _ never = does
+
 -- the job in the hand awaits no answer
-pub answer_unasked : (w : Worlded) (v : ℕ) (a : Answer) {first : ℕ} {e : Event} {in_hand : JobInHand} {hands : List Hand} → Some in_hand ≡ job_in (hand_at w.hands v) → (worker_action.Await ≡ next_of in_hand → ⊥)
+pub answer_unasked : (w : Worlded) (v : ℕ) {a : Answer} {n first : ℕ} {e : Event} {in_hand : JobInHand} {hands : List Hand} → a ≡ Number n → Some in_hand ≡ job_in (hand_at w.hands v)
+    → (worker_action.Await ≡ next_of in_hand → ⊥)
     → hands ≡ with_hand w.hands v (Holds in_hand) → first ≡ next_start w → e ≡ nothing (Worker v) first → AnswersWith (hand_at w.hands v) w v a e (record w { hands = hands })
-answer_unasked w v (Number n) {first} {e} {in_hand} {hands} holds free put start event =
-    subst (λ hand. AnswersWith hand w v (Number n) e (record w { hands = hands })) (sym (in_hand_is (hand_at w.hands v) in_hand holds))
-    (not_awaiting w v e (record w { hands = hands }) (next_of in_hand) in_hand n free (nothing_done w v (lent_as_was w.hands hands v in_hand holds put) start event))
+answer_unasked w v {a} {n} {first} {e} {in_hand} {hands} number holds free put start event =
+    subst (λ hand. AnswersWith hand w v a e (record w { hands = hands })) (sym (in_hand_is (hand_at w.hands v) in_hand holds))
+    (subst (λ b. AnswersWith (Holds in_hand) w v b e (record w { hands = hands })) (sym number)
+    (not_awaiting w v e (record w { hands = hands }) (next_of in_hand) in_hand n free (nothing_done w v (lent_as_was w.hands hands v in_hand holds put) start event)))
 
 -- the call of the job in the hand is answered
 pub answer_comes : (w : Worlded) (v : ℕ) {a : Answer} {n first serial : ℕ} {e : Event} {in_hand in_hand' : JobInHand} {hands : List Hand} → Some in_hand ≡ job_in (hand_at w.hands v) → worker_action.Await ≡ next_of in_hand
     → a ≡ Number n → in_hand' ≡ in_hand_after_answer in_hand n → serial ≡ in_hand'.turn.serial
-    → hands ≡ with_hand w.hands v (Holds in_hand') → first ≡ next_start w → e ≡ seen (Worker v) (Some serial) (Answered a) first no_growth → AnswersWith (hand_at w.hands v) w v a e (record w { hands = hands })
+    → hands ≡ with_hand w.hands v (Holds in_hand') → first ≡ next_start w → e ≡ seen (Worker v) (Some serial) (Answered (Number n)) first no_growth
+    → AnswersWith (hand_at w.hands v) w v a e (record w { hands = hands })
 answer_comes w v {a} {n} {first} {serial} {e} {in_hand} {in_hand'} {hands} holds awaits number left same put start event =
     let turn : in_hand'.turn.serial ≡ in_hand.turn.serial = ap (λ (h : JobInHand). h.turn.serial) left in
     let does : Answers worker_action.Await w v in_hand n e (record w { hands = hands }) = (cc, cc) in
     subst (λ hand. AnswersWith hand w v a e (record w { hands = hands })) (sym (in_hand_is (hand_at w.hands v) in_hand holds))
     (subst (λ b. AnswersWith (Holds in_hand) w v b e (record w { hands = hands })) (sym number) (subst (λ d. Answers d w v in_hand n e (record w { hands = hands })) awaits does))
-
--- an answer is a number
-pub answer_only : (a : Answer) → (n : ℕ) × (a ≡ Number n)
-answer_only (Number n) = (n, refl)

@@ -22,7 +22,7 @@ use Rattle.blocking_laws.specs.declared.event.Act.{Act}
 use Rattle.blocking_laws.specs.declared.event.Act.TheVariants.{Accepted, Refused, JobWoken, JobCancelled, LimitSet, Swept, Arrived, Took as TookToRun, TookDropped, TookNone, Ended, Answered, Finished, GaveUp, HolderWoken, NoAction}
 use Rattle.blocking_laws.specs.declared.event.Event.{Event}
 use Rattle.blocking_laws.specs.declared.event.Party.{Party}
-use Rattle.blocking_laws.specs.declared.event.Party.TheVariants.{Task as ByTask, Worker, Pool}
+use Rattle.blocking_laws.specs.declared.event.Party.TheVariants.{Owner, Task as ByTask, Worker, Pool}
 use Rattle.blocking_laws.specs.declared.event.WaitEnd.{WaitEnd}
 use Rattle.blocking_laws.specs.declared.event.WaitEnd.TheVariants.{Woken, TimedOut}
 use Rattle.blocking_world.specs.declared.hand.WorkerAction.{WorkerAction}
@@ -34,7 +34,7 @@ use Rattle.blocking_world.specs.declared.hand.Stage.TheVariants as stage
 use Rattle.blocking_laws.specs.declared.step.Answer.{Answer}
 use Rattle.blocking_laws.specs.declared.step.Answer.TheVariants.{Number}
 use Rattle.blocking_laws.specs.declared.step.Step.{Step}
-use Rattle.blocking_laws.specs.declared.step.Step.TheVariants.{Spawn, OfTask, Arrive, Take, Job, Io, End, Wait, Late, SetLimit, Sweep, Stray, Strike}
+use Rattle.blocking_laws.specs.declared.step.Step.TheVariants.{New, Ask, Own, DropOwner, Spawn, OfTask, Arrive, Take, Job, Io, End, Wait, Late, SetLimit, Sweep, Stray, Strike}
 use Rattle.blocking_laws.specs.declared.step.TaskCall.{TaskCall}
 use Rattle.blocking_laws.specs.declared.step.TaskCall.TheVariants.{Poll, Cancel, Detach, Drop}
 
@@ -249,7 +249,12 @@ StrikesIf true w s e w' =
 
 -- ---- each step
 
+-- Nobody is an owner: a step of one has no action.
 abbrev pub StepDoes : (ℕ → Bool → Type 0) → Step → Worlded → Event → Worlded → Type 0
+StepDoes may_answer (New capacity) w e w' = DoesNothing Pool w e w'
+StepDoes may_answer (Ask h call) w e w' = DoesNothing (Owner h) w e w'
+StepDoes may_answer (Own h) w e w' = DoesNothing (Owner h) w e w'
+StepDoes may_answer (DropOwner h) w e w' = DoesNothing (Owner h) w e w'
 StepDoes may_answer Spawn w e w' = Spawns may_answer w e w'
 StepDoes may_answer (OfTask k call) w e w' = CallsOf (slice_get w.tasks k) w k call e w'
 StepDoes may_answer Arrive w e w' = ArrivesIf (nat_lt 0 w.pool.counts.arriving) w e w'

@@ -33,9 +33,10 @@ use Rattle.blocking_world.specs.declared.hand.Hand.TheVariants.{Free, Holds}
 use Rattle.blocking_world.specs.declared.hand.JobInHand.{JobInHand}
 use Rattle.blocking_world.specs.declared.hand.Stage.{Stage}
 use Rattle.blocking_world.specs.declared.hand.Stage.TheVariants as stage
+use Rattle.blocking_laws.specs.declared.step.Answer.{Answer}
 use Rattle.blocking_laws.specs.declared.step.Answer.TheVariants.{Number}
 use Rattle.blocking_laws.specs.declared.step.Step.{Step}
-use Rattle.blocking_laws.specs.declared.step.Step.TheVariants.{Spawn, OfTask, Arrive, Take, Job, Io, End, Wait, Late, SetLimit, Sweep, Stray, Strike}
+use Rattle.blocking_laws.specs.declared.step.Step.TheVariants.{New, Ask, Own, DropOwner, Spawn, OfTask, Arrive, Take, Job, Io, End, Wait, Late, SetLimit, Sweep, Stray, Strike}
 use Rattle.blocking_laws.specs.declared.step.TaskCall.{TaskCall}
 
 pub data Move : Type 0 where
@@ -204,14 +205,23 @@ abbrev pub may_call_in : Option Task → TaskCall → Bool
 may_call_in None call = false
 may_call_in (Some task) call = may_be task.stage call
 
+-- whether an answer is a number, as a call gives it
+abbrev pub is_number : Answer → Bool
+is_number (Number n) = true
+is_number _ = false
+
 -- whether a step has an action
 abbrev pub has_action_in : Worlded → Step → Bool
+has_action_in w (New capacity) = false
+has_action_in w (Ask h call) = false
+has_action_in w (Own h) = false
+has_action_in w (DropOwner h) = false
 has_action_in w Spawn = true
 has_action_in w (OfTask k call) = may_call_in (slice_get w.tasks k) call
 has_action_in w Arrive = nat_lt 0 w.pool.counts.arriving
 has_action_in w (Take v) = is_free_hand (hand_at w.hands v)
 has_action_in w (Job v) = is_own (next_in (hand_at w.hands v))
-has_action_in w (Io v answer) = is_awaiting (next_in (hand_at w.hands v))
+has_action_in w (Io v answer) = is_number answer && is_awaiting (next_in (hand_at w.hands v))
 has_action_in w (End v) = is_ending (next_in (hand_at w.hands v))
 has_action_in w (Wait v) = is_free_hand (hand_at w.hands v)
 has_action_in w (Late v) = is_free_hand (hand_at w.hands v)

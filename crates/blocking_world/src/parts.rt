@@ -54,28 +54,32 @@ impl Parts {
     /// Takes a step, and answers what is seen of it. Where there is no room for what it makes, nothing is done.
     pub(crate) fn step<S: Starter>(
         &mut self,
-        step: Step,
+        step: &Step,
         starter: &mut S,
     ) -> Result<Event, AllocError>
         requires { IsReady self.old }
         ensures ok { IfOk result
-            (λ e. StepDoes (S.may_answer starter.old) step self.old e self.new) }
+            (λ e. StepDoes (S.may_answer starter.old) step.now self.old e self.new) }
         ensures err { OnErr result (self.new ≡ self.old) }
     {
         match step {
+            Step::New(_) => Ok(nothing(Party::Pool, self.crew.next_start())),
+            Step::Ask(owner, _) | Step::Own(owner) | Step::DropOwner(owner) => {
+                Ok(nothing(Party::Owner(*owner), self.crew.next_start()))
+            }
             Step::Spawn => self.spawn(starter),
-            Step::OfTask(number, call) => Ok(self.of_task(number, call)),
+            Step::OfTask(number, call) => Ok(self.of_task(*number, *call)),
             Step::Arrive => self.arrive(),
-            Step::Take(worker) => Ok(self.take(worker, starter)),
-            Step::Job(worker) => Ok(self.job(worker)),
-            Step::Io(worker, answer) => Ok(self.io(worker, answer)),
-            Step::End(worker) => Ok(self.end(worker)),
-            Step::Wait(worker) => Ok(self.wait(worker, WaitEnd::Woken, starter)),
-            Step::Late(worker) => Ok(self.wait(worker, WaitEnd::TimedOut, starter)),
-            Step::SetLimit(limit) => Ok(self.set_limit(limit)),
+            Step::Take(worker) => Ok(self.take(*worker, starter)),
+            Step::Job(worker) => Ok(self.job(*worker)),
+            Step::Io(worker, answer) => Ok(self.io(*worker, answer)),
+            Step::End(worker) => Ok(self.end(*worker)),
+            Step::Wait(worker) => Ok(self.wait(*worker, WaitEnd::Woken, starter)),
+            Step::Late(worker) => Ok(self.wait(*worker, WaitEnd::TimedOut, starter)),
+            Step::SetLimit(limit) => Ok(self.set_limit(*limit)),
             Step::Sweep => Ok(self.sweep(starter)),
-            Step::Stray(serial) => Ok(self.stray(serial, starter)),
-            Step::Strike(serial) => Ok(self.strike(serial, starter)),
+            Step::Stray(serial) => Ok(self.stray(*serial, starter)),
+            Step::Strike(serial) => Ok(self.strike(*serial, starter)),
         }
     }
 
@@ -183,22 +187,25 @@ impl Parts {
     }
 
     /// The call of a worker's job is answered.
-    pub(crate) fn io(&mut self, worker: usize, answer: Answer) -> Event
+    pub(crate) fn io(&mut self, worker: usize, answer: &Answer) -> Event
         ensures { AnswersWith (hand_at self.old.hands worker)
-            self.old worker answer result self.new }
+            self.old worker answer.now result self.new }
     {
         let first = self.crew.next_start();
         let party = Party::Worker(worker);
+        let Answer::Number(number) = *answer else {
+            return nothing(party, first);
+        };
         let Some(in_hand) = self.workers.job_mut(worker) else {
             return nothing(party, first);
         };
         let WorkerAction::Await = in_hand.next() else {
             return nothing(party, first);
         };
-        let Answer::Number(number) = answer;
         in_hand.answer(number);
         let serial = in_hand.serial();
-        seen(party, Some(serial), Act::Answered(answer), first, NO_GROWTH)
+        let act = Act::Answered(Answer::Number(number));
+        seen(party, Some(serial), act, first, NO_GROWTH)
     }
 
     /// The turn of a worker's job ends, where nothing is left to do.

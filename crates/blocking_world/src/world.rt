@@ -1,6 +1,7 @@
 //! A world that keeps what was seen of it.
-ghost use Rattle.std.specs.Prelude.{◌≡◌, ◌<◌, ◌∷◌, [], length, IfOk, OnErr};
+ghost use Rattle.std.specs.Prelude.{◌≡◌, ◌<◌, ◌∷◌, [], length, true, IfOk, OnErr};
 ghost use Rattle.blocking_pool.specs.Limits.{limit_of_setting};
+ghost use Rattle.blocking_laws.specs.Bare.{is_bare};
 ghost use Rattle.blocking_laws.specs.Counts.{workers, idle};
 ghost use Rattle.blocking_laws.specs.Growth.{IsPlanned, known_limit};
 ghost use Rattle.blocking_laws.specs.Legal.{Legal};
@@ -76,17 +77,19 @@ impl World {
         }
     }
 
-    // Takes one step.
-    fn step(&mut self, step: Step) -> Result<Event, AllocError>
+    // Takes one step. The trace keeps a copy of it, and of its event, which carries no bytes.
+    fn step(&mut self, step: &Step) -> Result<Event, AllocError>
         ensures ok { IfOk result (λ e. self.new.history ≡ record self.old.history {
-          past = record { step = step; event = e } ∷ self.old.history.past;
+          past = record { step = step.now; event = e } ∷ self.old.history.past;
         }) }
         ensures err { OnErr result (self.new ≡ self.old) }
     {
+        let kept = step.try_clone()?;
         self.trace.reserve(1)?;
         let event = step_with::<Brand>(&mut self.parts, &self.plan, Blank::new(1), step)?;
-        let _ = self.trace.push(Moment { step, event });
-        Ok(event)
+        let twin = twin_of(&event);
+        let _ = self.trace.push(Moment { step: kept, event });
+        Ok(twin)
     }
 
     /// Ends the world: the jobs that are left end as done, and every worker that arrived stops. Takes no memory.
@@ -135,18 +138,26 @@ impl World {
     }
 }
 
+// An event without bytes once more.
+fn twin_of(event: &Event) -> Event
+    requires { is_bare event.now.act ≡ true }
+    ensures { result ≡ event.now }
+{
+    event.twin().unwrap()
+}
+
 // Takes a step, by the starts of the plan.
 fn step_with<L: Ledger>(
     parts: &mut Parts,
     plan: &[bool],
     blank: Blank,
-    step: Step,
+    step: &Step,
 ) -> Result<Event, AllocError>
     requires name { blank.name ≡ L.name }
     requires parts { blank.parts ≡ L.parts }
     requires some { 0 < L.parts }
     requires ready { IsReady parts.old }
-    ensures ok { IfOk result (λ e. StepDoes (IsPlanned plan.now) step parts.old e parts.new) }
+    ensures ok { IfOk result (λ e. StepDoes (IsPlanned plan.now) step.now parts.old e parts.new) }
     ensures err { OnErr result (parts.new ≡ parts.old) }
 {
     let mut starter = PlannedStarts::<L>::new(plan, blank);
@@ -195,7 +206,7 @@ fn take_all(alloc: Global, world: &mut World, steps: &[Step]) -> Result<Vec<Even
     }
     let mut events = Vec::with_capacity(alloc, steps.len())?;
     for step in steps {
-        let event = world.step(*step)?;
+        let event = world.step(step)?;
         let _ = events.push(event);
     }
     Ok(events)

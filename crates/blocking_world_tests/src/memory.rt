@@ -1,11 +1,10 @@
 //! Worlds whose memory is refused. `rt try --test --fail-alloc N` refuses the Nth piece that a test asks for: the test here
 //! ends as without, whichever it is, and says what came of it.
-use crate::row::{Place, agree, counts};
+use crate::row::PlainStep::{Arrive, End, Io, Job, Late, OfTask, Spawn, Take};
+use crate::row::{Place, PlainStep, agree, counts};
 use blocking_core::pool::Refusal;
 use blocking_laws::event::{Act, Event};
-use blocking_laws::step::Answer::Number;
 use blocking_laws::step::Step;
-use blocking_laws::step::Step::{Arrive, End, Io, Job, Late, OfTask, Spawn, Take};
 use blocking_laws::step::TaskCall::Poll;
 use blocking_world::{World, run};
 use std::alloc::Global;
@@ -13,17 +12,22 @@ use std::fmt::Write;
 use std::test::Fail;
 
 // Takes a step until there is room for it, twice at most: until then the world is as it was.
-fn insists(rt: &impl Print, alloc: Global, world: &mut World, step: Step) -> Result<Event, Fail> {
+fn insists(
+    rt: &impl Print,
+    alloc: Global,
+    world: &mut World,
+    step: PlainStep,
+) -> Result<Event, Fail> {
     for _ in 0..2 {
         let before = counts(world);
-        let outcome = run(alloc, world, &[step]);
-        if let Ok(events) = outcome {
-            let [event] = events.as_slice() else {
-                return Err(Fail::new("not one event"));
+        let outcome = run(alloc, world, &[step.step()]);
+        if let Ok(mut events) = outcome {
+            let Some(event) = events.pop() else {
+                return Err(Fail::new("no event"));
             };
-            let Act::Refused(Refusal::Memory) = event.act else {
-                return Ok(*event);
-            };
+            if !matches!(event.act, Act::Refused(Refusal::Memory)) {
+                return Ok(event);
+            }
             println!(rt; "refused: {step:?}: refused memory")?;
         } else {
             println!(rt; "refused: {step:?}: an error")?;
@@ -35,14 +39,25 @@ fn insists(rt: &impl Print, alloc: Global, world: &mut World, step: Step) -> Res
     Err(Fail::new(format_args!("{step:?} found no room twice")))
 }
 
-const SPAWNS: [Step; 6] = [Spawn; 6];
+// Six calls to be handed in.
+fn six_calls() -> [Step; 6] {
+    [
+        Step::Spawn,
+        Step::Spawn,
+        Step::Spawn,
+        Step::Spawn,
+        Step::Spawn,
+        Step::Spawn,
+    ]
+}
 
 // Hands in all six calls in one run, and in a second those that the first left out.
 fn spawns_six(rt: &impl Print, alloc: Global, world: &mut World) -> Result<(), Fail> {
     let before = world.queue_len();
     for _ in 0..2 {
         let taken = world.queue_len().saturating_sub(before);
-        let left = SPAWNS.get(taken..).unwrap_or(&[]);
+        let calls = six_calls();
+        let left = calls.get(taken..).unwrap_or(&[]);
         if run(alloc, world, left).is_err() {
             let taken = world.queue_len().saturating_sub(before);
             println!(rt; "refused: six calls: an error after {taken}")?;
@@ -74,12 +89,12 @@ fn place(lines: usize) -> Place<'static> {
 }
 
 // One call and its worker.
-const CALL: [(Step, &str); 10] = [
+const CALL: [(PlainStep, &str); 10] = [
     (Spawn, "accepted 1 +1"),
     (OfTask(0, Poll), "waits"),
     (Arrive, "arrived 1"),
     (Take(1), "took 1"),
-    (Io(1, Number(5)), "answered 5"),
+    (Io(1, 5), "answered 5"),
     (Job(1), "finished wake owner"),
     (Job(1), "delivered owner"),
     (End(1), "ended 1 done"),

@@ -1,16 +1,18 @@
 //! Steps that have no action.
 use crate::row::Line::{Counts, Futile, Sees};
-use crate::row::{NO_SETTING, Row, play};
-use blocking_laws::step::Answer::Number;
-use blocking_laws::step::Step;
-use blocking_laws::step::Step::{
-    Arrive, End, Io, Job, Late, OfTask, SetLimit, Spawn, Stray, Strike, Take, Wait,
+use crate::row::PlainStep::{
+    Arrive, DropOwner, End, Io, IoFails, Job, Late, OfTask, Own, SetLimit, Spawn, Stray, Strike,
+    Take, Wait,
 };
+use crate::row::{NO_SETTING, PlainStep, Row, play};
 use blocking_laws::step::TaskCall::{Cancel, Detach, Drop as Release, Poll};
 use std::test::Fail;
 
 // Steps of those whom nobody knows, and a limit that is none.
-const STRANGERS: &[Step] = &[
+const STRANGERS: &[PlainStep] = &[
+    Own(0),
+    DropOwner(0),
+    Own(usize::MAX),
     OfTask(9, Poll),
     OfTask(9, Cancel),
     OfTask(usize::MAX, Detach),
@@ -19,8 +21,9 @@ const STRANGERS: &[Step] = &[
     Take(9),
     Job(0),
     Job(9),
-    Io(0, Number(1)),
-    Io(9, Number(1)),
+    Io(0, 1),
+    Io(9, 1),
+    IoFails(9, 1),
     End(0),
     End(9),
     Wait(0),
@@ -37,15 +40,7 @@ const STRANGERS: &[Step] = &[
 ];
 
 // Steps of the first worker, which has no action before it arrives and after it stops.
-const ABSENT_WORKER: &[Step] = &[
-    Take(1),
-    Job(1),
-    Io(1, Number(1)),
-    End(1),
-    Wait(1),
-    Late(1),
-    Arrive,
-];
+const ABSENT_WORKER: &[PlainStep] = &[Take(1), Job(1), Io(1, 1), End(1), Wait(1), Late(1), Arrive];
 
 // The life of a call, from its entry to the end of its worker, and what is futile at each stage of it.
 const ROWS: &[Row] = &[
@@ -60,7 +55,7 @@ const ROWS: &[Row] = &[
             Futile(STRANGERS),
             Sees(Take(1), "took 1"),
             Futile(STRANGERS),
-            Sees(Io(1, Number(3)), "answered 3"),
+            Sees(Io(1, 3), "answered 3"),
             Futile(STRANGERS),
             Sees(Job(1), "finished"),
             Futile(STRANGERS),
@@ -82,33 +77,27 @@ const ROWS: &[Row] = &[
             Sees(Spawn, "accepted 1 +1"),
             Futile(&[Take(1), Strike(1), Stray(2), OfTask(1, Poll)]),
             Sees(Arrive, "arrived 1"),
-            Futile(&[Job(1), Io(1, Number(1)), End(1), Arrive, Strike(1)]),
+            Futile(&[Job(1), Io(1, 1), End(1), Arrive, Strike(1)]),
             Sees(Take(1), "took 1"),
-            Futile(&[Take(1), Wait(1), Late(1), Job(1), End(1), Strike(1)]),
-            Sees(Io(1, Number(3)), "answered 3"),
             Futile(&[
                 Take(1),
                 Wait(1),
                 Late(1),
-                Io(1, Number(4)),
+                Job(1),
+                IoFails(1, 4),
                 End(1),
                 Strike(1),
             ]),
+            Sees(Io(1, 3), "answered 3"),
+            Futile(&[Take(1), Wait(1), Late(1), Io(1, 4), End(1), Strike(1)]),
             Sees(Job(1), "finished"),
-            Futile(&[
-                Take(1),
-                Wait(1),
-                Late(1),
-                Job(1),
-                Io(1, Number(4)),
-                Strike(1),
-            ]),
+            Futile(&[Take(1), Wait(1), Late(1), Job(1), Io(1, 4), Strike(1)]),
             Sees(End(1), "ended 1 done"),
-            Futile(&[Job(1), Io(1, Number(1)), End(1), Arrive, Strike(1)]),
+            Futile(&[Job(1), Io(1, 1), End(1), Arrive, Strike(1)]),
             Sees(OfTask(0, Poll), "got 3"),
             Futile(&[
                 Job(1),
-                Io(1, Number(1)),
+                Io(1, 1),
                 End(1),
                 OfTask(0, Poll),
                 Strike(1),

@@ -1,16 +1,61 @@
 //! Rows: steps, with what is seen of each. And how they are played.
-use blocking_laws::step::Step;
+use blocking_laws::step::{Answer, Step, TaskCall};
 use blocking_world::{World, run};
 use std::alloc::{AllocError, Global};
 use std::test::Fail;
+
+// A step without bytes, as plain data; a call is answered by a number.
+#[derive(Clone, Copy, Debug)]
+pub(crate) enum PlainStep {
+    Own(usize),
+    DropOwner(usize),
+    Spawn,
+    OfTask(usize, TaskCall),
+    Arrive,
+    Take(usize),
+    Job(usize),
+    Io(usize, u64),
+    IoFails(usize, u64),
+    End(usize),
+    Wait(usize),
+    Late(usize),
+    SetLimit(usize),
+    Sweep,
+    Stray(u64),
+    Strike(u64),
+}
+
+impl PlainStep {
+    // The step itself.
+    pub(crate) fn step(self) -> Step {
+        match self {
+            PlainStep::Own(owner) => Step::Own(owner),
+            PlainStep::DropOwner(owner) => Step::DropOwner(owner),
+            PlainStep::Spawn => Step::Spawn,
+            PlainStep::OfTask(task, call) => Step::OfTask(task, call),
+            PlainStep::Arrive => Step::Arrive,
+            PlainStep::Take(worker) => Step::Take(worker),
+            PlainStep::Job(worker) => Step::Job(worker),
+            PlainStep::Io(worker, number) => Step::Io(worker, Answer::Number(number)),
+            PlainStep::IoFails(worker, error) => Step::Io(worker, Answer::Failed(error)),
+            PlainStep::End(worker) => Step::End(worker),
+            PlainStep::Wait(worker) => Step::Wait(worker),
+            PlainStep::Late(worker) => Step::Late(worker),
+            PlainStep::SetLimit(limit) => Step::SetLimit(limit),
+            PlainStep::Sweep => Step::Sweep,
+            PlainStep::Stray(serial) => Step::Stray(serial),
+            PlainStep::Strike(serial) => Step::Strike(serial),
+        }
+    }
+}
 
 // A line of a row: a step, or what is seen of the world where the line stands.
 #[derive(Clone, Copy)]
 pub(crate) enum Line {
     // this step has an event of this text
-    Sees(Step, &'static str),
+    Sees(PlainStep, &'static str),
     // none of these steps has an action, and each leaves the counts as they were
-    Futile(&'static [Step]),
+    Futile(&'static [PlainStep]),
     // so many workers there are, so many of them are idle, so many jobs are queued, and the limit is this
     Counts(usize, usize, usize, Option<usize>),
     // whether the job of this worker has an action that is its own to take
@@ -67,10 +112,10 @@ fn sees(
     alloc: Global,
     world: &mut World,
     place: Place,
-    step: Step,
+    step: PlainStep,
     text: &str,
 ) -> Result<(), Fail> {
-    let events = run(alloc, world, &[step])?;
+    let events = run(alloc, world, &[step.step()])?;
     let [event] = events.as_slice() else {
         return agree(place, "not one event", text);
     };
@@ -79,7 +124,12 @@ fn sees(
 }
 
 // None of these steps has an action, and each leaves the counts as they were.
-fn are_futile(alloc: Global, world: &mut World, place: Place, steps: &[Step]) -> Result<(), Fail> {
+fn are_futile(
+    alloc: Global,
+    world: &mut World,
+    place: Place,
+    steps: &[PlainStep],
+) -> Result<(), Fail> {
     for step in steps {
         let before = counts(world);
         sees(alloc, world, place, *step, "nothing")?;
@@ -153,7 +203,7 @@ fn play_at_once(alloc: Global, row: &Row, lines: &[Line]) -> Result<(), Fail> {
     let mut text = String::new(alloc);
     for line in lines {
         if let Line::Sees(step, event) = *line {
-            steps.push(step)?;
+            steps.push(step.step())?;
             text.push_str(format!(in alloc; "{event}\n")?.as_str())?;
         }
     }

@@ -1,8 +1,11 @@
 //! The texts of events.
 use crate::row::{Place, agree};
+use blocking_core::io::Fault;
 use blocking_core::pool::{Refusal, Standing, Woke};
-use blocking_laws::event::{Act, Event, HolderWaker, Party, WaitEnd};
-use blocking_laws::step::Answer;
+use blocking_laws::bytes::Bytes;
+use blocking_laws::event::{Act, Event, HolderWaker, Party, Reply, WaitEnd};
+use blocking_laws::step::{Answer, HandleCall};
+use std::alloc::{AllocError, Global};
 use std::test::Fail;
 
 // An event in which this was done, with no start.
@@ -18,109 +21,197 @@ fn event(act: Act) -> Event {
     }
 }
 
-const ACTS: &[(Act, &str)] = &[
-    // of the pool
-    (Act::Accepted(12), "accepted 12"),
-    (Act::Refused(Refusal::Memory), "refused memory"),
-    (Act::Refused(Refusal::NoWorker), "refused worker"),
-    (Act::Refused(Refusal::Numbers), "refused numbers"),
-    (Act::JobWoken(1, Woke::Entered), "delivered 1 entered"),
-    (Act::JobWoken(1, Woke::Marked), "delivered 1 marked"),
-    (Act::JobWoken(1, Woke::Nothing), "delivered 1 nothing"),
-    (Act::JobCancelled(3, Woke::Entered), "cancelled 3 entered"),
-    (Act::JobCancelled(3, Woke::Marked), "cancelled 3 marked"),
-    (Act::JobCancelled(3, Woke::Nothing), "cancelled 3 nothing"),
-    (Act::LimitSet(4), "limit 4"),
-    (Act::Swept(0), "swept 0"),
-    (Act::NoAction, "nothing"),
-    // of tasks
-    (Act::Waits, "waits"),
-    (Act::TaskGot(5), "got 5"),
-    (Act::TaskGotNone, "got none"),
-    (Act::TaskCancelled, "cancelled"),
-    (Act::TaskDetached, "detached"),
-    (Act::HolderDropped, "dropped"),
-    // of workers
-    (Act::Arrived(10), "arrived 10"),
-    (Act::Took(1), "took 1"),
-    (Act::TookDropped(1), "took 1 dropped"),
-    (Act::TookNone, "idle"),
-    (Act::Stays(1, WaitEnd::Woken), "stays 1"),
-    (Act::Stays(1, WaitEnd::TimedOut), "stays 1"),
-    (Act::Stopped(2, WaitEnd::Woken), "stopped 2"),
-    (Act::Stopped(2, WaitEnd::TimedOut), "stopped 2"),
-    (Act::Ended(1, Standing::Done), "ended 1 done"),
-    (Act::Ended(1, Standing::Parked), "ended 1 parked"),
-    (Act::Ended(1, Standing::Queued), "ended 1 queued"),
-    (Act::Ended(1, Standing::Dropped), "ended 1 dropped"),
-    (Act::HandedOut(1), "drop 1"),
-    (
-        Act::Answered(Answer::Number(u64::MAX)),
-        "answered 18446744073709551615",
-    ),
-    (Act::JobParked, "parked"),
-    (Act::Finished(HolderWaker::Absent), "finished"),
-    (Act::Finished(HolderWaker::Taken), "finished wake owner"),
-    (Act::GaveUp(HolderWaker::Absent), "gave up"),
-    (Act::GaveUp(HolderWaker::Taken), "gave up wake owner"),
-    (Act::HolderWoken, "delivered owner"),
-];
+// The text of this act, twice, is this.
+fn shows(alloc: Global, act: Act, text: &str) -> Result<(), Fail> {
+    let place = Place {
+        row: "acts",
+        lines: 0,
+    };
+    let event = event(act);
+    agree(place, format!(in alloc; "{event}")?.as_str(), text)?;
+    let twin = event.twin()?;
+    agree(place, format!(in alloc; "{twin}")?.as_str(), text)
+}
 
-// What was done, the number of the next start, how many workers were started, and whether one more start was refused.
-const STARTS: &[(Act, u64, u64, bool, &str)] = &[
-    (Act::Accepted(1), 1, 1, false, "accepted 1 +1"),
-    (Act::Took(1), 2, 3, false, "took 1 +2 +3 +4"),
-    (
-        Act::Refused(Refusal::NoWorker),
-        1,
-        0,
-        true,
-        "refused worker -1",
-    ),
-    (Act::Accepted(6), 2, 1, true, "accepted 6 +2 -3"),
-    (
-        Act::Accepted(7),
-        u64::MAX,
-        0,
-        true,
-        "accepted 7 -18446744073709551615",
-    ),
-    (
-        Act::Swept(9),
-        u64::MAX,
-        2,
-        false,
-        "swept 9 +18446744073709551615 +18446744073709551616",
-    ),
-];
+// These bytes.
+fn bytes(alloc: Global, items: &[u8]) -> Result<Bytes, AllocError> {
+    Ok(Bytes::new(items.to_vec(alloc)?))
+}
 
 #[test]
-fn texts_of_acts(rt: HostRuntime) -> Result<(), Fail> {
-    for (lines, (act, text)) in ACTS.iter().enumerate() {
-        let seen = format!(in rt.alloc(); "{}", event(*act))?;
-        agree(Place { row: "acts", lines }, seen.as_str(), text)?;
+fn bytes_are_copied(rt: HostRuntime) -> Result<(), Fail> {
+    let copy = bytes(rt.alloc(), b"ab")?.try_clone()?;
+    if copy.as_slice() == b"ab".as_slice() {
+        Ok(())
+    } else {
+        Err(Fail::new("other bytes"))
+    }
+}
+
+#[test]
+fn texts_at_the_pool(rt: HostRuntime) -> Result<(), Fail> {
+    let rows = [
+        (Act::Accepted(12), "accepted 12"),
+        (Act::Refused(Refusal::Memory), "refused memory"),
+        (Act::Refused(Refusal::NoWorker), "refused worker"),
+        (Act::Refused(Refusal::Numbers), "refused numbers"),
+        (Act::JobWoken(1, Woke::Entered), "delivered 1 entered"),
+        (Act::JobWoken(1, Woke::Marked), "delivered 1 marked"),
+        (Act::JobWoken(1, Woke::Nothing), "delivered 1 nothing"),
+        (Act::JobCancelled(3, Woke::Entered), "cancelled 3 entered"),
+        (Act::JobCancelled(3, Woke::Marked), "cancelled 3 marked"),
+        (Act::JobCancelled(3, Woke::Nothing), "cancelled 3 nothing"),
+        (Act::LimitSet(4), "limit 4"),
+        (Act::Swept(0), "swept 0"),
+        (Act::NoAction, "nothing"),
+    ];
+    for (act, text) in rows {
+        shows(rt.alloc(), act, text)?;
+    }
+    Ok(())
+}
+
+#[test]
+fn texts_of_holders(rt: HostRuntime) -> Result<(), Fail> {
+    let rows = [
+        (Act::Made(3, 0), "made 3"),
+        (Act::Asked(HandleCall::Read(2)), "asked"),
+        (Act::OwnerClosed(None), "closed"),
+        (Act::OwnerClosed(Some(4)), "closed wake 4"),
+        (Act::Got(bytes(rt.alloc(), b"abc")?, None), "got 616263"),
+        (
+            Act::Got(bytes(rt.alloc(), &[0, 255])?, Some(7)),
+            "got 00ff wake 7",
+        ),
+        (Act::GotEnd, "got end"),
+        (Act::Back, "back"),
+        (Act::Replied(Reply::Count(0)), "replied ok 0"),
+        (Act::Replied(Reply::Handle), "replied handle"),
+        (
+            Act::Replied(Reply::Failed(Fault::Io(5))),
+            "replied fault io 5",
+        ),
+        (
+            Act::Replied(Reply::Failed(Fault::WriteZero)),
+            "replied fault write-zero",
+        ),
+        (
+            Act::Replied(Reply::Failed(Fault::Refused(Refusal::NoWorker))),
+            "replied fault refused worker",
+        ),
+        (Act::Waits, "waits"),
+        (Act::HolderDropped, "dropped"),
+        (Act::TaskGot(5), "got 5"),
+        (Act::TaskGotNone, "got none"),
+        (Act::TaskCancelled, "cancelled"),
+        (Act::TaskDetached, "detached"),
+    ];
+    for (act, text) in rows {
+        shows(rt.alloc(), act, text)?;
+    }
+    Ok(())
+}
+
+#[test]
+fn texts_of_workers(rt: HostRuntime) -> Result<(), Fail> {
+    let rows = [
+        (Act::Arrived(10), "arrived 10"),
+        (Act::Took(1), "took 1"),
+        (Act::TookDropped(1), "took 1 dropped"),
+        (Act::TookNone, "idle"),
+        (Act::Stays(1, WaitEnd::Woken), "stays 1"),
+        (Act::Stays(1, WaitEnd::TimedOut), "stays 1"),
+        (Act::Stopped(2, WaitEnd::Woken), "stopped 2"),
+        (Act::Stopped(2, WaitEnd::TimedOut), "stopped 2"),
+        (Act::Ended(1, Standing::Done), "ended 1 done"),
+        (Act::Ended(1, Standing::Parked), "ended 1 parked"),
+        (Act::Ended(1, Standing::Queued), "ended 1 queued"),
+        (Act::Ended(1, Standing::Dropped), "ended 1 dropped"),
+        (Act::HandedOut(1), "drop 1"),
+    ];
+    for (act, text) in rows {
+        shows(rt.alloc(), act, text)?;
+    }
+    Ok(())
+}
+
+#[test]
+fn texts_of_jobs(rt: HostRuntime) -> Result<(), Fail> {
+    let rows = [
+        (
+            Act::Answered(Answer::Number(u64::MAX)),
+            "answered 18446744073709551615",
+        ),
+        (
+            Act::Answered(Answer::Gave(bytes(rt.alloc(), b"a~")?)),
+            "answered 617e",
+        ),
+        (
+            Act::Answered(Answer::Gave(bytes(rt.alloc(), &[])?)),
+            "answered -",
+        ),
+        (Act::Answered(Answer::Failed(8)), "answered fault 8"),
+        (Act::RoomFree(4), "room 4"),
+        (Act::RoomShut, "shut"),
+        (Act::JobParked, "parked"),
+        (Act::Put(4, HolderWaker::Absent), "put 4"),
+        (Act::Put(4, HolderWaker::Taken), "put 4 wake owner"),
+        (Act::Lost(2), "lost 2"),
+        (Act::JobClosed(HolderWaker::Absent), "closed"),
+        (Act::JobClosed(HolderWaker::Taken), "closed wake owner"),
+        (Act::Finished(HolderWaker::Absent), "finished"),
+        (Act::Finished(HolderWaker::Taken), "finished wake owner"),
+        (Act::GaveUp(HolderWaker::Absent), "gave up"),
+        (Act::GaveUp(HolderWaker::Taken), "gave up wake owner"),
+        (Act::HolderWoken, "delivered owner"),
+    ];
+    for (act, text) in rows {
+        shows(rt.alloc(), act, text)?;
     }
     Ok(())
 }
 
 #[test]
 fn starts_stand_at_the_end(rt: HostRuntime) -> Result<(), Fail> {
-    for (lines, (act, first, started, start_refused, text)) in STARTS.iter().enumerate() {
+    // what was done, the number of the next start, how many workers were started, and whether one more start was refused
+    let rows = [
+        (Act::Accepted(1), 1, 1, false, "accepted 1 +1"),
+        (Act::Took(1), 2, 3, false, "took 1 +2 +3 +4"),
+        (
+            Act::Refused(Refusal::NoWorker),
+            1,
+            0,
+            true,
+            "refused worker -1",
+        ),
+        (Act::Accepted(6), 2, 1, true, "accepted 6 +2 -3"),
+        (
+            Act::Accepted(7),
+            u64::MAX,
+            0,
+            true,
+            "accepted 7 -18446744073709551615",
+        ),
+        (
+            Act::Swept(9),
+            u64::MAX,
+            2,
+            false,
+            "swept 9 +18446744073709551615 +18446744073709551616",
+        ),
+    ];
+    for (act, first, started, start_refused, text) in rows {
         let event = Event {
-            first: *first,
-            started: *started,
-            start_refused: *start_refused,
-            ..event(*act)
+            first,
+            started,
+            start_refused,
+            ..event(act)
         };
-        let seen = format!(in rt.alloc(); "{event}")?;
-        agree(
-            Place {
-                row: "starts",
-                lines,
-            },
-            seen.as_str(),
-            text,
-        )?;
+        let place = Place {
+            row: "starts",
+            lines: 0,
+        };
+        agree(place, format!(in rt.alloc(); "{event}")?.as_str(), text)?;
     }
     Ok(())
 }

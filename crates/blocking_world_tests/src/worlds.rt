@@ -1,10 +1,9 @@
 //! Worlds, step by step.
 use crate::row::Line::{Counts, HasAction, Sees};
-use crate::row::{NO_SETTING, Row, play};
-use blocking_laws::step::Answer::Number;
-use blocking_laws::step::Step::{
+use crate::row::PlainStep::{
     Arrive, End, Io, Job, Late, OfTask, SetLimit, Spawn, Stray, Sweep, Take, Wait,
 };
+use crate::row::{NO_SETTING, Row, play};
 use blocking_laws::step::TaskCall::{Cancel, Poll};
 use std::test::Fail;
 
@@ -18,7 +17,7 @@ const ROWS: &[Row] = &[
             Sees(Spawn, "accepted 1 +2"),
             Sees(Arrive, "arrived 1"),
             Sees(Take(1), "took 1"),
-            Sees(Io(1, Number(5)), "answered 5"),
+            Sees(Io(1, 5), "answered 5"),
             Sees(Job(1), "finished"),
             HasAction(1, false),
             Sees(End(1), "ended 1 done"),
@@ -40,7 +39,7 @@ const ROWS: &[Row] = &[
             Sees(Take(1), "took 1"),
             Sees(Stray(1), "delivered 1 marked"),
             Sees(Stray(2), "delivered 2 nothing"),
-            Sees(Io(1, Number(7)), "answered 7"),
+            Sees(Io(1, 7), "answered 7"),
             Sees(Job(1), "finished"),
             HasAction(1, false),
             Sees(End(1), "ended 1 done"),
@@ -58,7 +57,7 @@ const ROWS: &[Row] = &[
             Sees(OfTask(1, Cancel), "cancelled"),
             Sees(Arrive, "arrived 1"),
             Sees(Take(1), "took 1"),
-            Sees(Io(1, Number(7)), "answered 7"),
+            Sees(Io(1, 7), "answered 7"),
             Sees(Job(1), "finished"),
             HasAction(1, false),
             Sees(End(1), "ended 1 done"),
@@ -93,7 +92,7 @@ const ROWS: &[Row] = &[
             Sees(Take(1), "took 1"),
             Counts(1, 0, 0, Some(4)),
             HasAction(1, false),
-            Sees(Io(1, Number(8)), "answered 8"),
+            Sees(Io(1, 8), "answered 8"),
             Counts(1, 0, 0, Some(4)),
             HasAction(1, true),
             Sees(Job(1), "finished wake owner"),
@@ -196,7 +195,7 @@ const ROWS: &[Row] = &[
             Sees(Late(1), "stays 1"),
             Sees(Take(1), "took 1 +2"),
             Sees(Arrive, "arrived 2"),
-            Sees(Io(1, Number(1)), "answered 1"),
+            Sees(Io(1, 1), "answered 1"),
             Sees(Job(1), "finished"),
             Sees(End(1), "ended 1 done"),
             Sees(Wait(1), "stays 1"),
@@ -207,7 +206,7 @@ const ROWS: &[Row] = &[
             Sees(Wait(1), "stays 1"),
             Sees(Late(1), "stays 1"),
             Sees(Take(1), "took 2"),
-            Sees(Io(1, Number(2)), "answered 2"),
+            Sees(Io(1, 2), "answered 2"),
             Sees(Job(1), "finished"),
             Sees(End(1), "ended 2 done"),
             Sees(Late(1), "stopped 1"),

@@ -2,7 +2,9 @@
 #![tactic(auto)]
 
 mod host;
+mod lines;
 mod own_job;
+mod own_rule;
 mod refusal;
 mod two_kinds;
 
@@ -11,6 +13,8 @@ use anyhow::Result;
 use blocking::{CallJob, Executor, unblock};
 use blocking_core::task::Call;
 use futures::executor::block_on;
+use std::env::Env;
+use std::fs::{File, Files};
 use std::{fs, io};
 
 // A call is a value of a named type. This one reads a file, for which its thread may have to wait.
@@ -45,10 +49,13 @@ fn main(rt: HostRuntime) -> Result<()> {
 }
 
 // The examples of the modules.
-fn more<H: Host>(rt: H) -> Result<()> {
+fn more<H: Host + Files<File = File> + Env>(rt: H) -> Result<()> {
     let (square, is_even) = two_kinds::answers(rt)?;
     println!(rt; "12 squared is {square}; 12 is even: {is_even}")?;
     let serial = own_job::woken(rt)?;
     println!(rt; "job {serial} waited, and was woken")?;
+    let count = own_rule::received(rt)?;
+    println!(rt; "{count} numbers came in order")?;
+    lines::show_file(rt)?;
     refusal::show(rt)
 }

@@ -5,7 +5,7 @@ use Rattle.blocking_laws.specs.Seen.{own, acts_of, acts_of_task, task_cut, is_of
 use Rattle.blocking_laws.specs.declared.event.Act.{Act}
 use Rattle.blocking_laws.specs.declared.event.Event.{Event}
 use Rattle.blocking_laws.specs.declared.event.Party.{Party}
-use Rattle.blocking_laws.specs.declared.event.Party.TheVariants.{Task as ByTask, Worker, Pool}
+use Rattle.blocking_laws.specs.declared.event.Party.TheVariants.{Owner, Task as ByTask, Worker, Pool}
 
 abbrev acts_in : List Event → List Act
 acts_in seen = map (λ e. e.act) seen
@@ -32,6 +32,7 @@ own_step e X Y false false false true false i o h = h
 pub no_task : (k : ℕ) (who : Party) → is_some_worker who ≡ true → is_task k who ≡ false
 no_task k (ByTask j) e = absurd (cc)
 no_task k Pool e = refl
+no_task k (Owner h) e = refl
 no_task k (Worker v) e = refl
 
 -- the own acts of a task's cut are the task's

@@ -24,6 +24,19 @@ ghost use Rattle.blocking_laws.specs.declared.event.HolderWaker.TheVariants.{Abs
 ghost use Rattle.blocking_laws.specs.declared.event.WaitEnd.TheVariants.{TimedOut};
 ghost use Rattle.blocking_laws.specs.declared.step.Step.TheVariants.{Spawn, OfTask, Arrive, Take, Job, End, Late, SetLimit, Sweep, Stray, Strike};
 ghost use Rattle.blocking_laws.specs.declared.step.TaskCall.TheVariants.{Poll, Cancel};
+ghost use Rattle.std.specs.Prelude.{◌∷◌, true};
+ghost use Rattle.blocking_laws.specs.Seen.{cut};
+ghost use Rattle.blocking_laws.specs.Passed.{inside};
+ghost use Rattle.blocking_laws.specs.Jobs.{is_marked};
+ghost use Rattle.blocking_laws.specs.OwnerSteps.{StepLawWithOwners};
+ghost use Rattle.blocking_laws.specs.OwnerWakes.{NoLostOwnerWake};
+ghost use Rattle.blocking_laws.specs.OwnerTraces.{asks, polls, works, given, ends, FirstOwnerLaw, FirstOwnerEnds};
+ghost use Rattle.blocking_laws.specs.OwnerTraces.{reader_waits, room_found, four_given, reader_parked, two_got, two_told, end_given};
+ghost use Rattle.blocking_laws.specs.OwnerTraces.{told_before, reader_dropped};
+ghost use Rattle.blocking_laws.specs.declared.event.Act.TheVariants.{Got, Replied, RoomFree, GaveUp};
+ghost use Rattle.blocking_laws.specs.declared.event.Reply.TheVariants.{Count};
+ghost use Rattle.blocking_laws.specs.declared.step.Answer.TheVariants.{Gave};
+ghost use Rattle.blocking_laws.specs.declared.step.HandleCall.TheVariants.{Read};
 
 /// What the pool answers: with the next serial, with the front job and only as it was let go, by how a job stands.
 pub fn answers()
@@ -116,4 +129,34 @@ pub fn tasks()
     // accepted 1 +1 / cancelled / waits / arrived 1 / took 1 dropped / gave up / ended 1 dropped
     ensures refuses_wait_for_dropped { Refuses (Keeps NoLostWake) untold_given_up
         (moment (End 1) (Worker 1) (Some 1) (Ended 1 Dropped) 2) }
+{}
+
+/// What a poll of an owner does next, what it is answered, and what is told to be over.
+pub fn owners()
+    // .. / waits / replied ok 0, where the poll is over
+    ensures refuses_poll_after_wait { Refuses StepLawWithOwners reader_waits (polls (Replied (Count 0)) 2) }
+    // .. / got 6162 wake 1 / replied ok 2
+    ensures refuses_undelivered_note { Refuses FirstOwnerLaw two_got (polls (Replied (Count 2)) 2) }
+    // .. / answered 61626364 / put 4 wake owner / .. / got 6162 wake 1
+    ensures rest_is_inside { inside (cut 0 (events two_got)) ≡ 99 ∷ 100 ∷ [] }
+    // .. / got 6162 wake 1 / delivered 1 entered / replied ok 2 / asked / got 6364 wake 1
+    ensures refuses_note_twice { Refuses FirstOwnerLaw (two_told ▸ polls (Replied (Count 2)) 2 ▸ asks (Read 2) 2)
+        (polls (Got (99 ∷ 100 ∷ []) (Some 1)) 2) }
+    // .. / ended 1 parked / asked / replied ok 0
+    ensures refuses_early_end { Refuses FirstOwnerEnds (reader_parked ▸ asks (Read 2) 2) (polls (Replied (Count 0)) 2) }
+    // .. / delivered 1 entered / .. / waits / took 1 / parked / ended 1 parked
+    ensures refuses_wait_for_parked { Refuses (Keeps NoLostOwnerWake) told_before (ends 1 (Ended 1 Parked)) }
+{}
+
+/// What the job of an owner does next, and which job a dropped owner lets go.
+pub fn jobs_of_owners()
+    // .. / room 4 / answered 6162636465
+    ensures refuses_more_than_asked { Refuses FirstOwnerLaw room_found
+        (given 1 (Gave (97 ∷ 98 ∷ 99 ∷ 100 ∷ 101 ∷ []))) }
+    // .. / answered - / room 4
+    ensures refuses_read_after_end { Refuses FirstOwnerLaw end_given (works 1 (RoomFree 4)) }
+    // .. / answered 61626364 / gave up
+    ensures refuses_giving_up_unasked { Refuses FirstOwnerLaw four_given (works 1 (GaveUp Absent)) }
+    // .. / ended 1 parked / dropped
+    ensures dropped_owner_marks { is_marked reader_dropped 1 ≡ true }
 {}

@@ -1,9 +1,9 @@
-use Rattle.std.proofs.Common.{◌≡◌, ◌+◌, ◌++◌, ◌∷◌, [], List, Result, is_ok, true, if◌then◌else◌, length, slice_index_or, arith, ap, sym, subst, ◌∙◌}
+use Rattle.std.proofs.Common.{◌≡◌, ◌+◌, ◌++◌, ◌∷◌, [], List, Result, is_ok, true, if◌then◌else◌, length, take, arith, ap, sym, subst, ◌∙◌}
 use Rattle.std.proofs.lemmas.List.{take_more, length-append}
 use Rattle.std.proofs.lemmas.Result.{err_from_is_err_and}
 use Rattle.blocking_world.specs.Runs.{StopsShort}
 use Rattle.blocking_laws.specs.declared.event.Event.{Event}
-use Rattle.blocking_laws.specs.declared.step.Step.TheVariants.{Spawn}
+use Rattle.blocking_laws.specs.declared.step.Step.{Step}
 use Rattle.blocking_world.proofs.Running.{Taken, taken_more, taken_fewer}
 use Rattle.blocking_world.proofs.world.take_all.Goals as goal
 
@@ -32,8 +32,9 @@ loop-step-preserved c =
     let longer = ap length pushed ∙ length-append c.loop-step.events.items (c.in_ok-event.event ∷ []) in (
       subst (λ events. Taken c.args.steps.now (c.loop-step.step-index + 1) events c.args.world.now.history c.step.new.self.history) (sym pushed)
           (taken_more c.args.steps.now c.loop-step.step-index c.loop-step.events.items c.args.world.now.history c.loop-step.world.history c.step.new.self.history
-          (slice_index_or c.args.steps.now c.loop-step.step-index Spawn) c.in_ok-event.event c.loop-step.invariant.0
-          (take_more c.args.steps.now c.loop-step.step-index Spawn less) c.in_ok-event.ensures.ok),
+          c.step-item.result c.in_ok-event.event c.loop-step.invariant.0
+          (take_more c.args.steps.now c.loop-step.step-index c.step-item.result less
+          ∙ ap (λ (s : Step). take c.loop-step.step-index c.args.steps.now ++ s ∷ []) (sym c.step-item.is)) c.in_ok-event.ensures.ok),
       omega (arith, longer, many),
       omega (arith, grows, room),
     )

@@ -3,8 +3,11 @@ use Rattle.std.proofs.lemmas.List.{reverse-append}
 use Rattle.blocking_laws.specs.Growth.{IsPlanned}
 use Rattle.blocking_world.specs.Machine.{StepDoes}
 use Rattle.blocking_world.specs.Ties.{IsLawful}
+use Rattle.blocking_laws.specs.declared.event.Event.{Event}
 use Rattle.blocking_laws.specs.declared.event.Moment.{Moment}
+use Rattle.blocking_laws.specs.declared.step.Step.{Step}
 use Rattle.blocking_world.proofs.Lawful.{stays_lawful, same_setting}
+use Rattle.blocking_world.proofs.Bare.{bare}
 use Rattle.blocking_world.proofs.world.World.step.Goals as goal
 
 put_at_end : {A B : Type 0} (r : Result A B) (old between new : List Moment) (moment : Moment) → between ≡ old → is_ok r ≡ true
@@ -13,24 +16,31 @@ put_at_end r old between new moment same ok is =
     is ∙ ap (λ b. if b then between ++ moment ∷ [] else between) ok ∙ ap (λ (row : List Moment). row ++ moment ∷ []) same
 
 -- the step as the parts did it
-does : (c : goal.After-push) → StepDoes (IsPlanned c.self.inside.plan.items) c.args.step c.self.inside.parts c.in_ok-event.event c.step_with.new.parts
-does c = subst (λ plan. StepDoes (IsPlanned plan) c.args.step c.self.inside.parts c.in_ok-event.event c.step_with.new.parts) c.deref.ensures.value c.in_ok-event.ensures.ok
+does : (c : goal.Joined-push) → StepDoes (IsPlanned c.self.inside.plan.items) c.args.step.now c.self.inside.parts c.in_ok-event.event c.step_with.new.parts
+does c = subst (λ plan. StepDoes (IsPlanned plan) c.args.step.now c.self.inside.parts c.in_ok-event.event c.step_with.new.parts) c.deref.ensures.value c.in_ok-event.ensures.ok
+
+-- what is seen of it carries no bytes
+pub twin_of-twin-requires : goal.twin_of-twin-requires
+twin_of-twin-requires c =
+    bare (IsPlanned c.self.inside.plan.items) c.args.step.now c.self.inside.parts c.in_ok-event.event c.step_with.new.parts
+    (subst (λ plan. StepDoes (IsPlanned plan) c.args.step.now c.self.inside.parts c.in_ok-event.event c.step_with.new.parts) c.deref.ensures.value c.in_ok-event.ensures.ok)
 
 -- the moment stands at the end of the trace
-at_end : (c : goal.After-push) → c.push.new.self.items ≡ c.self.inside.trace.items ++ record { step = c.args.step; event = c.in_ok-event.event } ∷ []
+at_end : (c : goal.Joined-push) → c.push.new.self.items ≡ c.self.inside.trace.items ++ record { step = c.args.step.now; event = c.in_ok-event.event } ∷ []
 at_end c =
     let room = c.in_ok-reserve.ensures.ok in
-    put_at_end c.push.result c.self.inside.trace.items c.reserve.new.self.items c.push.new.self.items (record { step = c.args.step; event = c.in_ok-event.event })
+    put_at_end c.push.result c.self.inside.trace.items c.reserve.new.self.items c.push.new.self.items (record { step = c.in_ok-kept.kept; event = c.in_ok-event.event })
     c.in_ok-reserve.ensures.items (c.push.ensures.succeeds (omega (arith, room))) c.push.ensures.items
+    ∙ ap (λ (s : Step). c.self.inside.trace.items ++ record { step = s; event = c.in_ok-event.event } ∷ []) c.in_ok-kept.ensures
 
 -- and so it is the newest
-newest : (c : goal.After-push) → reverse c.push.new.self.items ≡ record { step = c.args.step; event = c.in_ok-event.event } ∷ reverse c.self.inside.trace.items
-newest c = ap reverse (at_end c) ∙ reverse-append c.self.inside.trace.items (record { step = c.args.step; event = c.in_ok-event.event } ∷ [])
+newest : (c : goal.Joined-push) → reverse c.push.new.self.items ≡ record { step = c.args.step.now; event = c.in_ok-event.event } ∷ reverse c.self.inside.trace.items
+newest c = ap reverse (at_end c) ∙ reverse-append c.self.inside.trace.items (record { step = c.args.step.now; event = c.in_ok-event.event } ∷ [])
 
-kept : (c : goal.After-push) → c.step_with.new.parts.pool.counts.setting ≡ c.self.inside.parts.pool.counts.setting
+kept : (c : goal.Joined-push) → c.step_with.new.parts.pool.counts.setting ≡ c.self.inside.parts.pool.counts.setting
 kept c =
     same_setting c.self.inside.parts.pool.counts.setting c.self.inside.plan.items c.self.inside.parts c.step_with.new.parts (reverse c.self.inside.trace.items)
-    c.args.step c.in_ok-event.event c.self.invariant (does c)
+    c.args.step.now c.in_ok-event.event c.self.invariant (does c)
 
 -- the world stays lawful
 pub invariant_of-self-2 : goal.invariant_of-self-2
@@ -38,11 +48,16 @@ invariant_of-self-2 c =
     subst (λ setting. IsLawful setting c.self.inside.plan.items c.step_with.new.parts (reverse c.push.new.self.items)) (sym (kept c))
     (subst (λ past. IsLawful c.self.inside.parts.pool.counts.setting c.self.inside.plan.items c.step_with.new.parts past) (sym (newest c))
     (stays_lawful c.self.inside.parts.pool.counts.setting c.self.inside.plan.items c.self.inside.parts c.step_with.new.parts (reverse c.self.inside.trace.items)
-    c.args.step c.in_ok-event.event c.self.invariant (does c)))
+    c.args.step.now c.in_ok-event.event c.self.invariant (does c)))
 
 -- one moment more was seen
 pub returns-clause-ok : goal.returns-clause-ok
 returns-clause-ok c =
     rw (sym c.self.view_is)
     (ap (λ setting. record { setting = setting; plan = c.self.inside.plan.items; past = reverse c.push.new.self.items }) (kept c)
-    ∙ ap (λ past. record { setting = c.self.inside.parts.pool.counts.setting; plan = c.self.inside.plan.items; past = past }) (newest c))
+    ∙ ap (λ past. record { setting = c.self.inside.parts.pool.counts.setting; plan = c.self.inside.plan.items; past = past }) (newest c)
+    ∙ ap (λ (e : Event). record {
+      setting = c.self.inside.parts.pool.counts.setting;
+      plan = c.self.inside.plan.items;
+      past = record { step = c.args.step.now; event = e } ∷ reverse c.self.inside.trace.items;
+    }) (sym c.twin_of-twin.ensures))

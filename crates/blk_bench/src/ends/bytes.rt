@@ -1,0 +1,150 @@
+//! Bytes that the owner fills in, and that a job on a worker peeks and consumes.
+use crate::figures::{Figures, Request};
+use crate::pipe::{failed, is_right, pattern};
+use blocking::{AnyPlace, Executor, FillEnd, Host, PeekEnd, Runtime, link_in};
+use blocking_core::pipe::{Filled, Peeked};
+use blocking_core::pool::{Job, JobNo, JobStep, WakeNote};
+use futures::Future;
+use futures::channel::oneshot;
+use futures::executor::block_on;
+use futures::task::{Context, Poll};
+use std::io;
+use std::sync::Wait;
+use std::time::Instant;
+
+// The pipe's capacity, and how many bytes are filled in or peeked at once.
+const PIECE: usize = 65_536;
+
+// Peeks and consumes to the end, and tells how many bytes there were, of which each piece's first and last were right.
+#[derive(Drop)]
+struct Taker<H: Runtime> {
+    end: PeekEnd<u8, AnyPlace, H>,
+    buffer: Vec<u8>,
+    told: Option<oneshot::Sender<u64>>,
+}
+
+impl<H: Runtime> Job for Taker<H> {
+    ghost use Rattle.std.specs.Prelude.{◌≡◌, false};
+
+    ghost may_answer = { λ _ answer. answer ≡ false };
+
+    fn step(&mut self, me: JobNo) -> JobStep {
+        let place = self.end.received();
+        if self.buffer.is_empty() {
+            return JobStep::Done;
+        }
+        match self.end.peek_or_seat(me, &mut self.buffer) {
+            Peeked::Some(count) => {
+                drop(self.end.consume(count));
+                if is_right(place, &self.buffer[..count]) {
+                    JobStep::Again
+                } else {
+                    JobStep::Done
+                }
+            }
+            Peeked::Parked => JobStep::Waiting,
+            Peeked::Drained => {
+                if let Some(told) = self.told.take() {
+                    let _ = told.send(place);
+                }
+                JobStep::Done
+            }
+        }
+    }
+
+    fn abandoned(&self) -> bool {
+        false
+    }
+}
+
+// Fills in all bytes, and closes.
+#[derive(Drop)]
+struct Filling<'a, J: Job, H: Runtime> {
+    rt: H,
+    executor: &'a Executor<J, H>,
+    end: FillEnd<u8, AnyPlace, H>,
+    rest: &'a [u8],
+}
+
+impl<'a, J: Job, H: Runtime> Filling<'a, J, H> {
+    fn wake(&self, note: Option<WakeNote>) {
+        if let Some(note) = note {
+            let _ = self.executor.wake(note);
+        }
+    }
+}
+
+impl<'a, J: Job, H: Runtime> Future for Filling<'a, J, H> {
+    ghost use Rattle.std.specs.Prelude.{◌≡◌};
+
+    type Output = ();
+
+    ghost needs = { λ filling source. source ≡ filling.end.source.id };
+
+    fn poll(&mut self, cx: &mut Context<'_>) -> Poll<()> {
+        let rt = self.rt;
+        for _ in rt.forever() {
+            if self.rest.is_empty() {
+                let note = self.end.close();
+                self.wake(note);
+                return Poll::Ready(());
+            }
+            let piece = &self.rest[..self.rest.len().min(PIECE)];
+            match self.end.fill_or_seat(cx, piece) {
+                Filled::Took(count, note) => {
+                    self.rest = &self.rest[count..];
+                    self.wake(note);
+                }
+                Filled::Shut => return Poll::Ready(()),
+                Filled::Waits(_) => return Poll::Pending,
+            }
+        }
+        unreachable!()
+    }
+}
+
+// All bytes of the source to a job and through its buffer.
+fn cross<R: Host>(host: R, executor: &Executor<Taker<R>, R>, source: &[u8]) -> io::Result<()> {
+    let (end, theirs) = link_in(host, PIECE)?;
+    let (told, tells) = oneshot::channel(host.alloc())?;
+    let taker = Taker {
+        end: theirs,
+        buffer: vec![in host.alloc(); 0u8; PIECE]?,
+        told: Some(told),
+    };
+    if executor.add(taker).is_err() {
+        return Err(failed());
+    }
+    let filling = Filling {
+        rt: host,
+        executor,
+        end,
+        rest: source,
+    };
+    block_on(&host, filling)?;
+    match block_on(&host, tells)? {
+        Ok(count) if count == source.len() as u64 => Ok(()),
+        _ => Err(failed()),
+    }
+}
+
+/// In MB/s.
+pub(crate) fn run<R: Host>(
+    rt: HostRuntime,
+    host: R,
+    request: Request,
+    figures: &mut Figures,
+) -> io::Result<()> {
+    let Ok(executor) = Executor::new(host, None) else {
+        return Err(failed());
+    };
+    let source = pattern(rt.alloc(), request.size)?;
+    for rep in 0..=request.reps {
+        let start = Instant::now(&rt)?;
+        cross(host, &executor, &source)?;
+        let nanos = start.elapsed(&rt)?.as_nanos().max(1);
+        let figure = (request.size as u128).saturating_mul(1000) / nanos;
+        figures.note(rep, u64::try_from(figure).unwrap_or(u64::MAX))?;
+    }
+    Ok(())
+}

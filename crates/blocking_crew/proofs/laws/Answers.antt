@@ -1,0 +1,192 @@
+-- Each move is answered as the law of answers says.
+use Rattle.std.proofs.Common.{◌≡◌, ◌<◌, ◌==◌, ◌+◌, ◌&&◌, ◌||◌, nat_lt, ℕ, Bool, true, false, if◌then◌else◌, List, [], ◌∷◌, length, refl, sym, ap, ap₂, ◌∙◌, subst, arith, Option, Some, None, option_map, Ok, Err}
+use Rattle.std.proofs.lemmas.Bool.{eq-eqb}
+use Rattle.std.proofs.lemmas.Bool.Decides.{nat_tests}
+use Rattle.std.specs.FinMap.{get}
+use Rattle.blocking_pool.specs.Counts.{limit_of}
+use Rattle.blocking_pool.specs.Growth.{Growth, greatest, limit_after}
+use Rattle.blocking_pool.specs.Jobs.{Job as Entry, JobNumber, if_at, standing_of}
+use Rattle.blocking_pool.specs.PoolAnswers.{is_empty, must_stop}
+use Rattle.blocking_pool.specs.Wakes.{wake_of, cancel_of}
+use Rattle.blocking_pool.specs.declared.pool.answer.Refusal.TheVariants.{Memory, NoWorker, Numbers}
+use Rattle.blocking_pool.specs.declared.pool.answer.Waited.TheVariants.{Stay, Stop}
+use Rattle.blocking_pool.specs.declared.pool.answer.Woke.{Woke}
+use Rattle.blocking_pool.specs.declared.pool.standing.Standing.{Standing}
+use Rattle.blocking_pool.specs.declared.pool.standing.Standing.TheVariants.{Queued, Running, Parked, Done, Dropped}
+use Rattle.blocking_laws.specs.Answers.{PoolAnswers, AnswerLaw, take_from, end_of, take_answer, end_answer}
+use Rattle.blocking_laws.specs.Counts.{workers, limit}
+use Rattle.blocking_laws.specs.Growth.{IsPlanned}
+use Rattle.blocking_laws.specs.Jobs.{standing, is_woken, is_cancelled, is_marked, is_to_drop, has_ended}
+use Rattle.blocking_laws.specs.Queue.{queue, to_sweep as seen_to_sweep}
+use Rattle.blocking_laws.specs.Seen.{joined, has_timed_out, is_nothing}
+use Rattle.blocking_laws.specs.Turns.{Turn}
+use Rattle.blocking_laws.specs.declared.event.Act.{Act}
+use Rattle.blocking_laws.specs.declared.event.Act.TheVariants.{Took, TookDropped, Ended}
+use Rattle.blocking_laws.specs.declared.event.Moment.{Moment}
+use Rattle.blocking_laws.specs.declared.event.WaitEnd.{WaitEnd}
+use Rattle.blocking_laws.specs.declared.step.Step.{Step}
+use Rattle.blocking_crew.specs.Crews.{Crew, hand_at, may_end, outcome_of, standing_after}
+use Rattle.blocking_crew.specs.Moves.{Move, Adds, Arrives, TakesJob, TakesNone, Works, EndsTurn, Parks, HasWaited, Sweeps, IsWoken, IsCancelled, IsLetGo, Tells, May, call_of, took_act, parked_act, is_aside}
+use Rattle.blocking_crew.specs.Tickets.{JobPool, TakesFront, SweepsIf, ParksTo, ParksSo}
+use Rattle.blocking_crew.specs.Ties.{FiledAs, FiledHere, ValueAs, IsNumberOf, IsAsked, CrewHolds, turn_of, moment_of}
+use Rattle.blocking_crew.specs.declared.hand.Hand.TheVariants.{Holds}
+use Rattle.blocking_crew.specs.declared.hand.Held.{Held}
+use Rattle.blocking_crew.specs.declared.hand.Stage.{Stage}
+use Rattle.blocking_crew.specs.declared.hand.Stage.TheVariants as stage
+use Rattle.blocking_crew.specs.declared.ticket.Ticket.{Ticket}
+use Rattle.blocking_crew.specs.declared.tickets.Parking.{Parking}
+use Rattle.blocking_crew.specs.declared.tickets.Parking.TheVariants as parking
+use Rattle.blocking_crew.proofs.ties.Acts.{by_work, by_aside, by_let_go, aside_or}
+use Rattle.blocking_crew.proofs.ties.Counts.{swept, workers_now}
+use Rattle.blocking_crew.proofs.ties.Known.{front_filed}
+use Rattle.blocking_crew.proofs.ties.Lookups.{found_at}
+use Rattle.blocking_crew.proofs.ties.Queue.{swept_line}
+use Rattle.blocking_crew.proofs.ties.Sweeps.{sweep_same, is_swept_if}
+
+-- ---- takes
+
+mark_in : Option Ticket → Bool
+mark_in None = false
+mark_in (Some ticket) = ticket.is_marked
+
+-- the mark of a ticket that is there
+mark_is : (stand : Standing) (found : Option Ticket) (mark : Bool) (value : Ticket) → found ≡ Some value → ValueAs stand found mark → value.is_marked ≡ mark
+mark_is Queued found mark value e v = let both : Some value ≡ Some (record { is_marked = mark }) = sym e ∙ v in let same : value ≡ record { is_marked = mark } = cc in ap (λ (x : Ticket). x.is_marked) same
+mark_is Parked found mark value e v = let both : Some value ≡ Some (record { is_marked = mark }) = sym e ∙ v in let same : value ≡ record { is_marked = mark } = cc in ap (λ (x : Ticket). x.is_marked) same
+mark_is Running found mark value e v = absurd cc
+mark_is Done found mark value e v = absurd v
+mark_is Dropped found mark value e v = absurd v
+
+-- whether a job is to be dropped, by its entry
+to_drop_is : (entry : Entry Ticket) (stand : Option Standing) (wake cancel mark ended : Bool) (value : Ticket) → entry.value ≡ Some value
+    → FiledAs (Some entry) stand wake cancel mark ended → (entry.cancelled || value.is_marked) ≡ (cancel || mark)
+to_drop_is entry stand wake cancel mark ended value e f = ap₂ (λ (a b : Bool). a || b) (sym f.2) (mark_is entry.standing entry.value mark value e f.4)
+
+took_if : (b : Bool) (s : ℕ) → took_act b s ≡ (if b then TookDropped s else Took s)
+took_if true s = refl
+took_if false s = refl
+
+took_rightly : (setting : ℕ) (past : List Moment) (now : Moment) (b : Bool) (s : ℕ) → took_act b s ≡ take_answer past → PoolAnswers setting past now (took_act b s)
+took_rightly setting past now true s e = e
+took_rightly setting past now false s e = e
+
+-- ---- the ends of turns
+
+end_is : (at : Stage) (drop woken : Bool) (s : ℕ) → may_end at ≡ true → Ended s (standing_after (outcome_of at)) ≡ end_of (turn_of at) drop woken s
+end_is stage.Runs drop woken s may = refl
+end_is stage.GaveUp drop woken s may = refl
+end_is _ drop woken s may = absurd cc
+
+-- ---- waits
+
+none_left : (ns : List ℕ) → (length ns == 0) ≡ is_empty ns
+none_left [] = refl
+none_left (n ∷ ns) = grind (arith, nat_tests)
+
+-- ---- wakes and cancels
+
+met_here : (b : Bool) (answer : Option Standing → Woke) (entry : Entry Ticket) (stand : Option Standing) → b ≡ true → stand ≡ Some entry.standing
+    → answer (option_map (λ (job : Entry Ticket). job.standing) (if b then Some entry else None)) ≡ answer stand
+met_here true answer entry stand e f = ap answer (sym f)
+met_here false answer entry stand e f = absurd cc
+
+-- an answer to a standing: a job that is over is as one that isn't there
+met_as : (answer : Option Standing → Woke) (entry : Option (Entry Ticket)) (place : ℕ) (stand : Option Standing) (wake cancel mark ended : Bool)
+    → answer None ≡ answer (Some Done) → answer None ≡ answer (Some Dropped) → ((found : Entry Ticket) → entry ≡ Some found → found.place ≡ place)
+    → FiledAs entry stand wake cancel mark ended → answer (option_map (λ (job : Entry Ticket). job.standing) (if_at place entry)) ≡ answer stand
+met_as answer None place None wake cancel mark ended done dropped at_place f = refl
+met_as answer None place (Some Queued) wake cancel mark ended done dropped at_place f = absurd f
+met_as answer None place (Some Running) wake cancel mark ended done dropped at_place f = absurd f
+met_as answer None place (Some Parked) wake cancel mark ended done dropped at_place f = absurd f
+met_as answer None place (Some Done) wake cancel mark ended done dropped at_place f = done
+met_as answer None place (Some Dropped) wake cancel mark ended done dropped at_place f = dropped
+met_as answer (Some entry) place stand wake cancel mark ended done dropped at_place f =
+    met_here (entry.place == place) answer entry stand (eq-eqb entry.place place (at_place entry refl)) f.0
+
+module _ (setting : ℕ) (plan : List Bool) (crew : Crew) (past : List Moment) (step : Step) (owner : Option ℕ) (h : CrewHolds setting plan crew past) where
+  take_is : (number : JobNumber) (value : Ticket) (to_drop : Bool) (growth : Growth) (pool : JobPool) → TakesFront (IsPlanned plan) crew.pool number value to_drop growth pool → took_act to_drop number.serial ≡ take_answer past
+  take_is number value to_drop growth pool front =
+      let s = number.serial in
+      let wanted : to_drop ≡ is_to_drop past s =
+      front.wanted
+      ∙ to_drop_is front.job (standing past s) (is_woken past s) (is_cancelled past s) (is_marked past s) (has_ended past s) value front.value_is
+      (front_filed setting plan crew past h (IsPlanned plan) number value to_drop growth pool front) in
+      ap (λ (b : Bool). took_act b s) wanted ∙ took_if (is_to_drop past s) s ∙ ap (take_from past) (sym front.front ∙ h.tied.lined)
+
+  ends : (held : Held) (v : ℕ) → hand_at crew.hands v ≡ Holds held → may_end held.stage ≡ true → Ended held.turn.serial (standing_after (outcome_of held.stage)) ≡ end_answer past held.turn.serial
+  ends held v at may =
+      let s = held.turn.serial in
+      end_is held.stage (is_to_drop past s) (is_woken past s) s may ∙ ap (λ (where_is : Turn). end_of where_is (is_to_drop past s) (is_woken past s) s) (sym (h.tied.handed.turn_is v held at))
+
+  -- the end of a run that waits
+  parks : (held : Held) (v : ℕ) (ticket : Ticket) (parked : Parking) (pool : JobPool) → hand_at crew.hands v ≡ Holds held → held.stage ≡ stage.Waits → ParksSo crew.pool held.turn ticket parked pool → ticket.is_marked ≡ is_marked past held.turn.serial
+      → parked_act parked held.turn.serial ≡ end_answer past held.turn.serial
+  parks held v ticket parked pool at waits so marked = by parked so.effect
+    where
+      s : ℕ
+      s = held.turn.serial
+
+      filed : FiledHere (Some so.job) past s
+      filed = subst (λ o. FiledHere o past s) (found_at held.turn.place (get crew.pool.jobs s) so.job so.found) (h.tied.filed s)
+
+      drop : (so.job.cancelled || ticket.is_marked) ≡ is_to_drop past s
+      drop = ap₂ (λ (a b : Bool). a || b) (sym filed.2) marked
+
+      answer : (d w : Bool) → is_to_drop past s ≡ d → is_woken past s ≡ w → end_of (turn_of stage.Waits) d w s ≡ end_answer past s
+      answer d w e f =
+          ap (λ b. end_of (turn_of stage.Waits) b w s) (sym e) ∙ ap (λ b. end_of (turn_of stage.Waits) (is_to_drop past s) b s) (sym f)
+          ∙ ap (λ (where_is : Turn). end_of where_is (is_to_drop past s) (is_woken past s) s) (sym (h.tied.handed.turn_is v held at ∙ ap turn_of waits))
+
+      by : (p : Parking) → ParksTo crew.pool held.turn ticket so.job p pool → parked_act p s ≡ end_answer past s
+      by (parking.Parked pass) e = answer false false (sym drop ∙ e.0) (filed.1 ∙ e.1)
+      by (parking.Queued pass) e = answer false true (sym drop ∙ e.0) (filed.1 ∙ e.1)
+      by (parking.HandedOut back) e = answer true (is_woken past s) (sym drop ∙ e.0) refl
+
+  -- the laws stop a worker where the pool does
+  stop_is : (end : WaitEnd) (growth : Growth) (between : JobPool) → SweepsIf (has_timed_out end) (IsPlanned plan) crew.pool growth between
+      → (nat_lt (limit_after (limit setting past) (workers past + growth.started) growth.refused) (workers past + growth.started)
+      || has_timed_out end && length (joined (queue past) (if has_timed_out end then seen_to_sweep past else [])) == 0) ≡ must_stop (has_timed_out end) between
+  stop_is end growth between sweeps =
+      let g = swept setting plan crew past step owner h (has_timed_out end) growth between sweeps in
+      let line = swept_line setting plan crew past step owner h (has_timed_out end) between (is_swept_if setting plan crew past h (IsPlanned plan) (has_timed_out end) growth between sweeps) in
+      let all = workers_now setting plan crew past step owner h in
+      let gw = g.workers in
+      let hired : workers past + growth.started ≡ between.counts.workers = omega (arith, gw, all) in
+      let most : limit_after (limit setting past) (workers past + growth.started) growth.refused ≡ limit_of between.counts =
+      ap₂ (λ l n. limit_after l (n + growth.started) growth.refused) (sym h.tied.counted.limit_is) (sym all) ∙ sym g.most in
+      ap₂ (λ (a b : Bool). a || has_timed_out end && b) (ap₂ nat_lt most hired) (ap (λ (ns : List ℕ). length ns == 0) (sym line) ∙ none_left between.queue)
+
+  -- a job is answered as it stands
+  met_rightly : (answer : Option Standing → Woke) (number : JobNumber) → answer None ≡ answer (Some Done) → answer None ≡ answer (Some Dropped) → IsNumberOf crew.pool number → answer (standing_of crew.pool.jobs number) ≡ answer (standing past number.serial)
+  met_rightly answer number done dropped placed =
+      met_as answer (get crew.pool.jobs number.serial) number.place (standing past number.serial) _ _ _ _ done dropped placed (h.tied.filed number.serial)
+
+  -- an event that is nothing to the crew needs no answer
+  pub answer_aside : (last : Moment) (act : Act) → (is_aside act || is_nothing act) ≡ true → PoolAnswers setting past last act
+  answer_aside last act is = by_aside (λ act. PoolAnswers setting past last act) tt (λ n. tt) tt tt tt act is
+
+  -- Each move is answered as the law of answers says.
+  pub answer_law : (move : Move) → May (IsPlanned plan) crew move → IsAsked crew past (call_of move) → AnswerLaw setting past (moment_of crew move step owner)
+  answer_law (Adds who (Ok number) growth pool) may asked = (may.serial ∙ h.tied.numbered.next, subst (λ (s : ℕ). s < greatest) (sym may.serial) may.left)
+  answer_law (Adds who (Err NoWorker) growth pool) may asked = subst (λ (s : ℕ). s < greatest) h.tied.numbered.next may.left
+  answer_law (Adds who (Err Numbers) growth pool) may asked = sym h.tied.numbered.next ∙ may.0
+  answer_law (Adds who (Err Memory) growth pool) may asked = subst (λ (s : ℕ). s < greatest) h.tied.numbered.next may.2
+  answer_law (Arrives pass) may asked =
+      let hands = h.tied.counted.hands_are in let arriving = h.tied.counted.arriving_are in (omega (arith, hands), omega (arith, hands, arriving, may))
+  answer_law (TakesJob v old to_drop number ticket growth pool) may asked =
+      took_rightly setting past (moment_of crew (TakesJob v old to_drop number ticket growth pool) step owner) to_drop number.serial (take_is number ticket to_drop growth pool may.1)
+  answer_law (TakesNone v old pass) may asked = ap (take_from past) (sym may.1 ∙ h.tied.lined)
+  answer_law (Works v held act) may asked =
+      by_work (λ at act. PoolAnswers setting past (moment_of crew (Works v held act) step owner) act) (λ a. tt) tt (λ w. tt) tt (λ w. tt) tt held.stage act may.1
+  answer_law (EndsTurn v held pass) may asked = ends held v may.0 may.1
+  answer_law (Parks v held ticket (parking.Parked pass) pool) may asked = parks held v ticket (parking.Parked pass) pool may.0 may.1 may.2 (asked held may.0)
+  answer_law (Parks v held ticket (parking.Queued pass) pool) may asked = parks held v ticket (parking.Queued pass) pool may.0 may.1 may.2 (asked held may.0)
+  answer_law (Parks v held ticket (parking.HandedOut back) pool) may asked = parks held v ticket (parking.HandedOut back) pool may.0 may.1 may.2 (asked held may.0)
+  answer_law (HasWaited v pass end (Stay back) growth pool) may asked = stop_is end growth may.1.between may.1.sweep ∙ may.1.answer.0
+  answer_law (HasWaited v pass end Stop growth pool) may asked = stop_is end growth may.1.between may.1.sweep ∙ may.1.answer.0
+  answer_law (Sweeps growth pool) may asked = ap length (sweep_same setting plan crew past h)
+  answer_law (IsWoken who number woke growth pool) may asked = may.answer ∙ met_rightly wake_of number refl refl asked
+  answer_law (IsCancelled who number woke growth pool) may asked = may.answer ∙ met_rightly cancel_of number refl refl asked
+  answer_law (IsLetGo who act number) may asked = by_let_go (λ act. PoolAnswers setting past (moment_of crew (IsLetGo who act number) step owner) act) tt tt act may
+  answer_law (Tells who act) may asked = answer_aside (moment_of crew (Tells who act) step owner) act (aside_or act may)
+  answer_law move may asked = tt

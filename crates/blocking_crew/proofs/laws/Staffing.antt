@@ -1,0 +1,99 @@
+-- What the workers hold is what was seen: so many passes, and a turn for each running job.
+use Rattle.std.proofs.Common.{◌≡◌, ℕ, ◌+◌, List, [], ◌∷◌, Bool, length, refl, sym, ap, ◌∙◌, subst, arith, Option, Some, zero, suc}
+use Rattle.std.specs.Prelude.{◌&&◌, slice_get, is_some, is_none}
+use Rattle.blocking_pool.specs.Jobs.{one_if}
+use Rattle.blocking_laws.specs.Counts.{workers, idle}
+use Rattle.blocking_laws.specs.Staffed.{count_to, passes, turns, IsStaffed, AreAsSeen}
+use Rattle.blocking_laws.specs.Steps.{is_there, is_free}
+use Rattle.blocking_laws.specs.Turns.{hand}
+use Rattle.blocking_laws.specs.declared.event.Moment.{Moment}
+use Rattle.blocking_crew.specs.Crews.{Crew, IsReady, one_if_free, free_hands, one_if_busy, busy_hands}
+use Rattle.blocking_crew.specs.Ties.{HandAs, Crewed, Holding}
+use Rattle.blocking_crew.specs.declared.hand.Hand.{Hand}
+use Rattle.blocking_crew.specs.declared.hand.Hand.TheVariants.{Out, Free, Holds}
+use Rattle.blocking_crew.proofs.hands.Rows.{hand_from_place, sum_of, sum_free}
+use Rattle.blocking_crew.proofs.ties.Counts.{sum_busy}
+
+-- ---- what a test of the workers counts is a sum over their hands
+
+-- a count by its first worker
+count_first : (test : ℕ → Bool) (n : ℕ) → count_to test (suc n) ≡ one_if (test 1) + count_to (λ v. test (v + 1)) n
+count_first test zero = omega arith
+count_first test (suc n) =
+    let below = count_first test n in
+    let same : one_if (test (suc n + 1)) ≡ one_if (test (n + 1 + 1)) = ap (λ m. one_if (test m)) (omega arith) in
+    omega (arith, below, same)
+
+-- the test tells what each hand adds
+abbrev Tells : (Hand → ℕ) → (ℕ → Bool) → List Hand → Type 0
+Tells one test row = (n : ℕ) (h : Hand) → slice_get row n ≡ Some h → one_if (test (n + 1)) ≡ one h
+
+count_is : (one : Hand → ℕ) (test : ℕ → Bool) (row : List Hand) → Tells one test row → count_to test (length row) ≡ sum_of one row
+count_is one test [] tells = refl
+count_is one test (h ∷ row) tells =
+    let first : one_if (test 1) ≡ one h = tells 0 h refl in
+    let shifted : Tells one (λ v. test (v + 1)) row = λ n g e. ap (λ m. one_if (test m)) (omega arith) ∙ tells (suc n) g e in
+    let rest = count_is one (λ v. test (v + 1)) row shifted in
+    let split = count_first test (length row) in
+    omega (arith, first, rest, split)
+
+-- a hand by what was seen of its worker
+free_tells : (h : Hand) (there : Bool) (job : Option ℕ) → HandAs h there job → one_if (there && is_none job) ≡ one_if_free h
+free_tells Out there job tied = ap (λ b. one_if (b && is_none job)) tied.0
+free_tells (Free pass) there job tied = ap (λ b. one_if (b && is_none job)) tied.0 ∙ ap (λ j. one_if (is_none j)) tied.1
+free_tells (Holds held) there job tied = ap (λ b. one_if (b && is_none job)) tied.0 ∙ ap (λ j. one_if (is_none j)) tied.1
+
+busy_tells : (h : Hand) (there : Bool) (job : Option ℕ) → HandAs h there job → one_if (is_some job) ≡ one_if_busy h
+busy_tells Out there job tied = ap (λ j. one_if (is_some j)) tied.1
+busy_tells (Free pass) there job tied = ap (λ j. one_if (is_some j)) tied.1
+busy_tells (Holds held) there job tied = ap (λ j. one_if (is_some j)) tied.1
+
+module _ (setting : ℕ) (crew : Crew) (past : List Moment) (t : Crewed setting crew past) where
+  -- the hand in a place, by what was seen of its worker
+  seen_hand : (n : ℕ) (h : Hand) → slice_get crew.hands n ≡ Some h → HandAs h (is_there past (n + 1)) (hand past (n + 1))
+  seen_hand n h e = subst (λ g. HandAs g (is_there past (n + 1)) (hand past (n + 1))) (hand_from_place crew.hands n h e) (t.handed.each (n + 1))
+
+  -- the passes are the free hands
+  passes_are : passes past ≡ free_hands crew.hands
+  passes_are =
+      ap (count_to (is_free past)) (sym t.counted.hands_are)
+      ∙ count_is one_if_free (is_free past) crew.hands (λ n h e. free_tells h (is_there past (n + 1)) (hand past (n + 1)) (seen_hand n h e))
+      ∙ sum_free crew.hands
+
+  -- the turns are the hands that hold jobs
+  turns_are : turns past ≡ busy_hands crew.hands
+  turns_are =
+      ap (count_to (λ v. is_some (hand past v))) (sym t.counted.hands_are)
+      ∙ count_is one_if_busy (λ v. is_some (hand past v)) crew.hands (λ n h e. busy_tells h (is_there past (n + 1)) (hand past (n + 1)) (seen_hand n h e))
+      ∙ sum_busy crew.hands
+
+  -- What the workers hold is what was seen, and there is a turn for each running job.
+  pub holding : Holding crew past
+  holding = record { passes_are = sym passes_are; turns_are = sym turns_are; jobs_are = turns_are ∙ t.counted.busy_are }
+
+  -- The counts of the pool are those that the past tells.
+  pub counts_are : (crew.pool.counts.workers ≡ workers past) × (crew.pool.counts.idle ≡ idle past)
+  counts_are =
+      let e = t.counted.workers_are in
+      let f = t.counted.idle_are in
+      let all : crew.pool.counts.workers ≡ workers past = omega (arith, e) in
+      (all, omega (arith, all, f))
+
+  -- So what the hands hold accounts for the workers.
+  pub staffed : IsReady crew → IsStaffed (free_hands crew.hands) (busy_hands crew.hands) past
+  staffed ready =
+      let all_now = counts_are.0 in
+      let idle_now = counts_are.1 in
+      let same = t.counted.busy_are in
+      let idle_free = ready.idle in
+      let idle_are = t.counted.idle_are in
+      let arriving_are = t.counted.arriving_are in
+      record {
+        all_are = omega (arith, all_now, idle_free, idle_are, arriving_are, same);
+        idle_are = omega (arith, idle_now, idle_free, arriving_are);
+        jobs_are = same;
+      }
+
+  -- And it is what was seen.
+  pub as_seen : AreAsSeen (free_hands crew.hands) (busy_hands crew.hands) past
+  as_seen = record { passes_are = sym passes_are; turns_are = sym turns_are }

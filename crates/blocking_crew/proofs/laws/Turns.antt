@@ -1,0 +1,83 @@
+-- The law of turns holds at each move.
+use Rattle.std.proofs.Common.{◌≡◌, ◌||◌, ℕ, List, Bool, true, false, refl, sym, ap, ◌∙◌, subst, Option, Some, None}
+use Rattle.std.specs.Prelude.{Ok, Err}
+use Rattle.blocking_pool.specs.Growth.{Growth}
+use Rattle.blocking_pool.specs.Jobs.{JobNumber}
+use Rattle.blocking_pool.specs.Lists.{is_in}
+use Rattle.blocking_pool.specs.declared.pool.answer.Waited.TheVariants.{Stay, Stop}
+use Rattle.blocking_pool.specs.declared.pool.token.WorkerPass.{WorkerPass}
+use Rattle.blocking_laws.specs.Growth.{IsPlanned}
+use Rattle.blocking_laws.specs.Queue.{running}
+use Rattle.blocking_laws.specs.Seen.{is_nothing}
+use Rattle.blocking_laws.specs.Turns.{Turn, turn, hand, TurnLaw, FitsTurn}
+use Rattle.blocking_laws.specs.declared.event.Act.{Act}
+use Rattle.blocking_laws.specs.declared.event.Act.TheVariants.{Answered, JobParked, Finished, GaveUp, HolderWoken}
+use Rattle.blocking_laws.specs.declared.event.Moment.{Moment}
+use Rattle.blocking_laws.specs.declared.event.Party.{Party}
+use Rattle.blocking_laws.specs.declared.event.Party.TheVariants.{Worker}
+use Rattle.blocking_laws.specs.declared.step.Step.{Step}
+use Rattle.blocking_crew.specs.Crews.{Crew, hand_at}
+use Rattle.blocking_crew.specs.Moves.{Move, Adds, TakesJob, Works, EndsTurn, Parks, HasWaited, IsLetGo, Tells, May, next_start, is_aside}
+use Rattle.blocking_crew.specs.Tickets.{JobPool, TakesFront, no_growth}
+use Rattle.blocking_crew.specs.Ties.{turn_of, CrewHolds, moment_of}
+use Rattle.blocking_crew.specs.declared.hand.Hand.TheVariants.{Free, Holds}
+use Rattle.blocking_crew.specs.declared.hand.Held.{Held}
+use Rattle.blocking_crew.specs.declared.hand.Stage.{Stage}
+use Rattle.blocking_crew.specs.declared.ticket.Ticket.{Ticket}
+use Rattle.blocking_crew.specs.declared.tickets.Parking.TheVariants as parking
+use Rattle.blocking_crew.proofs.ties.Acts.{now_with, by_work, by_aside, by_let_go, aside_or}
+use Rattle.blocking_crew.proofs.ties.Hands.{hand_seen}
+use Rattle.blocking_crew.proofs.ties.Known.{front_rests}
+
+module _ (setting : ℕ) (plan : List Bool) (crew : Crew) (past : List Moment) (step : Step) (owner : Option ℕ) (h : CrewHolds setting plan crew past) where
+  abbrev now : Party → Option ℕ → Act → Growth → Moment
+  now who job act growth = now_with step owner who job act (next_start crew) growth
+
+  -- a job that is taken is in no hand, and doesn't run
+  taken : (v : ℕ) (old : WorkerPass) (number : JobNumber) (value : Ticket) (to_drop : Bool) (growth : Growth) (pool : JobPool) → hand_at crew.hands v ≡ Free old → TakesFront (IsPlanned plan) crew.pool number value to_drop growth pool
+      → (hand past v ≡ None) × (is_in number.serial (running past) ≡ false)
+  taken v old number value to_drop growth pool at front =
+      ((hand_seen setting plan crew past step owner h v (Free old) at).1, front_rests setting plan crew past h (IsPlanned plan) number value to_drop growth pool front)
+
+  -- the job in a hand was seen there
+  its_job : (v : ℕ) (held : Held) → hand_at crew.hands v ≡ Holds held → hand past v ≡ Some held.turn.serial
+  its_job v held at = (hand_seen setting plan crew past step owner h v (Holds held) at).1
+
+  -- a job in its hand does what fits its turn
+  works : (v : ℕ) (held : Held) (act : Act) → May (IsPlanned plan) crew (Works v held act) → TurnLaw past (moment_of crew (Works v held act) step owner)
+  works v held act may =
+      let mine = its_job v held may.0 in
+      by_work (λ st act. held.stage ≡ st → TurnLaw past (now (Worker v) (Some held.turn.serial) act no_growth))
+      (λ a e. record { one = tt; acts = (mine, fits (Answered a) e refl) })
+      (λ e. record { one = tt; acts = (mine, fits JobParked e refl) })
+      (λ w e. record { one = tt; acts = (mine, fits (Finished w) e refl) })
+      (λ e. record { one = tt; acts = (mine, fits HolderWoken e refl) })
+      (λ w e. record { one = tt; acts = (mine, fits (GaveUp w) e refl) })
+      (λ e. record { one = tt; acts = (mine, fits HolderWoken e refl) })
+      held.stage act may.1 refl
+    where
+      fits : {st : Stage} (a : Act) → held.stage ≡ st → FitsTurn (turn_of st) a → FitsTurn (turn past held.turn.serial) a
+      fits {st} a e f = subst (λ (t : Turn). FitsTurn t a) (sym (h.tied.handed.turn_is v held may.0 ∙ ap turn_of e)) f
+
+  -- and at an event that is nothing to the crew
+  pub turn_aside : (who : Party) (act : Act) → (is_aside act || is_nothing act) ≡ true → TurnLaw past (now who None act no_growth)
+  turn_aside who act is =
+      by_aside (λ act. TurnLaw past (now who None act no_growth))
+      (record { one = tt; acts = tt }) (λ n. record { one = tt; acts = tt }) (record { one = tt; acts = tt }) (record { one = tt; acts = tt }) (record { one = tt; acts = tt }) act is
+
+  -- The law of turns holds at each move.
+  pub turn_law : (move : Move) → May (IsPlanned plan) crew move → TurnLaw past (moment_of crew move step owner)
+  turn_law (Adds who (Ok number) growth pool) may = record { one = tt; acts = tt }
+  turn_law (Adds who (Err why) growth pool) may = record { one = tt; acts = tt }
+  turn_law (TakesJob v old true number ticket growth pool) may = record { one = taken v old number ticket true growth pool may.0 may.1; acts = tt }
+  turn_law (TakesJob v old false number ticket growth pool) may = record { one = taken v old number ticket false growth pool may.0 may.1; acts = tt }
+  turn_law (Works v held act) may = works v held act may
+  turn_law (EndsTurn v held pass) may = record { one = its_job v held may.0; acts = tt }
+  turn_law (Parks v held ticket (parking.Parked pass) pool) may = record { one = its_job v held may.0; acts = tt }
+  turn_law (Parks v held ticket (parking.Queued pass) pool) may = record { one = its_job v held may.0; acts = tt }
+  turn_law (Parks v held ticket (parking.HandedOut back) pool) may = record { one = its_job v held may.0; acts = tt }
+  turn_law (HasWaited v pass end (Stay back) growth pool) may = record { one = tt; acts = tt }
+  turn_law (HasWaited v pass end Stop growth pool) may = record { one = tt; acts = tt }
+  turn_law (IsLetGo who act number) may = by_let_go (λ act. TurnLaw past (now who None act no_growth)) (record { one = tt; acts = tt }) (record { one = tt; acts = tt }) act may
+  turn_law (Tells who act) may = turn_aside who act (aside_or act may)
+  turn_law move may = record { one = tt; acts = tt }

@@ -1,0 +1,143 @@
+-- Whatever a crew does, it hangs together with what was seen, and the law of the pool holds.
+use Rattle.std.proofs.Common.{◌≡◌, ℕ, List, [], ◌∷◌, Bool, true, false, refl, sym, ap, ◌∙◌, subst, if◌then◌else◌, Option, None}
+use Rattle.std.specs.FinMap as map
+use Rattle.std.specs.Ordering.{nat_cmp}
+use Rattle.blocking_pool.specs.Growth.{Narrows}
+use Rattle.blocking_pool.specs.Pools.{empty_pool}
+use Rattle.blocking_laws.specs.Growth.{IsPlanned}
+use Rattle.blocking_laws.specs.Legal.{PoolLaw}
+use Rattle.blocking_laws.specs.declared.event.Event.{Event}
+use Rattle.blocking_laws.specs.declared.event.Moment.{Moment}
+use Rattle.blocking_laws.specs.declared.step.Step.{Step}
+use Rattle.blocking_laws.proofs.Queues.{order_after}
+use Rattle.blocking_crew.specs.Crews.{Crew, hand_at, hand_in}
+use Rattle.blocking_crew.specs.Moves.{Call, Move, May, Moves, call_of, after, next_start}
+use Rattle.blocking_crew.specs.Tickets.{no_growth, is_valued}
+use Rattle.blocking_crew.specs.Ties.{FiledAs, HandAs, Crewed, CrewHolds, IsAsked, IsAside, seen_as, moment_of}
+use Rattle.blocking_crew.specs.declared.hand.Hand.{Hand}
+use Rattle.blocking_crew.specs.declared.hand.Hand.TheVariants.{Out, Holds}
+use Rattle.blocking_crew.specs.declared.hand.Held.{Held}
+use Rattle.blocking_crew.proofs.ready.Moves.{ready_after}
+use Rattle.blocking_crew.proofs.ties.Acts.{now_with}
+use Rattle.blocking_crew.proofs.ties.Counts.{counts_after, counts_aside}
+use Rattle.blocking_crew.proofs.ties.Hands.{hands_after, hands_aside}
+use Rattle.blocking_crew.proofs.ties.Jobs.{jobs_after, jobs_aside}
+use Rattle.blocking_crew.proofs.ties.Queue.{queue_after, queue_aside}
+use Rattle.blocking_crew.proofs.ties.Serials.{serials_after, serials_aside}
+use Rattle.blocking_crew.proofs.ties.Starts.{may_more}
+use Rattle.blocking_crew.proofs.laws.Answers.{answer_law, answer_aside}
+use Rattle.blocking_crew.proofs.laws.Growth.{growth_law, growth_aside}
+use Rattle.blocking_crew.proofs.laws.Order.{order_law}
+use Rattle.blocking_crew.proofs.laws.Turns.{turn_law, turn_aside}
+
+module _ (setting : ℕ) (plan : List Bool) (crew : Crew) (past : List Moment) (h : CrewHolds setting plan crew past) where
+  -- After each move the crew hangs together with what was seen.
+  pub tied_after : (move : Move) (step : Step) (owner : Option ℕ) → May (IsPlanned plan) crew move → IsAsked crew past (call_of move) → Crewed setting (after crew move) (moment_of crew move step owner ∷ past)
+  tied_after move step owner may asked = record {
+    numbered = serials_after setting plan crew past step owner h move may;
+    filed = jobs_after setting plan crew past step owner h move may asked;
+    lined = queue_after setting plan crew past step owner h move may;
+    counted = counts_after setting plan crew past step owner h move may;
+    handed = hands_after setting plan crew past step owner h move may;
+  }
+
+  -- At each move the law of the pool holds.
+  pub pool_law : (move : Move) (step : Step) (owner : Option ℕ) → May (IsPlanned plan) crew move → IsAsked crew past (call_of move) → PoolLaw setting plan past (moment_of crew move step owner)
+  pool_law move step owner may asked = record {
+    growth = growth_law setting plan crew past step owner h move may;
+    answers = answer_law setting plan crew past step owner h move may asked;
+    turns = turn_law setting plan crew past step owner h move may;
+    order = order_law setting plan crew past step owner h move may asked;
+  }
+
+  -- So all of it holds after each move,
+  pub holds_after : (move : Move) (step : Step) (owner : Option ℕ) → May (IsPlanned plan) crew move → IsAsked crew past (call_of move) → CrewHolds setting plan (after crew move) (moment_of crew move step owner ∷ past)
+  holds_after move step owner may asked = record {
+    tied = tied_after move step owner may asked;
+    ready = ready_after (IsPlanned plan) crew move h.ready may;
+    laws = (pool_law move step owner may asked, h.laws);
+  }
+
+  -- after each call, whatever step of the layer above it was, and whoever's job,
+  pub holds_moved : (may_answer : ℕ → Bool → Type 0) (call : Call) (e : Event) (new : Crew) (step : Step) (owner : Option ℕ) → Narrows (IsPlanned plan) may_answer → Moves may_answer call crew e new → IsAsked crew past call
+      → CrewHolds setting plan new (seen_as step e owner ∷ past)
+  holds_moved may_answer call e new step owner narrow moves asked =
+      subst (λ (c : Crew). CrewHolds setting plan c (seen_as step e owner ∷ past)) (sym moves.after_is)
+      (subst (λ (f : Event). CrewHolds setting plan (after crew moves.move) (seen_as step f owner ∷ past)) (sym moves.event_is)
+      (holds_after moves.move step owner (may_more (IsPlanned plan) may_answer narrow crew moves.move moves.may) (subst (IsAsked crew past) moves.call_is asked)))
+
+  -- and after an event that is nothing to the crew.
+  pub holds_aside : (last : Moment) → IsAside crew last.event → CrewHolds setting plan crew (last ∷ past)
+  holds_aside last a = subst (λ (f : Event). CrewHolds setting plan crew (record { step = last.step; event = f } ∷ past)) same plain
+    where
+      plain : CrewHolds setting plan crew (now_with last.step last.event.owner last.event.party None last.event.act (next_start crew) no_growth ∷ past)
+      plain = record {
+        tied = record {
+          numbered = serials_aside setting plan crew past last.step last.event.owner h last.event.party last.event.act a.act;
+          filed = jobs_aside setting plan crew past last.step last.event.owner h last.event.party last.event.act a.act;
+          lined = queue_aside setting plan crew past last.step last.event.owner h last.event.party last.event.act a.act;
+          counted = counts_aside setting plan crew past last.step last.event.owner h last.event.party last.event.act a.act;
+          handed = hands_aside setting plan crew past last.step last.event.owner h last.event.party last.event.act a.act;
+        };
+        ready = h.ready;
+        laws = (
+          record {
+            growth = growth_aside setting plan crew past last.step last.event.owner h last.event.party last.event.act a.act;
+            answers = answer_aside setting plan crew past last.step last.event.owner h (now_with last.step last.event.owner last.event.party None last.event.act (next_start crew) no_growth) last.event.act a.act;
+            turns = turn_aside setting plan crew past last.step last.event.owner h last.event.party last.event.act a.act;
+            order = order_after setting plan past (now_with last.step last.event.owner last.event.party None last.event.act (next_start crew) no_growth) h.laws (answer_aside setting plan crew past last.step last.event.owner h (now_with last.step last.event.owner last.event.party None last.event.act (next_start crew) no_growth) last.event.act a.act);
+          },
+          h.laws,
+        );
+      }
+
+      same : (now_with last.step last.event.owner last.event.party None last.event.act (next_start crew) no_growth).event ≡ last.event
+      same =
+          ap (λ (j : Option ℕ). record last.event { job = j; first = next_start crew; started = 0; start_refused = false }) (sym a.job)
+          ∙ ap (λ (n : ℕ). record last.event { first = n; started = 0; start_refused = false }) (sym a.first)
+          ∙ ap (λ (n : ℕ). record last.event { started = n; start_refused = false }) (sym a.started)
+          ∙ ap (λ (b : Bool). record last.event { start_refused = b }) (sym a.refused)
+
+-- ---- a new crew
+
+no_hand : (v : ℕ) → hand_at [] v ≡ Out
+no_hand v = hand_or _
+  where
+    hand_or : (b : Bool) → (if b then Out else hand_in None) ≡ Out
+    hand_or true = refl
+    hand_or false = refl
+
+out_hand : (v : ℕ) (hand : Hand) → hand ≡ Out → HandAs hand false None
+out_hand v hand is = subst (λ h. HandAs h false None) (sym is) (refl, refl)
+
+no_held : (v : ℕ) (held : Held) → hand_at [] v ≡ Holds held → ⊥
+no_held v held there = let out : Out ≡ Holds held = sym (no_hand v) ∙ there in absurd cc
+
+-- A new crew hangs together with what was seen, which is nothing.
+pub begins : (setting : ℕ) (plan : List Bool) → CrewHolds setting plan (record { pool = empty_pool setting 1 1; hands = [] }) []
+begins setting plan = record {
+  tied = record {
+    numbered = record { next = refl; all_are = refl };
+    filed = λ s. subst (λ entry. FiledAs entry None false false false false) (sym (map.get-empty nat_cmp s)) (refl, refl, refl, refl);
+    lined = refl;
+    counted = record {
+      workers_are = refl;
+      idle_are = refl;
+      arriving_are = refl;
+      hands_are = refl;
+      busy_are = refl;
+      setting_is = refl;
+      limit_is = refl;
+      known_is = refl;
+      next_is = refl;
+    };
+    handed = record { each = λ v. out_hand v (hand_at [] v) (no_hand v); turn_is = λ v held there. absurd (no_held v held there) };
+  };
+  ready = record {
+    idle = refl;
+    runs = λ v held there. absurd (no_held v held there);
+    apart = λ v w one other here there same. absurd (no_held v one here);
+    valued = λ s. ap is_valued (map.get-empty nat_cmp s);
+  };
+  laws = tt;
+}

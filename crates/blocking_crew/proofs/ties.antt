@@ -1,0 +1,13 @@
+pub mod Lists
+pub mod Acts
+pub mod Lookups
+pub mod Entries
+pub mod Known
+pub mod Sweeps
+pub mod Jobs
+pub mod Queue
+pub mod Serials
+pub mod Counts
+pub mod Hands
+pub mod Starts
+pub mod Numbers

@@ -1,0 +1,116 @@
+-- What a crew and the laws tell of one job: the next one stands nowhere, the one in a hand runs, the front one is queued.
+use Rattle.std.proofs.Common.{◌≡◌, ℕ, ◌+◌, ◌==◌, List, ◌∷◌, length, Bool, true, false, refl, sym, ap, ◌∙◌, subst, arith, Option, Some, None}
+use Rattle.std.specs.Prelude.{◌&&◌, not, nat_lt, is_some}
+use Rattle.std.specs.FinMap.{get}
+use Rattle.std.proofs.lemmas.Bool.{eq-eqb}
+use Rattle.std.proofs.lemmas.Bool.Decides.{nat_tests}
+use Rattle.blocking_pool.specs.Growth.{Growth}
+use Rattle.blocking_pool.specs.Jobs.{JobNumber, is_running_job, one_if}
+use Rattle.blocking_pool.specs.Lists.{is_in, without}
+use Rattle.blocking_pool.specs.declared.pool.standing.Standing.{Standing}
+use Rattle.blocking_pool.specs.declared.pool.standing.Standing.TheVariants.{Queued, Running}
+use Rattle.blocking_pool.proofs.Lists.{without-first}
+use Rattle.blocking_laws.specs.Jobs.{accepted_jobs, standing, is_queued, is_running}
+use Rattle.blocking_laws.specs.Queue.{queue, running, times}
+use Rattle.blocking_laws.specs.declared.event.Moment.{Moment}
+use Rattle.blocking_laws.proofs.Queues.{queued_so, runs_so, known_so}
+use Rattle.blocking_crew.specs.Crews.{Crew, hand_at}
+use Rattle.blocking_crew.specs.Tickets.{JobPool, TakesFront}
+use Rattle.blocking_crew.specs.Ties.{FiledHere, CrewHolds}
+use Rattle.blocking_crew.specs.declared.hand.Hand.TheVariants.{Holds}
+use Rattle.blocking_crew.specs.declared.hand.Held.{Held}
+use Rattle.blocking_crew.specs.declared.ticket.Ticket.{Ticket}
+use Rattle.blocking_crew.proofs.ties.Lists.{in_times, front_once, times_below, times_first, without_times}
+use Rattle.blocking_crew.proofs.jobs.Lookups.{runs_at}
+use Rattle.blocking_crew.proofs.ties.Entries.{filed_runs, filed_none}
+
+unknown_is : (st : Option Standing) → one_if (is_some st) ≡ 0 → st ≡ None
+unknown_is None e = refl
+unknown_is (Some how) e = absurd (omega (arith, e))
+
+one_more : (b : Bool) (n : ℕ) → n + 1 ≡ one_if b → n ≡ 0
+one_more true n e = omega (arith, e)
+one_more false n e = absurd (omega (arith, e))
+
+none_less : (b : Bool) (n : ℕ) → n + one_if b ≡ 0 → n ≡ 0
+none_less b n e = omega (arith, e)
+
+known_by : (k z l : Bool) → one_if k + one_if z ≡ one_if l → k ≡ (not z && l)
+known_by true true true e = absurd (omega (arith, e))
+known_by true true false e = absurd (omega (arith, e))
+known_by true false true e = refl
+known_by true false false e = absurd (omega (arith, e))
+known_by false true l e = refl
+known_by false false true e = absurd (omega (arith, e))
+known_by false false false e = refl
+
+module _ (setting : ℕ) (plan : List Bool) (crew : Crew) (past : List Moment) (h : CrewHolds setting plan crew past) where
+  serials : (s : ℕ) → times s (accepted_jobs past) + one_if (0 == s) ≡ one_if (nat_lt s crew.pool.next_serial)
+  serials s = times_first s 0 (accepted_jobs past) (one_if (nat_lt s crew.pool.next_serial)) (ap (times s) (sym h.tied.numbered.all_are) ∙ times_below crew.pool.next_serial s)
+
+  -- the next job stands nowhere
+  pub fresh : standing past crew.pool.next_serial ≡ None
+  fresh =
+      let n = crew.pool.next_serial in
+      let last : nat_lt n n ≡ false = grind (arith, nat_tests) in
+      let none : times n (accepted_jobs past) ≡ 0 = none_less (0 == n) (times n (accepted_jobs past)) (serials n ∙ ap one_if last) in
+      unknown_is (standing past n) (sym (known_so setting plan past h.laws n) ∙ none)
+
+  -- nor does a job of the number 0
+  pub none_zero : standing past 0 ≡ None
+  none_zero =
+      let one : times 0 (accepted_jobs past) + 1 ≡ one_if (nat_lt 0 crew.pool.next_serial) = ap (λ b. times 0 (accepted_jobs past) + one_if b) (sym (eq-eqb 0 0 refl)) ∙ serials 0 in
+      unknown_is (standing past 0) (sym (known_so setting plan past h.laws 0) ∙ one_more (nat_lt 0 crew.pool.next_serial) (times 0 (accepted_jobs past)) one)
+
+  -- and the pool has none
+  pub get_zero : get crew.pool.jobs 0 ≡ None
+  get_zero = filed_none (get crew.pool.jobs 0) (standing past 0) _ _ _ _ (h.tied.filed 0) none_zero
+
+  -- what was accepted stands somewhere
+  pub accepted_in : (s : ℕ) → is_in s (accepted_jobs past) ≡ is_some (standing past s)
+  accepted_in s = in_times s (accepted_jobs past) (is_some (standing past s)) (known_so setting plan past h.laws s)
+
+  -- and that is each job from 1 up to the next
+  pub known_is : (s : ℕ) → is_some (standing past s) ≡ (not (0 == s) && nat_lt s crew.pool.next_serial)
+  known_is s =
+      known_by (is_some (standing past s)) (0 == s) (nat_lt s crew.pool.next_serial)
+      (ap (λ k. k + one_if (0 == s)) (sym (known_so setting plan past h.laws s)) ∙ serials s)
+
+  -- the job in a hand runs
+  pub held_here : (v : ℕ) (held : Held) → hand_at crew.hands v ≡ Holds held → is_running_job (get crew.pool.jobs held.turn.serial) ≡ true
+  held_here v held at = runs_at held.turn.place (get crew.pool.jobs held.turn.serial) (h.ready.runs v held at)
+
+  -- and was seen to run
+  pub held_runs : (v : ℕ) (held : Held) → hand_at crew.hands v ≡ Holds held → standing past held.turn.serial ≡ Some Running
+  held_runs v held at =
+      filed_runs (get crew.pool.jobs held.turn.serial) (standing past held.turn.serial) _ _ _ _ (h.tied.filed held.turn.serial) (held_here v held at)
+
+  -- so it is among the running jobs, once
+  pub held_once : (v : ℕ) (held : Held) → hand_at crew.hands v ≡ Holds held → length (without held.turn.serial (running past)) + 1 ≡ length (running past)
+  held_once v held at =
+      let s = held.turn.serial in
+      let one : times s (running past) ≡ 1 = runs_so setting plan past h.laws s ∙ ap (λ o. one_if (is_running o)) (held_runs v held at) in
+      ap (λ k. length (without s (running past)) + k) (sym one) ∙ without_times s (running past)
+
+  -- the job at the front of the queue is queued
+  pub front_filed : (may_answer : ℕ → Bool → Type 0) (number : JobNumber) (value : Ticket) (to_drop : Bool) (growth : Growth) (new : JobPool) (f : TakesFront may_answer crew.pool number value to_drop growth new)
+      → FiledHere (Some f.job) past number.serial
+  front_filed may_answer number value to_drop growth new f = subst (λ o. FiledHere o past number.serial) f.found (h.tied.filed number.serial)
+
+  pub front_stands : (may_answer : ℕ → Bool → Type 0) (number : JobNumber) (value : Ticket) (to_drop : Bool) (growth : Growth) (new : JobPool) → TakesFront may_answer crew.pool number value to_drop growth new
+      → standing past number.serial ≡ Some Queued
+  front_stands may_answer number value to_drop growth new f = (front_filed may_answer number value to_drop growth new f).0 ∙ ap Some f.stands
+
+  -- it runs nowhere
+  pub front_rests : (may_answer : ℕ → Bool → Type 0) (number : JobNumber) (value : Ticket) (to_drop : Bool) (growth : Growth) (new : JobPool) → TakesFront may_answer crew.pool number value to_drop growth new
+      → is_in number.serial (running past) ≡ false
+  front_rests may_answer number value to_drop growth new f =
+      in_times number.serial (running past) false
+      (runs_so setting plan past h.laws number.serial ∙ ap (λ o. one_if (is_running o)) (front_stands may_answer number value to_drop growth new f))
+
+  -- and the queue without it is its rest
+  pub front_out : (s : ℕ) (rest : List ℕ) → crew.pool.queue ≡ s ∷ rest → without s (queue past) ≡ rest
+  front_out s rest front =
+      let line : queue past ≡ s ∷ rest = sym h.tied.lined ∙ front in
+      let once : times s (s ∷ rest) ≡ one_if (is_queued (standing past s)) = ap (times s) (sym line) ∙ queued_so setting plan past h.laws s in
+      ap (without s) line ∙ without-first s rest (front_once s rest (is_queued (standing past s)) once)

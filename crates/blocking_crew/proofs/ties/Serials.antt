@@ -1,0 +1,94 @@
+-- Each move keeps the serials those of the jobs that were accepted.
+use Rattle.std.proofs.Common.{◌≡◌, ℕ, ◌+◌, List, [], ◌∷◌, ◌++◌, length, length-append, Bool, true, false, refl, sym, ap, ◌∙◌, ◌||◌, arith, suc, Option, Some, None}
+use Rattle.std.specs.Prelude.{Ok, Err}
+use Rattle.blocking_pool.specs.Growth.{Growth}
+use Rattle.blocking_pool.specs.Jobs.{JobNumber, job_of, value_at}
+use Rattle.blocking_pool.specs.Sweeps.{serials_below}
+use Rattle.blocking_pool.specs.declared.pool.answer.Refusal.{Refusal}
+use Rattle.blocking_pool.specs.declared.pool.answer.Refusal.TheVariants.{Memory, NoWorker, Numbers}
+use Rattle.blocking_pool.specs.declared.pool.answer.Waited.TheVariants.{Stay, Stop}
+use Rattle.blocking_pool.specs.declared.pool.answer.Woke.TheVariants.{Entered, Marked, Nothing}
+use Rattle.blocking_laws.specs.Growth.{IsPlanned}
+use Rattle.blocking_laws.specs.Jobs.{accepted_jobs}
+use Rattle.blocking_laws.specs.Seen.{has_timed_out, is_nothing}
+use Rattle.blocking_laws.specs.declared.event.Act.{Act}
+use Rattle.blocking_laws.specs.declared.event.Act.TheVariants.{Accepted}
+use Rattle.blocking_laws.specs.declared.event.Moment.{Moment}
+use Rattle.blocking_laws.specs.declared.event.Party.{Party}
+use Rattle.blocking_laws.specs.declared.event.Party.TheVariants.{Worker}
+use Rattle.blocking_laws.specs.declared.step.Step.{Step}
+use Rattle.blocking_crew.specs.Crews.{Crew}
+use Rattle.blocking_crew.specs.Moves.{Move, Adds, TakesJob, Works, EndsTurn, Parks, HasWaited, Sweeps, IsWoken, IsCancelled, IsLetGo, Tells, May, after, next_start, is_aside}
+use Rattle.blocking_crew.specs.Tickets.{JobPool, no_growth, Accepts, AddsTo}
+use Rattle.blocking_crew.specs.Ties.{Numbered, CrewHolds, moment_of}
+use Rattle.blocking_crew.specs.declared.tickets.Parking.TheVariants as parking
+use Rattle.blocking_crew.proofs.ties.Acts.{now_with, by_work, by_aside, by_let_go, by_end, aside_or}
+use Rattle.blocking_crew.proofs.jobs.Marks.{mark_alone}
+use Rattle.blocking_crew.proofs.ties.Sweeps.{is_swept, is_swept_if}
+
+module _ (setting : ℕ) (plan : List Bool) (crew : Crew) (past : List Moment) (step : Step) (owner : Option ℕ) (h : CrewHolds setting plan crew past) where
+  abbrev now : Party → Option ℕ → Act → Growth → Moment
+  now who job act growth = now_with step owner who job act (next_start crew) growth
+
+  -- no job was accepted
+  kept : (new : JobPool) (last : Moment) → new.next_serial ≡ crew.pool.next_serial → accepted_jobs (last ∷ past) ≡ accepted_jobs past → Numbered new (last ∷ past)
+  kept new last same none = record {
+    next = same ∙ h.tied.numbered.next ∙ ap (λ (ns : List ℕ). 1 + length ns) (sym none);
+    all_are = ap serials_below same ∙ h.tied.numbered.all_are ∙ ap (λ (ns : List ℕ). 0 ∷ ns) (sym none);
+  }
+
+  accepted : (who : Party) (number : JobNumber) (growth : Growth) (pool : JobPool) → Accepts (IsPlanned plan) crew.pool number growth pool → Numbered pool (now who None (Accepted number.serial) growth ∷ past)
+  accepted who number growth pool accepts =
+      let n = crew.pool.next_serial in
+      let next : pool.next_serial ≡ suc n = ap (λ (p : JobPool). p.next_serial) accepts.after_is ∙ omega arith in
+      let before = h.tied.numbered.next in
+      let longer = length-append (accepted_jobs past) (number.serial ∷ []) in
+      record {
+        next = omega (arith, next, before, longer);
+        all_are = ap serials_below next ∙ ap (λ (ns : List ℕ). ns ++ n ∷ []) h.tied.numbered.all_are ∙ ap (λ (s : ℕ). 0 ∷ (accepted_jobs past ++ s ∷ [])) (sym accepts.serial);
+      }
+
+  refused : (why : Refusal) (growth : Growth) (pool : JobPool) → AddsTo (IsPlanned plan) crew.pool (Err why) growth pool → pool.next_serial ≡ crew.pool.next_serial
+  refused Memory growth pool adds = ap (λ (p : JobPool). p.next_serial) adds.1
+  refused Numbers growth pool adds = ap (λ (p : JobPool). p.next_serial) adds.2
+  refused NoWorker growth pool adds = ap (λ (p : JobPool). p.next_serial) adds.after_is
+
+  -- an event that is nothing to the crew keeps them
+  pub serials_aside : (who : Party) (act : Act) → (is_aside act || is_nothing act) ≡ true → Numbered crew.pool (now who None act no_growth ∷ past)
+  serials_aside who act is =
+      by_aside (λ act. Numbered crew.pool (now who None act no_growth ∷ past))
+      (kept crew.pool _ refl refl) (λ m. kept crew.pool _ refl refl) (kept crew.pool _ refl refl) (kept crew.pool _ refl refl) (kept crew.pool _ refl refl) act is
+
+  -- Each move keeps the serials those of the jobs that were accepted.
+  pub serials_after : (move : Move) → May (IsPlanned plan) crew move → Numbered (after crew move).pool (moment_of crew move step owner ∷ past)
+  serials_after (Adds who (Ok number) growth pool) may = accepted who number growth pool may
+  serials_after (Adds who (Err why) growth pool) may = kept pool _ (refused why growth pool may) refl
+  serials_after (TakesJob v old true turn ticket growth pool) may = kept pool _ (ap (λ (p : JobPool). p.next_serial) may.1.after_is) refl
+  serials_after (TakesJob v old false turn ticket growth pool) may = kept pool _ (ap (λ (p : JobPool). p.next_serial) may.1.after_is) refl
+  serials_after (Works v held act) may =
+      by_work (λ at act. Numbered crew.pool (now (Worker v) (Some held.turn.serial) act no_growth ∷ past))
+      (λ a. kept crew.pool _ refl refl) (kept crew.pool _ refl refl) (λ w. kept crew.pool _ refl refl) (kept crew.pool _ refl refl) (λ w. kept crew.pool _ refl refl) (kept crew.pool _ refl refl)
+      held.stage act may.1
+  serials_after (EndsTurn v held pass) may =
+      let new = (after crew (EndsTurn v held pass)).pool in
+      by_end (λ act. Numbered new (now (Worker v) (Some held.turn.serial) act no_growth ∷ past)) held.turn.serial (kept new _ refl refl) (kept new _ refl refl) held.stage
+  serials_after (Parks v held ticket (parking.Parked pass) pool) may = kept pool _ (ap (λ (p : JobPool). p.next_serial) may.2.effect.2) refl
+  serials_after (Parks v held ticket (parking.Queued pass) pool) may = kept pool _ (ap (λ (p : JobPool). p.next_serial) may.2.effect.2) refl
+  serials_after (Parks v held ticket (parking.HandedOut back) pool) may = kept pool _ (ap (λ (p : JobPool). p.next_serial) may.2.effect.2) refl
+  serials_after (HasWaited v pass end (Stay back) growth pool) may =
+      kept pool _ (ap (λ (p : JobPool). p.next_serial) may.1.answer.1 ∙ (is_swept_if setting plan crew past h (IsPlanned plan) (has_timed_out end) growth may.1.between may.1.sweep).serial) refl
+  serials_after (HasWaited v pass end Stop growth pool) may =
+      kept pool _ (ap (λ (p : JobPool). p.next_serial) may.1.answer.1 ∙ (is_swept_if setting plan crew past h (IsPlanned plan) (has_timed_out end) growth may.1.between may.1.sweep).serial) refl
+  serials_after (Sweeps growth pool) may = kept pool _ (is_swept setting plan crew past h (IsPlanned plan) growth pool may).serial refl
+  serials_after (IsWoken who number Entered growth pool) may = kept pool _ (ap (λ (p : JobPool). p.next_serial) may.effect.after_is) refl
+  serials_after (IsWoken who number Marked growth pool) may = kept pool _ (ap (λ (p : JobPool). p.next_serial) may.effect.1) refl
+  serials_after (IsWoken who number Nothing growth pool) may = kept pool _ (ap (λ (p : JobPool). p.next_serial) may.effect.1) refl
+  serials_after (IsCancelled who number Entered growth pool) may = kept pool _ (ap (λ (p : JobPool). p.next_serial) may.effect.after_is) refl
+  serials_after (IsCancelled who number Marked growth pool) may = kept pool _ (ap (λ (p : JobPool). p.next_serial) may.effect.1) refl
+  serials_after (IsCancelled who number Nothing growth pool) may = kept pool _ (ap (λ (p : JobPool). p.next_serial) may.effect.1) refl
+  serials_after (IsLetGo who act number) may =
+      let new = (after crew (IsLetGo who act number)).pool in
+      let same : new.next_serial ≡ crew.pool.next_serial = ap (λ (p : JobPool). p.next_serial) (mark_alone crew.pool number (value_at (job_of crew.pool.jobs number))) in
+      by_let_go (λ act. Numbered new (now who None act no_growth ∷ past)) (kept new _ same refl) (kept new _ same refl) act may
+  serials_after (Tells who act) may = serials_aside who act (aside_or act may)
+  serials_after move may = kept (after crew move).pool _ refl refl

@@ -1,0 +1,95 @@
+-- A sweep puts back what was seen to be parked and marked, in the order in which it was accepted.
+use Rattle.std.proofs.Common.{◌≡◌, ℕ, ◌==◌, ◌&&◌, ◌||◌, if◌then◌else◌, cond, Bool, true, false, List, [], ◌∷◌, refl, ap, ◌∙◌, Option, Some, None}
+use Rattle.std.specs.Prelude.{option_map, is_some, filter}
+use Rattle.std.specs.FinMap.{get}
+use Rattle.std.proofs.lemmas.Bool.{eqb-true}
+use Rattle.blocking_pool.specs.Growth.{Growth}
+use Rattle.blocking_pool.specs.Jobs.{Jobs, jobs_after_requeue, entry_after_requeue}
+use Rattle.blocking_pool.specs.Lists.{is_in}
+use Rattle.blocking_pool.specs.declared.pool.standing.Standing.{Standing}
+use Rattle.blocking_pool.specs.declared.pool.standing.Standing.TheVariants.{Queued, Running, Parked, Done, Dropped}
+use Rattle.blocking_laws.specs.Jobs.{accepted_jobs, standing, is_parked, is_woken, is_cancelled, is_marked, has_ended}
+use Rattle.blocking_laws.specs.Queue.{to_sweep as seen_to_sweep}
+use Rattle.blocking_laws.specs.Seen.{joined}
+use Rattle.blocking_laws.specs.declared.event.Moment.{Moment}
+use Rattle.blocking_crew.specs.Crews.{Crew}
+use Rattle.blocking_crew.specs.Tickets.{JobPool, SweepsTo, SweepsIf, to_sweep, is_due_to_sweep}
+use Rattle.blocking_crew.specs.Ties.{CrewHolds}
+use Rattle.blocking_crew.specs.declared.ticket.Ticket.{Ticket}
+use Rattle.blocking_crew.proofs.ties.Lists.{same_filter}
+use Rattle.blocking_crew.proofs.jobs.Lookups.{job_requeued}
+use Rattle.blocking_crew.proofs.ties.Entries.{due_filed}
+use Rattle.blocking_crew.proofs.ties.Known.{get_zero, accepted_in}
+
+kept_by : (b d c m : Bool) (s x : ℕ) (ns : List ℕ) → (s == x) ≡ c → (c ≡ true → d ≡ b) → is_in s ns ≡ (d && m) → is_in s (cond b (x ∷ ns) ns) ≡ (d && (c || m))
+kept_by true true c m s x ns is same e = ap (λ (b : Bool). b || is_in s ns) is ∙ ap (λ (b : Bool). c || b) e
+kept_by true false true m s x ns is same e = let bad : false ≡ true = same refl in absurd cc
+kept_by true false false m s x ns is same e = ap (λ (b : Bool). b || is_in s ns) is ∙ e
+kept_by false true true m s x ns is same e = let bad : true ≡ false = same refl in absurd cc
+kept_by false true false m s x ns is same e = e
+kept_by false false c m s x ns is same e = e
+
+in_filter : (p : ℕ → Bool) (ns : List ℕ) (s : ℕ) → is_in s (filter p ns) ≡ (p s && is_in s ns)
+in_filter p [] s = by (p s)
+  where
+    by : (b : Bool) → false ≡ (b && false)
+    by true = refl
+    by false = refl
+in_filter p (n ∷ ns) s = kept_by (p n) (p s) (s == n) (is_in s ns) s n (filter p ns) refl (λ is. ap p (eqb-true s n is)) (in_filter p ns s)
+
+-- what is parked was accepted, so that being swept is being parked and marked
+swept_test : (stand : Option Standing) (mark : Bool) → ((is_parked stand && mark) && is_some stand) ≡ (is_parked stand && mark)
+swept_test None mark = refl
+swept_test (Some Queued) mark = refl
+swept_test (Some Running) mark = refl
+swept_test (Some Parked) true = refl
+swept_test (Some Parked) false = refl
+swept_test (Some Done) mark = refl
+swept_test (Some Dropped) mark = refl
+
+swept_by : (may_answer : ℕ → Bool → Type 0) (old new : JobPool) (growth : Growth) (serials : List ℕ) → SweepsTo may_answer old serials growth new
+    → (new.jobs ≡ jobs_after_requeue old.jobs serials) × (new.queue ≡ joined old.queue serials) × (new.next_serial ≡ old.next_serial)
+swept_by may_answer old new growth [] sweeps = (ap (λ (p : JobPool). p.jobs) sweeps.1, ap (λ (p : JobPool). p.queue) sweeps.1, ap (λ (p : JobPool). p.next_serial) sweeps.1)
+swept_by may_answer old new growth (serial ∷ serials) sweeps =
+    (ap (λ (p : JobPool). p.jobs) sweeps.after_is, ap (λ (p : JobPool). p.queue) sweeps.after_is, ap (λ (p : JobPool). p.next_serial) sweeps.after_is)
+
+-- What a sweep, if there was one, leaves of jobs, queue and serials, by what was seen.
+pub record IsSwept (late : Bool) (old new : JobPool) (past : List Moment) : Type 0 where
+  pub jobs : (s : ℕ) → get new.jobs s ≡ (if late && is_parked (standing past s) && is_marked past s then option_map entry_after_requeue (get old.jobs s) else get old.jobs s)
+  pub line : new.queue ≡ joined old.queue (if late then seen_to_sweep past else [])
+  pub serial : new.next_serial ≡ old.next_serial
+
+module _ (setting : ℕ) (plan : List Bool) (crew : Crew) (past : List Moment) (h : CrewHolds setting plan crew past) where
+  -- a sweep puts back what was seen to be due
+  pub sweep_same : to_sweep crew.pool ≡ seen_to_sweep past
+  sweep_same =
+      let pool = crew.pool in
+      ap (filter (λ serial. is_due_to_sweep (get pool.jobs serial))) h.tied.numbered.all_are
+      ∙ ap (λ o. cond (is_due_to_sweep o) (0 ∷ filter (λ serial. is_due_to_sweep (get pool.jobs serial)) (accepted_jobs past)) (filter (λ serial. is_due_to_sweep (get pool.jobs serial)) (accepted_jobs past)))
+      (get_zero setting plan crew past h)
+      ∙ same_filter (λ serial. is_due_to_sweep (get pool.jobs serial)) (λ s. is_parked (standing past s) && is_marked past s) (accepted_jobs past)
+      (λ s. due_filed (get pool.jobs s) (standing past s) (is_woken past s) (is_cancelled past s) (is_marked past s) (has_ended past s) (h.tied.filed s))
+
+  due_test : (s : ℕ) → is_in s (to_sweep crew.pool) ≡ (is_parked (standing past s) && is_marked past s)
+  due_test s =
+      ap (is_in s) sweep_same
+      ∙ in_filter (λ s. is_parked (standing past s) && is_marked past s) (accepted_jobs past) s
+      ∙ ap (λ b. (is_parked (standing past s) && is_marked past s) && b) (accepted_in setting plan crew past h s)
+      ∙ swept_test (standing past s) (is_marked past s)
+
+  pub is_swept : (may_answer : ℕ → Bool → Type 0) (growth : Growth) (new : JobPool) → SweepsTo may_answer crew.pool (to_sweep crew.pool) growth new → IsSwept true crew.pool new past
+  is_swept may_answer growth new sweeps =
+      let all = swept_by may_answer crew.pool new growth (to_sweep crew.pool) sweeps in
+      record {
+        jobs = λ s.
+            ap (λ (jobs : Jobs Ticket). get jobs s) all.0 ∙ job_requeued (to_sweep crew.pool) crew.pool.jobs s
+            ∙ ap (λ (b : Bool). if b then option_map entry_after_requeue (get crew.pool.jobs s) else get crew.pool.jobs s) (due_test s);
+        line = all.1 ∙ ap (joined crew.pool.queue) sweep_same;
+        serial = all.2;
+      }
+
+  -- a wait sweeps where its time was up
+  pub is_swept_if : (may_answer : ℕ → Bool → Type 0) (late : Bool) (growth : Growth) (new : JobPool) → SweepsIf late may_answer crew.pool growth new → IsSwept late crew.pool new past
+  is_swept_if may_answer true growth new sweeps = is_swept may_answer growth new sweeps
+  is_swept_if may_answer false growth new sweeps =
+      record { jobs = λ s. ap (λ (p : JobPool). get p.jobs s) sweeps.1; line = ap (λ (p : JobPool). p.queue) sweeps.1; serial = ap (λ (p : JobPool). p.next_serial) sweeps.1 }

@@ -1,0 +1,331 @@
+//! Each call of the ends, step by step on one thread.
+ghost use Rattle.futures.specs.Task.{Keeps};
+
+use blocking::{
+    AnyPlace, Executor, FillEnd, Host, PeekEnd, RecvEnd, Runtime, SendEnd, link, link_in,
+};
+use blocking_core::pipe::{Drained, Filled, Peeked, Put, Received, Room, Sending};
+use blocking_core::pool::{Job, JobNo, JobStep, WakeNote};
+use futures::Future;
+use futures::executor::block_on;
+use futures::task::{Context, Poll};
+use std::test::Fail;
+
+// What is done at the ends of two pipes of capacity 2: one into which a job sends, and one into which the owner fills.
+#[derive(Clone, Copy)]
+enum Step {
+    Room,
+    // The job looks for room, and puts these.
+    Put(&'static [u64]),
+    Send(u64),
+    Receive,
+    // The owner drains into a buffer for three.
+    Drain,
+    Sent,
+    Received,
+    CloseSender,
+    CloseReceiver,
+    Fill(&'static [u64]),
+    // The job peeks into a buffer for three, and consumes so many.
+    Take(usize),
+    Filled,
+    Taken,
+    CloseFiller,
+    CloseTaker,
+}
+
+// What is seen of a step. Who is woken is told by a flag.
+#[derive(Clone, Copy, Debug, PartialEq, Eq)]
+enum Shown {
+    Free(usize),
+    // So many, of which this is the first.
+    Items(usize, u64, bool),
+    Took(usize, bool),
+    In(bool),
+    Back(u64),
+    Waits,
+    Shut,
+    Over,
+    Closed(bool),
+    Count(u64),
+    Missing,
+}
+
+// A job that is over at once. Its number serves those that wait.
+#[derive(Drop)]
+struct Nothing;
+
+impl Job for Nothing {
+    ghost use Rattle.std.specs.Prelude.{◌≡◌, false};
+
+    ghost may_answer = { λ _ answer. answer ≡ false };
+
+    fn step(&mut self, _me: JobNo) -> JobStep {
+        JobStep::Done
+    }
+
+    fn abandoned(&self) -> bool {
+        false
+    }
+}
+
+type Row = (&'static str, &'static [(Step, Shown)]);
+
+const ROWS: &[Row] = &[
+    (
+        "items cross one by one and together",
+        &[
+            (Step::Room, Shown::Free(2)),
+            (Step::Put(&[5, 6]), Shown::In(false)),
+            (Step::Room, Shown::Waits),
+            (Step::Receive, Shown::Items(1, 5, true)),
+            (Step::Send(7), Shown::In(false)),
+            (Step::Send(8), Shown::Back(8)),
+            (Step::Drain, Shown::Items(2, 6, true)),
+            (Step::Drain, Shown::Waits),
+            (Step::Put(&[8]), Shown::In(true)),
+            (Step::Receive, Shown::Items(1, 8, false)),
+            (Step::Receive, Shown::Waits),
+            (Step::Send(9), Shown::In(true)),
+            (Step::Sent, Shown::Count(5)),
+            (Step::CloseSender, Shown::Closed(false)),
+            (Step::Send(10), Shown::Shut),
+            (Step::Receive, Shown::Items(1, 9, false)),
+            (Step::Received, Shown::Count(5)),
+            (Step::Receive, Shown::Over),
+            (Step::Drain, Shown::Over),
+        ],
+    ),
+    (
+        "a sender that closes",
+        &[
+            (Step::Receive, Shown::Waits),
+            (Step::CloseSender, Shown::Closed(true)),
+            (Step::Receive, Shown::Over),
+            (Step::CloseReceiver, Shown::Closed(false)),
+        ],
+    ),
+    (
+        "a receiver that closes",
+        &[
+            (Step::Put(&[5, 6]), Shown::In(false)),
+            (Step::Room, Shown::Waits),
+            (Step::CloseReceiver, Shown::Closed(true)),
+            (Step::Room, Shown::Shut),
+            (Step::Put(&[7]), Shown::Shut),
+            (Step::Send(7), Shown::Shut),
+            (Step::Drain, Shown::Items(2, 5, false)),
+        ],
+    ),
+    (
+        "items are filled in and taken",
+        &[
+            (Step::Take(1), Shown::Waits),
+            (Step::Fill(&[5, 6, 7]), Shown::Took(2, true)),
+            (Step::Fill(&[7]), Shown::Waits),
+            (Step::Take(1), Shown::Items(2, 5, true)),
+            (Step::Fill(&[7]), Shown::Took(1, false)),
+            (Step::Take(2), Shown::Items(2, 6, false)),
+            (Step::Fill(&[8]), Shown::Took(1, false)),
+            (Step::Filled, Shown::Count(4)),
+            (Step::CloseFiller, Shown::Closed(false)),
+            (Step::Fill(&[9]), Shown::Shut),
+            (Step::Take(1), Shown::Items(1, 8, false)),
+            (Step::Taken, Shown::Count(4)),
+            (Step::Take(1), Shown::Over),
+            (Step::CloseTaker, Shown::Closed(false)),
+        ],
+    ),
+    (
+        "a filler that closes",
+        &[
+            (Step::Take(1), Shown::Waits),
+            (Step::CloseFiller, Shown::Closed(true)),
+            (Step::Take(1), Shown::Over),
+        ],
+    ),
+    (
+        "a taker that closes",
+        &[
+            (Step::Fill(&[5, 6]), Shown::Took(2, false)),
+            (Step::Fill(&[7]), Shown::Waits),
+            (Step::CloseTaker, Shown::Closed(true)),
+            (Step::Fill(&[7]), Shown::Shut),
+            (Step::Take(2), Shown::Items(2, 5, false)),
+        ],
+    ),
+];
+
+// The ends of both pipes, and an executor whose job's number the jobs' ends bear.
+#[derive(Drop)]
+struct Bench<J: Job, H: Runtime> {
+    executor: Executor<J, H>,
+    me: JobNo,
+    sender: SendEnd<u64, AnyPlace, H>,
+    receiver: RecvEnd<u64, AnyPlace, H>,
+    filler: FillEnd<u64, AnyPlace, H>,
+    taker: PeekEnd<u64, AnyPlace, H>,
+}
+
+impl<J: Job, H: Runtime> Bench<J, H> {
+    // Whether it is a note of the job.
+    fn is_woken(&self, note: Option<WakeNote>) -> bool {
+        let Some(note) = note else {
+            return false;
+        };
+        let is_of_job = note.job().serial() == self.me.serial();
+        let _ = self.executor.wake(note);
+        is_of_job
+    }
+
+    fn room(&mut self) -> Shown {
+        match self.sender.room_or_seat(self.me) {
+            Room::Free(free) => Shown::Free(free),
+            Room::Parked => Shown::Waits,
+            Room::Shut => Shown::Shut,
+        }
+    }
+
+    fn put(&mut self, items: &[u64]) -> Shown {
+        match self.sender.room_or_seat(self.me) {
+            Room::Free(free) if items.len() <= free => match self.sender.put(items) {
+                Put::In(waker) => Shown::In(waker.is_some()),
+                Put::Lost => Shown::Shut,
+            },
+            Room::Free(_) | Room::Parked => Shown::Waits,
+            Room::Shut => Shown::Shut,
+        }
+    }
+
+    fn send(&mut self, item: u64) -> Shown {
+        match self.sender.send(self.me, item) {
+            Sending::Sent(waker) => Shown::In(waker.is_some()),
+            Sending::Parked(item) => Shown::Back(item),
+            Sending::Shut(_) => Shown::Shut,
+        }
+    }
+
+    fn receive(&mut self, cx: &mut Context<'_>) -> Shown
+        ensures { Keeps cx.old cx.new }
+    {
+        match self.receiver.receive_or_seat(cx) {
+            Received::Got(item, note) => Shown::Items(1, item, self.is_woken(note)),
+            Received::Ended => Shown::Over,
+            Received::Waits(_) => Shown::Waits,
+        }
+    }
+
+    fn drain(&mut self, cx: &mut Context<'_>) -> Shown
+        ensures { Keeps cx.old cx.new }
+    {
+        let mut items = [0u64; 3];
+        match self.receiver.drain_or_seat(cx, &mut items) {
+            Drained::Got(count, note) => Shown::Items(count, items[0], self.is_woken(note)),
+            Drained::Ended => Shown::Over,
+            Drained::Waits(_) => Shown::Waits,
+        }
+    }
+
+    fn fill(&mut self, cx: &mut Context<'_>, items: &[u64]) -> Shown
+        ensures { Keeps cx.old cx.new }
+    {
+        if items.is_empty() {
+            return Shown::Missing;
+        }
+        match self.filler.fill_or_seat(cx, items) {
+            Filled::Took(count, note) => Shown::Took(count, self.is_woken(note)),
+            Filled::Shut => Shown::Shut,
+            Filled::Waits(_) => Shown::Waits,
+        }
+    }
+
+    fn take(&mut self, count: usize) -> Shown {
+        let mut items = [0u64; 3];
+        match self.taker.peek_or_seat(self.me, &mut items) {
+            Peeked::Some(shown) if count <= shown => {
+                let waker = self.taker.consume(count);
+                Shown::Items(shown, items[0], waker.is_some())
+            }
+            Peeked::Some(_) => Shown::Missing,
+            Peeked::Parked => Shown::Waits,
+            Peeked::Drained => Shown::Over,
+        }
+    }
+
+    // What is seen of a step.
+    fn shows(&mut self, step: Step, cx: &mut Context<'_>) -> Shown
+        ensures { Keeps cx.old cx.new }
+    {
+        match step {
+            Step::Room => self.room(),
+            Step::Put(items) => self.put(items),
+            Step::Send(item) => self.send(item),
+            Step::Receive => self.receive(cx),
+            Step::Drain => self.drain(cx),
+            Step::Sent => Shown::Count(self.sender.sent()),
+            Step::Received => Shown::Count(self.receiver.received()),
+            Step::CloseSender => Shown::Closed(self.sender.close().is_some()),
+            Step::CloseReceiver => {
+                let note = self.receiver.close();
+                Shown::Closed(self.is_woken(note))
+            }
+            Step::Fill(items) => self.fill(cx, items),
+            Step::Take(count) => self.take(count),
+            Step::Filled => Shown::Count(self.filler.sent()),
+            Step::Taken => Shown::Count(self.taker.received()),
+            Step::CloseFiller => {
+                let note = self.filler.close();
+                Shown::Closed(self.is_woken(note))
+            }
+            Step::CloseTaker => Shown::Closed(self.taker.close().is_some()),
+        }
+    }
+}
+
+// The steps of a row, all in one poll, which gives the place of the first step that shows something else, and what it shows.
+#[derive(Drop)]
+struct Played<J: Job, H: Runtime> {
+    bench: Bench<J, H>,
+    steps: &'static [(Step, Shown)],
+}
+
+impl<J: Job, H: Runtime> Future for Played<J, H> {
+    type Output = Option<(usize, Shown)>;
+
+    fn poll(&mut self, cx: &mut Context<'_>) -> Poll<Option<(usize, Shown)>> {
+        for (place, (step, wanted)) in self.steps.iter().enumerate() {
+            let shown = self.bench.shows(*step, cx);
+            if shown != *wanted {
+                return Poll::Ready(Some((place, shown)));
+            }
+        }
+        Poll::Ready(None)
+    }
+}
+
+fn first_wrong<H: Host>(
+    rt: H,
+    steps: &'static [(Step, Shown)],
+) -> Result<Option<(usize, Shown)>, Fail> {
+    let executor: Executor<Nothing, H> = Executor::new(rt, Some("1"))?;
+    let me = executor.add(Nothing)?;
+    let (sender, receiver) = link(rt, 2)?;
+    let (filler, taker) = link_in(rt, 2)?;
+    let bench = Bench {
+        executor,
+        me,
+        sender,
+        receiver,
+        filler,
+        taker,
+    };
+    Ok(block_on(&rt, Played { bench, steps })?)
+}
+
+#[test]
+fn each_call_answers(rt: HostRuntime) -> Result<(), Fail> {
+    for (name, steps) in ROWS {
+        assert_eq!(rt; first_wrong(rt, steps)?, None, "{name}");
+    }
+    Ok(())
+}

@@ -1,0 +1,98 @@
+-- The table of an owner: what its poll does next, read from its own acts, the newest first.
+use Rattle.std.specs.Prelude.{ℕ, zero, Bool, true, false, if◌then◌else◌, List, [], ◌∷◌, length, Option, Some, None}
+use Rattle.blocking_core.specs.declared.io.Fault.{Fault}
+use Rattle.blocking_core.specs.declared.io.Fault.TheVariants as why
+use Rattle.blocking_laws.specs.Seen.{own, acts_of}
+use Rattle.blocking_laws.specs.JobTable.{Reading, fault}
+use Rattle.blocking_laws.specs.Sessions.{Session, call, last_session, State, Idle, In, state}
+use Rattle.blocking_laws.specs.declared.event.Act.{Act}
+use Rattle.blocking_laws.specs.declared.event.Act.TheVariants.{Asked, Accepted, Refused, OwnerClosed, JobWoken, Got, GotEnd, Back}
+use Rattle.blocking_laws.specs.declared.event.Event.{Event}
+use Rattle.blocking_laws.specs.declared.event.Reply.{Reply}
+use Rattle.blocking_laws.specs.declared.event.Reply.TheVariants.{Count, Handle, Failed}
+use Rattle.blocking_laws.specs.declared.step.HandleCall.{HandleCall}
+use Rattle.blocking_laws.specs.declared.step.HandleCall.TheVariants.{Read, GetMut}
+
+-- The next action of a poll: it begins a session, closes the owner's end of the pipe, wakes this job, drains at most so many bytes,
+-- looks into the job's slot, or replies; or there is nothing to do.
+pub data OwnerAction : Type 0 where
+  Begin : OwnerAction
+  CloseOwn : OwnerAction
+  WakeJob : ℕ → OwnerAction
+  Drain : ℕ → OwnerAction
+  PollSlot : OwnerAction
+  Say : Reply → OwnerAction
+  Rest : OwnerAction
+
+-- The table: what a call does where the handle is there. From a session that isn't its own it stops that: it closes the owner's end
+-- where that is open, and looks for the handle.
+abbrev pub table : HandleCall → State → OwnerAction
+table (Read zero) at = Say (Count 0)
+table GetMut Idle = Say Handle
+table call Idle = Begin
+table (Read n) (In Reading true) = Drain n
+table call (In Reading true) = CloseOwn
+table call at = PollSlot
+
+-- what the call that is asked does in this state
+abbrev pub at_accepted : Option HandleCall → State → OwnerAction
+at_accepted None at = Rest
+at_accepted (Some call) at = table call at
+
+-- whether a call tells the fault of a session that is over
+abbrev pub tells_faults : HandleCall → Bool
+tells_faults (Read n) = true
+tells_faults GetMut = false
+
+-- what a call does once the handle is back: the end where it saw that, else what it does with an idle handle
+abbrev pub after_end : HandleCall → Bool → OwnerAction
+after_end call true = Say (Count 0)
+after_end call false = table call Idle
+
+-- what follows once the handle is back: its fault, where there is one and the call tells it
+abbrev pub after_back : HandleCall → Option (Fault ℕ) → Bool → OwnerAction
+after_back call None ended = after_end call ended
+after_back call (Some found) ended = if tells_faults call then Say (Failed found) else after_end call ended
+
+-- whether the owner has just seen the pipe's end
+abbrev pub is_at_end : List Act → Bool
+is_at_end (GotEnd ∷ past) = true
+is_at_end _ = false
+
+-- what follows once the handle is back, by the call and the session
+abbrev pub at_back : Option HandleCall → Option Session → Bool → List Event → OwnerAction
+at_back (Some call) (Some s) ended cut = after_back call (fault (acts_of s.serial cut)) ended
+at_back _ _ ended cut = Rest
+
+-- what follows the owner's last act, were no job to be woken first
+abbrev pub owner_next_but_wake : List Event → List Act → OwnerAction
+owner_next_but_wake cut [] = Rest
+owner_next_but_wake cut (Asked call ∷ past) = table call (state past)
+owner_next_but_wake cut (Accepted s ∷ past) = at_accepted (call past) (state (Accepted s ∷ past))
+owner_next_but_wake cut (Refused reason ∷ past) = Say (Failed (why.Refused reason))
+owner_next_but_wake cut (OwnerClosed told ∷ past) = PollSlot
+owner_next_but_wake cut (Got bytes told ∷ past) = Say (Count (length bytes))
+owner_next_but_wake cut (GotEnd ∷ past) = PollSlot
+owner_next_but_wake cut (Back ∷ past) = at_back (call past) (last_session past) (is_at_end past) cut
+owner_next_but_wake cut (JobWoken s woke ∷ past) = owner_next_but_wake cut past
+owner_next_but_wake cut (_ ∷ past) = Rest
+
+-- the job whose note an act of the owner took out of its seat
+abbrev pub note_in : Act → Option ℕ
+note_in (OwnerClosed told) = told
+note_in (Got bytes told) = told
+note_in _ = None
+
+-- a job whose note was taken is woken before all else
+abbrev pub deliver_first : Option ℕ → OwnerAction → OwnerAction
+deliver_first (Some s) action = WakeJob s
+deliver_first None action = action
+
+-- the owner's next action, by its own acts
+abbrev pub next_of_owner_by : List Event → List Act → OwnerAction
+next_of_owner_by cut [] = Rest
+next_of_owner_by cut (act ∷ past) = deliver_first (note_in act) (owner_next_but_wake cut (act ∷ past))
+
+-- the owner's next action, by its cut
+abbrev pub next_of_owner : List Event → OwnerAction
+next_of_owner cut = next_of_owner_by cut (own cut)

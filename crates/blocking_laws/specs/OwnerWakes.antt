@@ -1,0 +1,34 @@
+-- Wakes between an owner and its job, and who of the two waits.
+use Rattle.std.specs.Prelude.{◌≡◌, ℕ, ◌==◌, ◌&&◌, ◌||◌, ◌⊎◌, not, Bool, true, false, List, [], ◌∷◌, Option, Some, None}
+use Rattle.blocking_laws.specs.Seen.{events, own, is_this, cut}
+use Rattle.blocking_laws.specs.Sessions.{Session, session}
+use Rattle.blocking_laws.specs.OwnerTable.{note_in}
+use Rattle.blocking_laws.specs.Wakes.{is_waiting, was_woken, is_at_rest}
+use Rattle.blocking_laws.specs.declared.event.Act.{Act}
+use Rattle.blocking_laws.specs.declared.event.Act.TheVariants.{JobWoken}
+use Rattle.blocking_laws.specs.declared.event.Event.{Event}
+use Rattle.blocking_laws.specs.declared.event.Moment.{Moment}
+
+-- whether a wake of this job is under way after an act of the owner: from the act that took its note to the delivery
+abbrev pub is_waking_by : ℕ → Act → Bool → Bool
+is_waking_by s (JobWoken t woke) before = not (t == s) && before
+is_waking_by s act before = is_this s (note_in act) || before
+
+-- whether a wake of this job is under way, by the owner's own acts
+abbrev pub is_waking : ℕ → List Act → Bool
+is_waking s [] = false
+is_waking s (act ∷ past) = is_waking_by s act (is_waking s past)
+
+-- Who waits for a job at rest has been woken, or a wake of that job is under way.
+abbrev pub IsNotLost : List Moment → ℕ → List Event → Type 0
+IsNotLost past s cut =
+    is_waiting (own cut) ≡ true → is_at_rest past s ≡ true → (was_woken cut ≡ true) ⊎ (is_waking s (own cut) ≡ true)
+
+-- the session is that of this job
+abbrev pub IsSessionOf : Option Session → ℕ → Type 0
+IsSessionOf None s = ⊥
+IsSessionOf (Some r) s = r.serial ≡ s
+
+-- No wake is lost: no owner waits for the job of its session at rest, with no wake of either under way.
+pub record NoLostOwnerWake (past : List Moment) : Type 0 where
+  pub owners : (h s : ℕ) → IsSessionOf (session (own (cut h (events past)))) s → IsNotLost past s (cut h (events past))

@@ -1,0 +1,10 @@
+//! Owners, their sessions and the jobs that were lent their handles, over a past in which owners may be made.
+
+pub mod ends;
+pub mod jobs;
+pub mod places;
+pub mod polls;
+pub mod seats;
+pub mod steps;
+pub mod wakes;
+pub mod whole;

@@ -1,0 +1,47 @@
+//! Legality as a whole, where owners may be made.
+ghost use Rattle.std.specs.Prelude.{◌≡◌, ℕ, List, [], Bool, true, false, Some};
+ghost use Rattle.blocking_laws.specs.Seen.{events, cut, is_in_cut, is_some_worker};
+ghost use Rattle.blocking_laws.specs.Turns.{is_giving_up};
+ghost use Rattle.blocking_laws.specs.Steps.{is_answered};
+ghost use Rattle.blocking_laws.specs.OwnerTable.{next_of_owner};
+ghost use Rattle.blocking_laws.specs.OwnerLaws.{OwnerLaw, is_of_poll, is_settled};
+ghost use Rattle.blocking_laws.specs.OwnerSteps.{StepLawWithOwners};
+ghost use Rattle.blocking_laws.specs.OwnerWakes.{NoLostOwnerWake};
+ghost use Rattle.blocking_laws.specs.WithOwners.{LegalWithOwners};
+ghost use Rattle.blocking_laws.specs.Traces.{◌▸◌, Refuses, Keeps};
+ghost use Rattle.blocking_laws.specs.OwnerTraces.{LawOfOwner, reader_parked};
+ghost use Rattle.blocking_laws.specs.declared.event.Event.{Event};
+ghost use Rattle.blocking_laws.specs.declared.event.Moment.{Moment};
+
+/// A cut has the events of one owner and of its jobs alone.
+pub fn cuts()
+    // made 0 / asked / accepted 1 +1 / .. / parked / ended 1 parked, seen by owner 1
+    ensures of_other { cut 1 (events reader_parked) ≡ [] }
+    // what is cut stays as it is
+    ensures of_cut { cut 0 (cut 0 (events reader_parked)) ≡ cut 0 (events reader_parked) }
+{}
+
+/// After a cut an action of a poll is one act, where the pool doesn't answer it; so is an action of a job's own.
+pub fn one_act()
+    ensures of_poll { (cut : List Event) (now other : Event) →
+        is_some_worker now.party ≡ false → is_some_worker other.party ≡ false →
+        is_of_poll now.act ≡ true → is_of_poll other.act ≡ true → is_settled (next_of_owner cut) ≡ true →
+        OwnerLaw cut now → OwnerLaw cut other → now.act ≡ other.act }
+    ensures of_job { (cut : List Event) (s : ℕ) (now other : Event) →
+        is_some_worker now.party ≡ true → is_some_worker other.party ≡ true →
+        now.job ≡ Some s → other.job ≡ Some s →
+        is_giving_up now.act ≡ is_giving_up other.act → is_answered now.act ≡ false →
+        OwnerLaw cut now → OwnerLaw cut other → now.act ≡ other.act }
+{}
+
+/// What one law of owners refuses is in no trace that is legal with owners.
+pub fn refusals()
+    ensures by_step { (setting : ℕ) (plan : List Bool) (past : List Moment) (now : Moment) →
+        Refuses StepLawWithOwners past now → LegalWithOwners setting plan (past ▸ now) → ⊥ }
+    ensures by_wake { (setting : ℕ) (plan : List Bool) (past : List Moment) (now : Moment) →
+        Refuses (Keeps NoLostOwnerWake) past now → LegalWithOwners setting plan (past ▸ now) → ⊥ }
+    // an event of this owner or of its job
+    ensures by_owner { (setting : ℕ) (plan : List Bool) (past : List Moment) (now : Moment) →
+        (h : ℕ) → is_in_cut h now.event ≡ true →
+        Refuses (LawOfOwner h) past now → LegalWithOwners setting plan (past ▸ now) → ⊥ }
+{}

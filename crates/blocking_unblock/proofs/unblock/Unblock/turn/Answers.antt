@@ -1,0 +1,19 @@
+use Rattle.futures.specs.Task.{IsArmed}
+use Rattle.blocking_unblock.proofs.Turns.{turned_plain, turned_noted}
+use Rattle.blocking_unblock.proofs.unblock.Unblock.turn.Goals as goal
+
+pub returns-in-Some-clause-stands : goal.returns-in-Some-clause-stands
+returns-in-Some-clause-stands g c =
+    (turned_noted (IsArmed c.act-answer.new.cx) _ _ _ _ _ _ _ _ _ c.requires.stands c.next.ensures c.act-answer.ensures.does c.in-Some.is c.answer.ensures c.answer-in-Some.ensures).stands
+
+pub returns-in-Some-clause-reaches : goal.returns-in-Some-clause-reaches
+returns-in-Some-clause-reaches g c =
+    (turned_noted (IsArmed c.act-answer.new.cx) _ _ _ _ _ _ _ _ _ c.requires.stands c.next.ensures c.act-answer.ensures.does c.in-Some.is c.answer.ensures c.answer-in-Some.ensures).reaches
+
+pub returns-in_default-clause-stands : goal.returns-in_default-clause-stands
+returns-in_default-clause-stands g c =
+    (turned_plain (IsArmed c.act-answer.new.cx) _ _ _ _ _ _ _ c.requires.stands c.next.ensures c.act-answer.ensures.does c.in_default.is c.answer.ensures).stands
+
+pub returns-in_default-clause-reaches : goal.returns-in_default-clause-reaches
+returns-in_default-clause-reaches g c =
+    (turned_plain (IsArmed c.act-answer.new.cx) _ _ _ _ _ _ _ c.requires.stands c.next.ensures c.act-answer.ensures.does c.in_default.is c.answer.ensures).reaches

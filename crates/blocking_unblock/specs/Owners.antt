@@ -1,0 +1,93 @@
+-- What a poll of an owner does: where the handle is, what it may answer to each action, and what its reply says of it.
+use Rattle.std.specs.Prelude.{◌≡◌, ◌<◌, ◌≤◌, ℕ, Bool, true, false, List, [], ◌∷◌, Option, Some, None, Result, Ok, Err}
+use Rattle.blocking_core.specs.OwnerCalls.{OwnerMachine, new_poll, owner_next, owner_after}
+use Rattle.blocking_core.specs.declared.io.Fault.{Fault}
+use Rattle.blocking_core.specs.declared.io.Fault.TheVariants as fault
+use Rattle.blocking_core.specs.declared.unblock.PollCall.{PollCall}
+use Rattle.blocking_core.specs.declared.unblock.PollCall.TheVariants.{Read, GetMut}
+use Rattle.blocking_core.specs.declared.unblock.State.{State}
+use Rattle.blocking_core.specs.declared.unblock.State.TheVariants as state
+use Rattle.blocking_core.specs.declared.unblock.Reply.{Reply}
+use Rattle.blocking_core.specs.declared.unblock.Reply.TheVariants.{Count, Handle, Failed}
+use Rattle.blocking_core.specs.declared.unblock.OwnerAction.{OwnerAction}
+use Rattle.blocking_core.specs.declared.unblock.OwnerAction.TheVariants as act
+use Rattle.blocking_core.specs.declared.unblock.OwnerAnswer.{OwnerAnswer}
+use Rattle.blocking_core.specs.declared.unblock.OwnerAnswer.TheVariants as by
+use Rattle.futures.specs.declared.task.Poll.{Poll}
+use Rattle.futures.specs.declared.task.Poll.TheVariants.{Ready, Pending}
+use Rattle.std.specs.declared.io.Error.{Error}
+use Rattle.blocking_unblock.specs.declared.unblock.Place.{Place}
+use Rattle.blocking_unblock.specs.declared.unblock.Place.TheVariants as place
+
+-- whether there is a value
+abbrev pub has : {A : Type 0} → Option A → Bool
+has (Some value) = true
+has None = false
+
+-- how many bytes a call may bring
+abbrev pub wanted : PollCall → ℕ
+wanted (Read most) = most
+wanted GetMut = 0
+
+module _ {T H : Type 0} where
+  -- the handle was dropped
+  abbrev pub IsClosed : Place T H → Type 0
+  IsClosed (place.Idle handle) = ⊥
+  IsClosed (place.Lent session) = ⊥
+  IsClosed place.Closed = Unit {0}
+
+  -- the handle is where the state says: with its owner, or with the job of a session whose end on the owner's side stands so
+  abbrev pub IsAt : State → Place T H → Type 0
+  IsAt state.Idle (place.Idle handle) = Unit {0}
+  IsAt (state.Reading end) (place.Lent session) = session.owner_end ≡ end
+  IsAt _ _ = ⊥
+
+module _ {E : Type 0} where
+  -- This is an answer to that action: what comes out of a pipe is a byte at least, and no more than was asked for.
+  abbrev pub AnswersTo : OwnerAction E → OwnerAnswer E → Type 0
+  AnswersTo act.Begin by.Begun = Unit {0}
+  AnswersTo act.Begin (by.Refused why) = Unit {0}
+  AnswersTo act.Close (by.Closed noted) = Unit {0}
+  AnswersTo (act.Drain most) (by.Got count noted) = (0 < count) × (count ≤ most)
+  AnswersTo (act.Drain most) by.Ended = Unit {0}
+  AnswersTo (act.Drain most) (by.Waits seat) = Unit {0}
+  AnswersTo act.PollSlot (by.Waits seat) = Unit {0}
+  AnswersTo act.PollSlot (by.Back why) = Unit {0}
+  AnswersTo act.Deliver by.Delivered = Unit {0}
+  AnswersTo _ _ = ⊥
+
+  -- the machine comes from one to the other by these answers, each to the action that was next
+  abbrev pub Runs : OwnerMachine E → List (OwnerAnswer E) → OwnerMachine E → Type 0
+  Runs old [] new = new ≡ old
+  Runs old (answer ∷ rest) new = AnswersTo (owner_next old) answer × Runs (owner_after old answer) rest new
+
+  abbrev pub Reaches : OwnerMachine E → OwnerMachine E → Type 0
+  Reaches old new = (answers : List (OwnerAnswer E)) × Runs old answers new
+
+  -- the machine has ended: it replies so, or the poll is pending
+  abbrev pub EndsWith : OwnerMachine E → Poll (Reply E) → Type 0
+  EndsWith end (Ready reply) = owner_next end ≡ act.Reply reply
+  EndsWith end Pending = owner_next end ≡ act.Pending
+
+  -- what a read answers, as a reply
+  abbrev pub reply_of_read : Poll (Result ℕ (Fault E)) → Poll (Reply E)
+  reply_of_read (Ready (Ok count)) = Ready (Count count)
+  reply_of_read (Ready (Err why)) = Ready (Failed why)
+  reply_of_read Pending = Pending
+
+-- what the call for the handle answers, as a reply
+abbrev pub reply_of_get : {A : Type 0} → Poll A → Poll (Reply Error)
+reply_of_get (Ready handle) = Ready Handle
+reply_of_get Pending = Pending
+
+-- What a poll does and answers: its machine begins by the call and where the handle is, gets answers, each to the action that was
+-- next, and ends where the handle is then; the reply is the machine's.
+abbrev pub Follows : {T H E : Type 0} → PollCall → Place T H → Poll (Reply E) → Place T H → Type 0
+Follows {T} {H} {E} call old reply new =
+    (begins : State) × IsAt begins old
+    × (end : OwnerMachine E) × Reaches (new_poll call begins) end × EndsWith end reply × IsAt end.state new
+
+-- The handle stays with its owner where no session could begin: it is the one that was there.
+abbrev pub IfRefused : {E : Type 0} → Poll (Result ℕ (Fault E)) → Type 0 → Type 0
+IfRefused (Ready (Err (fault.Refused why))) P = P
+IfRefused _ P = Unit {0}

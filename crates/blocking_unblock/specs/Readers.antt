@@ -1,0 +1,68 @@
+-- What contracts see of a reading job, and what each of its steps does.
+use Rattle.std.specs.Prelude.{◌≡◌, ◌<◌, ◌≤◌, ℕ, Bool, Option, Some, None, refl}
+use Rattle.std.specs.Coded.{Coded, code_by, coded×, coded_bool, coded_option}
+use Rattle.blocking_core.specs.Machines.{Machine}
+use Rattle.blocking_core.specs.Reading.{read_next, read_after}
+use Rattle.blocking_core.specs.declared.job.read.ReadAction.{ReadAction}
+use Rattle.blocking_core.specs.declared.job.read.ReadAction.TheVariants.{FindRoom, Read, Put, Close, Finish, Deliver, Done}
+use Rattle.blocking_core.specs.declared.job.read.ReadAnswer.{ReadAnswer}
+use Rattle.blocking_core.specs.declared.job.read.ReadAnswer.TheVariants as by
+use Rattle.blocking_core.specs.contracts.job.read.ReadAction.{the_row}
+use Rattle.blocking_pool.specs.declared.pool.job.JobStep.{JobStep}
+use Rattle.blocking_pool.specs.declared.pool.job.JobStep.TheVariants as step
+
+-- a reading job: what it does next, and its reader until that is given back
+pub record ReadSeen (T : Type 0) : Type 0 where
+  pub core : Machine ReadAction
+  pub reader : Option T
+
+abbrev pub read_code : {T : Type 0} → Coded T → Coded (ReadSeen T)
+read_code {T} code =
+    code_by (ReadAction × (Bool × Option T)) (coded× the_row.coded (coded× coded_bool (coded_option code)))
+    (λ seen. (seen.core.next, (seen.core.is_waking, seen.reader)))
+    (λ parts. record { core = record { next = parts.0; is_waking = parts.1.0 }; reader = parts.1.1 }) (λ _. refl)
+
+-- this is an answer to that action: room for one byte at least, and no more bytes than were asked for
+abbrev pub Answers : ReadAction → ReadAnswer → Type 0
+Answers FindRoom (by.Free room) = 0 < room
+Answers FindRoom by.Parked = Unit {0}
+Answers FindRoom by.Shut = Unit {0}
+Answers (Read most) (by.Gave count) = count ≤ most
+Answers (Read most) by.Failed = Unit {0}
+Answers (Put count) (by.Put woke) = Unit {0}
+Answers (Put count) by.Lost = Unit {0}
+Answers Close (by.Closed woke) = Unit {0}
+Answers Finish (by.Finished woke) = Unit {0}
+Answers Deliver by.Delivered = Unit {0}
+Answers action answer = ⊥
+
+-- what a step tells its worker: a job that was seated waits, one that has nothing more to do is done, and else it goes on
+abbrev pub told_by : ReadAnswer → ReadAction → JobStep
+told_by by.Parked next = step.Waiting
+told_by answer Done = step.Done
+told_by answer next = step.Again
+
+-- the machine got one answer, to the action that was next
+abbrev pub OneAnswer : ReadAction → Machine ReadAction → Machine ReadAction → JobStep → Type 0
+OneAnswer action old new told =
+    (answer : ReadAnswer) × (new ≡ read_after old answer) × Answers action answer × (told ≡ told_by answer (read_next new))
+
+-- What one step does: the machine gets one answer, to the action that was next; a job that is over does nothing.
+abbrev pub IsSteppedBy : ReadAction → Machine ReadAction → Machine ReadAction → JobStep → Type 0
+IsSteppedBy Done old new told = (new ≡ old) × (told ≡ step.Done)
+IsSteppedBy action old new told = OneAnswer action old new told
+
+abbrev pub IsStepped : Machine ReadAction → Machine ReadAction → JobStep → Type 0
+IsStepped old new told = IsSteppedBy (read_next old) old new told
+
+-- The job has what its next action is about: its reader until that is given back, room that was told for what it reads or puts,
+-- and a piece that holds it. room is what was told and not used since, piece how many bytes its own piece holds.
+abbrev pub Fits : {T : Type 0} → ReadAction → ℕ → ℕ → Option T → Type 0
+Fits FindRoom room piece (Some reader) = Unit {0}
+Fits (Read most) room piece (Some reader) = (most ≤ room) × (most ≤ piece)
+Fits (Put count) room piece (Some reader) = (count ≤ room) × (count ≤ piece)
+Fits Close room piece (Some reader) = Unit {0}
+Fits Finish room piece (Some reader) = Unit {0}
+Fits Deliver room piece reader = ⊥
+Fits Done room piece reader = Unit {0}
+Fits action room piece None = ⊥

@@ -1,0 +1,28 @@
+//! What polls of a lent handle of the system ask and answer.
+ghost use Rattle.std.specs.Prelude.{◌≡◌, ◌≤◌, length, IfOk};
+ghost use Rattle.futures.specs.Poll.{IfReady, OnPending};
+ghost use Rattle.futures.specs.Task.{IsArmed, Keeps};
+
+use blocking_core::io::Fault;
+use futures::task::{Context, Poll};
+use std::io;
+
+/// Why a call on a lent handle of the system failed.
+pub type IoFault = Fault<io::Error>;
+
+/// What is read by polls.
+pub trait AsyncRead {
+    /// Whether it was closed. What is closed isn't read.
+    ghost closed: { Self → Type 0 };
+
+    /// Reads the next bytes into `buf`, and answers how many they are. None, where the buffer has room for one, means the end.
+    ///
+    /// A poll that waits has registered, and is polled again.
+    fn poll_read(&mut self, cx: &mut Context<'_>, buf: &mut [u8]) -> Poll<Result<usize, IoFault>>
+        requires { closed self.old → ⊥ }
+        ensures open { closed self.new → ⊥ }
+        ensures count { IfReady result (λ r. IfOk r (λ n. n ≤ length buf.old)) }
+        ensures same_length { length buf.new ≡ length buf.old }
+        ensures armed { OnPending result (IsArmed cx.new) }
+        ensures kept { Keeps cx.old cx.new };
+}

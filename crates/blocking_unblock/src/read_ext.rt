@@ -1,0 +1,218 @@
+//! Whole reads as futures, so that a program needs no loop of polls.
+ghost use Rattle.std.specs.Prelude.{◌≡◌, ◌≤◌, ◌+◌, length, vec_len, IfOk};
+ghost use Rattle.futures.specs.Poll.{IfReady, OnPending};
+ghost use Rattle.futures.specs.Task.{IsArmed, Keeps};
+
+use crate::io::{AsyncRead, IoFault};
+use blocking_core::io::Fault;
+use futures::Future;
+use futures::task::{Context, Poll};
+use std::io;
+use std::io::ErrorKind;
+
+/// Whole reads of what is read by polls.
+pub trait AsyncReadExt: AsyncRead {
+    /// A future that reads once: what is there, as much as `buf` holds. It answers how many bytes that were; none, where `buf` has room
+    /// for one, means the end. Until it was ready it may be polled.
+    final fn read<'a>(&'a mut self, buf: &'a mut [u8]) -> ReadSome<'a, Self>
+    where
+        Self: Sized,
+        requires { Self.closed self.old → ⊥ }
+        ensures reader { result.reader.ghost_name ≡ self.entry.ghost_name }
+        ensures open { Self.closed result.reader.now → ⊥ }
+        ensures room { length result.buf.now ≡ length buf.old }
+    {
+        ReadSome { reader: self, buf }
+    }
+
+    /// A future that fills `buf`. Where the end comes before, it answers an error of the kind `UnexpectedEof`, and what was read until
+    /// then stands in the front of `buf`. Until it was ready it may be polled.
+    final fn read_exact<'a>(&'a mut self, buf: &'a mut [u8]) -> ReadExact<'a, Self>
+    where
+        Self: Sized,
+        requires { Self.closed self.old → ⊥ }
+        ensures reader { result.reader.ghost_name ≡ self.entry.ghost_name }
+        ensures open { Self.closed result.reader.now → ⊥ }
+        ensures begins { result.filled ≡ 0 }
+    {
+        ReadExact {
+            reader: self,
+            buf,
+            filled: 0,
+        }
+    }
+
+    /// A future that reads to the end, and adds what it reads to `out`. It answers how many bytes that were. After a fault `out` has what
+    /// was read until then; where there is no memory for more the fault is an error of the kind `OutOfMemory`, and no byte is lost.
+    /// Until it was ready it may be polled.
+    final fn read_to_end<'a>(&'a mut self, out: &'a mut Vec<u8>) -> ReadToEnd<'a, Self>
+    where
+        Self: Sized,
+        requires { Self.closed self.old → ⊥ }
+        ensures reader { result.reader.ghost_name ≡ self.entry.ghost_name }
+        ensures open { Self.closed result.reader.now → ⊥ }
+        ensures begins { result.start ≤ vec_len result.out.now }
+    {
+        let start = out.len();
+        ReadToEnd {
+            reader: self,
+            out,
+            start,
+        }
+    }
+}
+
+impl<A: AsyncRead> AsyncReadExt for A {}
+
+/// The future of [`AsyncReadExt::read`].
+#[derive(Drop)]
+pub struct ReadSome<'a, A> {
+    reader: &'a mut A,
+    buf: &'a mut [u8],
+}
+
+impl<'a, A: AsyncRead> Future for ReadSome<'a, A> {
+    type Output = Result<usize, IoFault>;
+
+    ghost use Rattle.std.specs.Prelude.{◌≤◌, length, IfOk};
+
+    ghost can_poll = { λ read. A.closed read.reader.now → ⊥ };
+
+    ghost gives = { λ read out. IfOk out (λ n. n ≤ length read.buf.now) };
+
+    fn poll(&mut self, cx: &mut Context<'_>) -> Poll<Result<usize, IoFault>> {
+        let reader = &mut *self.reader;
+        let buf = &mut *self.buf;
+        reader.poll_read(cx, buf)
+    }
+}
+
+/// The future of [`AsyncReadExt::read_exact`].
+#[derive(Drop)]
+pub struct ReadExact<'a, A> {
+    reader: &'a mut A,
+    buf: &'a mut [u8],
+    // How many bytes were read.
+    filled: usize,
+}
+
+// Fills the rest of a buffer, from where it is filled.
+fn fill<A: AsyncRead>(
+    reader: &mut A,
+    cx: &mut Context<'_>,
+    buf: &mut [u8],
+    filled: &mut usize,
+) -> Poll<Result<(), IoFault>>
+    requires open { A.closed reader.old → ⊥ }
+    requires within { filled.old ≤ length buf.old }
+    ensures open { A.closed reader.new → ⊥ }
+    ensures within { filled.new ≤ length buf.new }
+    ensures whole { IfReady result (λ r. IfOk r (λ _. filled.new ≡ length buf.old)) }
+    ensures armed { OnPending result (IsArmed cx.new) }
+    ensures kept { Keeps cx.old cx.new }
+{
+    while *filled < buf.len() {
+        match reader.poll_read(cx, &mut buf[*filled..]) {
+            Poll::Pending => return Poll::Pending,
+            Poll::Ready(Ok(0)) => {
+                let error = io::Error::from(ErrorKind::UnexpectedEof);
+                return Poll::Ready(Err(Fault::Io(error)));
+            }
+            Poll::Ready(Ok(count)) => *filled += count,
+            Poll::Ready(Err(why)) => return Poll::Ready(Err(why)),
+        }
+    }
+    Poll::Ready(Ok(()))
+}
+
+impl<'a, A: AsyncRead> Future for ReadExact<'a, A> {
+    type Output = Result<(), IoFault>;
+
+    ghost use Rattle.std.specs.Prelude.{◌≤◌, length};
+
+    ghost can_poll = { λ read. (A.closed read.reader.now → ⊥) × (read.filled ≤ length read.buf.now) };
+
+    fn poll(&mut self, cx: &mut Context<'_>) -> Poll<Result<(), IoFault>> {
+        let reader = &mut *self.reader;
+        let buf = &mut *self.buf;
+        fill(reader, cx, buf, &mut self.filled)
+    }
+}
+
+/// The future of [`AsyncReadExt::read_to_end`].
+#[derive(Drop)]
+pub struct ReadToEnd<'a, A> {
+    reader: &'a mut A,
+    out: &'a mut Vec<u8>,
+    // How many bytes stood in `out` before.
+    start: usize,
+}
+
+// How much is asked for at once.
+const CHUNK: usize = 4096;
+
+// Reads once, behind what is there. The memory is had before, so that no byte that was read is lost.
+fn append<A: AsyncRead>(
+    reader: &mut A,
+    cx: &mut Context<'_>,
+    out: &mut Vec<u8>,
+) -> Poll<Result<usize, IoFault>>
+    requires { A.closed reader.old → ⊥ }
+    ensures open { A.closed reader.new → ⊥ }
+    ensures more { IfReady result (λ r. IfOk r (λ n. vec_len out.new ≡ vec_len out.old + n)) }
+    ensures kept_bytes { vec_len out.old ≤ vec_len out.new }
+    ensures armed { OnPending result (IsArmed cx.new) }
+    ensures kept { Keeps cx.old cx.new }
+{
+    if let Err(error) = out.reserve(CHUNK) {
+        return Poll::Ready(Err(Fault::Io(io::Error::from(error))));
+    }
+    let mut chunk = [0u8; CHUNK];
+    match reader.poll_read(cx, &mut chunk) {
+        Poll::Ready(Ok(count)) => match out.extend_from_slice(&chunk[..count]) {
+            Ok(()) => Poll::Ready(Ok(count)),
+            Err(error) => Poll::Ready(Err(Fault::Io(io::Error::from(error)))),
+        },
+        other => other,
+    }
+}
+
+// Reads to the end, behind what is there, and answers how many bytes there are behind the first `start`.
+fn append_all<A: AsyncRead>(
+    reader: &mut A,
+    cx: &mut Context<'_>,
+    out: &mut Vec<u8>,
+    start: usize,
+) -> Poll<Result<usize, IoFault>>
+    requires open { A.closed reader.old → ⊥ }
+    requires within { start ≤ vec_len out.old }
+    ensures open { A.closed reader.new → ⊥ }
+    ensures within { start ≤ vec_len out.new }
+    ensures count { IfReady result (λ r. IfOk r (λ n. vec_len out.new ≡ start + n)) }
+    ensures armed { OnPending result (IsArmed cx.new) }
+    ensures kept { Keeps cx.old cx.new }
+{
+    for _ in 0..u64::MAX {
+        match append(reader, cx, out) {
+            Poll::Ready(Ok(0)) => return Poll::Ready(Ok(out.len() - start)),
+            Poll::Ready(Ok(_)) => {}
+            Poll::Ready(Err(why)) => return Poll::Ready(Err(why)),
+            Poll::Pending => return Poll::Pending,
+        }
+    }
+    cx.yield_now()
+}
+
+impl<'a, A: AsyncRead> Future for ReadToEnd<'a, A> {
+    type Output = Result<usize, IoFault>;
+
+    ghost use Rattle.std.specs.Prelude.{◌≤◌, vec_len};
+
+    ghost can_poll = { λ read. (A.closed read.reader.now → ⊥) × (read.start ≤ vec_len read.out.now) };
+
+    fn poll(&mut self, cx: &mut Context<'_>) -> Poll<Result<usize, IoFault>> {
+        let reader = &mut *self.reader;
+        let out = &mut *self.out;
+        append_all(reader, cx, out, self.start)
+    }
+}

@@ -1,0 +1,268 @@
+//! The job that reads ahead of an owner.
+ghost use Rattle.std.specs.Prelude.{◌≡◌, ◌<◌, ◌≤◌, length, None, Some, IfOk};
+ghost use Rattle.blocking_core.specs.declared.job.read.ReadAction.TheVariants.{FindRoom, Read as ReadPiece, Put as PutPiece, Close, Finish, Deliver};
+ghost use Rattle.blocking_core.specs.Reading.{new_read, read_next};
+
+use crate::io::IoFault;
+use crate::link::{Link, OwnerWaker, Returned};
+use blocking_core::io::Fault;
+use blocking_core::job::{ReadAction, ReadAnswer, ReadCore};
+use blocking_core::pipe::{Put, Room};
+use blocking_core::pool::{Carries, Job, JobNo, JobStep};
+use blocking_core::task;
+use blocking_ends::{AnyPlace, SendEnd};
+use std::io::Read;
+use std::marker::Model;
+use std::sync::{Arc, Wait};
+use std::{io, mem};
+
+/// The job that reads ahead of an owner: it asks its reader for as much as there is room for in the pipe, and puts there what it
+/// was given, until the reader ends or fails or nobody wants more. Then it gives the reader back.
+///
+/// One that is dropped before it is done drops the reader, gives its slot up and calls the owner's waker, with no lock held.
+pub struct ReadJob<T: Drop, H: Wait + Copy> {
+    core: ReadCore,
+    // The reader, until it is given back.
+    reader: Option<T>,
+    fault: Option<IoFault>,
+    // Where a piece stands between the reader and the pipe.
+    piece: Vec<u8>,
+    end: SendEnd<u8, AnyPlace, H>,
+    // The waker that was taken out of the owner's seat, and has to be called.
+    waker: OwnerWaker,
+    link: Arc<Link<T>>,
+    rt: H,
+}
+
+impl<T: Drop, H: Wait + Copy> Model for ReadJob<T, H> {
+    ghost use Rattle.std.specs.Prelude.{◌<◌, vec_len};
+    ghost use Rattle.blocking_unblock.specs.Readers.{ReadSeen, read_code, Fits};
+
+    ghost Value = { ReadSeen T };
+
+    ghost coded = { read_code T.code };
+
+    ghost view = { λ j. record { core = j.core; reader = j.reader } };
+
+    ghost invariant = { λ j. (0 < vec_len j.piece) × Fits j.core.next j.end.free (vec_len j.piece) j.reader };
+}
+
+// Asks the reader for at most so many bytes, all of which the piece holds.
+fn ask<T: Read>(reader: &mut T, piece: &mut [u8], most: usize) -> io::Result<usize>
+    requires { most ≤ length piece.old }
+    ensures count { IfOk result (λ n. n ≤ most) }
+    ensures same { length piece.new ≡ length piece.old }
+{
+    reader.read(&mut piece[..most])
+}
+
+impl<T: Drop, H: Wait + Copy> ReadJob<T, H> {
+    ghost use Rattle.std.specs.Prelude.{vec_len};
+    ghost use Rattle.blocking_unblock.specs.Readers.{ReadSeen, IsSteppedBy};
+
+    pub(crate) fn new(
+        rt: H,
+        reader: T,
+        piece: Vec<u8>,
+        end: SendEnd<u8, AnyPlace, H>,
+        link: Arc<Link<T>>,
+    ) -> ReadJob<T, H>
+        requires { 0 < vec_len piece }
+        ensures { result ≡ record { core = new_read; reader = Some reader } }
+    {
+        ReadJob {
+            core: ReadCore::new(),
+            reader: Some(reader),
+            fault: None,
+            piece,
+            end,
+            waker: None,
+            link,
+            rt,
+        }
+    }
+
+    /// The reader, if it wasn't given back. The slot stays as it is.
+    pub(crate) fn into_reader(self) -> Option<T>
+        ensures { result ≡ self.reader }
+    {
+        let ReadJob {
+            core: _,
+            reader,
+            fault: _,
+            piece: _,
+            end: _,
+            waker: _,
+            link: _,
+            rt: _,
+        } = self;
+        reader
+    }
+
+    fn find_room(&mut self, me: JobNo) -> JobStep
+        requires { read_next self.old.core ≡ FindRoom }
+        ensures { IsSteppedBy FindRoom self.old.core self.new.core result }
+    {
+        match self.end.room_or_seat(me) {
+            Room::Free(room) => {
+                self.core
+                    .answer(ReadAnswer::Free(room.min(self.piece.len())));
+                JobStep::Again
+            }
+            Room::Parked => {
+                self.core.answer(ReadAnswer::Parked);
+                JobStep::Waiting
+            }
+            Room::Shut => {
+                self.core.answer(ReadAnswer::Shut);
+                JobStep::Again
+            }
+        }
+    }
+
+    fn put(&mut self, count: usize) -> JobStep
+        requires { read_next self.old.core ≡ PutPiece count }
+        ensures { IsSteppedBy (PutPiece count) self.old.core self.new.core result }
+    {
+        match self.end.put(&self.piece[..count]) {
+            Put::In(seat) => {
+                let woke = seat.is_some();
+                self.waker = seat.flatten();
+                self.core.answer(ReadAnswer::Put { woke });
+            }
+            Put::Lost => self.core.answer(ReadAnswer::Lost),
+        }
+        JobStep::Again
+    }
+
+    fn close(&mut self) -> JobStep
+        requires { read_next self.old.core ≡ Close }
+        ensures { IsSteppedBy Close self.old.core self.new.core result }
+    {
+        let seat = self.end.close();
+        let woke = seat.is_some();
+        self.waker = seat.flatten();
+        self.core.answer(ReadAnswer::Closed { woke });
+        JobStep::Again
+    }
+
+    fn finish(&mut self) -> JobStep
+        requires { read_next self.old.core ≡ Finish }
+        ensures { IsSteppedBy Finish self.old.core self.new.core result }
+    {
+        let Some(handle) = self.reader.take() else {
+            unreachable!()
+        };
+        let fault = self.fault.take();
+        let task::Put { back, wake } = self.link.put(&self.rt, Returned { handle, fault });
+        // (a reader that nobody wants is dropped under no lock)
+        drop(back);
+        let woke = wake.is_some();
+        self.waker = wake.flatten();
+        self.core.answer(ReadAnswer::Finished { woke });
+        if woke { JobStep::Again } else { JobStep::Done }
+    }
+
+    fn deliver(&mut self) -> JobStep
+        requires { read_next self.old.core ≡ Deliver }
+        ensures { IsSteppedBy Deliver self.old.core self.new.core result }
+    {
+        if let Some(waker) = self.waker.take() {
+            waker.wake();
+        }
+        self.core.answer(ReadAnswer::Delivered);
+        match self.core.next() {
+            ReadAction::Done => JobStep::Done,
+            _ => JobStep::Again,
+        }
+    }
+}
+
+impl<T: Read + Drop, H: Wait + Copy> ReadJob<T, H> {
+    ghost use Rattle.blocking_unblock.specs.Readers.{IsSteppedBy};
+
+    fn read(&mut self, most: usize) -> JobStep
+        requires { read_next self.old.core ≡ ReadPiece most }
+        ensures { IsSteppedBy (ReadPiece most) self.old.core self.new.core result }
+    {
+        let Some(reader) = &mut self.reader else {
+            unreachable!()
+        };
+        match ask(reader, self.piece.as_mut_slice(), most) {
+            Ok(count) => self.core.answer(ReadAnswer::Gave(count)),
+            Err(error) => {
+                self.fault = Some(Fault::Io(error));
+                self.core.answer(ReadAnswer::Failed);
+            }
+        }
+        JobStep::Again
+    }
+}
+
+impl<T: Drop, H: Wait + Copy> Drop for ReadJob<T, H> {
+    fn drop(self) {
+        let ReadJob {
+            core,
+            reader,
+            fault: _,
+            piece: _,
+            end: _,
+            waker,
+            link,
+            rt,
+        } = self;
+        // The reader is gone before the owner is told. (a waker that is dropped wakes)
+        drop(reader);
+        drop(waker);
+        if let ReadAction::Done = core.next() {
+            return;
+        }
+        if let Some(Some(waker)) = link.give_up(&rt) {
+            waker.wake();
+        }
+    }
+}
+
+// A pool of one kind of reader has its reading job as its job type.
+impl<T: Drop, H: Wait + Copy> Carries<ReadJob<T, H>> for ReadJob<T, H> {
+    ghost use Rattle.std.specs.Prelude.{Some, refl};
+
+    ghost wrapped = { λ job. job };
+
+    ghost opened = { λ job. Some job };
+
+    ghost undoes = { λ job. refl };
+
+    fn wrap(named: ReadJob<T, H>) -> ReadJob<T, H> {
+        named
+    }
+
+    fn unwrap(self) -> Option<ReadJob<T, H>> {
+        Some(self)
+    }
+}
+
+impl<T: Read + Drop, H: Wait + Copy> Job for ReadJob<T, H> {
+    ghost use Rattle.blocking_unblock.specs.Readers.{IsStepped};
+
+    // (another thread may set the mark at any time)
+    ghost may_answer = { λ _ _. Unit {0} };
+
+    fn step(&mut self, me: JobNo) -> JobStep
+        ensures { IsStepped self.old.core self.new.core result }
+    {
+        match self.core.next() {
+            ReadAction::FindRoom => self.find_room(me),
+            ReadAction::Read(most) => self.read(most),
+            ReadAction::Put(count) => self.put(count),
+            ReadAction::Close => self.close(),
+            ReadAction::Finish => self.finish(),
+            ReadAction::Deliver => self.deliver(),
+            ReadAction::Done => JobStep::Done,
+        }
+    }
+
+    fn abandoned(&self) -> bool {
+        self.link.is_marked()
+    }
+}

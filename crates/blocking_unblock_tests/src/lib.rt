@@ -1,0 +1,14 @@
+//! The tests of `Unblock`: readers that are lent to a pool, on real threads. There is nothing here but tests, since a crate that has
+//! tests is proved a second time with them.
+#![tactic(auto)]
+
+#[cfg(test)]
+mod memory;
+#[cfg(test)]
+mod reader;
+#[cfg(test)]
+mod rows;
+#[cfg(test)]
+mod scene;
+#[cfg(test)]
+mod whole;

@@ -1,0 +1,34 @@
+//! Sessions whose memory or whose first worker is refused. `rt try --test --fail-alloc N` refuses the Nth piece that a test asks for:
+//! the test here ends as without, whichever it is, and says what came of it.
+use crate::reader::Given::Bytes;
+use crate::scene::Sight::Bytes as Shows;
+use crate::scene::Step::{Begin, Debug, Read, Rests};
+use crate::scene::{Row, first_wrong};
+use std::test::Fail;
+
+const REFUSED: Row = Row {
+    name: "a session that is refused leaves its reader idle, and the next try works",
+    capacity: 4,
+    plans: &[&[Bytes(b"abcd")]],
+    steps: &[
+        (0, Begin(2, Shows(b"ab"))),
+        (0, Read(2, Shows(b"cd"))),
+        (0, Read(2, Shows(b""))),
+        (0, Debug("Unblock { io: 4 }")),
+        (0, Rests(1)),
+    ],
+};
+
+// (what the scene asks for itself is asked for in a second scene)
+#[test]
+fn each_piece_refused(rt: HostRuntime) -> Result<(), Fail> {
+    let wrong = match first_wrong(rt, &REFUSED) {
+        Ok(wrong) => wrong,
+        Err(_) => {
+            println!(rt; "refused: a piece of the scene's own")?;
+            first_wrong(rt, &REFUSED)?
+        }
+    };
+    assert_eq!(rt; wrong, None, "{}", REFUSED.name);
+    Ok(())
+}

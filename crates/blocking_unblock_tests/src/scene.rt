@@ -1,0 +1,315 @@
+//! Scenes: two owners over one executor of one worker, played step by step. A step that shows something else than it must ends its
+//! scene. The player promises nothing.
+use crate::reader::{Given, LOOKS, Planned, Track};
+use blocking::{AsyncRead, Executor, Host, IoFault, ReadJob, Runtime, Unblock};
+use blocking_core::io::Fault;
+use blocking_core::pool::{Carries, Job};
+use futures::task::Poll;
+use futures::test::MockTask;
+use std::alloc::{AllocGlobal, Global};
+use std::random::RandomSource;
+use std::sync::Arc;
+use std::{io, thread};
+
+/// What is done, and what of it has to be seen.
+#[derive(Clone, Copy)]
+pub(crate) enum Step {
+    /// A poll into a buffer of this size.
+    Poll(usize, Sight),
+    /// Polls into it, each after a wake, until one doesn't wait.
+    Read(usize, Sight),
+    /// The same of an idle reader. Where its session is refused, that is printed, and the owner has its text as before and tries once more.
+    Begin(usize, Sight),
+    /// Reads into it to the end, of which all bytes are put into one text, with a `!` for each fault.
+    ReadAll(usize, &'static str),
+    /// A poll for the reader.
+    PollReader(Sight),
+    /// Polls for it, each after a wake, until one doesn't wait.
+    Reader(Sight),
+    /// The text of the owner.
+    Debug(&'static str),
+    /// The owner is dropped.
+    Drop,
+    /// The reader goes on from its stop.
+    GoOn,
+    /// The reader comes to its stop.
+    Stops,
+    /// The reader was dropped, or wasn't.
+    IsGone(bool),
+    /// The reader is dropped before long.
+    Goes,
+    /// So many bytes are the most that the reader was asked for at once.
+    Most(usize),
+    /// The owner's task is woken before long.
+    Wakes,
+    /// Before long no job is queued or runs, and so many workers are there, all idle.
+    Rests(usize),
+}
+
+/// What a poll shows.
+#[derive(Clone, Copy)]
+pub(crate) enum Sight {
+    /// These bytes.
+    Bytes(&'static [u8]),
+    /// A fault of the reader.
+    Fault,
+    /// The reader, which has given so many bytes.
+    After(usize),
+    /// That it waits.
+    Waits,
+}
+
+type Owner<J, H> = Unblock<Planned, (), J, H>;
+
+// An owner, what it shares with its reader, and the task that polls it.
+#[derive(Drop)]
+struct Seen<J: Job, H: Runtime> {
+    owner: Option<Owner<J, H>>,
+    track: Arc<Track>,
+    mock: MockTask,
+}
+
+type Came<T> = Option<Poll<T>>;
+
+impl<J: Job + Carries<ReadJob<Planned, H>>, H: Runtime> Seen<J, H> {
+    // (none where there is no owner any more)
+    fn poll(&mut self, buffer: &mut [u8]) -> Came<Result<usize, IoFault>> {
+        let owner = &mut self.owner;
+        self.mock.enter(|cx| match owner {
+            Some(owner) if !owner.is_closed() => Some(owner.poll_read(cx, buffer)),
+            _ => None,
+        })
+    }
+
+    fn read(&mut self, buffer: &mut [u8]) -> Came<Result<usize, IoFault>> {
+        for _ in 0..WAITS {
+            let came = self.poll(buffer);
+            if !matches!(came, Some(Poll::Pending)) {
+                return came;
+            }
+            if !self.wakes() {
+                return None;
+            }
+        }
+        None
+    }
+
+    // Reads from an idle reader, whose session may be refused once.
+    fn begins<R: AllocGlobal + Print>(
+        &mut self,
+        rt: &R,
+        buffer: &mut [u8],
+    ) -> io::Result<Came<Result<usize, IoFault>>> {
+        let came = self.read(buffer);
+        let Some(Poll::Ready(Err(Fault::Refused(why)))) = &came else {
+            return Ok(came);
+        };
+        println!(rt; "refused: {why}")?;
+        if self.says(rt.alloc(), "Unblock { io: 0 }")? {
+            Ok(self.read(buffer))
+        } else {
+            Ok(None)
+        }
+    }
+
+    // How many bytes the reader gave, once it is there.
+    fn poll_reader(&mut self) -> Came<usize> {
+        let owner = &mut self.owner;
+        self.mock.enter(|cx| match owner {
+            Some(owner) if !owner.is_closed() => Some(match owner.poll_get_mut(cx) {
+                Poll::Ready(reader) => Poll::Ready(reader.given()),
+                Poll::Pending => Poll::Pending,
+            }),
+            _ => None,
+        })
+    }
+
+    fn reader(&mut self) -> Came<usize> {
+        for _ in 0..WAITS {
+            let came = self.poll_reader();
+            if !matches!(came, Some(Poll::Pending)) {
+                return came;
+            }
+            if !self.wakes() {
+                return None;
+            }
+        }
+        None
+    }
+
+    fn wakes(&self) -> bool {
+        for _ in 0..LOOKS {
+            if self.mock.is_woken() {
+                return true;
+            }
+            thread::yield_now();
+        }
+        false
+    }
+
+    // Whether all bytes and faults to the end make this text.
+    fn reads_all(&mut self, alloc: Global, size: usize, wanted: &str) -> io::Result<bool> {
+        let mut buffer = vec![in alloc; 0u8; size]?;
+        let mut text = Vec::new(alloc);
+        for _ in 0..WAITS {
+            match self.read(&mut buffer) {
+                Some(Poll::Ready(Ok(0))) => return Ok(text.as_slice() == wanted.as_bytes()),
+                Some(Poll::Ready(Ok(count))) => {
+                    text.extend_from_slice(buffer.get(..count).unwrap_or(&[]))?;
+                }
+                Some(Poll::Ready(Err(_))) => text.push(b'!')?,
+                _ => return Ok(false),
+            }
+        }
+        Ok(false)
+    }
+
+    fn says(&self, alloc: Global, wanted: &str) -> io::Result<bool> {
+        match &self.owner {
+            Some(owner) => Ok(format!(in alloc; "{owner:?}")?.as_str() == wanted),
+            None => Ok(false),
+        }
+    }
+}
+
+// How often an owner is polled for one step.
+const WAITS: u32 = 1_000;
+
+// Whether that came, with these bytes at the buffer's front.
+fn is_read(came: Came<Result<usize, IoFault>>, buffer: &[u8], sight: Sight) -> bool {
+    match (came, sight) {
+        (Some(Poll::Ready(Ok(count))), Sight::Bytes(bytes)) => buffer.get(..count) == Some(bytes),
+        (Some(Poll::Ready(Err(Fault::Io(_)))), Sight::Fault) => true,
+        (Some(Poll::Pending), Sight::Waits) => true,
+        _ => false,
+    }
+}
+
+fn is_reader(came: Came<usize>, sight: Sight) -> bool {
+    match (came, sight) {
+        (Some(Poll::Ready(given)), Sight::After(wanted)) => given == wanted,
+        (Some(Poll::Pending), Sight::Waits) => true,
+        _ => false,
+    }
+}
+
+// The owners, and what they share.
+#[derive(Drop)]
+struct Scene<J: Job, H: Runtime> {
+    rt: H,
+    executor: Executor<J, H>,
+    owners: Vec<Seen<J, H>>,
+}
+
+impl<J: Job + Carries<ReadJob<Planned, H>>, H: Runtime + RandomSource + Print> Scene<J, H> {
+    // One more owner. No capacity is the default.
+    fn begin(&mut self, capacity: usize, plan: &'static [Given]) -> io::Result<()> {
+        let track = Arc::new(self.rt.alloc(), Track::new())?;
+        let reader = Planned::new(Arc::try_clone(&track)?, plan);
+        let executor = self.executor.try_clone()?;
+        let owner = if capacity > 0 {
+            Unblock::with_capacity(capacity, executor, reader)
+        } else {
+            Unblock::new(executor, reader)
+        };
+        self.owners.push(Seen {
+            owner: Some(owner),
+            track,
+            mock: MockTask::new(&self.rt)?,
+        })?;
+        Ok(())
+    }
+
+    // Whether a step shows what it must.
+    fn take(&mut self, place: usize, step: Step) -> io::Result<bool> {
+        let alloc = self.rt.alloc();
+        if let Step::Rests(workers) = step {
+            return Ok(self.rests(workers));
+        }
+        let Some(seen) = self.owners.get_mut(place) else {
+            return Ok(false);
+        };
+        match step {
+            Step::Poll(size, sight) => {
+                let mut buffer = vec![in alloc; 0u8; size]?;
+                let came = seen.poll(&mut buffer);
+                Ok(is_read(came, &buffer, sight))
+            }
+            Step::Read(size, sight) => {
+                let mut buffer = vec![in alloc; 0u8; size]?;
+                let came = seen.read(&mut buffer);
+                Ok(is_read(came, &buffer, sight))
+            }
+            Step::Begin(size, sight) => {
+                let mut buffer = vec![in alloc; 0u8; size]?;
+                let came = seen.begins(&self.rt, &mut buffer)?;
+                Ok(is_read(came, &buffer, sight))
+            }
+            Step::ReadAll(size, text) => seen.reads_all(alloc, size, text),
+            Step::PollReader(sight) => Ok(is_reader(seen.poll_reader(), sight)),
+            Step::Reader(sight) => Ok(is_reader(seen.reader(), sight)),
+            Step::Debug(text) => seen.says(alloc, text),
+            Step::Drop => {
+                seen.owner = None;
+                Ok(true)
+            }
+            Step::GoOn => {
+                seen.track.go_on();
+                Ok(true)
+            }
+            Step::Stops => Ok(seen.track.stops()),
+            Step::IsGone(wanted) => Ok(seen.track.is_gone() == wanted),
+            Step::Goes => Ok(seen.track.goes()),
+            Step::Most(most) => Ok(seen.track.most() == most),
+            Step::Wakes => Ok(seen.wakes()),
+            Step::Rests(_) => Ok(false),
+        }
+    }
+
+    // Whether there come to be so many workers, all idle, and no job that is queued.
+    fn rests(&self, workers: usize) -> bool {
+        for _ in 0..LOOKS {
+            let counts = self.executor.counts();
+            if counts.queued == 0 && counts.idle == counts.workers && counts.workers == workers {
+                return true;
+            }
+            thread::yield_now();
+        }
+        false
+    }
+
+    // The place of the first step that shows something else, if there is one.
+    fn first_wrong(&mut self, steps: &[(usize, Step)]) -> io::Result<Option<usize>> {
+        for (place, (owner, step)) in steps.iter().enumerate() {
+            if !self.take(*owner, *step)? {
+                return Ok(Some(place));
+            }
+        }
+        Ok(None)
+    }
+}
+
+/// A scene. Each step names its owner, by the place of the owner's plan.
+pub(crate) struct Row {
+    pub name: &'static str,
+    /// How many bytes the pipe of a session holds; none stands for the default.
+    pub capacity: usize,
+    pub plans: &'static [&'static [Given]],
+    pub steps: &'static [(usize, Step)],
+}
+
+/// The place of the first step of a scene that shows something else than it must, if there is one.
+pub(crate) fn first_wrong<H: Host + Print>(rt: H, row: &Row) -> io::Result<Option<usize>> {
+    let Ok(executor) = Executor::<ReadJob<Planned, H>, H>::new(rt, Some("1")) else {
+        return Err(io::Error::from(io::ErrorKind::Other));
+    };
+    let mut scene = Scene {
+        rt,
+        executor,
+        owners: Vec::new(rt.alloc()),
+    };
+    for plan in row.plans {
+        scene.begin(row.capacity, plan)?;
+    }
+    scene.first_wrong(row.steps)
+}
