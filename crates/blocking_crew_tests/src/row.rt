@@ -10,16 +10,31 @@ use std::marker::Brand;
 use std::sync::ledger::{Blank, Ledger};
 use std::test::Fail;
 
+// What a job does in its turn.
+#[derive(Clone, Copy)]
+pub(crate) enum JobAct {
+    Parks,
+    // with nobody in its holder's seat
+    GivesUp,
+}
+
+impl JobAct {
+    // (a row of data can't hold an act, which may carry bytes)
+    fn seen(self) -> Act {
+        match self {
+            JobAct::Parks => Act::JobParked,
+            JobAct::GivesUp => Act::GaveUp(HolderWaker::Absent),
+        }
+    }
+}
+
 // A call of a crew. Jobs are named by the order in which they were accepted, from 0.
 #[derive(Clone, Copy)]
 pub(crate) enum Step {
     Add,
     Arrive,
     Take(usize),
-    // the job in a worker's hand finds that it has to wait
-    JobParks(usize),
-    // it gives up, with nobody to wake
-    JobGivesUp(usize),
+    Work(usize, JobAct),
     End(usize),
     // whether the job's holder let it go
     Park(usize, bool),
@@ -67,8 +82,7 @@ fn call<S: Starter>(
         }
         Step::Arrive => crew.arrive()?,
         Step::Take(worker) => crew.take(worker, starter),
-        Step::JobParks(worker) => crew.work(worker, Act::JobParked),
-        Step::JobGivesUp(worker) => crew.work(worker, Act::GaveUp(HolderWaker::Absent)),
+        Step::Work(worker, act) => crew.work(worker, act.seen()),
         Step::End(worker) => crew.end(worker),
         Step::Park(worker, is_marked) => crew.park(worker, Ticket { is_marked }),
         Step::Wait(worker, end) => crew.wait(worker, end, starter),

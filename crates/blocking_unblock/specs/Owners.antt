@@ -3,6 +3,9 @@ use Rattle.std.specs.Prelude.{◌≡◌, ◌<◌, ◌≤◌, ℕ, Bool, true, fa
 use Rattle.blocking_core.specs.OwnerCalls.{OwnerMachine, new_poll, owner_next, owner_after}
 use Rattle.blocking_core.specs.declared.io.Fault.{Fault}
 use Rattle.blocking_core.specs.declared.io.Fault.TheVariants as fault
+use Rattle.blocking_core.specs.declared.pipe.Drained.{Drained}
+use Rattle.blocking_core.specs.declared.pipe.Drained.TheVariants as drained
+use Rattle.blocking_pool.specs.declared.pool.token.WakeNote.{WakeNote}
 use Rattle.blocking_core.specs.declared.unblock.PollCall.{PollCall}
 use Rattle.blocking_core.specs.declared.unblock.PollCall.TheVariants.{Read, GetMut}
 use Rattle.blocking_core.specs.declared.unblock.State.{State}
@@ -24,6 +27,12 @@ abbrev pub has : {A : Type 0} → Option A → Bool
 has (Some value) = true
 has None = false
 
+-- the note of the job that comes with a drain
+abbrev pub note_of_drain : Drained → Option WakeNote
+note_of_drain (drained.Got count note) = note
+note_of_drain drained.Ended = None
+note_of_drain (drained.Waits seat) = None
+
 -- how many bytes a call may bring
 abbrev pub wanted : PollCall → ℕ
 wanted (Read most) = most
@@ -43,6 +52,13 @@ module _ {T H : Type 0} where
   IsAt _ _ = ⊥
 
 module _ {E : Type 0} where
+  -- A fault that a job gives back with its handle: its handle's own, or that a write got nothing on. It is no refusal.
+  abbrev pub IsOfJob : Option (Fault E) → Type 0
+  IsOfJob None = Unit {0}
+  IsOfJob (Some (fault.Io error)) = Unit {0}
+  IsOfJob (Some fault.WriteZero) = Unit {0}
+  IsOfJob (Some (fault.Refused why)) = ⊥
+
   -- This is an answer to that action: what comes out of a pipe is a byte at least, and no more than was asked for.
   abbrev pub AnswersTo : OwnerAction E → OwnerAnswer E → Type 0
   AnswersTo act.Begin by.Begun = Unit {0}
@@ -52,7 +68,7 @@ module _ {E : Type 0} where
   AnswersTo (act.Drain most) by.Ended = Unit {0}
   AnswersTo (act.Drain most) (by.Waits seat) = Unit {0}
   AnswersTo act.PollSlot (by.Waits seat) = Unit {0}
-  AnswersTo act.PollSlot (by.Back why) = Unit {0}
+  AnswersTo act.PollSlot (by.Back why) = IsOfJob why
   AnswersTo act.Deliver by.Delivered = Unit {0}
   AnswersTo _ _ = ⊥
 
@@ -68,6 +84,17 @@ module _ {E : Type 0} where
   abbrev pub EndsWith : OwnerMachine E → Poll (Reply E) → Type 0
   EndsWith end (Ready reply) = owner_next end ≡ act.Reply reply
   EndsWith end Pending = owner_next end ≡ act.Pending
+
+  -- what holds where no session could begin
+  abbrev pub IfRefused : Poll (Reply E) → Type 0 → Type 0
+  IfRefused (Ready (Failed (fault.Refused why))) P = P
+  IfRefused _ P = Unit {0}
+
+  -- what a drain means to the machine: what came out and whether there is a note, the end, or that the owner waits
+  abbrev pub answer_of_drain : Drained → OwnerAnswer E
+  answer_of_drain (drained.Got count note) = by.Got count (has note)
+  answer_of_drain drained.Ended = by.Ended
+  answer_of_drain (drained.Waits seat) = by.Waits seat
 
   -- what a read answers, as a reply
   abbrev pub reply_of_read : Poll (Result ℕ (Fault E)) → Poll (Reply E)
@@ -86,8 +113,3 @@ abbrev pub Follows : {T H E : Type 0} → PollCall → Place T H → Poll (Reply
 Follows {T} {H} {E} call old reply new =
     (begins : State) × IsAt begins old
     × (end : OwnerMachine E) × Reaches (new_poll call begins) end × EndsWith end reply × IsAt end.state new
-
--- The handle stays with its owner where no session could begin: it is the one that was there.
-abbrev pub IfRefused : {E : Type 0} → Poll (Result ℕ (Fault E)) → Type 0 → Type 0
-IfRefused (Ready (Err (fault.Refused why))) P = P
-IfRefused _ P = Unit {0}

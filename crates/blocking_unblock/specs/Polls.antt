@@ -1,6 +1,7 @@
 -- What holds of the machine of a poll between two actions. No public clause cites this file.
-use Rattle.std.specs.Prelude.{◌≡◌, ◌<◌, ◌≤◌, ℕ, Bool, false}
+use Rattle.std.specs.Prelude.{◌≡◌, ◌<◌, ◌≤◌, ℕ, Bool, true, false}
 use Rattle.blocking_core.specs.OwnerCalls.{OwnerMachine}
+use Rattle.blocking_core.specs.declared.io.Fault.TheVariants as fault
 use Rattle.blocking_core.specs.declared.unblock.PollCall.{PollCall}
 use Rattle.blocking_core.specs.declared.unblock.PollCall.TheVariants.{Read, GetMut}
 use Rattle.blocking_core.specs.declared.unblock.OwnerEnd.{OwnerEnd}
@@ -13,7 +14,7 @@ use Rattle.blocking_core.specs.declared.unblock.OwnerAction.{OwnerAction}
 use Rattle.blocking_core.specs.declared.unblock.OwnerAction.TheVariants as act
 use Rattle.blocking_core.specs.declared.unblock.OwnerAnswer.{OwnerAnswer}
 use Rattle.blocking_core.specs.declared.unblock.OwnerAnswer.TheVariants as by
-use Rattle.blocking_unblock.specs.Owners.{IsAt}
+use Rattle.blocking_unblock.specs.Owners.{IsAt, IsOfJob}
 use Rattle.blocking_unblock.specs.declared.unblock.Place.{Place}
 
 -- it wants some bytes
@@ -74,5 +75,14 @@ Does (act.Drain most) old (by.Got count noted) has_note new armed = (noted ≡ h
 Does (act.Drain most) old by.Ended false new armed = IsAt (Reading Open) new
 Does (act.Drain most) old (by.Waits seat) false new armed = IsAt (Reading Open) new × armed
 Does act.PollSlot old (by.Waits seat) false new armed = ((end : OwnerEnd) → IsAt (Reading end) old → IsAt (Reading end) new) × armed
-Does act.PollSlot old (by.Back why) false new armed = IsAt Idle new
+Does act.PollSlot old (by.Back why) false new armed = IsAt Idle new × IsOfJob why
 Does _ _ _ _ _ _ = ⊥
+
+-- What a read that began with an idle handle keeps: the handle is as it was where a session is to begin or was refused, and a session
+-- gives it back at its end alone, after which no other begins.
+abbrev pub KeepsFirst : {T H E : Type 0} → OwnerAction E → Bool → Place T H → Place T H → Type 0
+KeepsFirst act.Begin at_end place first = place ≡ first
+KeepsFirst act.Close at_end place first = ⊥
+KeepsFirst act.PollSlot at_end place first = at_end ≡ true
+KeepsFirst (act.Reply (Failed (fault.Refused why))) at_end place first = place ≡ first
+KeepsFirst _ at_end place first = Unit {0}

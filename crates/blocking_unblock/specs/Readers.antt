@@ -1,6 +1,6 @@
 -- What contracts see of a reading job, and what each of its steps does.
-use Rattle.std.specs.Prelude.{◌≡◌, ◌<◌, ◌≤◌, ℕ, Bool, Option, Some, None, refl}
-use Rattle.std.specs.Coded.{Coded, code_by, coded×, coded_bool, coded_option}
+use Rattle.std.specs.Prelude.{◌+◌, ◌≡◌, ◌<◌, ◌≤◌, ℕ, Bool, Option, Some, None, refl}
+use Rattle.std.specs.Coded.{Coded, code_by, coded×, coded_bool, coded_ℕ, coded_option}
 use Rattle.blocking_core.specs.Machines.{Machine}
 use Rattle.blocking_core.specs.Reading.{read_next, read_after}
 use Rattle.blocking_core.specs.declared.job.read.ReadAction.{ReadAction}
@@ -11,16 +11,17 @@ use Rattle.blocking_core.specs.contracts.job.read.ReadAction.{the_row}
 use Rattle.blocking_pool.specs.declared.pool.job.JobStep.{JobStep}
 use Rattle.blocking_pool.specs.declared.pool.job.JobStep.TheVariants as step
 
--- a reading job: what it does next, and its reader until that is given back
+-- a reading job: what it does next, its reader until that is given back, and how many bytes it has sent
 pub record ReadSeen (T : Type 0) : Type 0 where
   pub core : Machine ReadAction
   pub reader : Option T
+  pub sent : ℕ
 
 abbrev pub read_code : {T : Type 0} → Coded T → Coded (ReadSeen T)
 read_code {T} code =
-    code_by (ReadAction × (Bool × Option T)) (coded× the_row.coded (coded× coded_bool (coded_option code)))
-    (λ seen. (seen.core.next, (seen.core.is_waking, seen.reader)))
-    (λ parts. record { core = record { next = parts.0; is_waking = parts.1.0 }; reader = parts.1.1 }) (λ _. refl)
+    code_by (ReadAction × (Bool × (Option T × ℕ))) (coded× the_row.coded (coded× coded_bool (coded× (coded_option code) coded_ℕ)))
+    (λ seen. (seen.core.next, (seen.core.is_waking, (seen.reader, seen.sent))))
+    (λ parts. record { core = record { next = parts.0; is_waking = parts.1.0 }; reader = parts.1.1.0; sent = parts.1.1.1 }) (λ _. refl)
 
 -- this is an answer to that action: room for one byte at least, and no more bytes than were asked for
 abbrev pub Answers : ReadAction → ReadAnswer → Type 0
@@ -42,18 +43,25 @@ told_by by.Parked next = step.Waiting
 told_by answer Done = step.Done
 told_by answer next = step.Again
 
--- the machine got one answer, to the action that was next
-abbrev pub OneAnswer : ReadAction → Machine ReadAction → Machine ReadAction → JobStep → Type 0
-OneAnswer action old new told =
-    (answer : ReadAnswer) × (new ≡ read_after old answer) × Answers action answer × (told ≡ told_by answer (read_next new))
+-- how many bytes an answer to an action means to be sent
+abbrev pub sent_by : ReadAction → ReadAnswer → ℕ
+sent_by (Put count) (by.Put woke) = count
+sent_by action answer = 0
 
--- What one step does: the machine gets one answer, to the action that was next; a job that is over does nothing.
-abbrev pub IsSteppedBy : ReadAction → Machine ReadAction → Machine ReadAction → JobStep → Type 0
-IsSteppedBy Done old new told = (new ≡ old) × (told ≡ step.Done)
-IsSteppedBy action old new told = OneAnswer action old new told
+module _ {T : Type 0} where
+  -- the machine got one answer, to the action that was next, and what it says was put is what was sent
+  abbrev pub OneAnswer : ReadAction → ReadSeen T → ReadSeen T → JobStep → Type 0
+  OneAnswer action old new told =
+      (answer : ReadAnswer) × (new.core ≡ read_after old.core answer) × Answers action answer
+      × (new.sent ≡ old.sent + sent_by action answer) × (told ≡ told_by answer (read_next new.core))
 
-abbrev pub IsStepped : Machine ReadAction → Machine ReadAction → JobStep → Type 0
-IsStepped old new told = IsSteppedBy (read_next old) old new told
+  -- What one step does: the machine gets one answer, to the action that was next; a job that is over does nothing.
+  abbrev pub IsSteppedBy : ReadAction → ReadSeen T → ReadSeen T → JobStep → Type 0
+  IsSteppedBy Done old new told = (new ≡ old) × (told ≡ step.Done)
+  IsSteppedBy action old new told = OneAnswer action old new told
+
+  abbrev pub IsStepped : ReadSeen T → ReadSeen T → JobStep → Type 0
+  IsStepped old new told = IsSteppedBy (read_next old.core) old new told
 
 -- The job has what its next action is about: its reader until that is given back, room that was told for what it reads or puts,
 -- and a piece that holds it. room is what was told and not used since, piece how many bytes its own piece holds.

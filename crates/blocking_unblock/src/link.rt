@@ -1,8 +1,8 @@
 //! What the owner of a lent handle and its job share beside the pipe: the slot in which the handle comes back, under its lock, and
 //! the mark of a session whose owner is gone.
-use crate::io::IoFault;
 use blocking_core::task::{Looked, Put, Slot, Slotted};
 use futures::task::Waker;
+use std::io;
 use std::sync::atomic::{AtomicBool, Ordering};
 use std::sync::{Mutex, Wait};
 
@@ -13,7 +13,7 @@ pub(crate) type OwnerWaker = Option<Waker>;
 #[derive(Drop)]
 pub(crate) struct Returned<T: Drop> {
     pub handle: T,
-    pub fault: Option<IoFault>,
+    pub fault: Option<io::Error>,
 }
 
 /// What the owner and the job share. Each method that takes the slot's lock makes one call of the slot under it.

@@ -3,9 +3,7 @@ ghost use Rattle.std.specs.Prelude.{◌≡◌, ◌<◌, ◌≤◌, length, None,
 ghost use Rattle.blocking_core.specs.declared.job.read.ReadAction.TheVariants.{FindRoom, Read as ReadPiece, Put as PutPiece, Close, Finish, Deliver};
 ghost use Rattle.blocking_core.specs.Reading.{new_read, read_next};
 
-use crate::io::IoFault;
 use crate::link::{Link, OwnerWaker, Returned};
-use blocking_core::io::Fault;
 use blocking_core::job::{ReadAction, ReadAnswer, ReadCore};
 use blocking_core::pipe::{Put, Room};
 use blocking_core::pool::{Carries, Job, JobNo, JobStep};
@@ -24,7 +22,7 @@ pub struct ReadJob<T: Drop, H: Wait + Copy> {
     core: ReadCore,
     // The reader, until it is given back.
     reader: Option<T>,
-    fault: Option<IoFault>,
+    fault: Option<io::Error>,
     // Where a piece stands between the reader and the pipe.
     piece: Vec<u8>,
     end: SendEnd<u8, AnyPlace, H>,
@@ -42,7 +40,7 @@ impl<T: Drop, H: Wait + Copy> Model for ReadJob<T, H> {
 
     ghost coded = { read_code T.code };
 
-    ghost view = { λ j. record { core = j.core; reader = j.reader } };
+    ghost view = { λ j. record { core = j.core; reader = j.reader; sent = j.end.sent } };
 
     ghost invariant = { λ j. (0 < vec_len j.piece) × Fits j.core.next j.end.free (vec_len j.piece) j.reader };
 }
@@ -68,7 +66,7 @@ impl<T: Drop, H: Wait + Copy> ReadJob<T, H> {
         link: Arc<Link<T>>,
     ) -> ReadJob<T, H>
         requires { 0 < vec_len piece }
-        ensures { result ≡ record { core = new_read; reader = Some reader } }
+        ensures { result ≡ record { core = new_read; reader = Some reader; sent = end.sent } }
     {
         ReadJob {
             core: ReadCore::new(),
@@ -101,12 +99,12 @@ impl<T: Drop, H: Wait + Copy> ReadJob<T, H> {
 
     fn find_room(&mut self, me: JobNo) -> JobStep
         requires { read_next self.old.core ≡ FindRoom }
-        ensures { IsSteppedBy FindRoom self.old.core self.new.core result }
+        ensures { IsSteppedBy FindRoom self.old self.new result }
     {
         match self.end.room_or_seat(me) {
             Room::Free(room) => {
-                self.core
-                    .answer(ReadAnswer::Free(room.min(self.piece.len())));
+                let free = room.min(self.piece.len());
+                self.core.answer(ReadAnswer::Free(free));
                 JobStep::Again
             }
             Room::Parked => {
@@ -122,7 +120,7 @@ impl<T: Drop, H: Wait + Copy> ReadJob<T, H> {
 
     fn put(&mut self, count: usize) -> JobStep
         requires { read_next self.old.core ≡ PutPiece count }
-        ensures { IsSteppedBy (PutPiece count) self.old.core self.new.core result }
+        ensures { IsSteppedBy (PutPiece count) self.old self.new result }
     {
         match self.end.put(&self.piece[..count]) {
             Put::In(seat) => {
@@ -137,7 +135,7 @@ impl<T: Drop, H: Wait + Copy> ReadJob<T, H> {
 
     fn close(&mut self) -> JobStep
         requires { read_next self.old.core ≡ Close }
-        ensures { IsSteppedBy Close self.old.core self.new.core result }
+        ensures { IsSteppedBy Close self.old self.new result }
     {
         let seat = self.end.close();
         let woke = seat.is_some();
@@ -148,13 +146,14 @@ impl<T: Drop, H: Wait + Copy> ReadJob<T, H> {
 
     fn finish(&mut self) -> JobStep
         requires { read_next self.old.core ≡ Finish }
-        ensures { IsSteppedBy Finish self.old.core self.new.core result }
+        ensures { IsSteppedBy Finish self.old self.new result }
     {
         let Some(handle) = self.reader.take() else {
             unreachable!()
         };
         let fault = self.fault.take();
-        let task::Put { back, wake } = self.link.put(&self.rt, Returned { handle, fault });
+        let returned = Returned { handle, fault };
+        let task::Put { back, wake } = self.link.put(&self.rt, returned);
         // (a reader that nobody wants is dropped under no lock)
         drop(back);
         let woke = wake.is_some();
@@ -165,7 +164,7 @@ impl<T: Drop, H: Wait + Copy> ReadJob<T, H> {
 
     fn deliver(&mut self) -> JobStep
         requires { read_next self.old.core ≡ Deliver }
-        ensures { IsSteppedBy Deliver self.old.core self.new.core result }
+        ensures { IsSteppedBy Deliver self.old self.new result }
     {
         if let Some(waker) = self.waker.take() {
             waker.wake();
@@ -183,7 +182,7 @@ impl<T: Read + Drop, H: Wait + Copy> ReadJob<T, H> {
 
     fn read(&mut self, most: usize) -> JobStep
         requires { read_next self.old.core ≡ ReadPiece most }
-        ensures { IsSteppedBy (ReadPiece most) self.old.core self.new.core result }
+        ensures { IsSteppedBy (ReadPiece most) self.old self.new result }
     {
         let Some(reader) = &mut self.reader else {
             unreachable!()
@@ -191,7 +190,7 @@ impl<T: Read + Drop, H: Wait + Copy> ReadJob<T, H> {
         match ask(reader, self.piece.as_mut_slice(), most) {
             Ok(count) => self.core.answer(ReadAnswer::Gave(count)),
             Err(error) => {
-                self.fault = Some(Fault::Io(error));
+                self.fault = Some(error);
                 self.core.answer(ReadAnswer::Failed);
             }
         }
@@ -249,7 +248,7 @@ impl<T: Read + Drop, H: Wait + Copy> Job for ReadJob<T, H> {
     ghost may_answer = { λ _ _. Unit {0} };
 
     fn step(&mut self, me: JobNo) -> JobStep
-        ensures { IsStepped self.old.core self.new.core result }
+        ensures { IsStepped self.old self.new result }
     {
         match self.core.next() {
             ReadAction::FindRoom => self.find_room(me),

@@ -2,6 +2,7 @@
 ghost use Rattle.std.specs.Prelude.{◌≡◌, ◌<◌, ◌≤◌, length, vec_len, IfOk, OnErr};
 ghost use Rattle.futures.specs.Task.{IsArmed, Keeps};
 ghost use Rattle.blocking_core.specs.declared.unblock.OwnerEnd.TheVariants.{Open, Shut};
+ghost use Rattle.blocking_unblock.specs.Owners.{answer_of_drain, note_of_drain};
 ghost use Rattle.blocking_ends.specs.Answers.{IfDrained, OnDrainsWait};
 
 use crate::link::{Link, OwnerWaker, Returned};
@@ -9,10 +10,11 @@ use blocking_core::job::PIECE;
 use blocking_core::pipe::Drained;
 use blocking_core::pool::WakeNote;
 use blocking_core::task::{Looked, Seat, Slotted};
-use blocking_core::unblock::OwnerEnd;
+use blocking_core::unblock::{OwnerAnswer, OwnerEnd};
 use blocking_ends::{AnyPlace, RecvEnd, SendEnd, link};
 use futures::task::{Context, Poll, Source};
 use std::alloc::{AllocError, AllocGlobal};
+use std::io;
 use std::sync::{Arc, Wait};
 
 /// A session: the owner's end of the pipe, and what it shares with the job beside that.
@@ -114,5 +116,20 @@ impl<T: Drop, H: Wait + AllocGlobal + Copy> Parts<T, H> {
             job_link,
             piece,
         })
+    }
+}
+
+// What a drain means to the machine, and the note of the job that came with it.
+pub(crate) fn told_of_drain(drained: Drained) -> (OwnerAnswer<io::Error>, Option<WakeNote>)
+    ensures answer { result.0 ≡ answer_of_drain drained }
+    ensures note { result.1 ≡ note_of_drain drained }
+{
+    match drained {
+        Drained::Got(count, note) => {
+            let has_note = note.is_some();
+            (OwnerAnswer::Got { count, has_note }, note)
+        }
+        Drained::Ended => (OwnerAnswer::Ended, None),
+        Drained::Waits(seat) => (OwnerAnswer::Waits(seat), None),
     }
 }

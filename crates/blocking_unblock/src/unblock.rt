@@ -6,8 +6,9 @@ ghost use Rattle.futures.specs.Task.{IsArmed, Keeps};
 use crate::io::{AsyncRead, IoFault};
 use crate::link::Returned;
 use crate::read_job::ReadJob;
-use crate::session::{Parts, Session};
-use blocking_core::pipe::{DEFAULT_BYTES, Drained};
+use crate::session::{Parts, Session, told_of_drain};
+use blocking_core::io::Fault;
+use blocking_core::pipe::DEFAULT_BYTES;
 use blocking_core::pool::{Carries, Job, Refusal, Refused, WakeNote};
 use blocking_core::unblock::{
     OwnerAction, OwnerAnswer, OwnerCall, OwnerEnd, PollCall, Reply, State,
@@ -126,13 +127,13 @@ impl<T: Debug + Drop, I: Drop, J: Job, H: Runtime> Debug for Unblock<T, I, J, H>
 
 // What a poll does with the handle, one action each.
 impl<T: Read + Drop, I: Drop, J: Job + Carries<ReadJob<T, H>>, H: Runtime> Unblock<T, I, J, H> {
-    ghost use Rattle.blocking_core.specs.declared.unblock.PollCall.TheVariants.{GetMut as GetMutCall};
+    ghost use Rattle.blocking_core.specs.declared.unblock.PollCall.TheVariants.{GetMut as GetMutCall, Read as ReadCall};
     ghost use Rattle.blocking_unblock.specs.declared.unblock.Place.TheVariants.{Idle as AtOwner};
     ghost use Rattle.blocking_core.specs.declared.unblock.OwnerEnd.TheVariants.{Open};
     ghost use Rattle.blocking_core.specs.declared.unblock.State.TheVariants.{Idle, Reading};
     ghost use Rattle.blocking_core.specs.declared.unblock.OwnerAction.TheVariants.{Begin as BeginAction, Close as CloseAction, Drain as DrainAction, PollSlot as SlotAction};
-    ghost use Rattle.blocking_unblock.specs.Owners.{IsClosed, IsAt, Reaches, Follows, has, reply_of_get, wanted};
-    ghost use Rattle.blocking_unblock.specs.Polls.{CanDo, Does, FitsReply, Stands, IsGoing, IfWaits};
+    ghost use Rattle.blocking_unblock.specs.Owners.{IsClosed, IsAt, Reaches, Follows, IfRefused, has, reply_of_get, wanted};
+    ghost use Rattle.blocking_unblock.specs.Polls.{CanDo, Does, FitsReply, Stands, IsGoing, IfWaits, KeepsFirst};
 
     // Adds a job, which comes back where it is refused.
     fn enter(&self, job: ReadJob<T, H>) -> Result<(), Refused<ReadJob<T, H>>>
@@ -219,14 +220,7 @@ impl<T: Read + Drop, I: Drop, J: Job + Carries<ReadJob<T, H>>, H: Runtime> Unblo
         let Place::Lent(session) = &mut self.place else {
             unreachable!()
         };
-        match session.drain(cx, out) {
-            Drained::Got(count, note) => {
-                let has_note = note.is_some();
-                (OwnerAnswer::Got { count, has_note }, note)
-            }
-            Drained::Ended => (OwnerAnswer::Ended, None),
-            Drained::Waits(seat) => (OwnerAnswer::Waits(seat), None),
-        }
+        told_of_drain(session.drain(cx, out))
     }
 
     fn poll_slot(&mut self, cx: &mut Context<'_>) -> OwnerAnswer<io::Error>
@@ -241,7 +235,10 @@ impl<T: Read + Drop, I: Drop, J: Job + Carries<ReadJob<T, H>>, H: Runtime> Unblo
             Ok(returned) => {
                 let Returned { handle, fault } = returned;
                 self.place = Place::Idle(handle);
-                OwnerAnswer::Back(fault)
+                OwnerAnswer::Back(match fault {
+                    Some(error) => Some(Fault::Io(error)),
+                    None => None,
+                })
             }
             Err(seat) => OwnerAnswer::Waits(seat),
         }
@@ -278,6 +275,9 @@ impl<T: Read + Drop, I: Drop, J: Job + Carries<ReadJob<T, H>>, H: Runtime> Unblo
         ensures reaches { Reaches poll.old poll.new }
         ensures waits { IfWaits poll.new.next (IsArmed cx.new) }
         ensures call_same { poll.new.call ≡ poll.old.call }
+        ensures keeps { (first : _) (most : _) → poll.old.call ≡ ReadCall most
+            → KeepsFirst poll.old.next poll.old.is_at_end self.old.place first
+            → KeepsFirst poll.new.next poll.new.is_at_end self.new.place first }
         ensures kept { Keeps cx.old cx.new }
         ensures same_length { length out.new ≡ length out.old }
     {
@@ -299,6 +299,8 @@ impl<T: Read + Drop, I: Drop, J: Job + Carries<ReadJob<T, H>>, H: Runtime> Unblo
         requires open { IsClosed self.old.place → ⊥ }
         requires wants { wanted call ≡ length out.old }
         ensures follows { Follows call self.old.place result self.new.place }
+        ensures refused { (most : _) → call ≡ ReadCall most → IsAt Idle self.old.place
+            → IfRefused result (self.new.place ≡ self.old.place) }
         ensures fits { IfReady result (λ reply. (state : _) × IsAt state self.new.place × FitsReply call state reply) }
         ensures armed { OnPending result (IsArmed cx.new) }
         ensures kept { Keeps cx.old cx.new }
@@ -340,12 +342,15 @@ impl<T: Read + Drop, I: Drop, J: Job + Carries<ReadJob<T, H>>, H: Runtime> Unblo
 impl<T: Read + Drop, I: Drop, J: Job + Carries<ReadJob<T, H>>, H: Runtime> AsyncRead
     for Unblock<T, I, J, H> {
     ghost use Rattle.blocking_core.specs.declared.unblock.PollCall.TheVariants.{Read as ReadCall};
-    ghost use Rattle.blocking_unblock.specs.Owners.{IsClosed, Follows, IfRefused, reply_of_read};
+    ghost use Rattle.blocking_core.specs.declared.unblock.State.TheVariants.{Idle};
+    ghost use Rattle.blocking_unblock.specs.Owners.{IsAt, IsClosed, Follows, IfRefused, reply_of_read};
 
     ghost closed = { λ owner. IsClosed owner.place };
 
     fn poll_read(&mut self, cx: &mut Context<'_>, buf: &mut [u8]) -> Poll<Result<usize, IoFault>>
         requires { IsClosed self.old.place → ⊥ }
+        ensures refused { IsAt Idle self.old.place
+            → IfRefused (reply_of_read result) (self.new.place ≡ self.old.place) }
         ensures follows { Follows (ReadCall (length buf.old)) self.old.place (reply_of_read result) self.new.place }
         ensures open { IsClosed self.new.place → ⊥ }
         ensures count { IfReady result (λ r. IfOk r (λ n. n ≤ length buf.old)) }

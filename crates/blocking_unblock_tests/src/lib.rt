@@ -12,3 +12,5 @@ mod rows;
 mod scene;
 #[cfg(test)]
 mod whole;
+#[cfg(test)]
+mod whole_reads;

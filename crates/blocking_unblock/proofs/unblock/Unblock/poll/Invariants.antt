@@ -1,7 +1,9 @@
-use Rattle.std.proofs.Common.{◌≡◌, length}
+use Rattle.std.proofs.Common.{◌≡◌, ℕ, length}
+use Rattle.blocking_core.specs.declared.unblock.PollCall.TheVariants.{Read}
+use Rattle.blocking_core.specs.declared.unblock.State.TheVariants.{Idle}
 use Rattle.futures.specs.Task.{IsArmed, Keeps}
-use Rattle.blocking_unblock.specs.Owners.{Reaches}
-use Rattle.blocking_unblock.specs.Polls.{Stands, IfWaits}
+use Rattle.blocking_unblock.specs.Owners.{IsAt, Reaches}
+use Rattle.blocking_unblock.specs.Polls.{Stands, IfWaits, KeepsFirst}
 use Rattle.blocking_unblock.proofs.unblock.Unblock.poll.Given as goal
 
 abbrev pub invariant-loop : goal.invariant-loop
@@ -13,3 +15,5 @@ invariant-loop g l =
     × IfWaits l.poll.next (IsArmed l.cx)
     × Keeps l.initial.cx l.cx
     × (length l.out ≡ length l.initial.out)
+    × ((most : ℕ) → l.initial.poll.call ≡ Read most → IsAt Idle l.initial.self.place
+    → KeepsFirst l.poll.next l.poll.is_at_end l.self.place l.initial.self.place)

@@ -17,3 +17,11 @@ returns-in_default-clause-stands g c =
 pub returns-in_default-clause-reaches : goal.returns-in_default-clause-reaches
 returns-in_default-clause-reaches g c =
     (turned_plain (IsArmed c.act-answer.new.cx) _ _ _ _ _ _ _ c.requires.stands c.next.ensures c.act-answer.ensures.does c.in_default.is c.answer.ensures).reaches
+
+pub returns-in-Some-clause-keeps : goal.returns-in-Some-clause-keeps
+returns-in-Some-clause-keeps g c =
+    (turned_noted (IsArmed c.act-answer.new.cx) _ _ _ _ _ _ _ _ _ c.requires.stands c.next.ensures c.act-answer.ensures.does c.in-Some.is c.answer.ensures c.answer-in-Some.ensures).keeps
+
+pub returns-in_default-clause-keeps : goal.returns-in_default-clause-keeps
+returns-in_default-clause-keeps g c =
+    (turned_plain (IsArmed c.act-answer.new.cx) _ _ _ _ _ _ _ c.requires.stands c.next.ensures c.act-answer.ensures.does c.in_default.is c.answer.ensures).keeps
