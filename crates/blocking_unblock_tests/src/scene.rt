@@ -303,6 +303,19 @@ pub(crate) fn first_wrong<H: Host + Print>(rt: H, row: &Row) -> io::Result<Optio
     let Ok(executor) = Executor::<ReadJob<Planned, H>, H>::new(rt, Some("1")) else {
         return Err(io::Error::from(io::ErrorKind::Other));
     };
+    first_wrong_in(rt, executor, row)
+}
+
+/// The same, over this executor.
+pub(crate) fn first_wrong_in<J, H>(
+    rt: H,
+    executor: Executor<J, H>,
+    row: &Row,
+) -> io::Result<Option<usize>>
+where
+    J: Job + Carries<ReadJob<Planned, H>>,
+    H: Runtime + RandomSource + Print,
+{
     let mut scene = Scene {
         rt,
         executor,
