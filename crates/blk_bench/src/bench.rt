@@ -4,6 +4,7 @@ use crate::ends::Ends;
 use crate::figures::{Figures, Request};
 use crate::pipe;
 use crate::reads::Reads;
+use crate::writes::Writes;
 use blocking::Host;
 use std::io;
 
@@ -14,10 +15,11 @@ pub(crate) enum Bench {
     Pipe,
     Ends(Ends),
     Reads(Reads),
+    Writes(Writes),
 }
 
 impl Bench {
-    pub(crate) const ALL: [Bench; 15] = [
+    pub(crate) const ALL: [Bench; 22] = [
         Bench::Calls(Calls::Roundtrip),
         Bench::Calls(Calls::RoundtripAwait),
         Bench::Calls(Calls::Burst),
@@ -33,6 +35,13 @@ impl Bench {
         Bench::Reads(Reads::LongBy64K),
         Bench::Reads(Reads::LongBy4K),
         Bench::Reads(Reads::File),
+        Bench::Writes(Writes::Short),
+        Bench::Writes(Writes::ShortBy64K),
+        Bench::Writes(Writes::ShortBy4K),
+        Bench::Writes(Writes::Long),
+        Bench::Writes(Writes::LongBy64K),
+        Bench::Writes(Writes::LongBy4K),
+        Bench::Writes(Writes::Growing),
     ];
 
     pub(crate) fn name(self) -> &'static str {
@@ -41,6 +50,7 @@ impl Bench {
             Bench::Pipe => "pipe",
             Bench::Ends(ends) => ends.name(),
             Bench::Reads(reads) => reads.name(),
+            Bench::Writes(writes) => writes.name(),
         }
     }
 
@@ -58,7 +68,7 @@ impl Bench {
             Bench::Calls(calls) => calls.unit(),
             Bench::Pipe => "MB/s",
             Bench::Ends(ends) => ends.unit(),
-            Bench::Reads(_) => "MB/s",
+            Bench::Reads(_) | Bench::Writes(_) => "MB/s",
         }
     }
 
@@ -68,6 +78,7 @@ impl Bench {
             Bench::Pipe => 200_000_000,
             Bench::Ends(ends) => ends.size(),
             Bench::Reads(reads) => reads.size(),
+            Bench::Writes(writes) => writes.size(),
         }
     }
 
@@ -85,6 +96,7 @@ impl Bench {
             Bench::Pipe => pipe::run(rt, request, figures),
             Bench::Ends(ends) => ends.run(rt, host, request, figures),
             Bench::Reads(reads) => reads.run(rt, host, request, figures),
+            Bench::Writes(writes) => writes.run(rt, host, request, figures),
         }
     }
 }

@@ -9,6 +9,7 @@ mod ends;
 mod figures;
 mod pipe;
 mod reads;
+mod writes;
 
 use crate::bench::Bench;
 use crate::figures::{Figures, Request};

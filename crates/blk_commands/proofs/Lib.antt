@@ -1,3 +1,4 @@
+pub mod ByteLemmas
 pub mod Numbers
 pub mod OutcomeLemmas
 pub mod PlayLemmas

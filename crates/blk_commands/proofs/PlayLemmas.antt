@@ -1,5 +1,5 @@
 -- What is played after what was played before.
-use Rattle.std.proofs.Common.{◌≡◌, ℕ, ◌+◌, ◌<◌, Bool, true, false, List, [], ◌∷◌, ◌++◌, length, map, take, refl, ap, sym, ◌∙◌, subst, append_assoc, inl, inr, arith, rules, get_or, Result, Ok, Err, is_ok, IfOk, OnOk, Option, String, string_bytes, if◌then◌else◌}
+use Rattle.std.proofs.Common.{◌≡◌, ℕ, ◌+◌, Bool, true, false, List, [], ◌∷◌, ◌++◌, length, map, take, refl, ap, sym, ◌∙◌, subst, append_assoc, inl, inr, arith, rules, get_or, Result, Ok, Err, is_ok, IfOk, OnOk, Option, String, string_bytes, if◌then◌else◌}
 use Rattle.std.proofs.lemmas.Bool.{cases_eq}
 use Rattle.std.proofs.lemmas.List.{append-nil, length-append, map-append, reverse-append, take-append-le, take_all}
 use Rattle.std.proofs.lemmas.List.Elements.{All-append}
@@ -8,14 +8,13 @@ use Rattle.std.specs.Global.{Global}
 use Rattle.std.specs.declared.alloc.AllocError.{AllocError}
 use Rattle.blocking_laws.specs.Legal.{Legal}
 use Rattle.blocking_world.specs.Runs.{Adds, Follow, History}
-use Rattle.blocking_laws.specs.Steps.{has_action}
 use Rattle.blocking_laws.specs.declared.event.Event.{Event}
 use Rattle.blocking_laws.specs.declared.event.Moment.{Moment}
 use Rattle.blocking_laws.specs.declared.step.Step.{Step}
-use Rattle.blocking_laws.specs.declared.step.Step.TheVariants.{Job}
-use Rattle.blk_commands.specs.Plays.{IsLegal, PlaysInstruction, PlaysInstructions, Repeats, ShowsScript, Takes, after, ending_of, new_history, shown_text}
-use Rattle.blk_commands.specs.declared.line.Instruction.{Instruction}
-use Rattle.blk_commands.specs.declared.line.Instruction.TheVariants.{One, JobAll}
+use Rattle.blk_commands.specs.Plays.{IsLegal, PlaysInstruction, PlaysInstructions, Repeats, ShowsScript, Takes, after, ending_of, has_next, new_history, shown_text, step_of}
+use Rattle.blk_commands.specs.declared.instruction.Actor.{Actor}
+use Rattle.blk_commands.specs.declared.instruction.Instruction.{Instruction}
+use Rattle.blk_commands.specs.declared.instruction.Instruction.TheVariants.{One, AllOf}
 use Rattle.blk_commands.specs.declared.steps.Ending.{Ending}
 
 -- what comes after two rows of moments, one after the other
@@ -44,23 +43,23 @@ plays_more (first ∷ instructions) instruction past early late played plays =
     )
 
 -- one more action
-pub repeats_more : (step : Step) (past moments : List Moment) (moment : Moment) → Repeats step past moments
-    → has_action (after moments past) step ≡ true → moment.step ≡ step → Repeats step past (moments ++ moment ∷ [])
-repeats_more step past moments moment before action is = record {
+pub repeats_more : (actor : Actor) (past moments : List Moment) (moment : Moment) → Repeats actor past moments
+    → has_next actor (after moments past) ≡ true → moment.step ≡ step_of actor → Repeats actor past (moments ++ moment ∷ [])
+repeats_more actor past moments moment before action is = record {
   some = omega (arith, length-append moments (moment ∷ []), before.some);
-  same = All-append (λ m. m.step ≡ step) moments (moment ∷ []) before.same (λ k d l. search rules);
+  same = All-append (λ m. m.step ≡ step_of actor) moments (moment ∷ []) before.same (λ k d l. search rules);
   goes_on = λ k above below. elim (cases_eq k (length moments)) [
-    | inl same ↦ subst (λ ms. has_action (after ms past) step ≡ true)
+    | inl same ↦ subst (λ ms. has_next actor (after ms past) ≡ true)
         (sym (ap (λ n. take n (moments ++ moment ∷ [])) same ∙ (take-append-le (length moments) moments (moment ∷ []) (omega arith) ∙ take_all (length moments) moments (omega arith)))) action
-    | inr other ↦ subst (λ ms. has_action (after ms past) step ≡ true)
+    | inr other ↦ subst (λ ms. has_next actor (after ms past) ≡ true)
         (sym (take-append-le k moments (moment ∷ []) (omega (arith, length-append moments (moment ∷ []), other))))
         (before.goes_on k above (omega (arith, length-append moments (moment ∷ []), other)))
   ];
 }
 
 -- the first action
-pub repeats_once : (step : Step) (past : List Moment) (moment : Moment) → moment.step ≡ step → Repeats step past (moment ∷ [])
-repeats_once step past moment is = record {
+pub repeats_once : (actor : Actor) (past : List Moment) (moment : Moment) → moment.step ≡ step_of actor → Repeats actor past (moment ∷ [])
+repeats_once actor past moment is = record {
   some = omega arith;
   same = λ k d l. search rules;
   goes_on = λ k above below. absurd (omega arith);
@@ -96,25 +95,25 @@ takes_step step old new before seen now (Ok u) adds legal grown = record {
 }
 takes_step step old new before seen now (Err e) adds legal grown = tt
 
--- the first action of a job
-pub takes_first : (worker : ℕ) (old new : History) (before now : List Event) → Takes (PlaysInstruction (One (Job worker))) old new before now
-    → Takes (Repeats (Job worker)) old new before now
-takes_first worker old new before now took = record {
+-- the first action of an actor
+pub takes_first : (actor : Actor) (old new : History) (before now : List Event) → Takes (PlaysInstruction (One (step_of actor))) old new before now
+    → Takes (Repeats actor) old new before now
+takes_first actor old new before now took = record {
   moments = took.moments;
-  plays = subst (Repeats (Job worker) old.past) (sym took.plays.2) (repeats_once (Job worker) old.past took.plays.0 took.plays.1);
+  plays = subst (Repeats actor old.past) (sym took.plays.2) (repeats_once actor old.past took.plays.0 took.plays.1);
   follow = took.follow;
   events_are = took.events_are;
   legal = took.legal;
 }
 
 -- one more
-pub takes_next : (worker : ℕ) (a b c : History) (e0 e1 e2 : List Event) → Takes (Repeats (Job worker)) a b e0 e1
-    → has_action b.past (Job worker) ≡ true → Takes (PlaysInstruction (One (Job worker))) b c e1 e2 → Takes (Repeats (Job worker)) a c e0 e2
-takes_next worker a b c e0 e1 e2 early action late = record {
+pub takes_next : (actor : Actor) (a b c : History) (e0 e1 e2 : List Event) → Takes (Repeats actor) a b e0 e1
+    → has_next actor b.past ≡ true → Takes (PlaysInstruction (One (step_of actor))) b c e1 e2 → Takes (Repeats actor) a c e0 e2
+takes_next actor a b c e0 e1 e2 early action late = record {
   moments = early.moments ++ late.moments;
-  plays = subst (λ ms. Repeats (Job worker) a.past (early.moments ++ ms)) (sym late.plays.2)
-      (repeats_more (Job worker) a.past early.moments late.plays.0 early.plays
-      (subst (λ past. has_action past (Job worker) ≡ true) (ap (λ h. h.past) early.follow) action) late.plays.1);
+  plays = subst (λ ms. Repeats actor a.past (early.moments ++ ms)) (sym late.plays.2)
+      (repeats_more actor a.past early.moments late.plays.0 early.plays
+      (subst (λ past. has_next actor past ≡ true) (ap (λ h. h.past) early.follow) action) late.plays.1);
   follow = follows early.moments late.moments a b c early.follow late.follow;
   events_are = joined_events early.moments late.moments e0 e1 e2 early.events_are late.events_are;
   legal = λ l. late.legal (early.legal l);
@@ -128,11 +127,11 @@ one_event_more step old new before now took =
     ∙ ap (λ ms. length before + length (map (λ moment. moment.event) ms)) took.plays.2)
 
 -- none is left
-pub takes_ended : (worker : ℕ) (old new : History) (before now : List Event) → Takes (Repeats (Job worker)) old new before now
-    → has_action new.past (Job worker) ≡ false → Takes (PlaysInstruction (JobAll worker)) old new before now
-takes_ended worker old new before now took ended = record {
+pub takes_ended : (actor : Actor) (old new : History) (before now : List Event) → Takes (Repeats actor) old new before now
+    → has_next actor new.past ≡ false → Takes (PlaysInstruction (AllOf actor)) old new before now
+takes_ended actor old new before now took ended = record {
   moments = took.moments;
-  plays = (took.plays, subst (λ past. has_action past (Job worker) ≡ false) (ap (λ h. h.past) took.follow) ended);
+  plays = (took.plays, subst (λ past. has_next actor past ≡ false) (ap (λ h. h.past) took.follow) ended);
   follow = took.follow;
   events_are = took.events_are;
   legal = took.legal;

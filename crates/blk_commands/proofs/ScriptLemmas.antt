@@ -8,9 +8,10 @@ use Rattle.std.proofs.lemmas.List.Elements.{filter_map-append}
 use Rattle.std.specs.List.{after_first, cons_option, filter_map, flat_map}
 use Rattle.std.specs.Option.{option_map}
 use Rattle.std.specs.String.{string_bytes}
-use Rattle.blk_commands.specs.Lines.{is_minus, is_space, saying_of}
+use Rattle.blk_commands.specs.Instructions.{is_space}
+use Rattle.blk_commands.specs.Lines.{is_minus, saying_of}
 use Rattle.blk_commands.specs.Scripts.{AddsLine, AllMayStand, IsScriptOf, Reads, instruction_said, instructions_in, plan_in, plan_said, may_follow, may_say, setting_in, setting_said}
-use Rattle.blk_commands.specs.declared.line.Instruction.{Instruction}
+use Rattle.blk_commands.specs.declared.instruction.Instruction.{Instruction}
 use Rattle.blk_commands.specs.declared.line.Saying.{Saying}
 use Rattle.blk_commands.specs.declared.line.Saying.TheVariants.{Nothing, Setting, Plan, Does}
 use Rattle.blk_commands.specs.declared.script.Script.{Script}

@@ -1,4 +1,6 @@
+pub mod Bytes
 pub mod Faults
+pub mod Instructions
 pub mod Lines
 pub mod Numbers
 pub mod Outcomes

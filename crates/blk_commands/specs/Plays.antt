@@ -6,15 +6,17 @@ use Rattle.blocking_laws.specs.Counts.{idle, workers}
 use Rattle.blocking_laws.specs.Growth.{known_limit}
 use Rattle.blocking_laws.specs.Legal.{Legal}
 use Rattle.blocking_laws.specs.Queue.{queue}
-use Rattle.blocking_world.specs.Runs.{Follow, History}
+use Rattle.blocking_world.specs.Runs.{Follow, History, is_poll_under_way}
 use Rattle.blocking_laws.specs.Steps.{has_action}
 use Rattle.blocking_laws.specs.Texts.{event_text}
 use Rattle.blocking_laws.specs.declared.event.Event.{Event}
 use Rattle.blocking_laws.specs.declared.event.Moment.{Moment}
 use Rattle.blocking_laws.specs.declared.step.Step.{Step}
-use Rattle.blocking_laws.specs.declared.step.Step.TheVariants.{Job}
-use Rattle.blk_commands.specs.declared.line.Instruction.{Instruction}
-use Rattle.blk_commands.specs.declared.line.Instruction.TheVariants.{One, JobAll}
+use Rattle.blocking_laws.specs.declared.step.Step.TheVariants.{Job, Own}
+use Rattle.blk_commands.specs.declared.instruction.Actor.{Actor}
+use Rattle.blk_commands.specs.declared.instruction.Actor.TheVariants.{JobOf, PollOf}
+use Rattle.blk_commands.specs.declared.instruction.Instruction.{Instruction}
+use Rattle.blk_commands.specs.declared.instruction.Instruction.TheVariants.{One, AllOf}
 use Rattle.blk_commands.specs.declared.steps.Ending.{Ending}
 
 -- ---- what instructions make happen
@@ -23,17 +25,26 @@ use Rattle.blk_commands.specs.declared.steps.Ending.{Ending}
 abbrev pub after : List Moment → List Moment → List Moment
 after moments past = reverse moments ++ past
 
--- these moments are of this step alone, there is one at least, and before each but the first the step had an action
-pub record Repeats (step : Step) (past moments : List Moment) : Type 0 where
-  pub some : 0 < length moments
-  pub same : All (λ moment. moment.step ≡ step) moments
-  pub goes_on : (k : ℕ) → 0 < k → k < length moments → has_action (after (take k moments) past) step ≡ true
+-- the step by which an actor takes its next action
+abbrev pub step_of : Actor → Step
+step_of (JobOf worker) = Job worker
+step_of (PollOf h) = Own h
 
--- what an instruction makes happen after what was seen: its step, or the actions of a job until it has none
+-- whether an actor has a next action: a job one that is its own to take, and the poll of an owner while it is under way
+abbrev pub has_next : Actor → List Moment → Bool
+has_next (JobOf worker) past = has_action past (Job worker)
+has_next (PollOf h) past = is_poll_under_way h past
+
+-- these moments are of this actor's step alone, there is one at least, and before each but the first the actor had an action
+pub record Repeats (actor : Actor) (past moments : List Moment) : Type 0 where
+  pub some : 0 < length moments
+  pub same : All (λ moment. moment.step ≡ step_of actor) moments
+  pub goes_on : (k : ℕ) → 0 < k → k < length moments → has_next actor (after (take k moments) past) ≡ true
+
+-- what an instruction makes happen after what was seen: its step, or the actions of an actor until it has none
 abbrev pub PlaysInstruction : Instruction → List Moment → List Moment → Type 0
 PlaysInstruction (One step) past moments = (moment : Moment) × (moment.step ≡ step) × (moments ≡ moment ∷ [])
-PlaysInstruction (JobAll worker) past moments =
-    Repeats (Job worker) past moments × (has_action (after moments past) (Job worker) ≡ false)
+PlaysInstruction (AllOf actor) past moments = Repeats actor past moments × (has_next actor (after moments past) ≡ false)
 
 -- what instructions make happen, one after the other
 abbrev pub PlaysInstructions : List Instruction → List Moment → List Moment → Type 0

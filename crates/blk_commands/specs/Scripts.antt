@@ -1,8 +1,9 @@
 -- What a script's lines say together.
 use Rattle.std.specs.Prelude.{◌≡◌, ℕ, ◌+◌, ◌<◌, ◌==◌, ◌&&◌, Bool, true, false, List, [], ◌∷◌, ◌++◌, length, take, map, slice_get, Option, Some, None, option_map, is_none, Result, Ok, Err, string_bytes}
 use Rattle.std.specs.List.{after_first, filter_map, flat_map, slice_index_or, slice_split}
-use Rattle.blk_commands.specs.Lines.{is_minus, is_space, saying_of}
-use Rattle.blk_commands.specs.declared.line.Instruction.{Instruction}
+use Rattle.blk_commands.specs.Instructions.{is_space}
+use Rattle.blk_commands.specs.Lines.{is_minus, saying_of}
+use Rattle.blk_commands.specs.declared.instruction.Instruction.{Instruction}
 use Rattle.blk_commands.specs.declared.line.Saying.{Saying}
 use Rattle.blk_commands.specs.declared.line.Saying.TheVariants.{Nothing, Setting, Plan, Does}
 use Rattle.blk_commands.specs.declared.script.Script.{Script}

@@ -3,7 +3,8 @@ ghost use Rattle.std.specs.Prelude.{◌≡◌, List, ℕ};
 ghost use Rattle.blk_commands.specs.declared.script.ScriptFault.TheVariants as variants;
 ghost use Rattle.blk_commands.specs.Scripts.{AddsLine, IsScriptOf, Reads, lines_of};
 
-use crate::line::{Instruction, Saying, plan_of, saying_of, text_of};
+use crate::instruction::Instruction;
+use crate::line::{Saying, plan_of, saying_of, text_of};
 use std::alloc::{AllocError, AllocFailed, Global};
 
 /// A script, as its lines say it.

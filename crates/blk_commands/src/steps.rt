@@ -1,13 +1,13 @@
 //! `blk steps`: the steps of a script, and what is seen of them.
 ghost use Rattle.std.specs.Prelude.{◌≡◌, ◌⊎◌, [], IfOk, OnOk, Some, option_map, string_bytes};
 ghost use Rattle.blk_commands.specs.Outcomes.{ReadsText, Shows};
-ghost use Rattle.blk_commands.specs.Plays.{PlaysInstruction, PlaysInstructions, ShowsScript, Takes, ending_of, ending_text, shown_text};
+ghost use Rattle.blk_commands.specs.Plays.{PlaysInstruction, PlaysInstructions, ShowsScript, Takes, ending_of, ending_text, has_next, shown_text, step_of};
 ghost use Rattle.blk_commands.specs.declared.fault.BlkFault.TheVariants as blk_fault;
-ghost use Rattle.blk_commands.specs.declared.line.Instruction.TheVariants as instruction;
+ghost use Rattle.blk_commands.specs.declared.instruction.Instruction.TheVariants as instruction;
 ghost use Rattle.blocking_pool.specs.declared.pool.answer.Refusal.TheVariants.{Memory};
 
 use crate::fault::{BlkFault, CommandFault};
-use crate::line::Instruction;
+use crate::instruction::{Actor, Instruction};
 use crate::script::{Script, read_script};
 use blocking_world::{Event, Step, World, run};
 use std::alloc::{AllocError, Global};
@@ -145,7 +145,7 @@ fn play_instruction(
 {
     match instruction {
         Instruction::One(step) => take(alloc, world, step, events),
-        Instruction::JobAll(worker) => take_all(alloc, world, *worker, events),
+        Instruction::AllOf(actor) => take_all(alloc, world, *actor, events),
     }
 }
 
@@ -163,22 +163,57 @@ fn take(
     events.append(&mut seen)
 }
 
-// Takes the next action of this worker's job, and then again while it has one.
+impl Actor {
+    // The step by which it takes its next action.
+    fn step(self) -> Step
+        ensures { result ≡ step_of self }
+    {
+        match self {
+            Actor::JobOf(worker) => Step::Job(worker),
+            Actor::PollOf(owner) => Step::Own(owner),
+        }
+    }
+
+    // Whether it has a next action.
+    fn has_next(self, world: &World) -> bool
+        ensures { result ≡ has_next self world.now.history.past }
+    {
+        match self {
+            Actor::JobOf(worker) => world.has_job_action(worker),
+            Actor::PollOf(owner) => world.poll_under_way(owner),
+        }
+    }
+}
+
+// Takes the next action of this actor, and then again while it has one.
 fn take_all(
     alloc: Global,
     world: &mut World,
-    worker: usize,
+    actor: Actor,
     events: &mut Vec<Event>,
 ) -> Result<(), AllocError>
-    ensures { OnOk result (Takes (PlaysInstruction (instruction.JobAll worker))
+    ensures { OnOk result (Takes (PlaysInstruction (instruction.AllOf actor))
         world.old.history world.new.history events.old.items events.new.items) }
 {
-    take(alloc, world, &Step::Job(worker), events)?;
+    act(alloc, world, actor, events)?;
     // (It ends, since each action is an event more, and no list has room for endless ones.)
-    while world.has_job_action(worker) {
-        take(alloc, world, &Step::Job(worker), events)?;
+    while actor.has_next(world) {
+        act(alloc, world, actor, events)?;
     }
     Ok(())
+}
+
+// Takes the next action of this actor.
+fn act(
+    alloc: Global,
+    world: &mut World,
+    actor: Actor,
+    events: &mut Vec<Event>,
+) -> Result<(), AllocError>
+    ensures { OnOk result (Takes (PlaysInstruction (instruction.One (step_of actor)))
+        world.old.history world.new.history events.old.items events.new.items) }
+{
+    take(alloc, world, &actor.step(), events)
 }
 
 // The texts of the events, line by line, and that of the ending.

@@ -1,6 +1,8 @@
-//! What of `blk`'s commands its stored runs can't show: writers and readers that fail, and how scripts and words are read.
+//! What of `blk`'s commands its stored runs can't show: writers and readers that fail, copies, and how scripts and words are read.
 #![tactic(auto)]
 
+#[cfg(test)]
+mod copying;
 #[cfg(test)]
 mod doubles;
 #[cfg(test)]

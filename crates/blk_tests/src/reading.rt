@@ -18,6 +18,12 @@ const SCRIPTS: &[(&str, Option<&str>, &[bool], usize)] = &[
         1,
     ),
     ("setting \n", Some(""), &[], 0),
+    (
+        "new 4\nask 0 read 2\nown 0 *\nio 1 b 6162\nio 1 b -\nio 1 fault 3\nask 0 mut\nown 0\ndrop 0\n",
+        None,
+        &[],
+        9,
+    ),
 ];
 
 #[test]

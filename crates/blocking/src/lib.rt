@@ -7,5 +7,6 @@ pub use blocking_executor::{
     set_max_blocking_threads, task, unblock,
 };
 pub use blocking_unblock::{
-    AsyncRead, AsyncReadExt, IoFault, ReadExact, ReadJob, ReadSome, ReadToEnd, Unblock,
+    AsyncRead, AsyncReadExt, AsyncWrite, AsyncWriteExt, Close, Flush, IoFault, ReadExact, ReadJob,
+    ReadSome, ReadToEnd, Unblock, WriteAll, WriteJob, WriteSome,
 };

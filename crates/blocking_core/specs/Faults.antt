@@ -1,8 +1,10 @@
--- The texts of faults, as lists of bytes.
+-- What a fault of a job is to an owner, and the texts of faults, as lists of bytes.
 use Rattle.std.specs.Prelude.{ℕ, List, codes, Option, Some}
 use Rattle.blocking_pool.specs.Refusals.{reason_text}
 use Rattle.blocking_core.specs.declared.io.Fault.{Fault}
 use Rattle.blocking_core.specs.declared.io.Fault.TheVariants.{Io, WriteZero, Refused}
+use Rattle.blocking_core.specs.declared.io.JobFault.{JobFault}
+use Rattle.blocking_core.specs.declared.io.JobFault.TheVariants as of_job
 
 -- why a call on a handle failed: what the handle's own error says, if that is stated; that a write got nothing on; or why no
 -- session began
@@ -10,3 +12,8 @@ abbrev pub fault_text : {E : Type 0} → (E → Option (List ℕ)) → Fault E �
 fault_text error_text (Io error) = error_text error
 fault_text error_text WriteZero = Some (codes "none of the bytes were taken")
 fault_text error_text (Refused why) = Some (reason_text why)
+
+-- what the fault of a job is to the owner
+abbrev pub told : {E : Type 0} → JobFault E → Fault E
+told (of_job.Io error) = Io error
+told of_job.WriteZero = WriteZero

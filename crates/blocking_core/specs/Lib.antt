@@ -8,3 +8,4 @@ pub mod Places
 pub mod Reading
 pub mod SlotAnswers
 pub mod Slots
+pub mod Writing

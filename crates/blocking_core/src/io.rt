@@ -14,6 +14,29 @@ pub enum Fault<E> {
     Refused(Refusal),
 }
 
+/// What a handle did wrong while its job used it. It is no refusal.
+#[derive(Clone, Copy, Debug, PartialEq, Eq)]
+pub enum JobFault<E> {
+    /// The handle failed, with this error of its own.
+    Io(E),
+    /// The handle took none of the bytes that it was offered.
+    WriteZero,
+}
+
+impl<E> From<JobFault<E>> for Fault<E> {
+    ghost use Rattle.std.specs.Prelude.{◌≡◌};
+    ghost use Rattle.blocking_core.specs.Faults.{told};
+
+    ghost from_gives = { λ fault result. result ≡ told fault };
+
+    fn from(fault: JobFault<E>) -> Fault<E> {
+        match fault {
+            JobFault::Io(error) => Fault::Io(error),
+            JobFault::WriteZero => Fault::WriteZero,
+        }
+    }
+}
+
 impl<E: fmt::Display> fmt::Display for Fault<E> {
     ghost use Rattle.blocking_core.specs.Faults.{fault_text};
 

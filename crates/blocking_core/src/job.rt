@@ -1,7 +1,9 @@
 //! The decision cores of jobs: what a job does next, and what it makes of the answer.
 mod read;
+mod write;
 
 pub use self::read::{PIECE, ReadAction, ReadAnswer, ReadCore};
+pub use self::write::{WriteAction, WriteAnswer, WriteCore};
 use std::marker::Model;
 
 /// What a job does next.

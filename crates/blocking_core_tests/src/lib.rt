@@ -5,13 +5,13 @@
 #[cfg(test)]
 mod call_core;
 #[cfg(test)]
+mod lent;
+#[cfg(test)]
 mod limit;
 #[cfg(test)]
 mod pipe;
 #[cfg(test)]
 mod pool;
-#[cfg(test)]
-mod reading;
 #[cfg(test)]
 mod slot;
 #[cfg(test)]

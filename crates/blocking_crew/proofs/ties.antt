@@ -5,8 +5,8 @@ pub mod Entries
 pub mod Known
 pub mod Sweeps
 pub mod Jobs
+pub mod Entered
 pub mod Queue
-pub mod Serials
 pub mod Counts
 pub mod Hands
 pub mod Starts

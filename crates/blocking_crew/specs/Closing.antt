@@ -29,16 +29,6 @@ EndsTurn hand pool after new = (after ≡ hand) × (new ≡ pool)
 abbrev pub NoneDue : JobPool → Type 0
 NoneDue pool = (serial : ℕ) → is_due_to_sweep (get pool.jobs serial) ≡ false
 
--- The hands that are left, and the pool that they belong to: each job that doesn't run has its ticket, the idle workers are those that
--- haven't arrived and those with a free hand, what is in a hand runs, and no job is in two hands.
-pub record AreLeft (pool : JobPool) (hands : List Hand) : Type 0 where
-  pub valued : AreValued pool.jobs
-  pub idle : pool.counts.idle ≡ pool.counts.arriving + free_hands hands
-  pub runs : (n : ℕ) (held : Held) → slice_get hands n ≡ Some (Holds held) → is_running_as pool.jobs held.turn ≡ true
-  pub apart :
-      (m n : ℕ) (one other : Held) → slice_get hands m ≡ Some (Holds one) → slice_get hands n ≡ Some (Holds other)
-      → one.turn.serial ≡ other.turn.serial → m ≡ n
-
 -- The hands after every turn has ended, and their pool: each job that doesn't run has its ticket, the idle workers are those that haven't
 -- arrived and those with a free hand, and no hand holds a job.
 pub record AreIdle (pool : JobPool) (hands : List Hand) : Type 0 where

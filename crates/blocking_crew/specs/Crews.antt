@@ -7,7 +7,7 @@ use Rattle.blocking_pool.specs.declared.pool.standing.Standing.{Standing}
 use Rattle.blocking_pool.specs.declared.pool.standing.Standing.TheVariants as standing
 use Rattle.blocking_pool.specs.declared.pool.token.WorkerPass.{WorkerPass}
 use Rattle.blocking_laws.specs.declared.event.Act.{Act}
-use Rattle.blocking_laws.specs.declared.event.Act.TheVariants.{Answered, JobParked, Finished, GaveUp as GivesUp, HolderWoken}
+use Rattle.blocking_laws.specs.declared.event.Act.TheVariants.{Answered, RoomFree, RoomShut, JobParked, Put, Lost, JobClosed, Finished, GaveUp as GivesUp, HolderWoken}
 use Rattle.blocking_laws.specs.declared.event.HolderWaker.TheVariants.{Taken, Absent}
 use Rattle.blocking_crew.specs.Tickets.{JobPool, job_pool_code, AreValued}
 use Rattle.blocking_crew.specs.contracts.hand.Hand.{the_row as hands}
@@ -34,7 +34,12 @@ crew_code = code_by (JobPool × List Hand) (coded× job_pool_code (coded_list ha
 -- give up does that; and then it calls the waker that it took, no more.
 abbrev pub may_act : Stage → Act → Bool
 may_act Runs (Answered answer) = true
+may_act Runs (RoomFree n) = true
+may_act Runs RoomShut = true
 may_act Runs JobParked = true
+may_act Runs (Put n waker) = true
+may_act Runs (Lost n) = true
+may_act Runs (JobClosed waker) = true
 may_act Runs (Finished waker) = true
 may_act Runs HolderWoken = true
 may_act MustGiveUp (GivesUp waker) = true
@@ -147,14 +152,18 @@ Joins pool hands (Some worker) pool' hands' =
 
 -- ---- what every crew keeps, so that each call may be made
 
+-- a sum of what each hand adds
+abbrev pub sum_of : (Hand → ℕ) → List Hand → ℕ
+sum_of one [] = 0
+sum_of one (hand ∷ row) = one hand + sum_of one row
+
 -- how many workers are idle, of those that arrived
 abbrev pub one_if_free : Hand → ℕ
 one_if_free (Free pass) = 1
 one_if_free _ = 0
 
 abbrev pub free_hands : List Hand → ℕ
-free_hands [] = 0
-free_hands (hand ∷ row) = one_if_free hand + free_hands row
+free_hands hands = sum_of one_if_free hands
 
 -- how many workers hold a job
 abbrev pub one_if_busy : Hand → ℕ
@@ -162,8 +171,7 @@ one_if_busy (Holds held) = 1
 one_if_busy _ = 0
 
 abbrev pub busy_hands : List Hand → ℕ
-busy_hands [] = 0
-busy_hands (hand ∷ row) = one_if_busy hand + busy_hands row
+busy_hands hands = sum_of one_if_busy hands
 
 -- The idle workers are those that haven't arrived and those with a free hand; what is in a hand runs, and is in no other; each job that
 -- doesn't run has its ticket in the pool.

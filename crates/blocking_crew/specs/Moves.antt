@@ -16,13 +16,13 @@ use Rattle.blocking_laws.specs.Answers.{wait_act}
 use Rattle.blocking_laws.specs.Jobs.{lets_go}
 use Rattle.blocking_laws.specs.Seen.{has_timed_out}
 use Rattle.blocking_laws.specs.declared.event.Act.{Act}
-use Rattle.blocking_laws.specs.declared.event.Act.TheVariants.{Accepted, Refused, JobWoken, JobCancelled, LimitSet, Swept, Waits, TaskGot, TaskGotNone, TaskDetached, Arrived, Took, TookDropped, TookNone, Ended, HandedOut, NoAction}
+use Rattle.blocking_laws.specs.declared.event.Act.TheVariants.{Made, Asked, OwnerClosed, Got, GotEnd, Back, Replied, Accepted, Refused, JobWoken, JobCancelled, LimitSet, Swept, Waits, TaskGot, TaskGotNone, TaskDetached, Arrived, Took, TookDropped, TookNone, Ended, HandedOut, NoAction}
 use Rattle.blocking_laws.specs.declared.event.Event.{Event}
 use Rattle.blocking_laws.specs.declared.event.Party.{Party}
 use Rattle.blocking_laws.specs.declared.event.Party.TheVariants.{Worker, Pool}
 use Rattle.blocking_laws.specs.declared.event.WaitEnd.{WaitEnd}
 use Rattle.blocking_crew.specs.Crews.{Crew, hand_at, with_hand, is_free_hand, over_in, waiting_in, acting_in, may_end, may_act, held_after_act, outcome_of, standing_after}
-use Rattle.blocking_crew.specs.Tickets.{JobPool, no_growth, AddsTo, TakesFront, Wakes, Cancels, SweepsTo, to_sweep, WaitsSo, ParksSo, pool_after_mark}
+use Rattle.blocking_crew.specs.Tickets.{JobPool, no_growth, AddsTo, TakesFront, Wakes, Cancels, SweepsTo, to_sweep, WaitsSo, ParksSo, pool_after_let_go}
 use Rattle.blocking_crew.specs.declared.hand.Hand.{Hand}
 use Rattle.blocking_crew.specs.declared.hand.Hand.TheVariants.{Out, Free, Holds}
 use Rattle.blocking_crew.specs.declared.hand.Held.{Held}
@@ -56,8 +56,8 @@ pub data Call : Type 0 where
   Wake : Party → JobNumber → Call
   -- a cancel of this job, by this party
   Cancel : Party → JobNumber → Call
-  -- by this act this party lets go of this job
-  LetGo : Party → Act → JobNumber → Call
+  -- by this act this party lets go of this job, or of none that is queued or parked
+  LetGo : Party → Act → Option JobNumber → Call
   -- this party does what is nothing to the crew
   Tell : Party → Act → Call
 
@@ -88,8 +88,8 @@ pub data Move : Type 0 where
   IsWoken : Party → JobNumber → Woke → Growth → JobPool → Move
   -- a cancel of a job, and what it does
   IsCancelled : Party → JobNumber → Woke → Growth → JobPool → Move
-  -- by this act a party lets go of a job
-  IsLetGo : Party → Act → JobNumber → Move
+  -- by this act a party lets go of a job, or of none that is queued or parked
+  IsLetGo : Party → Act → Option JobNumber → Move
   -- a party does what is nothing to the crew
   Tells : Party → Act → Move
 
@@ -226,7 +226,7 @@ after crew (SetsLimit n) = record crew { pool = record crew.pool { counts = afte
 after crew (Sweeps growth pool) = record crew { pool = pool }
 after crew (IsWoken party number woke growth pool) = record crew { pool = pool }
 after crew (IsCancelled party number woke growth pool) = record crew { pool = pool }
-after crew (IsLetGo party act number) = record crew { pool = pool_after_mark crew.pool number }
+after crew (IsLetGo party act number) = record crew { pool = pool_after_let_go crew.pool number }
 after crew (Tells party act) = crew
 
 -- ---- which calls have an action, and which moves there may be
@@ -244,6 +244,13 @@ has_action crew _ = true
 
 -- whether an act of a party is nothing to the crew
 abbrev pub is_aside : Act → Bool
+is_aside (Made h capacity) = true
+is_aside (Asked call) = true
+is_aside (OwnerClosed told) = true
+is_aside (Got bytes told) = true
+is_aside GotEnd = true
+is_aside Back = true
+is_aside (Replied reply) = true
 is_aside Waits = true
 is_aside (TaskGot n) = true
 is_aside TaskGotNone = true

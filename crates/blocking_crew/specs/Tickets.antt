@@ -199,3 +199,8 @@ pool_after_mark_of pool number (Some value) = with_job pool number.serial (entry
 -- the pool after the job of this number was marked, where its ticket is there
 abbrev pub pool_after_mark : JobPool → JobNumber → JobPool
 pool_after_mark pool number = pool_after_mark_of pool number (value_at (job_of pool.jobs number))
+
+-- the pool after a party let go of the job of this number, or of none
+abbrev pub pool_after_let_go : JobPool → Option JobNumber → JobPool
+pool_after_let_go pool None = pool
+pool_after_let_go pool (Some number) = pool_after_mark pool number

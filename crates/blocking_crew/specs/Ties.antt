@@ -1,5 +1,5 @@
 -- How a crew hangs together with what was seen.
-use Rattle.std.specs.Prelude.{◌≡◌, ◌<◌, ◌+◌, ◌==◌, ◌||◌, min, ℕ, Bool, true, false, List, ◌∷◌, length, Option, Some, None, is_some}
+use Rattle.std.specs.Prelude.{◌≡◌, ◌<◌, ◌+◌, ◌==◌, ◌||◌, min, ℕ, Bool, true, false, List, ◌∷◌, length, Option, Some, None, IfSome}
 use Rattle.std.specs.FinMap.{get}
 use Rattle.blocking_pool.specs.Counts.{limit_of}
 use Rattle.blocking_pool.specs.Growth.{greatest}
@@ -155,18 +155,29 @@ seen_as step e owner = record { step = step; event = record e { owner = owner } 
 abbrev pub moment_of : Crew → Move → Step → Option ℕ → Moment
 moment_of crew move step owner = seen_as step (event_of crew move) owner
 
--- a party holds job s, which was accepted, and no other that isn't over
-pub record HoldsAlone (past : List Moment) (party : Party) (s : ℕ) : Type 0 where
-  pub accepted : is_some (standing past s) ≡ true
-  pub alone : (t : ℕ) → has_ended past t ≡ false → is_holder (holder past t) party ≡ (s == t)
+-- whether a job's ticket lies in the pool: it is queued or parked
+abbrev pub has_ticket : Option Standing → Bool
+has_ticket (Some Queued) = true
+has_ticket (Some Parked) = true
+has_ticket _ = false
+
+-- whether it is the number of job s
+abbrev pub is_serial_of : Option JobNumber → ℕ → Bool
+is_serial_of None s = false
+is_serial_of (Some number) s = number.serial == s
+
+-- Of the jobs that are queued or parked, a party holds the one of this number and no other. Which jobs of its own run or are over doesn't
+-- matter, nor whether it ever had any.
+abbrev pub HoldsAtRest : List Moment → Party → Option JobNumber → Type 0
+HoldsAtRest past party number = (s : ℕ) → has_ticket (standing past s) ≡ true → is_holder (holder past s) party ≡ is_serial_of number s
 
 -- What a call asks of the layer above, which knows what each job is for: that a number is its job's; that the ticket of a job
--- that waits bears its mark; and that who lets go of a job holds it.
+-- that waits bears its mark; and that who lets go of a job holds it, and no other job that is queued or parked.
 abbrev pub IsAsked : Crew → List Moment → Call → Type 0
 IsAsked crew past (Park v ticket) = (held : Held) → hand_at crew.hands v ≡ Holds held → ticket.is_marked ≡ is_marked past held.turn.serial
 IsAsked crew past (Wake party number) = IsNumberOf crew.pool number
 IsAsked crew past (Cancel party number) = IsNumberOf crew.pool number
-IsAsked crew past (LetGo party act number) = IsNumberOf crew.pool number × HoldsAlone past party number.serial
+IsAsked crew past (LetGo party act number) = IfSome number (IsNumberOf crew.pool) × HoldsAtRest past party number
 IsAsked crew past call = Unit {0}
 
 -- An event of the layer above that is nothing to the crew: it starts nobody, and is no act of a job or of the pool.

@@ -7,7 +7,7 @@ use crate::hand::{Hand, Held, Stage};
 use crate::ticket::Ticket;
 use crate::tickets::{Grown, NO_GROWTH, Parking, Tickets};
 use crate::workers::Workers;
-use blocking_core::pool::{JobNo, Pool, Refusal, Standing, Starter, Took, Waited};
+use blocking_core::pool::{JobNo, Pool, Refusal, Standing, Starter, Took, Waited, WakeNote};
 use blocking_laws::event::WaitEnd;
 use blocking_laws::{Act, Event, Party};
 use std::alloc::{AllocError, Global};
@@ -198,14 +198,15 @@ impl Crew {
         seen(Party::Pool, None, Act::Swept(count), first, growth)
     }
 
-    /// A wake reaches a job, by this party. A parked job is queued again, and the pool grows; a running one is flagged; any other is as it
-    /// was.
-    pub fn wake<S: Starter>(&mut self, party: Party, number: JobNo, starter: &mut S) -> Event
+    /// The note of a job is spent, by this party, and wakes it. A parked job is queued again, and the pool grows; a running one is flagged;
+    /// any other is as it was.
+    pub fn wake<S: Starter>(&mut self, party: Party, note: WakeNote, starter: &mut S) -> Event
         ensures { Moves (S.may_answer starter.old)
-            (Wake party number) self.old result self.new }
+            (Wake party note) self.old result self.new }
     {
         let first = self.next_start();
-        let (woke, growth) = self.tickets.wake(number, starter);
+        let number = note.job();
+        let (woke, growth) = self.tickets.wake(note, starter);
         let act = Act::JobWoken(number.serial(), woke);
         seen(party, None, act, first, growth)
     }
@@ -222,14 +223,14 @@ impl Crew {
         seen(party, None, act, first, growth)
     }
 
-    /// By this act its holder lets go of a job: its ticket is marked, if it is queued or parked. The ticket of a running job is made anew
-    /// where its run ends.
-    pub fn let_go(&mut self, party: Party, act: Act, number: JobNo) -> Event
+    /// By this act a party lets go of what it holds. Of the job of this number the ticket is marked, if it is queued or parked; the ticket of
+    /// a running job is made anew where its run ends. No number is given by a party that holds no job which is queued or parked.
+    pub fn let_go(&mut self, party: Party, act: Act, number: Option<JobNo>) -> Event
         requires { lets_go act ≡ true }
         ensures { Moves NeverAsked (LetGo party act number) self.old result self.new }
     {
         let first = self.next_start();
-        self.tickets.mark(number);
+        self.tickets.let_go(number);
         seen(party, None, act, first, NO_GROWTH)
     }
 

@@ -48,7 +48,14 @@ impl Stage {
         ensures { result ≡ may_act self act.now }
     {
         match act {
-            Act::Answered(_) | Act::JobParked | Act::Finished(_) => matches!(self, Stage::Runs),
+            Act::Answered(_)
+            | Act::RoomFree(_)
+            | Act::RoomShut
+            | Act::JobParked
+            | Act::Put(_, _)
+            | Act::Lost(_)
+            | Act::JobClosed(_)
+            | Act::Finished(_) => matches!(self, Stage::Runs),
             Act::GaveUp(_) => matches!(self, Stage::MustGiveUp),
             Act::HolderWoken => matches!(self, Stage::Runs | Stage::MustWake),
             _ => false,

@@ -16,3 +16,4 @@ pub use crew::{Added, Crew, InHand};
 pub use hand::{Hand, Held, Stage};
 pub use starts::{NoStarts, PlannedStarts};
 pub use ticket::Ticket;
+pub use tickets::Parking;

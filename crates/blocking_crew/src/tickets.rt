@@ -52,13 +52,13 @@ pub(crate) enum Outcome {
     Dropped,
 }
 
-// What becomes of a job whose run ends waiting.
-pub(crate) enum Parking {
-    // It waits for a wake, and its worker is free.
+/// What becomes of a job whose run ends waiting.
+pub enum Parking {
+    /// It waits for a wake, and its worker is free.
     Parked(WorkerPass),
-    // A wake has met it, so that it is queued again, and its worker is free.
+    /// A wake has met it, so that it is queued again, and its worker is free.
     Queued(WorkerPass),
-    // It is to be dropped, and its turn goes on until then.
+    /// It is to be dropped, and its turn goes on until then.
     HandedOut(Turn),
 }
 
@@ -104,7 +104,7 @@ impl Tickets {
     ghost use Rattle.blocking_pool.specs.Pools.{IsSound, without_job};
     ghost use Rattle.blocking_pool.specs.Counts.{after_limit};
     ghost use Rattle.blocking_crew.specs.Closing.{NoneDue, PassesOver};
-    ghost use Rattle.blocking_crew.specs.Tickets.{AddsTo, TakesTo, Wakes, Cancels, AreValued, to_sweep, SweepsTo, SweepsIf, WaitsSo, ParksSo, pool_after_mark};
+    ghost use Rattle.blocking_crew.specs.Tickets.{AddsTo, TakesTo, Wakes, Cancels, AreValued, to_sweep, SweepsTo, SweepsIf, WaitsSo, ParksSo, pool_after_mark, pool_after_let_go};
 
     // A pool with no job and no worker.
     pub(crate) fn new(alloc: Global, setting: Option<&str>) -> Tickets
@@ -186,12 +186,12 @@ impl Tickets {
         self.pool.arrive()
     }
 
-    // A wake reaches the job of this number.
-    pub(crate) fn wake<S: Starter>(&mut self, number: JobNo, starter: &mut S) -> (Woke, Grown)
-        ensures { Wakes (S.may_answer starter.old) self.old number result.0 result.1 self.new }
+    // The note of a job is spent, and wakes it.
+    pub(crate) fn wake<S: Starter>(&mut self, note: WakeNote, starter: &mut S) -> (Woke, Grown)
+        ensures { Wakes (S.may_answer starter.old) self.old note result.0 result.1 self.new }
     {
         let before = self.before();
-        let woke = self.pool.wake(WakeNote::new(number), starter);
+        let woke = self.pool.wake(note, starter);
         let Woke::Entered = woke else {
             return (woke, NO_GROWTH);
         };
@@ -304,11 +304,20 @@ impl Tickets {
     }
 
     // The job of this number is marked, if it is queued or parked: the ticket of a running job is made anew where its run ends.
-    pub(crate) fn mark(&mut self, number: JobNo)
+    fn mark(&mut self, number: JobNo)
         ensures { self.new ≡ pool_after_mark self.old number }
     {
         if let Some(ticket) = self.pool.job_mut(number) {
             ticket.is_marked = true;
+        }
+    }
+
+    // A party lets go of the job of this number, or of none.
+    pub(crate) fn let_go(&mut self, number: Option<JobNo>)
+        ensures { self.new ≡ pool_after_let_go self.old number }
+    {
+        if let Some(number) = number {
+            self.mark(number);
         }
     }
 

@@ -2,7 +2,8 @@
 ghost use Rattle.std.specs.Prelude.{◌≡◌, [], IfOk, OnErr, Some, is_some, if◌then◌else◌};
 ghost use Rattle.std.specs.Option.{option_copied, option_copied_mut};
 ghost use Rattle.std.specs.Borrow.{sem};
-ghost use Rattle.blocking_crew.specs.Closing.{AreLeft, AreIdle};
+ghost use Rattle.blocking_crew.specs.Closing.{AreIdle};
+ghost use Rattle.blocking_crew.specs.Crews.{IsReady};
 
 use crate::hand::{Hand, Held};
 use crate::tickets::Tickets;
@@ -123,7 +124,7 @@ impl Workers {
 
     // Lets every worker go: first every turn ends, and then the workers are dismissed. Takes no memory.
     pub(crate) fn close<S: Starter>(self, tickets: &mut Tickets, starter: &mut S)
-        requires { AreLeft tickets.old self }
+        requires { IsReady (record { pool = tickets.old; hands = self }) }
     {
         let Workers { mut hands } = self;
         end_turns(&mut hands, tickets);
@@ -133,7 +134,7 @@ impl Workers {
 
 // Ends every turn.
 fn end_turns(hands: &mut [Hand], tickets: &mut Tickets)
-    requires { AreLeft tickets.old hands.old }
+    requires { IsReady (record { pool = tickets.old; hands = hands.old }) }
     ensures { AreIdle tickets.new hands.new }
 {
     for place in 0..hands.len() {

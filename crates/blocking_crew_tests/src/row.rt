@@ -1,7 +1,7 @@
 //! Rows: calls of a crew, with what is seen of each. And how they are played.
 ghost use Rattle.std.specs.Prelude.{◌≡◌, ◌<◌};
 
-use blocking_core::pool::{JobNo, Starter};
+use blocking_core::pool::{JobNo, Starter, WakeNote};
 use blocking_crew::{Crew, NoStarts, PlannedStarts, Ticket};
 use blocking_laws::event::{HolderWaker, WaitEnd};
 use blocking_laws::{Act, Event, Party};
@@ -88,9 +88,9 @@ fn call<S: Starter>(
         Step::Wait(worker, end) => crew.wait(worker, end, starter),
         Step::SetLimit(limit) => crew.set_limit(limit),
         Step::Sweep => crew.sweep(starter),
-        Step::Wake(place) => crew.wake(Party::Pool, job(jobs, place)?, starter),
+        Step::Wake(place) => crew.wake(Party::Pool, WakeNote::new(job(jobs, place)?), starter),
         Step::Cancel(place) => crew.cancel(Party::Pool, job(jobs, place)?, starter),
-        Step::LetGo(place) => crew.let_go(task, Act::HolderDropped, job(jobs, place)?),
+        Step::LetGo(place) => crew.let_go(task, Act::HolderDropped, Some(job(jobs, place)?)),
         Step::Detach => crew.tell(task, Act::TaskDetached),
     };
     Ok(event)

@@ -2,3 +2,4 @@ pub mod Places
 pub mod cuts
 pub mod acts
 pub mod ties
+pub mod owners

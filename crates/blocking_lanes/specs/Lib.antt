@@ -2,3 +2,8 @@ pub mod Tasks
 pub mod Calls
 pub mod Ties
 pub mod Steps
+pub mod Reads
+pub mod Sessions
+pub mod Owners
+pub mod OwnerSteps
+pub mod OwnerTies

@@ -3,13 +3,13 @@ use Rattle.std.specs.Prelude.{◌≡◌, ◌||◌, ℕ, true, false, List, [], �
 use Rattle.blocking_pool.specs.Growth.{Growth}
 use Rattle.blocking_laws.specs.Seen.{events, acts_of, is_by_task, is_of_job}
 use Rattle.blocking_laws.specs.Seats.{waker_in}
-use Rattle.blocking_laws.specs.Jobs.{accepted_by, holder}
+use Rattle.blocking_laws.specs.Jobs.{accepted_by, accepts, holder}
 use Rattle.blocking_laws.specs.JobTable.{Calling, WakeHolder, next_of_job}
 use Rattle.blocking_laws.specs.declared.event.Act.{Act}
 use Rattle.blocking_laws.specs.declared.event.Act.TheVariants.{Accepted, Answered, Finished, GaveUp, HolderWoken}
 use Rattle.blocking_laws.specs.declared.event.Event.{Event}
 use Rattle.blocking_laws.specs.declared.event.Moment.{Moment}
-use Rattle.blocking_laws.specs.declared.event.Party.TheVariants.{Task as ByTask, Worker, Pool}
+use Rattle.blocking_laws.specs.declared.event.Party.TheVariants.{Owner as ByOwner, Task as ByTask, Worker, Pool}
 use Rattle.blocking_laws.specs.declared.step.Answer.TheVariants.{Number}
 use Rattle.blocking_laws.specs.declared.step.TaskCall.{TaskCall}
 use Rattle.blocking_lanes.specs.Tasks.{Task, may_be, has_let_go, task_act, task_after_call, finish_wakes, task_after_finish, give_up_wakes, task_after_give_up}
@@ -69,6 +69,12 @@ event_by _ k v s act first growth = by_job v s act first growth
 pub record IsAside (e : Event) : Type 0 where
   pub out : (k s : ℕ) → is_by_task k e || is_of_job s e ≡ false
   pub none_new : accepted_by e.act ≡ []
+
+-- An event of no task: none acts. If it is an act of a job, an owner holds that; if it accepts one, an owner brings that.
+pub record IsBeside (past : List Moment) (e : Event) : Type 0 where
+  pub out : (k : ℕ) → is_by_task k e ≡ false
+  pub of_owner : (s : ℕ) → is_of_job s e ≡ true → (h : ℕ) × (holder past s ≡ Some (ByOwner h))
+  pub by_owner : (s : ℕ) → accepts s e.act ≡ true → (h : ℕ) × (e.party ≡ ByOwner h)
 
 -- an event by which the pool accepts this job, which makes a new task
 pub record MakesTask (e : Event) (s : ℕ) : Type 0 where

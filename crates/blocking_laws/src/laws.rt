@@ -1,5 +1,5 @@
 //! What is proved of the laws in this crate, each the contract of a function that does nothing: what the machines cite
-//! ([`whole`]), and what refuses the wrong readings of a definition that the gate tries ([`readings`]). All else that is proved of
+//! ([`whole`]), and what refuses the wrong readings of a definition that edits try ([`readings`]). All else that is proved of
 //! them stands in `blocking_theorems`.
 
 pub mod readings;

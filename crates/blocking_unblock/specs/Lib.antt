@@ -1,3 +1,4 @@
 pub mod Owners
 pub mod Polls
 pub mod Readers
+pub mod Writers

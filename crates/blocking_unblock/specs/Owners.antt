@@ -5,13 +5,15 @@ use Rattle.blocking_core.specs.declared.io.Fault.{Fault}
 use Rattle.blocking_core.specs.declared.io.Fault.TheVariants as fault
 use Rattle.blocking_core.specs.declared.pipe.Drained.{Drained}
 use Rattle.blocking_core.specs.declared.pipe.Drained.TheVariants as drained
+use Rattle.blocking_core.specs.declared.pipe.Filled.{Filled}
+use Rattle.blocking_core.specs.declared.pipe.Filled.TheVariants as filled
 use Rattle.blocking_pool.specs.declared.pool.token.WakeNote.{WakeNote}
 use Rattle.blocking_core.specs.declared.unblock.PollCall.{PollCall}
-use Rattle.blocking_core.specs.declared.unblock.PollCall.TheVariants.{Read, GetMut}
+use Rattle.blocking_core.specs.declared.unblock.PollCall.TheVariants.{Read, Write}
 use Rattle.blocking_core.specs.declared.unblock.State.{State}
 use Rattle.blocking_core.specs.declared.unblock.State.TheVariants as state
 use Rattle.blocking_core.specs.declared.unblock.Reply.{Reply}
-use Rattle.blocking_core.specs.declared.unblock.Reply.TheVariants.{Count, Handle, Failed}
+use Rattle.blocking_core.specs.declared.unblock.Reply.TheVariants.{Count, Handle, Failed, Done}
 use Rattle.blocking_core.specs.declared.unblock.OwnerAction.{OwnerAction}
 use Rattle.blocking_core.specs.declared.unblock.OwnerAction.TheVariants as act
 use Rattle.blocking_core.specs.declared.unblock.OwnerAnswer.{OwnerAnswer}
@@ -19,8 +21,8 @@ use Rattle.blocking_core.specs.declared.unblock.OwnerAnswer.TheVariants as by
 use Rattle.futures.specs.declared.task.Poll.{Poll}
 use Rattle.futures.specs.declared.task.Poll.TheVariants.{Ready, Pending}
 use Rattle.std.specs.declared.io.Error.{Error}
-use Rattle.blocking_unblock.specs.declared.unblock.Place.{Place}
-use Rattle.blocking_unblock.specs.declared.unblock.Place.TheVariants as place
+use Rattle.blocking_unblock.specs.declared.place.Place.{Place}
+use Rattle.blocking_unblock.specs.declared.place.Place.TheVariants as place
 
 -- whether there is a value
 abbrev pub has : {A : Type 0} → Option A → Bool
@@ -33,22 +35,36 @@ note_of_drain (drained.Got count note) = note
 note_of_drain drained.Ended = None
 note_of_drain (drained.Waits seat) = None
 
+-- the note of the job that comes with a fill
+abbrev pub note_of_fill : Filled → Option WakeNote
+note_of_fill (filled.Took count note) = note
+note_of_fill filled.Shut = None
+note_of_fill (filled.Waits seat) = None
+
 -- how many bytes a call may bring
 abbrev pub wanted : PollCall → ℕ
 wanted (Read most) = most
-wanted GetMut = 0
+wanted call = 0
+
+-- how many bytes a call has to hand on
+abbrev pub offered : PollCall → ℕ
+offered (Write most) = most
+offered call = 0
 
 module _ {T H : Type 0} where
   -- the handle was dropped
   abbrev pub IsClosed : Place T H → Type 0
   IsClosed (place.Idle handle) = ⊥
-  IsClosed (place.Lent session) = ⊥
+  IsClosed (place.Reading session) = ⊥
+  IsClosed (place.Writing session) = ⊥
   IsClosed place.Closed = Unit {0}
 
-  -- the handle is where the state says: with its owner, or with the job of a session whose end on the owner's side stands so
+  -- the handle is where the state says: with its owner, with the job of a session whose end on the owner's side stands so, or nowhere
   abbrev pub IsAt : State → Place T H → Type 0
   IsAt state.Idle (place.Idle handle) = Unit {0}
-  IsAt (state.Reading end) (place.Lent session) = session.owner_end ≡ end
+  IsAt (state.Reading end) (place.Reading session) = session.owner_end ≡ end
+  IsAt (state.Writing end) (place.Writing session) = session.owner_end ≡ end
+  IsAt state.Closed place.Closed = Unit {0}
   IsAt _ _ = ⊥
 
 module _ {E : Type 0} where
@@ -59,7 +75,8 @@ module _ {E : Type 0} where
   IsOfJob (Some fault.WriteZero) = Unit {0}
   IsOfJob (Some (fault.Refused why)) = ⊥
 
-  -- This is an answer to that action: what comes out of a pipe is a byte at least, and no more than was asked for.
+  -- This is an answer to that action: what comes out of a pipe, or goes into one, is a byte at least, and no more than was asked for or
+  -- offered.
   abbrev pub AnswersTo : OwnerAction E → OwnerAnswer E → Type 0
   AnswersTo act.Begin by.Begun = Unit {0}
   AnswersTo act.Begin (by.Refused why) = Unit {0}
@@ -67,8 +84,12 @@ module _ {E : Type 0} where
   AnswersTo (act.Drain most) (by.Got count noted) = (0 < count) × (count ≤ most)
   AnswersTo (act.Drain most) by.Ended = Unit {0}
   AnswersTo (act.Drain most) (by.Waits seat) = Unit {0}
+  AnswersTo (act.Fill most) (by.Took count noted) = (0 < count) × (count ≤ most)
+  AnswersTo (act.Fill most) by.Shut = Unit {0}
+  AnswersTo (act.Fill most) (by.Waits seat) = Unit {0}
   AnswersTo act.PollSlot (by.Waits seat) = Unit {0}
   AnswersTo act.PollSlot (by.Back why) = IsOfJob why
+  AnswersTo act.DropHandle by.Dropped = Unit {0}
   AnswersTo act.Deliver by.Delivered = Unit {0}
   AnswersTo _ _ = ⊥
 
@@ -96,11 +117,23 @@ module _ {E : Type 0} where
   answer_of_drain drained.Ended = by.Ended
   answer_of_drain (drained.Waits seat) = by.Waits seat
 
-  -- what a read answers, as a reply
-  abbrev pub reply_of_read : Poll (Result ℕ (Fault E)) → Poll (Reply E)
-  reply_of_read (Ready (Ok count)) = Ready (Count count)
-  reply_of_read (Ready (Err why)) = Ready (Failed why)
-  reply_of_read Pending = Pending
+  -- what a fill means to the machine: what went in and whether there is a note, that nothing goes in any more, or that the owner waits
+  abbrev pub answer_of_fill : Filled → OwnerAnswer E
+  answer_of_fill (filled.Took count note) = by.Took count (has note)
+  answer_of_fill filled.Shut = by.Shut
+  answer_of_fill (filled.Waits seat) = by.Waits seat
+
+  -- what a read or a write answers, as a reply
+  abbrev pub reply_of_count : Poll (Result ℕ (Fault E)) → Poll (Reply E)
+  reply_of_count (Ready (Ok count)) = Ready (Count count)
+  reply_of_count (Ready (Err why)) = Ready (Failed why)
+  reply_of_count Pending = Pending
+
+  -- what a flush or a close answers, as a reply
+  abbrev pub reply_of_done : {A : Type 0} → Poll (Result A (Fault E)) → Poll (Reply E)
+  reply_of_done (Ready (Ok _)) = Ready Done
+  reply_of_done (Ready (Err why)) = Ready (Failed why)
+  reply_of_done Pending = Pending
 
 -- what the call for the handle answers, as a reply
 abbrev pub reply_of_get : {A : Type 0} → Poll A → Poll (Reply Error)

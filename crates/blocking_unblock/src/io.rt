@@ -1,5 +1,5 @@
 //! What polls of a lent handle of the system ask and answer.
-ghost use Rattle.std.specs.Prelude.{◌≡◌, ◌≤◌, length, IfOk};
+ghost use Rattle.std.specs.Prelude.{◌≡◌, ◌≤◌, ◌↔◌, length, IfOk};
 ghost use Rattle.futures.specs.Poll.{IfReady, OnPending};
 ghost use Rattle.futures.specs.Task.{IsArmed, Keeps};
 
@@ -23,6 +23,39 @@ pub trait AsyncRead {
         ensures open { closed self.new → ⊥ }
         ensures count { IfReady result (λ r. IfOk r (λ n. n ≤ length buf.old)) }
         ensures same_length { length buf.new ≡ length buf.old }
+        ensures armed { OnPending result (IsArmed cx.new) }
+        ensures kept { Keeps cx.old cx.new };
+}
+
+/// What is written by polls. What a poll took for writing is written later, and a flush waits for that.
+pub trait AsyncWrite {
+    /// Whether it was closed. What is closed isn't written.
+    ghost closed: { Self → Type 0 };
+
+    /// Takes the first bytes of `bytes` for writing, and answers how many they are. None, where there is one, means that an earlier write
+    /// failed: no more is taken until a flush or a close has told that fault.
+    ///
+    /// A poll that waits has registered, and is polled again.
+    fn poll_write(&mut self, cx: &mut Context<'_>, bytes: &[u8]) -> Poll<Result<usize, IoFault>>
+        requires { closed self.old → ⊥ }
+        ensures open { closed self.new → ⊥ }
+        ensures count { IfReady result (λ r. IfOk r (λ n. n ≤ length bytes.now)) }
+        ensures armed { OnPending result (IsArmed cx.new) }
+        ensures kept { Keeps cx.old cx.new };
+
+    /// Waits until all that was taken is written and flushed, or answers why it isn't. A fault is told once.
+    ///
+    /// A poll that waits has registered, and is polled again.
+    fn poll_flush(&mut self, cx: &mut Context<'_>) -> Poll<Result<(), IoFault>>
+        ensures same { closed self.new ↔ closed self.old }
+        ensures armed { OnPending result (IsArmed cx.new) }
+        ensures kept { Keeps cx.old cx.new };
+
+    /// Flushes, and then closes. After a fault it is open still, and what was closed is closed again without one.
+    ///
+    /// A poll that waits has registered, and is polled again.
+    fn poll_close(&mut self, cx: &mut Context<'_>) -> Poll<Result<(), IoFault>>
+        ensures closed { IfReady result (λ r. IfOk r (λ _. closed self.new)) }
         ensures armed { OnPending result (IsArmed cx.new) }
         ensures kept { Keeps cx.old cx.new };
 }

@@ -1,14 +1,22 @@
-//! Readers that are lent to a pool and read by polls.
+//! Readers and writers that are lent to a pool, and read and written by polls.
 #![tactic(auto)]
 
 mod io;
+mod lend;
 mod link;
+mod place;
 mod read_ext;
 mod read_job;
+mod read_session;
 mod session;
 mod unblock;
+mod write_ext;
+mod write_job;
+mod write_session;
 
-pub use io::{AsyncRead, IoFault};
+pub use io::{AsyncRead, AsyncWrite, IoFault};
 pub use read_ext::{AsyncReadExt, ReadExact, ReadSome, ReadToEnd};
 pub use read_job::ReadJob;
 pub use unblock::Unblock;
+pub use write_ext::{AsyncWriteExt, Close, Flush, WriteAll, WriteSome};
+pub use write_job::WriteJob;

@@ -1,5 +1,8 @@
 //! What the owner of a lent handle and its job share beside the pipe: the slot in which the handle comes back, under its lock, and
 //! the mark of a session whose owner is gone.
+ghost use Rattle.blocking_unblock.specs.Owners.{IsOfJob};
+
+use blocking_core::io::{Fault, JobFault};
 use blocking_core::task::{Looked, Put, Slot, Slotted};
 use futures::task::Waker;
 use std::io;
@@ -13,7 +16,18 @@ pub(crate) type OwnerWaker = Option<Waker>;
 #[derive(Drop)]
 pub(crate) struct Returned<T: Drop> {
     pub handle: T,
-    pub fault: Option<io::Error>,
+    pub fault: Option<JobFault<io::Error>>,
+}
+
+// What the fault of a job is to the owner.
+pub(crate) fn told_of_fault(fault: Option<JobFault<io::Error>>) -> Option<Fault<io::Error>>
+    ensures { IsOfJob result }
+{
+    match fault {
+        Some(JobFault::Io(error)) => Some(Fault::Io(error)),
+        Some(JobFault::WriteZero) => Some(Fault::WriteZero),
+        None => None,
+    }
 }
 
 /// What the owner and the job share. Each method that takes the slot's lock makes one call of the slot under it.

@@ -4,6 +4,7 @@ ghost use Rattle.blocking_core.specs.declared.job.read.ReadAction.TheVariants.{F
 ghost use Rattle.blocking_core.specs.Reading.{new_read, read_next};
 
 use crate::link::{Link, OwnerWaker, Returned};
+use blocking_core::io::JobFault;
 use blocking_core::job::{ReadAction, ReadAnswer, ReadCore};
 use blocking_core::pipe::{Put, Room};
 use blocking_core::pool::{Carries, Job, JobNo, JobStep};
@@ -22,7 +23,7 @@ pub struct ReadJob<T: Drop, H: Wait + Copy> {
     core: ReadCore,
     // The reader, until it is given back.
     reader: Option<T>,
-    fault: Option<io::Error>,
+    fault: Option<JobFault<io::Error>>,
     // Where a piece stands between the reader and the pipe.
     piece: Vec<u8>,
     end: SendEnd<u8, AnyPlace, H>,
@@ -190,7 +191,7 @@ impl<T: Read + Drop, H: Wait + Copy> ReadJob<T, H> {
         match ask(reader, self.piece.as_mut_slice(), most) {
             Ok(count) => self.core.answer(ReadAnswer::Gave(count)),
             Err(error) => {
-                self.fault = Some(error);
+                self.fault = Some(JobFault::Io(error));
                 self.core.answer(ReadAnswer::Failed);
             }
         }

@@ -1,9 +1,13 @@
-//! The tests of `Unblock`: readers that are lent to a pool, on real threads. There is nothing here but tests, since a crate that has
+//! The tests of `Unblock`: readers and writers that are lent to a pool, on real threads. There is nothing here but tests, since a crate that has
 //! tests is proved a second time with them.
 #![tactic(auto)]
 
 #[cfg(test)]
+mod both;
+#[cfg(test)]
 mod cut;
+#[cfg(test)]
+mod many_writes;
 #[cfg(test)]
 mod memory;
 #[cfg(test)]
@@ -16,3 +20,7 @@ mod scene;
 mod whole;
 #[cfg(test)]
 mod whole_reads;
+#[cfg(test)]
+mod writer;
+#[cfg(test)]
+mod writes;

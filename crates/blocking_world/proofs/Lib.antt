@@ -1,3 +1,4 @@
-pub mod moves
+pub mod past
 pub mod ties
+pub mod moves
 pub mod laws

@@ -1,5 +1,5 @@
-pub mod Bare
 pub mod Running
 pub mod Steps
+pub mod Unowned
 pub mod Wakes
 pub mod Whole

@@ -1,3 +1,2 @@
-pub mod Crew
+pub mod Steps
 pub mod Jobs
-pub mod Calls

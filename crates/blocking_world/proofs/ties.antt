@@ -1,10 +1,11 @@
 pub mod Found
 pub mod Jobs
-pub mod LetGo
-pub mod Acts
+pub mod Told
+pub mod Hands
+pub mod Places
 pub mod Kept
 pub mod Tasks
-pub mod Rows
 pub mod Calls
 pub mod Begins
 pub mod Worked
+pub mod Rows

@@ -1,5 +1,5 @@
 -- What a job is for, and what its next action does to its row and to its task.
-use Rattle.std.specs.Prelude.{◌≡◌, ℕ, Option, Some, None}
+use Rattle.std.specs.Prelude.{ℕ, Bool, true, false, Option, Some, None}
 use Rattle.blocking_core.specs.declared.job.Action.{Action}
 use Rattle.blocking_core.specs.declared.job.Action.TheVariants as action
 use Rattle.blocking_crew.specs.declared.hand.Stage.{Stage}
@@ -7,6 +7,9 @@ use Rattle.blocking_crew.specs.declared.hand.Stage.TheVariants as stage
 use Rattle.blocking_lanes.specs.Calls.{Progress, not_begun, progress_after_answer, progress_after_finish, progress_after_wake}
 use Rattle.blocking_lanes.specs.Steps.{TaskStep, IsCalled, IsAnswered, Finishes, GivesUp, CallsWaker, task_after}
 use Rattle.blocking_lanes.specs.Tasks.{Task, finish_wakes}
+use Rattle.blocking_laws.specs.JobTable.{AskCall, WakeHolder}
+use Rattle.blocking_laws.specs.JobTable as table
+use Rattle.blocking_laws.specs.Steps as law
 use Rattle.blocking_laws.specs.declared.event.Party.{Party}
 use Rattle.blocking_laws.specs.declared.event.Party.TheVariants.{Task as ByTask}
 use Rattle.blocking_pool.specs.Jobs.{JobNumber}
@@ -36,6 +39,14 @@ new_row number k = record { number = number; holder = holder.Task k; core = core
 abbrev pub progress_of : Core → Progress
 progress_of (core.Call progress) = progress
 
+-- whether a job is at its first action, as it is where it begins
+abbrev pub is_first : Action → Bool
+is_first action.Call = true
+is_first _ = false
+
+abbrev pub is_at_first : Core → Bool
+is_at_first core = is_first (progress_of core).next
+
 -- ---- what comes next
 
 -- the next action of a worker with a job that runs, by that of the job's core
@@ -48,13 +59,20 @@ next_by action.Done = worker_action.End
 -- the next action of a worker, by where its job is in its turn
 abbrev pub next_at : Stage → Action → WorkerAction
 next_at stage.Runs next = next_by next
-next_at stage.Waits next = worker_action.Rest
 next_at stage.MustGiveUp next = worker_action.GiveUp
 next_at stage.MustWake next = worker_action.Wake
-next_at stage.GaveUp next = worker_action.End
+next_at _ next = worker_action.End
 
 abbrev pub next_of : Stage → Core → WorkerAction
 next_of at core = next_at at (progress_of core).next
+
+-- the same, in the words of the laws
+abbrev pub in_laws : WorkerAction → law.WorkerAction
+in_laws worker_action.Await = law.Does AskCall
+in_laws worker_action.Finish = law.Does table.Finish
+in_laws worker_action.GiveUp = law.GivesUp
+in_laws worker_action.Wake = law.Does WakeHolder
+in_laws worker_action.End = law.EndsTurn
 
 -- the step of its task that such an action is, where it is the job's own, with the number that it puts
 abbrev pub step_by : WorkerAction → ℕ → Option TaskStep

@@ -1,5 +1,7 @@
 -- What contracts see of a world, and what a run adds to it.
-use Rattle.std.specs.Prelude.{◌≡◌, ◌<◌, ℕ, Bool, List, ◌++◌, length, map, reverse}
+use Rattle.std.specs.Prelude.{◌≡◌, ◌<◌, ℕ, Bool, not, List, ◌++◌, length, map, reverse}
+use Rattle.blocking_laws.specs.Seen.{acts_of_owner, events}
+use Rattle.blocking_laws.specs.Sessions.{is_poll_over, under_way}
 use Rattle.blocking_laws.specs.declared.event.Event.{Event}
 use Rattle.blocking_laws.specs.declared.event.Moment.{Moment}
 use Rattle.blocking_laws.specs.declared.step.Step.{Step}
@@ -15,6 +17,10 @@ pub record WorldValue : Type 0 where
   pub history : History
   pub passes : ℕ
   pub turns : ℕ
+
+-- whether the poll of an owner is under way, by what was seen: it began, and has neither waited nor replied since
+abbrev pub is_poll_under_way : ℕ → List Moment → Bool
+is_poll_under_way h past = not (is_poll_over (under_way (acts_of_owner h (events past))))
 
 -- these moments came after what was seen before
 abbrev pub Follow : List Moment → History → History → Type 0

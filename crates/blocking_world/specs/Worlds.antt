@@ -1,5 +1,5 @@
 -- The parts of a world as contracts see them: the crew, the rows of its jobs and the tasks, and what is found in them.
-use Rattle.std.specs.Prelude.{ℕ, Bool, true, false, ◌==◌, ◌-◌, nat_lt, if◌then◌else◌, List, length, slice_get, refl, Option, Some, None}
+use Rattle.std.specs.Prelude.{ℕ, Bool, false, ◌==◌, ◌-◌, if◌then◌else◌, List, slice_get, refl, Option, Some, None}
 use Rattle.std.specs.Coded.{Coded, code_by, coded×, coded_list}
 use Rattle.blocking_crew.specs.Crews.{Crew, crew_code, hand_at}
 use Rattle.blocking_crew.specs.declared.hand.Hand.{Hand}
@@ -7,12 +7,11 @@ use Rattle.blocking_crew.specs.declared.hand.Hand.TheVariants.{Holds}
 use Rattle.blocking_crew.specs.declared.hand.Held.{Held}
 use Rattle.blocking_lanes.specs.Tasks.{Task, has_let_go}
 use Rattle.blocking_lanes.specs.contracts.task.Task.{the_row as tasks}
-use Rattle.blocking_world.specs.Rows.{place_of, next_of}
+use Rattle.blocking_laws.specs.Steps as law
+use Rattle.blocking_world.specs.Rows.{place_of, next_of, in_laws}
 use Rattle.blocking_world.specs.contracts.row.Row.{the_row as rows}
 use Rattle.blocking_world.specs.declared.parts.JobAt.{JobAt}
 use Rattle.blocking_world.specs.declared.row.Row.{Row}
-use Rattle.blocking_world.specs.declared.row.WorkerAction.{WorkerAction}
-use Rattle.blocking_world.specs.declared.row.WorkerAction.TheVariants as worker_action
 
 -- The parts: the crew, the rows of the jobs from 1 on, and the tasks from 0 on.
 pub record Parts : Type 0 where
@@ -31,48 +30,40 @@ row_of rows serial = if serial == 0 then None else slice_get rows (serial - 1)
 
 -- ---- the job in a hand
 
--- a job that is so far in its turn, with its row and with its task, if that is there
-abbrev pub job_if : Bool → Held → Row → Option JobAt
-job_if false held row = None
-job_if true held row =
-    Some (record { row = held.turn.serial - 1; task = place_of row.holder; stage = held.stage; next = next_of held.stage row.core })
+-- A job in a hand, with its row and its task.
+pub record InHand : Type 0 where
+  pub held : Held
+  pub row : Row
+  pub task : Task
 
-abbrev pub job_by : List Task → Held → Option Row → Option JobAt
+abbrev pub job_with : Held → Row → Option Task → Option InHand
+job_with held row None = None
+job_with held row (Some task) = Some (record { held = held; row = row; task = task })
+
+abbrev pub job_by : List Task → Held → Option Row → Option InHand
 job_by all held None = None
-job_by all held (Some row) = job_if (nat_lt (place_of row.holder) (length all)) held row
+job_by all held (Some row) = job_with held row (slice_get all (place_of row.holder))
 
-abbrev pub job_in : Parts → Hand → Option JobAt
+abbrev pub job_in : Parts → Hand → Option InHand
 job_in w (Holds held) = job_by w.tasks held (row_of w.rows held.turn.serial)
 job_in w hand = None
 
--- the job in the hand of this worker
-abbrev pub job_at : Parts → ℕ → Option JobAt
+-- the job in the hand of this worker, where its row and its task are there
+abbrev pub job_at : Parts → ℕ → Option InHand
 job_at w worker = job_in w (hand_at w.crew.hands worker)
 
--- whether this is an action of the job's own
-abbrev pub is_own : WorkerAction → Bool
-is_own worker_action.Finish = true
-is_own worker_action.GiveUp = true
-is_own worker_action.Wake = true
-is_own _ = false
+-- the places of its row and of its task, how far it is in its turn, and what its worker does next
+abbrev pub places_of : InHand → JobAt
+places_of job =
+    record { row = job.held.turn.serial - 1; task = place_of job.row.holder; stage = job.held.stage; next = next_of job.held.stage job.row.core }
 
--- whether the job's call is to be answered
-abbrev pub is_awaiting : WorkerAction → Bool
-is_awaiting worker_action.Await = true
-is_awaiting _ = false
+-- the next action of the worker of such a job, in the words of the laws
+abbrev pub next_in : Option InHand → law.WorkerAction
+next_in None = law.NoNext
+next_in (Some job) = in_laws (next_of job.held.stage job.row.core)
 
--- whether the turn is to end, since nothing is left to do
-abbrev pub is_ending : WorkerAction → Bool
-is_ending worker_action.End = true
-is_ending _ = false
-
--- the same, of the next action of a job that is there
-abbrev pub next_is : (WorkerAction → Bool) → Option JobAt → Bool
-next_is test None = false
-next_is test (Some job) = test job.next
-
-abbrev pub is_own_job : Option JobAt → Bool
-is_own_job job = next_is is_own job
+abbrev pub next_at : Parts → ℕ → law.WorkerAction
+next_at w worker = next_in (job_at w worker)
 
 -- ---- tasks
 

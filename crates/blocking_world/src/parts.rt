@@ -2,7 +2,7 @@
 ghost use Rattle.std.specs.Prelude.{◌≡◌, [], IfOk, OnErr};
 
 use crate::row::{Row, WorkerAction};
-use blocking_core::pool::Starter;
+use blocking_core::pool::{Starter, WakeNote};
 use blocking_crew::{Crew, Stage};
 use blocking_lanes::Task;
 use blocking_laws::event::{Act, Event, Party, WaitEnd};
@@ -37,12 +37,13 @@ impl Model for Parts {
 }
 
 impl Parts {
-    ghost use Rattle.std.specs.Prelude.{slice_get};
+    ghost use Rattle.std.specs.Prelude.{slice_get, option_map};
     ghost use Rattle.blocking_pool.specs.PoolAnswers.{pool_of};
     ghost use Rattle.blocking_crew.specs.Closing.{RefusesAll};
     ghost use Rattle.blocking_crew.specs.Moves.{NeverAsked};
-    ghost use Rattle.blocking_world.specs.Worlds.{row_of, job_at, is_own_job, let_go_in};
+    ghost use Rattle.blocking_world.specs.Worlds.{row_of, job_at, places_of, next_at, let_go_in};
     ghost use Rattle.blocking_world.specs.Moves.{Moves, may_call_in, wait_step};
+    ghost use Rattle.blocking_laws.specs.Steps.{is_job_action};
     ghost use Rattle.blocking_laws.specs.declared.step.Step.TheVariants as step;
 
     /// The parts of a new world. Takes no memory.
@@ -131,7 +132,9 @@ impl Parts {
         let task = &mut self.tasks[number];
         let act = task.call(call);
         match call {
-            TaskCall::Cancel | TaskCall::Drop => self.crew.let_go(party, act, task.number()),
+            TaskCall::Cancel | TaskCall::Drop => {
+                self.crew.let_go(party, act, Some(task.number()))
+            }
             TaskCall::Poll | TaskCall::Detach => self.crew.tell(party, act),
         }
     }
@@ -161,7 +164,7 @@ impl Parts {
 
     // The job in the hand of this worker, where it has a row and a task.
     fn job_at(&self, worker: usize) -> Option<JobAt>
-        ensures { result ≡ job_at self.now worker }
+        ensures { result ≡ option_map places_of (job_at self.now worker) }
     {
         let in_hand = self.crew.in_hand(worker)?;
         let serial = in_hand.number.serial();
@@ -169,9 +172,9 @@ impl Parts {
             return None;
         };
         let task = row.holder.task();
-        if task >= self.tasks.len() {
+        let Some(_task) = self.tasks.get(task) else {
             return None;
-        }
+        };
         Some(JobAt {
             row: serial as usize - 1,
             task,
@@ -257,7 +260,8 @@ impl Parts {
         let Some(row) = self.row(serial) else {
             return self.crew.nothing(Party::Pool);
         };
-        self.crew.wake(Party::Pool, row.number, starter)
+        let note = WakeNote::new(row.number);
+        self.crew.wake(Party::Pool, note, starter)
     }
 
     // Whether this task is there and has let go of its job.
@@ -286,14 +290,14 @@ impl Parts {
 
     /// Whether the job of this worker has a next action that is its own to take.
     pub(crate) fn has_job_action(&self, worker: usize) -> bool
-        ensures { result ≡ is_own_job (job_at self.now worker) }
+        ensures { result ≡ is_job_action (next_at self.now worker) }
     {
         let Some(job) = self.job_at(worker) else {
             return false;
         };
         match job.next {
             WorkerAction::Finish | WorkerAction::GiveUp | WorkerAction::Wake => true,
-            WorkerAction::Await | WorkerAction::End | WorkerAction::Rest => false,
+            WorkerAction::Await | WorkerAction::End => false,
         }
     }
 

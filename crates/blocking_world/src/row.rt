@@ -46,8 +46,6 @@ pub(crate) enum WorkerAction {
     Wake,
     /// The turn ends.
     End,
-    /// The job waits, and its turn is to end so; a call never does.
-    Rest,
 }
 
 impl Holder {
@@ -87,8 +85,7 @@ impl Row {
         match stage {
             Stage::MustGiveUp => WorkerAction::GiveUp,
             Stage::MustWake => WorkerAction::Wake,
-            Stage::GaveUp => WorkerAction::End,
-            Stage::Waits => WorkerAction::Rest,
+            Stage::GaveUp | Stage::Waits => WorkerAction::End,
             Stage::Runs => match progress.next() {
                 Action::Call => WorkerAction::Await,
                 Action::Finish => WorkerAction::Finish,
@@ -107,7 +104,7 @@ impl Row {
         let next = self.next(stage);
         let Core::Call(progress) = &mut self.core;
         match next {
-            WorkerAction::Await | WorkerAction::End | WorkerAction::Rest => None,
+            WorkerAction::Await | WorkerAction::End => None,
             WorkerAction::Finish => {
                 let wake = task.finish(progress.number());
                 progress.finish(wake);

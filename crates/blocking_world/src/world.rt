@@ -55,6 +55,7 @@ impl World {
     ghost use Rattle.std.specs.Prelude.{option_map};
     ghost use Rattle.blocking_laws.specs.Steps.{has_action};
     ghost use Rattle.blocking_laws.specs.declared.step.Step.TheVariants as step;
+    ghost use Rattle.blocking_world.specs.Runs.{is_poll_under_way};
 
     /// A world in which nothing has happened. The setting is the text of a limit, and the plan says which starts of
     /// workers are refused: it begins with start 1, and beyond its end none is. Takes no memory.
@@ -135,6 +136,16 @@ impl World {
         ensures { result ≡ has_action self.now.history.past (step.Job worker) }
     {
         self.parts.has_job_action(worker)
+    }
+
+    /// Whether the poll of the owner of this number, from 0, is under way: the step `Own` has an action.
+    pub fn poll_under_way(&self, owner: usize) -> bool
+        ensures { result ≡ is_poll_under_way owner self.now.history.past }
+    {
+        // (As long as no step makes an owner, none is polled.)
+        let _ = owner;
+        let _ = &self.trace;
+        false
     }
 }
 

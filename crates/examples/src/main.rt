@@ -3,6 +3,7 @@
 
 mod host;
 mod lines;
+mod log;
 mod own_job;
 mod own_rule;
 mod refusal;
@@ -57,5 +58,6 @@ fn more<H: Host + Files<File = File> + Env>(rt: H) -> Result<()> {
     let count = own_rule::received(rt)?;
     println!(rt; "{count} numbers came in order")?;
     lines::show_file(rt)?;
+    log::show_log(rt)?;
     refusal::show(rt)
 }

@@ -1,6 +1,5 @@
 -- Each call of a crew is a move, by what its parts did.
-use Rattle.std.proofs.Common.{◌≡◌, ◌-◌, ◌<◌, nat_lt, ℕ, Bool, true, false, List, if◌then◌else◌, ap, sym, subst, refl, ◌∙◌, arith, Option, Some, None}
-use Rattle.std.specs.Prelude.{is_some}
+use Rattle.std.proofs.Common.{◌≡◌, ◌-◌, ◌<◌, nat_lt, ℕ, Bool, true, false, List, if◌then◌else◌, ap, subst, refl, ◌∙◌, arith, Option, Some, None}
 use Rattle.std.proofs.lemmas.Bool.Decides.{nat_tests}
 use Rattle.blocking_pool.specs.Counts.{after_arrival}
 use Rattle.blocking_pool.specs.Growth.{Growth}
@@ -42,35 +41,11 @@ idles may_answer call crew hands none same start event = record {
   after_is = ap (λ (row : List Hand). record crew { hands = row }) same;
 }
 
-no_pass : (hand : Hand) → None ≡ pass_in hand → is_free_hand hand ≡ false
+-- a worker that isn't idle neither takes nor waits
+pub no_pass : (hand : Hand) → None ≡ pass_in hand → is_free_hand hand ≡ false
 no_pass Out none = refl
 no_pass (Free pass) none = absurd cc
 no_pass (Holds held) none = refl
-
--- a worker that isn't idle takes nothing
-pub take_idles : (may_answer : ℕ → Bool → Type 0) (crew : Crew) (v : ℕ) (hands : List Hand) {first : ℕ} {event : Event} → None ≡ pass_in (hand_at crew.hands v) → hands ≡ crew.hands
-    → first ≡ next_start crew → event ≡ nothing (Worker v) first → Moves may_answer (Take v) crew event (record { pool = crew.pool; hands = hands })
-take_idles may_answer crew v hands none same start event = idles may_answer (Take v) crew hands (no_pass (hand_at crew.hands v) none) same start event
-
--- and doesn't wait
-pub wait_idles : (may_answer : ℕ → Bool → Type 0) (crew : Crew) (v : ℕ) (end : WaitEnd) (hands : List Hand) {first : ℕ} {event : Event} → None ≡ pass_in (hand_at crew.hands v) → hands ≡ crew.hands
-    → first ≡ next_start crew → event ≡ nothing (Worker v) first → Moves may_answer (Wait v end) crew event (record { pool = crew.pool; hands = hands })
-wait_idles may_answer crew v end hands none same start event = idles may_answer (Wait v end) crew hands (no_pass (hand_at crew.hands v) none) same start event
-
--- no turn may end
-pub end_idles : (may_answer : ℕ → Bool → Type 0) (crew : Crew) (v : ℕ) (hands : List Hand) {first : ℕ} {event : Event} → None ≡ over_in (hand_at crew.hands v) → hands ≡ crew.hands
-    → first ≡ next_start crew → event ≡ nothing (Worker v) first → Moves may_answer (End v) crew event (record { pool = crew.pool; hands = hands })
-end_idles may_answer crew v hands none same start event = idles may_answer (End v) crew hands (ap is_some (sym none)) same start event
-
--- no job waits
-pub park_idles : (may_answer : ℕ → Bool → Type 0) (crew : Crew) (v : ℕ) (ticket : Ticket) (hands : List Hand) {first : ℕ} {event : Event} → None ≡ waiting_in (hand_at crew.hands v) → hands ≡ crew.hands
-    → first ≡ next_start crew → event ≡ nothing (Worker v) first → Moves may_answer (Park v ticket) crew event (record { pool = crew.pool; hands = hands })
-park_idles may_answer crew v ticket hands none same start event = idles may_answer (Park v ticket) crew hands (ap is_some (sym none)) same start event
-
--- no job may act so
-pub work_idles : (may_answer : ℕ → Bool → Type 0) (crew : Crew) (v : ℕ) (act : Act) (hands : List Hand) {first : ℕ} {event : Event} → None ≡ acting_in (hand_at crew.hands v) act → hands ≡ crew.hands
-    → first ≡ next_start crew → event ≡ nothing (Worker v) first → Moves may_answer (Work v act) crew event (record { pool = crew.pool; hands = hands })
-work_idles may_answer crew v act hands none same start event = idles may_answer (Work v act) crew hands (ap is_some (sym none)) same start event
 
 -- ---- a hand that was let out and filled
 

@@ -2,7 +2,7 @@
 use Rattle.std.proofs.Common.{◌≡◌, ℕ, ◌+◌, ◌-◌, ◌≤◌, Bool, true, false, arith, ap, ◌∙◌, subst, sym, inl, inr}
 use Rattle.std.proofs.lemmas.Bool.{cases_lt}
 use Rattle.blocking_pool.specs.Counts.{Counts, limit_of}
-use Rattle.blocking_pool.specs.Growth.{Asking, greatest, is_due, StartAnswer, Growth, IsGrowth, Grows, after_growth, number_after}
+use Rattle.blocking_pool.specs.Growth.{Asking, greatest, is_due, StartAnswer, Growth, IsGrowth, Grows, after_growth}
 use Rattle.blocking_pool.proofs.GrowthLemmas.{due_after}
 use Rattle.blocking_crew.specs.declared.ticket.Ticket.{Ticket}
 
@@ -20,9 +20,6 @@ never_greatest may_answer n last made =
 pub record Told (ready : ℕ) (old new : Counts) (growth : Growth) : Type 0 where
   pub workers : new.workers ≡ old.workers + growth.started
   pub idle : new.idle ≡ old.idle + growth.started
-  pub arriving : new.arriving ≡ old.arriving + growth.started
-  pub setting : new.setting ≡ old.setting
-  pub next : new.next_worker ≡ number_after (old.next_worker + growth.started) growth.refused
   pub refused : growth.refused ≡ is_due ready new.idle new.workers (limit_of old) 0
   pub numbers : old.next_worker ≤ greatest → old.next_worker + growth.started ≤ greatest
 
@@ -40,9 +37,6 @@ pub told : (asking : Asking) (ready : ℕ) (old new : Counts) (growth : Growth)
 told asking ready old new growth grows = record {
   workers = workers;
   idle = idle;
-  arriving = ap (λ (c : Counts). c.arriving) grows.counts;
-  setting = ap (λ (c : Counts). c.setting) grows.counts;
-  next = ap (λ (c : Counts). c.next_worker) grows.counts;
   refused = rw (idle, workers) (sym grows.starts.next ∙ sym (due_after ready old.idle old.workers (limit_of old) growth.started));
   numbers = numbers_last asking.may_answer ready old.idle old.workers (limit_of old) old.next_worker growth grows.starts;
 }

@@ -23,19 +23,13 @@ use Rattle.blocking_crew.proofs.growth.Reads.{is_marked_so, IsRead}
 -- a parked job has its ticket
 parked_valued : (standing : Standing) (value : Option Ticket) → is_running standing || is_some value ≡ true → standing ≡ Parked → is_some value ≡ true
 parked_valued Running value has is = absurd cc
-parked_valued Queued value has is = has
-parked_valued Parked value has is = has
-parked_valued Done value has is = has
-parked_valued Dropped value has is = has
+parked_valued _ value has is = has
 
 due_by : (standing : Standing) (value : Option Ticket) (m : Bool) → (standing ≡ Parked → is_some value ≡ true)
     → ((ticket : Ticket) → standing ≡ Parked → value ≡ Some ticket → ticket.is_marked ≡ m) → (is_parked standing && m) ≡ (is_parked standing && is_marked_ticket value)
 due_by Parked None m valued asked = let never : false ≡ true = valued refl in absurd cc
 due_by Parked (Some ticket) m valued asked = sym (asked ticket refl refl)
-due_by Queued value m valued asked = refl
-due_by Running value m valued asked = refl
-due_by Done value m valued asked = refl
-due_by Dropped value m valued asked = refl
+due_by _ value m valued asked = refl
 
 due_is : (jobs : Jobs Ticket) (marked : ℕ → Bool) (serial : ℕ) (found : Option (Job Ticket)) → map.get jobs serial ≡ found → AreValued jobs → AreAsked is_marked_so jobs marked
     → (is_parked_job found && marked serial) ≡ is_due_to_sweep found

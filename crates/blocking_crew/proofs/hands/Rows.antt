@@ -5,7 +5,7 @@ use Rattle.std.proofs.lemmas.Bool.Decides.{nat_tests}
 use Rattle.std.proofs.lemmas.Bool.{eqb-true, eqb-false}
 use Rattle.std.proofs.lemmas.Option.{slice_get_past, slice_get_within}
 use Rattle.blocking_crew.specs.Crews.{hand_at, hand_in, with_hand}
-use Rattle.blocking_crew.specs.Crews.{one_if_free, free_hands}
+use Rattle.blocking_crew.specs.Crews.{sum_of}
 use Rattle.blocking_crew.specs.declared.hand.Hand.{Hand}
 use Rattle.blocking_crew.specs.declared.hand.Hand.TheVariants.{Out, Free, Holds}
 use Rattle.blocking_crew.specs.declared.hand.Held.{Held}
@@ -83,16 +83,6 @@ hand_next row =
 
 -- ---- sums over a row of hands
 
--- a sum of what each hand adds
-abbrev pub sum_of : (Hand → ℕ) → List Hand → ℕ
-sum_of one [] = 0
-sum_of one (h ∷ row) = one h + sum_of one row
-
--- how many hands are free
-pub sum_free : (row : List Hand) → sum_of one_if_free row ≡ free_hands row
-sum_free [] = refl
-sum_free (h ∷ row) = ap (λ n. one_if_free h + n) (sum_free row)
-
 -- a sum after one hand has changed
 pub sum_set : (one : Hand → ℕ) (row : List Hand) (i : ℕ) (old new : Hand) → slice_get row i ≡ Some old → sum_of one (slice_set row i new) + one old ≡ sum_of one row + one new
 sum_set one [] i old new e = absurd (cc)
@@ -105,11 +95,3 @@ sum_set one (h ∷ row) (suc i) old new e = let below = sum_set one row i old ne
 pub sum_pushed : (one : Hand → ℕ) (row : List Hand) (new : Hand) → sum_of one (row ++ new ∷ []) ≡ sum_of one row + one new
 sum_pushed one [] new = omega arith
 sum_pushed one (h ∷ row) new = let below = sum_pushed one row new in omega (arith, below)
-
--- how many hands are free after one has changed
-pub free_set : (row : List Hand) (i : ℕ) (old h : Hand) → slice_get row i ≡ Some old → free_hands (slice_set row i h) + one_if_free old ≡ free_hands row + one_if_free h
-free_set row i old h e = omega (arith, sum_set one_if_free row i old h e, sum_free row, sum_free (slice_set row i h))
-
--- and after one was added
-pub free_pushed : (row : List Hand) (h : Hand) → free_hands (row ++ h ∷ []) ≡ free_hands row + one_if_free h
-free_pushed row h = omega (arith, sum_pushed one_if_free row h, sum_free row, sum_free (row ++ h ∷ []))

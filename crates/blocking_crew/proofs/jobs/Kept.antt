@@ -1,8 +1,8 @@
 -- Jobs that run on, and have their tickets, whatever becomes of others.
 use Rattle.std.proofs.Common.{◌≡◌, ℕ, zero, suc, ◌<◌, ◌≤◌, ◌==◌, ◌||◌, cond, Bool, true, false, refl, sym, ap, ◌∙◌, subst, if◌then◌else◌, List, [], ◌∷◌, Option, Some, None, inl, inr, arith}
-use Rattle.std.specs.Prelude.{option_map, is_some, filter, ◌&&◌}
+use Rattle.std.specs.Prelude.{option_map, is_some, filter}
 use Rattle.std.specs.FinMap.{get, insert, remove}
-use Rattle.std.proofs.lemmas.Bool.{eqb-true, cases_eq, cases_lt}
+use Rattle.std.proofs.lemmas.Bool.{eqb-true, cases_eq, cases_lt, and_parts, and_from}
 use Rattle.blocking_pool.specs.Jobs.{Job, Jobs, JobNumber, amend, if_at, is_running, is_parked, is_running_job, is_parked_job, is_running_as, jobs_after_requeue, entry_after_requeue}
 use Rattle.blocking_pool.specs.Lists.{is_in}
 use Rattle.blocking_pool.specs.Sweeps.{serials_below}
@@ -12,7 +12,7 @@ use Rattle.blocking_pool.proofs.Lists.{is_in-last, is_in-push}
 use Rattle.blocking_crew.specs.Tickets.{JobPool, is_valued, AreValued, is_due_to_sweep, is_marked_ticket, to_sweep}
 use Rattle.blocking_crew.specs.Closing.{NoneDue}
 use Rattle.blocking_crew.specs.declared.ticket.Ticket.{Ticket}
-use Rattle.blocking_crew.proofs.jobs.Lookups.{job_put, job_out, job_changed, job_requeued, runs_at, filter_passes}
+use Rattle.blocking_crew.proofs.jobs.Lookups.{job_put, job_out, job_changed, job_requeued, runs_at, in_filter}
 
 -- ---- one job
 
@@ -54,17 +54,11 @@ with_ticket job ticket has = ap (λ (o : Option Ticket). is_running job.standing
 
 not_parked : (standing : Standing) → is_running standing ≡ true → is_parked standing ≡ true → ⊥
 not_parked Running runs parked = cc
-not_parked Queued runs parked = cc
-not_parked Parked runs parked = cc
-not_parked Done runs parked = cc
-not_parked Dropped runs parked = cc
+not_parked _ runs parked = cc
 
 parked_has : (standing : Standing) (value : Option Ticket) → is_parked standing ≡ true → (is_running standing || is_some value) ≡ true → is_some value ≡ true
 parked_has Parked value parked has = has
-parked_has Queued value parked has = absurd cc
-parked_has Running value parked has = absurd cc
-parked_has Done value parked has = absurd cc
-parked_has Dropped value parked has = absurd cc
+parked_has _ value parked has = absurd cc
 
 -- a parked job that enters again is kept
 pub parked_kept : (found : Option (Job Ticket)) → is_parked_job found ≡ true → IsKept found (option_map entry_after_requeue found)
@@ -117,18 +111,14 @@ requeued_kept jobs serials parked s =
 
 -- ---- sweeps
 
-and_left : (b c : Bool) → (b && c) ≡ true → b ≡ true
-and_left true c both = refl
-and_left false c both = both
-
 due_parked : (found : Option (Job Ticket)) → is_due_to_sweep found ≡ true → is_parked_job found ≡ true
 due_parked None due = due
-due_parked (Some job) due = and_left (is_parked job.standing) (is_marked_ticket job.value) due
+due_parked (Some job) due = (and_parts (is_parked job.standing) (is_marked_ticket job.value) due).0
 
 -- what a sweep puts back is parked
 pub swept_parked : (pool : JobPool) (s : ℕ) → is_in s (to_sweep pool) ≡ true → is_parked_job (get pool.jobs s) ≡ true
 swept_parked pool s found =
-    due_parked (get pool.jobs s) (filter_passes (λ serial. is_due_to_sweep (get pool.jobs serial)) (serials_below pool.next_serial) s found)
+    due_parked (get pool.jobs s) (and_parts (is_due_to_sweep (get pool.jobs s)) (is_in s (serials_below pool.next_serial)) (sym (in_filter (λ serial. is_due_to_sweep (get pool.jobs serial)) (serials_below pool.next_serial) s) ∙ found)).0
 
 below_in : (s next : ℕ) → s < next → is_in s (serials_below next) ≡ true
 below_in s zero under = absurd (omega (arith, under))
@@ -137,18 +127,6 @@ below_in s (suc next) under =
       | inl same ↦ is_in-last s next (serials_below next) same
       | inr far ↦ is_in-push s next (serials_below next) far ∙ below_in s next (omega (arith, far, under))
     ]
-
-filter_keeps_by : (b c : Bool) (test : ℕ → Bool) (n s : ℕ) (ns kept : List ℕ) → test n ≡ b → (s == n) ≡ c → test s ≡ true → (is_in s ns ≡ true → is_in s kept ≡ true) → (c || is_in s ns) ≡ true
-    → is_in s (cond b (n ∷ kept) kept) ≡ true
-filter_keeps_by true true test n s ns kept tests same passes rest found = ap (λ (c : Bool). c || is_in s kept) same
-filter_keeps_by true false test n s ns kept tests same passes rest found = ap (λ (c : Bool). c || is_in s kept) same ∙ rest found
-filter_keeps_by false true test n s ns kept tests same passes rest found = let bad : true ≡ false = sym passes ∙ ap test (eqb-true s n same) ∙ tests in absurd cc
-filter_keeps_by false false test n s ns kept tests same passes rest found = rest found
-
-filter_keeps : (test : ℕ → Bool) (ns : List ℕ) (s : ℕ) → test s ≡ true → is_in s ns ≡ true → is_in s (filter test ns) ≡ true
-filter_keeps test [] s passes found = absurd cc
-filter_keeps test (n ∷ ns) s passes found =
-    filter_keeps_by (test n) (s == n) test n s ns (filter test ns) refl refl passes (filter_keeps test ns s passes) found
 
 requeued_undue : (found : Option (Job Ticket)) → is_due_to_sweep (option_map entry_after_requeue found) ≡ false
 requeued_undue None = refl
@@ -168,7 +146,7 @@ pub none_due : (pool : JobPool) (jobs : Jobs Ticket) → ((s : ℕ) → pool.nex
 none_due pool jobs unused swept s =
     ap (λ (j : Jobs Ticket). is_due_to_sweep (get j s)) swept ∙ ap is_due_to_sweep (job_requeued (to_sweep pool) pool.jobs s)
     ∙ undue_if (is_in s (to_sweep pool)) (get pool.jobs s) (λ due.
-    filter_keeps (λ serial. is_due_to_sweep (get pool.jobs serial)) (serials_below pool.next_serial) s due (below_in s pool.next_serial (within due)))
+    in_filter (λ serial. is_due_to_sweep (get pool.jobs serial)) (serials_below pool.next_serial) s ∙ and_from (is_due_to_sweep (get pool.jobs s)) (is_in s (serials_below pool.next_serial)) due (below_in s pool.next_serial (within due)))
   where
     within : is_due_to_sweep (get pool.jobs s) ≡ true → s < pool.next_serial
     within due =

@@ -1,5 +1,5 @@
 -- Look-ups of a job in the pool, after a change of that job or of others.
-use Rattle.std.proofs.Common.{◌≡◌, ℕ, ◌==◌, ◌||◌, cond, Bool, true, false, refl, sym, ap, ◌∙◌, if◌then◌else◌, List, [], ◌∷◌, Option, Some, None}
+use Rattle.std.proofs.Common.{◌≡◌, ℕ, ◌==◌, ◌&&◌, ◌||◌, cond, Bool, true, false, refl, sym, ap, ◌∙◌, subst, if◌then◌else◌, List, [], ◌∷◌, Option, Some, None}
 use Rattle.std.specs.Prelude.{option_map, filter}
 use Rattle.std.specs.Ordering.{eq_by_cmp, nat_cmp}
 use Rattle.std.specs.Cmp.{nat_cmp_total}
@@ -7,6 +7,10 @@ use Rattle.std.specs.FinMap.{get, insert, remove, get-insert, get-remove}
 use Rattle.std.proofs.lemmas.Bool.{eqb-true, eq-eqb}
 use Rattle.blocking_pool.specs.Jobs.{Job as Entry, Jobs, JobNumber, jobs_after_change, jobs_after_requeue, amend, if_at, is_running_job, is_running_as, entry_after_take, entry_after_requeue}
 use Rattle.blocking_pool.specs.Lists.{is_in}
+use Rattle.blocking_pool.specs.Wakes.{wake_of, cancel_of}
+use Rattle.blocking_pool.specs.declared.pool.answer.Woke.TheVariants.{Entered}
+use Rattle.blocking_pool.specs.declared.pool.standing.Standing.{Standing}
+use Rattle.blocking_pool.specs.declared.pool.standing.Standing.TheVariants.{Parked}
 use Rattle.blocking_pool.proofs.Lists.{eq_by_nat_cmp, turned}
 use Rattle.blocking_crew.specs.declared.ticket.Ticket.{Ticket}
 
@@ -37,6 +41,48 @@ there jobs t change s false is = refl
 pub job_changed : (jobs : Jobs Ticket) (t : ℕ) (change : Entry Ticket → Entry Ticket) (s : ℕ) (b : Bool) → (t == s) ≡ b
     → get (amend jobs t change) s ≡ (if b then option_map change (get jobs s) else get jobs s)
 job_changed jobs t change s b is = changed_at jobs t change s b (get jobs t) refl is ∙ there jobs t change s b is
+
+-- and after it has changed again
+pub changed_twice : (jobs : Jobs Ticket) (t : ℕ) (one two : Entry Ticket → Entry Ticket) (s : ℕ) (b : Bool) → (t == s) ≡ b
+    → get (amend (amend jobs t one) t two) s ≡ (if b then option_map two (option_map one (get jobs s)) else get jobs s)
+changed_twice jobs t one two s true is = job_changed (amend jobs t one) t two s true is ∙ ap (option_map two) (job_changed jobs t one s true is)
+changed_twice jobs t one two s false is = job_changed (amend jobs t one) t two s false is ∙ job_changed jobs t one s false is
+
+-- a fact of every job: of this one, and of each other
+pub each_job : (t : ℕ) (P : ℕ → Type 0) → ((t == t) ≡ true → P t) → ((s : ℕ) → (t == s) ≡ false → P s) → (s : ℕ) → P s
+each_job t P own other s = by (t == s) refl
+  where
+    by : (b : Bool) → (t == s) ≡ b → P s
+    by true is = subst P (eqb-true t s is) (own (eq-eqb t t refl))
+    by false is = other s is
+
+-- a job that a wake or a cancel puts back is parked
+pub woken_is : (o : Option Standing) → Entered ≡ wake_of o → o ≡ Some Parked
+woken_is (Some Parked) e = refl
+woken_is _ e = absurd cc
+
+pub cancelled_is : (o : Option Standing) → Entered ≡ cancel_of o → o ≡ Some Parked
+cancelled_is (Some Parked) e = refl
+cancelled_is _ e = absurd cc
+
+-- a job that is found by its number is the job of that serial
+pub found_at : (place : ℕ) (found : Option (Entry Ticket)) (entry : Entry Ticket) → if_at place found ≡ Some entry → found ≡ Some entry
+found_at place None entry e = absurd cc
+found_at place (Some found) entry e = by (found.place == place) e
+  where
+    by : (b : Bool) → (if b then Some found else None) ≡ Some entry → Some found ≡ Some entry
+    by true e = e
+    by false e = absurd cc
+
+-- so is one that stands somehow by its number
+pub stands_at : (place : ℕ) (found : Option (Entry Ticket)) (how : Standing) → option_map (λ (job : Entry Ticket). job.standing) (if_at place found) ≡ Some how
+    → (entry : Entry Ticket) × (found ≡ Some entry) × (entry.standing ≡ how)
+stands_at place None how is = absurd cc
+stands_at place (Some entry) how is = by (entry.place == place) is
+  where
+    by : (b : Bool) → option_map (λ (job : Entry Ticket). job.standing) (if b then Some entry else None) ≡ Some how → (e : Entry Ticket) × (Some entry ≡ Some e) × (e.standing ≡ how)
+    by true is = (entry, refl, cc)
+    by false is = absurd cc
 
 twice : (b c : Bool) (found : Option (Entry Ticket))
     → (if c then option_map entry_after_requeue (if b then option_map entry_after_requeue found else found) else (if b then option_map entry_after_requeue found else found))
@@ -71,12 +117,19 @@ runs_at place (Some entry) runs = by (entry.place == place) runs
     by true is = is
     by false is = absurd cc
 
--- what a filter leaves passes its test
-kept_by : (b c : Bool) (test : ℕ → Bool) (n s : ℕ) (ns : List ℕ) → (s == n) ≡ c → test n ≡ b → (is_in s ns ≡ true → test s ≡ true) → is_in s (cond b (n ∷ ns) ns) ≡ true → test s ≡ true
-kept_by true true test n s ns same passes rest is = ap test (eqb-true s n same) ∙ passes
-kept_by true false test n s ns same passes rest is = rest (sym (ap (λ (c : Bool). c || is_in s ns) same) ∙ is)
-kept_by false c test n s ns same passes rest is = rest is
+filter_by : (b d c m : Bool) (s x : ℕ) (ns : List ℕ) → (s == x) ≡ c → (c ≡ true → d ≡ b) → is_in s ns ≡ (d && m) → is_in s (cond b (x ∷ ns) ns) ≡ (d && (c || m))
+filter_by true true c m s x ns is same e = ap (λ (b : Bool). b || is_in s ns) is ∙ ap (λ (b : Bool). c || b) e
+filter_by true false true m s x ns is same e = let bad : false ≡ true = same refl in absurd cc
+filter_by true false false m s x ns is same e = ap (λ (b : Bool). b || is_in s ns) is ∙ e
+filter_by false true true m s x ns is same e = let bad : true ≡ false = same refl in absurd cc
+filter_by false true false m s x ns is same e = e
+filter_by false false c m s x ns is same e = e
 
-pub filter_passes : (test : ℕ → Bool) (ns : List ℕ) (s : ℕ) → is_in s (filter test ns) ≡ true → test s ≡ true
-filter_passes test [] s is = absurd cc
-filter_passes test (n ∷ ns) s is = kept_by (test n) (s == n) test n s (filter test ns) refl refl (filter_passes test ns s) is
+-- what a filter leaves is what was there and passes its test
+pub in_filter : (p : ℕ → Bool) (ns : List ℕ) (s : ℕ) → is_in s (filter p ns) ≡ (p s && is_in s ns)
+in_filter p [] s = by (p s)
+  where
+    by : (b : Bool) → false ≡ (b && false)
+    by true = refl
+    by false = refl
+in_filter p (n ∷ ns) s = filter_by (p n) (p s) (s == n) (is_in s ns) s n (filter p ns) refl (λ is. ap p (eqb-true s n is)) (in_filter p ns s)

@@ -23,11 +23,13 @@ use Rattle.blocking_laws.specs.Turns.{Turn}
 use Rattle.blocking_laws.specs.declared.event.Act.{Act}
 use Rattle.blocking_laws.specs.declared.event.Act.TheVariants.{Took, TookDropped, Ended}
 use Rattle.blocking_laws.specs.declared.event.Moment.{Moment}
+use Rattle.blocking_laws.specs.declared.event.Party.{Party}
+use Rattle.blocking_laws.specs.declared.event.Party.TheVariants.{Worker}
 use Rattle.blocking_laws.specs.declared.event.WaitEnd.{WaitEnd}
 use Rattle.blocking_laws.specs.declared.step.Step.{Step}
 use Rattle.blocking_crew.specs.Crews.{Crew, hand_at, may_end, outcome_of, standing_after}
-use Rattle.blocking_crew.specs.Moves.{Move, Adds, Arrives, TakesJob, TakesNone, Works, EndsTurn, Parks, HasWaited, Sweeps, IsWoken, IsCancelled, IsLetGo, Tells, May, call_of, took_act, parked_act, is_aside}
-use Rattle.blocking_crew.specs.Tickets.{JobPool, TakesFront, SweepsIf, ParksTo, ParksSo}
+use Rattle.blocking_crew.specs.Moves.{Move, Adds, Arrives, TakesJob, TakesNone, Works, EndsTurn, Parks, HasWaited, Sweeps, IsWoken, IsCancelled, IsLetGo, Tells, May, call_of, next_start, took_act, parked_act, is_aside}
+use Rattle.blocking_crew.specs.Tickets.{JobPool, no_growth, TakesFront, SweepsIf, ParksTo, ParksSo}
 use Rattle.blocking_crew.specs.Ties.{FiledAs, FiledHere, ValueAs, IsNumberOf, IsAsked, CrewHolds, turn_of, moment_of}
 use Rattle.blocking_crew.specs.declared.hand.Hand.TheVariants.{Holds}
 use Rattle.blocking_crew.specs.declared.hand.Held.{Held}
@@ -36,12 +38,12 @@ use Rattle.blocking_crew.specs.declared.hand.Stage.TheVariants as stage
 use Rattle.blocking_crew.specs.declared.ticket.Ticket.{Ticket}
 use Rattle.blocking_crew.specs.declared.tickets.Parking.{Parking}
 use Rattle.blocking_crew.specs.declared.tickets.Parking.TheVariants as parking
-use Rattle.blocking_crew.proofs.ties.Acts.{by_work, by_aside, by_let_go, aside_or}
-use Rattle.blocking_crew.proofs.ties.Counts.{swept, workers_now}
+use Rattle.blocking_crew.proofs.ties.Acts.{now_with, plain, aside_plain, by_work, by_let_go, aside_or}
+use Rattle.blocking_crew.proofs.ties.Counts.{workers_now}
+use Rattle.blocking_crew.proofs.ties.Entered.{swept}
 use Rattle.blocking_crew.proofs.ties.Known.{front_filed}
-use Rattle.blocking_crew.proofs.ties.Lookups.{found_at}
-use Rattle.blocking_crew.proofs.ties.Queue.{swept_line}
-use Rattle.blocking_crew.proofs.ties.Sweeps.{sweep_same, is_swept_if}
+use Rattle.blocking_crew.proofs.jobs.Lookups.{found_at}
+use Rattle.blocking_crew.proofs.ties.Sweeps.{sweep_same}
 
 -- ---- takes
 
@@ -54,8 +56,7 @@ mark_is : (stand : Standing) (found : Option Ticket) (mark : Bool) (value : Tick
 mark_is Queued found mark value e v = let both : Some value ≡ Some (record { is_marked = mark }) = sym e ∙ v in let same : value ≡ record { is_marked = mark } = cc in ap (λ (x : Ticket). x.is_marked) same
 mark_is Parked found mark value e v = let both : Some value ≡ Some (record { is_marked = mark }) = sym e ∙ v in let same : value ≡ record { is_marked = mark } = cc in ap (λ (x : Ticket). x.is_marked) same
 mark_is Running found mark value e v = absurd cc
-mark_is Done found mark value e v = absurd v
-mark_is Dropped found mark value e v = absurd v
+mark_is _ found mark value e v = absurd v
 
 -- whether a job is to be dropped, by its entry
 to_drop_is : (entry : Entry Ticket) (stand : Option Standing) (wake cancel mark ended : Bool) (value : Ticket) → entry.value ≡ Some value
@@ -147,8 +148,9 @@ module _ (setting : ℕ) (plan : List Bool) (crew : Crew) (past : List Moment) (
       → (nat_lt (limit_after (limit setting past) (workers past + growth.started) growth.refused) (workers past + growth.started)
       || has_timed_out end && length (joined (queue past) (if has_timed_out end then seen_to_sweep past else [])) == 0) ≡ must_stop (has_timed_out end) between
   stop_is end growth between sweeps =
-      let g = swept setting plan crew past step owner h (has_timed_out end) growth between sweeps in
-      let line = swept_line setting plan crew past step owner h (has_timed_out end) between (is_swept_if setting plan crew past h (IsPlanned plan) (has_timed_out end) growth between sweeps) in
+      let entered = swept setting plan crew past step owner h (has_timed_out end) growth between sweeps in
+      let g = entered.grew in
+      let line : between.queue ≡ joined (queue past) (if has_timed_out end then seen_to_sweep past else []) = entered.line ∙ ap (λ (ns : List ℕ). joined ns (if has_timed_out end then seen_to_sweep past else [])) h.tied.lined in
       let all = workers_now setting plan crew past step owner h in
       let gw = g.workers in
       let hired : workers past + growth.started ≡ between.counts.workers = omega (arith, gw, all) in
@@ -162,8 +164,8 @@ module _ (setting : ℕ) (plan : List Bool) (crew : Crew) (past : List Moment) (
       met_as answer (get crew.pool.jobs number.serial) number.place (standing past number.serial) _ _ _ _ done dropped placed (h.tied.filed number.serial)
 
   -- an event that is nothing to the crew needs no answer
-  pub answer_aside : (last : Moment) (act : Act) → (is_aside act || is_nothing act) ≡ true → PoolAnswers setting past last act
-  answer_aside last act is = by_aside (λ act. PoolAnswers setting past last act) tt (λ n. tt) tt tt tt act is
+  pub answer_aside : (who : Party) (act : Act) → (is_aside act || is_nothing act) ≡ true → AnswerLaw setting past (now_with step owner who None act (next_start crew) no_growth)
+  answer_aside who act is = (plain setting past step owner who None (next_start crew) no_growth act (aside_plain act is)).answered
 
   -- Each move is answered as the law of answers says.
   pub answer_law : (move : Move) → May (IsPlanned plan) crew move → IsAsked crew past (call_of move) → AnswerLaw setting past (moment_of crew move step owner)
@@ -177,7 +179,8 @@ module _ (setting : ℕ) (plan : List Bool) (crew : Crew) (past : List Moment) (
       took_rightly setting past (moment_of crew (TakesJob v old to_drop number ticket growth pool) step owner) to_drop number.serial (take_is number ticket to_drop growth pool may.1)
   answer_law (TakesNone v old pass) may asked = ap (take_from past) (sym may.1 ∙ h.tied.lined)
   answer_law (Works v held act) may asked =
-      by_work (λ at act. PoolAnswers setting past (moment_of crew (Works v held act) step owner) act) (λ a. tt) tt (λ w. tt) tt (λ w. tt) tt held.stage act may.1
+      by_work (λ at act. AnswerLaw setting past (moment_of crew (Works v held act) step owner))
+      (λ at act is same fits. (plain setting past step owner (Worker v) (Some held.turn.serial) (next_start crew) no_growth act is).answered) tt (λ w. tt) held.stage act may.1
   answer_law (EndsTurn v held pass) may asked = ends held v may.0 may.1
   answer_law (Parks v held ticket (parking.Parked pass) pool) may asked = parks held v ticket (parking.Parked pass) pool may.0 may.1 may.2 (asked held may.0)
   answer_law (Parks v held ticket (parking.Queued pass) pool) may asked = parks held v ticket (parking.Queued pass) pool may.0 may.1 may.2 (asked held may.0)
@@ -188,5 +191,5 @@ module _ (setting : ℕ) (plan : List Bool) (crew : Crew) (past : List Moment) (
   answer_law (IsWoken who number woke growth pool) may asked = may.answer ∙ met_rightly wake_of number refl refl asked
   answer_law (IsCancelled who number woke growth pool) may asked = may.answer ∙ met_rightly cancel_of number refl refl asked
   answer_law (IsLetGo who act number) may asked = by_let_go (λ act. PoolAnswers setting past (moment_of crew (IsLetGo who act number) step owner) act) tt tt act may
-  answer_law (Tells who act) may asked = answer_aside (moment_of crew (Tells who act) step owner) act (aside_or act may)
+  answer_law (Tells who act) may asked = answer_aside who act (aside_or act may)
   answer_law move may asked = tt

@@ -1,32 +1,31 @@
 -- Where jobs are queued and no worker is left, the last start that was tried was refused.
-use Rattle.std.proofs.Common.{◌≡◌, ◌<◌, ◌≤◌, ◌+◌, ◌-◌, ◌&&◌, ◌||◌, nat_lt, ℕ, Bool, true, false, List, [], ◌∷◌, ◌++◌, length, length-append, refl, sym, ap, ◌∙◌, subst, arith, Option, zero, suc, Ok, Err}
+use Rattle.std.proofs.Common.{◌≡◌, ◌<◌, ◌≤◌, ◌+◌, ◌-◌, ◌==◌, ◌&&◌, ◌||◌, not, nat_lt, ℕ, Bool, true, false, List, [], ◌∷◌, ◌++◌, length, length-append, refl, sym, ap, ◌∙◌, subst, arith, Option, zero, suc, Err}
 use Rattle.std.proofs.lemmas.Bool.Decides.{nat_tests}
 use Rattle.blocking_pool.specs.Counts.{Counts, limit_of}
 use Rattle.blocking_pool.specs.Growth.{Growth, is_due, limit_after}
-use Rattle.blocking_pool.specs.Jobs.{job_of, value_at}
 use Rattle.blocking_pool.specs.PoolAnswers.{is_empty}
-use Rattle.blocking_pool.specs.declared.pool.answer.Refusal.TheVariants.{Memory, NoWorker, Numbers}
-use Rattle.blocking_pool.specs.declared.pool.answer.Waited.TheVariants.{Stay, Stop}
-use Rattle.blocking_pool.specs.declared.pool.answer.Woke.TheVariants.{Entered, Marked, Nothing}
+use Rattle.blocking_pool.specs.declared.pool.answer.Refusal.TheVariants.{NoWorker}
+use Rattle.blocking_pool.specs.declared.pool.answer.Waited.TheVariants.{Stop}
 use Rattle.blocking_pool.specs.declared.pool.token.WorkerPass.{WorkerPass}
 use Rattle.blocking_laws.specs.Counts.{workers, limit, limit_by}
 use Rattle.blocking_laws.specs.Growth.{IsPlanned}
-use Rattle.blocking_laws.specs.Seen.{has_timed_out}
+use Rattle.blocking_laws.specs.Queue.{entered_by}
+use Rattle.blocking_laws.specs.Seen.{joined, has_timed_out}
 use Rattle.blocking_laws.specs.Served.{last_refused, last_refused_by}
 use Rattle.blocking_laws.specs.declared.event.Moment.{Moment}
 use Rattle.blocking_laws.specs.declared.event.WaitEnd.{WaitEnd}
 use Rattle.blocking_laws.specs.declared.step.Step.{Step}
 use Rattle.blocking_crew.specs.Crews.{Crew, hand_at}
-use Rattle.blocking_crew.specs.Moves.{Move, Adds, TakesJob, Works, EndsTurn, Parks, HasWaited, SetsLimit, Sweeps, IsWoken, IsCancelled, IsLetGo, Tells, May, after, call_of, event_of}
-use Rattle.blocking_crew.specs.Tickets.{JobPool, no_growth, GrowsBy, SweepsTo, to_sweep}
+use Rattle.blocking_crew.specs.Moves.{Move, Adds, Arrives, TakesJob, EndsTurn, Parks, HasWaited, SetsLimit, May, after, call_of, event_of}
+use Rattle.blocking_crew.specs.Tickets.{JobPool, no_growth, GrowsBy}
 use Rattle.blocking_crew.specs.Ties.{CrewHolds, Served, IsAsked, moment_of}
 use Rattle.blocking_crew.specs.declared.hand.Hand.TheVariants.{Free, Holds}
 use Rattle.blocking_crew.specs.declared.hand.Held.{Held}
 use Rattle.blocking_crew.specs.declared.tickets.Parking.TheVariants as parking
-use Rattle.blocking_crew.proofs.ties.Acts.{by_work, by_aside, by_let_go, aside_or}
-use Rattle.blocking_crew.proofs.ties.Counts.{swept, workers_now, idle_some}
+use Rattle.blocking_crew.proofs.ties.Acts.{enters_so}
+use Rattle.blocking_crew.proofs.ties.Counts.{workers_now, idle_some}
+use Rattle.blocking_crew.proofs.ties.Entered.{growth_in, Enters, enters, swept}
 use Rattle.blocking_crew.proofs.ties.Known.{held_once}
-use Rattle.blocking_crew.proofs.jobs.Marks.{mark_alone}
 use Rattle.blocking_crew.proofs.laws.Whole.{tied_after}
 
 -- ---- the limit stays above 0
@@ -61,20 +60,16 @@ last_started started r b e = ap (λ c. last_refused_by started c b) e
 
 module _ (setting : ℕ) (plan : List Bool) (crew : Crew) (past : List Moment) (step : Step) (owner : Option ℕ) (h : CrewHolds setting plan crew past) (s : Served setting past) where
   acts : (move : Move) → May (IsPlanned plan) crew move → 0 < limit_by (event_of crew move).act (limit setting past)
-  acts (Adds who (Ok number) growth pool) may = s.positive
-  acts (Adds who (Err why) growth pool) may = s.positive
+  acts (Adds who (Err NoWorker) growth pool) may = s.positive
+  acts (Arrives pass) may = s.positive
   acts (TakesJob v old true number ticket growth pool) may = s.positive
   acts (TakesJob v old false number ticket growth pool) may = s.positive
-  acts (Works v held act) may = by_work (λ at act. 0 < limit_by act (limit setting past)) (λ a. s.positive) s.positive (λ w. s.positive) s.positive (λ w. s.positive) s.positive held.stage act may.1
+  acts (EndsTurn v held pass) may = s.positive
   acts (Parks v held ticket (parking.Parked pass) pool) may = s.positive
   acts (Parks v held ticket (parking.Queued pass) pool) may = s.positive
-  acts (Parks v held ticket (parking.HandedOut back) pool) may = s.positive
-  acts (HasWaited v pass end (Stay back) growth pool) may = s.positive
   acts (HasWaited v pass end Stop growth pool) may = s.positive
   acts (SetsLimit n) may = may
-  acts (IsLetGo who act number) may = by_let_go (λ act. 0 < limit_by act (limit setting past)) s.positive s.positive act may
-  acts (Tells who act) may = by_aside (λ act. 0 < limit_by act (limit setting past)) s.positive (λ n. s.positive) s.positive s.positive s.positive act (aside_or act may)
-  acts move may = s.positive
+  acts move may = subst (λ l. 0 < l) (sym ((enters_so past (event_of crew move).act (enters setting plan crew past step owner h move may refl).only).steady.most (limit setting past))) s.positive
 
   -- who serves the queue of the pool
   before : (crew.pool.queue ≡ [] → ⊥) → crew.pool.counts.workers ≡ 0 → last_refused past ≡ true
@@ -86,23 +81,23 @@ module _ (setting : ℕ) (plan : List Bool) (crew : Crew) (past : List Moment) (
   fewer : crew.pool.counts.idle ≤ crew.pool.counts.workers
   fewer = let e = h.tied.counted.idle_are in omega (arith, e)
 
-  -- after a growth for jobs of which some are ready
-  grown : (ready : ℕ) (growth : Growth) (pool : JobPool) → GrowsBy (IsPlanned plan) ready crew.pool.counts growth → 0 < ready → pool.counts.workers ≡ crew.pool.counts.workers + growth.started → pool.counts.workers ≡ 0
-      → last_refused_by growth.started growth.refused (last_refused past) ≡ true
-  grown ready growth pool g some hired none =
-      last_started growth.started growth.refused (last_refused past) (grew_none (IsPlanned plan) ready crew.pool.counts growth g some positive fewer (sym hired ∙ none))
-
-  longer : (n : ℕ) (ns : List ℕ) → 0 < length (crew.pool.queue ++ n ∷ ns)
-  longer n ns = let e = length-append crew.pool.queue (n ∷ ns) in omega (arith, e)
-
-  -- after a sweep
-  swept_served : (growth : Growth) (pool : JobPool) (serials : List ℕ) → SweepsTo (IsPlanned plan) crew.pool serials growth pool → (pool.queue ≡ [] → ⊥) → pool.counts.workers ≡ 0
-      → last_refused_by growth.started growth.refused (last_refused past) ≡ true
-  swept_served growth pool [] sweeps some none =
-      subst (λ (g : Growth). last_refused_by g.started g.refused (last_refused past) ≡ true) (sym sweeps.0)
-      (before (λ e. some (ap (λ (p : JobPool). p.queue) sweeps.1 ∙ e)) (ap (λ (p : JobPool). p.counts.workers) (sym sweeps.1) ∙ none))
-  swept_served growth pool (n ∷ ns) sweeps some none =
-      grown (length (crew.pool.queue ++ n ∷ ns)) growth pool sweeps.starts (longer n ns) (ap (λ (p : JobPool). p.counts.workers) sweeps.after_is) none
+  -- where jobs have entered, or none
+  entered_served : (last : Moment) (new : Crew) → Enters setting plan crew past step owner h last new → (new.pool.queue ≡ [] → ⊥) → new.pool.counts.workers ≡ 0 → last_refused (last ∷ past) ≡ true
+  entered_served last new e some none = by (entered_by past last.event.act) refl
+    where
+      by : (ns : List ℕ) → entered_by past last.event.act ≡ ns → last_refused_by last.event.started last.event.start_refused (last_refused past) ≡ true
+      by [] is =
+          let no : growth_in last ≡ no_growth = e.entered.grew.none (ap (λ (ns : List ℕ). not (length ns == 0)) is) in
+          let hired = e.entered.grew.workers in
+          subst (λ (g : Growth). last_refused_by g.started g.refused (last_refused past) ≡ true) (sym no)
+          (before (λ empty. some (e.entered.line ∙ ap (joined crew.pool.queue) is ∙ empty)) (omega (arith, hired, none)))
+      by (n ∷ ns) is =
+          let hired = e.entered.grew.workers in
+          let line : new.pool.queue ≡ crew.pool.queue ++ n ∷ ns = e.entered.line ∙ ap (joined crew.pool.queue) is in
+          let long = length-append crew.pool.queue (n ∷ ns) in
+          let ready : 0 < length new.pool.queue = (let same : length new.pool.queue ≡ length (crew.pool.queue ++ n ∷ ns) = ap length line in omega (arith, long, same)) in
+          last_started last.event.started last.event.start_refused (last_refused past)
+          (grew_none (IsPlanned plan) (length new.pool.queue) crew.pool.counts (growth_in last) (e.entered.starts (λ no. (let bad : n ∷ ns ≡ [] = sym is ∙ no in cc))) ready positive fewer (omega (arith, hired, none)))
 
   -- a worker that is there is counted
   free_there : (v : ℕ) (pass : WorkerPass) → hand_at crew.hands v ≡ Free pass → 0 < crew.pool.counts.workers
@@ -113,15 +108,6 @@ module _ (setting : ℕ) (plan : List Bool) (crew : Crew) (past : List Moment) (
 
   still_there : (v : ℕ) (held : Held) (pool : JobPool) → hand_at crew.hands v ≡ Holds held → pool.counts.workers ≡ crew.pool.counts.workers → pool.counts.workers ≡ 0 → ⊥
   still_there v held pool at hired none = let there = held_there v held at in omega (arith, there, hired, none)
-
-  -- nothing was started, and queue and workers are as they were
-  same : (pool : JobPool) → pool.queue ≡ crew.pool.queue → pool.counts.workers ≡ crew.pool.counts.workers → (pool.queue ≡ [] → ⊥) → pool.counts.workers ≡ 0 → last_refused past ≡ true
-  same pool line hired some none = before (λ e. some (line ∙ e)) (sym hired ∙ none)
-
-  same_growth : (growth : Growth) (pool : JobPool) → growth ≡ no_growth → pool ≡ crew.pool → (pool.queue ≡ [] → ⊥) → pool.counts.workers ≡ 0 → last_refused_by growth.started growth.refused (last_refused past) ≡ true
-  same_growth growth pool none same_pool some nobody =
-      subst (λ (g : Growth). last_refused_by g.started g.refused (last_refused past) ≡ true) (sym none)
-      (same pool (ap (λ (p : JobPool). p.queue) same_pool) (ap (λ (p : JobPool). p.counts.workers) same_pool) some nobody)
 
   empty_by : (a late : Bool) (q : List ℕ) → (a || late && is_empty q) ≡ true → (a ≡ true → ⊥) → q ≡ []
   empty_by true late q e never = absurd (never refl)
@@ -136,7 +122,7 @@ module _ (setting : ℕ) (plan : List Bool) (crew : Crew) (past : List Moment) (
   stops : (v : ℕ) (pass : WorkerPass) (end : WaitEnd) (growth : Growth) (pool : JobPool) → May (IsPlanned plan) crew (HasWaited v pass end Stop growth pool) → (pool.queue ≡ [] → ⊥) → pool.counts.workers ≡ 0 → ⊥
   stops v pass end growth pool may some none =
       let between = may.1.between in
-      let g = swept setting plan crew past step owner h (has_timed_out end) growth between may.1.sweep in
+      let g = (swept setting plan crew past step owner h (has_timed_out end) growth between may.1.sweep).grew in
       let left : between.counts.workers - 1 ≡ 0 = ap (λ (p : JobPool). p.counts.workers) (sym may.1.answer.1) ∙ none in
       let most : 0 < limit_of between.counts = subst (λ n. 0 < n) (sym g.most) (positive_grown growth.refused (limit_of crew.pool.counts) (crew.pool.counts.workers + growth.started) positive) in
       let empty : between.queue ≡ [] =
@@ -145,15 +131,9 @@ module _ (setting : ℕ) (plan : List Bool) (crew : Crew) (past : List Moment) (
 
   -- who serves the queue after a move
   service : (move : Move) → May (IsPlanned plan) crew move → ((after crew move).pool.queue ≡ [] → ⊥) → (after crew move).pool.counts.workers ≡ 0 → last_refused (moment_of crew move step owner ∷ past) ≡ true
-  service (Adds who (Ok number) growth pool) may some none =
-      let hired : pool.counts.workers ≡ crew.pool.counts.workers + growth.started = ap (λ (p : JobPool). p.counts.workers) may.after_is in
-      let staffed = may.staffed in
-      absurd (omega (arith, hired, staffed, none))
   service (Adds who (Err NoWorker) growth pool) may some none =
       let nobody = may.unstaffed in
       last_by growth.started growth.refused (last_refused past) (omega (arith, nobody)) (λ e. before (λ f. some (ap (λ (p : JobPool). p.queue) may.after_is ∙ f)) (omega (arith, nobody)))
-  service (Adds who (Err Memory) growth pool) may some none = same_growth growth pool may.0 may.1 some none
-  service (Adds who (Err Numbers) growth pool) may some none = same_growth growth pool may.1 may.2 some none
   service (TakesJob v old to_drop number ticket growth pool) may some none =
       let there = free_there v old may.0 in
       let hired : pool.counts.workers ≡ crew.pool.counts.workers + growth.started = ap (λ (p : JobPool). p.counts.workers) may.1.after_is in
@@ -161,29 +141,10 @@ module _ (setting : ℕ) (plan : List Bool) (crew : Crew) (past : List Moment) (
   service (EndsTurn v held pass) may some none = before some none
   service (Parks v held ticket (parking.Parked pass) pool) may some none = absurd (still_there v held pool may.0 (ap (λ (p : JobPool). p.counts.workers) may.2.effect.2) none)
   service (Parks v held ticket (parking.Queued pass) pool) may some none = absurd (still_there v held pool may.0 (ap (λ (p : JobPool). p.counts.workers) may.2.effect.2) none)
-  service (Parks v held ticket (parking.HandedOut back) pool) may some none = absurd (still_there v held pool may.0 (ap (λ (p : JobPool). p.counts.workers) may.2.effect.2) none)
-  service (HasWaited v pass end (Stay back) growth pool) may some none =
-      let there = free_there v pass may.0 in
-      let g = swept setting plan crew past step owner h (has_timed_out end) growth may.1.between may.1.sweep in
-      let gw = g.workers in
-      let hired : pool.counts.workers ≡ may.1.between.counts.workers = ap (λ (p : JobPool). p.counts.workers) may.1.answer.1 in
-      absurd (omega (arith, there, gw, hired, none))
   service (HasWaited v pass end Stop growth pool) may some none = absurd (stops v pass end growth pool may some none)
-  service (Sweeps growth pool) may some none = swept_served growth pool (to_sweep crew.pool) may some none
-  service (IsWoken who number Entered growth pool) may some none = grown (length (crew.pool.queue ++ number.serial ∷ [])) growth pool may.effect.starts (longer number.serial []) (ap (λ (p : JobPool). p.counts.workers) may.effect.after_is) none
-  service (IsWoken who number Marked growth pool) may some none =
-      subst (λ (g : Growth). last_refused_by g.started g.refused (last_refused past) ≡ true) (sym may.effect.0)
-      (same pool (ap (λ (p : JobPool). p.queue) may.effect.1) (ap (λ (p : JobPool). p.counts.workers) may.effect.1) some none)
-  service (IsWoken who number Nothing growth pool) may some none = same_growth growth pool may.effect.0 may.effect.1 some none
-  service (IsCancelled who number Entered growth pool) may some none = grown (length (crew.pool.queue ++ number.serial ∷ [])) growth pool may.effect.starts (longer number.serial []) (ap (λ (p : JobPool). p.counts.workers) may.effect.after_is) none
-  service (IsCancelled who number Marked growth pool) may some none =
-      subst (λ (g : Growth). last_refused_by g.started g.refused (last_refused past) ≡ true) (sym may.effect.0)
-      (same pool (ap (λ (p : JobPool). p.queue) may.effect.1) (ap (λ (p : JobPool). p.counts.workers) may.effect.1) some none)
-  service (IsCancelled who number Nothing growth pool) may some none = same_growth growth pool may.effect.0 may.effect.1 some none
-  service (IsLetGo who act number) may some none =
-      let alone = mark_alone crew.pool number (value_at (job_of crew.pool.jobs number)) in
-      same (after crew (IsLetGo who act number)).pool (ap (λ (p : JobPool). p.queue) alone) (ap (λ (p : JobPool). p.counts.workers) alone) some none
-  service move may some none = before some none
+  service (Arrives pass) may some none = before some none
+  service (SetsLimit n) may some none = before some none
+  service move may some none = entered_served (moment_of crew move step owner) (after crew move) (enters setting plan crew past step owner h move may refl) some none
 
   -- Each move leaves queued jobs served, or the last start refused.
   pub served_after : (move : Move) → May (IsPlanned plan) crew move → IsAsked crew past (call_of move) → Served setting (moment_of crew move step owner ∷ past)

@@ -7,12 +7,11 @@ use Rattle.blocking_laws.specs.Staffed.{count_to, passes, turns, IsStaffed, AreA
 use Rattle.blocking_laws.specs.Steps.{is_there, is_free}
 use Rattle.blocking_laws.specs.Turns.{hand}
 use Rattle.blocking_laws.specs.declared.event.Moment.{Moment}
-use Rattle.blocking_crew.specs.Crews.{Crew, IsReady, one_if_free, free_hands, one_if_busy, busy_hands}
+use Rattle.blocking_crew.specs.Crews.{Crew, IsReady, one_if_free, free_hands, one_if_busy, busy_hands, sum_of}
 use Rattle.blocking_crew.specs.Ties.{HandAs, Crewed, Holding}
 use Rattle.blocking_crew.specs.declared.hand.Hand.{Hand}
-use Rattle.blocking_crew.specs.declared.hand.Hand.TheVariants.{Out, Free, Holds}
-use Rattle.blocking_crew.proofs.hands.Rows.{hand_from_place, sum_of, sum_free}
-use Rattle.blocking_crew.proofs.ties.Counts.{sum_busy}
+use Rattle.blocking_crew.specs.declared.hand.Hand.TheVariants.{Out}
+use Rattle.blocking_crew.proofs.hands.Rows.{hand_from_place}
 
 -- ---- what a test of the workers counts is a sum over their hands
 
@@ -40,13 +39,11 @@ count_is one test (h ∷ row) tells =
 -- a hand by what was seen of its worker
 free_tells : (h : Hand) (there : Bool) (job : Option ℕ) → HandAs h there job → one_if (there && is_none job) ≡ one_if_free h
 free_tells Out there job tied = ap (λ b. one_if (b && is_none job)) tied.0
-free_tells (Free pass) there job tied = ap (λ b. one_if (b && is_none job)) tied.0 ∙ ap (λ j. one_if (is_none j)) tied.1
-free_tells (Holds held) there job tied = ap (λ b. one_if (b && is_none job)) tied.0 ∙ ap (λ j. one_if (is_none j)) tied.1
+free_tells _ there job tied = ap (λ b. one_if (b && is_none job)) tied.0 ∙ ap (λ j. one_if (is_none j)) tied.1
 
 busy_tells : (h : Hand) (there : Bool) (job : Option ℕ) → HandAs h there job → one_if (is_some job) ≡ one_if_busy h
 busy_tells Out there job tied = ap (λ j. one_if (is_some j)) tied.1
-busy_tells (Free pass) there job tied = ap (λ j. one_if (is_some j)) tied.1
-busy_tells (Holds held) there job tied = ap (λ j. one_if (is_some j)) tied.1
+busy_tells _ there job tied = ap (λ j. one_if (is_some j)) tied.1
 
 module _ (setting : ℕ) (crew : Crew) (past : List Moment) (t : Crewed setting crew past) where
   -- the hand in a place, by what was seen of its worker
@@ -58,14 +55,12 @@ module _ (setting : ℕ) (crew : Crew) (past : List Moment) (t : Crewed setting 
   passes_are =
       ap (count_to (is_free past)) (sym t.counted.hands_are)
       ∙ count_is one_if_free (is_free past) crew.hands (λ n h e. free_tells h (is_there past (n + 1)) (hand past (n + 1)) (seen_hand n h e))
-      ∙ sum_free crew.hands
 
   -- the turns are the hands that hold jobs
   turns_are : turns past ≡ busy_hands crew.hands
   turns_are =
       ap (count_to (λ v. is_some (hand past v))) (sym t.counted.hands_are)
       ∙ count_is one_if_busy (λ v. is_some (hand past v)) crew.hands (λ n h e. busy_tells h (is_there past (n + 1)) (hand past (n + 1)) (seen_hand n h e))
-      ∙ sum_busy crew.hands
 
   -- What the workers hold is what was seen, and there is a turn for each running job.
   pub holding : Holding crew past

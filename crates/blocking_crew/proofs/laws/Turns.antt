@@ -1,6 +1,6 @@
 -- The law of turns holds at each move.
 use Rattle.std.proofs.Common.{◌≡◌, ◌||◌, ℕ, List, Bool, true, false, refl, sym, ap, ◌∙◌, subst, Option, Some, None}
-use Rattle.std.specs.Prelude.{Ok, Err}
+use Rattle.std.specs.Prelude.{Ok, Err, not}
 use Rattle.blocking_pool.specs.Growth.{Growth}
 use Rattle.blocking_pool.specs.Jobs.{JobNumber}
 use Rattle.blocking_pool.specs.Lists.{is_in}
@@ -9,9 +9,9 @@ use Rattle.blocking_pool.specs.declared.pool.token.WorkerPass.{WorkerPass}
 use Rattle.blocking_laws.specs.Growth.{IsPlanned}
 use Rattle.blocking_laws.specs.Queue.{running}
 use Rattle.blocking_laws.specs.Seen.{is_nothing}
-use Rattle.blocking_laws.specs.Turns.{Turn, turn, hand, TurnLaw, FitsTurn}
+use Rattle.blocking_laws.specs.Turns.{Turn, turn, hand, TurnLaw, FitsTurn, ActsInTurn}
 use Rattle.blocking_laws.specs.declared.event.Act.{Act}
-use Rattle.blocking_laws.specs.declared.event.Act.TheVariants.{Answered, JobParked, Finished, GaveUp, HolderWoken}
+use Rattle.blocking_laws.specs.declared.event.Act.TheVariants.{JobParked, GaveUp}
 use Rattle.blocking_laws.specs.declared.event.Moment.{Moment}
 use Rattle.blocking_laws.specs.declared.event.Party.{Party}
 use Rattle.blocking_laws.specs.declared.event.Party.TheVariants.{Worker}
@@ -25,7 +25,7 @@ use Rattle.blocking_crew.specs.declared.hand.Held.{Held}
 use Rattle.blocking_crew.specs.declared.hand.Stage.{Stage}
 use Rattle.blocking_crew.specs.declared.ticket.Ticket.{Ticket}
 use Rattle.blocking_crew.specs.declared.tickets.Parking.TheVariants as parking
-use Rattle.blocking_crew.proofs.ties.Acts.{now_with, by_work, by_aside, by_let_go, aside_or}
+use Rattle.blocking_crew.proofs.ties.Acts.{now_with, plain, aside_plain, by_work, by_let_go, aside_or}
 use Rattle.blocking_crew.proofs.ties.Hands.{hand_seen}
 use Rattle.blocking_crew.proofs.ties.Known.{front_rests}
 
@@ -48,12 +48,11 @@ module _ (setting : ℕ) (plan : List Bool) (crew : Crew) (past : List Moment) (
   works v held act may =
       let mine = its_job v held may.0 in
       by_work (λ st act. held.stage ≡ st → TurnLaw past (now (Worker v) (Some held.turn.serial) act no_growth))
-      (λ a e. record { one = tt; acts = (mine, fits (Answered a) e refl) })
+      (λ st act is same allowed e.
+      (let p = plain setting past step owner (Worker v) (Some held.turn.serial) (next_start crew) no_growth act is in
+      record { one = p.one; acts = subst (λ b. ActsInTurn (not b) past (now (Worker v) (Some held.turn.serial) act no_growth).event) (sym p.own) (mine, fits act e allowed) }))
       (λ e. record { one = tt; acts = (mine, fits JobParked e refl) })
-      (λ w e. record { one = tt; acts = (mine, fits (Finished w) e refl) })
-      (λ e. record { one = tt; acts = (mine, fits HolderWoken e refl) })
       (λ w e. record { one = tt; acts = (mine, fits (GaveUp w) e refl) })
-      (λ e. record { one = tt; acts = (mine, fits HolderWoken e refl) })
       held.stage act may.1 refl
     where
       fits : {st : Stage} (a : Act) → held.stage ≡ st → FitsTurn (turn_of st) a → FitsTurn (turn past held.turn.serial) a
@@ -62,8 +61,7 @@ module _ (setting : ℕ) (plan : List Bool) (crew : Crew) (past : List Moment) (
   -- and at an event that is nothing to the crew
   pub turn_aside : (who : Party) (act : Act) → (is_aside act || is_nothing act) ≡ true → TurnLaw past (now who None act no_growth)
   turn_aside who act is =
-      by_aside (λ act. TurnLaw past (now who None act no_growth))
-      (record { one = tt; acts = tt }) (λ n. record { one = tt; acts = tt }) (record { one = tt; acts = tt }) (record { one = tt; acts = tt }) (record { one = tt; acts = tt }) act is
+      record { one = (plain setting past step owner who None (next_start crew) no_growth act (aside_plain act is)).one; acts = tt }
 
   -- The law of turns holds at each move.
   pub turn_law : (move : Move) → May (IsPlanned plan) crew move → TurnLaw past (moment_of crew move step owner)

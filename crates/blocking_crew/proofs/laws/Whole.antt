@@ -22,12 +22,10 @@ use Rattle.blocking_crew.proofs.ties.Acts.{now_with}
 use Rattle.blocking_crew.proofs.ties.Counts.{counts_after, counts_aside}
 use Rattle.blocking_crew.proofs.ties.Hands.{hands_after, hands_aside}
 use Rattle.blocking_crew.proofs.ties.Jobs.{jobs_after, jobs_aside}
-use Rattle.blocking_crew.proofs.ties.Queue.{queue_after, queue_aside}
-use Rattle.blocking_crew.proofs.ties.Serials.{serials_after, serials_aside}
+use Rattle.blocking_crew.proofs.ties.Queue.{queue_after, queue_aside, serials_after, serials_aside}
 use Rattle.blocking_crew.proofs.ties.Starts.{may_more}
 use Rattle.blocking_crew.proofs.laws.Answers.{answer_law, answer_aside}
 use Rattle.blocking_crew.proofs.laws.Growth.{growth_law, growth_aside}
-use Rattle.blocking_crew.proofs.laws.Order.{order_law}
 use Rattle.blocking_crew.proofs.laws.Turns.{turn_law, turn_aside}
 
 module _ (setting : ℕ) (plan : List Bool) (crew : Crew) (past : List Moment) (h : CrewHolds setting plan crew past) where
@@ -41,13 +39,13 @@ module _ (setting : ℕ) (plan : List Bool) (crew : Crew) (past : List Moment) (
     handed = hands_after setting plan crew past step owner h move may;
   }
 
-  -- At each move the law of the pool holds.
+  -- At each move the law of the pool holds. That jobs are taken in order is a theorem of the laws, since each move is answered as they say.
   pub pool_law : (move : Move) (step : Step) (owner : Option ℕ) → May (IsPlanned plan) crew move → IsAsked crew past (call_of move) → PoolLaw setting plan past (moment_of crew move step owner)
   pool_law move step owner may asked = record {
     growth = growth_law setting plan crew past step owner h move may;
     answers = answer_law setting plan crew past step owner h move may asked;
     turns = turn_law setting plan crew past step owner h move may;
-    order = order_law setting plan crew past step owner h move may asked;
+    order = order_after setting plan past (moment_of crew move step owner) h.laws (answer_law setting plan crew past step owner h move may asked);
   }
 
   -- So all of it holds after each move,
@@ -62,9 +60,7 @@ module _ (setting : ℕ) (plan : List Bool) (crew : Crew) (past : List Moment) (
   pub holds_moved : (may_answer : ℕ → Bool → Type 0) (call : Call) (e : Event) (new : Crew) (step : Step) (owner : Option ℕ) → Narrows (IsPlanned plan) may_answer → Moves may_answer call crew e new → IsAsked crew past call
       → CrewHolds setting plan new (seen_as step e owner ∷ past)
   holds_moved may_answer call e new step owner narrow moves asked =
-      subst (λ (c : Crew). CrewHolds setting plan c (seen_as step e owner ∷ past)) (sym moves.after_is)
-      (subst (λ (f : Event). CrewHolds setting plan (after crew moves.move) (seen_as step f owner ∷ past)) (sym moves.event_is)
-      (holds_after moves.move step owner (may_more (IsPlanned plan) may_answer narrow crew moves.move moves.may) (subst (IsAsked crew past) moves.call_is asked)))
+      rw (moves.after_is, moves.event_is) (holds_after moves.move step owner (may_more (IsPlanned plan) may_answer narrow crew moves.move moves.may) (subst (IsAsked crew past) moves.call_is asked))
 
   -- and after an event that is nothing to the crew.
   pub holds_aside : (last : Moment) → IsAside crew last.event → CrewHolds setting plan crew (last ∷ past)
@@ -83,9 +79,9 @@ module _ (setting : ℕ) (plan : List Bool) (crew : Crew) (past : List Moment) (
         laws = (
           record {
             growth = growth_aside setting plan crew past last.step last.event.owner h last.event.party last.event.act a.act;
-            answers = answer_aside setting plan crew past last.step last.event.owner h (now_with last.step last.event.owner last.event.party None last.event.act (next_start crew) no_growth) last.event.act a.act;
+            answers = answer_aside setting plan crew past last.step last.event.owner h last.event.party last.event.act a.act;
             turns = turn_aside setting plan crew past last.step last.event.owner h last.event.party last.event.act a.act;
-            order = order_after setting plan past (now_with last.step last.event.owner last.event.party None last.event.act (next_start crew) no_growth) h.laws (answer_aside setting plan crew past last.step last.event.owner h (now_with last.step last.event.owner last.event.party None last.event.act (next_start crew) no_growth) last.event.act a.act);
+            order = order_after setting plan past (now_with last.step last.event.owner last.event.party None last.event.act (next_start crew) no_growth) h.laws (answer_aside setting plan crew past last.step last.event.owner h last.event.party last.event.act a.act);
           },
           h.laws,
         );

@@ -13,7 +13,7 @@ use Rattle.blocking_crew.specs.declared.hand.Hand.{Hand}
 use Rattle.blocking_crew.specs.declared.hand.Hand.TheVariants.{Out, Free, Holds}
 use Rattle.blocking_crew.specs.declared.hand.Held.{Held}
 use Rattle.blocking_crew.proofs.jobs.Kept.{AreKept, runs_on, stay_valued}
-use Rattle.blocking_crew.proofs.hands.Rows.{IsAt, hand_set, hand_pushed, free_set, free_pushed}
+use Rattle.blocking_crew.proofs.hands.Rows.{IsAt, hand_set, hand_pushed, sum_set, sum_pushed}
 
 -- What a change of the pool leaves: jobs run on and have their tickets, and as many idle workers have arrived as before.
 pub record PoolKept (old new : JobPool) : Type 0 where
@@ -57,7 +57,7 @@ module _ (crew : Crew) (pool : JobPool) (v : ℕ) (old new : Hand) (ready : IsRe
 
   pub hand_ready : IsReady (record { pool = pool; hands = with_hand crew.hands v new })
   hand_ready = record {
-    idle = let level = fits.level in let idle = ready.idle in let free = free_set crew.hands (v - 1) old new fits.at.got in omega (arith, level, idle, free);
+    idle = let level = fits.level in let idle = ready.idle in let free = sum_set one_if_free crew.hands (v - 1) old new fits.at.got in omega (arith, level, idle, free);
     runs = λ u held is. runs_by u held (v == u) refl (sym (hand_set crew.hands v u old new fits.at) ∙ is);
     apart =
         λ u w one other is there same.
@@ -78,7 +78,7 @@ pub push_ready : (crew : Crew) (pool : JobPool) (pass : WorkerPass) → IsReady 
     → pool.counts.idle + crew.pool.counts.arriving ≡ crew.pool.counts.idle + pool.counts.arriving + 1
     → IsReady (record { pool = pool; hands = crew.hands ++ Free pass ∷ [] })
 push_ready crew pool pass ready same level = record {
-  idle = let idle = ready.idle in let free : free_hands (crew.hands ++ Free pass ∷ []) ≡ free_hands crew.hands + 1 = free_pushed crew.hands (Free pass) in omega (arith, level, idle, free);
+  idle = let idle = ready.idle in let free : free_hands (crew.hands ++ Free pass ∷ []) ≡ free_hands crew.hands + 1 = sum_pushed one_if_free crew.hands (Free pass) in omega (arith, level, idle, free);
   runs = λ u held is. ap (λ jobs. is_running_as jobs held.turn) same ∙ ready.runs u held (pushed_at crew pass u held is);
   apart = λ u w one other is there serial. ready.apart u w one other (pushed_at crew pass u one is) (pushed_at crew pass w other there) serial;
   valued = subst AreValued (sym same) ready.valued;

@@ -16,7 +16,7 @@ use Rattle.blocking_crew.specs.declared.hand.Hand.TheVariants.{Out, Free, Holds}
 use Rattle.blocking_crew.specs.declared.hand.Held.{Held}
 use Rattle.blocking_crew.specs.declared.hand.Stage.{Stage}
 use Rattle.blocking_crew.specs.declared.ticket.Ticket.{Ticket}
-use Rattle.blocking_crew.proofs.hands.Rows.{IsAt, at_free, at_held, free_set}
+use Rattle.blocking_crew.proofs.hands.Rows.{IsAt, at_free, at_held, sum_set}
 use Rattle.blocking_crew.proofs.jobs.Kept.{removed_valued, removed_runs, with_ticket}
 use Rattle.blocking_crew.proofs.jobs.Lookups.{job_put, job_changed, taken_runs, runs_at}
 use Rattle.blocking_crew.proofs.ready.Changes.{hand_ready}
@@ -30,7 +30,7 @@ pub one_free : (crew : Crew) (v : ℕ) (pass : WorkerPass) → IsReady crew → 
 one_free crew v pass ready at =
     let is = at_free crew.hands v pass at in
     let idle = ready.idle in
-    let more : free_hands (with_hand crew.hands v Out) + 1 ≡ free_hands crew.hands + 0 = free_set crew.hands (v - 1) (Free pass) Out is.got in
+    let more : free_hands (with_hand crew.hands v Out) + 1 ≡ free_hands crew.hands + 0 = sum_set one_if_free crew.hands (v - 1) (Free pass) Out is.got in
     omega (arith, idle, more)
 
 -- ---- the pool stays

@@ -1,10 +1,10 @@
 -- What each change of a crew's pool keeps.
-use Rattle.std.proofs.Common.{◌≡◌, ℕ, ◌+◌, ◌==◌, ◌||◌, Bool, true, false, refl, sym, ap, ◌∙◌, subst, if◌then◌else◌, [], ◌∷◌, Option, Some, None, Result, Ok, Err, arith}
+use Rattle.std.proofs.Common.{◌≡◌, ℕ, ◌+◌, ◌==◌, ◌||◌, Bool, true, false, refl, sym, ap, ◌∙◌, subst, [], ◌∷◌, Option, Some, None, Result, Ok, Err, arith}
 use Rattle.std.specs.Prelude.{option_map, is_some}
 use Rattle.std.specs.FinMap.{get}
 use Rattle.std.proofs.lemmas.Bool.{eqb-true, eq-eqb}
 use Rattle.blocking_pool.specs.Growth.{Growth}
-use Rattle.blocking_pool.specs.Jobs.{Job, Jobs, JobNumber, if_at, is_running, is_parked_job, standing_of, entry_after_wake, entry_after_cancel, entry_with, new_job, value_at, job_of}
+use Rattle.blocking_pool.specs.Jobs.{Job, Jobs, JobNumber, if_at, is_running, is_parked, is_parked_job, standing_of, entry_after_wake, entry_after_cancel, entry_with, new_job, value_at, job_of}
 use Rattle.blocking_pool.specs.Lists.{is_in}
 use Rattle.blocking_pool.specs.Pools.{with_job}
 use Rattle.blocking_pool.specs.Wakes.{wake_of, cancel_of}
@@ -14,11 +14,11 @@ use Rattle.blocking_pool.specs.declared.pool.answer.Woke.{Woke}
 use Rattle.blocking_pool.specs.declared.pool.answer.Woke.TheVariants.{Entered, Marked, Nothing}
 use Rattle.blocking_pool.specs.declared.pool.standing.Standing.{Standing}
 use Rattle.blocking_pool.specs.declared.pool.standing.Standing.TheVariants.{Parked}
-use Rattle.blocking_crew.specs.Tickets.{JobPool, new_ticket, ticket_after_mark, pool_after_mark_of, pool_after_mark, AddsTo, Wakes, WakesTo, Cancels, CancelsTo, EntersAgain, SweepsTo, SweepsIf, to_sweep}
+use Rattle.blocking_crew.specs.Tickets.{JobPool, new_ticket, ticket_after_mark, pool_after_mark_of, pool_after_mark, pool_after_let_go, AddsTo, Wakes, WakesTo, Cancels, CancelsTo, EntersAgain, SweepsTo, SweepsIf, to_sweep}
 use Rattle.blocking_crew.specs.declared.ticket.Ticket.{Ticket}
 use Rattle.blocking_crew.proofs.growth.Sweeps.{sweep_keeps, sweep_levels, sweeps_if_keeps, sweeps_if_levels}
 use Rattle.blocking_crew.proofs.jobs.Kept.{AreKept, changed_kept, with_ticket, all_kept, kept_then, amended_kept, inserted_kept, requeued_kept}
-use Rattle.blocking_crew.proofs.jobs.Lookups.{job_changed}
+use Rattle.blocking_crew.proofs.jobs.Lookups.{job_changed, woken_is, cancelled_is, stands_at}
 use Rattle.blocking_crew.proofs.ready.Changes.{PoolKept}
 
 -- the same pool
@@ -47,21 +47,8 @@ adds_keep may_answer old new (Err NoWorker) growth adds =
 
 -- ---- wakes and cancels
 
-found_parked : (place : ℕ) (found : Option (Job Ticket)) → option_map (λ job. job.standing) (if_at place found) ≡ Some Parked → is_parked_job found ≡ true
-found_parked place None is = absurd cc
-found_parked place (Some job) is = by (job.place == place) is
-  where
-    by : (b : Bool) → option_map (λ job. job.standing) (if b then Some job else None) ≡ Some Parked → is_parked_job (Some job) ≡ true
-    by true is = let e : job.standing ≡ Parked = cc in ap (λ (s : Standing). is_parked_job (Some (record job { standing = s }))) e
-    by false is = absurd cc
-
-woken_is : (st : Option Standing) → Entered ≡ wake_of st → st ≡ Some Parked
-woken_is (Some Parked) e = refl
-woken_is _ e = absurd cc
-
-cancelled_is : (st : Option Standing) → Entered ≡ cancel_of st → st ≡ Some Parked
-cancelled_is (Some Parked) e = refl
-cancelled_is _ e = absurd cc
+found_parked : (place : ℕ) (found : Option (Job Ticket)) → option_map (λ (job : Job Ticket). job.standing) (if_at place found) ≡ Some Parked → is_parked_job found ≡ true
+found_parked place found is = let at = stands_at place found Parked is in ap is_parked_job at.1 ∙ ap is_parked at.2
 
 -- one parked job alone enters again
 one_parked : (jobs : Jobs Ticket) (t : ℕ) → is_parked_job (get jobs t) ≡ true → (s : ℕ) → is_in s (t ∷ []) ≡ true → is_parked_job (get jobs s) ≡ true
@@ -142,5 +129,9 @@ mark_of_keeps pool number (Some ticket) = record {
   level = refl;
 }
 
-pub mark_keeps_pool : (pool : JobPool) (number : JobNumber) → PoolKept pool (pool_after_mark pool number)
+mark_keeps_pool : (pool : JobPool) (number : JobNumber) → PoolKept pool (pool_after_mark pool number)
 mark_keeps_pool pool number = mark_of_keeps pool number (value_at (job_of pool.jobs number))
+
+pub let_go_keeps_pool : (pool : JobPool) (number : Option JobNumber) → PoolKept pool (pool_after_let_go pool number)
+let_go_keeps_pool pool None = same_pool pool pool refl
+let_go_keeps_pool pool (Some number) = mark_keeps_pool pool number

@@ -1,53 +1,178 @@
 -- What holds of each act that a job, a holder or a worker may be seen to do here holds of the one that was seen.
-use Rattle.std.proofs.Common.{◌≡◌, ℕ, ◌||◌, Bool, true, false, ap, Option}
+use Rattle.std.proofs.Common.{◌≡◌, ℕ, ◌==◌, ◌||◌, not, Bool, true, false, List, [], ◌∷◌, length, refl, ap, Option}
 use Rattle.blocking_pool.specs.Growth.{Growth}
+use Rattle.blocking_pool.specs.Jobs.{Job as Entry, one_if}
+use Rattle.blocking_pool.specs.declared.pool.answer.Refusal.TheVariants.{NoWorker}
 use Rattle.blocking_pool.specs.declared.pool.standing.Standing.TheVariants.{Done, Dropped}
-use Rattle.blocking_laws.specs.Answers.{wait_act}
-use Rattle.blocking_laws.specs.Jobs.{lets_go}
-use Rattle.blocking_laws.specs.Seen.{is_nothing}
+use Rattle.blocking_laws.specs.Answers.{PoolAnswers}
+use Rattle.blocking_laws.specs.Counts.{is_arrival, is_stop, limit_by}
+use Rattle.blocking_laws.specs.Growth.{HasWorker, grows, is_limit_set, turned_away}
+use Rattle.blocking_laws.specs.Jobs.{accepted_jobs, lets_go}
+use Rattle.blocking_laws.specs.Queue.{entered_by, taken_by, ended_by}
+use Rattle.blocking_laws.specs.Seen.{is_nothing, is_of_pool}
+use Rattle.blocking_laws.specs.Steps.{is_there}
+use Rattle.blocking_laws.specs.Turns.{FitsTurn, HoldsOne, turn, hand}
 use Rattle.blocking_laws.specs.declared.event.Act.{Act}
-use Rattle.blocking_laws.specs.declared.event.Act.TheVariants.{Waits, TaskGot, TaskGotNone, TaskCancelled, TaskDetached, HolderDropped, Stays, Stopped, Ended, Answered, JobParked, Finished, GaveUp, HolderWoken, NoAction}
+use Rattle.blocking_laws.specs.declared.event.Act.TheVariants.{Made, Asked, OwnerClosed, Got, GotEnd, Back, Replied, Accepted, Refused, JobWoken, JobCancelled, LimitSet, Swept, Waits, HolderDropped, TaskGot, TaskGotNone, TaskCancelled, TaskDetached, Arrived, Took, TookDropped, TookNone, Stays, Stopped, Ended, HandedOut, Answered, RoomFree, RoomShut, JobParked, Put, Lost, JobClosed, Finished, GaveUp, HolderWoken, NoAction}
 use Rattle.blocking_laws.specs.declared.event.HolderWaker.{HolderWaker}
 use Rattle.blocking_laws.specs.declared.event.Moment.{Moment}
 use Rattle.blocking_laws.specs.declared.event.Party.{Party}
-use Rattle.blocking_laws.specs.declared.event.WaitEnd.{WaitEnd}
-use Rattle.blocking_laws.specs.declared.step.Answer.{Answer}
 use Rattle.blocking_laws.specs.declared.step.Step.{Step}
-use Rattle.blocking_crew.specs.Crews.{may_act, outcome_of, standing_after}
+use Rattle.blocking_crew.specs.Crews.{Crew, may_act, stage_after, outcome_of, standing_after}
 use Rattle.blocking_crew.specs.Moves.{is_aside, seen}
+use Rattle.blocking_crew.specs.Ties.{FiledHere, Handed, turn_of}
 use Rattle.blocking_crew.specs.declared.hand.Stage.{Stage}
 use Rattle.blocking_crew.specs.declared.hand.Stage.TheVariants as stage
+use Rattle.blocking_crew.specs.declared.ticket.Ticket.{Ticket}
 
 -- the moment of an act, as the layer above sees it
 abbrev pub now_with : Step → Option ℕ → Party → Option ℕ → Act → ℕ → Growth → Moment
 now_with step owner who job act first growth = record { step = step; event = record (seen who job act first growth) { owner = owner } }
 
--- an act of a job
-pub by_work : (P : Stage → Act → Type 0) → ((answer : Answer) → P stage.Runs (Answered answer)) → P stage.Runs JobParked → ((waker : HolderWaker) → P stage.Runs (Finished waker)) → P stage.Runs HolderWoken
-    → ((waker : HolderWaker) → P stage.MustGiveUp (GaveUp waker)) → P stage.MustWake HolderWoken → (at : Stage) (act : Act) → may_act at act ≡ true → P at act
-by_work P answered parked finished woken gave_up wakes stage.Runs (Answered answer) may = answered answer
-by_work P answered parked finished woken gave_up wakes stage.Runs JobParked may = parked
-by_work P answered parked finished woken gave_up wakes stage.Runs (Finished waker) may = finished waker
-by_work P answered parked finished woken gave_up wakes stage.Runs HolderWoken may = woken
-by_work P answered parked finished woken gave_up wakes stage.Runs _ may = absurd cc
-by_work P answered parked finished woken gave_up wakes stage.MustGiveUp (GaveUp waker) may = gave_up waker
-by_work P answered parked finished woken gave_up wakes stage.MustGiveUp _ may = absurd cc
-by_work P answered parked finished woken gave_up wakes stage.MustWake HolderWoken may = wakes
-by_work P answered parked finished woken gave_up wakes stage.MustWake _ may = absurd cc
-by_work P answered parked finished woken gave_up wakes stage.Waits act may = absurd cc
-by_work P answered parked finished woken gave_up wakes stage.GaveUp act may = absurd cc
+-- how an act itself changes workers and limit: no worker arrives, so many stop, and the limit stays
+pub record Steady (gone : ℕ) (act : Act) : Type 0 where
+  pub came : is_arrival act ≡ false
+  pub stop : one_if (is_stop act) ≡ gone
+  pub most : (l : ℕ) → limit_by act l ≡ l
+  pub set : is_limit_set act ≡ false
 
--- an act that is nothing to the crew, or none at all
-pub by_aside : (P : Act → Type 0) → P Waits → ((n : ℕ) → P (TaskGot n)) → P TaskGotNone → P TaskDetached → P NoAction → (act : Act) → (is_aside act || is_nothing act) ≡ true → P act
-by_aside P waits got none detached nothing Waits is = waits
-by_aside P waits got none detached nothing (TaskGot n) is = got n
-by_aside P waits got none detached nothing TaskGotNone is = none
-by_aside P waits got none detached nothing TaskDetached is = detached
-by_aside P waits got none detached nothing NoAction is = nothing
-by_aside P waits got none detached nothing _ is = absurd cc
+-- whether jobs may enter at an act, and no job is taken, no turn ends, no worker arrives or stops, and the limit isn't set
+abbrev pub enters_only : Act → Bool
+enters_only (Refused NoWorker) = false
+enters_only (LimitSet n) = false
+enters_only (Arrived v) = false
+enters_only (Took s) = false
+enters_only (TookDropped s) = false
+enters_only (Stopped v end) = false
+enters_only (Ended s how) = false
+enters_only _ = true
+
+pub record EntersOnly (past : List Moment) (act : Act) : Type 0 where
+  pub steady : Steady 0 act
+  pub grew_is : grows past act ≡ not (length (entered_by past act) == 0)
+  pub away : turned_away act ≡ 0
+  pub taken : taken_by act ≡ []
+  pub ended : ended_by act ≡ []
+
+pub enters_so : (past : List Moment) (act : Act) → enters_only act ≡ true → EntersOnly past act
+enters_so past (Refused NoWorker) is = absurd cc
+enters_so past (LimitSet n) is = absurd cc
+enters_so past (Arrived v) is = absurd cc
+enters_so past (Took s) is = absurd cc
+enters_so past (TookDropped s) is = absurd cc
+enters_so past (Stopped v end) is = absurd cc
+enters_so past (Ended s how) is = absurd cc
+enters_so past act is = record { steady = record { came = refl; stop = refl; most = λ l. refl; set = refl }; grew_is = refl; away = refl; taken = refl; ended = refl }
+
+-- whether an act is one of a holder that lets go of nothing, or of a job that goes on in its turn, or none at all
+abbrev pub is_plain : Act → Bool
+is_plain (Accepted s) = false
+is_plain (Refused why) = false
+is_plain (JobWoken s woke) = false
+is_plain (JobCancelled s woke) = false
+is_plain (LimitSet n) = false
+is_plain (Swept n) = false
+is_plain TaskCancelled = false
+is_plain HolderDropped = false
+is_plain (Arrived v) = false
+is_plain (Took s) = false
+is_plain (TookDropped s) = false
+is_plain TookNone = false
+is_plain (Stays v end) = false
+is_plain (Stopped v end) = false
+is_plain (Ended s how) = false
+is_plain (HandedOut s) = false
+is_plain JobParked = false
+is_plain (GaveUp waker) = false
+is_plain _ = true
+
+-- What a plain act leaves: all that was seen of jobs, hands and turns, and no question to the pool.
+pub record Plain (setting : ℕ) (past : List Moment) (last : Moment) : Type 0 where
+  pub only : enters_only last.event.act ≡ true
+  pub none : entered_by past last.event.act ≡ []
+  pub worker : (n : ℕ) → HasWorker last.event.act n
+  pub accepted : accepted_jobs (last ∷ past) ≡ accepted_jobs past
+  pub filed : (entry : Option (Entry Ticket)) (s : ℕ) → FiledHere entry past s → FiledHere entry (last ∷ past) s
+  pub there : (v : ℕ) → is_there (last ∷ past) v ≡ is_there past v
+  pub hand_is : (v : ℕ) → hand (last ∷ past) v ≡ hand past v
+  pub turn_is : (s : ℕ) → turn (last ∷ past) s ≡ turn past s
+  pub one : HoldsOne past last.event last.event.act
+  pub answered : PoolAnswers setting past last last.event.act
+  pub own : is_of_pool last.event.act ≡ false
+  pub handed : (crew : Crew) → Handed crew past → Handed crew (last ∷ past)
+
+module _ (setting : ℕ) (past : List Moment) (step : Step) (owner : Option ℕ) (who : Party) (job : Option ℕ) (first : ℕ) (growth : Growth) where
+  pub plain : (act : Act) → is_plain act ≡ true → Plain setting past (now_with step owner who job act first growth)
+  plain (Accepted s) is = absurd cc
+  plain (Refused why) is = absurd cc
+  plain (JobWoken s woke) is = absurd cc
+  plain (JobCancelled s woke) is = absurd cc
+  plain (LimitSet n) is = absurd cc
+  plain (Swept n) is = absurd cc
+  plain TaskCancelled is = absurd cc
+  plain HolderDropped is = absurd cc
+  plain (Arrived v) is = absurd cc
+  plain (Took s) is = absurd cc
+  plain (TookDropped s) is = absurd cc
+  plain TookNone is = absurd cc
+  plain (Stays v end) is = absurd cc
+  plain (Stopped v end) is = absurd cc
+  plain (Ended s how) is = absurd cc
+  plain (HandedOut s) is = absurd cc
+  plain JobParked is = absurd cc
+  plain (GaveUp waker) is = absurd cc
+  plain act is = record {
+    only = refl;
+    none = refl;
+    worker = λ n. tt;
+    accepted = refl;
+    filed = λ entry s filed. filed;
+    there = λ v. refl;
+    hand_is = λ v. refl;
+    turn_is = λ s. refl;
+    one = tt;
+    answered = tt;
+    own = refl;
+    handed = λ crew h. record { each = h.each; turn_is = h.turn_is };
+  }
+
+-- an act that is nothing to the crew, or none at all, is plain
+pub aside_plain : (act : Act) → (is_aside act || is_nothing act) ≡ true → is_plain act ≡ true
+aside_plain (Made h capacity) is = refl
+aside_plain (Asked call) is = refl
+aside_plain (OwnerClosed told) is = refl
+aside_plain (Got bytes told) is = refl
+aside_plain GotEnd is = refl
+aside_plain Back is = refl
+aside_plain (Replied reply) is = refl
+aside_plain Waits is = refl
+aside_plain (TaskGot n) is = refl
+aside_plain TaskGotNone is = refl
+aside_plain TaskDetached is = refl
+aside_plain NoAction is = refl
+aside_plain _ is = absurd cc
 
 pub aside_or : (act : Act) → is_aside act ≡ true → (is_aside act || is_nothing act) ≡ true
 aside_or act is = ap (λ b. b || is_nothing act) is
+
+-- an act of a job: it goes on in its turn, or waits from then on, or gives up
+pub by_work : (P : Stage → Act → Type 0) → ((at : Stage) (act : Act) → is_plain act ≡ true → turn_of (stage_after act at) ≡ turn_of at → FitsTurn (turn_of at) act → P at act)
+    → P stage.Runs JobParked → ((waker : HolderWaker) → P stage.MustGiveUp (GaveUp waker)) → (at : Stage) (act : Act) → may_act at act ≡ true → P at act
+by_work P goes_on parks gives_up stage.Runs (Answered answer) may = goes_on stage.Runs (Answered answer) refl refl refl
+by_work P goes_on parks gives_up stage.Runs (RoomFree n) may = goes_on stage.Runs (RoomFree n) refl refl refl
+by_work P goes_on parks gives_up stage.Runs RoomShut may = goes_on stage.Runs RoomShut refl refl refl
+by_work P goes_on parks gives_up stage.Runs JobParked may = parks
+by_work P goes_on parks gives_up stage.Runs (Put n waker) may = goes_on stage.Runs (Put n waker) refl refl refl
+by_work P goes_on parks gives_up stage.Runs (Lost n) may = goes_on stage.Runs (Lost n) refl refl refl
+by_work P goes_on parks gives_up stage.Runs (JobClosed waker) may = goes_on stage.Runs (JobClosed waker) refl refl refl
+by_work P goes_on parks gives_up stage.Runs (Finished waker) may = goes_on stage.Runs (Finished waker) refl refl refl
+by_work P goes_on parks gives_up stage.Runs HolderWoken may = goes_on stage.Runs HolderWoken refl refl refl
+by_work P goes_on parks gives_up stage.Runs _ may = absurd cc
+by_work P goes_on parks gives_up stage.MustGiveUp (GaveUp waker) may = gives_up waker
+by_work P goes_on parks gives_up stage.MustGiveUp _ may = absurd cc
+by_work P goes_on parks gives_up stage.MustWake HolderWoken may = goes_on stage.MustWake HolderWoken refl refl refl
+by_work P goes_on parks gives_up stage.MustWake _ may = absurd cc
+by_work P goes_on parks gives_up _ act may = absurd cc
 
 -- an act by which a holder lets go
 pub by_let_go : (P : Act → Type 0) → P HolderDropped → P TaskCancelled → (act : Act) → lets_go act ≡ true → P act
@@ -55,15 +180,8 @@ by_let_go P dropped cancelled HolderDropped is = dropped
 by_let_go P dropped cancelled TaskCancelled is = cancelled
 by_let_go P dropped cancelled _ is = absurd cc
 
--- an answer to a wait
-pub by_wait : (P : Act → Type 0) (v : ℕ) (end : WaitEnd) → P (Stays v end) → P (Stopped v end) → (stops : Bool) → P (wait_act v end stops)
-by_wait P v end stays stopped true = stopped
-by_wait P v end stays stopped false = stays
-
 -- the end of a job
 pub by_end : (P : Act → Type 0) (s : ℕ) → P (Ended s Done) → P (Ended s Dropped) → (at : Stage) → P (Ended s (standing_after (outcome_of at)))
 by_end P s done dropped stage.Runs = done
 by_end P s done dropped stage.Waits = done
-by_end P s done dropped stage.MustGiveUp = dropped
-by_end P s done dropped stage.MustWake = dropped
-by_end P s done dropped stage.GaveUp = dropped
+by_end P s done dropped _ = dropped

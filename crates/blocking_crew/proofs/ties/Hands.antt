@@ -14,7 +14,7 @@ use Rattle.blocking_laws.specs.Seen.{is_nothing}
 use Rattle.blocking_laws.specs.Steps.{is_there}
 use Rattle.blocking_laws.specs.Turns.{Turn, GoesOn, IsWaiting, MustGiveUp, HasGivenUp, turn, hand}
 use Rattle.blocking_laws.specs.declared.event.Act.{Act}
-use Rattle.blocking_laws.specs.declared.event.Act.TheVariants.{Ended, Answered, JobParked, Finished, GaveUp, HolderWoken}
+use Rattle.blocking_laws.specs.declared.event.Act.TheVariants.{Ended, JobParked, GaveUp}
 use Rattle.blocking_laws.specs.declared.event.HolderWaker.{HolderWaker}
 use Rattle.blocking_laws.specs.declared.event.HolderWaker.TheVariants.{Taken, Absent}
 use Rattle.blocking_laws.specs.declared.event.Moment.{Moment}
@@ -32,7 +32,7 @@ use Rattle.blocking_crew.specs.declared.hand.Stage.{Stage}
 use Rattle.blocking_crew.specs.declared.hand.Stage.TheVariants as stage
 use Rattle.blocking_crew.specs.declared.tickets.Parking.TheVariants as parking
 use Rattle.blocking_crew.proofs.hands.Rows.{IsAt, at_held, at_free, hand_set, hand_pushed, hand_next}
-use Rattle.blocking_crew.proofs.ties.Acts.{now_with, by_work, by_aside, by_let_go, aside_or}
+use Rattle.blocking_crew.proofs.ties.Acts.{now_with, plain, aside_plain, by_work, by_let_go, aside_or}
 use Rattle.blocking_crew.proofs.ties.Known.{held_runs, front_stands}
 
 -- ---- a row of hands in which one has changed
@@ -148,23 +148,22 @@ module _ (setting : ℕ) (plan : List Bool) (crew : Crew) (past : List Moment) (
 
   -- a job in a hand acts
   works : (v : ℕ) (held : Held) (act : Act) → hand_at crew.hands v ≡ Holds held → may_act held.stage act ≡ true → Handed (after crew (Works v held act)) (moment_of crew (Works v held act) step owner ∷ past)
-  works v held act at may =
+  works v held act at_hand may =
       by_work
       (λ at act. held.stage ≡ at → Handed (record crew { hands = with_hand crew.hands v (Holds (held_after_act held act)) }) (now (Worker v) (Some t) act no_growth ∷ past))
-      (λ a e. acts v held (held_after_act held (Answered a)) crew.pool _ at refl (λ u. refl) (λ u. refl) before (λ s o. refl))
-      (λ e. acts v held (held_after_act held JobParked) crew.pool _ at refl (λ u. refl) (λ u. refl) (ap (λ b. if b then IsWaiting else turn past t) (eq-eqb t t refl)) (λ s o. ap (λ b. if b then IsWaiting else turn past s) o))
-      (λ w e. acts v held (held_after_act held (Finished w)) crew.pool _ at refl (λ u. refl) (λ u. refl) before (λ s o. refl))
-      (λ e. acts v held (held_after_act held HolderWoken) crew.pool _ at refl (λ u. refl) (λ u. refl) (before ∙ ap turn_of e ∙ ap (λ st. turn_of (stage_after HolderWoken st)) (sym e)) (λ s o. refl))
-      (λ w e. acts v held (held_after_act held (GaveUp w)) crew.pool _ at refl (λ u. refl) (λ u. refl) (ap (λ b. if b then HasGivenUp else turn past t) (eq-eqb t t refl) ∙ gave_up w held.stage)
+      (λ at act is same fits e.
+      (let p = plain setting past step owner (Worker v) (Some t) (next_start crew) no_growth act is in
+      acts v held (held_after_act held act) crew.pool _ at_hand refl p.there p.hand_is (p.turn_is t ∙ before ∙ ap turn_of e ∙ sym same ∙ ap (λ st. turn_of (stage_after act st)) (sym e)) (λ s other. p.turn_is s)))
+      (λ e. acts v held (held_after_act held JobParked) crew.pool _ at_hand refl (λ u. refl) (λ u. refl) (ap (λ b. if b then IsWaiting else turn past t) (eq-eqb t t refl)) (λ s o. ap (λ b. if b then IsWaiting else turn past s) o))
+      (λ w e. acts v held (held_after_act held (GaveUp w)) crew.pool _ at_hand refl (λ u. refl) (λ u. refl) (ap (λ b. if b then HasGivenUp else turn past t) (eq-eqb t t refl) ∙ gave_up w held.stage)
       (λ s o. ap (λ b. if b then HasGivenUp else turn past s) o))
-      (λ e. acts v held (held_after_act held HolderWoken) crew.pool _ at refl (λ u. refl) (λ u. refl) (before ∙ ap turn_of e ∙ ap (λ st. turn_of (stage_after HolderWoken st)) (sym e)) (λ s o. refl))
       held.stage act may refl
     where
       t : ℕ
       t = held.turn.serial
 
       before : turn past t ≡ turn_of held.stage
-      before = h.tied.handed.turn_is v held at
+      before = h.tied.handed.turn_is v held at_hand
 
       gave_up : (w : HolderWaker) (st : Stage) → HasGivenUp ≡ turn_of (stage_after (GaveUp w) st)
       gave_up Taken st = refl
@@ -175,10 +174,7 @@ module _ (setting : ℕ) (plan : List Bool) (crew : Crew) (past : List Moment) (
   -- an event that is nothing to the crew keeps them
   pub hands_aside : (who : Party) (act : Act) → (is_aside act || is_nothing act) ≡ true → Handed crew (now who None act no_growth ∷ past)
   hands_aside who act is =
-      by_aside (λ act. Handed crew (now who None act no_growth ∷ past))
-      (record { each = h.tied.handed.each; turn_is = h.tied.handed.turn_is }) (λ n. record { each = h.tied.handed.each; turn_is = h.tied.handed.turn_is })
-      (record { each = h.tied.handed.each; turn_is = h.tied.handed.turn_is }) (record { each = h.tied.handed.each; turn_is = h.tied.handed.turn_is })
-      (record { each = h.tied.handed.each; turn_is = h.tied.handed.turn_is }) act is
+      (plain setting past step owner who None (next_start crew) no_growth act (aside_plain act is)).handed crew h.tied.handed
 
   -- Each move keeps the hands as they were seen.
   pub hands_after : (move : Move) → May (IsPlanned plan) crew move → Handed (after crew move) (moment_of crew move step owner ∷ past)

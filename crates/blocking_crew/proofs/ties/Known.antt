@@ -1,17 +1,20 @@
 -- What a crew and the laws tell of one job: the next one stands nowhere, the one in a hand runs, the front one is queued.
-use Rattle.std.proofs.Common.{◌≡◌, ℕ, ◌+◌, ◌==◌, List, ◌∷◌, length, Bool, true, false, refl, sym, ap, ◌∙◌, subst, arith, Option, Some, None}
+use Rattle.std.proofs.Common.{◌≡◌, ℕ, ◌+◌, ◌==◌, List, [], ◌∷◌, length, Bool, true, false, refl, sym, ap, ◌∙◌, subst, arith, Option, Some, None, inl, inr, if◌then◌else◌}
 use Rattle.std.specs.Prelude.{◌&&◌, not, nat_lt, is_some}
 use Rattle.std.specs.FinMap.{get}
-use Rattle.std.proofs.lemmas.Bool.{eq-eqb}
+use Rattle.std.proofs.lemmas.Bool.{eq-eqb, ne_eqb, cases_eq}
 use Rattle.std.proofs.lemmas.Bool.Decides.{nat_tests}
 use Rattle.blocking_pool.specs.Growth.{Growth}
 use Rattle.blocking_pool.specs.Jobs.{JobNumber, is_running_job, one_if}
 use Rattle.blocking_pool.specs.Lists.{is_in, without}
 use Rattle.blocking_pool.specs.declared.pool.standing.Standing.{Standing}
 use Rattle.blocking_pool.specs.declared.pool.standing.Standing.TheVariants.{Queued, Running}
-use Rattle.blocking_pool.proofs.Lists.{without-first}
-use Rattle.blocking_laws.specs.Jobs.{accepted_jobs, standing, is_queued, is_running}
+use Rattle.blocking_pool.proofs.Lists.{without-first, is_in-last, is_in-push}
+use Rattle.blocking_laws.specs.Jobs.{accepted_by, accepted_jobs, accepts, holder, newcomer, standing, is_queued, is_running}
 use Rattle.blocking_laws.specs.Queue.{queue, running, times}
+use Rattle.blocking_laws.specs.Seen.{joined}
+use Rattle.blocking_laws.specs.declared.event.Act.{Act}
+use Rattle.blocking_laws.specs.declared.event.Act.TheVariants.{Accepted}
 use Rattle.blocking_laws.specs.declared.event.Moment.{Moment}
 use Rattle.blocking_laws.proofs.Queues.{queued_so, runs_so, known_so}
 use Rattle.blocking_crew.specs.Crews.{Crew, hand_at}
@@ -44,6 +47,22 @@ known_by false true l e = refl
 known_by false false true e = absurd (omega (arith, e))
 known_by false false false e = refl
 
+-- a job that wasn't accepted is held by nobody
+held_by_none : (past : List Moment) (s : ℕ) → is_in s (accepted_jobs past) ≡ false → holder past s ≡ None
+held_by_none [] s none = refl
+held_by_none (now ∷ past) s none = by now.event.act none (held_by_none past s)
+  where
+    by : (act : Act) → is_in s (joined (accepted_jobs past) (accepted_by act)) ≡ false → (is_in s (accepted_jobs past) ≡ false → holder past s ≡ None)
+        → (if accepts s act then Some (newcomer past now.event.party) else holder past s) ≡ None
+    by (Accepted t) none before =
+        elim (cases_eq s t) [
+          | inl same ↦ (let bad : true ≡ false = sym (is_in-last s t (accepted_jobs past) same) ∙ none in absurd cc)
+          | inr far ↦
+              ap (λ b. if b then Some (newcomer past now.event.party) else holder past s) (ne_eqb t s (λ same. far (sym same)))
+              ∙ before (sym (is_in-push s t (accepted_jobs past) far) ∙ none)
+        ]
+    by _ none before = before none
+
 module _ (setting : ℕ) (plan : List Bool) (crew : Crew) (past : List Moment) (h : CrewHolds setting plan crew past) where
   serials : (s : ℕ) → times s (accepted_jobs past) + one_if (0 == s) ≡ one_if (nat_lt s crew.pool.next_serial)
   serials s = times_first s 0 (accepted_jobs past) (one_if (nat_lt s crew.pool.next_serial)) (ap (times s) (sym h.tied.numbered.all_are) ∙ times_below crew.pool.next_serial s)
@@ -69,6 +88,10 @@ module _ (setting : ℕ) (plan : List Bool) (crew : Crew) (past : List Moment) (
   -- what was accepted stands somewhere
   pub accepted_in : (s : ℕ) → is_in s (accepted_jobs past) ≡ is_some (standing past s)
   accepted_in s = in_times s (accepted_jobs past) (is_some (standing past s)) (known_so setting plan past h.laws s)
+
+  -- what stands nowhere is held by nobody
+  pub unheld : (s : ℕ) → standing past s ≡ None → holder past s ≡ None
+  unheld s none = held_by_none past s (accepted_in s ∙ ap is_some none)
 
   -- and that is each job from 1 up to the next
   pub known_is : (s : ℕ) → is_some (standing past s) ≡ (not (0 == s) && nat_lt s crew.pool.next_serial)

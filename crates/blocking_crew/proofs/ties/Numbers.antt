@@ -5,7 +5,6 @@ use Rattle.std.specs.FinMap.{get, insert}
 use Rattle.std.proofs.lemmas.Bool.{eqb-true, eq-eqb}
 use Rattle.blocking_pool.specs.Growth.{Growth}
 use Rattle.blocking_pool.specs.Jobs.{Job as Entry, Jobs, JobNumber, amend, new_job, entry_after_take, entry_after_wake, entry_after_cancel, entry_after_requeue, entry_after_park}
-use Rattle.blocking_pool.specs.declared.pool.answer.Refusal.{Refusal}
 use Rattle.blocking_pool.specs.declared.pool.answer.Refusal.TheVariants.{Memory, NoWorker, Numbers}
 use Rattle.blocking_pool.specs.declared.pool.answer.Waited.TheVariants.{Stay, Stop}
 use Rattle.blocking_pool.specs.declared.pool.answer.Woke.TheVariants.{Entered, Marked, Nothing}
@@ -16,12 +15,12 @@ use Rattle.blocking_laws.specs.declared.event.Moment.{Moment}
 use Rattle.blocking_crew.specs.Crews.{Crew}
 use Rattle.blocking_crew.specs.Moves.{Move, Adds, TakesJob, EndsTurn, Parks, HasWaited, Sweeps, IsWoken, IsCancelled, IsLetGo, May, after, call_of}
 use Rattle.blocking_crew.specs.Tickets.{JobPool, new_ticket, AddsTo}
-use Rattle.blocking_crew.specs.Ties.{IsNumberOf, IsAsked, CrewHolds}
+use Rattle.blocking_crew.specs.Ties.{IsNumberOf, is_serial_of, IsAsked, CrewHolds}
 use Rattle.blocking_crew.specs.declared.ticket.Ticket.{Ticket}
 use Rattle.blocking_crew.specs.declared.tickets.Parking.TheVariants as parking
 use Rattle.blocking_crew.proofs.ties.Known.{fresh}
 use Rattle.blocking_crew.proofs.jobs.Lookups.{job_put, job_out, job_changed}
-use Rattle.blocking_crew.proofs.ties.Lookups.{job_marked, mark_by, mark_in}
+use Rattle.blocking_crew.proofs.ties.Lookups.{job_let_go, mark_if}
 use Rattle.blocking_crew.proofs.ties.Sweeps.{IsSwept, is_swept, is_swept_if}
 
 -- the place of a job, where it is there
@@ -45,10 +44,6 @@ stays_changed true change same (Some old) entry is = let both : change old ≡ e
 stays_twice : (old between new : Option (Entry Ticket)) → Stays old between → Stays between new → Stays old new
 stays_twice old None new one two entry is = let bad = two entry is in absurd cc
 stays_twice old (Some middle) new one two entry is = one middle refl ∙ two entry is
-
-mark_place : (value : Option Ticket) (entry : Entry Ticket) → (mark_by value entry).place ≡ entry.place
-mark_place None entry = refl
-mark_place (Some value) entry = refl
 
 -- so its number stays its number
 number_by : (found : Option (Entry Ticket)) (place other : ℕ) → place_of found ≡ Some other → ((entry : Entry Ticket) → found ≡ Some entry → entry.place ≡ place) → other ≡ place
@@ -86,11 +81,6 @@ module _ (setting : ℕ) (plan : List Bool) (crew : Crew) (past : List Moment) (
           let bad : false ≡ true = sym (ap is_some none) ∙ known in
           absurd cc
 
-  refused : (why : Refusal) (growth : Growth) (pool : JobPool) → AddsTo (IsPlanned plan) crew.pool (Err why) growth pool → get pool.jobs s ≡ get crew.pool.jobs s
-  refused Memory growth pool adds = ap (λ (p : JobPool). get p.jobs s) adds.1
-  refused Numbers growth pool adds = ap (λ (p : JobPool). get p.jobs s) adds.2
-  refused NoWorker growth pool adds = ap (λ (p : JobPool). get p.jobs s) adds.after_is
-
   taken : (b : Bool) (entry : Entry Ticket) → (b ≡ true → get crew.pool.jobs s ≡ Some entry) → Stays (get crew.pool.jobs s) (if b then Some (entry_after_take entry) else get crew.pool.jobs s)
   taken true entry found new is = let same : entry_after_take entry ≡ new = cc in ap place_of (found refl) ∙ ap (λ (e : Entry Ticket). Some e.place) same
   taken false entry found new is = ap place_of is
@@ -104,35 +94,34 @@ module _ (setting : ℕ) (plan : List Bool) (crew : Crew) (past : List Moment) (
 
   place_stays : (move : Move) → May (IsPlanned plan) crew move → IsAsked crew past (call_of move) → is_some (standing past s) ≡ true → Stays (get crew.pool.jobs s) (get (after crew move).pool.jobs s)
   place_stays (Adds who (Ok other) growth pool) may asked known = stays_same (get crew.pool.jobs s) (get pool.jobs s) (added other growth pool known may)
-  place_stays (Adds who (Err why) growth pool) may asked known = stays_same (get crew.pool.jobs s) (get pool.jobs s) (refused why growth pool may)
+  place_stays (Adds who (Err Memory) growth pool) may asked known = stays_same (get crew.pool.jobs s) (get pool.jobs s) (ap (λ (p : JobPool). get p.jobs s) may.1)
+  place_stays (Adds who (Err Numbers) growth pool) may asked known = stays_same (get crew.pool.jobs s) (get pool.jobs s) (ap (λ (p : JobPool). get p.jobs s) may.2)
+  place_stays (Adds who (Err NoWorker) growth pool) may asked known = stays_same (get crew.pool.jobs s) (get pool.jobs s) (ap (λ (p : JobPool). get p.jobs s) may.after_is)
   place_stays (TakesJob v old to_drop turn ticket growth pool) may asked known =
       subst (Stays (get crew.pool.jobs s)) (sym (ap (λ (p : JobPool). get p.jobs s) may.1.after_is ∙ job_put crew.pool.jobs turn.serial (entry_after_take may.1.job) s (turn.serial == s) refl))
       (taken (turn.serial == s) may.1.job (λ is. ap (get crew.pool.jobs) (sym (eqb-true turn.serial s is)) ∙ may.1.found))
   place_stays (EndsTurn v held pass) may asked known = subst (Stays (get crew.pool.jobs s)) (sym (job_out crew.pool.jobs held.turn.serial s (held.turn.serial == s) refl)) (gone (held.turn.serial == s))
-  place_stays (Parks v held ticket (parking.Parked pass) pool) may asked known =
-      subst (λ (p : JobPool). Stays (get crew.pool.jobs s) (get p.jobs s)) (sym may.2.effect.2) (changes held.turn.serial (entry_after_park ticket) (λ e. refl) crew.pool.jobs)
+  place_stays (Parks v held ticket (parking.Parked pass) pool) may asked known = rw may.2.effect.2 (changes held.turn.serial (entry_after_park ticket) (λ e. refl) crew.pool.jobs)
   place_stays (Parks v held ticket (parking.Queued pass) pool) may asked known =
-      subst (λ (p : JobPool). Stays (get crew.pool.jobs s) (get p.jobs s)) (sym may.2.effect.2)
+      rw may.2.effect.2
       (stays_twice _ _ _ (changes held.turn.serial (entry_after_park ticket) (λ e. refl) crew.pool.jobs)
       (changes held.turn.serial entry_after_requeue (λ e. refl) (amend crew.pool.jobs held.turn.serial (entry_after_park ticket))))
   place_stays (Parks v held ticket (parking.HandedOut back) pool) may asked known = stays_same (get crew.pool.jobs s) (get pool.jobs s) (ap (λ (p : JobPool). get p.jobs s) may.2.effect.2)
   place_stays (HasWaited v pass end (Stay back) growth pool) may asked known =
-      subst (λ (p : JobPool). Stays (get crew.pool.jobs s) (get p.jobs s)) (sym may.1.answer.1) (swept (has_timed_out end) may.1.between (is_swept_if setting plan crew past h (IsPlanned plan) (has_timed_out end) growth may.1.between may.1.sweep))
+      rw may.1.answer.1 (swept (has_timed_out end) may.1.between (is_swept_if setting plan crew past h (IsPlanned plan) (has_timed_out end) growth may.1.between may.1.sweep))
   place_stays (HasWaited v pass end Stop growth pool) may asked known =
-      subst (λ (jobs : Jobs Ticket). Stays (get crew.pool.jobs s) (get jobs s)) (sym (ap (λ (p : JobPool). p.jobs) may.1.answer.1))
-      (swept (has_timed_out end) may.1.between (is_swept_if setting plan crew past h (IsPlanned plan) (has_timed_out end) growth may.1.between may.1.sweep))
+      rw may.1.answer.1 (swept (has_timed_out end) may.1.between (is_swept_if setting plan crew past h (IsPlanned plan) (has_timed_out end) growth may.1.between may.1.sweep))
   place_stays (Sweeps growth pool) may asked known = swept true pool (is_swept setting plan crew past h (IsPlanned plan) growth pool may)
-  place_stays (IsWoken who other Entered growth pool) may asked known =
-      subst (λ (p : JobPool). Stays (get crew.pool.jobs s) (get p.jobs s)) (sym may.effect.after_is) (changes other.serial entry_after_requeue (λ e. refl) crew.pool.jobs)
-  place_stays (IsWoken who other Marked growth pool) may asked known = subst (λ (p : JobPool). Stays (get crew.pool.jobs s) (get p.jobs s)) (sym may.effect.1) (changes other.serial entry_after_wake (λ e. refl) crew.pool.jobs)
+  place_stays (IsWoken who other Entered growth pool) may asked known = rw may.effect.after_is (changes other.serial entry_after_requeue (λ e. refl) crew.pool.jobs)
+  place_stays (IsWoken who other Marked growth pool) may asked known = rw may.effect.1 (changes other.serial entry_after_wake (λ e. refl) crew.pool.jobs)
   place_stays (IsWoken who other Nothing growth pool) may asked known = stays_same (get crew.pool.jobs s) (get pool.jobs s) (ap (λ (p : JobPool). get p.jobs s) may.effect.1)
   place_stays (IsCancelled who other Entered growth pool) may asked known =
-      subst (λ (p : JobPool). Stays (get crew.pool.jobs s) (get p.jobs s)) (sym may.effect.after_is)
+      rw may.effect.after_is
       (stays_twice _ _ _ (changes other.serial entry_after_cancel (λ e. refl) crew.pool.jobs) (changes other.serial entry_after_requeue (λ e. refl) (amend crew.pool.jobs other.serial entry_after_cancel)))
-  place_stays (IsCancelled who other Marked growth pool) may asked known = subst (λ (p : JobPool). Stays (get crew.pool.jobs s) (get p.jobs s)) (sym may.effect.1) (changes other.serial entry_after_cancel (λ e. refl) crew.pool.jobs)
+  place_stays (IsCancelled who other Marked growth pool) may asked known = rw may.effect.1 (changes other.serial entry_after_cancel (λ e. refl) crew.pool.jobs)
   place_stays (IsCancelled who other Nothing growth pool) may asked known = stays_same (get crew.pool.jobs s) (get pool.jobs s) (ap (λ (p : JobPool). get p.jobs s) may.effect.1)
   place_stays (IsLetGo who act other) may asked known =
-      subst (Stays (get crew.pool.jobs s)) (sym (job_marked crew.pool other s (other.serial == s) refl asked.0)) (stays_changed (other.serial == s) mark_in (λ e. mark_place e.value e) (get crew.pool.jobs s))
+      subst (Stays (get crew.pool.jobs s)) (sym (job_let_go crew.pool other s asked.0)) (stays_changed true (mark_if (is_serial_of other s)) (λ e. refl) (get crew.pool.jobs s))
   place_stays move may asked known = stays_same (get crew.pool.jobs s) (get crew.pool.jobs s) refl
 
   -- The number of a job that was accepted stays its number, at every move.

@@ -1,77 +1,119 @@
--- Each move keeps the pool's queue that of the past.
-use Rattle.std.proofs.Common.{◌≡◌, ℕ, if◌then◌else◌, ◌||◌, List, [], ◌∷◌, ◌++◌, Bool, true, false, sym, ap, ◌∙◌, Option, Some, None}
+-- Each move keeps the pool's queue that of the past, and the serials those of the jobs that were accepted.
+use Rattle.std.proofs.Common.{◌≡◌, ℕ, if◌then◌else◌, ◌||◌, List, [], ◌∷◌, ◌++◌, Bool, true, false, sym, ap, ◌∙◌, Option, Some, None, ◌+◌, length, length-append, refl, arith, suc, ap₂}
 use Rattle.std.specs.Prelude.{Ok, Err}
 use Rattle.blocking_pool.specs.Growth.{Growth}
-use Rattle.blocking_pool.specs.Jobs.{job_of, value_at}
-use Rattle.blocking_pool.specs.declared.pool.answer.Refusal.{Refusal}
 use Rattle.blocking_pool.specs.declared.pool.answer.Refusal.TheVariants.{Memory, NoWorker, Numbers}
 use Rattle.blocking_pool.specs.declared.pool.answer.Waited.TheVariants.{Stay, Stop}
 use Rattle.blocking_pool.specs.declared.pool.answer.Woke.TheVariants.{Entered, Marked, Nothing}
 use Rattle.blocking_laws.specs.Growth.{IsPlanned}
-use Rattle.blocking_laws.specs.Queue.{queue, to_sweep}
-use Rattle.blocking_laws.specs.Seen.{joined, has_timed_out, is_nothing}
+use Rattle.blocking_laws.specs.Queue.{queue, to_sweep, entered_by}
+use Rattle.blocking_laws.specs.Seen.{has_timed_out, is_nothing, joined, without_all}
 use Rattle.blocking_laws.specs.declared.event.Act.{Act}
 use Rattle.blocking_laws.specs.declared.event.Moment.{Moment}
 use Rattle.blocking_laws.specs.declared.event.Party.{Party}
 use Rattle.blocking_laws.specs.declared.event.Party.TheVariants.{Worker}
 use Rattle.blocking_laws.specs.declared.step.Step.{Step}
 use Rattle.blocking_crew.specs.Crews.{Crew}
-use Rattle.blocking_crew.specs.Moves.{Move, Adds, TakesJob, Works, EndsTurn, Parks, HasWaited, Sweeps, IsWoken, IsCancelled, IsLetGo, Tells, May, after, next_start, is_aside}
-use Rattle.blocking_crew.specs.Tickets.{JobPool, no_growth, AddsTo}
-use Rattle.blocking_crew.specs.Ties.{Lined, CrewHolds, moment_of}
+use Rattle.blocking_crew.specs.Moves.{Move, Adds, Arrives, TakesJob, Works, EndsTurn, Parks, HasWaited, Sweeps, IsWoken, IsCancelled, IsLetGo, Tells, May, after, next_start, is_aside, SetsLimit}
+use Rattle.blocking_crew.specs.Tickets.{JobPool, no_growth, Accepts}
+use Rattle.blocking_crew.specs.Ties.{Lined, CrewHolds, moment_of, Numbered}
 use Rattle.blocking_crew.specs.declared.tickets.Parking.TheVariants as parking
-use Rattle.blocking_crew.proofs.ties.Acts.{now_with, by_work, by_aside, by_let_go, by_end, aside_or}
-use Rattle.blocking_crew.proofs.jobs.Marks.{mark_alone}
+use Rattle.blocking_crew.proofs.ties.Acts.{now_with, plain, aside_plain, by_work, by_let_go, by_end, aside_or, enters_so}
+use Rattle.blocking_crew.proofs.jobs.Marks.{let_go_alone}
 use Rattle.blocking_crew.proofs.ties.Known.{front_out}
-use Rattle.blocking_crew.proofs.ties.Sweeps.{IsSwept, is_swept, is_swept_if}
+use Rattle.blocking_crew.proofs.ties.Sweeps.{is_swept, is_swept_if}
+use Rattle.blocking_pool.specs.Jobs.{JobNumber}
+use Rattle.blocking_pool.specs.Sweeps.{serials_below}
+use Rattle.blocking_laws.specs.Jobs.{accepted_jobs}
+use Rattle.blocking_laws.specs.declared.event.Act.TheVariants.{Accepted}
+use Rattle.blocking_crew.proofs.ties.Entered.{Enters, enters, enters_aside, swept}
 
 module _ (setting : ℕ) (plan : List Bool) (crew : Crew) (past : List Moment) (step : Step) (owner : Option ℕ) (h : CrewHolds setting plan crew past) where
   abbrev now : Party → Option ℕ → Act → Growth → Moment
   now who job act growth = now_with step owner who job act (next_start crew) growth
 
-  refused_line : (why : Refusal) (growth : Growth) (pool : JobPool) → AddsTo (IsPlanned plan) crew.pool (Err why) growth pool → pool.queue ≡ crew.pool.queue
-  refused_line Memory growth pool adds = ap (λ (p : JobPool). p.queue) adds.1
-  refused_line Numbers growth pool adds = ap (λ (p : JobPool). p.queue) adds.2
-  refused_line NoWorker growth pool adds = ap (λ (p : JobPool). p.queue) adds.after_is
+  -- ---- the queue
 
-  -- the queue after a sweep, if there was one
-  pub swept_line : (late : Bool) (new : JobPool) → IsSwept late crew.pool new past → new.queue ≡ joined (queue past) (if late then to_sweep past else [])
-  swept_line late new swept = swept.line ∙ ap (λ (ns : List ℕ). joined ns (if late then to_sweep past else [])) h.tied.lined
+  -- jobs have entered, or none
+  entered : (last : Moment) (new : Crew) → Enters setting plan crew past step owner h last new → Lined new.pool (last ∷ past)
+  entered last new e =
+      e.entered.line ∙ ap₂ (λ (gone ns : List ℕ). joined (without_all gone ns) (entered_by past last.event.act)) (sym (enters_so past last.event.act e.only).taken) h.tied.lined
 
   -- an event that is nothing to the crew keeps it
   pub queue_aside : (who : Party) (act : Act) → (is_aside act || is_nothing act) ≡ true → Lined crew.pool (now who None act no_growth ∷ past)
-  queue_aside who act is =
-      by_aside (λ act. crew.pool.queue ≡ queue (now who None act no_growth ∷ past)) h.tied.lined (λ n. h.tied.lined) h.tied.lined h.tied.lined h.tied.lined act is
+  queue_aside who act is = entered (now who None act no_growth) crew (enters_aside setting plan crew past step owner h who act is)
 
   -- Each move keeps the pool's queue that of the past.
   pub queue_after : (move : Move) → May (IsPlanned plan) crew move → Lined (after crew move).pool (moment_of crew move step owner ∷ past)
-  queue_after (Adds who (Ok number) growth pool) may =
-      ap (λ (p : JobPool). p.queue) may.after_is ∙ ap (λ (s : ℕ). crew.pool.queue ++ s ∷ []) (sym may.serial) ∙ ap (λ (ns : List ℕ). ns ++ number.serial ∷ []) h.tied.lined
-  queue_after (Adds who (Err why) growth pool) may = refused_line why growth pool may ∙ h.tied.lined
+  queue_after (Adds who (Err NoWorker) growth pool) may = ap (λ (p : JobPool). p.queue) may.after_is ∙ h.tied.lined
+  queue_after (Arrives pass) may = h.tied.lined
   queue_after (TakesJob v old true turn ticket growth pool) may = ap (λ (p : JobPool). p.queue) may.1.after_is ∙ sym (front_out setting plan crew past h turn.serial may.1.rest may.1.front)
   queue_after (TakesJob v old false turn ticket growth pool) may = ap (λ (p : JobPool). p.queue) may.1.after_is ∙ sym (front_out setting plan crew past h turn.serial may.1.rest may.1.front)
-  queue_after (Works v held act) may =
-      by_work (λ at act. crew.pool.queue ≡ queue (now (Worker v) (Some held.turn.serial) act no_growth ∷ past)) (λ a. h.tied.lined) h.tied.lined (λ w. h.tied.lined) h.tied.lined (λ w. h.tied.lined) h.tied.lined held.stage act may.1
   queue_after (EndsTurn v held pass) may =
       by_end (λ act. crew.pool.queue ≡ queue (now (Worker v) (Some held.turn.serial) act no_growth ∷ past)) held.turn.serial h.tied.lined h.tied.lined held.stage
   queue_after (Parks v held ticket (parking.Parked pass) pool) may = ap (λ (p : JobPool). p.queue) may.2.effect.2 ∙ h.tied.lined
   queue_after (Parks v held ticket (parking.Queued pass) pool) may = ap (λ (p : JobPool). p.queue) may.2.effect.2 ∙ ap (λ (ns : List ℕ). ns ++ held.turn.serial ∷ []) h.tied.lined
-  queue_after (Parks v held ticket (parking.HandedOut back) pool) may = ap (λ (p : JobPool). p.queue) may.2.effect.2 ∙ h.tied.lined
-  queue_after (HasWaited v pass end (Stay back) growth pool) may =
-      ap (λ (p : JobPool). p.queue) may.1.answer.1
-      ∙ swept_line (has_timed_out end) may.1.between (is_swept_if setting plan crew past h (IsPlanned plan) (has_timed_out end) growth may.1.between may.1.sweep)
   queue_after (HasWaited v pass end Stop growth pool) may =
-      ap (λ (p : JobPool). p.queue) may.1.answer.1
-      ∙ swept_line (has_timed_out end) may.1.between (is_swept_if setting plan crew past h (IsPlanned plan) (has_timed_out end) growth may.1.between may.1.sweep)
-  queue_after (Sweeps growth pool) may = swept_line true pool (is_swept setting plan crew past h (IsPlanned plan) growth pool may)
-  queue_after (IsWoken who number Entered growth pool) may = ap (λ (p : JobPool). p.queue) may.effect.after_is ∙ ap (λ (ns : List ℕ). ns ++ number.serial ∷ []) h.tied.lined
-  queue_after (IsWoken who number Marked growth pool) may = ap (λ (p : JobPool). p.queue) may.effect.1 ∙ h.tied.lined
-  queue_after (IsWoken who number Nothing growth pool) may = ap (λ (p : JobPool). p.queue) may.effect.1 ∙ h.tied.lined
-  queue_after (IsCancelled who number Entered growth pool) may = ap (λ (p : JobPool). p.queue) may.effect.after_is ∙ ap (λ (ns : List ℕ). ns ++ number.serial ∷ []) h.tied.lined
-  queue_after (IsCancelled who number Marked growth pool) may = ap (λ (p : JobPool). p.queue) may.effect.1 ∙ h.tied.lined
-  queue_after (IsCancelled who number Nothing growth pool) may = ap (λ (p : JobPool). p.queue) may.effect.1 ∙ h.tied.lined
-  queue_after (IsLetGo who act number) may =
-      let same = ap (λ (p : JobPool). p.queue) (mark_alone crew.pool number (value_at (job_of crew.pool.jobs number))) ∙ h.tied.lined in
-      by_let_go (λ act. (after crew (IsLetGo who act number)).pool.queue ≡ queue (now who None act no_growth ∷ past)) same same act may
-  queue_after (Tells who act) may = queue_aside who act (aside_or act may)
-  queue_after move may = h.tied.lined
+      ap (λ (p : JobPool). p.queue) may.1.answer.1 ∙ (swept setting plan crew past step owner h (has_timed_out end) growth may.1.between may.1.sweep).line
+      ∙ ap (λ (ns : List ℕ). joined ns (if has_timed_out end then to_sweep past else [])) h.tied.lined
+  queue_after (SetsLimit n) may = h.tied.lined
+  queue_after move may = entered (moment_of crew move step owner) (after crew move) (enters setting plan crew past step owner h move may refl)
+
+  -- ---- the serials
+
+  -- no job was accepted
+  kept : (new : JobPool) (last : Moment) → new.next_serial ≡ crew.pool.next_serial → accepted_jobs (last ∷ past) ≡ accepted_jobs past → Numbered new (last ∷ past)
+  kept new last same none = record {
+    next = same ∙ h.tied.numbered.next ∙ ap (λ (ns : List ℕ). 1 + length ns) (sym none);
+    all_are = ap serials_below same ∙ h.tied.numbered.all_are ∙ ap (λ (ns : List ℕ). 0 ∷ ns) (sym none);
+  }
+
+  accepted : (who : Party) (number : JobNumber) (growth : Growth) (pool : JobPool) → Accepts (IsPlanned plan) crew.pool number growth pool → Numbered pool (now who None (Accepted number.serial) growth ∷ past)
+  accepted who number growth pool accepts =
+      let n = crew.pool.next_serial in
+      let next : pool.next_serial ≡ suc n = ap (λ (p : JobPool). p.next_serial) accepts.after_is ∙ omega arith in
+      let before = h.tied.numbered.next in
+      let longer = length-append (accepted_jobs past) (number.serial ∷ []) in
+      record {
+        next = omega (arith, next, before, longer);
+        all_are = ap serials_below next ∙ ap (λ (ns : List ℕ). ns ++ n ∷ []) h.tied.numbered.all_are ∙ ap (λ (s : ℕ). 0 ∷ (accepted_jobs past ++ s ∷ [])) (sym accepts.serial);
+      }
+
+  -- an event that is nothing to the crew keeps them
+  pub serials_aside : (who : Party) (act : Act) → (is_aside act || is_nothing act) ≡ true → Numbered crew.pool (now who None act no_growth ∷ past)
+  serials_aside who act is =
+      kept crew.pool _ refl (plain setting past step owner who None (next_start crew) no_growth act (aside_plain act is)).accepted
+
+  -- Each move keeps the serials those of the jobs that were accepted.
+  pub serials_after : (move : Move) → May (IsPlanned plan) crew move → Numbered (after crew move).pool (moment_of crew move step owner ∷ past)
+  serials_after (Adds who (Ok number) growth pool) may = accepted who number growth pool may
+  serials_after (Adds who (Err Memory) growth pool) may = kept pool _ (ap (λ (p : JobPool). p.next_serial) may.1) refl
+  serials_after (Adds who (Err Numbers) growth pool) may = kept pool _ (ap (λ (p : JobPool). p.next_serial) may.2) refl
+  serials_after (Adds who (Err NoWorker) growth pool) may = kept pool _ (ap (λ (p : JobPool). p.next_serial) may.after_is) refl
+  serials_after (TakesJob v old true turn ticket growth pool) may = kept pool _ (ap (λ (p : JobPool). p.next_serial) may.1.after_is) refl
+  serials_after (TakesJob v old false turn ticket growth pool) may = kept pool _ (ap (λ (p : JobPool). p.next_serial) may.1.after_is) refl
+  serials_after (Works v held act) may =
+      by_work (λ at act. Numbered crew.pool (now (Worker v) (Some held.turn.serial) act no_growth ∷ past))
+      (λ at act is same fits. kept crew.pool _ refl (plain setting past step owner (Worker v) (Some held.turn.serial) (next_start crew) no_growth act is).accepted)
+      (kept crew.pool _ refl refl) (λ w. kept crew.pool _ refl refl) held.stage act may.1
+  serials_after (EndsTurn v held pass) may = kept (after crew (EndsTurn v held pass)).pool _ refl refl
+  serials_after (Parks v held ticket (parking.Parked pass) pool) may = kept pool _ (ap (λ (p : JobPool). p.next_serial) may.2.effect.2) refl
+  serials_after (Parks v held ticket (parking.Queued pass) pool) may = kept pool _ (ap (λ (p : JobPool). p.next_serial) may.2.effect.2) refl
+  serials_after (Parks v held ticket (parking.HandedOut back) pool) may = kept pool _ (ap (λ (p : JobPool). p.next_serial) may.2.effect.2) refl
+  serials_after (HasWaited v pass end (Stay back) growth pool) may =
+      kept pool _ (ap (λ (p : JobPool). p.next_serial) may.1.answer.1 ∙ (is_swept_if setting plan crew past h (IsPlanned plan) (has_timed_out end) growth may.1.between may.1.sweep).serial) refl
+  serials_after (HasWaited v pass end Stop growth pool) may =
+      kept pool _ (ap (λ (p : JobPool). p.next_serial) may.1.answer.1 ∙ (is_swept_if setting plan crew past h (IsPlanned plan) (has_timed_out end) growth may.1.between may.1.sweep).serial) refl
+  serials_after (Sweeps growth pool) may = kept pool _ (is_swept setting plan crew past h (IsPlanned plan) growth pool may).serial refl
+  serials_after (IsWoken who number Entered growth pool) may = kept pool _ (ap (λ (p : JobPool). p.next_serial) may.effect.after_is) refl
+  serials_after (IsWoken who number Marked growth pool) may = kept pool _ (ap (λ (p : JobPool). p.next_serial) may.effect.1) refl
+  serials_after (IsWoken who number Nothing growth pool) may = kept pool _ (ap (λ (p : JobPool). p.next_serial) may.effect.1) refl
+  serials_after (IsCancelled who number Entered growth pool) may = kept pool _ (ap (λ (p : JobPool). p.next_serial) may.effect.after_is) refl
+  serials_after (IsCancelled who number Marked growth pool) may = kept pool _ (ap (λ (p : JobPool). p.next_serial) may.effect.1) refl
+  serials_after (IsCancelled who number Nothing growth pool) may = kept pool _ (ap (λ (p : JobPool). p.next_serial) may.effect.1) refl
+  serials_after (IsLetGo who act number) may =
+      let new = (after crew (IsLetGo who act number)).pool in
+      let same : new.next_serial ≡ crew.pool.next_serial = ap (λ (p : JobPool). p.next_serial) (let_go_alone crew.pool number) in
+      by_let_go (λ act. Numbered new (now who None act no_growth ∷ past)) (kept new _ same refl) (kept new _ same refl) act may
+  serials_after (Tells who act) may = serials_aside who act (aside_or act may)
+  serials_after move may = kept (after crew move).pool _ refl refl

@@ -5,9 +5,9 @@ use Rattle.blocking_pool.specs.Counts.{Counts, after_pickup}
 use Rattle.blocking_pool.specs.Growth.{Growth, Narrows}
 use Rattle.blocking_pool.specs.Jobs.{JobNumber}
 use Rattle.blocking_pool.specs.declared.pool.answer.Refusal.{Refusal}
-use Rattle.blocking_pool.specs.declared.pool.answer.Refusal.TheVariants.{Memory, NoWorker, Numbers}
+use Rattle.blocking_pool.specs.declared.pool.answer.Refusal.TheVariants.{NoWorker}
 use Rattle.blocking_pool.specs.declared.pool.answer.Woke.{Woke}
-use Rattle.blocking_pool.specs.declared.pool.answer.Woke.TheVariants.{Entered, Marked, Nothing}
+use Rattle.blocking_pool.specs.declared.pool.answer.Woke.TheVariants.{Entered}
 use Rattle.blocking_pool.proofs.GrowthLemmas.{answer_before}
 use Rattle.blocking_laws.specs.Seen.{has_timed_out}
 use Rattle.blocking_crew.specs.Crews.{Crew}
@@ -29,8 +29,7 @@ module _ (wide narrow : ℕ → Bool → Type 0) (more : Narrows wide narrow) wh
   adds : (old : JobPool) (added : Result JobNumber Refusal) (growth : Growth) (new : JobPool) → AddsTo narrow old added growth new → AddsTo wide old added growth new
   adds old (Ok number) growth new a = record { serial = a.serial; left = a.left; unused = a.unused; starts = grows (length old.queue + 1) old.counts growth a.starts; staffed = a.staffed; after_is = a.after_is }
   adds old (Err NoWorker) growth new a = record { left = a.left; starts = grows (length old.queue + 1) old.counts growth a.starts; unstaffed = a.unstaffed; after_is = a.after_is }
-  adds old (Err Memory) growth new a = a
-  adds old (Err Numbers) growth new a = a
+  adds old _ growth new a = a
 
   takes : (old : JobPool) (number : JobNumber) (value : Ticket) (to_drop : Bool) (growth : Growth) (new : JobPool) → TakesFront narrow old number value to_drop growth new → TakesFront wide old number value to_drop growth new
   takes old number value to_drop growth new t = record {
@@ -56,13 +55,11 @@ module _ (wide narrow : ℕ → Bool → Type 0) (more : Narrows wide narrow) wh
 
   wakes : (old : JobPool) (serial : ℕ) (woke : Woke) (growth : Growth) (new : JobPool) → WakesTo narrow old serial woke growth new → WakesTo wide old serial woke growth new
   wakes old serial Entered growth new w = again old (serial ∷ []) growth new w
-  wakes old serial Marked growth new w = w
-  wakes old serial Nothing growth new w = w
+  wakes old serial _ growth new w = w
 
   cancels : (old : JobPool) (serial : ℕ) (woke : Woke) (growth : Growth) (new : JobPool) → CancelsTo narrow old serial woke growth new → CancelsTo wide old serial woke growth new
   cancels old serial Entered growth new w = again _ (serial ∷ []) growth new w
-  cancels old serial Marked growth new w = w
-  cancels old serial Nothing growth new w = w
+  cancels old serial _ growth new w = w
 
   -- A move under some answers is one under more.
   pub may_more : (crew : Crew) (move : Move) → May narrow crew move → May wide crew move

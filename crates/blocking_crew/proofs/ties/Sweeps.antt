@@ -1,13 +1,12 @@
 -- A sweep puts back what was seen to be parked and marked, in the order in which it was accepted.
-use Rattle.std.proofs.Common.{◌≡◌, ℕ, ◌==◌, ◌&&◌, ◌||◌, if◌then◌else◌, cond, Bool, true, false, List, [], ◌∷◌, refl, ap, ◌∙◌, Option, Some, None}
+use Rattle.std.proofs.Common.{◌≡◌, ℕ, ◌&&◌, if◌then◌else◌, cond, Bool, true, false, List, [], ◌∷◌, refl, ap, ◌∙◌, Option, Some, None}
 use Rattle.std.specs.Prelude.{option_map, is_some, filter}
 use Rattle.std.specs.FinMap.{get}
-use Rattle.std.proofs.lemmas.Bool.{eqb-true}
 use Rattle.blocking_pool.specs.Growth.{Growth}
 use Rattle.blocking_pool.specs.Jobs.{Jobs, jobs_after_requeue, entry_after_requeue}
 use Rattle.blocking_pool.specs.Lists.{is_in}
 use Rattle.blocking_pool.specs.declared.pool.standing.Standing.{Standing}
-use Rattle.blocking_pool.specs.declared.pool.standing.Standing.TheVariants.{Queued, Running, Parked, Done, Dropped}
+use Rattle.blocking_pool.specs.declared.pool.standing.Standing.TheVariants.{Queued, Running, Parked}
 use Rattle.blocking_laws.specs.Jobs.{accepted_jobs, standing, is_parked, is_woken, is_cancelled, is_marked, has_ended}
 use Rattle.blocking_laws.specs.Queue.{to_sweep as seen_to_sweep}
 use Rattle.blocking_laws.specs.Seen.{joined}
@@ -17,25 +16,9 @@ use Rattle.blocking_crew.specs.Tickets.{JobPool, SweepsTo, SweepsIf, to_sweep, i
 use Rattle.blocking_crew.specs.Ties.{CrewHolds}
 use Rattle.blocking_crew.specs.declared.ticket.Ticket.{Ticket}
 use Rattle.blocking_crew.proofs.ties.Lists.{same_filter}
-use Rattle.blocking_crew.proofs.jobs.Lookups.{job_requeued}
+use Rattle.blocking_crew.proofs.jobs.Lookups.{job_requeued, in_filter}
 use Rattle.blocking_crew.proofs.ties.Entries.{due_filed}
 use Rattle.blocking_crew.proofs.ties.Known.{get_zero, accepted_in}
-
-kept_by : (b d c m : Bool) (s x : ℕ) (ns : List ℕ) → (s == x) ≡ c → (c ≡ true → d ≡ b) → is_in s ns ≡ (d && m) → is_in s (cond b (x ∷ ns) ns) ≡ (d && (c || m))
-kept_by true true c m s x ns is same e = ap (λ (b : Bool). b || is_in s ns) is ∙ ap (λ (b : Bool). c || b) e
-kept_by true false true m s x ns is same e = let bad : false ≡ true = same refl in absurd cc
-kept_by true false false m s x ns is same e = ap (λ (b : Bool). b || is_in s ns) is ∙ e
-kept_by false true true m s x ns is same e = let bad : true ≡ false = same refl in absurd cc
-kept_by false true false m s x ns is same e = e
-kept_by false false c m s x ns is same e = e
-
-in_filter : (p : ℕ → Bool) (ns : List ℕ) (s : ℕ) → is_in s (filter p ns) ≡ (p s && is_in s ns)
-in_filter p [] s = by (p s)
-  where
-    by : (b : Bool) → false ≡ (b && false)
-    by true = refl
-    by false = refl
-in_filter p (n ∷ ns) s = kept_by (p n) (p s) (s == n) (is_in s ns) s n (filter p ns) refl (λ is. ap p (eqb-true s n is)) (in_filter p ns s)
 
 -- what is parked was accepted, so that being swept is being parked and marked
 swept_test : (stand : Option Standing) (mark : Bool) → ((is_parked stand && mark) && is_some stand) ≡ (is_parked stand && mark)
@@ -44,8 +27,7 @@ swept_test (Some Queued) mark = refl
 swept_test (Some Running) mark = refl
 swept_test (Some Parked) true = refl
 swept_test (Some Parked) false = refl
-swept_test (Some Done) mark = refl
-swept_test (Some Dropped) mark = refl
+swept_test _ mark = refl
 
 swept_by : (may_answer : ℕ → Bool → Type 0) (old new : JobPool) (growth : Growth) (serials : List ℕ) → SweepsTo may_answer old serials growth new
     → (new.jobs ≡ jobs_after_requeue old.jobs serials) × (new.queue ≡ joined old.queue serials) × (new.next_serial ≡ old.next_serial)

@@ -11,13 +11,13 @@ use Rattle.blocking_lanes.specs.Steps.{MakesTask}
 
 -- ---- where no job is accepted
 
-accepts_none : (act : Act) (s : ℕ) → accepted_by act ≡ [] → accepts s act ≡ false
-accepts_none (Accepted t) s none = absurd (cc)
-accepts_none _ s none = refl
+pub accepts_no_job : (act : Act) (s : ℕ) → accepted_by act ≡ [] → accepts s act ≡ false
+accepts_no_job (Accepted t) s none = absurd (cc)
+accepts_no_job _ s none = refl
 
 -- who held a job still does
 pub holder_stays : (past : List Moment) (now : Moment) → accepted_by now.event.act ≡ [] → (s : ℕ) → holder (now ∷ past) s ≡ holder past s
-holder_stays past now none s = rw (accepts_none now.event.act s none) refl
+holder_stays past now none s = rw (accepts_no_job now.event.act s none) refl
 
 -- and there are as many tasks
 pub tasks_stay : (past : List Moment) (now : Moment) → accepted_by now.event.act ≡ [] → tasks (now ∷ past) ≡ tasks past

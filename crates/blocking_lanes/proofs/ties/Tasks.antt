@@ -1,44 +1,96 @@
 -- The tie of the tasks and their laws hold after one more moment, where they held before it.
 use Rattle.std.proofs.Common.{◌≡◌, ℕ, ◌+◌, ◌<◌, ◌≤◌, ◌==◌, List, [], ◌∷◌, ◌++◌, length, length-append, Bool, true, false, refl, sym, ap, ◌∙◌, subst, arith, if◌then◌else◌, Option, Some, None, ⊎_elim, ◌⊎◌, inl, inr}
-use Rattle.std.specs.Prelude.{◌||◌, slice_get, slice_set}
+use Rattle.std.specs.Prelude.{◌||◌, ◌&&◌, not, cond, filter, slice_get, slice_set}
+use Rattle.std.proofs.lemmas.Bool.{eq-eqb, or_parts}
 use Rattle.std.proofs.lemmas.Bool.Decides.{nat_tests}
 use Rattle.std.proofs.lemmas.Option.{slice_get_within}
 use Rattle.std.proofs.Math.ListN.{length-set}
 use Rattle.blocking_pool.specs.Jobs.{JobNumber}
 use Rattle.blocking_laws.specs.Seen.{events, task_cut, is_by_task, is_of_job}
-use Rattle.blocking_laws.specs.Jobs.{accepted_by, holder, tasks}
+use Rattle.blocking_laws.specs.Jobs.{accepted_by, accepts, holder, is_pool, makes_a_task, newcomer, tasks}
 use Rattle.blocking_laws.specs.TaskLaws.{TaskLaw, TaskLaws}
+use Rattle.blocking_laws.specs.declared.event.Act.{Act}
+use Rattle.blocking_laws.specs.declared.event.Act.TheVariants.{Accepted}
 use Rattle.blocking_laws.specs.declared.event.Event.{Event}
 use Rattle.blocking_laws.specs.declared.event.Moment.{Moment}
 use Rattle.blocking_laws.specs.declared.event.Party.{Party}
-use Rattle.blocking_laws.specs.declared.event.Party.TheVariants.{Task as ByTask}
+use Rattle.blocking_laws.specs.declared.event.Party.TheVariants.{Owner as ByOwner, Task as ByTask}
 use Rattle.blocking_lanes.specs.Tasks.{Task, new_task}
 use Rattle.blocking_lanes.specs.Ties.{TaskAs, Tasked, TasksHold}
-use Rattle.blocking_lanes.specs.Steps.{IsAside, MakesTask, TakesStep, MayTake, task_after}
+use Rattle.blocking_lanes.specs.Steps.{IsAside, IsBeside, MakesTask, TakesStep, MayTake, task_after}
 use Rattle.blocking_lanes.proofs.Places.{got_same, got_other, in_pushed}
 use Rattle.blocking_lanes.proofs.acts.Own.{Goes}
 use Rattle.blocking_lanes.proofs.acts.Steps.{step_goes, is_call, in_cut, accepts_none}
 use Rattle.blocking_lanes.proofs.cuts.Acts.{acts_cut}
 use Rattle.blocking_lanes.proofs.cuts.Events.{cut_same, cut_more}
 use Rattle.blocking_lanes.proofs.cuts.InTime.{timely}
-use Rattle.blocking_lanes.proofs.ties.Holders.{holder_stays, tasks_stay, holder_grows, tasks_grow}
+use Rattle.blocking_lanes.proofs.ties.Holders.{accepts_no_job, holder_stays, tasks_stay, holder_grows, tasks_grow}
 
 -- ---- an event of no task
 
-pub aside : (row : List Task) (past : List Moment) (now : Moment) → IsAside now.event → TasksHold row past → TasksHold row (now ∷ past)
-aside row past now a h =
-    let held = λ (s : ℕ). holder_stays past now a.none_new s in
-    let same = λ (k s : ℕ). cut_same k s now.event (events past) (a.out k s) in
+module _ (past : List Moment) (now : Moment) (b : IsBeside past now.event) where
+  -- a job that a task holds after it, that task held before
+  held_before : (k s : ℕ) → holder (now ∷ past) s ≡ Some (ByTask k) → holder past s ≡ Some (ByTask k)
+  held_before k s held = by (accepts s now.event.act) refl held
+    where
+      by : (new : Bool) → accepts s now.event.act ≡ new → (if new then Some (newcomer past now.event.party) else holder past s) ≡ Some (ByTask k) → holder past s ≡ Some (ByTask k)
+      by true is held = let owner = (b.by_owner s is).1 in absurd (let brought = ap (newcomer past) owner in cc)
+      by false is held = held
+
+  -- a job that nobody holds after it, nobody held before
+  unheld_before : (s : ℕ) → holder (now ∷ past) s ≡ None → holder past s ≡ None
+  unheld_before s none = by (accepts s now.event.act) none
+    where
+      by : (new : Bool) → (if new then Some (newcomer past now.event.party) else holder past s) ≡ None → holder past s ≡ None
+      by true none = absurd cc
+      by false none = none
+
+  -- and there are as many tasks
+  as_many : tasks (now ∷ past) ≡ tasks past
+  as_many = by now.event.act refl
+    where
+      by : (act : Act) → now.event.act ≡ act → tasks (now ∷ past) ≡ tasks past
+      by (Accepted s) is =
+          let owner = b.by_owner s (ap (accepts s) is ∙ eq-eqb s s refl) in
+          let old : makes_a_task now.event ≡ false = ap (λ p. is_pool p && not (length (accepted_by now.event.act) == 0)) owner.1 in
+          ap (λ new. length (cond new (now ∷ filter (λ m. makes_a_task m.event) past) (filter (λ m. makes_a_task m.event) past))) old
+      by _ is = tasks_stay past now (ap accepted_by is)
+
+  -- it stands in the cut of a task only if an owner holds that job
+  beside_cut : (k s : ℕ) → ((h : ℕ) → holder past s ≡ Some (ByOwner h) → ⊥) → task_cut k s (now.event ∷ events past) ≡ task_cut k s (events past)
+  beside_cut k s of_none = cut_same k s now.event (events past) (ap (λ a. a || is_of_job s now.event) (b.out k) ∙ by (is_of_job s now.event) refl)
+    where
+      by : (its : Bool) → is_of_job s now.event ≡ its → is_of_job s now.event ≡ false
+      by true is = let owner = b.of_owner s is in absurd (of_none owner.0 owner.1)
+      by false is = is
+
+pub beside : (row : List Task) (past : List Moment) (now : Moment) → IsBeside past now.event → TasksHold row past → TasksHold row (now ∷ past)
+beside row past now b h =
+    let held = λ (k s : ℕ) (holds : holder (now ∷ past) s ≡ Some (ByTask k)). held_before past now b k s holds in
+    let same = λ (k s : ℕ) (holds : holder (now ∷ past) s ≡ Some (ByTask k)). beside_cut past now b k s (λ g owner. let task = held k s holds in cc) in
     record {
       tied = record {
-        count = h.tied.count ∙ sym (tasks_stay past now a.none_new);
-        there = λ k s holds. h.tied.there k s (sym (held s) ∙ holds);
-        once = λ k s t one other. h.tied.once k s t (sym (held s) ∙ one) (sym (held t) ∙ other);
-        each = λ k s task holds found. subst (TaskAs task s) (sym (same k s)) (h.tied.each k s task (sym (held s) ∙ holds) found);
-        unborn = λ k s over none. same k s ∙ h.tied.unborn k s over (sym (held s) ∙ none);
+        count = h.tied.count ∙ sym (as_many past now b);
+        there = λ k s holds. h.tied.there k s (held k s holds);
+        once = λ k s t one other. h.tied.once k s t (held k s one) (held k t other);
+        each = λ k s task holds found. subst (TaskAs task s) (sym (same k s holds)) (h.tied.each k s task (held k s holds) found);
+        unborn = λ k s over none.
+            let nobody = unheld_before past now b s none in
+            beside_cut past now b k s (λ g owner. cc) ∙ h.tied.unborn k s over nobody;
       };
-      laws = λ k s holds. subst (TaskLaws s) (sym (same k s)) (h.laws k s (sym (held s) ∙ holds));
+      laws = λ k s holds. subst (TaskLaws s) (sym (same k s holds)) (h.laws k s (held k s holds));
     }
+
+-- such is an event of no job too, with which no job is accepted
+pub aside_beside : (past : List Moment) (e : Event) → IsAside e → IsBeside past e
+aside_beside past e a = record {
+  out = λ k. (or_parts (is_by_task k e) (is_of_job 0 e) (a.out k 0)).0;
+  of_owner = λ s its. absurd (let none = (or_parts (is_by_task 0 e) (is_of_job s e) (a.out 0 s)).1 in cc);
+  by_owner = λ s new. absurd (let none = accepts_no_job e.act s a.none_new in cc);
+}
+
+pub aside : (row : List Task) (past : List Moment) (now : Moment) → IsAside now.event → TasksHold row past → TasksHold row (now ∷ past)
+aside row past now a h = beside row past now (aside_beside past now.event a) h
 
 -- ---- a step of one task
 

@@ -1,5 +1,5 @@
-//! One short trace for each definition of which the gate tries a wrong reading: what the definition says of it, and the wrong reading
-//! doesn't. What else shows the laws stands in `blocking_theorems`.
+//! One short trace for each definition of which the edits of this crate try a wrong reading: what the definition says of it, and the
+//! wrong reading doesn't. What else shows the laws stands in `blocking_theorems`.
 ghost use Rattle.std.specs.Prelude.{◌≡◌, [], Some, None, false};
 ghost use Rattle.blocking_pool.specs.declared.pool.answer.Refusal.TheVariants.{Memory, NoWorker};
 ghost use Rattle.blocking_pool.specs.declared.pool.answer.Woke.TheVariants.{Entered, Marked};

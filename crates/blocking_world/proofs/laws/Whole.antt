@@ -1,151 +1,229 @@
 -- Each move keeps the ties and the laws: so every world is lawful.
-use Rattle.std.proofs.Common.{◌≡◌, ◌<◌, ◌-◌, ◌==◌, ℕ, List, [], ◌∷◌, Bool, true, false, refl, sym, ap, ◌∙◌, subst, arith, Option, Some, None, if◌then◌else◌}
-use Rattle.std.specs.Prelude.{Result, Ok, Err, slice_get}
-use Rattle.blocking_pool.specs.Jobs.{JobNumber}
+use Rattle.std.proofs.Common.{◌≡◌, ◌⊎◌, inl, inr, ◌<◌, ◌-◌, ◌==◌, ℕ, List, [], ◌∷◌, Bool, true, false, refl, sym, ap, ◌∙◌, subst, arith, Option, Some, None, if◌then◌else◌}
+use Rattle.std.specs.Prelude.{Ok, Err, is_some, slice_get}
+use Rattle.std.proofs.lemmas.Bool.{eqb-true}
 use Rattle.blocking_pool.specs.Limits.{limit_of_setting, limit_by, number_of}
 use Rattle.blocking_pool.specs.Pools.{empty_pool}
-use Rattle.blocking_pool.specs.declared.pool.answer.Waited.TheVariants.{Stay, Stop}
-use Rattle.blocking_crew.specs.Crews.{Crew, free_hands, busy_hands}
+use Rattle.blocking_pool.specs.declared.pool.answer.Woke.{Woke}
+use Rattle.blocking_pool.specs.declared.pool.answer.Woke.TheVariants.{Entered, Marked, Nothing}
+use Rattle.blocking_crew.specs.Crews.{Crew, free_hands, busy_hands, hand_at, hand_in}
+use Rattle.blocking_crew.specs.declared.hand.Hand.TheVariants.{Out, Holds}
+use Rattle.blocking_crew.specs.declared.hand.Held.{Held}
 use Rattle.blocking_crew.specs.Moves as crew
-use Rattle.blocking_crew.specs.Ties.{CrewHolds, IsAsked, IsNumberOf, Served}
+use Rattle.blocking_crew.specs.Moves.{added_act, next_start, nothing}
+use Rattle.blocking_crew.specs.Ties.{CrewHolds, IsAsked, IsNumberOf, Served, seen_as}
 use Rattle.blocking_crew.proofs.laws.Service.{served_after}
 use Rattle.blocking_crew.proofs.laws.Staffing.{holding, staffed, as_seen}
-use Rattle.blocking_crew.proofs.laws.Whole.{holds_after, holds_aside, begins}
+use Rattle.blocking_crew.proofs.laws.Whole.{holds_moved, holds_aside, begins}
+use Rattle.blocking_crew.proofs.ties.Numbers.{number_after}
+use Rattle.blocking_lanes.specs.Steps.{IsAside}
+use Rattle.blocking_lanes.specs.Ties.{TasksHold}
+use Rattle.blocking_laws.specs.Bare.{is_bare}
 use Rattle.blocking_laws.specs.Growth.{IsPlanned}
-use Rattle.blocking_laws.specs.Legal.{Legal}
+use Rattle.blocking_laws.specs.Jobs.{accepted_by, cancels, ends_for_good, holder, is_to_drop, lets_go, standing}
 use Rattle.blocking_laws.specs.Served.{IsServed}
 use Rattle.blocking_laws.specs.Staffed.{IsStaffed, AreAsSeen}
+use Rattle.blocking_laws.specs.Steps.{may_cancel, named}
+use Rattle.blocking_laws.specs.declared.event.Act.{Act}
+use Rattle.blocking_laws.specs.declared.event.Act.TheVariants.{JobCancelled}
 use Rattle.blocking_laws.specs.declared.event.Event.{Event}
 use Rattle.blocking_laws.specs.declared.event.Moment.{Moment}
+use Rattle.blocking_laws.specs.declared.event.Party.TheVariants.{Pool}
 use Rattle.blocking_laws.specs.declared.step.Step.{Step}
-use Rattle.blocking_world.specs.Moves.{Move, Idles, Begins, Calls, Acts, Passes, IsWoken, IsStruck, Moves, MayDo, CrewMay, PassesBy, after, moment_of, event_of, step_of, crew_move, call_move}
+use Rattle.blocking_laws.specs.declared.step.Step.TheVariants.{Spawn, Stray, Strike}
+use Rattle.blocking_world.specs.Moves.{Move, Idles, Begins, Calls, Acts, Passes, IsWoken, IsStruck, Moves, May, CrewMoves, is_pass, step_of, task_call, work_step, rows_after, tasks_after}
+use Rattle.blocking_world.specs.Rows.{progress_of}
 use Rattle.blocking_world.specs.Ties.{Tied, Rowed, IsLawful}
-use Rattle.blocking_world.specs.Worlds.{Parts, row_of}
+use Rattle.blocking_world.specs.Worlds.{Parts, row_of, let_go_by}
 use Rattle.blocking_world.specs.declared.row.Row.{Row}
-use Rattle.blocking_world.proofs.laws.Steps.{step_law}
+use Rattle.blocking_world.proofs.laws.Steps.{has_is, step_law}
 use Rattle.blocking_world.proofs.laws.Wakes.{no_lost_wake}
-use Rattle.blocking_world.proofs.ties.Begins.{refused, accepted}
-use Rattle.blocking_world.proofs.ties.Calls.{idle_kept, calls_kept, call_asked}
-use Rattle.blocking_world.proofs.ties.Rows.{passes_kept, woken, struck}
-use Rattle.blocking_world.proofs.ties.Tasks.{tasks_after}
-use Rattle.blocking_world.proofs.ties.Worked.{rows_worked}
+use Rattle.blocking_world.proofs.past.Drops.{cancel_stays}
+use Rattle.blocking_world.proofs.ties.Begins.{rows_born}
+use Rattle.blocking_world.proofs.ties.Calls.{call_asked, call_bare, call_told, calls_keep}
+use Rattle.blocking_world.proofs.ties.Hands.{leaves_turns, hands_moved}
+use Rattle.blocking_world.proofs.ties.Jobs.{job_here, row_known}
+use Rattle.blocking_world.proofs.ties.Kept.{KeepsRows, rows_kept}
+use Rattle.blocking_world.proofs.ties.Rows.{aside_keeps, drop_before, passes_keep}
+use Rattle.blocking_world.proofs.ties.Tasks.{tasks_aside, tasks_born, tasks_called, tasks_acted}
+use Rattle.blocking_world.proofs.ties.Told.{Told, added_of, told, plain, pool_aside}
+use Rattle.blocking_world.proofs.ties.Worked.{own_act, rows_worked, work_told}
 
--- ---- the crew's part
+-- the job that a cancel cancels
+cancelled_is : (s t : ℕ) (woke : Woke) → cancels (JobCancelled t woke) s ≡ true → t ≡ s
+cancelled_is s t Entered is = eqb-true t s is
+cancelled_is s t Marked is = eqb-true t s is
+cancelled_is s t Nothing is = absurd cc
 
--- no owner's job is among the calls
-no_owner : (crew_now : Crew) (move : crew.Move) → record (crew.event_of crew_now move) { owner = None } ≡ crew.event_of crew_now move
-no_owner crew_now (crew.Idles call) = refl
-no_owner crew_now (crew.Adds who added growth pool) = refl
-no_owner crew_now (crew.Arrives pass) = refl
-no_owner crew_now (crew.TakesJob v old to_drop turn ticket growth pool) = refl
-no_owner crew_now (crew.TakesNone v old pass) = refl
-no_owner crew_now (crew.Works v held act) = refl
-no_owner crew_now (crew.EndsTurn v held pass) = refl
-no_owner crew_now (crew.Parks v held ticket parked pool) = refl
-no_owner crew_now (crew.HasWaited v pass end waited growth pool) = refl
-no_owner crew_now (crew.SetsLimit n) = refl
-no_owner crew_now (crew.Sweeps growth pool) = refl
-no_owner crew_now (crew.IsWoken who number woke growth pool) = refl
-no_owner crew_now (crew.IsCancelled who number woke growth pool) = refl
-no_owner crew_now (crew.IsLetGo who act number) = refl
-no_owner crew_now (crew.Tells who act) = refl
-
-module _ (setting : ℕ) (plan : List Bool) (w : Parts) (past : List Moment) (lawful : IsLawful setting plan w past) where
+module _ (setting : ℕ) (plan : List Bool) (w : Parts) (past : List Moment) (lawful : IsLawful setting plan w past) (new : Parts) (e : Event) where
   t : Tied setting plan w past
   t = lawful.tied
 
-  -- what the crew asks of a move
-  pass_asked : (move : crew.Move) → PassesBy w move → IsAsked w.crew past (crew.call_of move)
-  pass_asked (crew.Arrives pass) may = tt
-  pass_asked (crew.TakesJob v old to_drop turn ticket growth pool) may = tt
-  pass_asked (crew.TakesNone v old pass) may = tt
-  pass_asked (crew.EndsTurn v held pass) may = tt
-  pass_asked (crew.HasWaited v pass end waited growth pool) may = tt
-  pass_asked (crew.SetsLimit n) may = tt
-  pass_asked (crew.Sweeps growth pool) may = tt
-  pass_asked _ may = absurd may
+  abbrev now : Step → Moment
+  now step = record { step = step; event = e }
 
-  asked : (move : Move) → MayDo w move → IsAsked w.crew past (crew.call_of (crew_move move))
-  asked (Idles step) may = tt
-  asked (Begins added growth pool) may = tt
-  asked (Calls k call task) may = call_asked setting plan w past t k call task may.0
-  asked (Acts v held row task step) may = tt
-  asked (Passes move) may = pass_asked move may
-  asked (IsWoken s number woke growth pool) may = subst (IsNumberOf w.crew.pool) may.2 (t.rowed.each s may.0 may.1).number
-  asked (IsStruck s number woke growth pool) may = subst (IsNumberOf w.crew.pool) may.2 (t.rowed.each s may.0 may.1).number
+  -- ---- the crew
 
-  -- the crew after a move of its own
-  crew_after : (move : crew.Move) (step : Step) → crew.May (IsPlanned plan) w.crew move → IsAsked w.crew past (crew.call_of move)
-      → CrewHolds setting plan (crew.after w.crew move) (record { step = step; event = crew.event_of w.crew move } ∷ past)
-  crew_after move step may asks =
-      subst (λ (e : Event). CrewHolds setting plan (crew.after w.crew move) (record { step = step; event = e } ∷ past)) (no_owner w.crew move)
-      (holds_after setting plan w.crew past t.crewed move step None may asks)
+  -- What a call of the crew, or none, leaves of it.
+  record CrewKept (step : Step) : Type 0 where
+    holds : CrewHolds setting plan new.crew (now step ∷ past)
+    served : Served setting (now step ∷ past)
+    numbers : (s : ℕ) (row : Row) → row_of w.rows s ≡ Some row → IsNumberOf new.crew.pool row.number
 
-  served_by : (move : crew.Move) (step : Step) → crew.May (IsPlanned plan) w.crew move → IsAsked w.crew past (crew.call_of move) → Served setting (record { step = step; event = crew.event_of w.crew move } ∷ past)
-  served_by move step may asks =
-      subst (λ (e : Event). Served setting (record { step = step; event = e } ∷ past)) (no_owner w.crew move) (served_after setting plan w.crew past step None t.crewed lawful.served move may asks)
+  called : (step : Step) (call : crew.Call) → IsAsked w.crew past call → crew.Moves (IsPlanned plan) call w.crew e new.crew → CrewKept step
+  called step call asked does =
+      let asks = subst (IsAsked w.crew past) does.call_is asked in
+      record {
+        holds = holds_moved setting plan w.crew past t.crewed (IsPlanned plan) call e new.crew step e.owner (λ n b is. is) does asked;
+        served = subst (λ (f : Event). Served setting (seen_as step f e.owner ∷ past)) (sym does.event_is)
+            (served_after setting plan w.crew past step e.owner t.crewed lawful.served does.move does.may asks);
+        numbers = λ s row found.
+            subst (λ (c : Crew). IsNumberOf c.pool row.number) (sym does.after_is)
+            (number_after setting plan w.crew past t.crewed row.number does.move does.may asks
+            (subst (λ n. is_some (standing past n) ≡ true) (sym (t.rowed.each s row found).serial) (row_known setting plan w past t s row found)) (t.rowed.each s row found).number);
+      }
 
-  crewed : (move : Move) → MayDo w move → CrewMay (IsPlanned plan) w move → CrewHolds setting plan (after w move).crew (moment_of w move ∷ past)
-  crewed (Idles step) may crew_may = holds_aside setting plan w.crew past t.crewed (moment_of w (Idles step)) (record { act = refl; job = refl; first = refl; started = refl; refused = refl })
-  crewed (Begins added growth pool) may crew_may = crew_after (crew_move (Begins added growth pool)) (step_of (Begins added growth pool)) crew_may (asked (Begins added growth pool) may)
-  crewed (Calls k call task) may crew_may = crew_after (call_move k call task) (step_of (Calls k call task)) crew_may (asked (Calls k call task) may)
-  crewed (Acts v held row task step) may crew_may = crew_after (crew_move (Acts v held row task step)) (step_of (Acts v held row task step)) crew_may (asked (Acts v held row task step) may)
-  crewed (Passes move) may crew_may = crew_after move (step_of (Passes move)) crew_may (pass_asked move may)
-  crewed (IsWoken s number woke growth pool) may crew_may = crew_after (crew_move (IsWoken s number woke growth pool)) (step_of (IsWoken s number woke growth pool)) crew_may (asked (IsWoken s number woke growth pool) may)
-  crewed (IsStruck s number woke growth pool) may crew_may = crew_after (crew_move (IsStruck s number woke growth pool)) (step_of (IsStruck s number woke growth pool)) crew_may (asked (IsStruck s number woke growth pool) may)
+  idled : (step : Step) → e ≡ nothing (named step) (next_start w.crew) → new.crew ≡ w.crew → CrewKept step
+  idled step is same =
+      record {
+        holds = subst (λ (f : Event). CrewHolds setting plan new.crew (record { step = step; event = f } ∷ past)) (sym is)
+            (subst (λ (c : Crew). CrewHolds setting plan c (record { step = step; event = nothing (named step) (next_start w.crew) } ∷ past)) (sym same)
+            (holds_aside setting plan w.crew past t.crewed _ (record { act = refl; job = refl; first = refl; started = refl; refused = refl })));
+        served = subst (λ (f : Event). Served setting (record { step = step; event = f } ∷ past)) (sym is) (record { positive = lawful.served.positive; served = lawful.served.served });
+        numbers = λ s row found. subst (λ (c : Crew). IsNumberOf c.pool row.number) (sym same) (t.rowed.each s row found).number;
+      }
 
-  served : (move : Move) → MayDo w move → CrewMay (IsPlanned plan) w move → Served setting (moment_of w move ∷ past)
-  served (Idles step) may crew_may = record { positive = lawful.served.positive; served = lawful.served.served }
-  served (Begins added growth pool) may crew_may = served_by (crew_move (Begins added growth pool)) (step_of (Begins added growth pool)) crew_may (asked (Begins added growth pool) may)
-  served (Calls k call task) may crew_may = served_by (call_move k call task) (step_of (Calls k call task)) crew_may (asked (Calls k call task) may)
-  served (Acts v held row task step) may crew_may = served_by (crew_move (Acts v held row task step)) (step_of (Acts v held row task step)) crew_may (asked (Acts v held row task step) may)
-  served (Passes move) may crew_may = served_by move (step_of (Passes move)) crew_may (pass_asked move may)
-  served (IsWoken s number woke growth pool) may crew_may = served_by (crew_move (IsWoken s number woke growth pool)) (step_of (IsWoken s number woke growth pool)) crew_may (asked (IsWoken s number woke growth pool) may)
-  served (IsStruck s number woke growth pool) may crew_may = served_by (crew_move (IsStruck s number woke growth pool)) (step_of (IsStruck s number woke growth pool)) crew_may (asked (IsStruck s number woke growth pool) may)
+  crew_kept : (move : Move) → May w move → CrewMoves (IsPlanned plan) move w e new → CrewKept (step_of move)
+  crew_kept (Idles step) may does = idled step does.0 does.1
+  crew_kept (Begins added) may does = called _ _ tt does
+  crew_kept (Calls k call task) may does = called _ _ (call_asked setting plan w past t k call task may.0) does
+  crew_kept (Acts v job step) may does = called _ _ tt does
+  crew_kept (Passes call) may does = called _ call (pass_asked call may.0) does
+    where
+      pass_asked : (call : crew.Call) → is_pass call ≡ true → IsAsked w.crew past call
+      pass_asked (crew.Park v ticket) is = absurd cc
+      pass_asked (crew.Wake who number) is = absurd cc
+      pass_asked (crew.Cancel who number) is = absurd cc
+      pass_asked (crew.LetGo who act number) is = absurd cc
+      pass_asked _ is = tt
+  crew_kept (IsWoken s row) may does = called _ _ (t.rowed.each s row may).number does
+  crew_kept (IsStruck s row) may does = called _ _ (t.rowed.each s row may.0).number does
 
-  -- ---- the rows
+  -- ---- tasks and rows
 
-  rowed : (move : Move) → MayDo w move → CrewMay (IsPlanned plan) w move → Rowed (after w move) (moment_of w move ∷ past)
-  rowed (Idles step) may crew_may = idle_kept setting plan w past t step (crewed (Idles step) may crew_may)
-  rowed (Begins (Ok number) growth pool) may crew_may = accepted setting plan w past t lawful.legal.tasks number growth pool crew_may (crewed (Begins (Ok number) growth pool) may crew_may)
-  rowed (Begins (Err why) growth pool) may crew_may = refused setting plan w past t lawful.legal.tasks why growth pool crew_may (crewed (Begins (Err why) growth pool) may crew_may)
-  rowed (Calls k call task) may crew_may = calls_kept setting plan w past t k call task may crew_may (crewed (Calls k call task) may crew_may)
-  rowed (Acts v held row task step) may crew_may = rows_worked setting plan w past t v held row task step may.0 may.1 crew_may (crewed (Acts v held row task step) may crew_may)
-  rowed (Passes move) may crew_may = passes_kept setting plan w past t move may crew_may (crewed (Passes move) may crew_may)
-  rowed (IsWoken s number woke growth pool) may crew_may = woken setting plan w past t s number woke growth pool may crew_may (crewed (IsWoken s number woke growth pool) may crew_may)
-  rowed (IsStruck s number woke growth pool) may crew_may = struck setting plan w past t s number woke growth pool may crew_may (crewed (IsStruck s number woke growth pool) may crew_may)
+  -- What a move leaves of tasks and rows; its event bears no bytes.
+  record PartsKept (step : Step) : Type 0 where
+    tasks : TasksHold new.tasks (now step ∷ past)
+    rowed : Rowed new (now step ∷ past)
+    bare : is_bare e.act ≡ true
+
+  kept : (step : Step) → CrewKept step → TasksHold new.tasks (now step ∷ past) → KeepsRows w new past (now step) → is_bare e.act ≡ true → PartsKept step
+  kept step c tasks keeps bare = record { tasks = tasks; rowed = rows_kept setting plan w new past (now step) t c.holds c.numbers keeps; bare = bare }
+
+  idle_kept : (step : Step) → e ≡ nothing (named step) (next_start w.crew) → new.crew ≡ w.crew → new.rows ≡ w.rows → new.tasks ≡ w.tasks → CrewKept step → PartsKept step
+  idle_kept step is same rows tasks c =
+      let aside : IsAside e = subst IsAside (sym is) (record { out = λ k s. refl; none_new = refl }) in
+      kept step c (tasks_aside setting plan w past t lawful.legal.tasks (now step) new.tasks aside tasks)
+      (aside_keeps setting plan w past t new (now step) aside (λ s ends. let none = ap (λ (f : Event). ends_for_good f.act s) is in absurd cc)
+      (λ v held at. inl (ap (λ (c : Crew). hand_at c.hands v) (sym same) ∙ at))
+      (λ s. drop_before setting plan w past t new (now step) s (ap (λ (f : Event). lets_go f.act) is) (ap (λ (f : Event). cancels f.act s) is)) rows tasks)
+      (ap (λ (f : Event). is_bare f.act) is)
+
+  -- an act of the pool's that ends no job
+  pool_kept : (step : Step) (call : crew.Call) (act : Act) → leaves_turns call ≡ true → Told Pool None act e → accepted_by act ≡ [] → ((s : ℕ) → ends_for_good act s ≡ false) → is_bare act ≡ true
+      → ((s : ℕ) → is_to_drop (now step ∷ past) s ≡ true → (is_to_drop past s ≡ true) ⊎ (may_cancel (holder (now step ∷ past) s) (now step ∷ past) ≡ true))
+      → crew.Moves (IsPlanned plan) call w.crew e new.crew → new.rows ≡ w.rows → new.tasks ≡ w.tasks → CrewKept step → PartsKept step
+  pool_kept step call act leaves said none ends bare let_go does rows tasks c =
+      let aside = pool_aside act e said none in
+      kept step c (tasks_aside setting plan w past t lawful.legal.tasks (now step) new.tasks aside tasks)
+      (aside_keeps setting plan w past t new (now step) aside (λ s is. let never = ap (λ a. ends_for_good a s) said.act_is ∙ ends s in absurd cc)
+      (hands_moved (IsPlanned plan) call w.crew new.crew e leaves does) let_go rows tasks)
+      (ap is_bare said.act_is ∙ bare)
+
+  parts_kept : (move : Move) → May w move → CrewMoves (IsPlanned plan) move w e new → new.rows ≡ rows_after w move → new.tasks ≡ tasks_after w move → CrewKept (step_of move) → PartsKept (step_of move)
+  parts_kept (Idles step) may does rows tasks c = idle_kept step does.0 does.1 rows tasks c
+  parts_kept (Begins (Err why)) may does rows tasks c =
+      let said = told (IsPlanned plan) (crew.Add Pool (Err why)) w.crew new.crew e does in
+      pool_kept Spawn (crew.Add Pool (Err why)) _ refl said refl (λ s. refl) refl
+      (λ s. drop_before setting plan w past t new (now Spawn) s (ap lets_go said.act_is) (ap (λ a. cancels a s) said.act_is)) does rows tasks c
+  parts_kept (Begins (Ok number)) may does rows tasks c =
+      let said = told (IsPlanned plan) (crew.Add Pool (Ok number)) w.crew new.crew e does in
+      let adds = added_of plan w.crew new.crew e number does in
+      record {
+        tasks = tasks_born setting plan w past t lawful.legal.tasks (now Spawn) new.tasks number (record { party_is = said.party; act_is = said.act_is }) adds.0 tasks;
+        rowed = rows_born setting plan w past t new (now Spawn) number
+            (record { told = said; serial = adds.0; number_is = adds.1; hands = hands_moved (IsPlanned plan) (crew.Add Pool (Ok number)) w.crew new.crew e refl does; rows = rows; tasks = tasks }) c.holds c.numbers;
+        bare = ap is_bare said.act_is;
+      }
+  parts_kept (Calls k call task) may does rows tasks c =
+      let said = call_told k call task e (told (IsPlanned plan) (task_call k call task) w.crew new.crew e does) in
+      kept _ c (tasks_called setting plan w past t lawful.legal.tasks (now _) new.tasks k task call may.0 may.1 said tasks)
+      (calls_keep setting plan w past t k call task new (now _) may.0 said does rows tasks) (ap is_bare said.act_is ∙ call_bare call task)
+  parts_kept (Acts v job step) may does rows tasks c =
+      let here = job_here w v job may.0 in
+      let work = work_told setting plan w past t v job step e new here may.1 does in
+      let next = work_step v step in
+      record {
+        tasks = tasks_acted setting plan w past t lawful.legal.tasks (now next) new.tasks v job step here may.1 work.0 tasks;
+        rowed = rows_worked setting plan w past t new (now next) v job step
+            (record { here = here; next = may.1; told = work.0; hands = ap (λ (c : Crew). c.hands) work.1; rows = rows; tasks = tasks }) c.holds c.numbers;
+        bare = ap is_bare work.0.act_is ∙ (own_act step job.held.stage (progress_of job.row.core).next (progress_of job.row.core).number job.task may.1).bare;
+      }
+  parts_kept (Passes call) may does rows tasks c =
+      let p = plain (IsPlanned plan) call w.crew new.crew e may.0 does in
+      kept _ c (tasks_aside setting plan w past t lawful.legal.tasks (now _) new.tasks p.aside tasks) (passes_keep setting plan w past t new (now _) call may.0 may.1 p does rows tasks) p.bare
+  parts_kept (IsWoken s row) may does rows tasks c =
+      let said = told (IsPlanned plan) (crew.Wake Pool row.number) w.crew new.crew e does in
+      pool_kept (Stray s) (crew.Wake Pool row.number) _ refl said.1 refl (λ n. refl) refl
+      (λ n. drop_before setting plan w past t new (now (Stray s)) n (ap lets_go said.1.act_is) (ap (λ a. cancels a n) said.1.act_is)) does rows tasks c
+  parts_kept (IsStruck s row) may does rows tasks c =
+      let said = told (IsPlanned plan) (crew.Cancel Pool row.number) w.crew new.crew e does in
+      pool_kept (Strike s) (crew.Cancel Pool row.number) _ refl said.1 refl (λ n. refl) refl (struck said.0 said.1) does rows tasks c
+    where
+      -- the job that is cancelled was let go
+      struck : (woke : Woke) → Told Pool None (JobCancelled row.number.serial woke) e → (n : ℕ) → is_to_drop (now (Strike s) ∷ past) n ≡ true
+          → (is_to_drop past n ≡ true) ⊎ (may_cancel (holder (now (Strike s) ∷ past) n) (now (Strike s) ∷ past) ≡ true)
+      struck woke said n drop = by (cancels e.act n) refl
+        where
+          by : (b : Bool) → cancels e.act n ≡ b → (is_to_drop past n ≡ true) ⊎ (may_cancel (holder (now (Strike s) ∷ past) n) (now (Strike s) ∷ past) ≡ true)
+          by false none = drop_before setting plan w past t new (now (Strike s)) n (ap lets_go said.act_is) none drop
+          by true this =
+              let here : row.number.serial ≡ n = cancelled_is n row.number.serial woke (ap (λ a. cancels a n) (sym said.act_is) ∙ this) in
+              let same : s ≡ n = sym (t.rowed.each s row may.0).serial ∙ here in
+              let had : may_cancel (holder past s) past ≡ true = sym (has_is setting plan w past t (Strike s)) ∙ ap (let_go_by w.tasks) may.0 ∙ may.1 in
+              inr (cancel_stays setting plan past (now (Strike s)) c.holds.laws n (ap (λ m. may_cancel (holder past m) past) (sym same) ∙ had))
 
   -- ---- all of it
 
-  -- a move keeps a world lawful
-  pub lawful_after : (move : Move) → MayDo w move → CrewMay (IsPlanned plan) w move → IsLawful setting plan (after w move) (moment_of w move ∷ past)
-  lawful_after move may crew_may =
-      let tasks = tasks_after setting plan w past t lawful.legal.tasks move may crew_may in
-      let holds = crewed move may crew_may in
-      let tied : Tied setting plan (after w move) (moment_of w move ∷ past) = record { crewed = holds; tasked = tasks.tied; rowed = rowed move may crew_may } in
+  lawful_after : (move : Move) → May w move → CrewMoves (IsPlanned plan) move w e new → CrewKept (step_of move) → PartsKept (step_of move) → IsLawful setting plan new (now (step_of move) ∷ past)
+  lawful_after move may does c p =
+      let tied : Tied setting plan new (now (step_of move) ∷ past) = record { crewed = c.holds; tasked = p.tasks.tied; rowed = p.rowed } in
       record {
         tied = tied;
         legal = record {
-          steps = (step_law setting plan w past t move may crew_may, lawful.legal.steps);
-          pool = holds.laws;
-          tasks = tasks.laws;
-          wakes = (no_lost_wake setting plan (after w move) (moment_of w move ∷ past) tied, lawful.legal.wakes);
+          steps = (step_law setting plan w past t move e new may does, lawful.legal.steps);
+          pool = c.holds.laws;
+          tasks = p.tasks.laws;
+          wakes = (no_lost_wake setting plan new (now (step_of move) ∷ past) tied, lawful.legal.wakes);
         };
-        served = served move may crew_may;
-        holding = holding setting (after w move).crew (moment_of w move ∷ past) holds.tied;
+        served = c.served;
+        holding = holding setting new.crew (now (step_of move) ∷ past) c.holds.tied;
       }
 
-  -- the same, of a step as it was seen
-  pub stays_lawful : (new : Parts) (step : Step) (e : Event) → Moves (IsPlanned plan) step w e new → IsLawful setting plan new (record { step = step; event = e } ∷ past)
-  stays_lawful new step e moves =
-      subst (λ left. IsLawful setting plan left (record { step = step; event = e } ∷ past)) (sym moves.after_is)
-      (subst (λ event. IsLawful setting plan (after w moves.move) (record { step = step; event = event } ∷ past)) (sym moves.event_is)
-      (subst (λ taken. IsLawful setting plan (after w moves.move) (record { step = taken; event = event_of w moves.move } ∷ past)) (sym moves.step_is)
-      (lawful_after moves.move moves.may moves.crew_may)))
+  -- A step keeps a world lawful,
+  pub stays_lawful : (step : Step) → Moves (IsPlanned plan) step w e new → IsLawful setting plan new (now step ∷ past)
+  stays_lawful step m =
+      let c = crew_kept m.move m.may m.crew in
+      subst (λ taken. IsLawful setting plan new (now taken ∷ past)) (sym m.step_is) (lawful_after m.move m.may m.crew c (parts_kept m.move m.may m.crew m.rows_are m.tasks_are c))
 
-  -- and keeps its setting
+  -- and its event bears no bytes.
+  pub bare : (step : Step) → Moves (IsPlanned plan) step w e new → is_bare e.act ≡ true
+  bare step m = (parts_kept m.move m.may m.crew m.rows_are m.tasks_are (crew_kept m.move m.may m.crew)).bare
+
+module _ (setting : ℕ) (plan : List Bool) (w : Parts) (past : List Moment) (lawful : IsLawful setting plan w past) where
+  -- a step keeps its setting
   pub same_setting : (new : Parts) (step : Step) (e : Event) → Moves (IsPlanned plan) step w e new → new.crew.pool.counts.setting ≡ setting
-  same_setting new step e moves = (stays_lawful new step e moves).tied.crewed.tied.counted.setting_is
+  same_setting new step e moves = (stays_lawful setting plan w past lawful new e step moves).tied.crewed.tied.counted.setting_is
 
   -- queued jobs are served
   pub served_now : IsServed past
@@ -153,11 +231,11 @@ module _ (setting : ℕ) (plan : List Bool) (w : Parts) (past : List Moment) (la
 
   -- what the workers of a lawful world hold accounts for them
   pub staffed_now : IsStaffed (free_hands w.crew.hands) (busy_hands w.crew.hands) past
-  staffed_now = staffed setting w.crew past t.crewed.tied t.crewed.ready
+  staffed_now = staffed setting w.crew past lawful.tied.crewed.tied lawful.tied.crewed.ready
 
   -- and is what they were seen to hold
   pub held_now : AreAsSeen (free_hands w.crew.hands) (busy_hands w.crew.hands) past
-  held_now = as_seen setting w.crew past t.crewed.tied
+  held_now = as_seen setting w.crew past lawful.tied.crewed.tied
 
 -- ---- a new world
 
@@ -172,6 +250,13 @@ no_row s = by (s == 0) (slice_get [] (s - 1)) refl
     by true o none = refl
     by false o none = none
 
+no_held : (v : ℕ) (held : Held) → hand_at [] v ≡ Holds held → ⊥
+no_held v held at = by (v == 0) at
+  where
+    by : (b : Bool) → (if b then Out else hand_in None) ≡ Holds held → ⊥
+    by true is = cc
+    by false is = cc
+
 -- a new world is lawful
 pub begins_lawful : (setting : ℕ) (plan : List Bool) → 0 < setting → IsLawful setting plan (first_world setting) []
 begins_lawful setting plan positive = record {
@@ -181,10 +266,9 @@ begins_lawful setting plan positive = record {
     rowed = record {
       count = refl;
       each = λ s row found. let none = no_row s in absurd cc;
-      unborn = λ s none. (refl, refl);
       of_task = λ k task found. absurd cc;
-      in_hand = λ v held row at found. let none = no_row held.turn.serial in absurd cc;
-      marks = λ s row found drop. absurd cc;
+      in_hand = λ v held at. absurd (no_held v held at);
+      let_go = λ s drop. absurd cc;
     };
   };
   legal = record { steps = tt; pool = tt; tasks = λ k s held. tt; wakes = record { tasks = λ k s held. cc } };

@@ -1,38 +1,80 @@
--- A step that has no action, and a call of a task, keep the rows.
-use Rattle.std.proofs.Common.{◌≡◌, ◌⊎◌, inl, inr, ℕ, ◌==◌, List, [], ◌∷◌, Bool, true, false, refl, sym, ap, ◌∙◌, subst, Option, Some, None}
-use Rattle.std.specs.Prelude.{◌&&◌, ◌||◌, not, slice_get, slice_set, is_some}
-use Rattle.std.proofs.lemmas.Bool.{eqb-true, eq-eqb}
+-- A call of a task keeps the rows.
+use Rattle.std.proofs.Common.{◌≡◌, inl, inr, ⊎_elim, ℕ, ◌==◌, List, [], ◌∷◌, cond, filter, map, Bool, true, false, refl, sym, ap, ◌∙◌, arith, Option, Some, None}
+use Rattle.std.specs.Prelude.{slice_get, slice_set}
+use Rattle.std.proofs.lemmas.Bool.{eqb-true, eq-eqb, or_left}
+use Rattle.std.proofs.lemmas.Bool.Decides.{nat_tests}
 use Rattle.std.proofs.lemmas.Option.{slice_get_within}
-use Rattle.blocking_crew.specs.Crews.{hand_at}
 use Rattle.blocking_crew.specs.Moves as crew
-use Rattle.blocking_crew.specs.Tickets.{no_growth}
-use Rattle.blocking_crew.specs.Ties.{CrewHolds, IsAsked, HoldsAlone}
-use Rattle.blocking_lanes.specs.Steps.{IsCalled, task_after}
-use Rattle.blocking_lanes.specs.Tasks.{Task, may_be, has_let_go, task_act, task_after_call}
-use Rattle.blocking_lanes.proofs.Places.{got_same}
-use Rattle.blocking_lanes.proofs.cuts.Acts.{acts_more}
-use Rattle.blocking_lanes.proofs.acts.Calls.{by_poll, call_stays, call_number}
+use Rattle.blocking_crew.specs.Ties.{HoldsAtRest, IsAsked}
+use Rattle.blocking_lanes.specs.Tasks.{Task, task_act, task_after_call}
+use Rattle.blocking_lanes.proofs.Places.{got_same, got_other}
+use Rattle.blocking_lanes.proofs.acts.Calls.{by_call, call_number}
+use Rattle.blocking_lanes.proofs.ties.Holders.{holder_stays}
+use Rattle.blocking_laws.specs.Bare.{is_bare}
 use Rattle.blocking_laws.specs.Growth.{IsPlanned}
-use Rattle.blocking_laws.specs.Jobs.{accepted_by, holder, is_holder, standing, has_ended, is_cancelled, is_marked, is_to_drop}
-use Rattle.blocking_laws.specs.Seen.{events, acts_of, is_of_job}
-use Rattle.blocking_laws.specs.declared.event.Act.{Act}
-use Rattle.blocking_laws.specs.declared.event.Act.TheVariants.{TaskCancelled, TaskDetached, HolderDropped}
+use Rattle.blocking_laws.specs.Jobs.{accepted_by, holder, is_holder, cancels, lets_go, ends_for_good}
+use Rattle.blocking_laws.specs.Seen.{events, is_by_task, is_some_worker, is_nothing, acts_of_task}
+use Rattle.blocking_laws.specs.Steps.{may_cancel}
+use Rattle.blocking_laws.specs.TaskLaws.{is_let_go}
+use Rattle.blocking_laws.specs.declared.event.Event.{Event}
 use Rattle.blocking_laws.specs.declared.event.Moment.{Moment}
 use Rattle.blocking_laws.specs.declared.event.Party.{Party}
 use Rattle.blocking_laws.specs.declared.event.Party.TheVariants.{Owner, Task as ByTask, Worker, Pool}
-use Rattle.blocking_laws.specs.declared.step.Step.{Step}
-use Rattle.blocking_laws.specs.declared.step.Step.TheVariants.{OfTask}
 use Rattle.blocking_laws.specs.declared.step.TaskCall.{TaskCall}
 use Rattle.blocking_laws.specs.declared.step.TaskCall.TheVariants.{Poll, Cancel, Detach, Drop}
-use Rattle.blocking_world.specs.Moves.{Idles, Calls, MayDo, call_move, after, moment_of}
-use Rattle.blocking_world.specs.Rows.{place_of}
-use Rattle.blocking_world.specs.Ties.{Tied, Rowed}
-use Rattle.blocking_world.specs.Worlds.{Parts, row_of, let_go_in, let_go_of}
-use Rattle.blocking_world.specs.declared.row.Row.{Row}
-use Rattle.blocking_world.proofs.ties.Jobs.{row_known, row_holder, task_holds, task_number}
-use Rattle.blocking_world.proofs.ties.Kept.{Allows, KeepsRows, rows_kept, nowhere_stays}
-use Rattle.blocking_world.proofs.ties.LetGo.{let_go_stays, numbers_set}
-use Rattle.blocking_world.proofs.ties.Rows.{numbers, same_tasks}
+use Rattle.blocking_world.specs.Moves.{task_call}
+use Rattle.blocking_world.specs.Ties.{Tied}
+use Rattle.blocking_world.specs.Worlds.{Parts}
+use Rattle.blocking_world.proofs.past.Drops.{drop_by}
+use Rattle.blocking_world.proofs.ties.Hands.{leaves_turns, hands_moved}
+use Rattle.blocking_world.proofs.ties.Jobs.{task_holds, task_number}
+use Rattle.blocking_world.proofs.ties.Kept.{KeepsRows}
+use Rattle.blocking_world.proofs.ties.Told.{Told, ToldBy, by_no_worker}
+
+-- ---- what a call of a task is to the crew
+
+pub call_told : (k : ℕ) (call : TaskCall) (task : Task) (e : Event) → ToldBy (task_call k call task) e → Told (ByTask k) None (task_act call task) e
+call_told k Poll task e told = told
+call_told k Cancel task e told = told
+call_told k Detach task e told = told
+call_told k Drop task e told = told
+
+pub call_leaves : (k : ℕ) (call : TaskCall) (task : Task) → leaves_turns (task_call k call task) ≡ true
+call_leaves k Poll task = refl
+call_leaves k Cancel task = refl
+call_leaves k Detach task = refl
+call_leaves k Drop task = refl
+
+-- ---- what is seen of it
+
+-- an act of a task is none of the pool's: it does something, accepts no job, ends none and cancels none
+pub call_something : (call : TaskCall) (task : Task) → is_nothing (task_act call task) ≡ false
+call_something call task = by_call (λ act. is_nothing act ≡ false) refl (λ n. refl) refl refl refl refl call task
+
+pub call_accepts : (call : TaskCall) (task : Task) → accepted_by (task_act call task) ≡ []
+call_accepts call task = by_call (λ act. accepted_by act ≡ []) refl (λ n. refl) refl refl refl refl call task
+
+call_ends : (call : TaskCall) (task : Task) (s : ℕ) → ends_for_good (task_act call task) s ≡ false
+call_ends call task s = by_call (λ act. ends_for_good act s ≡ false) refl (λ n. refl) refl refl refl refl call task
+
+call_cancels : (call : TaskCall) (task : Task) (s : ℕ) → cancels (task_act call task) s ≡ false
+call_cancels call task s = by_call (λ act. cancels act s ≡ false) refl (λ n. refl) refl refl refl refl call task
+
+pub call_bare : (call : TaskCall) (task : Task) → is_bare (task_act call task) ≡ true
+call_bare call task = by_call (λ act. is_bare act ≡ true) refl (λ n. refl) refl refl refl refl call task
+
+-- each task has the number of one that was there
+pub numbers_set : (tasks : List Task) (k : ℕ) (old new : Task) → slice_get tasks k ≡ Some old → old.number ≡ new.number
+    → (j : ℕ) (task : Task) → slice_get (slice_set tasks k new) j ≡ Some task → (before : Task) × (slice_get tasks j ≡ Some before) × (before.number ≡ task.number)
+numbers_set tasks k old new found same j task is = by (k == j) refl
+  where
+    by : (b : Bool) → (k == j) ≡ b → (before : Task) × (slice_get tasks j ≡ Some before) × (before.number ≡ task.number)
+    by true here =
+        let place = eqb-true k j here in
+        let at : slice_get (slice_set tasks k new) j ≡ Some new = ap (slice_get (slice_set tasks k new)) (sym place) ∙ got_same tasks k new (slice_get_within tasks k old found) in
+        let one : new ≡ task = cc in
+        (old, ap (slice_get tasks) (sym place) ∙ found, same ∙ ap (λ (x : Task). x.number) one)
+    by false other = (task, sym (got_other tasks k j new (λ place. absurd (grind (arith, nat_tests)))) ∙ is, refl)
 
 holder_of : (k : ℕ) (o : Option Party) → is_holder o (ByTask k) ≡ true → o ≡ Some (ByTask k)
 holder_of k None is = absurd cc
@@ -42,29 +84,11 @@ holder_of k (Some (Worker v)) is = absurd cc
 holder_of k (Some Pool) is = absurd cc
 
 module _ (setting : ℕ) (plan : List Bool) (w : Parts) (past : List Moment) (t : Tied setting plan w past) where
-  pub idle_kept : (step : Step) → CrewHolds setting plan w.crew (moment_of w (Idles step) ∷ past) → Rowed w (moment_of w (Idles step) ∷ past)
-  idle_kept step later =
-      rows_kept setting plan w w past (moment_of w (Idles step)) t
-      (record {
-        rows = refl;
-        accepted = refl;
-        numbers = λ s row found. (t.rowed.each s row found).number;
-        acts = λ s. refl;
-        allows = λ s row found. tt;
-        nowhere = nowhere_stays setting plan w w past (moment_of w (Idles step)) t.crewed later refl;
-        tasks = same_tasks setting plan w past t;
-        let_go = λ row is. is;
-        hands = λ v held row holds found. inl holds;
-        marks = λ s row found drop. inl drop;
-      })
+  -- ---- what the crew asks of it
 
   -- a task holds its job, and no other
-  pub holds_alone : (k : ℕ) (task : Task) → slice_get w.tasks k ≡ Some task → HoldsAlone past (ByTask k) task.number.serial
-  holds_alone k task found =
-      let s = task.number.serial in
-      let held = task_holds setting plan w past t k task found in
-      let row = t.rowed.of_task k task found in
-      record { accepted = row_known setting plan w past t s row.0 row.1; alone = λ u going. by held u (is_holder (holder past u) (ByTask k)) (s == u) refl refl }
+  holds_at_rest : (k : ℕ) (task : Task) → slice_get w.tasks k ≡ Some task → HoldsAtRest past (ByTask k) (Some task.number)
+  holds_at_rest k task found u rests = by (task_holds setting plan w past t k task found) u (is_holder (holder past u) (ByTask k)) (task.number.serial == u) refl refl
     where
       by : holder past task.number.serial ≡ Some (ByTask k) → (u : ℕ) (c b : Bool) → is_holder (holder past u) (ByTask k) ≡ c → (task.number.serial == u) ≡ b → c ≡ b
       by held u true true is same = refl
@@ -78,69 +102,36 @@ module _ (setting : ℕ) (plan : List Bool) (w : Parts) (past : List Moment) (t 
           let mine : is_holder (holder past u) (ByTask k) ≡ true = ap (λ n. is_holder (holder past n) (ByTask k)) (sym here) ∙ ap (λ o. is_holder o (ByTask k)) held ∙ eq-eqb k k refl in
           absurd cc
 
-  -- what the crew asks of a call of a task
-  pub call_asked : (k : ℕ) (call : TaskCall) (task : Task) → slice_get w.tasks k ≡ Some task → IsAsked w.crew past (crew.call_of (call_move k call task))
+  pub call_asked : (k : ℕ) (call : TaskCall) (task : Task) → slice_get w.tasks k ≡ Some task → IsAsked w.crew past (task_call k call task)
   call_asked k Poll task found = tt
-  call_asked k Cancel task found = (task_number setting plan w past t k task found, holds_alone k task found)
+  call_asked k Cancel task found = (task_number setting plan w past t k task found, holds_at_rest k task found)
   call_asked k Detach task found = tt
-  call_asked k Drop task found = (task_number setting plan w past t k task found, holds_alone k task found)
+  call_asked k Drop task found = (task_number setting plan w past t k task found, holds_at_rest k task found)
 
-  abbrev called : ℕ → TaskCall → Task → Act → Moment
-  called k call task act = record { step = OfTask k call; event = crew.seen (ByTask k) None act (crew.next_start w.crew) no_growth }
+  -- ---- what it leaves
 
-  -- What the act of a call has to be for the rows.
-  record FitsCall (k : ℕ) (call : TaskCall) (task : Task) (act : Act) : Type 0 where
-    accepted : accepted_by act ≡ []
-    outside : (s : ℕ) → is_of_job s (called k call task act).event ≡ false
-    allows : (s : ℕ) (row : Row) → Allows act s (standing past s) row.core (acts_of s (events past))
-    marks : (s : ℕ) (row : Row) → row_of w.rows s ≡ Some row → is_to_drop (called k call task act ∷ past) s ≡ true
-        → (is_to_drop past s ≡ true) ⊎ (let_go_of (slice_set w.tasks k (task_after_call call task)) row ≡ true)
+  -- a task that lets its job go may have it cancelled
+  lets_cancel : (k s : ℕ) (now : Moment) → now.event.party ≡ ByTask k → is_nothing now.event.act ≡ false → accepted_by now.event.act ≡ [] → lets_go now.event.act ≡ true → is_holder (holder past s) (ByTask k) ≡ true
+      → may_cancel (holder (now ∷ past) s) (now ∷ past) ≡ true
+  lets_cancel k s now party something none lets holds =
+      let mine : is_by_task k now.event ≡ true = rw (something, party) (eq-eqb k k refl) in
+      ap (λ h. may_cancel h (now ∷ past)) (holder_stays past now none s ∙ holder_of k (holder past s) holds)
+      ∙ ap (λ b. is_let_go (map (λ f. f.act) (cond b (now.event ∷ filter (is_by_task k) (events past)) (filter (is_by_task k) (events past))))) mine
+      ∙ or_left (lets_go now.event.act) (is_let_go (acts_of_task k (events past))) lets
 
-  call_kept : (k : ℕ) (call : TaskCall) (task : Task) (act : Act) → MayDo w (Calls k call task) → crew.May (IsPlanned plan) w.crew (call_move k call task)
-      → CrewHolds setting plan (crew.after w.crew (call_move k call task)) (called k call task act ∷ past) → (crew.after w.crew (call_move k call task)).hands ≡ w.crew.hands → FitsCall k call task act
-      → Rowed (record w { crew = crew.after w.crew (call_move k call task); tasks = slice_set w.tasks k (task_after_call call task) }) (called k call task act ∷ past)
-  call_kept k call task act may crew_may later same f =
-      let new : Parts = record w { crew = crew.after w.crew (call_move k call task); tasks = slice_set w.tasks k (task_after_call call task) } in
-      rows_kept setting plan w new past (called k call task act) t
-      (record {
-        rows = refl;
-        accepted = f.accepted;
-        numbers = numbers setting plan w past t (call_move k call task) crew_may (call_asked k call task may.0);
-        acts = λ s. acts_more s (called k call task act).event (events past) false (f.outside s);
-        allows = λ s row found. f.allows s row;
-        nowhere = nowhere_stays setting plan w new past (called k call task act) t.crewed later f.accepted;
-        tasks = numbers_set w.tasks k task (task_after_call call task) may.0 (sym (call_number call task));
-        let_go = λ row is. let_go_stays w.tasks k task (task_after_call call task) may.0 (call_stays call task may.1) (place_of row.holder) is;
-        hands = λ v held row holds found. inl (ap (λ l. hand_at l v) (sym same) ∙ holds);
-        marks = f.marks;
-      })
-
-  -- by this call the holder lets go, which marks its job and no other
-  let_goes : (k : ℕ) (call : TaskCall) (task : Task) (act : Act) → slice_get w.tasks k ≡ Some task → has_let_go (task_after_call call task).stage ≡ true → (s : ℕ) (row : Row) → row_of w.rows s ≡ Some row
-      → is_cancelled past s || (is_holder (holder past s) (ByTask k) && not (has_ended past s) || is_marked past s) ≡ true
-      → (is_to_drop past s ≡ true) ⊎ (let_go_of (slice_set w.tasks k (task_after_call call task)) row ≡ true)
-  let_goes k call task act there lets s row found drop = by (is_holder (holder past s) (ByTask k)) refl drop
-    where
-      by : (b : Bool) → is_holder (holder past s) (ByTask k) ≡ b → is_cancelled past s || (b && not (has_ended past s) || is_marked past s) ≡ true
-          → (is_to_drop past s ≡ true) ⊎ (let_go_of (slice_set w.tasks k (task_after_call call task)) row ≡ true)
-      by false is drop = inl drop
-      by true is drop =
-          let held = row_holder setting plan w past t s row found in
-          let same : Some (ByTask (place_of row.holder)) ≡ Some (ByTask k) = sym held ∙ holder_of k (holder past s) is in
-          let place : place_of row.holder ≡ k = cc in
-          inr (ap (λ n. let_go_in (slice_get (slice_set w.tasks k (task_after_call call task)) n)) place
-          ∙ ap let_go_in (got_same w.tasks k (task_after_call call task) (slice_get_within w.tasks k task there)) ∙ lets)
-
-  pub calls_kept : (k : ℕ) (call : TaskCall) (task : Task) → MayDo w (Calls k call task) → crew.May (IsPlanned plan) w.crew (call_move k call task)
-      → CrewHolds setting plan (crew.after w.crew (call_move k call task)) (moment_of w (Calls k call task) ∷ past) → Rowed (after w (Calls k call task)) (moment_of w (Calls k call task) ∷ past)
-  calls_kept k Cancel task may crew_may later =
-      call_kept k Cancel task TaskCancelled may crew_may later refl (record { accepted = refl; outside = λ s. refl; allows = λ s row. tt; marks = let_goes k Cancel task TaskCancelled may.0 refl })
-  calls_kept k Drop task may crew_may later =
-      call_kept k Drop task HolderDropped may crew_may later refl (record { accepted = refl; outside = λ s. refl; allows = λ s row. tt; marks = let_goes k Drop task HolderDropped may.0 refl })
-  calls_kept k Detach task may crew_may later =
-      call_kept k Detach task TaskDetached may crew_may later refl (record { accepted = refl; outside = λ s. refl; allows = λ s row. tt; marks = λ s row found drop. inl drop })
-  calls_kept k Poll task may crew_may later =
-      call_kept k Poll task (task_act Poll task) may crew_may later refl
-      (by_poll (FitsCall k Poll task) (record { accepted = refl; outside = λ s. refl; allows = λ s row. tt; marks = λ s row found drop. inl drop })
-      (λ n. record { accepted = refl; outside = λ s. refl; allows = λ s row. tt; marks = λ s row found drop. inl drop })
-      (record { accepted = refl; outside = λ s. refl; allows = λ s row. tt; marks = λ s row found drop. inl drop }) task)
+  pub calls_keep : (k : ℕ) (call : TaskCall) (task : Task) (new : Parts) (now : Moment) → slice_get w.tasks k ≡ Some task → Told (ByTask k) None (task_act call task) now.event → crew.Moves (IsPlanned plan) (task_call k call task) w.crew now.event new.crew
+      → new.rows ≡ w.rows → new.tasks ≡ slice_set w.tasks k (task_after_call call task) → KeepsRows w new past now
+  calls_keep k call task new now found told moves rows tasks =
+      let act = told.act_is in
+      record {
+        rows = rows;
+        accepted = ap accepted_by act ∙ call_accepts call task;
+        out = λ s. by_no_worker s now.event (ap is_some_worker told.party);
+        over = λ s ends. let none = ap (λ a. ends_for_good a s) act ∙ call_ends call task s in absurd cc;
+        tasks = λ j other there. numbers_set w.tasks k task (task_after_call call task) found (sym (call_number call task)) j other (ap (λ (l : List Task). slice_get l j) (sym tasks) ∙ there);
+        hands = hands_moved (IsPlanned plan) (task_call k call task) w.crew new.crew now.event (call_leaves k call task) moves;
+        let_go = λ s drop.
+            ⊎_elim (λ old. inl old)
+            (λ lets. inr (lets_cancel k s now told.party (ap is_nothing act ∙ call_something call task) (ap accepted_by act ∙ call_accepts call task) lets.0 (ap (is_holder (holder past s)) (sym told.party) ∙ lets.1)))
+            (drop_by past now s (ap (λ a. cancels a s) act ∙ call_cancels call task s) drop);
+      }

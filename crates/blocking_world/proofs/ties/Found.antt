@@ -1,28 +1,18 @@
 -- What is found among the rows and the tasks.
-use Rattle.std.proofs.Common.{◌≡◌, ◌≢◌, ℕ, ◌+◌, ◌-◌, ◌<◌, ◌≤◌, ◌==◌, ◌++◌, List, [], ◌∷◌, length, length-append, Bool, true, false, refl, sym, ap, ◌∙◌, subst, arith, Option, Some, None, if◌then◌else◌, zero, suc}
-use Rattle.std.specs.Prelude.{nat_lt, slice_get, slice_set, is_some}
-use Rattle.std.proofs.lemmas.Bool.{ltb-true, lt-ltb, eqb-true}
+use Rattle.std.proofs.Common.{◌≡◌, ℕ, ◌+◌, ◌-◌, ◌<◌, ◌==◌, ◌++◌, List, [], ◌∷◌, length, Bool, true, false, refl, sym, ap, ◌∙◌, arith, Option, Some, None, if◌then◌else◌, zero, suc}
+use Rattle.std.specs.Prelude.{slice_get, slice_set}
+use Rattle.std.proofs.lemmas.Bool.{eqb-true}
 use Rattle.std.proofs.lemmas.Bool.Decides.{nat_tests}
 use Rattle.std.proofs.lemmas.Option.{slice_get_within}
-use Rattle.blocking_lanes.proofs.Places.{got_same, got_other, got_pushed, in_pushed}
-use Rattle.blocking_lanes.specs.Tasks.{Task}
-use Rattle.blocking_laws.specs.Jobs.{holder, standing}
-use Rattle.blocking_laws.specs.declared.event.Moment.{Moment}
-use Rattle.blocking_laws.specs.declared.event.Party.{Party}
-use Rattle.blocking_world.specs.Worlds.{Parts, row_of}
-use Rattle.blocking_world.specs.Ties.{Rowed}
+use Rattle.blocking_lanes.proofs.Places.{got_same, got_other, got_pushed}
+use Rattle.blocking_world.specs.Worlds.{row_of}
 use Rattle.blocking_world.specs.declared.row.Row.{Row}
-
--- ---- tasks
 
 -- what stands in a list at a place within it
 pub there : {X : Type 0} (xs : List X) (k : ℕ) → k < length xs → (x : X) × (slice_get xs k ≡ Some x)
 there [] k within = absurd (omega (arith, within))
 there (x ∷ xs) zero within = (x, refl)
 there (x ∷ xs) (suc k) within = there xs k (omega (arith, within))
-
-pub task_there : (tasks : List Task) (k : ℕ) → k < length tasks → (task : Task) × (slice_get tasks k ≡ Some task)
-task_there tasks k within = there tasks k within
 
 -- ---- rows
 
@@ -40,22 +30,9 @@ row_at rows s row positive found =
     let there : (s == 0) ≡ false = grind (arith, nat_tests) in
     ap (λ b. if b then None else slice_get rows (s - 1)) there ∙ found
 
--- two rows that are found for one job are one
-pub one_row : (o : Option Row) (one other : Row) → o ≡ Some one → o ≡ Some other → one ≡ other
-one_row o one other a b = cc
-
--- whether there is a row
-row_or : (o : Option Row) → (o ≡ None → ⊥) → (row : Row) × (o ≡ Some row)
-row_or None some = absurd (some refl)
-row_or (Some row) some = (row, refl)
-
--- a job that somebody holds has its row
-pub row_held : (w : Parts) (past : List Moment) (s : ℕ) (who : Party) → Rowed w past → holder past s ≡ Some who → (row : Row) × (row_of w.rows s ≡ Some row)
-row_held w past s who r held = row_or (row_of w.rows s) (λ none. let nobody = (r.unborn s none).0 in absurd cc)
-
--- and so has one that stands somewhere
-pub row_stands : (w : Parts) (past : List Moment) (s : ℕ) → Rowed w past → is_some (standing past s) ≡ true → (row : Row) × (row_of w.rows s ≡ Some row)
-row_stands w past s r some = row_or (row_of w.rows s) (λ none. let nowhere = ap is_some (r.unborn s none).1 in absurd cc)
+-- what is found twice is one
+pub one_found : {X : Type 0} (o : Option X) (one other : X) → o ≡ Some one → o ≡ Some other → one ≡ other
+one_found o one other a b = cc
 
 -- ---- after one of them was changed
 

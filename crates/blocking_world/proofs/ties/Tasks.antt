@@ -1,162 +1,130 @@
 -- Each move keeps the tie of the tasks, and their laws: it is no act of a task, makes a new one, or is a step of one.
-use Rattle.std.proofs.Common.{◌≡◌, ℕ, List, [], ◌∷◌, Bool, true, false, refl, sym, ap, ◌∙◌, subst, Option, Some, None}
-use Rattle.std.specs.Prelude.{slice_get, slice_set, is_some, Result, Ok, Err}
-use Rattle.blocking_pool.specs.Growth.{Growth}
-use Rattle.blocking_pool.specs.Jobs.{JobNumber}
-use Rattle.blocking_pool.specs.declared.pool.answer.Refusal.{Refusal}
-use Rattle.blocking_pool.specs.declared.pool.answer.Waited.TheVariants.{Stay, Stop}
-use Rattle.blocking_crew.specs.Moves as crew
-use Rattle.blocking_crew.specs.Moves.{next_start}
-use Rattle.blocking_crew.specs.Tickets.{JobPool, AddsTo, no_growth}
-use Rattle.blocking_crew.specs.declared.hand.Held.{Held}
-use Rattle.blocking_crew.proofs.ties.Known.{fresh}
-use Rattle.blocking_lanes.specs.Steps as lane
-use Rattle.blocking_lanes.specs.Steps.{TaskStep, IsCalled, IsAnswered, Finishes, GivesUp, CallsWaker, MayTake, TakesStep, act_of, task_after, event_by}
-use Rattle.blocking_lanes.specs.Tasks.{Task, has_let_go}
+use Rattle.std.proofs.Common.{◌≡◌, ℕ, ◌++◌, List, [], ◌∷◌, Bool, true, false, refl, sym, ap, ◌∙◌, subst, Some, None}
+use Rattle.std.specs.Prelude.{slice_get, slice_set}
+use Rattle.blocking_core.specs.declared.job.Action.{Action}
+use Rattle.blocking_core.specs.declared.job.Action.TheVariants as action
+use Rattle.blocking_crew.specs.declared.hand.Stage.{Stage}
+use Rattle.blocking_crew.specs.declared.hand.Stage.TheVariants as stage
+use Rattle.blocking_crew.specs.Ties.{turn_of}
+use Rattle.blocking_lanes.specs.Calls.{RanAs}
+use Rattle.blocking_lanes.specs.Steps.{TaskStep, IsCalled, IsAnswered, Finishes, GivesUp, CallsWaker, IsAside, MayTake, MakesTask, TakesStep, act_of, task_after, event_by}
+use Rattle.blocking_lanes.specs.Steps as lanes
+use Rattle.blocking_lanes.specs.Tasks.{Task, new_task, has_let_go, task_act}
 use Rattle.blocking_lanes.specs.Ties.{AllLaws, TasksHold}
+use Rattle.blocking_lanes.proofs.cuts.Acts.{own_cut}
 use Rattle.blocking_lanes.proofs.ties.Tasks.{aside, born, stepped}
-use Rattle.blocking_laws.specs.Growth.{IsPlanned}
-use Rattle.blocking_laws.specs.Jobs.{holder, standing}
+use Rattle.blocking_laws.specs.JobTable.{Calling, next_of_job, has_given_up}
+use Rattle.blocking_laws.specs.Jobs.{holder}
 use Rattle.blocking_laws.specs.Seen.{events, acts_of}
+use Rattle.blocking_laws.specs.Steps.{may_cancel}
+use Rattle.blocking_laws.specs.TaskLaws.{is_let_go}
 use Rattle.blocking_laws.specs.declared.event.Act.{Act}
 use Rattle.blocking_laws.specs.declared.event.Moment.{Moment}
-use Rattle.blocking_laws.specs.declared.event.Party.{Party}
+use Rattle.blocking_laws.specs.declared.event.Party.TheVariants.{Task as ByTask, Worker}
 use Rattle.blocking_laws.specs.declared.step.TaskCall.{TaskCall}
-use Rattle.blocking_laws.specs.declared.step.TaskCall.TheVariants.{Poll, Cancel, Detach, Drop}
-use Rattle.blocking_world.specs.Moves.{Move, Idles, Begins, Calls, Acts, Passes, IsWoken, IsStruck, MayDo, CrewMay, IsInHand, IsNext, PassesBy, after, event_of, moment_of}
-use Rattle.blocking_world.specs.Rows.{place_of, progress_of, next_of}
-use Rattle.blocking_world.specs.Ties.{Tied, HeldAs}
-use Rattle.blocking_world.specs.Worlds.{Parts, row_of, let_go_in, let_go_of}
-use Rattle.blocking_world.specs.declared.row.Row.{Row}
-use Rattle.blocking_world.proofs.ties.Acts.{finish_is, give_up_is, wake_is, await_acts, finish_acts, give_up_acts, wake_acts}
-use Rattle.blocking_world.proofs.ties.Found.{row_held}
-use Rattle.blocking_world.proofs.ties.Jobs.{row_known, row_holder, task_holds}
+use Rattle.blocking_pool.specs.Growth.{Growth}
+use Rattle.blocking_pool.specs.Jobs.{JobNumber}
+use Rattle.blocking_pool.specs.declared.pool.standing.Standing.TheVariants.{Running}
+use Rattle.blocking_world.specs.Moves.{IsNext}
+use Rattle.blocking_world.specs.Rows.{place_of, progress_of, next_of, next_at, is_first}
+use Rattle.blocking_world.specs.Ties.{Tied, PlaceAs, GaveAs}
+use Rattle.blocking_world.specs.Worlds.{Parts, InHand}
+use Rattle.blocking_world.proofs.past.Drops.{must_drop}
+use Rattle.blocking_world.proofs.ties.Jobs.{IsHere, job_place, task_holds, row_holder, next_free}
+use Rattle.blocking_world.proofs.ties.Told.{Told, told_is}
 
-none_by : (o : Option Party) → ((who : Party) → o ≡ Some who → ⊥) → o ≡ None
-none_by None bad = refl
-none_by (Some who) bad = absurd (bad who refl)
+-- ---- what a job in a hand may do
+
+-- what has to give up was let go
+abbrev LetGo : Stage → Task → Type 0
+LetGo at task = at ≡ stage.MustGiveUp → has_let_go task.stage ≡ true
+
+may_take : (step : TaskStep) (at : Stage) (next : Action) (n : ℕ) (task : Task) (acts : List Act) → IsNext step (next_at at next) n → LetGo at task → (has_given_up acts ≡ false → RanAs next n acts)
+    → PlaceAs (Some Running) (turn_of at) (is_first next) acts → GaveAs at acts → MayTake step task acts
+may_take (IsCalled call) at next n task acts is lets ran place gave = absurd is
+may_take (IsAnswered m) stage.Runs action.Call n task acts is lets ran place gave = ran place
+may_take (IsAnswered m) stage.Runs _ n task acts is lets ran place gave = absurd cc
+may_take (IsAnswered m) _ next n task acts is lets ran place gave = absurd cc
+may_take (Finishes m) stage.Runs action.Finish n task acts is lets ran place gave = subst (λ k. MayTake (Finishes k) task acts) is.1 (ran place)
+may_take (Finishes m) stage.Runs _ n task acts is lets ran place gave = let other = is.0 in absurd cc
+may_take (Finishes m) _ next n task acts is lets ran place gave = let other = is.0 in absurd cc
+may_take GivesUp stage.MustGiveUp action.Call n task acts is lets ran place gave = (ran place.1, lets refl)
+may_take GivesUp stage.MustGiveUp _ n task acts is lets ran place gave = let other = place.0 in absurd cc
+may_take GivesUp stage.Runs action.Call n task acts is lets ran place gave = absurd cc
+may_take GivesUp stage.Runs _ n task acts is lets ran place gave = absurd cc
+may_take GivesUp _ next n task acts is lets ran place gave = absurd cc
+may_take CallsWaker stage.Runs action.Deliver n task acts is lets ran place gave = ap (next_of_job Calling) (ran place)
+may_take CallsWaker stage.Runs _ n task acts is lets ran place gave = absurd cc
+may_take CallsWaker stage.MustWake next n task acts is lets ran place gave = gave.0
+may_take CallsWaker _ next n task acts is lets ran place gave = absurd cc
+
+-- an act of a job in a hand is its worker's
+job_event : (step : TaskStep) (at : Stage) (next : Action) (n k v s : ℕ) (act : Act) (first : ℕ) (growth : Growth) → IsNext step (next_at at next) n → event_by step k v s act first growth ≡ lanes.by_job v s act first growth
+job_event (IsCalled call) at next n k v s act first growth is = absurd is
+job_event _ at next n k v s act first growth is = refl
 
 module _ (setting : ℕ) (plan : List Bool) (w : Parts) (past : List Moment) (t : Tied setting plan w past) (laws : AllLaws past) where
   hold : TasksHold w.tasks past
   hold = record { tied = t.tasked; laws = laws }
 
-  -- ---- new ones
+  -- ---- what is nothing to a task, and a new one
 
-  -- nobody holds the next job
-  pub next_free : holder past w.crew.pool.next_serial ≡ None
-  next_free =
-      none_by (holder past w.crew.pool.next_serial)
-      (λ who held.
-      let row = row_held w past w.crew.pool.next_serial who t.rowed held in
-      let some = row_known setting plan w past t w.crew.pool.next_serial row.0 row.1 in
-      let none = ap is_some (fresh setting plan w.crew past t.crewed) in
-      absurd cc)
+  pub tasks_aside : (now : Moment) (new : List Task) → IsAside now.event → new ≡ w.tasks → TasksHold new (now ∷ past)
+  tasks_aside now new out same = subst (λ row. TasksHold row (now ∷ past)) (sym same) (aside w.tasks past now out hold)
 
-  begins : (added : Result JobNumber Refusal) (growth : Growth) (pool : JobPool) → AddsTo (IsPlanned plan) w.crew.pool added growth pool
-      → TasksHold (after w (Begins added growth pool)).tasks (moment_of w (Begins added growth pool) ∷ past)
-  begins (Err why) growth pool may = aside w.tasks past (moment_of w (Begins (Err why) growth pool)) (record { out = λ k s. refl; none_new = refl }) hold
-  begins (Ok number) growth pool may =
-      born w.tasks past (moment_of w (Begins (Ok number) growth pool)) number (record { party_is = refl; act_is = refl })
-      (ap (holder past) may.serial ∙ next_free) hold
+  pub tasks_born : (now : Moment) (new : List Task) (number : JobNumber) → MakesTask now.event number.serial → number.serial ≡ w.crew.pool.next_serial → new ≡ w.tasks ++ new_task number ∷ [] → TasksHold new (now ∷ past)
+  tasks_born now new number makes serial is =
+      subst (λ row. TasksHold row (now ∷ past)) (sym is) (born w.tasks past now number makes (ap (holder past) serial ∙ next_free setting plan w past t) hold)
 
-  -- ---- calls of a task
+  -- ---- a step of one
 
-  call_event : (k : ℕ) (call : TaskCall) (task : Task) → event_of w (Calls k call task) ≡ event_by (IsCalled call) k 0 task.number.serial (act_of (IsCalled call) task) (next_start w.crew) no_growth
-  call_event k Poll task = refl
-  call_event k Cancel task = refl
-  call_event k Detach task = refl
-  call_event k Drop task = refl
+  pub tasks_called : (now : Moment) (new : List Task) (k : ℕ) (task : Task) (call : TaskCall) → slice_get w.tasks k ≡ Some task → MayTake (IsCalled call) task (acts_of task.number.serial (events past)) → Told (ByTask k) None (task_act call task) now.event
+      → new ≡ slice_set w.tasks k (task_after (IsCalled call) task) → TasksHold new (now ∷ past)
+  tasks_called now new k task call found may told is =
+      stepped w.tasks new past now
+      (record {
+        step = IsCalled call;
+        place = k;
+        job = task.number.serial;
+        worker = 0;
+        first = now.event.first;
+        growth = record { started = now.event.started; refused = now.event.start_refused };
+        task = task;
+        held = task_holds setting plan w past t k task found;
+        there = found;
+        may = may;
+        event_is = told_is (ByTask k) None (task_act call task) now.event told;
+        after_is = is;
+      }) hold
 
-  calls : (k : ℕ) (call : TaskCall) (task : Task) → MayDo w (Calls k call task) → TakesStep past w.tasks (event_of w (Calls k call task)) (after w (Calls k call task)).tasks
-  calls k call task may = record {
-    step = IsCalled call;
-    place = k;
-    job = task.number.serial;
-    worker = 0;
-    first = next_start w.crew;
-    growth = no_growth;
-    task = task;
-    held = task_holds setting plan w past t k task may.0;
-    there = may.0;
-    may = may.1;
-    event_is = call_event k call task;
-    after_is = refl;
-  }
+  -- the task of a job that has to give up has let it go
+  pub let_go_task : (v : ℕ) (job : InHand) → IsHere w v job → LetGo job.held.stage job.task
+  let_go_task v job here must =
+      let s = job.held.turn.serial in
+      let k = place_of job.row.holder in
+      let held = row_holder setting plan w past t s job.row here.has_row in
+      let drop = must_drop setting plan past t.crewed.laws s (t.crewed.tied.handed.turn_is v job.held here.holds ∙ ap turn_of must) in
+      sym (t.tasked.each k s job.task held here.has_task).let_go ∙ ap is_let_go (own_cut k s (events past)) ∙ sym (ap (λ h. may_cancel h past) held) ∙ t.rowed.let_go s drop
 
-  -- ---- acts of its job
-
-  let_go_task : (row : Row) (task : Task) → slice_get w.tasks (place_of row.holder) ≡ Some task → let_go_of w.tasks row ≡ true → has_let_go task.stage ≡ true
-  let_go_task row task found is = sym (ap let_go_in found) ∙ is
-
-  may_act : (held : Held) (row : Row) (task : Task) (step : TaskStep) → HeldAs w past held row → slice_get w.tasks (place_of row.holder) ≡ Some task → IsNext step held row
-      → MayTake step task (acts_of held.turn.serial (events past))
-  may_act held row task (IsCalled call) h found next = absurd next
-  may_act held row task (IsAnswered n) h found next = await_acts held.stage (progress_of row.core).next (progress_of row.core).number _ next h.acted
-  may_act held row task (Finishes n) h found next =
-      let is = finish_is (next_of held.stage row.core) (progress_of row.core).number n next in
-      subst (λ m. MayTake (Finishes m) task (acts_of held.turn.serial (events past))) is.1
-      (finish_acts held.stage (progress_of row.core).next (progress_of row.core).number _ is.0 h.acted)
-  may_act held row task GivesUp h found next =
-      let is = give_up_is (next_of held.stage row.core) (progress_of row.core).number next in
-      let acts = give_up_acts held.stage (progress_of row.core).next (progress_of row.core).number _ is h.acted in
-      (acts.1, let_go_task row task found (h.wanted acts.0))
-  may_act held row task CallsWaker h found next =
-      let is = wake_is (next_of held.stage row.core) (progress_of row.core).number next in
-      wake_acts held.stage (progress_of row.core).next (progress_of row.core).number _ is h.acted
-
-  act_event : (v : ℕ) (held : Held) (row : Row) (task : Task) (step : TaskStep) → IsNext step held row
-      → event_of w (Acts v held row task step) ≡ event_by step (place_of row.holder) v held.turn.serial (act_of step task) (next_start w.crew) no_growth
-  act_event v held row task (IsCalled call) next = absurd next
-  act_event v held row task (IsAnswered n) next = refl
-  act_event v held row task (Finishes n) next = refl
-  act_event v held row task GivesUp next = refl
-  act_event v held row task CallsWaker next = refl
-
-  acts : (v : ℕ) (held : Held) (row : Row) (task : Task) (step : TaskStep) → IsInHand w v held row task → IsNext step held row
-      → TakesStep past w.tasks (event_of w (Acts v held row task step)) (after w (Acts v held row task step)).tasks
-  acts v held row task step i next = record {
-    step = step;
-    place = place_of row.holder;
-    job = held.turn.serial;
-    worker = v;
-    first = next_start w.crew;
-    growth = no_growth;
-    task = task;
-    held = row_holder setting plan w past t held.turn.serial row i.has_row;
-    there = i.has_task;
-    may = may_act held row task step (t.rowed.in_hand v held row i.holds i.has_row) i.has_task next;
-    event_is = act_event v held row task step next;
-    after_is = refl;
-  }
-
-  -- ---- what is nothing to them
-
-  passes : (move : crew.Move) → PassesBy w move → TasksHold w.tasks (moment_of w (Passes move) ∷ past)
-  passes (crew.Arrives pass) may = aside w.tasks past (moment_of w (Passes (crew.Arrives pass))) (record { out = λ k s. refl; none_new = refl }) hold
-  passes (crew.TakesJob v old true turn ticket growth pool) may =
-      aside w.tasks past (moment_of w (Passes (crew.TakesJob v old true turn ticket growth pool))) (record { out = λ k s. refl; none_new = refl }) hold
-  passes (crew.TakesJob v old false turn ticket growth pool) may =
-      aside w.tasks past (moment_of w (Passes (crew.TakesJob v old false turn ticket growth pool))) (record { out = λ k s. refl; none_new = refl }) hold
-  passes (crew.TakesNone v old pass) may = aside w.tasks past (moment_of w (Passes (crew.TakesNone v old pass))) (record { out = λ k s. refl; none_new = refl }) hold
-  passes (crew.EndsTurn v held pass) may = aside w.tasks past (moment_of w (Passes (crew.EndsTurn v held pass))) (record { out = λ k s. refl; none_new = refl }) hold
-  passes (crew.HasWaited v pass end (Stay back) growth pool) may =
-      aside w.tasks past (moment_of w (Passes (crew.HasWaited v pass end (Stay back) growth pool))) (record { out = λ k s. refl; none_new = refl }) hold
-  passes (crew.HasWaited v pass end Stop growth pool) may =
-      aside w.tasks past (moment_of w (Passes (crew.HasWaited v pass end Stop growth pool))) (record { out = λ k s. refl; none_new = refl }) hold
-  passes (crew.SetsLimit n) may = aside w.tasks past (moment_of w (Passes (crew.SetsLimit n))) (record { out = λ k s. refl; none_new = refl }) hold
-  passes (crew.Sweeps growth pool) may = aside w.tasks past (moment_of w (Passes (crew.Sweeps growth pool))) (record { out = λ k s. refl; none_new = refl }) hold
-  passes _ may = absurd may
-
-  -- ---- each move
-
-  -- Each move keeps the tie and the laws of the tasks.
-  pub tasks_after : (move : Move) → MayDo w move → CrewMay (IsPlanned plan) w move → TasksHold (after w move).tasks (moment_of w move ∷ past)
-  tasks_after (Idles step) may crew_may = aside w.tasks past (moment_of w (Idles step)) (record { out = λ k s. refl; none_new = refl }) hold
-  tasks_after (Begins added growth pool) may crew_may = begins added growth pool crew_may
-  tasks_after (Calls k call task) may crew_may = stepped w.tasks _ past (moment_of w (Calls k call task)) (calls k call task may) hold
-  tasks_after (Acts v held row task step) may crew_may = stepped w.tasks _ past (moment_of w (Acts v held row task step)) (acts v held row task step may.0 may.1) hold
-  tasks_after (Passes move) may crew_may = passes move may
-  tasks_after (IsWoken s number woke growth pool) may crew_may =
-      aside w.tasks past (moment_of w (IsWoken s number woke growth pool)) (record { out = λ k s. refl; none_new = refl }) hold
-  tasks_after (IsStruck s number woke growth pool) may crew_may =
-      aside w.tasks past (moment_of w (IsStruck s number woke growth pool)) (record { out = λ k s. refl; none_new = refl }) hold
+  pub tasks_acted : (now : Moment) (new : List Task) (v : ℕ) (job : InHand) (step : TaskStep) → IsHere w v job → IsNext step (next_of job.held.stage job.row.core) (progress_of job.row.core).number
+      → Told (Worker v) (Some job.held.turn.serial) (act_of step job.task) now.event → new ≡ slice_set w.tasks (place_of job.row.holder) (task_after step job.task)
+      → TasksHold new (now ∷ past)
+  tasks_acted now new v job step here next told is =
+      let s = job.held.turn.serial in
+      let progress = progress_of job.row.core in
+      stepped w.tasks new past now
+      (record {
+        step = step;
+        place = place_of job.row.holder;
+        job = s;
+        worker = v;
+        first = now.event.first;
+        growth = record { started = now.event.started; refused = now.event.start_refused };
+        task = job.task;
+        held = row_holder setting plan w past t s job.row here.has_row;
+        there = here.has_task;
+        may = may_take step job.held.stage progress.next progress.number job.task (acts_of s (events past)) next (let_go_task v job here) (t.rowed.each s job.row here.has_row).core (job_place setting plan w past t v job here)
+            (t.rowed.in_hand v job.held here.holds);
+        event_is = told_is (Worker v) (Some s) (act_of step job.task) now.event told ∙ sym (job_event step job.held.stage progress.next progress.number _ v s _ _ _ next);
+        after_is = is;
+      }) hold

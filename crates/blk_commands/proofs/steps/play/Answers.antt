@@ -2,7 +2,7 @@
 use Rattle.std.proofs.Common.{[], ◌∷◌, ◌++◌, ap, sym, subst, take, ◌∙◌}
 use Rattle.std.proofs.lemmas.List.{take_more}
 use Rattle.blk_commands.specs.Plays.{PlaysInstructions, Takes}
-use Rattle.blk_commands.specs.declared.line.Instruction.{Instruction}
+use Rattle.blk_commands.specs.declared.instruction.Instruction.{Instruction}
 use Rattle.blk_commands.proofs.PlayLemmas.{takes_instruction}
 use Rattle.blk_commands.proofs.steps.play.Goals as goal
 

@@ -1,5 +1,6 @@
 use Rattle.std.proofs.Common.{slice_index_or, arith}
-use Rattle.blocking_crew.proofs.closing.Hands.{got_index, runs_at, still_left, jobless_next, all_idle}
+use Rattle.std.proofs.lemmas.Option.{slice_get-get_or}
+use Rattle.blocking_crew.proofs.closing.Hands.{runs_at, still_ready, jobless_next, all_idle}
 use Rattle.blocking_crew.proofs.workers.end_turns.Goals as goal
 
 pub loop-place-init : goal.loop-place-init
@@ -10,15 +11,15 @@ end_turn-requires c =
     let lengths = c.loop-place.auto.hands in
     let within = c.loop-place-test.true in
     runs_at c.loop-place.tickets c.loop-place.hands c.loop-place.place (slice_index_or c.loop-place.hands c.loop-place.place c.index-hands-place.result) c.loop-place.invariant.0
-    (got_index c.loop-place.hands c.loop-place.place c.index-hands-place.result (omega (arith, lengths, within)))
+    (slice_get-get_or c.loop-place.hands c.loop-place.place c.index-hands-place.result (omega (arith, lengths, within)))
 
 pub loop-place-preserved : goal.loop-place-preserved
 loop-place-preserved c =
     let lengths = c.loop-place.auto.hands in
     let within = c.loop-place-test.true in
     let hand = slice_index_or c.loop-place.hands c.loop-place.place c.index-hands-place.result in
-    let found = got_index c.loop-place.hands c.loop-place.place c.index-hands-place.result (omega (arith, lengths, within)) in (
-      still_left c.loop-place.tickets c.end_turn.new.tickets c.loop-place.hands c.loop-place.place hand c.end_turn.new.self c.loop-place.invariant.0 found c.end_turn.ensures,
+    let found = slice_get-get_or c.loop-place.hands c.loop-place.place c.index-hands-place.result (omega (arith, lengths, within)) in (
+      still_ready c.loop-place.tickets c.end_turn.new.tickets c.loop-place.hands c.loop-place.place hand c.end_turn.new.self c.loop-place.invariant.0 found c.end_turn.ensures,
       jobless_next c.loop-place.tickets c.end_turn.new.tickets c.loop-place.hands c.loop-place.place hand c.end_turn.new.self c.loop-place.invariant.1 found c.end_turn.ensures,
     )
 

@@ -1,7 +1,7 @@
 -- The hands so far hold no job, and all still fit the pool.
-use Rattle.blocking_crew.specs.Closing.{AreLeft}
+use Rattle.blocking_crew.specs.Crews.{IsReady}
 use Rattle.blocking_crew.proofs.closing.Hands.{Jobless}
 use Rattle.blocking_crew.proofs.workers.end_turns.Given as goal
 
 abbrev pub invariant-loop-place : goal.invariant-loop-place
-invariant-loop-place l = AreLeft l.tickets l.hands × Jobless l.hands l.place
+invariant-loop-place l = IsReady (record { pool = l.tickets; hands = l.hands }) × Jobless l.hands l.place

@@ -1,8 +1,6 @@
-use Rattle.std.proofs.Common.{◌≡◌, ap, ◌∙◌, sym, subst, refl}
+use Rattle.std.proofs.Common.{◌≡◌, ap, ◌∙◌, sym, refl}
 use Rattle.blocking_laws.specs.declared.event.Act.TheVariants.{Accepted}
-use Rattle.blocking_crew.specs.Crews.{Crew}
-use Rattle.blocking_crew.specs.Moves.{Moves, Add, Adds, added_act, next_start}
-use Rattle.blocking_crew.specs.contracts.crew.Crew.{the_view}
+use Rattle.blocking_crew.specs.Moves.{Add, Adds, added_act, next_start}
 use Rattle.blocking_crew.proofs.ready.Moves.{moved_ready}
 use Rattle.blocking_crew.proofs.crew.Crew.add.Goals as goal
 use Rattle.blocking_crew.proofs.crew.Crew.add.Goals.{in-Ok, in-Err}
@@ -16,23 +14,19 @@ act_is g c = elim c.match-number.branch [
   | in-Err w ↦ w.act-is ∙ ap added_act (sym w.number-is)
 ]
 
--- the move that it is
-moved : (g : _) (c : goal.After-seen-event g)
-    → Moves (g.S.Starter.may_answer c.args.starter.now) (Add c.args.party c.match-number.number) (the_view c.self.inside) c.seen-event.result (record { pool = c.add-number.new.self; hands = c.self.inside.workers })
-moved g c = record {
-  move = Adds c.args.party c.add-number.result.0 c.add-number.result.1 c.add-number.new.self;
-  may = c.add-number.ensures;
-  call_is = ap (Add c.args.party) (number_is g c);
-  event_is =
-      let act = act_is g c ∙ ap added_act (number_is g c) in
-      let start = c.next_start-first.ensures ∙ ap next_start (sym c.self.view_is) in
-      cc (c.seen-event.ensures, act, start);
-  after_is = refl;
-}
-
 pub returns : goal.returns
-returns g c = subst (λ (crew : Crew). Moves (g.S.Starter.may_answer c.args.starter.now) (Add c.args.party c.match-number.number) crew c.seen-event.result (record { pool = c.add-number.new.self; hands = c.self.inside.workers })) c.self.view_is (moved g c)
+returns g c =
+    rw (sym c.self.view_is)
+    (record {
+      move = Adds c.args.party c.add-number.result.0 c.add-number.result.1 c.add-number.new.self;
+      may = c.add-number.ensures;
+      call_is = ap (Add c.args.party) (number_is g c);
+      event_is =
+          let act = act_is g c ∙ ap added_act (number_is g c) in
+          let start = c.next_start-first.ensures ∙ ap next_start (sym c.self.view_is) in
+          cc (c.seen-event.ensures, act, start);
+      after_is = refl;
+    })
 
 pub invariant_of-self : goal.invariant_of-self
-invariant_of-self g c =
-    moved_ready (g.S.Starter.may_answer c.args.starter.now) (Add c.args.party c.match-number.number) (the_view c.self.inside) (record { pool = c.add-number.new.self; hands = c.self.inside.workers }) c.seen-event.result c.self.invariant (moved g c)
+invariant_of-self g c = moved_ready c.self.invariant c.self.view_is (returns g c)

@@ -1,8 +1,7 @@
-use Rattle.std.proofs.Common.{◌≡◌, ap, ◌∙◌, sym, subst, ℕ, Some, None}
+use Rattle.std.proofs.Common.{◌≡◌, ap, ◌∙◌, sym, ℕ, Some, None}
 use Rattle.blocking_laws.specs.declared.event.Party.TheVariants.{Worker}
 use Rattle.blocking_laws.specs.declared.event.Act.TheVariants.{Arrived}
-use Rattle.blocking_crew.specs.Crews.{Crew}
-use Rattle.blocking_crew.specs.Moves.{Moves, NeverAsked, Arrive, next_start, seen}
+use Rattle.blocking_crew.specs.Moves.{NeverAsked, next_start, seen}
 use Rattle.blocking_crew.specs.Tickets.{no_growth}
 use Rattle.blocking_crew.specs.contracts.crew.Crew.{the_view}
 use Rattle.blocking_crew.proofs.calls.Moved.{arrives_so}
@@ -11,20 +10,17 @@ use Rattle.blocking_crew.proofs.crew.Crew.arrive.Goals as goal
 
 pub returns-in_default-clause-ok : goal.returns-in_default-clause-ok
 returns-in_default-clause-ok c =
-    subst (λ (crew : Crew). Moves NeverAsked Arrive crew c.nothing.result (record { pool = c.arrive.new.tickets; hands = c.arrive.new.self })) c.self.view_is
+    rw (sym c.self.view_is)
     (arrives_so NeverAsked (the_view c.self.inside) c.in_ok-worker.field-0 c.arrive.new.tickets c.arrive.new.self c.in_ok-worker.ensures.ok
     (c.next_start-first.ensures ∙ ap next_start (sym c.self.view_is)) (λ v is. absurd (c.in_default.not-Some v is)) (λ is. c.nothing.ensures))
 
--- the move that it is
-moved : (c : goal.After-seen) → Moves NeverAsked Arrive (the_view c.self.inside) c.seen.result (record { pool = c.arrive.new.tickets; hands = c.arrive.new.self })
-moved c =
-    arrives_so NeverAsked (the_view c.self.inside) c.in_ok-worker.field-0 c.arrive.new.tickets c.arrive.new.self c.in_ok-worker.ensures.ok
+pub returns-clause-ok : goal.returns-clause-ok
+returns-clause-ok c =
+    rw (sym c.self.view_is)
+    (arrives_so NeverAsked (the_view c.self.inside) c.in_ok-worker.field-0 c.arrive.new.tickets c.arrive.new.self c.in_ok-worker.ensures.ok
     (c.next_start-first.ensures ∙ ap next_start (sym c.self.view_is))
     (λ v is. (let same : c.in-Some.worker ≡ v = (let there = c.in-Some.is in cc) in c.seen.ensures ∙ ap (λ (n : ℕ). seen (Worker n) None (Arrived n) c.next_start-first.result no_growth) same))
-    (λ is. absurd (let there = c.in-Some.is in let bad : Some c.in-Some.worker ≡ None = sym there ∙ is in cc))
-
-pub returns-clause-ok : goal.returns-clause-ok
-returns-clause-ok c = subst (λ (crew : Crew). Moves NeverAsked Arrive crew c.seen.result (record { pool = c.arrive.new.tickets; hands = c.arrive.new.self })) c.self.view_is (moved c)
+    (λ is. absurd (let there = c.in-Some.is in let bad : Some c.in-Some.worker ≡ None = sym there ∙ is in cc)))
 
 pub invariant_of-self-2 : goal.invariant_of-self-2
-invariant_of-self-2 c = moved_ready NeverAsked Arrive (the_view c.self.inside) (record { pool = c.arrive.new.tickets; hands = c.arrive.new.self }) c.seen.result c.self.invariant (moved c)
+invariant_of-self-2 c = moved_ready c.self.invariant c.self.view_is (returns-clause-ok c)

@@ -1,26 +1,22 @@
-use Rattle.std.proofs.Common.{ap, ◌∙◌, sym, subst}
-use Rattle.blocking_crew.specs.Crews.{Crew}
+use Rattle.std.proofs.Common.{is_some, ap, ◌∙◌, sym}
 use Rattle.blocking_crew.specs.contracts.crew.Crew.{the_view}
-use Rattle.blocking_crew.proofs.calls.Moved.{end_idles, ends_so, held_is_out, held_runs}
+use Rattle.blocking_crew.proofs.calls.Moved.{idles, ends_so, held_is_out, held_runs}
 use Rattle.blocking_crew.specs.Crews.{may_end, standing_after}
 use Rattle.blocking_pool.specs.Jobs.{JobNumber}
 use Rattle.blocking_pool.specs.declared.pool.standing.Standing.{Standing}
 use Rattle.blocking_laws.specs.declared.event.Act.TheVariants.{Ended}
-use Rattle.blocking_crew.specs.Moves.{Moves, NeverAsked, End, next_start}
+use Rattle.blocking_crew.specs.Moves.{NeverAsked, End, next_start}
 use Rattle.blocking_crew.proofs.ready.Moves.{moved_ready}
 use Rattle.blocking_crew.proofs.crew.Crew.end.Goals as goal
 
--- the move that it is
-moved : (c : goal.After-seen) → Moves NeverAsked (End c.args.worker) (the_view c.self.inside) c.seen.result (record { pool = c.end-pass.new.self; hands = c.put.new.self })
-moved c =
-    ends_so NeverAsked (the_view c.self.inside) c.args.worker c.in-Some.held c.end-pass.result c.end-pass.new.self
-    c.in-Some.ensures.held c.in-Some.ensures.after c.end-pass.ensures (c.serial-serial.ensures ∙ ap (λ (n : JobNumber). n.serial) c.job.ensures) (ap (λ (how : Standing). Ended c.serial-serial.result how) (c.standing.ensures ∙ ap standing_after c.outcome-outcome.ensures)) c.put.ensures (c.next_start-first.ensures ∙ ap next_start (sym c.self.view_is)) c.seen.ensures
-
 pub returns : goal.returns
-returns c = subst (λ (crew : Crew). Moves NeverAsked (End c.args.worker) crew c.seen.result (record { pool = c.end-pass.new.self; hands = c.put.new.self })) c.self.view_is (moved c)
+returns c =
+    rw (sym c.self.view_is)
+    (ends_so NeverAsked (the_view c.self.inside) c.args.worker c.in-Some.held c.end-pass.result c.end-pass.new.self
+    c.in-Some.ensures.held c.in-Some.ensures.after c.end-pass.ensures (c.serial-serial.ensures ∙ ap (λ (n : JobNumber). n.serial) c.job.ensures) (ap (λ (how : Standing). Ended c.serial-serial.result how) (c.standing.ensures ∙ ap standing_after c.outcome-outcome.ensures)) c.put.ensures (c.next_start-first.ensures ∙ ap next_start (sym c.self.view_is)) c.seen.ensures)
 
 pub invariant_of-self-2 : goal.invariant_of-self-2
-invariant_of-self-2 c = moved_ready NeverAsked (End c.args.worker) (the_view c.self.inside) (record { pool = c.end-pass.new.self; hands = c.put.new.self }) c.seen.result c.self.invariant (moved c)
+invariant_of-self-2 c = moved_ready c.self.invariant c.self.view_is (returns c)
 
 pub put-requires : goal.put-requires
 put-requires c = held_is_out c.self.inside.workers c.over.new.self c.args.worker c.in-Some.ensures.after may_end c.in-Some.held c.in-Some.ensures.held
@@ -30,5 +26,5 @@ end-pass-requires c = c.self.invariant.runs c.args.worker c.in-Some.held (held_r
 
 pub returns-in_default : goal.returns-in_default
 returns-in_default c =
-    subst (λ (crew : Crew). Moves NeverAsked (End c.args.worker) crew c.nothing.result (record { pool = c.self.inside.tickets; hands = c.over.new.self })) c.self.view_is
-    (end_idles NeverAsked (the_view c.self.inside) c.args.worker c.over.new.self c.in_default.ensures.held c.in_default.ensures.after (c.next_start-first.ensures ∙ ap next_start (sym c.self.view_is)) c.nothing.ensures)
+    rw (sym c.self.view_is)
+    (idles NeverAsked (End c.args.worker) (the_view c.self.inside) c.over.new.self (ap is_some (sym c.in_default.ensures.held)) c.in_default.ensures.after (c.next_start-first.ensures ∙ ap next_start (sym c.self.view_is)) c.nothing.ensures)

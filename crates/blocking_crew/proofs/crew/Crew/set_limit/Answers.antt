@@ -1,27 +1,23 @@
-use Rattle.std.proofs.Common.{◌≡◌, ap, ◌∙◌, sym, subst, refl}
-use Rattle.blocking_crew.specs.Crews.{Crew}
+use Rattle.std.proofs.Common.{◌≡◌, ap, ◌∙◌, sym, refl}
 use Rattle.blocking_crew.specs.contracts.crew.Crew.{the_view}
 use Rattle.blocking_crew.proofs.calls.Moved.{idles}
-use Rattle.blocking_crew.specs.Moves.{Moves, NeverAsked, SetLimit, SetsLimit, next_start}
+use Rattle.blocking_crew.specs.Moves.{NeverAsked, SetLimit, SetsLimit, next_start}
 use Rattle.blocking_crew.specs.Tickets.{JobPool}
 use Rattle.std.proofs.Common.{arith, false, not, ◌==◌}
 use Rattle.std.proofs.lemmas.Bool.Decides.{nat_tests}
 use Rattle.blocking_crew.proofs.ready.Moves.{moved_ready}
 use Rattle.blocking_crew.proofs.crew.Crew.set_limit.Goals as goal
 
--- the move that it is
-moved : (c : goal.After-seen) → Moves NeverAsked (SetLimit c.args.limit) (the_view c.self.inside) c.seen.result (record { pool = c.set_limit.new.self; hands = c.self.inside.workers })
-moved c =
-    record { move = SetsLimit c.args.limit; may = omega (arith, c.if-limit-eq0.false); call_is = refl; event_is = cc (c.seen.ensures, c.next_start-first.ensures); after_is = ap (λ (pool : JobPool). record { pool = pool; hands = c.self.inside.workers }) c.set_limit.ensures }
-
 pub returns : goal.returns
-returns c = subst (λ (crew : Crew). Moves NeverAsked (SetLimit c.args.limit) crew c.seen.result (record { pool = c.set_limit.new.self; hands = c.self.inside.workers })) c.self.view_is (moved c)
+returns c =
+    rw (sym c.self.view_is)
+    (record { move = SetsLimit c.args.limit; may = omega (arith, c.if-limit-eq0.false); call_is = refl; event_is = cc (c.seen.ensures, c.next_start-first.ensures); after_is = ap (λ (pool : JobPool). record { pool = pool; hands = c.self.inside.workers }) c.set_limit.ensures })
 
 pub invariant_of-self : goal.invariant_of-self
-invariant_of-self c = moved_ready NeverAsked (SetLimit c.args.limit) (the_view c.self.inside) (record { pool = c.set_limit.new.self; hands = c.self.inside.workers }) c.seen.result c.self.invariant (moved c)
+invariant_of-self c = moved_ready c.self.invariant c.self.view_is (returns c)
 
 pub returns-then-limit-eq0 : goal.returns-then-limit-eq0
 returns-then-limit-eq0 c =
     let zero : not (c.args.limit == 0) ≡ false = (let none = c.if-limit-eq0.true in grind (arith, nat_tests, none)) in
-    subst (λ (crew : Crew). Moves NeverAsked (SetLimit c.args.limit) crew c.nothing.result crew) c.self.view_is
+    rw (sym c.self.view_is)
     (idles NeverAsked (SetLimit c.args.limit) (the_view c.self.inside) c.self.inside.workers zero refl (c.next_start-first.ensures ∙ ap next_start (sym c.self.view_is)) c.nothing.ensures)

@@ -1,17 +1,12 @@
-use Rattle.std.proofs.Common.{subst, refl}
-use Rattle.blocking_crew.specs.Crews.{Crew}
-use Rattle.blocking_crew.specs.contracts.crew.Crew.{the_view}
-use Rattle.blocking_crew.specs.Moves.{Moves, Wake, IsWoken}
+use Rattle.std.proofs.Common.{sym, refl}
+use Rattle.blocking_crew.specs.Moves.{IsWoken}
 use Rattle.blocking_crew.proofs.ready.Moves.{moved_ready}
 use Rattle.blocking_crew.proofs.crew.Crew.wake.Goals as goal
 
--- the move that it is
-moved : (g : _) (c : goal.After-seen g) → Moves (g.S.Starter.may_answer c.args.starter.now) (Wake c.args.party c.args.number) (the_view c.self.inside) c.seen.result (record { pool = c.wake-woke.new.self; hands = c.self.inside.workers })
-moved g c =
-    record { move = IsWoken c.args.party c.args.number c.wake-woke.result.0 c.wake-woke.result.1 c.wake-woke.new.self; may = c.wake-woke.ensures; call_is = refl; event_is = cc (c.seen.ensures, c.serial.ensures, c.next_start-first.ensures); after_is = refl }
-
 pub returns : goal.returns
-returns g c = subst (λ (crew : Crew). Moves (g.S.Starter.may_answer c.args.starter.now) (Wake c.args.party c.args.number) crew c.seen.result (record { pool = c.wake-woke.new.self; hands = c.self.inside.workers })) c.self.view_is (moved g c)
+returns g c =
+    rw (sym c.self.view_is)
+    (record { move = IsWoken c.args.party c.args.note c.wake-woke.result.0 c.wake-woke.result.1 c.wake-woke.new.self; may = c.wake-woke.ensures; call_is = refl; event_is = cc (c.seen.ensures, c.serial.ensures, c.job-number.ensures, c.next_start-first.ensures); after_is = refl })
 
 pub invariant_of-self : goal.invariant_of-self
-invariant_of-self g c = moved_ready (g.S.Starter.may_answer c.args.starter.now) (Wake c.args.party c.args.number) (the_view c.self.inside) (record { pool = c.wake-woke.new.self; hands = c.self.inside.workers }) c.seen.result c.self.invariant (moved g c)
+invariant_of-self g c = moved_ready c.self.invariant c.self.view_is (returns g c)

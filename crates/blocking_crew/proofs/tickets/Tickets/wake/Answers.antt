@@ -1,7 +1,5 @@
-use Rattle.std.proofs.Common.{◌≡◌, ap, ◌∙◌, subst, arith}
-use Rattle.blocking_pool.specs.Jobs.{JobNumber}
-use Rattle.blocking_pool.specs.declared.pool.answer.Woke.TheVariants.{Entered}
-use Rattle.blocking_crew.specs.Tickets.{JobPool, Wakes}
+use Rattle.std.proofs.Common.{◌≡◌, ap, ◌∙◌, arith}
+use Rattle.blocking_crew.specs.Tickets.{JobPool}
 use Rattle.blocking_pool.specs.Starters.{asked}
 use Rattle.blocking_crew.proofs.growth.Reads.{read_as}
 use Rattle.blocking_crew.proofs.growth.Again.{woke_grew, woke_so}
@@ -14,7 +12,7 @@ next_after-self-inside-requires g c =
     c.growth_since-growth.ensures.started c.growth_since-growth.ensures.refused in
     let grew =
     woke_grew (asked g.S.Starter c.args.starter.now c.wake-woke.new.starter)
-    c.self.inside.pool c.args.self.now c.wake-woke.new.self c.new.result c.wake-woke.result c.growth_since-growth.result c.self.view_is c.in-Entered.is read c.wake-woke.ensures.answer in
+    c.self.inside.pool c.args.self.now c.wake-woke.new.self c.args.note c.wake-woke.result c.growth_since-growth.result c.self.view_is c.in-Entered.is read c.wake-woke.ensures.answer in
     let next : c.self.inside.next_start ≡ c.args.self.now.counts.next_worker = c.self.invariant.1 ∙ ap (λ (p : JobPool). p.counts.next_worker) c.self.view_is in
     omega (arith, grew.numbers, next)
 
@@ -23,6 +21,5 @@ returns g c =
     let read =
     read_as c.wake-woke.new.self.counts c.growth_since-growth.result c.queue_len-ready.ensures.value c.before-before.ensures.workers c.before-before.ensures.limit
     c.growth_since-growth.ensures.started c.growth_since-growth.ensures.refused in
-    subst (λ (n : JobNumber). Wakes (g.S.Starter.may_answer c.args.starter.now) c.args.self.now n Entered c.growth_since-growth.result c.wake-woke.new.self) c.new.ensures
-    (woke_so (asked g.S.Starter c.args.starter.now c.wake-woke.new.starter)
-    c.self.inside.pool c.args.self.now c.wake-woke.new.self c.new.result c.wake-woke.result c.growth_since-growth.result c.self.view_is c.in-Entered.is read c.wake-woke.ensures.answer)
+    woke_so (asked g.S.Starter c.args.starter.now c.wake-woke.new.starter)
+    c.self.inside.pool c.args.self.now c.wake-woke.new.self c.args.note c.wake-woke.result c.growth_since-growth.result c.self.view_is c.in-Entered.is read c.wake-woke.ensures.answer

@@ -1,18 +1,20 @@
-use Rattle.std.proofs.Common.{◌∙◌, ap, sym, refl, []}
-use Rattle.blocking_unblock.proofs.Turns.{first_kept, first_stands, first_waits, reaches_on, refused_by}
+use Rattle.std.proofs.Common.{◌∙◌, sym, refl, subst, []}
+use Rattle.blocking_core.specs.declared.unblock.PollCall.{PollCall}
+use Rattle.blocking_unblock.specs.Polls.{KeepsOpen}
+use Rattle.blocking_unblock.proofs.Turns.{closes_only, first_kept, first_stands, open_on, reaches_on, refused_by, same_open, stays_closed}
 use Rattle.blocking_unblock.proofs.unblock.Unblock.poll.Goals as goal
 
 pub loop-init : goal.loop-init
 loop-init g c = (
   tt,
   tt,
-  first_stands _ _ _ _ c.new-poll.ensures c.state.ensures,
+  first_stands _ _ _ _ _ c.new-poll.ensures c.state.ensures,
   ([], refl),
   refl,
-  first_waits _ _ _ _ c.new-poll.ensures,
+  same_open _ _,
   λ fact held. held,
   refl,
-  λ most is idle. first_kept _ _ _ most _ c.new-poll.ensures is c.state.ensures idle,
+  λ idle. first_kept _ _ _ _ c.new-poll.ensures c.state.ensures idle,
 )
 
 pub loop-preserved : goal.loop-preserved
@@ -22,13 +24,25 @@ loop-preserved g c = (
   c.turn.ensures.stands,
   reaches_on _ _ _ c.loop.invariant.3 c.turn.ensures.reaches,
   c.turn.ensures.call_same ∙ c.loop.invariant.4,
-  c.turn.ensures.waits,
+  let P : PollCall → Type 0 = λ call. KeepsOpen call c.loop.poll.state c.turn.new.poll.state in
+      open_on _ _ _ _ c.loop.invariant.5 (subst P c.loop.invariant.4 c.turn.ensures.kept_open),
   λ fact held. c.turn.ensures.kept fact (c.loop.invariant.6 fact held),
   c.turn.ensures.same_length ∙ c.loop.invariant.7,
-  λ most is idle. c.turn.ensures.keeps _ most (c.loop.invariant.4 ∙ is) (c.loop.invariant.8 most is idle),
+  λ idle. c.turn.ensures.keeps _ (c.loop.invariant.8 idle),
 )
 
 pub returns-in-Reply-clause-refused : goal.returns-in-Reply-clause-refused
-returns-in-Reply-clause-refused g c = λ most is idle.
-    let first = c.loop.invariant.8 most (ap (λ m. m.call) c.new-poll.ensures ∙ is) idle in
-    refused_by _ _ _ _ c.loop.invariant.2 (sym c.in-Reply.is ∙ c.next-in-loop.ensures) first
+returns-in-Reply-clause-refused g c = λ idle.
+    refused_by _ _ _ _ _ c.loop.invariant.2 (sym c.in-Reply.is ∙ c.next-in-loop.ensures) (c.loop.invariant.8 idle)
+
+pub returns-in-Reply-clause-closed : goal.returns-in-Reply-clause-closed
+returns-in-Reply-clause-closed g c = stays_closed _ c.loop.poll _ _ _ _ c.new-poll.ensures c.state.ensures c.loop.invariant.2.at c.loop.invariant.5
+
+pub returns-in-Reply-clause-closes : goal.returns-in-Reply-clause-closes
+returns-in-Reply-clause-closes g c = closes_only _ c.loop.poll _ _ _ _ c.new-poll.ensures c.state.ensures c.loop.invariant.2.at c.loop.invariant.5
+
+pub returns-in-Pending-clause-closed : goal.returns-in-Pending-clause-closed
+returns-in-Pending-clause-closed g c = stays_closed _ c.loop.poll _ _ _ _ c.new-poll.ensures c.state.ensures c.loop.invariant.2.at c.loop.invariant.5
+
+pub returns-in-Pending-clause-closes : goal.returns-in-Pending-clause-closes
+returns-in-Pending-clause-closes g c = closes_only _ c.loop.poll _ _ _ _ c.new-poll.ensures c.state.ensures c.loop.invariant.2.at c.loop.invariant.5

@@ -1,19 +1,17 @@
-use Rattle.std.proofs.Common.{◌≡◌, ℕ, length}
-use Rattle.blocking_core.specs.declared.unblock.PollCall.TheVariants.{Read}
+use Rattle.std.proofs.Common.{◌≡◌, length}
 use Rattle.blocking_core.specs.declared.unblock.State.TheVariants.{Idle}
 use Rattle.futures.specs.Task.{IsArmed, Keeps}
 use Rattle.blocking_unblock.specs.Owners.{IsAt, Reaches}
-use Rattle.blocking_unblock.specs.Polls.{Stands, IfWaits, KeepsFirst}
+use Rattle.blocking_unblock.specs.Polls.{Stands, KeepsFirst, KeepsOpen}
 use Rattle.blocking_unblock.proofs.unblock.Unblock.poll.Given as goal
 
 abbrev pub invariant-loop : goal.invariant-loop
 invariant-loop g l =
     (goal.iterator-loop g).can_next l.iterator' × (goal.iterator-loop g).is_finite l.iterator'
-    × Stands l.poll l.self.place
+    × Stands (IsArmed l.cx) l.poll l.self.place
     × Reaches l.initial.poll l.poll
     × (l.poll.call ≡ l.initial.poll.call)
-    × IfWaits l.poll.next (IsArmed l.cx)
+    × KeepsOpen l.initial.poll.call l.initial.poll.state l.poll.state
     × Keeps l.initial.cx l.cx
     × (length l.out ≡ length l.initial.out)
-    × ((most : ℕ) → l.initial.poll.call ≡ Read most → IsAt Idle l.initial.self.place
-    → KeepsFirst l.poll.next l.poll.is_at_end l.self.place l.initial.self.place)
+    × (IsAt Idle l.initial.self.place → KeepsFirst l.poll.call l.poll.next l.poll.is_at_end l.self.place l.initial.self.place)

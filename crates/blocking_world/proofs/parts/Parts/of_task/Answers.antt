@@ -5,14 +5,13 @@ use Rattle.blocking_laws.specs.declared.step.Step.TheVariants.{OfTask}
 use Rattle.blocking_world.specs.Moves.{may_call_in}
 use Rattle.blocking_world.specs.Worlds.{Parts}
 use Rattle.blocking_world.specs.contracts.parts.Parts.{the_view}
-use Rattle.blocking_world.proofs.moves.Calls.{called_within, let_go_moved, tell_moved}
-use Rattle.blocking_world.proofs.moves.Crew.{idled}
+use Rattle.blocking_world.proofs.moves.Steps.{idles, called_within, let_go_moves, tell_moves}
 use Rattle.blocking_world.proofs.parts.Parts.of_task.Goals as goal
 
 pub returns-then-not-may : goal.returns-then-not-may
 returns-then-not-may c =
     let none = ap (λ (p : Parts). may_call_in (slice_get p.tasks c.args.number) c.args.call) c.self.view_is ∙ sym c.if-not-may.ensures in
-    rw (sym c.self.view_is) (idled NeverAsked (the_view c.self.inside) (OfTask c.args.number c.args.call) c.nothing.result c.self.inside.crew none c.nothing.ensures.event refl)
+    rw (sym c.self.view_is) (idles NeverAsked (the_view c.self.inside) (OfTask c.args.number c.args.call) _ c.nothing.result refl none c.nothing.ensures.event)
 
 pub index_mut-task-requires : goal.index_mut-task-requires
 index_mut-task-requires c =
@@ -25,12 +24,12 @@ pub returns-in-Cancel : goal.returns-in-Cancel
 returns-in-Cancel c =
     let some = ap (λ (p : Parts). may_call_in (slice_get p.tasks c.args.number) c.args.call) c.self.view_is ∙ sym c.if-not-may.ensures in
     rw (sym c.self.view_is)
-    (let_go_moved (the_view c.self.inside) c.args.number c.args.call c.index_mut-task.result.now c.call-act.new.self c.call-act.result c.number.result c.let_go.result c.let_go.new.self
+    (let_go_moves (the_view c.self.inside) c.args.number c.args.call c.index_mut-task.result.now c.call-act.new.self c.call-act.result c.number.result c.let_go.result c.let_go.new.self
     c.in-Cancel.is some c.index_mut-task.ensures.value c.call-act.ensures.act c.call-act.ensures.after c.number.ensures c.let_go.ensures)
 
 pub returns-in-Poll : goal.returns-in-Poll
 returns-in-Poll c =
     let some = ap (λ (p : Parts). may_call_in (slice_get p.tasks c.args.number) c.args.call) c.self.view_is ∙ sym c.if-not-may.ensures in
     rw (sym c.self.view_is)
-    (tell_moved (the_view c.self.inside) c.args.number c.args.call c.index_mut-task.result.now c.call-act.new.self c.call-act.result c.tell.result
+    (tell_moves (the_view c.self.inside) c.args.number c.args.call c.index_mut-task.result.now c.call-act.new.self c.call-act.result c.tell.result
     c.in-Poll.is some c.index_mut-task.ensures.value c.call-act.ensures.act c.call-act.ensures.after c.tell.ensures)

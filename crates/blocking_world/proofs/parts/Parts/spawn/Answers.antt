@@ -1,9 +1,9 @@
-use Rattle.std.proofs.Common.{◌≡◌, ◌++◌, ◌∷◌, [], List, length, Result, is_ok, true, if◌then◌else◌, arith, ap, sym, subst, ◌∙◌}
+use Rattle.std.proofs.Common.{◌≡◌, ◌++◌, ◌∷◌, [], length, arith, ap, sym, subst, ◌∙◌}
 use Rattle.blocking_laws.specs.declared.step.Step.TheVariants.{Spawn}
-use Rattle.blocking_world.specs.Moves.{Moves}
+use Rattle.blocking_world.specs.Moves.{Moves, rows_after_add, tasks_after_add}
 use Rattle.blocking_world.specs.Rows.{new_row}
 use Rattle.blocking_world.specs.contracts.parts.Parts.{the_view}
-use Rattle.blocking_world.proofs.moves.Calls.{spawn_accepted, spawn_refused, put_last}
+use Rattle.blocking_world.proofs.moves.Steps.{begun, put_last}
 use Rattle.blocking_world.proofs.parts.Parts.spawn.Goals as goal
 use Rattle.blocking_world.proofs.parts.Parts.spawn.Goals.{in-Ok, in-Err}
 
@@ -23,8 +23,10 @@ returns-clause-ok g c =
           let many : b.len.result ≡ length w.tasks = omega (arith, told, is_length, same) in
           let rows = put_last b.push.result w.rows c.reserve.new.self.items b.push.new.self.items b.new.result kept_rows (b.push.ensures.succeeds (omega (arith, room_rows))) b.push.ensures.items in
           let tasks = put_last b.push-in-Ok.result w.tasks c.reserve-2.new.self.items b.push-in-Ok.new.self.items b.new-in-Ok.result kept_tasks (b.push-in-Ok.ensures.succeeds (omega (arith, room_tasks))) b.push-in-Ok.ensures.items in
-          subst (Moves may_answer Spawn w c.add-added.result.event) (sym b.self-is) (spawn_accepted may_answer w c.add-added.result.number b.in-Ok.number b.new.result b.new-in-Ok.result b.push.new.self.items b.push-in-Ok.new.self.items c.add-added.result.event c.add-added.new.self
-          b.in-Ok.is c.add-added.ensures (b.new.ensures ∙ ap (new_row b.in-Ok.number) many) b.new-in-Ok.ensures rows tasks))
-      | in-Err b ↦ subst (Moves may_answer Spawn w c.add-added.result.event) (sym b.self-is) (spawn_refused may_answer w c.add-added.result.number b.in-Err._why c.reserve.new.self.items c.reserve-2.new.self.items c.add-added.result.event c.add-added.new.self b.in-Err.is c.add-added.ensures kept_rows kept_tasks)
+          subst (Moves may_answer Spawn w c.add-added.result.event) (sym b.self-is) (begun may_answer w c.add-added.result.number b.push.new.self.items b.push-in-Ok.new.self.items c.add-added.result.event c.add-added.new.self c.add-added.ensures
+          (rows ∙ ap (λ row. w.rows ++ row ∷ []) (b.new.ensures ∙ ap (new_row b.in-Ok.number) many) ∙ sym (ap (rows_after_add w.rows (length w.tasks)) b.in-Ok.is))
+          (tasks ∙ ap (λ task. w.tasks ++ task ∷ []) b.new-in-Ok.ensures ∙ sym (ap (tasks_after_add w.tasks) b.in-Ok.is))))
+      | in-Err b ↦ subst (Moves may_answer Spawn w c.add-added.result.event) (sym b.self-is) (begun may_answer w c.add-added.result.number c.reserve.new.self.items c.reserve-2.new.self.items c.add-added.result.event c.add-added.new.self c.add-added.ensures
+          (kept_rows ∙ sym (ap (rows_after_add w.rows (length w.tasks)) b.in-Err.is)) (kept_tasks ∙ sym (ap (tasks_after_add w.tasks) b.in-Err.is)))
     ] in
     rw (sym c.self.view_is) done

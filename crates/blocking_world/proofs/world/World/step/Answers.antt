@@ -6,8 +6,7 @@ use Rattle.blocking_world.specs.Ties.{IsLawful}
 use Rattle.blocking_laws.specs.declared.event.Event.{Event}
 use Rattle.blocking_laws.specs.declared.event.Moment.{Moment}
 use Rattle.blocking_laws.specs.declared.step.Step.{Step}
-use Rattle.blocking_world.proofs.laws.Whole.{stays_lawful, same_setting}
-use Rattle.blocking_world.proofs.laws.Bare.{bare}
+use Rattle.blocking_world.proofs.laws.Whole.{stays_lawful, same_setting, bare}
 use Rattle.blocking_world.proofs.world.World.step.Goals as goal
 
 put_at_end : {A B : Type 0} (r : Result A B) (old between new : List Moment) (moment : Moment) → between ≡ old → is_ok r ≡ true
@@ -22,7 +21,7 @@ does c = subst (λ plan. Moves (IsPlanned plan) c.args.step.now c.self.inside.pa
 -- what is seen of it carries no bytes
 pub twin_of-twin-requires : goal.twin_of-twin-requires
 twin_of-twin-requires c =
-    bare (IsPlanned c.self.inside.plan.items) c.args.step.now c.self.inside.parts c.in_ok-event.event c.step_with.new.parts
+    bare c.self.inside.parts.crew.pool.counts.setting c.self.inside.plan.items c.self.inside.parts (reverse c.self.inside.trace.items) c.self.invariant c.step_with.new.parts c.in_ok-event.event c.args.step.now
     (subst (λ plan. Moves (IsPlanned plan) c.args.step.now c.self.inside.parts c.in_ok-event.event c.step_with.new.parts) c.deref.ensures.value c.in_ok-event.ensures.ok)
 
 -- the moment stands at the end of the trace
@@ -48,7 +47,7 @@ invariant_of-self-2 c =
     subst (λ setting. IsLawful setting c.self.inside.plan.items c.step_with.new.parts (reverse c.push.new.self.items)) (sym (kept c))
     (subst (λ past. IsLawful c.self.inside.parts.crew.pool.counts.setting c.self.inside.plan.items c.step_with.new.parts past) (sym (newest c))
     (stays_lawful c.self.inside.parts.crew.pool.counts.setting c.self.inside.plan.items c.self.inside.parts (reverse c.self.inside.trace.items) c.self.invariant c.step_with.new.parts
-    c.args.step.now c.in_ok-event.event (does c)))
+    c.in_ok-event.event c.args.step.now (does c)))
 
 -- one moment more was seen
 pub returns-clause-ok : goal.returns-clause-ok

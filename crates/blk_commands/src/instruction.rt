@@ -1,0 +1,184 @@
+//! The instructions that words are.
+ghost use Rattle.std.specs.Prelude.{◌≡◌, IfOk, map};
+ghost use Rattle.blk_commands.specs.Instructions.{actor_named, answer_of, call_of, instruction_of, longer_call, longer_instruction, longer_step, numbered_step, plain_call, plain_step, task_call, words_of};
+
+use crate::bytes::bytes_of;
+use crate::number::{count, number};
+use blocking_laws::HandleCall;
+use blocking_world::{Answer, Step, TaskCall};
+use std::alloc::{AllocError, Global};
+
+/// An instruction: what a line has the script do.
+#[derive(Debug, Drop)]
+pub enum Instruction {
+    /// One step.
+    One(Step),
+    /// The next action of this actor, and then again while it has one.
+    AllOf(Actor),
+}
+
+/// Who acts by itself, action by action.
+#[derive(Clone, Copy, Debug, PartialEq, Eq)]
+pub enum Actor {
+    /// The job of the worker of this number, from 1. Its answers and the end of its turn are no actions of its own.
+    JobOf(usize),
+    /// The poll of the owner of this number, from 0.
+    PollOf(usize),
+}
+
+/// The instruction in a line, by its words; None where they are none. Err where there is no memory for words or bytes.
+pub(crate) fn instruction_in(alloc: Global, line: &str) -> Result<Option<Instruction>, AllocError>
+    ensures { IfOk result (λ instruction. instruction ≡ instruction_of (words_of line.now)) }
+{
+    let words: Vec<&str> = line.split(' ').collect(alloc)?;
+    instruction_of(alloc, words.as_slice())
+}
+
+// The instruction that words are.
+fn instruction_of(alloc: Global, words: &[&str]) -> Result<Option<Instruction>, AllocError>
+    ensures { IfOk result (λ instruction.
+        instruction ≡ instruction_of (map (λ word. word.now) words.now)) }
+{
+    match *words {
+        [name] => Ok(plain_step(name).map(Instruction::One)),
+        [name, word] => Ok(numbered_step(name, word).map(Instruction::One)),
+        [name, word, what] => Ok(longer_instruction(name, word, what)),
+        [name, word, what, value] => {
+            let step = longer_step(alloc, name, word, what, value)?;
+            Ok(step.map(Instruction::One))
+        }
+        _ => Ok(None),
+    }
+}
+
+// The step that one word asks for.
+fn plain_step(name: &str) -> Option<Step>
+    ensures { result ≡ plain_step name.now }
+{
+    match name {
+        "spawn" => Some(Step::Spawn),
+        "arrive" => Some(Step::Arrive),
+        "sweep" => Some(Step::Sweep),
+        _ => None,
+    }
+}
+
+// The step that a word and a number ask for.
+fn numbered_step(name: &str, word: &str) -> Option<Step>
+    ensures { result ≡ numbered_step name.now word.now }
+{
+    match name {
+        "new" => count(word).map(Step::New),
+        "own" => count(word).map(Step::Own),
+        "drop" => count(word).map(Step::DropOwner),
+        "take" => count(word).map(Step::Take),
+        "job" => count(word).map(Step::Job),
+        "end" => count(word).map(Step::End),
+        "wait" => count(word).map(Step::Wait),
+        "late" => count(word).map(Step::Late),
+        "limit" => count(word).map(Step::SetLimit),
+        "stray" => number(word).map(Step::Stray),
+        "strike" => number(word).map(Step::Strike),
+        _ => None,
+    }
+}
+
+// The instruction that three words are: all the actions of an actor, or a call of a task or of an owner.
+fn longer_instruction(name: &str, word: &str, what: &str) -> Option<Instruction>
+    ensures { result ≡ longer_instruction name.now word.now what.now }
+{
+    if what == "*" {
+        return actor_named(name, word).map(Instruction::AllOf);
+    }
+    call_of(name, word, what).map(Instruction::One)
+}
+
+// The actor that a word and a number name.
+fn actor_named(name: &str, word: &str) -> Option<Actor>
+    ensures { result ≡ actor_named name.now word.now }
+{
+    match name {
+        "job" => count(word).map(Actor::JobOf),
+        "own" => count(word).map(Actor::PollOf),
+        _ => None,
+    }
+}
+
+// The call of the task or the owner of this number that three words ask for.
+fn call_of(name: &str, word: &str, what: &str) -> Option<Step>
+    ensures { result ≡ call_of name.now word.now what.now }
+{
+    match name {
+        "task" => Some(Step::OfTask(count(word)?, task_call(what)?)),
+        "ask" => Some(Step::Ask(count(word)?, plain_call(what)?)),
+        _ => None,
+    }
+}
+
+// The call of a task that has this name.
+fn task_call(name: &str) -> Option<TaskCall>
+    ensures { result ≡ task_call name.now }
+{
+    match name {
+        "poll" => Some(TaskCall::Poll),
+        "cancel" => Some(TaskCall::Cancel),
+        "detach" => Some(TaskCall::Detach),
+        "drop" => Some(TaskCall::Drop),
+        _ => None,
+    }
+}
+
+// The call of an owner that one word asks for.
+fn plain_call(name: &str) -> Option<HandleCall>
+    ensures { result ≡ plain_call name.now }
+{
+    match name {
+        "mut" => Some(HandleCall::GetMut),
+        _ => None,
+    }
+}
+
+// The step that four words ask for: a call of an owner, or an answer to a worker's job.
+fn longer_step(
+    alloc: Global,
+    name: &str,
+    word: &str,
+    what: &str,
+    value: &str,
+) -> Result<Option<Step>, AllocError>
+    ensures { IfOk result (λ step. step ≡ longer_step name.now word.now what.now value.now) }
+{
+    let Some(party) = count(word) else {
+        return Ok(None);
+    };
+    match name {
+        "ask" => Ok(longer_call(what, value).map(|call| Step::Ask(party, call))),
+        "io" => {
+            let answer = answer_of(alloc, what, value)?;
+            Ok(answer.map(|answer| Step::Io(party, answer)))
+        }
+        _ => Ok(None),
+    }
+}
+
+// The call of an owner that two words ask for.
+fn longer_call(name: &str, word: &str) -> Option<HandleCall>
+    ensures { result ≡ longer_call name.now word.now }
+{
+    match name {
+        "read" => number(word).map(HandleCall::Read),
+        _ => None,
+    }
+}
+
+// The answer that a word of its kind and its value say.
+fn answer_of(alloc: Global, kind: &str, value: &str) -> Result<Option<Answer>, AllocError>
+    ensures { IfOk result (λ answer. answer ≡ answer_of kind.now value.now) }
+{
+    match kind {
+        "n" => Ok(number(value).map(Answer::Number)),
+        "b" => Ok(bytes_of(alloc, value)?.map(Answer::Gave)),
+        "fault" => Ok(number(value).map(Answer::Failed)),
+        _ => Ok(None),
+    }
+}

@@ -1,0 +1,5 @@
+//! The worked rows of handles that are lent, on the machines over a pipe and a slot.
+mod bench;
+mod faults;
+mod reading;
+mod writing;

@@ -1,0 +1,12 @@
+pub mod Reads
+pub mod Sessions
+pub mod Takes
+pub mod Cuts
+pub mod Own
+pub mod Pooled
+pub mod OfJob
+pub mod Steps
+pub mod Plain
+pub mod Wakes
+pub mod Actions
+pub mod Owners

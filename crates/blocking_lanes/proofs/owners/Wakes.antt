@@ -1,0 +1,178 @@
+-- An owner that waits for a job at rest was woken, or wakes the job.
+use Rattle.std.proofs.Common.{◌≡◌, ℕ, List, [], ◌∷◌, length, Bool, true, false, refl, sym, ap, ◌∙◌, subst, arith, Option, Some, None, ⊎_elim, inl, inr}
+use Rattle.std.specs.Prelude.{◌||◌, ◌⊎◌, is_some, is_none}
+use Rattle.std.proofs.lemmas.Bool.{or_left, or_right, eq-eqb}
+use Rattle.blocking_core.specs.Places.{drain}
+use Rattle.blocking_core.specs.Pipes.{room}
+use Rattle.blocking_core.specs.Slots.{Content, Empty, Full, GivenUp, Abandoned}
+use Rattle.blocking_core.specs.declared.io.Fault.{Fault}
+use Rattle.blocking_laws.specs.JobTable.{Reading, JobAction, FindRoom, next_but_wake, fault, has_finished, has_given_up, has_closed}
+use Rattle.std.specs.Prelude.{not}
+use Rattle.blocking_laws.specs.OwnerLaws.{OwnerActs, Polls}
+use Rattle.blocking_laws.specs.OwnerSeats.{is_job_seated, job_seated_by, note_of, noted}
+use Rattle.blocking_laws.specs.OwnerTable.{OwnerAction, CloseOwn, Drain, PollSlot, Say, next_of_owner}
+use Rattle.blocking_laws.specs.Passed.{inside, last_job}
+use Rattle.blocking_laws.specs.Places.{seen_drain, poll_slot}
+use Rattle.blocking_pool.specs.declared.pool.answer.Woke.{Woke}
+use Rattle.blocking_laws.specs.OwnerWakes.{IsSessionOf, is_waking, is_waking_by}
+use Rattle.blocking_laws.specs.Seen.{own, acts_of, is_this}
+use Rattle.blocking_laws.specs.Sessions.{last_session, session, is_dropped}
+use Rattle.blocking_laws.specs.Sessions as sessions
+use Rattle.blocking_laws.specs.Wakes.{is_waiting, was_woken}
+use Rattle.blocking_laws.specs.declared.event.Act.{Act}
+use Rattle.blocking_laws.specs.declared.event.Act.TheVariants.{Accepted, JobWoken, OwnerClosed, Got, Waits, Back, JobParked}
+use Rattle.blocking_laws.specs.declared.event.Event.{Event}
+use Rattle.blocking_lanes.specs.Owners.{Owner, capacity_of}
+use Rattle.blocking_lanes.specs.OwnerTies.{OwnerAs, LastAs, SlotAs, PassedAs, passed_by, is_finding, seat_of, is_seated}
+use Rattle.blocking_lanes.specs.Sessions.{Session}
+
+-- the session that isn't over is the last one
+pub session_is_last : (acts : List Act) (r : sessions.Session) → session acts ≡ Some r → last_session acts ≡ Some r
+session_is_last [] r e = absurd (cc)
+session_is_last (Back ∷ past) r e = absurd (cc)
+session_is_last (Accepted s ∷ past) r e = e
+session_is_last (_ ∷ past) r e = session_is_last past r e
+
+finds_room : (a : JobAction) → is_finding a ≡ true → a ≡ FindRoom
+finds_room FindRoom e = refl
+finds_room _ e = absurd (cc)
+
+module _ (s : Session) (capacity : ℕ) (cut : List Event) (t : LastAs (Some s) capacity cut) where
+  abbrev works : List Act
+  works = acts_of s.number.serial cut
+
+  -- a job that finished has closed its end of the pipe, and left the handle in the slot
+  full_slot : (content : Content (Option (Fault ℕ))) (finished given_up back : Bool) (why : Option (Fault ℕ)) → SlotAs content finished given_up back why → finished ≡ true → back ≡ false → content ≡ Empty → ⊥
+  full_slot Empty finished given_up back why slot done lent empty = let same = slot.0 in cc
+  full_slot (Full found) finished given_up back why slot done lent empty = cc
+  full_slot GivenUp finished given_up back why slot done lent empty = cc
+  full_slot (Abandoned over) finished given_up back why slot done lent empty = cc
+
+  -- Who sits in a seat doesn't wait for a job that finished.
+  not_finished : is_none (session (own cut)) ≡ false → has_given_up works ≡ false → has_finished works ≡ true → is_seated (Some s) ≡ true → ⊥
+  not_finished lent stays done sits = at (is_some s.pipe.owner_seat) refl sits
+    where
+      at : (b : Bool) → is_some s.pipe.owner_seat ≡ b → b || is_some s.slot.seat ≡ true → ⊥
+      at true seat sits = (let given_up = t.flow.unclosed (sym t.result.over_is ∙ or_left (has_finished works) (has_given_up works) done) (t.seats.reason.owner seat).1 in cc)
+      at false seat sits =
+          full_slot s.slot.content (has_finished works) (has_given_up works) (is_none (session (own cut))) (fault works) t.result.slot done lent (t.seats.reason.slot sits).0
+
+  -- Who sits in a seat doesn't wait for a job that sits in its own.
+  not_seated : has_given_up works ≡ false → is_job_seated cut ≡ true → is_seated (Some s) ≡ true → ⊥
+  not_seated stays job sits = at (is_some s.pipe.owner_seat) refl sits
+    where
+      there : is_some s.pipe.job_seat ≡ true
+      there = ap is_some (t.seats.job ∙ ap (λ b. seat_of b s.number) job)
+
+      lasts : s.pipe.is_job_open ≡ true
+      lasts =
+          let finding : is_finding (next_but_wake Reading works) ≡ true = without (is_finding (next_but_wake Reading works)) (has_given_up works) stays (t.seats.reason.job there).0 in
+          (subst (λ a. PassedAs a (room s.pipe) s.pipe.is_job_open (sessions.is_shut (own cut) || has_given_up works) (passed_by works)) (finds_room (next_but_wake Reading works) finding) t.flow.passed_is).0
+        where
+          without : (a b : Bool) → b ≡ false → a || b ≡ true → a ≡ true
+          without true b none e = refl
+          without false b none e = absurd (cc)
+
+      at : (b : Bool) → is_some s.pipe.owner_seat ≡ b → b || is_some s.slot.seat ≡ true → ⊥
+      at true seat sits =
+          let full = (t.seats.reason.job there).1 in
+          let empty = ap (λ (l : List ℕ). length l) (t.seats.reason.owner seat).0 in
+          let holds = t.lent.holds in
+          let some = t.lent.some in
+          absurd (omega (arith, full, empty, holds, some))
+      at false seat sits =
+          ⊎_elim (λ shut. (let open_is = (t.seats.reason.job there).2 in cc)) (λ closed. (let open_is = lasts in cc)) (t.seats.reason.slot sits).1
+
+-- An owner that waits in a session whose job is over, or sits in its own seat, was woken.
+pub not_lost : (owner : Owner) (cut : List Event) → OwnerAs owner cut → (s : ℕ) → IsSessionOf (session (own cut)) s → is_waiting (own cut) ≡ true
+    → (has_finished (acts_of s cut) || has_given_up (acts_of s cut) ≡ true) ⊎ (is_job_seated cut ≡ true) → was_woken cut ≡ true
+not_lost owner cut t s of waits rests =
+    ⊎_elim (λ woken. woken) (λ sits. absurd (lost owner.session t.last (session (own cut)) refl of sits)) (t.told waits).1
+  where
+    there : is_dropped (own cut) ≡ false
+    there = t.gone ∙ (t.told waits).0
+
+    stays : (works : List Act) → (has_given_up works ≡ true → is_dropped (own cut) ≡ true) → (b : Bool) → has_given_up works ≡ b → has_given_up works ≡ false
+    stays works let_go true is = absurd (let gone = let_go is in let here = there in cc)
+    stays works let_go false is = is
+
+    only : (a b : Bool) → b ≡ false → a || b ≡ true → a ≡ true
+    only true b none e = refl
+    only false b none e = absurd (cc)
+
+    lost : (last : Option Session) → LastAs last (capacity_of owner) cut → (r : Option sessions.Session) → session (own cut) ≡ r → IsSessionOf r s → is_seated last ≡ true → ⊥
+    lost None l r is of sits = cc
+    lost (Some held) l None is of sits = of
+    lost (Some held) l (Some r) is of sits =
+        let begun : Some r ≡ Some (record { serial = held.number.serial; kind = Reading }) = sym (session_is_last (own cut) r is) ∙ l.lent.begun in
+        let same : held.number.serial ≡ s = sym (ap (serial_in s) begun) ∙ of in
+        let works = acts_of held.number.serial cut in
+        let goes = stays works l.result.let_go (has_given_up works) refl in
+        ⊎_elim
+        (λ over. not_finished held (capacity_of owner) cut l (ap is_none is) goes
+        (only (has_finished works) (has_given_up works) goes (subst (λ n. has_finished (acts_of n cut) || has_given_up (acts_of n cut) ≡ true) (sym same) over)) sits)
+        (λ seated. not_seated held (capacity_of owner) cut l goes seated sits) rests
+      where
+        serial_in : ℕ → Option sessions.Session → ℕ
+        serial_in n None = n
+        serial_in n (Some r) = r.serial
+
+-- ---- a job that is seated stays so, or its wake is under way
+
+-- the job is seated, or a wake of it is under way
+abbrev pub IsTold : ℕ → List Event → Type 0
+IsTold s cut = (is_job_seated cut ≡ true) ⊎ (is_waking s (own cut) ≡ true)
+
+drain_told : (n : ℕ) (items : List ℕ) (lasts : Bool) (seat told : Option ℕ) (bytes : List ℕ) → Got bytes told ≡ seen_drain (drain n items lasts seat) → told ≡ seat
+drain_told n [] true seat told bytes e = absurd (cc)
+drain_told n [] false seat told bytes e = absurd (cc)
+drain_told n (x ∷ xs) lasts seat told bytes e = cc
+
+not_drained : (n : ℕ) (items : List ℕ) (lasts : Bool) (seat told : Option ℕ) → OwnerClosed told ≡ seen_drain (drain n items lasts seat) → ⊥
+not_drained n [] true seat told e = cc
+not_drained n [] false seat told e = cc
+not_drained n (x ∷ xs) lasts seat told e = cc
+
+not_looked : (act : Act) (b : Bool) → (act ≡ Back → ⊥) → (act ≡ Waits → ⊥) → act ≡ poll_slot b → ⊥
+not_looked act true back waits e = back e
+not_looked act false back waits e = waits e
+
+-- an act that takes a note takes that of the job which is seated
+got_told : (cut : List Event) (action : OwnerAction) (bytes : List ℕ) (told : Option ℕ) → Polls cut action (Got bytes told) → told ≡ noted cut
+got_told cut (Drain n) bytes told law = drain_told n (inside cut) (not (has_closed (last_job cut))) (noted cut) told bytes law
+got_told cut PollSlot bytes told law = absurd (not_looked (Got bytes told) (has_finished (last_job cut)) (λ e. cc) (λ e. cc) law)
+got_told cut CloseOwn bytes told law = absurd (cc)
+got_told cut (Say reply) bytes told law = absurd (cc)
+got_told cut _ bytes told law = absurd law
+
+closed_told : (cut : List Event) (action : OwnerAction) (told : Option ℕ) → Polls cut action (OwnerClosed told) → told ≡ noted cut
+closed_told cut (Drain n) told law = absurd (not_drained n (inside cut) (not (has_closed (last_job cut))) (noted cut) told law)
+closed_told cut PollSlot told law = absurd (not_looked (OwnerClosed told) (has_finished (last_job cut)) (λ e. cc) (λ e. cc) law)
+closed_told cut CloseOwn told law = cc
+closed_told cut (Say reply) told law = absurd (cc)
+closed_told cut _ told law = absurd law
+
+-- Whatever its owner does, but for beginning anew or delivering a note, a job that is seated stays so, or its wake is under way.
+pub stays_told : (cut : List Event) (act : Act) (r : sessions.Session) → OwnerActs cut act → last_session (own cut) ≡ Some r → ((s : ℕ) → act ≡ Accepted s → ⊥)
+    → ((s : ℕ) (woke : Woke) → act ≡ JobWoken s woke → ⊥) → IsTold r.serial cut
+    → (job_seated_by act (is_job_seated cut) ≡ true) ⊎ (is_waking r.serial (act ∷ own cut) ≡ true)
+stays_told cut act r law begun new wakes (inr waking) = inr (still act wakes)
+  where
+    still : (act : Act) → ((s : ℕ) (woke : Woke) → act ≡ JobWoken s woke → ⊥) → is_waking r.serial (act ∷ own cut) ≡ true
+    still (JobWoken s woke) none = absurd (none s woke refl)
+    still (Got bytes told) none = or_right (is_this r.serial told) (is_waking r.serial (own cut)) waking
+    still (OwnerClosed told) none = or_right (is_this r.serial told) (is_waking r.serial (own cut)) waking
+    still _ none = waking
+stays_told cut act r law begun new wakes (inl seated) = by_act act law new
+  where
+    taken : (told : Option ℕ) → told ≡ noted cut → is_waking_by r.serial (OwnerClosed told) (is_waking r.serial (own cut)) ≡ true
+    taken told e =
+        let its : told ≡ Some r.serial = e ∙ ap (λ l. note_of l (is_job_seated cut)) begun ∙ ap (note_of (Some r)) seated in
+        or_left (is_this r.serial told) (is_waking r.serial (own cut)) (ap (is_this r.serial) its ∙ eq-eqb r.serial r.serial refl)
+
+    by_act : (act : Act) → OwnerActs cut act → ((s : ℕ) → act ≡ Accepted s → ⊥) → (job_seated_by act (is_job_seated cut) ≡ true) ⊎ (is_waking r.serial (act ∷ own cut) ≡ true)
+    by_act (Accepted s) law none = absurd (none s refl)
+    by_act (Got bytes told) law none = inr (taken told (got_told cut (next_of_owner cut) bytes told law))
+    by_act (OwnerClosed told) law none = inr (taken told (closed_told cut (next_of_owner cut) told law))
+    by_act JobParked law none = inl refl
+    by_act _ law none = inl seated

@@ -1,0 +1,312 @@
+-- The machine of an owner who reads, as contracts see it, and what each call of the owner and each act of its job does to it.
+use Rattle.std.specs.Prelude.{◌≡◌, ℕ, ◌==◌, if◌then◌else◌, Bool, true, false, List, length, Option, Some, None, is_some}
+use Rattle.blocking_core.specs.OwnerCalls.{OwnerMachine, new_poll, owner_next, owner_after}
+use Rattle.blocking_core.specs.Pipes.{Pipe}
+use Rattle.blocking_core.specs.Places.{Met, Served, Waiting, Closed}
+use Rattle.blocking_core.specs.Reading.{read_next}
+use Rattle.blocking_core.specs.Slots.{Content, Empty, Full, GivenUp, Abandoned, empty_slot}
+use Rattle.blocking_core.specs.declared.io.Fault.{Fault}
+use Rattle.blocking_core.specs.declared.job.read.ReadAction.{ReadAction}
+use Rattle.blocking_core.specs.declared.job.read.ReadAction.TheVariants as read
+use Rattle.blocking_core.specs.declared.job.read.ReadAnswer.TheVariants as job_by
+use Rattle.blocking_core.specs.declared.unblock.OwnerAction.{OwnerAction}
+use Rattle.blocking_core.specs.declared.unblock.OwnerAction.TheVariants as action
+use Rattle.blocking_core.specs.declared.unblock.OwnerAnswer.TheVariants as by
+use Rattle.blocking_core.specs.declared.unblock.PollCall.{PollCall}
+use Rattle.blocking_core.specs.declared.unblock.PollCall.TheVariants as poll_call
+use Rattle.blocking_core.specs.declared.unblock.Reply.{Reply}
+use Rattle.blocking_core.specs.declared.unblock.Reply.TheVariants as reply
+use Rattle.blocking_core.specs.declared.unblock.State.TheVariants as state
+use Rattle.blocking_laws.specs.Sessions.{default_capacity}
+use Rattle.blocking_laws.specs.Seats.{waker_in}
+use Rattle.blocking_laws.specs.declared.event.Act.{Act}
+use Rattle.blocking_laws.specs.declared.event.Act.TheVariants.{OwnerClosed, Got, GotEnd, Waits, Back, Replied, GaveUp, HolderWoken}
+use Rattle.blocking_laws.specs.declared.event.Reply.{Reply as Told}
+use Rattle.blocking_laws.specs.declared.event.Reply.TheVariants as told
+use Rattle.blocking_laws.specs.declared.step.HandleCall.{HandleCall}
+use Rattle.blocking_laws.specs.declared.step.HandleCall.TheVariants as handle_call
+use Rattle.blocking_lanes.specs.Reads.{Progress, progress_with}
+use Rattle.blocking_lanes.specs.Sessions.{Session, Work, serial_of, drained, reach, session_after_close, session_after_drain, session_after_look, session_after_give_up, give_up_wakes, work_by}
+use Rattle.blocking_lanes.specs.declared.owner.OwnerNext.{OwnerNext}
+use Rattle.blocking_lanes.specs.declared.owner.OwnerNext.TheVariants.{Rests, Begins, Delivers, Acts}
+use Rattle.blocking_lanes.specs.declared.owner.OwnerStage.{OwnerStage}
+use Rattle.blocking_lanes.specs.declared.owner.OwnerStage.TheVariants as stage
+use Rattle.blocking_lanes.specs.declared.session.Found.{Found}
+use Rattle.blocking_lanes.specs.declared.session.Found.TheVariants as found
+use Rattle.blocking_lanes.specs.declared.session.Looked.{Looked}
+use Rattle.blocking_lanes.specs.declared.session.Looked.TheVariants as looked
+use Rattle.blocking_pool.specs.Jobs.{JobNumber}
+use Rattle.blocking_pool.specs.declared.pool.answer.Refusal.{Refusal}
+
+-- An owner: the number of bytes that it was made with, where it is in its polls, and its last session, if any.
+pub record Owner : Type 0 where
+  pub capacity : ℕ
+  pub stage : OwnerStage
+  pub session : Option Session
+
+-- an owner that was made with this number of bytes
+abbrev pub new_owner : ℕ → Owner
+new_owner capacity = record { capacity = capacity; stage = stage.Rests state.Idle; session = None }
+
+-- how many bytes the pipe of a session holds
+abbrev pub capacity_of : Owner → ℕ
+capacity_of owner = if owner.capacity == 0 then default_capacity else owner.capacity
+
+-- the number of the last session's job
+abbrev pub number_in : Option Session → Option JobNumber
+number_in None = None
+number_in (Some session) = Some session.number
+
+abbrev pub number_of : Owner → Option JobNumber
+number_of owner = number_in owner.session
+
+-- ---- polls
+
+-- a call, in the words of the machine
+abbrev pub poll_call_of : HandleCall → PollCall
+poll_call_of (handle_call.Read most) = poll_call.Read most
+poll_call_of handle_call.GetMut = poll_call.GetMut
+
+-- a reply, in the words of the laws, which know no other reply yet
+abbrev pub reply_as : Reply ℕ → Option Told
+reply_as (reply.Count count) = Some (told.Count count)
+reply_as reply.Handle = Some told.Handle
+reply_as (reply.Failed why) = Some (told.Failed why)
+reply_as _ = None
+
+-- whether it is there and no poll of it is under way
+abbrev pub is_resting : OwnerStage → Bool
+is_resting (stage.Rests at) = true
+is_resting _ = false
+
+abbrev pub rests : Owner → Bool
+rests owner = is_resting owner.stage
+
+-- whether it was dropped
+abbrev pub is_gone : OwnerStage → Bool
+is_gone stage.Dropped = true
+is_gone _ = false
+
+-- the note that it has to deliver
+abbrev pub note_at : OwnerStage → Option JobNumber
+note_at (stage.Wakes poll note) = Some note
+note_at _ = None
+
+-- where a poll goes on, first by a note that it took
+abbrev pub goes_on : OwnerMachine ℕ → Option JobNumber → OwnerStage
+goes_on poll None = stage.Polls poll
+goes_on poll (Some note) = stage.Wakes poll note
+
+-- how many bytes an act carries that drains the pipe of this session
+abbrev pub reach_in : ℕ → Option Session → ℕ
+reach_in most None = 0
+reach_in most (Some session) = reach most session
+
+-- what a poll does that is over with this reply
+abbrev pub next_to_say : Option Told → OwnerNext
+next_to_say None = Rests
+next_to_say (Some told) = Acts 0
+
+-- what a poll does whose machine does this next; what the laws know no word of yet it doesn't do
+abbrev pub next_by : OwnerAction ℕ → Option Session → OwnerNext
+next_by action.Begin session = Begins
+next_by (action.Drain most) session = Acts (reach_in most session)
+next_by action.Close session = Acts 0
+next_by action.PollSlot session = Acts 0
+next_by (action.Reply reply) session = next_to_say (reply_as reply)
+next_by _ session = Rests
+
+abbrev pub next_at : OwnerStage → Option Session → OwnerNext
+next_at (stage.Polls poll) session = next_by (owner_next poll) session
+next_at (stage.Wakes poll note) session = Delivers
+next_at _ session = Rests
+
+-- what its poll does next
+abbrev pub next_of : Owner → OwnerNext
+next_of owner = next_at owner.stage owner.session
+
+-- how many bytes its next act carries
+abbrev pub bytes_in : OwnerNext → ℕ
+bytes_in (Acts count) = count
+bytes_in _ = 0
+
+-- the owner after a poll of it began
+abbrev pub stage_after_ask : HandleCall → OwnerStage → OwnerStage
+stage_after_ask call (stage.Rests at) = stage.Polls (new_poll (poll_call_of call) at)
+stage_after_ask call at = at
+
+abbrev pub owner_after_ask : HandleCall → Owner → Owner
+owner_after_ask call owner = record owner { stage = stage_after_ask call owner.stage }
+
+-- ---- an act that asks no pool
+
+-- What is seen of an act, and what it leaves.
+pub record Did : Type 0 where
+  pub act : Act
+  pub owner : Owner
+
+-- what a drain finds, and a look into the slot
+abbrev pub found_as : Met (List ℕ × Option JobNumber) → Found
+found_as (Served got) = found.Bytes got.0 got.1
+found_as Waiting = found.Nothing
+found_as Closed = found.End
+
+abbrev pub looked_as : Content (Option (Fault ℕ)) → Looked
+looked_as Empty = looked.Nothing
+looked_as (Full why) = looked.Handle why
+looked_as GivenUp = looked.Gone
+looked_as (Abandoned true) = looked.Gone
+looked_as (Abandoned false) = looked.Nothing
+
+-- it closes its end of the pipe
+abbrev pub close_did : OwnerMachine ℕ → Session → Owner → Did
+close_did poll session owner = record {
+  act = OwnerClosed (serial_of session.pipe.job_seat);
+  owner = record owner {
+    stage = goes_on (owner_after poll (by.Closed (is_some session.pipe.job_seat))) session.pipe.job_seat;
+    session = Some (session_after_close session);
+  };
+}
+
+-- it drains the pipe, and finds this: a poll that waits is over
+abbrev pub drain_did : Met (List ℕ × Option JobNumber) → OwnerMachine ℕ → Session → Owner → Did
+drain_did (Served got) poll session owner = record {
+  act = Got got.0 (serial_of got.1);
+  owner = record owner {
+    stage = goes_on (owner_after poll (by.Got (length got.0) (is_some got.1))) got.1;
+    session = Some (session_after_drain (Served got) session);
+  };
+}
+drain_did Waiting poll session owner = record {
+  act = Waits;
+  owner = record owner { stage = stage.Rests poll.state; session = Some (session_after_drain Waiting session) };
+}
+drain_did Closed poll session owner = record {
+  act = GotEnd;
+  owner = record owner { stage = stage.Polls (owner_after poll by.Ended) };
+}
+
+-- it looks into the slot, and finds this; where the job gave up there is nothing to be found, and nothing is done
+abbrev pub look_did : Looked → OwnerMachine ℕ → Session → Owner → Option Did
+look_did (looked.Handle why) poll session owner =
+    Some (record { act = Back; owner = record owner { stage = stage.Polls (owner_after poll (by.Back why)); session = Some session } })
+look_did looked.Nothing poll session owner =
+    Some (record { act = Waits; owner = record owner { stage = stage.Rests poll.state; session = Some session } })
+look_did looked.Gone poll session owner = None
+
+-- it replies, and its poll is over; a reply that the laws know no word of yet is not told, and nothing is done
+abbrev pub reply_did : Option Told → OwnerMachine ℕ → Owner → Option Did
+reply_did (Some told) poll owner = Some (record { act = Replied told; owner = record owner { stage = stage.Rests poll.state } })
+reply_did None poll owner = None
+
+-- what its poll does next at its session
+abbrev pub did_at : OwnerAction ℕ → OwnerMachine ℕ → Session → Owner → Option Did
+did_at action.Close poll session owner = Some (close_did poll session owner)
+did_at (action.Drain most) poll session owner = Some (drain_did (drained (reach most session) session) poll session owner)
+did_at action.PollSlot poll session owner =
+    look_did (looked_as session.slot.content) poll (session_after_look session.slot.content session) owner
+did_at _ poll session owner = None
+
+abbrev pub did_in : OwnerAction ℕ → OwnerMachine ℕ → Option Session → Owner → Option Did
+did_in (action.Reply reply) poll session owner = reply_did (reply_as reply) poll owner
+did_in action poll None owner = None
+did_in action poll (Some session) owner = did_at action poll session owner
+
+abbrev pub did_by : OwnerStage → Owner → Option Did
+did_by (stage.Polls poll) owner = did_in (owner_next poll) poll owner.session owner
+did_by _ owner = None
+
+-- What its poll does next, where that asks no pool.
+abbrev pub did : Owner → Option Did
+did owner = did_by owner.stage owner
+
+-- the answer of a call by which an owner may act, and what it leaves: where it has no such act nothing changes
+abbrev pub IsDid : Option Did → Owner → Option Act → Owner → Type 0
+IsDid None owner seen new = (seen ≡ None) × (new ≡ owner)
+IsDid (Some done) owner seen new = (seen ≡ Some done.act) × (new ≡ done.owner)
+
+-- ---- what the pool answers
+
+-- the owner after a session began, with this job and this pipe
+abbrev pub after_begin : JobNumber → Pipe ℕ (Unit {0}) → OwnerStage → Owner → Owner
+after_begin number pipe (stage.Polls poll) owner = record owner {
+  stage = stage.Polls (owner_after poll by.Begun);
+  session = Some (record { number = number; pipe = pipe; slot = empty_slot });
+}
+after_begin number pipe _ owner = owner
+
+abbrev pub owner_after_begin : JobNumber → Pipe ℕ (Unit {0}) → Owner → Owner
+owner_after_begin number pipe owner = after_begin number pipe owner.stage owner
+
+-- after a session was refused
+abbrev pub stage_after_refusal : Refusal → OwnerStage → OwnerStage
+stage_after_refusal why (stage.Polls poll) = stage.Polls (owner_after poll (by.Refused why))
+stage_after_refusal why at = at
+
+abbrev pub owner_after_refusal : Refusal → Owner → Owner
+owner_after_refusal why owner = record owner { stage = stage_after_refusal why owner.stage }
+
+-- after its note was taken, to be delivered
+abbrev pub stage_after_delivery : OwnerStage → OwnerStage
+stage_after_delivery (stage.Wakes poll note) = stage.Polls (owner_after poll by.Delivered)
+stage_after_delivery at = at
+
+abbrev pub owner_after_delivery : Owner → Owner
+owner_after_delivery owner = record owner { stage = stage_after_delivery owner.stage }
+
+-- ---- it is dropped
+
+abbrev pub stage_after_drop : OwnerStage → OwnerStage
+stage_after_drop (stage.Rests at) = stage.Dropped
+stage_after_drop at = at
+
+abbrev pub owner_after_drop : Owner → Owner
+owner_after_drop owner = record owner { stage = stage_after_drop owner.stage }
+
+-- ---- its job acts
+
+-- What an act of the job is, and what it leaves of the job and of its owner.
+pub record Worked : Type 0 where
+  pub act : Act
+  pub job : Progress
+  pub owner : Owner
+
+-- an act of the job at its session
+abbrev pub worked_by : Option Work → Owner → Option Worked
+worked_by None owner = None
+worked_by (Some work) owner = Some (record { act = work.act; job = work.job; owner = record owner { session = Some work.session } })
+
+abbrev pub worked_in : ReadAction → Option Session → Progress → Owner → Option Worked
+worked_in next None job owner = None
+worked_in next (Some session) job owner = worked_by (work_by next job session) owner
+
+-- what a job does next: it calls the waker that it took, or meets its owner
+abbrev pub worked_as : ReadAction → Progress → Owner → Option Worked
+worked_as read.Deliver job owner = Some (record { act = HolderWoken; job = progress_with job job_by.Delivered; owner = owner })
+worked_as next job owner = worked_in next owner.session job owner
+
+-- What its job does next, where that is the job's own.
+abbrev pub worked : Progress → Owner → Option Worked
+worked job owner = worked_as (read_next job.core) job owner
+
+-- the answer of a call by which the job may act, and what it leaves: where it has no such act nothing changes
+abbrev pub IsWorked : Option Worked → Progress → Owner → Option Act → Progress → Owner → Type 0
+IsWorked None job owner seen new_job new_owner = (seen ≡ None) × (new_job ≡ job) × (new_owner ≡ owner)
+IsWorked (Some done) job owner seen new_job new_owner = (seen ≡ Some done.act) × (new_job ≡ done.job) × (new_owner ≡ done.owner)
+
+-- whether a job that gives up takes the owner's waker, and the session then: without one there is none to take
+abbrev pub giving_up_wakes : Option Session → Bool
+giving_up_wakes None = false
+giving_up_wakes (Some session) = give_up_wakes session
+
+abbrev pub without_job : Option Session → Option Session
+without_job None = None
+without_job (Some session) = Some (session_after_give_up session)
+
+-- what is seen of a job that gives up
+abbrev pub give_up_act : Owner → Act
+give_up_act owner = GaveUp (waker_in (giving_up_wakes owner.session))
+
+-- the owner after its job gave up
+abbrev pub owner_after_give_up : Owner → Owner
+owner_after_give_up owner = record owner { session = without_job owner.session }

@@ -1,0 +1,416 @@
+//! The machine of an owner who lends its handle to a job that reads ahead.
+ghost use Rattle.std.specs.Prelude.{◌≡◌, None};
+ghost use Rattle.blocking_core.specs.declared.unblock.OwnerAction.TheVariants as action;
+ghost use Rattle.blocking_lanes.specs.Sessions.{serial_of};
+ghost use Rattle.blocking_lanes.specs.Owners.{poll_call_of, reply_as};
+
+use crate::read::ReadProgress;
+use crate::session::{Found, Looked, Session};
+use blocking_core::job::ReadAction;
+use blocking_core::pipe::{BytePipe, DEFAULT_BYTES, Pipe};
+use blocking_core::pool::{JobNo, Refusal, WakeNote};
+use blocking_core::unblock::{OwnerAction, OwnerAnswer, OwnerCall, PollCall, Reply, State};
+use blocking_laws::event::{Act, HolderWaker, Reply as Told};
+use blocking_laws::step::HandleCall;
+use std::alloc::{AllocError, Global};
+use std::marker::Model;
+use std::mem;
+
+// Where an owner is in its polls.
+pub(crate) enum OwnerStage {
+    // No poll is under way, and the handle is there.
+    Rests(State),
+    // This poll is under way.
+    Polls(OwnerCall<u64>),
+    // This poll is under way, and has to spend this note first.
+    Wakes(OwnerCall<u64>, WakeNote),
+    // It was dropped.
+    Dropped,
+}
+
+/// What the poll of an owner does next.
+#[derive(Clone, Copy, Debug)]
+pub enum OwnerNext {
+    /// Nothing: no poll is under way.
+    Rests,
+    /// It begins a session, which the pool accepts or refuses.
+    Begins,
+    /// It delivers the note that it took, to the pool.
+    Delivers,
+    /// It acts by itself, and this many bytes come out of the pipe.
+    Acts(usize),
+}
+
+/// An owner: how many bytes the pipes of its sessions hold, where it is in its polls, and its last session. The wakers in its seats are
+/// told as units.
+///
+/// It may hold the note of a job that has to be woken, so it can't be let go: [`Owner::into_note`] takes it apart.
+pub struct Owner {
+    // (0 stands for the default)
+    capacity: usize,
+    stage: OwnerStage,
+    session: Option<Session>,
+}
+
+impl Model for Owner {
+    ghost use Rattle.blocking_lanes.specs.Owners.{Owner as Lane};
+
+    ghost Value = { Lane };
+
+    ghost view = { λ o. record { capacity = o.capacity; stage = o.stage; session = o.session } };
+}
+
+// The serial of the job that this note wakes.
+fn serial_of(note: &Option<WakeNote>) -> Option<u64>
+    ensures { result ≡ serial_of note.now }
+{
+    match note {
+        Some(note) => Some(note.job().serial()),
+        None => None,
+    }
+}
+
+// A call, in the words of the machine.
+fn poll_call(call: HandleCall) -> PollCall
+    ensures { result ≡ poll_call_of call }
+{
+    match call {
+        HandleCall::Read(most) => PollCall::Read(most as usize),
+        HandleCall::GetMut => PollCall::GetMut,
+    }
+}
+
+// A reply, as it is told. None where the laws know no such reply yet.
+fn told(reply: Reply<u64>) -> Option<Told>
+    ensures { result ≡ reply_as reply }
+{
+    match reply {
+        Reply::Count(count) => Some(Told::Count(count as u64)),
+        Reply::Handle => Some(Told::Handle),
+        Reply::Failed(why) => Some(Told::Failed(why)),
+        Reply::Done | Reply::Closed => None,
+    }
+}
+
+impl Owner {
+    ghost use Rattle.std.specs.Prelude.{vec_len, IfOk};
+    ghost use Rattle.blocking_core.specs.Pipes.{empty_pipe};
+    ghost use Rattle.blocking_lanes.specs.Owners.{new_owner, capacity_of, is_resting, is_gone, note_at, next_of, number_of, bytes_in, rests};
+    ghost use Rattle.blocking_lanes.specs.Owners.{owner_after_ask, did, did_in, reply_did, IsDid, goes_on, reach_in};
+    ghost use Rattle.blocking_lanes.specs.Owners.{owner_after_begin, owner_after_refusal, owner_after_delivery, owner_after_drop};
+    ghost use Rattle.blocking_lanes.specs.Owners.{worked, IsWorked, give_up_act, owner_after_give_up};
+
+    /// An owner, with an idle handle. The pipes of its sessions hold so many bytes; 0 stands for 8,388,608.
+    pub fn new(capacity: usize) -> Owner
+        ensures { result ≡ new_owner capacity }
+    {
+        Owner {
+            capacity,
+            stage: OwnerStage::Rests(State::Idle),
+            session: None,
+        }
+    }
+
+    /// An empty pipe for a session of this owner. Err where there is no memory for it.
+    pub fn pipe(&self, alloc: Global) -> Result<BytePipe<()>, AllocError>
+        ensures { IfOk result (λ pipe. pipe ≡ empty_pipe (capacity_of self.now)) }
+    {
+        let capacity = if self.capacity == 0 {
+            DEFAULT_BYTES
+        } else {
+            self.capacity
+        };
+        Pipe::new(alloc, capacity)
+    }
+
+    /// Whether it may be asked and dropped: it is there, and no poll of it is under way.
+    pub fn rests(&self) -> bool
+        ensures { result ≡ rests self.now }
+    {
+        matches!(self.stage, OwnerStage::Rests(_))
+    }
+
+    /// Whether it was dropped.
+    pub fn is_dropped(&self) -> bool
+        ensures { result ≡ is_gone self.now.stage }
+    {
+        matches!(self.stage, OwnerStage::Dropped)
+    }
+
+    /// The number of the job of its last session, if it ever had one.
+    pub fn number(&self) -> Option<JobNo>
+        ensures { result ≡ number_of self.now }
+    {
+        match &self.session {
+            Some(session) => Some(session.number()),
+            None => None,
+        }
+    }
+
+    /// What its poll does next.
+    pub fn next(&self) -> OwnerNext
+        ensures { result ≡ next_of self.now }
+    {
+        match &self.stage {
+            OwnerStage::Rests(_) | OwnerStage::Dropped => OwnerNext::Rests,
+            OwnerStage::Wakes(_, _) => OwnerNext::Delivers,
+            OwnerStage::Polls(poll) => match poll.next() {
+                OwnerAction::Begin => OwnerNext::Begins,
+                OwnerAction::Drain(most) => OwnerNext::Acts(self.reach(most)),
+                OwnerAction::Close | OwnerAction::PollSlot => OwnerNext::Acts(0),
+                OwnerAction::Reply(reply) => match told(reply) {
+                    Some(_) => OwnerNext::Acts(0),
+                    None => OwnerNext::Rests,
+                },
+                // (an owner who reads never fills a pipe nor drops its handle)
+                OwnerAction::Fill(_)
+                | OwnerAction::DropHandle
+                | OwnerAction::Deliver
+                | OwnerAction::Pending => OwnerNext::Rests,
+            },
+        }
+    }
+
+    // How many bytes come out where it wants at most so many.
+    fn reach(&self, most: usize) -> usize
+        ensures { result ≡ reach_in most self.now.session }
+    {
+        match &self.session {
+            Some(session) => session.reach(most),
+            None => 0,
+        }
+    }
+
+    /// A poll of it begins, and asks for this. Nothing is done where it doesn't rest.
+    pub fn ask(&mut self, call: HandleCall)
+        ensures { self.new ≡ owner_after_ask call self.old }
+    {
+        if let OwnerStage::Rests(state) = &self.stage {
+            let poll = OwnerCall::new(poll_call(call), *state);
+            self.turn(OwnerStage::Polls(poll));
+        }
+    }
+
+    // It is here in its polls from now on.
+    fn turn(&mut self, stage: OwnerStage)
+        requires { note_at self.old.stage ≡ None }
+        ensures { self.new ≡ record self.old { stage = stage } }
+    {
+        match mem::replace(&mut self.stage, stage) {
+            OwnerStage::Wakes(_poll, _note) => unreachable!(),
+            OwnerStage::Rests(_) | OwnerStage::Polls(_) | OwnerStage::Dropped => {}
+        }
+    }
+
+    // Its poll goes on, first by a note that it took.
+    fn go_on(&mut self, poll: OwnerCall<u64>, note: Option<WakeNote>)
+        requires { note_at self.old.stage ≡ None }
+        ensures { self.new ≡ record self.old { stage = goes_on poll note } }
+    {
+        self.turn(match note {
+            Some(note) => OwnerStage::Wakes(poll, note),
+            None => OwnerStage::Polls(poll),
+        });
+    }
+
+    /// Its poll takes its next action, where that asks no pool: what is seen of it. The bytes that come out of the pipe come out
+    /// in this room, which has to have the length that [`Owner::next`] tells. None, and no change, where it has no such action.
+    pub fn act(&mut self, room: Vec<u8>) -> Option<Act>
+        requires { vec_len room ≡ bytes_in (next_of self.old) }
+        ensures { IsDid (did self.old) self.old result self.new }
+    {
+        let OwnerStage::Polls(poll) = &self.stage else {
+            return None;
+        };
+        let poll = *poll;
+        match poll.next() {
+            OwnerAction::Close => self.close(poll),
+            OwnerAction::Drain(_) => self.drain(poll, room),
+            OwnerAction::PollSlot => self.look(poll),
+            OwnerAction::Reply(reply) => self.reply(poll, told(reply)),
+            OwnerAction::Begin
+            | OwnerAction::Fill(_)
+            | OwnerAction::DropHandle
+            | OwnerAction::Deliver
+            | OwnerAction::Pending => None,
+        }
+    }
+
+    // It replies, where there is something to be told.
+    fn reply(&mut self, poll: OwnerCall<u64>, told: Option<Told>) -> Option<Act>
+        requires { note_at self.old.stage ≡ None }
+        ensures { IsDid (reply_did told poll self.old) self.old result self.new }
+    {
+        let told = told?;
+        self.turn(OwnerStage::Rests(poll.state()));
+        Some(Act::Replied(told))
+    }
+
+    // It closes its end of the pipe.
+    fn close(&mut self, poll: OwnerCall<u64>) -> Option<Act>
+        requires { note_at self.old.stage ≡ None }
+        ensures { IsDid (did_in action.Close poll self.old.session self.old) self.old result self.new }
+    {
+        let Some(session) = &mut self.session else {
+            return None;
+        };
+        let note = session.close();
+        let serial = serial_of(&note);
+        let mut poll = poll;
+        poll.answer(OwnerAnswer::Closed {
+            has_note: serial.is_some(),
+        });
+        self.go_on(poll, note);
+        Some(Act::OwnerClosed(serial))
+    }
+
+    // It drains the pipe, out of which this many bytes come.
+    fn drain(&mut self, poll: OwnerCall<u64>, room: Vec<u8>) -> Option<Act>
+        requires awake { note_at self.old.stage ≡ None }
+        requires room { (most : _) × (vec_len room ≡ reach_in most self.old.session) }
+        ensures { (most : _) → vec_len room ≡ reach_in most self.old.session
+            → IsDid (did_in (action.Drain most) poll self.old.session self.old) self.old result self.new }
+    {
+        let Some(session) = &mut self.session else {
+            return None;
+        };
+        let mut poll = poll;
+        match session.drain(room) {
+            Found::Bytes(bytes, note) => {
+                let serial = serial_of(&note);
+                poll.answer(OwnerAnswer::Got {
+                    count: bytes.as_slice().len(),
+                    has_note: serial.is_some(),
+                });
+                self.go_on(poll, note);
+                Some(Act::Got(bytes, serial))
+            }
+            Found::End => {
+                poll.answer(OwnerAnswer::Ended);
+                self.turn(OwnerStage::Polls(poll));
+                Some(Act::GotEnd)
+            }
+            Found::Nothing => {
+                self.turn(OwnerStage::Rests(poll.state()));
+                Some(Act::Waits)
+            }
+        }
+    }
+
+    // It looks for the handle in the slot of its job.
+    fn look(&mut self, poll: OwnerCall<u64>) -> Option<Act>
+        requires { note_at self.old.stage ≡ None }
+        ensures { IsDid (did_in action.PollSlot poll self.old.session self.old) self.old result self.new }
+    {
+        let Some(session) = &mut self.session else {
+            return None;
+        };
+        match session.look() {
+            Looked::Handle(fault) => {
+                let mut poll = poll;
+                poll.answer(OwnerAnswer::Back(fault));
+                self.turn(OwnerStage::Polls(poll));
+                Some(Act::Back)
+            }
+            Looked::Nothing => {
+                self.turn(OwnerStage::Rests(poll.state()));
+                Some(Act::Waits)
+            }
+            Looked::Gone => None,
+        }
+    }
+
+    /// A session began, with this job and this pipe, which is empty.
+    pub fn begin(&mut self, number: JobNo, pipe: BytePipe<()>)
+        ensures { self.new ≡ owner_after_begin number pipe self.old }
+    {
+        if let OwnerStage::Polls(poll) = &mut self.stage {
+            poll.answer(OwnerAnswer::Begun);
+            self.session = Some(Session::new(number, pipe));
+        }
+    }
+
+    /// The session that was to begin was refused.
+    pub fn refuse(&mut self, why: Refusal)
+        ensures { self.new ≡ owner_after_refusal why self.old }
+    {
+        if let OwnerStage::Polls(poll) = &mut self.stage {
+            poll.answer(OwnerAnswer::Refused(why));
+        }
+    }
+
+    /// The note that its poll took and has to deliver, if any. It has to be spent now.
+    pub fn deliver(&mut self) -> Option<WakeNote>
+        ensures note { result ≡ note_at self.old.stage }
+        ensures after { self.new ≡ owner_after_delivery self.old }
+    {
+        match mem::replace(&mut self.stage, OwnerStage::Dropped) {
+            OwnerStage::Wakes(poll, note) => {
+                let mut poll = poll;
+                poll.answer(OwnerAnswer::Delivered);
+                self.turn(OwnerStage::Polls(poll));
+                Some(note)
+            }
+            OwnerStage::Rests(state) => {
+                self.turn(OwnerStage::Rests(state));
+                None
+            }
+            OwnerStage::Polls(poll) => {
+                self.turn(OwnerStage::Polls(poll));
+                None
+            }
+            OwnerStage::Dropped => None,
+        }
+    }
+
+    /// It is dropped. What its job has put stays where it is. Nothing is done where it doesn't rest.
+    pub fn release(&mut self)
+        ensures { self.new ≡ owner_after_drop self.old }
+    {
+        if let OwnerStage::Rests(_) = &self.stage {
+            self.turn(OwnerStage::Dropped);
+        }
+    }
+
+    /// Takes it apart: the note that its poll took and hasn't delivered, which has to be spent.
+    pub fn into_note(self) -> Option<WakeNote>
+        ensures { result ≡ note_at self.stage }
+    {
+        let Owner {
+            capacity: _,
+            stage,
+            session: _session,
+        } = self;
+        match stage {
+            OwnerStage::Wakes(_poll, note) => Some(note),
+            OwnerStage::Rests(_) | OwnerStage::Polls(_) | OwnerStage::Dropped => None,
+        }
+    }
+
+    /// The job of its session takes its next action, where that is its own: what is seen of it. None, and no change, where the job
+    /// asks its reader or is over.
+    pub fn work(&mut self, job: &mut ReadProgress) -> Option<Act>
+        ensures { IsWorked (worked job.old self.old) job.old self.old result job.new self.new }
+    {
+        if let ReadAction::Deliver = job.next() {
+            job.wake();
+            return Some(Act::HolderWoken);
+        }
+        let Some(session) = &mut self.session else {
+            return None;
+        };
+        session.work(job)
+    }
+
+    /// The job of its session gives up: the handle won't come back. What is seen of that.
+    pub fn give_up(&mut self) -> Act
+        ensures act { result ≡ give_up_act self.old }
+        ensures after { self.new ≡ owner_after_give_up self.old }
+    {
+        let woke = match &mut self.session {
+            Some(session) => session.give_up(),
+            None => false,
+        };
+        Act::GaveUp(HolderWaker::in_seat(woke))
+    }
+}

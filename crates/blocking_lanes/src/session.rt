@@ -1,0 +1,231 @@
+//! Where an owner who reads meets the job of its session.
+ghost use Rattle.std.specs.Prelude.{◌≡◌, ◌<◌, ◌≤◌, true, length, []};
+
+use crate::read::ReadProgress;
+use blocking_core::io::Fault;
+use blocking_core::job::{ReadAction, ReadAnswer};
+use blocking_core::pipe::{Answered, BytePipe, Drained, Put, Room};
+use blocking_core::pool::{JobNo, WakeNote};
+use blocking_core::task::{Slot, Slotted};
+use blocking_laws::bytes::Bytes;
+use blocking_laws::event::{Act, HolderWaker};
+use std::marker::Model;
+
+/// A session of an owner who reads: the number of its job, the pipe between the two, and the slot in which the handle comes back.
+#[derive(Drop)]
+pub(crate) struct Session {
+    number: JobNo,
+    pipe: BytePipe<()>,
+    slot: Slot<Option<Fault<u64>>, ()>,
+}
+
+/// What an owner finds in the pipe.
+pub(crate) enum Found {
+    /// These bytes, and the note of a job that waited.
+    Bytes(Bytes, Option<WakeNote>),
+    /// Nothing yet: the owner is seated.
+    Nothing,
+    /// Nothing, and no more will come.
+    End,
+}
+
+/// What an owner finds in the slot.
+pub(crate) enum Looked {
+    /// The handle, with the fault of the job.
+    Handle(Option<Fault<u64>>),
+    /// Nothing yet: the owner is seated.
+    Nothing,
+    /// Nothing, and nothing will come.
+    Gone,
+}
+
+impl Model for Session {
+    ghost use Rattle.blocking_lanes.specs.Sessions.{Session as Seen};
+
+    ghost Value = { Seen };
+
+    ghost view = { λ s. record { number = s.number; pipe = s.pipe; slot = s.slot } };
+}
+
+impl Session {
+    ghost use Rattle.std.specs.Prelude.{vec_len};
+    ghost use Rattle.blocking_core.specs.Reading.{read_next};
+    ghost use Rattle.blocking_core.specs.Slots.{empty_slot};
+    ghost use Rattle.blocking_lanes.specs.Sessions.{reach, drained, session_after_close, session_after_drain, session_after_look};
+    ghost use Rattle.blocking_lanes.specs.Sessions.{work_by, work_at_room, work_at_put, work_of_close, work_of_finish, found_room, found_put, fits_in};
+    ghost use Rattle.blocking_lanes.specs.Sessions.{give_up_wakes, session_after_give_up, IsWork};
+    ghost use Rattle.blocking_lanes.specs.Owners.{found_as, looked_as};
+
+    /// A session that begins, with this job and this empty pipe.
+    pub(crate) fn new(number: JobNo, pipe: BytePipe<()>) -> Session
+        ensures { result ≡ record { number = number; pipe = pipe; slot = empty_slot } }
+    {
+        Session {
+            number,
+            pipe,
+            slot: Slot::new(),
+        }
+    }
+
+    /// The number of its job.
+    pub(crate) fn number(&self) -> JobNo
+        ensures { result ≡ self.now.number }
+    {
+        self.number
+    }
+
+    // ---- its owner acts
+
+    /// Closes the owner's end of the pipe. Answers the note of a job that waited.
+    pub(crate) fn close(&mut self) -> Option<WakeNote>
+        ensures session { self.new ≡ session_after_close self.old }
+        ensures note { result ≡ self.old.pipe.job_seat }
+    {
+        self.pipe.close_owner()
+    }
+
+    /// How many bytes come out where the owner wants at most so many, one at least.
+    pub(crate) fn reach(&self, most: usize) -> usize
+        ensures { result ≡ reach most self.now }
+    {
+        most.max(1).min(self.pipe.len())
+    }
+
+    /// The owner drains the pipe into this room, whose length is how many bytes come out: none where none are inside.
+    pub(crate) fn drain(&mut self, room: Vec<u8>) -> Found
+        requires within { vec_len room ≤ length self.old.pipe.items }
+        requires some { 0 < length self.old.pipe.items → 0 < vec_len room }
+        ensures found { result ≡ found_as (drained (vec_len room) self.old) }
+        ensures session { self.new ≡ session_after_drain (drained (vec_len room) self.old) self.old }
+    {
+        if room.is_empty() {
+            return self.find_nothing();
+        }
+        let mut room = room;
+        let Answered {
+            answer,
+            spare: _spare,
+        } = self.pipe.drain_or_seat((), room.as_mut_slice());
+        match answer {
+            Drained::Got(_, note) => Found::Bytes(Bytes::new(room), note),
+            Drained::Ended => Found::End,
+            Drained::Waits(_at_the_pipe) => Found::Nothing,
+        }
+    }
+
+    // The owner drains the pipe, in which nothing is inside: it is at its end, or the owner is seated.
+    fn find_nothing(&mut self) -> Found
+        requires { self.old.pipe.items ≡ [] }
+        ensures found { result ≡ found_as (drained 0 self.old) }
+        ensures session { self.new ≡ session_after_drain (drained 0 self.old) self.old }
+    {
+        let mut one = [0u8; 1];
+        let Answered {
+            answer,
+            spare: _spare,
+        } = self.pipe.drain_or_seat((), &mut one);
+        match answer {
+            Drained::Got(_, _note) => unreachable!(),
+            Drained::Ended => Found::End,
+            Drained::Waits(_at_the_pipe) => Found::Nothing,
+        }
+    }
+
+    /// The owner looks for the handle, and is seated where it may still come.
+    pub(crate) fn look(&mut self) -> Looked
+        ensures looked { result ≡ looked_as self.old.slot.content }
+        ensures session { self.new ≡ session_after_look self.old.slot.content self.old }
+    {
+        match self.slot.poll(()).answer {
+            Slotted::Value(fault) => Looked::Handle(fault),
+            Slotted::Waits(_at_the_slot) => Looked::Nothing,
+            Slotted::Gone => Looked::Gone,
+        }
+    }
+
+    // ---- its job acts
+
+    // The job looks for room, and is seated where there is none.
+    fn find_room(&mut self, job: &mut ReadProgress) -> Act
+        ensures { work_at_room (found_room self.old) job.old self.old
+            ≡ record { act = result; job = job.new; session = self.new } }
+    {
+        match self.pipe.room_or_seat(self.number) {
+            Room::Free(room) => {
+                job.meet(ReadAnswer::Free(room));
+                Act::RoomFree(room)
+            }
+            Room::Parked => {
+                job.meet(ReadAnswer::Parked);
+                Act::JobParked
+            }
+            Room::Shut => {
+                job.meet(ReadAnswer::Shut);
+                Act::RoomShut
+            }
+        }
+    }
+
+    // The job puts what its reader gave, which fits.
+    fn put(&mut self, job: &mut ReadProgress) -> Act
+        requires { fits_in job.old.piece self.old ≡ true }
+        ensures { work_at_put (found_put job.old.piece self.old) job.old self.old
+            ≡ record { act = result; job = job.new; session = self.new } }
+    {
+        let count = job.piece().len();
+        match self.pipe.put(job.piece()) {
+            Put::In(seat) => {
+                let woke = seat.is_some();
+                job.meet(ReadAnswer::Put { woke });
+                Act::Put(count, HolderWaker::in_seat(woke))
+            }
+            Put::Lost => {
+                job.meet(ReadAnswer::Lost);
+                Act::Lost(count)
+            }
+        }
+    }
+
+    // The job closes its end of the pipe.
+    fn close_job(&mut self, job: &mut ReadProgress) -> Act
+        ensures { work_of_close job.old self.old
+            ≡ record { act = result; job = job.new; session = self.new } }
+    {
+        let woke = self.pipe.close_job().is_some();
+        job.meet(ReadAnswer::Closed { woke });
+        Act::JobClosed(HolderWaker::in_seat(woke))
+    }
+
+    // The job puts its result into the slot.
+    fn finish(&mut self, job: &mut ReadProgress) -> Act
+        ensures { work_of_finish job.old self.old
+            ≡ record { act = result; job = job.new; session = self.new } }
+    {
+        let woke = self.slot.put(job.fault()).wake.is_some();
+        job.meet(ReadAnswer::Finished { woke });
+        Act::Finished(HolderWaker::in_seat(woke))
+    }
+
+    /// The job takes its next action, where it takes it at its session: what is seen of it.
+    pub(crate) fn work(&mut self, job: &mut ReadProgress) -> Option<Act>
+        ensures { IsWork (work_by (read_next job.old.core) job.old self.old) job.old self.old result job.new self.new }
+    {
+        match job.next() {
+            ReadAction::FindRoom => Some(self.find_room(job)),
+            ReadAction::Put(_) if job.piece().len() <= self.pipe.room() => Some(self.put(job)),
+            ReadAction::Close => Some(self.close_job(job)),
+            ReadAction::Finish => Some(self.finish(job)),
+            ReadAction::Put(_) | ReadAction::Read(_) | ReadAction::Deliver | ReadAction::Done => {
+                None
+            }
+        }
+    }
+
+    /// The job gives up: the handle won't come back. Whether it took the waker of an owner who waited.
+    pub(crate) fn give_up(&mut self) -> bool
+        ensures wake { result ≡ give_up_wakes self.old }
+        ensures session { self.new ≡ session_after_give_up self.old }
+    {
+        self.slot.give_up().is_some()
+    }
+}

@@ -1,0 +1,4 @@
+pub mod moves
+pub mod past
+pub mod ties
+pub mod laws

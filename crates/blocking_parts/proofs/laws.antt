@@ -1,0 +1,5 @@
+pub mod Next
+pub mod Actions
+pub mod Own
+pub mod Steps
+pub mod Wakes

@@ -1,0 +1,170 @@
+-- A step has an action in the parts exactly where it has one by what was seen.
+use Rattle.std.proofs.Common.{◌≡◌, ℕ, ◌+◌, List, length, Bool, true, false, refl, sym, ap, ◌∙◌, arith, Option, Some, None}
+use Rattle.std.specs.Prelude.{◌&&◌, ◌||◌, ◌==◌, nat_lt, not, slice_get, is_some, is_none}
+use Rattle.std.proofs.lemmas.Bool.{lt-ltb}
+use Rattle.std.proofs.lemmas.Bool.Decides.{nat_tests}
+use Rattle.std.proofs.lemmas.Option.{slice_get_within}
+use Rattle.blocking_crew.specs.Crews.{hand_at, is_free_hand}
+use Rattle.blocking_crew.specs.Ties.{HandAs}
+use Rattle.blocking_crew.specs.declared.hand.Hand.{Hand}
+use Rattle.blocking_crew.specs.declared.hand.Hand.TheVariants.{Out, Free, Holds}
+use Rattle.blocking_lanes.specs.OwnerTies.{OwnerAs}
+use Rattle.blocking_lanes.specs.Owners.{Owner, did, next_of}
+use Rattle.blocking_lanes.specs.Tasks.{Task, may_be}
+use Rattle.blocking_lanes.specs.Ties.{TaskAs, CancelAs, is_gone_as}
+use Rattle.blocking_lanes.specs.declared.owner.OwnerNext.{OwnerNext}
+use Rattle.blocking_lanes.specs.declared.owner.OwnerNext.TheVariants as next
+use Rattle.blocking_lanes.specs.declared.task.TaskStage.{TaskStage}
+use Rattle.blocking_lanes.specs.declared.task.TaskStage.TheVariants as task_stage
+use Rattle.blocking_lanes.proofs.cuts.Acts.{own_cut}
+use Rattle.blocking_lanes.proofs.owners.Actions.{acts_some, is_rest, rests_is, rests_next}
+use Rattle.blocking_laws.specs.Counts.{starts, arrivals}
+use Rattle.blocking_laws.specs.Jobs.{tasks, holder, standing}
+use Rattle.blocking_laws.specs.OwnerSteps.{has_action_with_owners}
+use Rattle.blocking_laws.specs.Seen.{events, acts_of_owner, acts_of_task, own, cut, task_cut}
+use Rattle.blocking_laws.specs.Sessions.{is_poll_over, under_way}
+use Rattle.blocking_laws.specs.Sessions as sessions
+use Rattle.blocking_laws.specs.Steps.{is_there, is_answered_action, is_job_action, is_for_cancelled, is_turn_end, may_call, may_cancel}
+use Rattle.blocking_laws.specs.TaskLaws.{is_gone, is_let_go, was_cancelled}
+use Rattle.blocking_laws.specs.Turns.{hand}
+use Rattle.blocking_laws.specs.declared.event.Event.{Event}
+use Rattle.blocking_laws.specs.declared.event.Moment.{Moment}
+use Rattle.blocking_laws.specs.declared.event.Party.{Party}
+use Rattle.blocking_laws.specs.declared.step.Step.{Step}
+use Rattle.blocking_laws.specs.declared.step.Step.TheVariants.{New, Ask, Own, DropOwner, Spawn, OfTask, Arrive, Take, Job, Io, End, Wait, Late, SetLimit, Sweep, Stray, Strike}
+use Rattle.blocking_laws.specs.declared.step.TaskCall.{TaskCall}
+use Rattle.blocking_laws.specs.declared.step.TaskCall.TheVariants.{Poll, Cancel, Detach, Drop}
+use Rattle.blocking_parts.specs.Moves.{has_action_in, may_call_in, may_own, may_own_in, rests_in}
+use Rattle.blocking_parts.specs.Parts.{Parts, row_of, let_go_by, let_go_of, owner_let_go, task_let_go}
+use Rattle.blocking_parts.specs.Rows.{party_of}
+use Rattle.blocking_parts.specs.Ties.{Tied}
+use Rattle.blocking_parts.specs.declared.row.Core.{Core}
+use Rattle.blocking_parts.specs.declared.row.Core.TheVariants as core
+use Rattle.blocking_parts.specs.declared.row.Row.{Row}
+use Rattle.blocking_parts.proofs.laws.Next.{missing, unseen, owner_there, task_there, next_agrees, own_is}
+use Rattle.blocking_parts.proofs.ties.Jobs.{has_row, holder_stands, owner_tie, task_tie}
+
+-- ---- workers and limits
+
+-- an idle worker is there and has no job in hand
+free_by : (h : Hand) (there : Bool) (job : Option ℕ) → HandAs h there job → is_free_hand h ≡ (there && is_none job)
+free_by Out there job holds = sym (ap (λ b. b && is_none job) holds.0)
+free_by (Free pass) there job holds = sym (ap (λ b. b && is_none job) holds.0 ∙ ap is_none holds.1)
+free_by (Holds held) there job holds = sym (ap (λ b. b && is_none job) holds.0 ∙ ap is_none holds.1)
+
+-- as many are to arrive as were started and haven't arrived
+arrive_by : (m n s : ℕ) → s ≡ m + n → (x y : Bool) → nat_lt 0 m ≡ x → nat_lt n s ≡ y → x ≡ y
+arrive_by m n s sum true true left right = refl
+arrive_by m n s sum true false left right = absurd (grind (arith, nat_tests))
+arrive_by m n s sum false true left right = absurd (grind (arith, nat_tests))
+arrive_by m n s sum false false left right = refl
+
+-- a limit is above 0 exactly where it isn't 0
+limit_by : (n : ℕ) (x y : Bool) → (n == 0) ≡ x → nat_lt 0 n ≡ y → not x ≡ y
+limit_by n true true zeroed above = absurd (grind (arith, nat_tests))
+limit_by n true false zeroed above = refl
+limit_by n false true zeroed above = refl
+limit_by n false false zeroed above = absurd (grind (arith, nat_tests))
+
+-- ---- tasks
+
+stage_may : (at : TaskStage) (call : TaskCall) (gone was : Bool) → gone ≡ is_gone_as at → CancelAs at was → may_be at call ≡ (not gone && (not was || is_for_cancelled call))
+stage_may task_stage.Attached call gone was is_gone is_cancelled = rw (is_gone, is_cancelled) refl
+stage_may task_stage.Cancelled Poll gone was is_gone is_cancelled = rw (is_gone, is_cancelled) refl
+stage_may task_stage.Cancelled Cancel gone was is_gone is_cancelled = rw (is_gone, is_cancelled) refl
+stage_may task_stage.Cancelled Detach gone was is_gone is_cancelled = rw (is_gone, is_cancelled) refl
+stage_may task_stage.Cancelled Drop gone was is_gone is_cancelled = rw (is_gone, is_cancelled) refl
+stage_may task_stage.Gone call gone was is_gone is_cancelled = rw is_gone refl
+stage_may task_stage.LetGo call gone was is_gone is_cancelled = rw is_gone refl
+
+-- a task may be called so exactly where its own acts allow it
+task_may : (k s : ℕ) (task : Task) (seen : List Event) (call : TaskCall) → TaskAs task s (task_cut k s seen) → may_be task.stage call ≡ may_call (acts_of_task k seen) call
+task_may k s task seen call tie =
+    stage_may task.stage call (is_gone (own (task_cut k s seen))) (was_cancelled (own (task_cut k s seen))) tie.gone tie.cancel
+    ∙ ap (λ acts. may_call acts call) (own_cut k s seen)
+
+-- ---- owners
+
+-- the poll of an owner has something to do where it doesn't rest
+owner_may : (owner : Owner) (seen : List Event) → OwnerAs owner seen → may_own (next_of owner) (did owner) ≡ not (is_rest (next_of owner))
+owner_may owner seen tie = by (next_of owner) refl
+  where
+    by : (n : OwnerNext) → next_of owner ≡ n → may_own n (did owner) ≡ not (is_rest n)
+    by next.Rests is = refl
+    by next.Begins is = refl
+    by next.Delivers is = refl
+    by (next.Acts count) is = acts_some owner seen tie count is
+
+-- ---- steps
+
+module _ (setting : ℕ) (plan : List Bool) (w : Parts) (past : List Moment) (t : Tied setting plan w past) where
+  asks_by : (h : ℕ) (found : Option Owner) → slice_get w.owners h ≡ found → rests_in found ≡ sessions.rests (acts_of_owner h (events past))
+  asks_by h None found = sym (ap (λ l. sessions.rests (own l)) (unseen setting plan w past t h found))
+  asks_by h (Some owner) found = sym (rests_is owner (cut h (events past)) (owner_tie setting plan w past t h owner found))
+
+  owns_by : (h : ℕ) (found : Option Owner) → slice_get w.owners h ≡ found → may_own_in found ≡ not (is_poll_over (under_way (acts_of_owner h (events past))))
+  owns_by h None found = sym (ap (λ l. not (is_poll_over (under_way (own l)))) (unseen setting plan w past t h found))
+  owns_by h (Some owner) found =
+      let tie = owner_tie setting plan w past t h owner found in
+      owner_may owner (cut h (events past)) tie ∙ ap not (sym (rests_next owner (cut h (events past)) tie))
+
+  calls_by : (k : ℕ) (call : TaskCall) (found : Option Task) → slice_get w.tasks k ≡ found → may_call_in found call ≡ (nat_lt k (tasks past) && may_call (acts_of_task k (events past)) call)
+  calls_by k call None found =
+      let beyond = missing w.tasks k found in
+      let none : nat_lt k (length w.tasks) ≡ false = grind (arith, nat_tests) in
+      sym (ap (λ n. nat_lt k n && may_call (acts_of_task k (events past)) call) (sym t.tasked.count) ∙ ap (λ b. b && may_call (acts_of_task k (events past)) call) none)
+  calls_by k call (Some task) found =
+      task_may k task.number.serial task (events past) call (task_tie setting plan w past t k task found)
+      ∙ sym (ap (λ n. nat_lt k n && may_call (acts_of_task k (events past)) call) (sym t.tasked.count)
+      ∙ ap (λ b. b && may_call (acts_of_task k (events past)) call) (lt-ltb k (length w.tasks) (slice_get_within w.tasks k task found)))
+
+  stray_by : (s : ℕ) (found : Option Row) → row_of w.rows s ≡ found → is_some found ≡ is_some (holder past s)
+  stray_by s None found = by (is_some (standing past s)) refl ∙ sym (holder_stands setting plan w past t s)
+    where
+      by : (b : Bool) → is_some (standing past s) ≡ b → false ≡ b
+      by true some = let row = (has_row setting plan w past t s some).1 in absurd cc
+      by false none = refl
+  stray_by s (Some row) found = sym (ap is_some (t.rowed.each s row found).held_by)
+
+  -- who let a job go in the parts was seen to
+  pub let_go_is : (s : ℕ) (row : Row) → row_of w.rows s ≡ Some row → let_go_of w row.core ≡ may_cancel (holder past s) past
+  let_go_is s row found =
+      let held = (t.rowed.each s row found).held_by in
+      by row.core held ∙ sym (ap (λ o. may_cancel o past) held)
+    where
+      by : (c : Core) → holder past s ≡ Some (party_of c) → let_go_of w c ≡ may_cancel (Some (party_of c)) past
+      by (core.Call k call) held =
+          let task = task_there setting plan w past t k s held in
+          ap task_let_go task.1 ∙ sym (t.tasked.each k s task.0 held task.1).let_go ∙ ap is_let_go (own_cut k s (events past))
+      by (core.Read h job) held =
+          let owner = owner_there setting plan w past t h s held in
+          ap owner_let_go owner.1 ∙ sym (owner_tie setting plan w past t h owner.0 owner.1).gone
+
+  strike_by : (s : ℕ) (found : Option Row) → row_of w.rows s ≡ found → let_go_by w found ≡ may_cancel (holder past s) past
+  strike_by s None found = by (holder past s) (stray_by s None found)
+    where
+      by : (o : Option Party) → false ≡ is_some o → false ≡ may_cancel o past
+      by None none = refl
+      by (Some who) none = absurd cc
+  strike_by s (Some row) found = let_go_is s row found
+
+  -- A step has an action in the parts exactly where it has one by what was seen.
+  pub has_is : (step : Step) → has_action_in w step ≡ has_action_with_owners past step
+  has_is (New capacity) = refl
+  has_is (Ask h call) = asks_by h (slice_get w.owners h) refl
+  has_is (Own h) = owns_by h (slice_get w.owners h) refl
+  has_is (DropOwner h) = asks_by h (slice_get w.owners h) refl
+  has_is Spawn = refl
+  has_is (OfTask k call) = calls_by k call (slice_get w.tasks k) refl
+  has_is Arrive =
+      arrive_by w.crew.pool.counts.arriving (arrivals past) (starts past) t.crewed.tied.counted.arriving_are (nat_lt 0 w.crew.pool.counts.arriving) (nat_lt (arrivals past) (starts past)) refl refl
+  has_is (Take v) = free_by (hand_at w.crew.hands v) (is_there past v) (hand past v) (t.crewed.tied.handed.each v)
+  has_is (Job v) = own_is setting plan w past t v ∙ ap is_job_action (sym (next_agrees setting plan w past t v))
+  has_is (Io v answer) = ap (λ d. is_answered_action d answer) (sym (next_agrees setting plan w past t v))
+  has_is (End v) = ap is_turn_end (sym (next_agrees setting plan w past t v))
+  has_is (Wait v) = free_by (hand_at w.crew.hands v) (is_there past v) (hand past v) (t.crewed.tied.handed.each v)
+  has_is (Late v) = free_by (hand_at w.crew.hands v) (is_there past v) (hand past v) (t.crewed.tied.handed.each v)
+  has_is (SetLimit n) = limit_by n (n == 0) (nat_lt 0 n) refl refl
+  has_is Sweep = refl
+  has_is (Stray s) = stray_by s (row_of w.rows s) refl
+  has_is (Strike s) = strike_by s (row_of w.rows s) refl

@@ -1,0 +1,160 @@
+-- What a job does that is its own to do: what is seen of it, and that it stays the job of its owner.
+use Rattle.std.proofs.Common.{◌≡◌, ℕ, List, Bool, true, false, refl, sym, ap, ◌∙◌, Option, Some, None}
+use Rattle.std.specs.Prelude.{◌&&◌, not, if◌then◌else◌, slice_get}
+use Rattle.blocking_core.specs.Places.{Met, Served, Waiting, Closed}
+use Rattle.blocking_core.specs.Reading.{read_next}
+use Rattle.blocking_core.specs.declared.job.Action.{Action}
+use Rattle.blocking_core.specs.declared.job.Action.TheVariants as action
+use Rattle.blocking_core.specs.declared.job.read.ReadAction.{ReadAction}
+use Rattle.blocking_core.specs.declared.job.read.ReadAction.TheVariants as read
+use Rattle.blocking_crew.specs.declared.hand.Stage.{Stage}
+use Rattle.blocking_crew.specs.declared.hand.Stage.TheVariants as stage
+use Rattle.blocking_lanes.specs.OwnerSteps as owners
+use Rattle.blocking_lanes.specs.OwnerSteps.{OwnerStep, act_of_work}
+use Rattle.blocking_lanes.specs.Owners.{Owner, worked, worked_as, worked_by, worked_in}
+use Rattle.blocking_lanes.specs.Reads as reads
+use Rattle.blocking_lanes.specs.Sessions.{Session, Work, work_by, work_at_put, fits_in, found_room, found_put}
+use Rattle.blocking_lanes.specs.Steps.{TaskStep}
+use Rattle.blocking_lanes.specs.Tasks.{Task}
+use Rattle.blocking_laws.specs.Places.{seen_room, seen_put}
+use Rattle.blocking_laws.specs.Seen.{is_of_pool, is_nothing}
+use Rattle.blocking_laws.specs.Steps.{is_answered}
+use Rattle.blocking_laws.specs.declared.event.Act.{Act}
+use Rattle.blocking_parts.specs.Rows.{Done, call_done, call_step, call_step_by, done, owner_in, read_done, read_seen, read_step}
+use Rattle.blocking_parts.specs.declared.row.Core.{Core}
+use Rattle.blocking_parts.specs.declared.row.Core.TheVariants as core
+
+-- ---- what is seen of it
+
+-- whether something was done that neither the pool decides nor anyone answers from outside
+abbrev is_own : Act → Bool
+is_own act = not (is_of_pool act) && not (is_nothing act) && not (is_answered act)
+
+-- the same, of an act if there is one, of an act at a session, and of what a job does next
+abbrev is_own_if : Option Act → Bool
+is_own_if None = true
+is_own_if (Some act) = is_own act
+
+abbrev is_own_work : Option Work → Bool
+is_own_work None = true
+is_own_work (Some work) = is_own work.act
+
+abbrev is_own_done : Option Done → Bool
+is_own_done None = true
+is_own_done (Some did) = is_own did.act
+
+finds : (met : Met ℕ) → is_own (seen_room met) ≡ true
+finds (Served n) = refl
+finds Waiting = refl
+finds Closed = refl
+
+puts : (n : ℕ) (met : Met (Option (Unit {0}))) → is_own (seen_put n met) ≡ true
+puts n (Served seat) = refl
+puts n Waiting = refl
+puts n Closed = refl
+
+at_session : (a : ReadAction) (p : reads.Progress) (s : Session) → is_own_work (work_by a p s) ≡ true
+at_session read.FindRoom p s = finds (found_room s)
+at_session (read.Put count) p s = by (fits_in p.piece s)
+  where
+    by : (b : Bool) → is_own_work (if b then Some (work_at_put (found_put p.piece s) p s) else None) ≡ true
+    by true = puts _ (found_put p.piece s)
+    by false = refl
+at_session read.Close p s = refl
+at_session read.Finish p s = refl
+at_session (read.Read most) p s = refl
+at_session read.Deliver p s = refl
+at_session read.Done p s = refl
+
+in_session : (a : ReadAction) (last : Option Session) (p : reads.Progress) (owner : Owner) → is_own_if (act_of_work (worked_in a last p owner)) ≡ true
+in_session a None p owner = refl
+in_session a (Some s) p owner = by (work_by a p s) (at_session a p s)
+  where
+    by : (o : Option Work) → is_own_work o ≡ true → is_own_if (act_of_work (worked_by o owner)) ≡ true
+    by None is = refl
+    by (Some work) is = is
+
+works : (a : ReadAction) (p : reads.Progress) (owner : Owner) → is_own_if (act_of_work (worked_as a p owner)) ≡ true
+works read.Deliver p owner = refl
+works read.FindRoom p owner = in_session read.FindRoom owner.session p owner
+works (read.Put count) p owner = in_session (read.Put count) owner.session p owner
+works read.Close p owner = in_session read.Close owner.session p owner
+works read.Finish p owner = in_session read.Finish owner.session p owner
+works (read.Read most) p owner = in_session (read.Read most) owner.session p owner
+works read.Done p owner = in_session read.Done owner.session p owner
+
+does : (at : Stage) (c : Core) (all : List Task) (row : List Owner) → is_own_done (done at c all row) ≡ true
+does at (core.Call k call) all row = by at (slice_get all k)
+  where
+    runs : (next : Action) (task : Task) → is_own_done (call_done k call stage.Runs all row (Some task) (call_step_by next call.number)) ≡ true
+    runs action.Call task = refl
+    runs action.Finish task = refl
+    runs action.Deliver task = refl
+    runs action.Done task = refl
+
+    by : (at : Stage) (o : Option Task) → is_own_done (call_done k call at all row o (call_step at call)) ≡ true
+    by at None = refl
+    by stage.Runs (Some task) = runs call.next task
+    by stage.Waits (Some task) = refl
+    by stage.MustGiveUp (Some task) = refl
+    by stage.MustWake (Some task) = refl
+    by stage.GaveUp (Some task) = refl
+does at (core.Read h p) all row = by at (slice_get row h)
+  where
+    seen : (owner : Owner) (act : Option Act) → is_own_if act ≡ true → is_own_done (read_seen h p all row owner (owners.Works p) act) ≡ true
+    seen owner None is = refl
+    seen owner (Some act) is = is
+
+    by : (at : Stage) (o : Option Owner) → is_own_done (read_done h p all row o (read_step at p)) ≡ true
+    by at None = refl
+    by stage.Runs (Some owner) = seen owner (act_of_work (worked p owner)) (works (read_next p.core) p owner)
+    by stage.Waits (Some owner) = refl
+    by stage.MustGiveUp (Some owner) = refl
+    by stage.MustWake (Some owner) = refl
+    by stage.GaveUp (Some owner) = refl
+
+-- An act of a job's own: something is done that neither the pool decides nor anyone answers.
+pub record IsOwn (act : Act) : Type 0 where
+  pub pool : is_of_pool act ≡ false
+  pub nothing : is_nothing act ≡ false
+  pub unasked : is_answered act ≡ false
+
+pub own_act : (at : Stage) (c : Core) (all : List Task) (row : List Owner) (did : Done) → done at c all row ≡ Some did → IsOwn did.act
+own_act at c all row did is =
+    let each = by (is_of_pool did.act) (is_nothing did.act) (is_answered did.act) (sym (ap is_own_done is) ∙ does at c all row) in
+    record { pool = each.0; nothing = each.1; unasked = each.2 }
+  where
+    by : (a b c : Bool) → (not a && not b && not c) ≡ true → (a ≡ false) × (b ≡ false) × (c ≡ false)
+    by false false false is = (refl, refl, refl)
+    by true b c is = absurd cc
+    by false true c is = absurd cc
+    by false false true is = absurd cc
+
+-- ---- whose job it is
+
+-- the owner of the job after what it does, if it does something
+abbrev owner_left : Core → Option Done → Option ℕ
+owner_left c None = owner_in c
+owner_left c (Some did) = owner_in did.core
+
+stays : (at : Stage) (c : Core) (all : List Task) (row : List Owner) → owner_left c (done at c all row) ≡ owner_in c
+stays at (core.Call k call) all row = by (slice_get all k) (call_step at call)
+  where
+    by : (o : Option Task) (step : Option TaskStep) → owner_left (core.Call k call) (call_done k call at all row o step) ≡ None
+    by None step = refl
+    by (Some task) None = refl
+    by (Some task) (Some step) = refl
+stays at (core.Read h p) all row = by (slice_get row h) (read_step at p)
+  where
+    seen : (owner : Owner) (step : OwnerStep) (act : Option Act) → owner_left (core.Read h p) (read_seen h p all row owner step act) ≡ Some h
+    seen owner step None = refl
+    seen owner step (Some act) = refl
+
+    by : (o : Option Owner) (step : Option OwnerStep) → owner_left (core.Read h p) (read_done h p all row o step) ≡ Some h
+    by None step = refl
+    by (Some owner) None = refl
+    by (Some owner) (Some step) = seen owner step (owners.act_of step owner)
+
+-- A job that does something stays its owner's.
+pub same_owner : (at : Stage) (c : Core) (all : List Task) (row : List Owner) (did : Done) → done at c all row ≡ Some did → owner_in did.core ≡ owner_in c
+same_owner at c all row did is = sym (ap (owner_left c) is) ∙ stays at c all row

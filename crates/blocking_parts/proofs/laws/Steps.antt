@@ -1,0 +1,287 @@
+-- What is seen of a move is of its step, as the law of steps has it, with those of owners.
+use Rattle.std.proofs.Common.{◌≡◌, ℕ, ◌+◌, ◌-◌, List, length, Bool, true, false, refl, sym, ap, ◌∙◌, subst, arith, Option, Some, None, if◌then◌else◌}
+use Rattle.std.proofs.lemmas.Bool.{eqb-true}
+use Rattle.std.proofs.lemmas.Bool.Decides.{nat_tests}
+use Rattle.std.specs.Prelude.{nat_lt, not, ◌==◌, slice_set, is_some, Result, Ok, Err}
+use Rattle.blocking_core.specs.OwnerCalls.{OwnerMachine, owner_next}
+use Rattle.blocking_core.specs.declared.unblock.OwnerAction.{OwnerAction}
+use Rattle.blocking_core.specs.declared.unblock.OwnerAction.TheVariants as action
+use Rattle.blocking_crew.specs.Crews.{hand_at, is_free_hand}
+use Rattle.blocking_crew.specs.Moves as crew
+use Rattle.blocking_crew.specs.Moves.{added_act, parked_act}
+use Rattle.blocking_crew.specs.Ties.{HandAs}
+use Rattle.blocking_crew.specs.declared.hand.Hand.TheVariants.{Holds}
+use Rattle.blocking_crew.specs.declared.hand.Held.{Held}
+use Rattle.blocking_crew.specs.declared.tickets.Parking.{Parking}
+use Rattle.blocking_crew.specs.declared.tickets.Parking.TheVariants as parking
+use Rattle.blocking_lanes.specs.OwnerSteps.{Acts, act_in}
+use Rattle.blocking_lanes.specs.Owners.{Owner, Did, did, did_by, did_in, next_at, next_by, next_of, next_to_say, note_at, reply_as, reply_did}
+use Rattle.blocking_lanes.specs.Sessions.{Session}
+use Rattle.blocking_lanes.specs.Tasks.{Task, task_act}
+use Rattle.blocking_lanes.specs.declared.owner.OwnerNext.{OwnerNext}
+use Rattle.blocking_lanes.specs.declared.owner.OwnerNext.TheVariants as next
+use Rattle.blocking_lanes.specs.declared.owner.OwnerStage.{OwnerStage}
+use Rattle.blocking_lanes.specs.declared.owner.OwnerStage.TheVariants as owner_stage
+use Rattle.blocking_lanes.proofs.acts.Calls.{call_plainly, poll_so}
+use Rattle.blocking_lanes.proofs.owners.Actions.{is_rest}
+use Rattle.blocking_lanes.proofs.owners.Plain.{plain_of}
+use Rattle.blocking_laws.specs.Counts.{arrivals}
+use Rattle.blocking_laws.specs.Growth.{IsPlanned}
+use Rattle.blocking_laws.specs.Jobs.{holder, as_owner}
+use Rattle.blocking_laws.specs.OwnerSteps.{StepLawWithOwners, has_action_with_owners}
+use Rattle.blocking_laws.specs.Seen.{is_nothing, is_of_pool}
+use Rattle.blocking_laws.specs.Steps.{is_there, is_answered_action, is_turn_end, Happens, Fits, IsBegun, IsEndOf, IsOfTask, job_of, named, owners, party}
+use Rattle.blocking_laws.specs.Steps as law
+use Rattle.blocking_laws.specs.Turns.{hand}
+use Rattle.blocking_laws.specs.declared.event.Act.{Act}
+use Rattle.blocking_laws.specs.declared.event.Act.TheVariants.{Made, NoAction, Arrived}
+use Rattle.blocking_laws.specs.declared.event.Event.{Event}
+use Rattle.blocking_laws.specs.declared.event.Moment.{Moment}
+use Rattle.blocking_laws.specs.declared.event.Party.{Party}
+use Rattle.blocking_laws.specs.declared.event.Party.TheVariants.{Owner as ByOwner, Worker}
+use Rattle.blocking_laws.specs.declared.event.Reply.{Reply}
+use Rattle.blocking_laws.specs.declared.event.WaitEnd.TheVariants.{Woken, TimedOut}
+use Rattle.blocking_laws.specs.declared.step.Answer.{Answer}
+use Rattle.blocking_laws.specs.declared.step.Step.{Step}
+use Rattle.blocking_laws.specs.declared.step.Step.TheVariants.{Arrive, Take, End, Wait, Late, SetLimit, Sweep}
+use Rattle.blocking_laws.specs.declared.step.TaskCall.{TaskCall}
+use Rattle.blocking_laws.specs.declared.step.TaskCall.TheVariants.{Poll, Cancel, Detach, Drop}
+use Rattle.blocking_pool.specs.Growth.{Growth}
+use Rattle.blocking_pool.specs.Jobs.{JobNumber}
+use Rattle.blocking_pool.specs.declared.pool.answer.Refusal.{Refusal}
+use Rattle.blocking_pool.specs.declared.pool.answer.Waited.TheVariants.{Stay, Stop}
+use Rattle.blocking_parts.specs.Moves.{Move, Idles, Makes, Asks, Owns, Lends, Delivers, IsDropped, Begins, Calls, Works, IsAnswered, Parks, Passes, IsWoken, IsStruck, May, CrewMoves, has_action_in, is_pass, IsDue, may_call_in, may_own, may_own_in, rests_in, rows_after, step_by, step_of}
+use Rattle.blocking_parts.specs.Parts.{Parts, row_of, owner_by, owner_of, done_in, let_go_by}
+use Rattle.blocking_parts.specs.Rows.{core_after_answer, next_of as next_of_core, owner_in, party_of}
+use Rattle.blocking_parts.specs.Ties.{Tied, moment}
+use Rattle.blocking_parts.specs.declared.row.Core.{Core}
+use Rattle.blocking_parts.specs.declared.row.Core.TheVariants as core
+use Rattle.blocking_parts.specs.declared.row.Row.{Row}
+use Rattle.blocking_parts.proofs.laws.Actions.{has_is}
+use Rattle.blocking_parts.proofs.laws.Own.{own_act, same_owner}
+use Rattle.blocking_parts.proofs.moves.Found.{row_set}
+use Rattle.blocking_parts.proofs.ties.Jobs.{job_here, next_here, has_row, holder_stands}
+use Rattle.blocking_parts.proofs.ties.Said.{SaidBy, said}
+use Rattle.blocking_parts.proofs.ties.Told.{Told}
+
+-- ---- what is done fits the step
+
+-- what the pool answers to a new job, what is seen of a call of a task, and the end of a run that waits
+begun_fits : (added : Result JobNumber Refusal) → (is_nothing (added_act added) ≡ false) × IsBegun (added_act added)
+begun_fits (Ok number) = (refl, tt)
+begun_fits (Err why) = (refl, tt)
+
+lent_fits : (added : Result JobNumber Refusal) → is_of_pool (added_act added) ≡ false
+lent_fits (Ok number) = refl
+lent_fits (Err why) = refl
+
+call_fits : (call : TaskCall) (task : Task) → IsOfTask call (task_act call task)
+call_fits Poll task = poll_so task
+call_fits Cancel task = refl
+call_fits Detach task = refl
+call_fits Drop task = refl
+
+park_fits : (how : Parking) (s : ℕ) (job : Option ℕ) → job ≡ Some s → (is_nothing (parked_act how s) ≡ false) × IsEndOf job (parked_act how s)
+park_fits (parking.Parked pass) s job is = (refl, is)
+park_fits (parking.Queued pass) s job is = (refl, is)
+park_fits (parking.HandedOut turn) s job is = (refl, is)
+
+-- ---- an owner that does something has an action
+
+-- by what its machine does next
+says : (told : Option Reply) (poll : OwnerMachine ℕ) (owner : Owner) → is_some (reply_did told poll owner) ≡ true → is_rest (next_to_say told) ≡ false
+says None poll owner some = absurd cc
+says (Some told) poll owner some = refl
+
+acts_next : (a : OwnerAction ℕ) (poll : OwnerMachine ℕ) (last : Option Session) (owner : Owner) → is_some (did_in a poll last owner) ≡ true → is_rest (next_by a last) ≡ false
+acts_next action.Begin poll last owner some = refl
+acts_next action.Close poll last owner some = refl
+acts_next (action.Drain most) poll last owner some = refl
+acts_next action.PollSlot poll last owner some = refl
+acts_next (action.Reply reply) poll last owner some = says (reply_as reply) poll owner some
+acts_next _ poll None owner some = absurd cc
+acts_next _ poll (Some session) owner some = absurd cc
+
+-- by where it is in its polls
+did_next : (here : OwnerStage) (owner : Owner) → is_some (did_by here owner) ≡ true → is_rest (next_at here owner.session) ≡ false
+did_next (owner_stage.Polls poll) owner some = acts_next (owner_next poll) poll owner.session owner some
+did_next (owner_stage.Rests at) owner some = absurd cc
+did_next (owner_stage.Wakes poll note) owner some = absurd cc
+did_next owner_stage.Dropped owner some = absurd cc
+
+-- so its poll may go on
+may_so : (n : OwnerNext) (finds : Option Did) → is_rest n ≡ false → is_some finds ≡ true → may_own n finds ≡ true
+may_so next.Rests finds goes some = absurd cc
+may_so next.Begins finds goes some = refl
+may_so next.Delivers finds goes some = refl
+may_so (next.Acts count) finds goes some = some
+
+owner_acts : (owner : Owner) (done : Did) → did owner ≡ Some done → may_own (next_of owner) (did owner) ≡ true
+owner_acts owner done is = may_so (next_of owner) (did owner) (did_next owner.stage owner (ap is_some is)) (ap is_some is)
+
+-- and so has one that has a note to deliver
+noted_next : (here : OwnerStage) (last : Option Session) (number : JobNumber) → note_at here ≡ Some number → next_at here last ≡ next.Delivers
+noted_next (owner_stage.Wakes poll note) last number is = refl
+noted_next (owner_stage.Rests at) last number is = absurd cc
+noted_next (owner_stage.Polls poll) last number is = absurd cc
+noted_next owner_stage.Dropped last number is = absurd cc
+
+-- ---- whose job it is
+
+-- by its core it is of the owner that holds it, and an answer leaves that
+owner_holds : (c : Core) → owner_in c ≡ as_owner (Some (party_of c))
+owner_holds (core.Call k call) = refl
+owner_holds (core.Read h job) = refl
+
+answer_stays : (answer : Answer) (c : Core) → owner_in (core_after_answer answer c) ≡ owner_in c
+answer_stays answer (core.Call k call) = refl
+answer_stays answer (core.Read h job) = refl
+
+-- a row that was set for one of the same owner leaves each job its owner
+set_stays : (rows : List Row) (t : ℕ) (old new : Row) → row_of rows t ≡ Some old → owner_in new.core ≡ owner_in old.core → (job : Option ℕ) → owner_of (slice_set rows (t - 1) new) job ≡ owner_of rows job
+set_stays rows t old new found same None = refl
+set_stays rows t old new found same (Some s) = ap owner_by (row_set rows t s old new found) ∙ by (t == s) refl
+  where
+    by : (b : Bool) → (t == s) ≡ b → owner_by (if b then Some new else row_of rows s) ≡ owner_by (row_of rows s)
+    by true is = same ∙ ap owner_by (sym found) ∙ ap (λ n. owner_by (row_of rows n)) (eqb-true t s is)
+    by false is = refl
+
+-- ---- what is seen of a step
+
+-- An event is of this step: nothing is done exactly where the step has no action; else it is of the step's kind, by its party and of its job.
+record IsOfStep (past : List Moment) (step : Step) (e : Event) : Type 0 where
+  act : Happens (has_action_with_owners past step) past step e.act
+  by : e.party ≡ (if is_nothing e.act then named step else party past step)
+  of : e.job ≡ (if is_nothing e.act then None else job_of past step e.act)
+
+-- a step that has no action
+idle_so : (past : List Moment) (step : Step) (e : Event) → Told (named step) None NoAction e → has_action_with_owners past step ≡ false → IsOfStep past step e
+idle_so past step e told none = record {
+  act = subst (λ b. Happens b past step e.act) (sym none) told.act_is;
+  by = told.party ∙ sym (ap (λ a. if is_nothing a then named step else party past step) told.act_is);
+  of = told.job_is ∙ sym (ap (λ a. if is_nothing a then None else job_of past step a) told.act_is);
+}
+
+-- what the crew shows of an act is that act
+shown : (who : Party) (job : Option ℕ) (act : Act) (first : ℕ) (growth : Growth) → Told who job act (crew.seen who job act first growth)
+shown who job act first growth = record { party = refl; owner = refl; job_is = refl; act_is = refl }
+
+module _ (setting : ℕ) (plan : List Bool) (w : Parts) (past : List Moment) (t : Tied setting plan w past) where
+  -- where a step has no action in the parts, it has none by what was seen
+  rests : (step : Step) → has_action_in w step ≡ false → has_action_with_owners past step ≡ false
+  rests step none = sym (has_is setting plan w past t step) ∙ none
+
+  -- what is done at a step that has an action in the parts, by its party and of its job
+  done_so : (step : Step) (who : Party) (job : Option ℕ) (act : Act) (e : Event) → Told who job act e → has_action_in w step ≡ true → is_nothing act ≡ false → Fits past step act → who ≡ party past step → job ≡ job_of past step act
+      → IsOfStep past step e
+  done_so step who job act e told has something fits by of =
+      let some : is_nothing e.act ≡ false = ap is_nothing told.act_is ∙ something in
+      record {
+        act = subst (λ b. Happens b past step e.act) (sym (sym (has_is setting plan w past t step) ∙ has)) (some, subst (Fits past step) (sym told.act_is) fits);
+        by = told.party ∙ by ∙ sym (ap (λ b. if b then named step else party past step) some);
+        of = told.job_is ∙ of ∙ ap (job_of past step) (sym told.act_is) ∙ sym (ap (λ b. if b then None else job_of past step e.act) some);
+      }
+
+  -- the worker of a job in a hand has it in hand
+  in_hand_is : (v : ℕ) (held : Held) → hand_at w.crew.hands v ≡ Holds held → Some held.turn.serial ≡ hand past v
+  in_hand_is v held at = sym ((subst (λ h. HandAs h (is_there past v) (hand past v)) at (t.crewed.tied.handed.each v)).1)
+
+  -- a call of the crew that is a step, and did nothing
+  idles_so : (call : crew.Call) → is_pass call ≡ true → IsDue w call → crew.has_action w.crew call ≡ false → IsOfStep past (step_by call) (crew.nothing (crew.named call) (crew.next_start w.crew))
+  idles_so crew.Arrive pass is_due none = idle_so past Arrive _ (shown _ _ _ _ _) (rests Arrive none)
+  idles_so (crew.Take v) pass is_due none = idle_so past (Take v) _ (shown _ _ _ _ _) (rests (Take v) none)
+  idles_so (crew.End v) pass is_due none = let some = is_due.1 in absurd cc
+  idles_so (crew.Wait v Woken) pass is_due none = idle_so past (Wait v) _ (shown _ _ _ _ _) (rests (Wait v) none)
+  idles_so (crew.Wait v TimedOut) pass is_due none = idle_so past (Late v) _ (shown _ _ _ _ _) (rests (Late v) none)
+  idles_so (crew.SetLimit n) pass is_due none = idle_so past (SetLimit n) _ (shown _ _ _ _ _) (rests (SetLimit n) none)
+  idles_so _ pass is_due none = absurd cc
+
+  -- what is seen of a call of the crew alone is of its step
+  passes_so : (move : crew.Move) → crew.May (IsPlanned plan) w.crew move → is_pass (crew.call_of move) ≡ true → IsDue w (crew.call_of move) → IsOfStep past (step_by (crew.call_of move)) (crew.event_of w.crew move)
+  passes_so (crew.Idles call) may pass is_due = idles_so call pass is_due may
+  passes_so (crew.Arrives pass) may is is_due =
+      let has : nat_lt 0 w.crew.pool.counts.arriving ≡ true = grind (arith, nat_tests) in
+      let many = t.crewed.tied.counted.hands_are in
+      let next : length w.crew.hands + 1 ≡ 1 + arrivals past = omega (arith, many) in
+      done_so Arrive _ _ _ _ (shown _ _ _ _ _) has refl (ap Arrived next) (ap Worker next) refl
+  passes_so (crew.TakesJob v old true turn ticket growth pool) may pass is_due =
+      done_so (Take v) _ _ _ _ (shown _ _ _ _ _) (ap is_free_hand may.0) refl refl refl refl
+  passes_so (crew.TakesJob v old false turn ticket growth pool) may pass is_due =
+      done_so (Take v) _ _ _ _ (shown _ _ _ _ _) (ap is_free_hand may.0) refl refl refl refl
+  passes_so (crew.TakesNone v old back) may pass is_due =
+      done_so (Take v) _ _ _ _ (shown _ _ _ _ _) (ap is_free_hand may.0) refl refl refl refl
+  passes_so (crew.EndsTurn v held back) may pass is_due =
+      done_so (End v) _ _ _ _ (shown _ _ _ _ _) is_due.0 refl (sym (in_hand_is v held may.0)) refl (in_hand_is v held may.0)
+  passes_so (crew.HasWaited v old Woken (Stay back) growth pool) may pass is_due =
+      done_so (Wait v) _ _ _ _ (shown _ _ _ _ _) (ap is_free_hand may.0) refl (refl, refl) refl refl
+  passes_so (crew.HasWaited v old Woken Stop growth pool) may pass is_due =
+      done_so (Wait v) _ _ _ _ (shown _ _ _ _ _) (ap is_free_hand may.0) refl (refl, refl) refl refl
+  passes_so (crew.HasWaited v old TimedOut (Stay back) growth pool) may pass is_due =
+      done_so (Late v) _ _ _ _ (shown _ _ _ _ _) (ap is_free_hand may.0) refl (refl, refl) refl refl
+  passes_so (crew.HasWaited v old TimedOut Stop growth pool) may pass is_due =
+      done_so (Late v) _ _ _ _ (shown _ _ _ _ _) (ap is_free_hand may.0) refl (refl, refl) refl refl
+  passes_so (crew.SetsLimit n) may pass is_due =
+      let has : not (n == 0) ≡ true = grind (arith, nat_tests) in
+      done_so (SetLimit n) _ _ _ _ (shown _ _ _ _ _) has refl refl refl refl
+  passes_so (crew.Sweeps growth pool) may pass is_due =
+      done_so Sweep _ _ _ _ (shown _ _ _ _ _) refl refl tt refl refl
+  passes_so _ may pass is_due = absurd cc
+
+  -- the owner of a job, by its row, is the one that holds it
+  owner_known : (job : Option ℕ) → owner_of w.rows job ≡ law.owner_of job past
+  owner_known None = refl
+  owner_known (Some s) = by (row_of w.rows s) refl
+    where
+      none : (who : Option Party) → holder past s ≡ who → row_of w.rows s ≡ None → None ≡ as_owner who
+      none None held found = refl
+      none (Some who) held found = absurd (let row = (has_row setting plan w past t s (sym (holder_stands setting plan w past t s) ∙ ap is_some held)).1 in cc)
+
+      by : (o : Option Row) → row_of w.rows s ≡ o → owner_by o ≡ as_owner (holder past s)
+      by None found = none (holder past s) refl found
+      by (Some row) found = owner_holds row.core ∙ sym (ap as_owner (t.rowed.each s row found).held_by)
+
+  -- what is seen of a move is of its step
+  step_so : (move : Move) (e : Event) (new : Parts) → May w move → CrewMoves (IsPlanned plan) move w e new → SaidBy w move e → IsOfStep past (step_of move) e
+  step_so (Idles step) e new may does told = idle_so past step e told (rests step may)
+  step_so (Makes capacity) e new may does told = done_so _ _ _ _ e told refl refl (ap (λ h. Made h capacity) t.owned.count) (ap ByOwner t.owned.count) refl
+  step_so (Asks h call owner) e new may does told = done_so _ _ _ _ e told (ap rests_in may.0 ∙ may.1) refl refl refl refl
+  step_so (Owns h owner done) e new may does told =
+      let plain = plain_of Acts owner done.act (ap act_in may.1) in
+      done_so _ _ _ _ e told (ap may_own_in may.0 ∙ owner_acts owner done may.1) plain.nothing plain.pool refl refl
+  step_so (Lends h owner added) e new may does told = done_so _ _ _ _ e told (ap may_own_in may.0 ∙ ap (λ n. may_own n (did owner)) may.1) (begun_fits added).0 (lent_fits added) refl refl
+  step_so (Delivers h owner number) e new may does told =
+      done_so _ _ _ _ e told.1 (ap may_own_in may.0 ∙ ap (λ n. may_own n (did owner)) (noted_next owner.stage owner.session number may.1)) refl refl refl refl
+  step_so (IsDropped h owner) e new may does told = done_so _ _ _ _ e told (ap rests_in may.0 ∙ may.1) refl refl refl refl
+  step_so (Begins added) e new may does told = done_so _ _ _ _ e told refl (begun_fits added).0 (begun_fits added).1 refl refl
+  step_so (Calls k call task) e new may does told = done_so _ _ _ _ e told (ap (λ o. may_call_in o call) may.0 ∙ may.1) (call_plainly call task) (call_fits call task) refl refl
+  step_so (Works v job done) e new may does told =
+      let own = own_act job.held.stage job.row.core w.tasks w.owners done may.1 in
+      done_so _ _ _ _ e told (ap (λ o. is_some (done_in w o)) may.0 ∙ ap is_some may.1) own.nothing (own.pool, own.unasked) refl (in_hand_is v job.held (job_here w v job may.0).holds)
+  step_so (IsAnswered v job answer) e new may does told = done_so _ _ _ _ e told may.1 refl refl refl (in_hand_is v job.held (job_here w v job may.0).holds)
+  step_so (Parks v job) e new may does told =
+      let here = job_here w v job may.0 in
+      let fits = park_fits told.0 job.held.turn.serial (hand past v) (sym (in_hand_is v job.held here.holds)) in
+      done_so _ _ _ _ e told.1 (ap is_turn_end (next_here w v job here ∙ ap (λ at. next_of_core at job.row.core) may.1)) fits.0 fits.1 refl (in_hand_is v job.held here.holds)
+  step_so (Passes call) e new may does told =
+      subst (λ (c : crew.Call). IsOfStep past (step_by c) e) (sym does.call_is)
+      (subst (IsOfStep past (step_by (crew.call_of does.move))) (sym does.event_is) (passes_so does.move does.may (ap is_pass (sym does.call_is) ∙ may.0) (subst (IsDue w) does.call_is may.1)))
+  step_so (IsWoken s row) e new may does told = done_so _ _ _ _ e told.1 (ap is_some may) refl (t.rowed.each s row may).serial refl refl
+  step_so (IsStruck s row) e new may does told = done_so _ _ _ _ e told.1 (ap (let_go_by w) may.0 ∙ may.1) refl (t.rowed.each s row may.0).serial refl refl
+
+  -- the job that is seen is the same owner's after the move
+  owner_stays : (move : Move) (e : Event) (new : Parts) → May w move → SaidBy w move e → new.rows ≡ rows_after w move → owner_of new.rows e.job ≡ owner_of w.rows e.job
+  owner_stays (Lends h owner added) e new may told rows = ap (owner_of new.rows) told.job_is ∙ sym (ap (owner_of w.rows) told.job_is)
+  owner_stays (Begins added) e new may told rows = ap (owner_of new.rows) told.job_is ∙ sym (ap (owner_of w.rows) told.job_is)
+  owner_stays (Works v job done) e new may told rows =
+      ap (λ all. owner_of all e.job) rows
+      ∙ set_stays w.rows job.held.turn.serial job.row _ (job_here w v job may.0).has_row (same_owner job.held.stage job.row.core w.tasks w.owners done may.1) e.job
+  owner_stays (IsAnswered v job answer) e new may told rows =
+      ap (λ all. owner_of all e.job) rows ∙ set_stays w.rows job.held.turn.serial job.row _ (job_here w v job may.0).has_row (answer_stays answer job.row.core) e.job
+  owner_stays _ e new may told rows = ap (λ all. owner_of all e.job) rows
+
+  -- A move keeps the law of steps.
+  pub step_law : (move : Move) (e : Event) (new : Parts) → May w move → CrewMoves (IsPlanned plan) move w e new → new.rows ≡ rows_after w move → StepLawWithOwners past (moment new (step_of move) e)
+  step_law move e new may does rows =
+      let told = said plan w move e new may does in
+      let so = step_so move e new may does told in
+      record { act = so.act; by = so.by; of = so.of; owned = owner_stays move e new may told rows ∙ owner_known e.job }

@@ -1,0 +1,73 @@
+-- No wake of a task is lost: a task that waits, and whose job is over, was woken. The job of a call is never parked.
+use Rattle.std.proofs.Common.{◌≡◌, ℕ, List, [], Bool, true, false, refl, sym, subst, Option, Some, None}
+use Rattle.std.specs.Prelude.{◌||◌}
+use Rattle.std.specs.FinMap.{get}
+use Rattle.blocking_core.specs.declared.job.Action.{Action}
+use Rattle.blocking_core.specs.declared.job.Action.TheVariants as action
+use Rattle.blocking_pool.specs.Jobs.{Job as Entry}
+use Rattle.blocking_pool.specs.declared.pool.standing.Standing.{Standing}
+use Rattle.blocking_pool.specs.declared.pool.standing.Standing.TheVariants.{Parked, Done, Dropped}
+use Rattle.blocking_crew.specs.Ties.{FiledAs}
+use Rattle.blocking_crew.specs.declared.ticket.Ticket.{Ticket}
+use Rattle.blocking_lanes.specs.Calls.{RanAs}
+use Rattle.blocking_lanes.proofs.cuts.Acts.{acts_cut}
+use Rattle.blocking_lanes.proofs.ties.Wakes.{told_at}
+use Rattle.blocking_laws.specs.JobTable.{has_finished, has_given_up}
+use Rattle.blocking_laws.specs.Jobs.{holder, standing, is_parked}
+use Rattle.blocking_laws.specs.Seen.{events, acts_of, task_cut}
+use Rattle.blocking_laws.specs.Turns.{Turn, turn}
+use Rattle.blocking_laws.specs.Wakes.{IsTold, NoLostWake}
+use Rattle.blocking_laws.specs.declared.event.Act.{Act}
+use Rattle.blocking_laws.specs.declared.event.Moment.{Moment}
+use Rattle.blocking_laws.specs.declared.event.Party.TheVariants.{Task as ByTask}
+use Rattle.blocking_parts.specs.Parts.{Parts}
+use Rattle.blocking_parts.specs.Rows.{party_of, call_action, is_first, is_at_first}
+use Rattle.blocking_parts.specs.Ties.{Tied, CoreAs, PlaceAs}
+use Rattle.blocking_parts.specs.declared.row.Core.{Core}
+use Rattle.blocking_parts.specs.declared.row.Core.TheVariants as core
+use Rattle.blocking_parts.proofs.past.Parked.{parked_acted}
+use Rattle.blocking_parts.proofs.ties.Jobs.{held_row}
+use Rattle.blocking_parts.proofs.ties.LetGo.{task_there}
+
+-- the job of a call that is at its first action hasn't acted
+ran_none : (next : Action) (n : ℕ) (acts : List Act) → is_first (call_action next) ≡ true → RanAs next n acts → acts ≡ []
+ran_none action.Call n acts first ran = ran
+ran_none action.Finish n acts first ran = absurd cc
+ran_none action.Deliver n acts first ran = absurd cc
+ran_none action.Done n acts first ran = absurd cc
+
+acts_none : (k : ℕ) (c : Core) (acts : List Act) → party_of c ≡ ByTask k → CoreAs c acts → (is_at_first c ≡ true) × (has_given_up acts ≡ false) → acts ≡ []
+acts_none k (core.Call j call) acts party so place = ran_none call.next call.number acts place.0 (so place.1)
+acts_none k (core.Read h read) acts party so place = absurd cc
+
+-- a job at rest that isn't parked is over, by what was seen of it and what the pool has of it
+rests_over : (found : Option (Entry Ticket)) (stand : Option Standing) (wake cancel mark ended : Bool) (at : Turn) (first : Bool) (acts : List Act) → FiledAs found stand wake cancel mark ended
+    → PlaceAs stand at first acts → (stand ≡ Some Parked → ⊥) → is_parked stand || ended ≡ true → has_finished acts || has_given_up acts ≡ true
+rests_over found (Some Done) wake cancel mark ended at first acts filed place unparked rest = place
+rests_over found (Some Dropped) wake cancel mark ended at first acts filed place unparked rest = place
+rests_over found (Some Parked) wake cancel mark ended at first acts filed place unparked rest = absurd (unparked refl)
+rests_over found None wake cancel mark ended at first acts filed place unparked rest = absurd place
+rests_over None (Some _) wake cancel mark ended at first acts filed place unparked rest = absurd filed
+rests_over (Some entry) (Some _) wake cancel mark ended at first acts filed place unparked rest = let e = filed.3 in absurd cc
+
+module _ (setting : ℕ) (plan : List Bool) (w : Parts) (past : List Moment) (t : Tied setting plan w past) where
+  -- the job of a call is never parked
+  unparked : (k s : ℕ) → holder past s ≡ Some (ByTask k) → standing past s ≡ Some Parked → ⊥
+  unparked k s held parked =
+      let row = held_row setting plan w past t s (ByTask k) held in
+      let r = t.rowed.each s row.0 row.1 in
+      let acts = acts_of s (events past) in
+      let place : (is_at_first row.0.core ≡ true) × (has_given_up acts ≡ false) = subst (λ o. PlaceAs o (turn past s) (is_at_first row.0.core) acts) parked r.place in
+      parked_acted setting plan past t.crewed.laws s parked (acts_none k row.0.core acts row.2 r.core place)
+
+  told_of : (k s : ℕ) → holder past s ≡ Some (ByTask k) → IsTold past s (task_cut k s (events past))
+  told_of k s held waits rest =
+      let task = task_there setting plan w past t k s held in
+      let row = held_row setting plan w past t s (ByTask k) held in
+      let over = rests_over (get w.crew.pool.jobs s) (standing past s) _ _ _ _ (turn past s) (is_at_first row.0.core) (acts_of s (events past)) (t.crewed.tied.filed s) (t.rowed.each s row.0 row.1).place (unparked k s held) rest in
+      told_at task.0 s (task_cut k s (events past)) (t.tasked.each k s task.0 held task.1) waits
+      (subst (λ acts. has_finished acts || has_given_up acts ≡ true) (sym (acts_cut k s (events past))) over)
+
+  -- no wake of a task is lost
+  pub no_lost_wake : NoLostWake past
+  no_lost_wake = record { tasks = told_of }

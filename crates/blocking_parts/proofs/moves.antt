@@ -1,0 +1,7 @@
+pub mod Found
+pub mod Asides
+pub mod Steps
+pub mod Jobs
+pub mod Lanes
+pub mod Carried
+pub mod Seats

@@ -1,0 +1,56 @@
+-- What an owner does by itself is nothing to the crew.
+use Rattle.std.proofs.Common.{◌≡◌, ℕ, List, Bool, true, false, refl, sym, ap, ◌∙◌, Option, Some, None}
+use Rattle.blocking_core.specs.OwnerCalls.{OwnerMachine, owner_next}
+use Rattle.blocking_core.specs.Places.{Met, Served, Waiting, Closed}
+use Rattle.blocking_core.specs.Slots.{Content, Empty, Full, GivenUp, Abandoned}
+use Rattle.blocking_core.specs.declared.io.Fault.{Fault}
+use Rattle.blocking_core.specs.declared.unblock.OwnerAction.{OwnerAction}
+use Rattle.blocking_core.specs.declared.unblock.OwnerAction.TheVariants as action
+use Rattle.blocking_crew.specs.Moves.{is_aside}
+use Rattle.blocking_lanes.specs.Owners.{Owner, Did, IsDid, did, did_by, did_in, drain_did, look_did, looked_as, reply_as, reply_did}
+use Rattle.blocking_lanes.specs.Sessions.{Session, drained, reach, session_after_look}
+use Rattle.blocking_lanes.specs.declared.owner.OwnerStage.{OwnerStage}
+use Rattle.blocking_lanes.specs.declared.owner.OwnerStage.TheVariants as stage
+use Rattle.blocking_laws.specs.declared.event.Act.{Act}
+use Rattle.blocking_laws.specs.declared.event.Reply.{Reply as Told}
+use Rattle.blocking_pool.specs.Jobs.{JobNumber}
+
+-- whether what is done, if anything is, is nothing to the crew
+abbrev is_aside_if : Option Did → Bool
+is_aside_if None = true
+is_aside_if (Some done) = is_aside done.act
+
+drains : (met : Met (List ℕ × Option JobNumber)) (poll : OwnerMachine ℕ) (session : Session) (owner : Owner) → is_aside (drain_did met poll session owner).act ≡ true
+drains (Served got) poll session owner = refl
+drains Waiting poll session owner = refl
+drains Closed poll session owner = refl
+
+looks : (content : Content (Option (Fault ℕ))) (poll : OwnerMachine ℕ) (session : Session) (owner : Owner) → is_aside_if (look_did (looked_as content) poll session owner) ≡ true
+looks (Full why) poll session owner = refl
+looks Empty poll session owner = refl
+looks GivenUp poll session owner = refl
+looks (Abandoned true) poll session owner = refl
+looks (Abandoned false) poll session owner = refl
+
+replies : (told : Option Told) (poll : OwnerMachine ℕ) (owner : Owner) → is_aside_if (reply_did told poll owner) ≡ true
+replies (Some told) poll owner = refl
+replies None poll owner = refl
+
+acts : (next : OwnerAction ℕ) (poll : OwnerMachine ℕ) (session : Option Session) (owner : Owner) → is_aside_if (did_in next poll session owner) ≡ true
+acts (action.Reply reply) poll session owner = replies (reply_as reply) poll owner
+acts (action.Drain most) poll (Some session) owner = drains (drained (reach most session) session) poll session owner
+acts action.PollSlot poll (Some session) owner = looks session.slot.content poll (session_after_look session.slot.content session) owner
+acts _ poll (Some session) owner = refl
+acts _ poll None owner = refl
+
+polls : (here : OwnerStage) (owner : Owner) → is_aside_if (did_by here owner) ≡ true
+polls (stage.Polls poll) owner = acts (owner_next poll) poll owner.session owner
+polls _ owner = refl
+
+-- so what is told of it may be told
+pub told_aside : (old left : Owner) (act : Act) → IsDid (did old) old (Some act) left → is_aside act ≡ true
+told_aside old left act is = by (did old) (polls old.stage old) is
+  where
+    by : (done : Option Did) → is_aside_if done ≡ true → IsDid done old (Some act) left → is_aside act ≡ true
+    by None aside is = let seen = is.0 in absurd cc
+    by (Some done) aside is = let seen = is.0 in cc

@@ -1,0 +1,100 @@
+-- What an act of a job does at its task or at its owner is what it does to all of them.
+use Rattle.std.proofs.Common.{◌≡◌, ℕ, ◌<◌, List, length, refl, sym, ap, ◌∙◌, subst, Option, Some, None}
+use Rattle.std.specs.Prelude.{slice_get, slice_set}
+use Rattle.std.proofs.Math.ListN.{length-set}
+use Rattle.blocking_crew.specs.declared.hand.Stage.{Stage}
+use Rattle.blocking_crew.specs.declared.hand.Stage.TheVariants as stage
+use Rattle.blocking_lanes.specs.Calls as calls
+use Rattle.blocking_lanes.specs.Owners.{Owner, Worked, worked}
+use Rattle.blocking_lanes.specs.OwnerSteps as owner_steps
+use Rattle.blocking_lanes.specs.OwnerSteps.{OwnerStep, act_of_work, owner_after_work, job_after_work}
+use Rattle.blocking_lanes.specs.Reads as reads
+use Rattle.blocking_lanes.specs.Steps.{TaskStep}
+use Rattle.blocking_lanes.specs.Tasks.{Task}
+use Rattle.blocking_lanes.proofs.Places.{set_same}
+use Rattle.blocking_laws.specs.declared.event.Act.{Act}
+use Rattle.blocking_parts.specs.declared.row.Core.{Core}
+use Rattle.blocking_parts.specs.Rows.{Done, IsActed, IsRead, IsDone, done, call_step, call_done, read_step, read_done, read_seen}
+use Rattle.blocking_parts.specs.declared.row.Core.TheVariants as core
+
+-- the job of a call
+pub call_acts : (tasks : List Task) (owners : List Owner) (k : ℕ) (call new_call : calls.Progress) (at : Stage) (task new_task : Task) (seen : Option Act) → slice_get tasks k ≡ Some task
+    → IsActed (call_step at call) at call task seen new_call new_task → IsDone (done at (core.Call k call) tasks owners) (core.Call k call) tasks owners seen (core.Call k new_call) (slice_set tasks k new_task) owners
+call_acts tasks owners k call new_call at task new_task seen found acts =
+    subst (λ o. IsDone (call_done k call at tasks owners o (call_step at call)) (core.Call k call) tasks owners seen (core.Call k new_call) (slice_set tasks k new_task) owners) (sym found) (by (call_step at call) acts)
+  where
+    by : (o : Option TaskStep) → IsActed o at call task seen new_call new_task → IsDone (call_done k call at tasks owners (Some task) o) (core.Call k call) tasks owners seen (core.Call k new_call) (slice_set tasks k new_task) owners
+    by None is = (is.0, ap (core.Call k) is.1, ap (slice_set tasks k) is.2 ∙ set_same tasks k task found, refl)
+    by (Some step) is = (is.0, ap (core.Call k) is.1, ap (slice_set tasks k) is.2, refl)
+
+-- the job of a reader
+pub read_acts : (tasks : List Task) (owners : List Owner) (h : ℕ) (read new_read : reads.Progress) (at : Stage) (owner new_owner : Owner) (seen : Option Act) → slice_get owners h ≡ Some owner
+    → IsRead (read_step at read) read owner seen new_read new_owner → IsDone (done at (core.Read h read) tasks owners) (core.Read h read) tasks owners seen (core.Read h new_read) tasks (slice_set owners h new_owner)
+read_acts tasks owners h read new_read at owner new_owner seen found acts =
+    subst (λ o. IsDone (read_done h read tasks owners o (read_step at read)) (core.Read h read) tasks owners seen (core.Read h new_read) tasks (slice_set owners h new_owner)) (sym found) (by at acts)
+  where
+    same : seen ≡ None → new_read ≡ read → new_owner ≡ owner → IsDone None (core.Read h read) tasks owners seen (core.Read h new_read) tasks (slice_set owners h new_owner)
+    same none job lane = (none, ap (core.Read h) job, refl, ap (slice_set owners h) lane ∙ set_same owners h owner found)
+
+    by : (at : Stage) → IsRead (read_step at read) read owner seen new_read new_owner
+        → IsDone (read_done h read tasks owners (Some owner) (read_step at read)) (core.Read h read) tasks owners seen (core.Read h new_read) tasks (slice_set owners h new_owner)
+    by stage.Waits is = same is.0 is.1 is.2
+    by stage.GaveUp is = same is.0 is.1 is.2
+    by stage.MustGiveUp is = (is.0, ap (core.Read h) is.1, refl, ap (slice_set owners h) is.2)
+    by stage.MustWake is = (is.0, ap (core.Read h) is.1, refl, ap (slice_set owners h) is.2)
+    by stage.Runs is = works (worked read owner) refl is
+      where
+        works : (o : Option Worked) → worked read owner ≡ o → (seen ≡ act_of_work (worked read owner)) × (new_read ≡ job_after_work (worked read owner) read) × (new_owner ≡ owner_after_work (worked read owner) owner)
+            → IsDone (read_done h read tasks owners (Some owner) (read_step stage.Runs read)) (core.Read h read) tasks owners seen (core.Read h new_read) tasks (slice_set owners h new_owner)
+        works None none is =
+            subst (λ a. IsDone (read_seen h read tasks owners owner (owner_steps.Works read) a) (core.Read h read) tasks owners seen (core.Read h new_read) tasks (slice_set owners h new_owner)) (sym (ap act_of_work none))
+            (same (is.0 ∙ ap act_of_work none) (is.1 ∙ ap (λ o. job_after_work o read) none) (is.2 ∙ ap (λ o. owner_after_work o owner) none))
+        works (Some did) some is =
+            subst (λ a. IsDone (read_seen h read tasks owners owner (owner_steps.Works read) a) (core.Read h read) tasks owners seen (core.Read h new_read) tasks (slice_set owners h new_owner)) (sym (ap act_of_work some)) (is.0 ∙ ap act_of_work some, ap (core.Read h) is.1, refl, ap (slice_set owners h) is.2)
+
+-- ---- how many there are
+
+done_lengths : (at : Stage) (c : Core) (tasks : List Task) (owners : List Owner) (did : Done) → done at c tasks owners ≡ Some did → (length did.tasks ≡ length tasks) × (length did.owners ≡ length owners)
+done_lengths at (core.Call k call) tasks owners did is = by (slice_get tasks k) (call_step at call) is
+  where
+    by : (o : Option Task) (step : Option TaskStep) → call_done k call at tasks owners o step ≡ Some did → (length did.tasks ≡ length tasks) × (length did.owners ≡ length owners)
+    by (Some task) (Some step) is =
+        let kept = ap tasks_in is in
+        let same = ap owners_in is in
+        (sym (ap length kept) ∙ length-set tasks k _, sym (ap length same))
+      where
+        tasks_in : Option Done → List Task
+        tasks_in (Some d) = d.tasks
+        tasks_in None = tasks
+
+        owners_in : Option Done → List Owner
+        owners_in (Some d) = d.owners
+        owners_in None = owners
+    by None step is = absurd cc
+    by (Some task) None is = absurd cc
+done_lengths at (core.Read h read) tasks owners did is = by (slice_get owners h) (read_step at read) is
+  where
+    tasks_in : Option Done → List Task
+    tasks_in (Some d) = d.tasks
+    tasks_in None = tasks
+
+    owners_in : Option Done → List Owner
+    owners_in (Some d) = d.owners
+    owners_in None = owners
+
+    seen : (owner : Owner) (step : OwnerStep) (a : Option Act) → read_seen h read tasks owners owner step a ≡ Some did → (length did.tasks ≡ length tasks) × (length did.owners ≡ length owners)
+    seen owner step None is = absurd cc
+    seen owner step (Some act) is = (sym (ap length (ap tasks_in is)), sym (ap length (ap owners_in is)) ∙ length-set owners h _)
+
+    by : (o : Option Owner) (step : Option OwnerStep) → read_done h read tasks owners o step ≡ Some did → (length did.tasks ≡ length tasks) × (length did.owners ≡ length owners)
+    by (Some owner) (Some step) is = seen owner step (owner_steps.act_of step owner) is
+    by None step is = absurd cc
+    by (Some owner) None is = absurd cc
+
+pub same_lengths : (at : Stage) (c : Core) (tasks : List Task) (owners : List Owner) (act : Option Act) (new : Core) (new_tasks : List Task) (new_owners : List Owner) → IsDone (done at c tasks owners) c tasks owners act new new_tasks new_owners
+    → (length new_tasks ≡ length tasks) × (length new_owners ≡ length owners)
+same_lengths at c tasks owners act new new_tasks new_owners is = by (done at c tasks owners) refl is
+  where
+    by : (o : Option Done) → done at c tasks owners ≡ o → IsDone o c tasks owners act new new_tasks new_owners → (length new_tasks ≡ length tasks) × (length new_owners ≡ length owners)
+    by None none is = (ap length is.2, ap length is.3)
+    by (Some did) some is = let l = done_lengths at c tasks owners did some in (ap length is.2 ∙ l.0, ap length is.3 ∙ l.1)

@@ -1,0 +1,40 @@
+use Rattle.std.proofs.Common.{◌≡◌, ◌++◌, ◌∷◌, ◌<◌, [], length, refl, sym, ap, ◌∙◌, subst, Some, IfSome}
+use Rattle.std.specs.Prelude.{slice_get, slice_set}
+use Rattle.blocking_lanes.specs.OwnerSteps as owners_steps
+use Rattle.blocking_lanes.specs.Owners.{Owner, capacity_of, next_of, owner_after_begin}
+use Rattle.blocking_core.specs.Pipes.{empty_pipe}
+use Rattle.blocking_lanes.specs.declared.owner.OwnerNext.TheVariants as next
+use Rattle.blocking_laws.specs.declared.step.Step.TheVariants.{Own}
+use Rattle.blocking_parts.specs.Moves.{Moves, rows_after_add, lent_step}
+use Rattle.blocking_parts.specs.Rows.{read_row}
+use Rattle.blocking_parts.specs.Parts.{Parts}
+use Rattle.blocking_parts.specs.contracts.parts.Parts.{the_view}
+use Rattle.blocking_parts.proofs.moves.Steps.{lent, found_at}
+use Rattle.blocking_parts.proofs.moves.Found.{one_found}
+use Rattle.blocking_parts.proofs.parts.Parts.lend.Goals as goal
+use Rattle.blocking_parts.proofs.parts.Parts.lend.Goals.{in-Ok, in-Err}
+
+pub returns-clause-ok : goal.returns-clause-ok
+returns-clause-ok g c =
+    let w = the_view c.self.inside in
+    let may_answer = g.S.Starter.may_answer c.args.starter.now in
+    let old = c.index_mut-owner.result.now in
+    let within : c.args.place < length w.owners = subst (λ (p : Parts). c.args.place < length p.owners) (sym c.self.view_is) c.requires.there in
+    let found : slice_get w.owners c.args.place ≡ Some old = found_at w.owners c.args.place old within c.index_mut-owner.ensures.value in
+    let same : c.index.result.now ≡ old = one_found (slice_get w.owners c.args.place) c.index.result.now old (found_at w.owners c.args.place c.index.result.now within c.index.ensures) found in
+    let begins : next_of old ≡ next.Begins =
+    subst (λ o. IfSome o (λ (owner : Owner). next_of owner ≡ next.Begins)) found (subst (λ (p : Parts). IfSome (slice_get p.owners c.args.place) (λ (owner : Owner). next_of owner ≡ next.Begins)) (sym c.self.view_is) c.requires.begins) in
+    let done : Moves may_answer (Own c.args.place) w c.add-added.result.event c.match-added.self = elim c.match-added.branch [
+      | in-Ok b ↦
+          subst (Moves may_answer (Own c.args.place) w c.add-added.result.event) (sym b.self-is)
+          (lent may_answer w c.args.place old c.add-added.result.number b.put.new.rows.items (slice_set w.owners c.args.place b.begin.new.self) c.add-added.result.event c.add-added.new.self found begins c.add-added.ensures
+          (b.put.ensures ∙ ap (λ l. l ++ b.of_read.result ∷ []) c.reserve.ensures.items ∙ ap (λ row. w.rows ++ row ∷ []) b.of_read.ensures ∙ sym (ap (rows_after_add w.rows (λ number. read_row number c.args.place)) b.in-Ok.is))
+          (ap (slice_set w.owners c.args.place) (b.begin.ensures ∙ ap (λ pipe. owner_after_begin b.in-Ok.number pipe old) (c.in_ok-pipe.ensures ∙ ap (λ (o : Owner). empty_pipe (capacity_of o)) same))
+          ∙ sym (ap (λ a. slice_set w.owners c.args.place (owners_steps.owner_after (lent_step a) old)) b.in-Ok.is)))
+      | in-Err b ↦
+          subst (Moves may_answer (Own c.args.place) w c.add-added.result.event) (sym b.self-is)
+          (lent may_answer w c.args.place old c.add-added.result.number c.reserve.new.self.items (slice_set w.owners c.args.place b.refuse.new.self) c.add-added.result.event c.add-added.new.self found begins c.add-added.ensures
+          (c.reserve.ensures.items ∙ sym (ap (rows_after_add w.rows (λ number. read_row number c.args.place)) b.in-Err.is))
+          (ap (slice_set w.owners c.args.place) b.refuse.ensures ∙ sym (ap (λ a. slice_set w.owners c.args.place (owners_steps.owner_after (lent_step a) old)) b.in-Err.is)))
+    ] in
+    rw (sym c.self.view_is) done

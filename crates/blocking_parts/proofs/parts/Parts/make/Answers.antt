@@ -1,0 +1,21 @@
+use Rattle.std.proofs.Common.{refl, sym, ap, ◌∙◌, ◌≡◌, ◌++◌, ◌∷◌, [], arith, length, subst}
+use Rattle.blocking_crew.specs.Moves as crew
+use Rattle.blocking_crew.specs.Moves.{NeverAsked}
+use Rattle.blocking_lanes.specs.Owners.{new_owner}
+use Rattle.blocking_laws.specs.declared.event.Act.TheVariants.{Made}
+use Rattle.blocking_laws.specs.declared.event.Party.TheVariants.{Owner as ByOwner}
+use Rattle.blocking_parts.specs.contracts.parts.Parts.{the_view}
+use Rattle.blocking_parts.proofs.moves.Steps.{made}
+use Rattle.blocking_parts.proofs.parts.Parts.make.Goals as goal
+
+pub returns-clause-ok : goal.returns-clause-ok
+returns-clause-ok c =
+    let w = the_view c.self.inside in
+    let told = c.len-place.ensures in
+    let len = c.reserve.new.self.ok.0 in
+    let kept = ap length c.reserve.ensures.items in
+    let many : c.len-place.result ≡ length w.owners = omega (arith, told, len, kept) in
+    rw (sym c.self.view_is)
+    (made w c.args.capacity c.push.new.self.items c.tell.result
+    (c.in-Ok.ensures.items ∙ ap (λ l. l ++ c.new.result ∷ []) c.reserve.ensures.items ∙ ap (λ o. w.owners ++ o ∷ []) c.new.ensures)
+    (subst (λ n. crew.Moves NeverAsked (crew.Tell (ByOwner n) (Made n c.args.capacity)) w.crew c.tell.result w.crew) many c.tell.ensures))

@@ -1,0 +1,35 @@
+-- Who holds a job: it has a holder exactly if it was accepted.
+use Rattle.std.proofs.Common.{◌≡◌, ℕ, ◌==◌, List, [], ◌∷◌, Bool, true, false, refl, sym, ap, ◌∙◌, Option, Some, None, if◌then◌else◌}
+use Rattle.std.specs.Prelude.{is_some}
+use Rattle.std.proofs.lemmas.Bool.{eqb-true, eqb-false}
+use Rattle.blocking_pool.specs.Lists.{is_in}
+use Rattle.blocking_pool.proofs.Lists.{is_in-last, is_in-push}
+use Rattle.blocking_laws.specs.Jobs.{accepted_by, accepted_jobs, accepts, holder, is_holder, newcomer}
+use Rattle.blocking_laws.specs.Seen.{joined}
+use Rattle.blocking_laws.specs.declared.event.Act.{Act}
+use Rattle.blocking_laws.specs.declared.event.Act.TheVariants.{Accepted}
+use Rattle.blocking_laws.specs.declared.event.Moment.{Moment}
+use Rattle.blocking_laws.specs.declared.event.Party.{Party}
+use Rattle.blocking_laws.specs.declared.event.Party.TheVariants.{Owner, Task, Worker, Pool}
+
+known_by : (act : Act) (s : ℕ) (jobs : List ℕ) (new : Party) (held : Option Party) → is_some held ≡ is_in s jobs → is_some (if accepts s act then Some new else held) ≡ is_in s (joined jobs (accepted_by act))
+known_by (Accepted t) s jobs new held before = by (t == s) refl
+  where
+    by : (b : Bool) → (t == s) ≡ b → is_some (if b then Some new else held) ≡ is_in s (joined jobs (t ∷ []))
+    by true same = sym (is_in-last s t jobs (sym (eqb-true t s same)))
+    by false other = before ∙ sym (is_in-push s t jobs (λ same. eqb-false t s other (sym same)))
+known_by _ s jobs new held before = before
+
+pub holder_known : (past : List Moment) (s : ℕ) → is_some (holder past s) ≡ is_in s (accepted_jobs past)
+holder_known [] s = refl
+holder_known (now ∷ past) s = known_by now.event.act s (accepted_jobs past) (newcomer past now.event.party) (holder past s) (holder_known past s)
+
+-- a holder that is this party is no other
+pub holder_is : (held : Option Party) (who : Party) → is_holder held who ≡ true → held ≡ Some who
+holder_is (Some (Owner h)) (Owner g) is = ap (λ n. Some (Owner n)) (sym (eqb-true g h is))
+holder_is (Some (Task k)) (Task j) is = ap (λ n. Some (Task n)) (sym (eqb-true j k is))
+holder_is (Some (Owner h)) _ is = absurd cc
+holder_is (Some (Task k)) _ is = absurd cc
+holder_is (Some (Worker v)) who is = absurd cc
+holder_is (Some Pool) who is = absurd cc
+holder_is None who is = absurd cc

@@ -1,0 +1,97 @@
+-- What the past alone says of a job that is parked: it has acted, since it parks only after its own act.
+use Rattle.std.proofs.Common.{◌≡◌, ℕ, ◌==◌, List, [], ◌∷◌, Bool, true, false, refl, sym, ap, ◌∙◌, Option, Some, if◌then◌else◌}
+use Rattle.std.specs.Prelude.{◌&&◌}
+use Rattle.std.proofs.lemmas.Bool.{eqb-true}
+use Rattle.blocking_pool.specs.declared.pool.answer.Woke.TheVariants.{Entered}
+use Rattle.blocking_pool.specs.declared.pool.standing.Standing.{Standing}
+use Rattle.blocking_pool.specs.declared.pool.standing.Standing.TheVariants.{Queued, Running, Parked}
+use Rattle.blocking_lanes.proofs.cuts.Acts.{acts_more}
+use Rattle.blocking_laws.specs.Answers.{PoolAnswers, end_of}
+use Rattle.blocking_laws.specs.Jobs.{standing, stands_by, sweeps, is_parked, is_marked}
+use Rattle.blocking_laws.specs.Legal.{PoolLaw}
+use Rattle.blocking_laws.specs.Seen.{EachMayFollow, events, acts_of, is_of_job}
+use Rattle.blocking_laws.specs.Turns.{Turn, GoesOn, IsWaiting, MustGiveUp, HasGivenUp, turn, turn_by}
+use Rattle.blocking_laws.specs.declared.event.Act.{Act}
+use Rattle.blocking_laws.specs.declared.event.Act.TheVariants.{Accepted, JobWoken, JobCancelled, Took, TookDropped, Ended, HandedOut, JobParked, GaveUp}
+use Rattle.blocking_laws.specs.declared.event.Event.{Event}
+use Rattle.blocking_laws.specs.declared.event.Moment.{Moment}
+
+-- an event that is no act of a job leaves no job waiting that didn't wait before
+waited : (act : Act) (s : ℕ) (before : Turn) → turn_by act false s before ≡ IsWaiting → before ≡ IsWaiting
+waited (Took t) s before is = by (t == s) is
+  where
+    by : (b : Bool) → (if b then GoesOn else before) ≡ IsWaiting → before ≡ IsWaiting
+    by true is = absurd cc
+    by false is = is
+waited (TookDropped t) s before is = by (t == s) is
+  where
+    by : (b : Bool) → (if b then MustGiveUp else before) ≡ IsWaiting → before ≡ IsWaiting
+    by true is = absurd cc
+    by false is = is
+waited (HandedOut t) s before is = by (t == s) is
+  where
+    by : (b : Bool) → (if b then MustGiveUp else before) ≡ IsWaiting → before ≡ IsWaiting
+    by true is = absurd cc
+    by false is = is
+waited _ s before is = is
+
+-- what has acted just now has acted
+acted : (s : ℕ) (e : Event) (X : List Event) → is_of_job s e ≡ true → acts_of s (e ∷ X) ≡ [] → ⊥
+acted s e X own none = let more = acts_more s e X true own in cc
+
+-- a job that waits has acted
+waits_acted : (past : List Moment) (s : ℕ) → turn past s ≡ IsWaiting → acts_of s (events past) ≡ [] → ⊥
+waits_acted [] s waits none = cc
+waits_acted (now ∷ past) s waits none = by (is_of_job s now.event) refl (waits_acted past s)
+  where
+    by : (b : Bool) → is_of_job s now.event ≡ b → (turn past s ≡ IsWaiting → acts_of s (events past) ≡ [] → ⊥) → ⊥
+    by true own before = acted s now.event (events past) own none
+    by false out before =
+        before (waited now.event.act s (turn past s) (ap (λ b. turn_by now.event.act b s (turn past s)) (sym out) ∙ waits))
+        (sym (acts_more s now.event (events past) false out) ∙ none)
+
+-- a turn ends parked only where its job waits
+ends_parked : (at : Turn) (drop woken : Bool) (s : ℕ) → Ended s Parked ≡ end_of at drop woken s → at ≡ IsWaiting
+ends_parked IsWaiting drop woken s is = refl
+ends_parked GoesOn drop woken s is = absurd cc
+ends_parked MustGiveUp drop woken s is = absurd cc
+ends_parked HasGivenUp drop woken s is = absurd cc
+
+-- a job that is parked has acted
+pub parked_acted : (setting : ℕ) (plan : List Bool) (past : List Moment) → EachMayFollow (PoolLaw setting plan) past → (s : ℕ) → standing past s ≡ Some Parked → acts_of s (events past) ≡ [] → ⊥
+parked_acted setting plan [] laws s parked none = cc
+parked_acted setting plan (now ∷ past) laws s parked none = by (is_of_job s now.event) refl (parked_acted setting plan past laws.1 s)
+  where
+    quiet_before : is_of_job s now.event ≡ false → acts_of s (events past) ≡ []
+    quiet_before out = sym (acts_more s now.event (events past) false out) ∙ none
+
+    enters : (b : Bool) (how : Standing) → (how ≡ Parked → ⊥) → (standing past s ≡ Some Parked → ⊥) → (if b then Some how else standing past s) ≡ Some Parked → ⊥
+    enters true how other still is = other cc
+    enters false how other still is = still is
+
+    ends : (how : Standing) (t : ℕ) (b : Bool) → (t == s) ≡ b → acts_of s (events past) ≡ [] → PoolAnswers setting past now (Ended t how) → (standing past s ≡ Some Parked → ⊥)
+        → (if b then Some how else standing past s) ≡ Some Parked → ⊥
+    ends how t true same quiet answers still is =
+        let one : how ≡ Parked = cc in
+        let here : t ≡ s = eqb-true t s same in
+        waits_acted past t (ends_parked (turn past t) _ _ t (ap (Ended t) (sym one) ∙ answers)) (ap (λ n. acts_of n (events past)) here ∙ quiet)
+    ends how t false other quiet answers still is = still is
+
+    stood : (act : Act) → PoolAnswers setting past now act → acts_of s (events past) ≡ [] → (standing past s ≡ Some Parked → ⊥) → stands_by act s (standing past s) ≡ Some Parked → ⊥
+    stood (Accepted t) answers quiet still is = enters (t == s) Queued (λ e. cc) still is
+    stood (JobWoken t Entered) answers quiet still is = enters (t == s) Queued (λ e. cc) still is
+    stood (JobCancelled t Entered) answers quiet still is = enters (t == s) Queued (λ e. cc) still is
+    stood (Took t) answers quiet still is = enters (t == s) Running (λ e. cc) still is
+    stood (TookDropped t) answers quiet still is = enters (t == s) Running (λ e. cc) still is
+    stood (Ended t how) answers quiet still is = ends how t (t == s) refl quiet answers still is
+    stood _ answers quiet still is = still is
+
+    swept : (b : Bool) → acts_of s (events past) ≡ [] → (standing past s ≡ Some Parked → ⊥) → (if b then Some Queued else stands_by now.event.act s (standing past s)) ≡ Some Parked → ⊥
+    swept true quiet still is = cc
+    swept false quiet still is = stood now.event.act laws.0.answers quiet still is
+
+    by : (b : Bool) → is_of_job s now.event ≡ b → (standing past s ≡ Some Parked → acts_of s (events past) ≡ [] → ⊥) → ⊥
+    by true own before = acted s now.event (events past) own none
+    by false out before =
+        let quiet = quiet_before out in
+        swept (sweeps now.event.act && is_parked (standing past s) && is_marked past s) quiet (λ was. before was quiet) parked

@@ -1,0 +1,163 @@
+-- Each move keeps the marks: only a job that was let go is marked or cancelled, and one that was let go and isn't over is marked.
+use Rattle.std.proofs.Common.{◌≡◌, ℕ, ◌≤◌, List, [], ◌∷◌, length, Bool, true, false, refl, sym, ap, ◌∙◌, subst, arith, Option, Some, None}
+use Rattle.std.specs.Prelude.{slice_get, Ok, Err}
+use Rattle.std.proofs.lemmas.Bool.{eqb-true}
+use Rattle.blocking_crew.specs.Crews.{may_act}
+use Rattle.blocking_crew.specs.Moves.{parked_act}
+use Rattle.blocking_crew.specs.Ties.{CrewHolds}
+use Rattle.blocking_crew.specs.declared.hand.Stage.{Stage}
+use Rattle.blocking_crew.specs.declared.tickets.Parking.{Parking}
+use Rattle.blocking_crew.specs.declared.tickets.Parking.TheVariants as parking
+use Rattle.blocking_crew.proofs.ties.Acts.{aside_or, aside_plain, by_work}
+use Rattle.blocking_lanes.specs.Owners.{Owner, Did, IsDid, did, is_gone, next_at}
+use Rattle.blocking_lanes.specs.Sessions.{Session}
+use Rattle.blocking_lanes.specs.declared.owner.OwnerNext.TheVariants as next
+use Rattle.blocking_lanes.specs.declared.owner.OwnerStage.{OwnerStage}
+use Rattle.blocking_lanes.specs.declared.owner.OwnerStage.TheVariants as stage
+use Rattle.blocking_lanes.specs.Tasks.{Task, task_act}
+use Rattle.blocking_lanes.proofs.acts.Calls.{by_call}
+use Rattle.blocking_lanes.proofs.cuts.Acts.{own_cut}
+use Rattle.blocking_laws.specs.Growth.{IsPlanned}
+use Rattle.blocking_laws.specs.Jobs.{accepted_by, accepts, cancels, holder, lets_go, newcomer, tasks}
+use Rattle.blocking_laws.specs.Seen.{events, own}
+use Rattle.blocking_laws.specs.Steps.{may_cancel}
+use Rattle.blocking_laws.specs.TaskLaws.{is_let_go}
+use Rattle.blocking_laws.specs.declared.event.Act.{Act}
+use Rattle.blocking_laws.specs.declared.event.Act.TheVariants.{Accepted, JobCancelled, HolderDropped}
+use Rattle.blocking_laws.specs.declared.event.Event.{Event}
+use Rattle.blocking_laws.specs.declared.event.Moment.{Moment}
+use Rattle.blocking_laws.specs.declared.event.Party.TheVariants.{Owner as ByOwner, Task as ByTask, Pool}
+use Rattle.blocking_laws.specs.declared.step.Step.{Step}
+use Rattle.blocking_laws.specs.declared.step.TaskCall.{TaskCall}
+use Rattle.blocking_pool.specs.Jobs.{JobNumber}
+use Rattle.blocking_pool.specs.declared.pool.answer.Woke.{Woke}
+use Rattle.blocking_pool.specs.declared.pool.answer.Woke.TheVariants.{Entered, Marked as MarkedBy, Nothing}
+use Rattle.blocking_parts.specs.Moves.{Move, Idles, Makes, Asks, Owns, Lends, Delivers, IsDropped, Begins, Calls, Works, IsAnswered, Parks, Passes, IsWoken, IsStruck, May, CrewMoves, step_of}
+use Rattle.blocking_parts.specs.Parts.{Parts, row_of, let_go_of}
+use Rattle.blocking_parts.specs.Ties.{Tied, Marked, moment}
+use Rattle.blocking_parts.specs.declared.row.Row.{Row}
+use Rattle.blocking_parts.proofs.moves.Asides.{told_aside}
+use Rattle.blocking_parts.proofs.past.Marks.{KeepsMarks, IsQuiet, quiet_keeps, plain_quiet, marks_kept}
+use Rattle.blocking_parts.proofs.ties.Jobs.{next_free}
+use Rattle.blocking_parts.proofs.ties.LetGo.{let_go_is}
+use Rattle.blocking_parts.proofs.ties.Said.{SaidBy, said, done_fits}
+use Rattle.blocking_parts.proofs.ties.Told.{Told, IsPlain}
+
+-- ---- quiet acts
+
+-- an act of a job
+work_quiet : (at : Stage) (act : Act) → may_act at act ≡ true → IsQuiet act
+work_quiet at act may =
+    by_work (λ here done. IsQuiet done) (λ here done plain goes fits. plain_quiet done plain) (record { new = λ s. refl; cancelled = λ s. refl; kept = refl })
+    (λ waker. record { new = λ s. refl; cancelled = λ s. refl; kept = refl }) at act may
+
+-- an act of an owner by itself
+own_quiet : (owner : Owner) (done : Did) → did owner ≡ Some done → IsQuiet done.act
+own_quiet owner done is =
+    let aside = told_aside owner done.owner done.act (subst (λ o. IsDid o owner (Some done.act) done.owner) (sym is) (refl, refl)) in
+    plain_quiet done.act (aside_plain done.act (aside_or done.act aside))
+
+-- the end of a run that waits
+parked_quiet : (how : Parking) (s : ℕ) → IsQuiet (parked_act how s)
+parked_quiet (parking.Parked pass) s = record { new = λ s. refl; cancelled = λ s. refl; kept = refl }
+parked_quiet (parking.Queued pass) s = record { new = λ s. refl; cancelled = λ s. refl; kept = refl }
+parked_quiet (parking.HandedOut turn) s = record { new = λ s. refl; cancelled = λ s. refl; kept = refl }
+
+-- an event of the crew alone
+none_new : (act : Act) (s : ℕ) → accepted_by act ≡ [] → accepts s act ≡ false
+none_new (Accepted t) s none = absurd cc
+none_new _ s none = refl
+
+pass_quiet : (e : Event) → IsPlain e → IsQuiet e.act
+pass_quiet e plain = record { new = λ s. none_new e.act s plain.none_new; cancelled = plain.cancelled; kept = plain.kept }
+
+-- ---- who brings a new job, and which one is cancelled
+
+-- an owner whose session begins is there
+begins_there : (here : OwnerStage) (session : Option Session) → next_at here session ≡ next.Begins → is_gone here ≡ false
+begins_there stage.Dropped session is = absurd cc
+begins_there _ session is = refl
+
+-- the job that a cancel cancels
+cancelled_is : (s t : ℕ) (woke : Woke) → cancels (JobCancelled t woke) s ≡ true → t ≡ s
+cancelled_is s t Entered is = eqb-true t s is
+cancelled_is s t MarkedBy is = eqb-true t s is
+cancelled_is s t Nothing is = absurd cc
+
+module _ (setting : ℕ) (plan : List Bool) (w : Parts) (past : List Moment) (t : Tied setting plan w past) where
+  -- a new task let nothing go
+  task_is_new : may_cancel (Some (ByTask (tasks past))) past ≡ false
+  task_is_new =
+      let count = t.tasked.count in
+      let beyond : length w.tasks ≤ tasks past = omega (arith, count) in
+      let none = t.tasked.unborn (tasks past) w.crew.pool.next_serial beyond (next_free setting plan w past t) in
+      sym (ap is_let_go (own_cut (tasks past) w.crew.pool.next_serial (events past))) ∙ ap (λ c. is_let_go (own c)) none
+
+  -- nor did an owner whose session begins
+  owner_is_there : (h : ℕ) (owner : Owner) → slice_get w.owners h ≡ Some owner → next_at owner.stage owner.session ≡ next.Begins → may_cancel (Some (ByOwner h)) past ≡ false
+  owner_is_there h owner found begins = (t.owned.each h owner found).gone ∙ begins_there owner.stage owner.session begins
+
+  module _ (now : Moment) where
+    told_quiet : (act : Act) → now.event.act ≡ act → IsQuiet act → KeepsMarks past now
+    told_quiet act is quiet = quiet_keeps past now (subst IsQuiet (sym is) quiet)
+
+    -- a new job
+    new_keeps : (s : ℕ) → now.event.act ≡ Accepted s → may_cancel (Some (newcomer past now.event.party)) past ≡ false → KeepsMarks past now
+    new_keeps s is free = record {
+      cancelled = λ n cancel. let none = ap (λ a. cancels a n) is in absurd cc;
+      dropped = λ h party lets. let none = ap lets_go is in absurd cc;
+      new = λ n accepted. free;
+    }
+
+    -- an owner that is dropped
+    drop_keeps : now.event.act ≡ HolderDropped → KeepsMarks past now
+    drop_keeps is = record {
+      cancelled = λ n cancel. let none = ap (λ a. cancels a n) is in absurd cc;
+      dropped = λ h party lets. is;
+      new = λ n accepted. let none = ap (accepts n) is in absurd cc;
+    }
+
+    -- a call of a task
+    call_keeps : (k : ℕ) (call : TaskCall) (task : Task) → now.event.party ≡ ByTask k → now.event.act ≡ task_act call task → KeepsMarks past now
+    call_keeps k call task party is = record {
+      cancelled = λ n cancel. let none = ap (λ a. cancels a n) is ∙ by_call (λ act. cancels act n ≡ false) refl (λ m. refl) refl refl refl refl call task in absurd cc;
+      dropped = λ h owner lets. absurd cc;
+      new = λ n accepted. let none = ap (accepts n) is ∙ by_call (λ act. accepts n act ≡ false) refl (λ m. refl) refl refl refl refl call task in absurd cc;
+    }
+
+    -- a cancel of a job that was let go
+    struck_keeps : (s : ℕ) (row : Row) (woke : Woke) → row_of w.rows s ≡ Some row → let_go_of w row.core ≡ true → now.event.act ≡ JobCancelled row.number.serial woke → KeepsMarks past now
+    struck_keeps s row woke found let_go is = record {
+      cancelled = λ n cancel.
+          let here : s ≡ n = sym (t.rowed.each s row found).serial ∙ cancelled_is n row.number.serial woke (ap (λ a. cancels a n) (sym is) ∙ cancel) in
+          subst (λ m. may_cancel (holder past m) past ≡ true) here (sym (let_go_is setting plan w past t s row found) ∙ let_go);
+      dropped = λ h party lets. let none = ap lets_go is in absurd cc;
+      new = λ n accepted. let none = ap (accepts n) is in absurd cc;
+    }
+
+  -- ---- each move
+
+  keeps_marks : (move : Move) (e : Event) (new : Parts) → May w move → SaidBy w move e → KeepsMarks past (moment new (step_of move) e)
+  keeps_marks (Idles step) e new may told = told_quiet _ _ told.act_is (plain_quiet _ refl)
+  keeps_marks (Makes capacity) e new may told = told_quiet _ _ told.act_is (plain_quiet _ refl)
+  keeps_marks (Asks h call owner) e new may told = told_quiet _ _ told.act_is (plain_quiet _ refl)
+  keeps_marks (Owns h owner done) e new may told = told_quiet _ done.act told.act_is (own_quiet owner done may.1)
+  keeps_marks (Lends h owner (Ok number)) e new may told =
+      new_keeps _ number.serial told.act_is (ap (λ p. may_cancel (Some (newcomer past p)) past) told.party ∙ owner_is_there h owner may.0 may.1)
+  keeps_marks (Lends h owner (Err why)) e new may told = told_quiet _ _ told.act_is (record { new = λ s. refl; cancelled = λ s. refl; kept = refl })
+  keeps_marks (Delivers h owner number) e new may told = told_quiet _ _ told.1.act_is (record { new = λ s. refl; cancelled = λ s. refl; kept = refl })
+  keeps_marks (IsDropped h owner) e new may told = drop_keeps _ told.act_is
+  keeps_marks (Begins (Ok number)) e new may told = new_keeps _ number.serial told.act_is (ap (λ p. may_cancel (Some (newcomer past p)) past) told.party ∙ task_is_new)
+  keeps_marks (Begins (Err why)) e new may told = told_quiet _ _ told.act_is (record { new = λ s. refl; cancelled = λ s. refl; kept = refl })
+  keeps_marks (Calls k call task) e new may told = call_keeps _ k call task told.party told.act_is
+  keeps_marks (Works v job done) e new may told = told_quiet _ done.act told.act_is (work_quiet job.held.stage done.act (done_fits done job.held.stage job.row.core w.tasks w.owners may.1))
+  keeps_marks (IsAnswered v job answer) e new may told = told_quiet _ _ told.act_is (plain_quiet _ refl)
+  keeps_marks (Parks v job) e new may told = told_quiet _ _ told.1.act_is (parked_quiet told.0 job.held.turn.serial)
+  keeps_marks (Passes call) e new may plain = quiet_keeps past _ (pass_quiet e plain)
+  keeps_marks (IsWoken s row) e new may told = told_quiet _ _ told.1.act_is (record { new = λ n. refl; cancelled = λ n. refl; kept = refl })
+  keeps_marks (IsStruck s row) e new may told = struck_keeps _ s row told.0 may.0 may.1 told.1.act_is
+
+  -- A move keeps the marks.
+  pub marks_after : (move : Move) (e : Event) (new : Parts) → May w move → CrewMoves (IsPlanned plan) move w e new → CrewHolds setting plan new.crew (moment new (step_of move) e ∷ past) → Marked (moment new (step_of move) e ∷ past)
+  marks_after move e new may does later =
+      marks_kept setting plan past (moment new (step_of move) e) later.laws t.marks (keeps_marks move e new may (said plan w move e new may does))

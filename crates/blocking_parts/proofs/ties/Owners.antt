@@ -1,0 +1,328 @@
+-- Each move keeps the tie of the owners, and their laws: it is an event of none, makes a new one, or is a step of one.
+use Rattle.std.proofs.Common.{◌≡◌, ℕ, ◌==◌, ◌-◌, List, [], ◌∷◌, length, Bool, true, false, refl, sym, ap, ◌∙◌, subst, Option, Some, None}
+use Rattle.std.specs.Prelude.{◌&&◌, ◌||◌, not, slice_get, slice_set, Result, Ok, Err}
+use Rattle.std.proofs.lemmas.Bool.{eqb-true}
+use Rattle.blocking_core.specs.Reading.{read_next}
+use Rattle.blocking_core.specs.declared.job.read.ReadAction.{ReadAction}
+use Rattle.blocking_core.specs.declared.job.read.ReadAction.TheVariants as read
+use Rattle.blocking_crew.specs.Moves as crew
+use Rattle.blocking_crew.specs.Moves.{added_act, parked_act}
+use Rattle.blocking_crew.specs.Ties.{turn_of}
+use Rattle.blocking_crew.specs.declared.hand.Stage.{Stage}
+use Rattle.blocking_crew.specs.declared.hand.Stage.TheVariants as stage
+use Rattle.blocking_crew.specs.declared.tickets.Parking.{Parking}
+use Rattle.blocking_crew.specs.declared.tickets.Parking.TheVariants as parking
+use Rattle.blocking_lanes.specs.OwnerSteps.{OwnerStep, IsAside, IsHeld, IsFresh, MayTake, is_of_its_job, act_of, act_in, owner_in, delivered, owner_after, event_by}
+use Rattle.blocking_lanes.specs.OwnerSteps as lanes
+use Rattle.blocking_lanes.specs.OwnerTies.{OwnersHold}
+use Rattle.blocking_lanes.specs.Owners.{Owner, is_gone}
+use Rattle.blocking_lanes.specs.Reads.{Progress, ReadAs, action_as, action_of}
+use Rattle.blocking_lanes.specs.Tasks.{Task, task_act}
+use Rattle.blocking_lanes.proofs.Places.{set_same}
+use Rattle.blocking_lanes.proofs.acts.Calls.{by_call}
+use Rattle.blocking_lanes.proofs.owners.Own.{value_of}
+use Rattle.blocking_lanes.proofs.owners.Owners.{aside, born, stepped}
+use Rattle.blocking_lanes.proofs.owners.Plain.{IsPlain}
+use Rattle.blocking_lanes.proofs.owners.Reads.{awake}
+use Rattle.blocking_lanes.proofs.ties.Holders.{accepts_no_job}
+use Rattle.blocking_laws.specs.Growth.{IsPlanned}
+use Rattle.blocking_laws.specs.JobTable.{Reading, JobAction, AskCall, AskBytes, next_but_wake, is_answer, is_over, has_given_up}
+use Rattle.blocking_laws.specs.Jobs.{accepted_by, accepts, holder}
+use Rattle.blocking_laws.specs.OwnerLaws.{OwnerLaws}
+use Rattle.blocking_laws.specs.Seen.{events, acts_of, cut, is_in_cut, is_of_pool, is_nothing, is_some_worker, is_of_job, is_by_task}
+use Rattle.blocking_laws.specs.Steps.{may_cancel, is_answered_action, is_making, named, next_in_turn}
+use Rattle.blocking_laws.specs.Turns.{GoesOn}
+use Rattle.blocking_laws.specs.declared.event.Act.{Act}
+use Rattle.blocking_laws.specs.declared.event.Act.TheVariants.{Made, Asked, Accepted, Refused, JobWoken, JobCancelled, HolderDropped, Answered, NoAction}
+use Rattle.blocking_laws.specs.declared.event.Event.{Event}
+use Rattle.blocking_laws.specs.declared.event.Moment.{Moment}
+use Rattle.blocking_laws.specs.declared.event.Party.{Party}
+use Rattle.blocking_laws.specs.declared.event.Party.TheVariants.{Owner as ByOwner, Task as ByTask, Worker, Pool}
+use Rattle.blocking_laws.specs.declared.step.Answer.{Answer}
+use Rattle.blocking_laws.specs.declared.step.Step.{Step}
+use Rattle.blocking_laws.specs.declared.step.TaskCall.{TaskCall}
+use Rattle.blocking_pool.specs.Growth.{Growth}
+use Rattle.blocking_pool.specs.Jobs.{JobNumber}
+use Rattle.blocking_pool.specs.declared.pool.answer.Refusal.{Refusal}
+use Rattle.blocking_pool.specs.declared.pool.answer.Woke.{Woke}
+use Rattle.blocking_pool.specs.declared.pool.standing.Standing.TheVariants.{Running}
+use Rattle.blocking_parts.specs.Moves.{Move, Idles, Makes, Asks, Owns, Lends, Delivers, IsDropped, Begins, Calls, Works, IsAnswered, Parks, Passes, IsWoken, IsStruck, May, CrewMoves, step_of, rows_after, owners_after}
+use Rattle.blocking_parts.specs.Parts.{Parts, InHand, done_by, owner_of, next_at}
+use Rattle.blocking_parts.specs.Rows as row
+use Rattle.blocking_parts.specs.Rows.{Done, done, read_step, core_after_answer, is_at_first, is_first, party_of}
+use Rattle.blocking_parts.specs.Ties.{CoreAs, GaveAs, PlaceAs, Tied, moment}
+use Rattle.blocking_parts.specs.declared.row.Core.{Core}
+use Rattle.blocking_parts.specs.declared.row.Core.TheVariants as core
+use Rattle.blocking_parts.proofs.moves.Found.{there}
+use Rattle.blocking_parts.proofs.ties.Acted.{call_acts, read_acts, may_plain, seen_in, seen_is, its_owner, let_go_here, asks_here}
+use Rattle.blocking_parts.proofs.ties.Jobs.{IsHere, job_here, job_place, next_free}
+use Rattle.blocking_parts.proofs.ties.Said.{SaidBy, done_fits, said}
+use Rattle.blocking_parts.proofs.ties.LetGo.{owner_there}
+use Rattle.blocking_parts.proofs.ties.Told.{Told, added_of, by_no_worker, by_worker}
+
+-- ---- what the job of a reader may do
+
+-- a job at its first action isn't over
+first_goes : (job : Progress) (acts : List Act) → ReadAs job acts → is_first (action_of job) ≡ true → is_over (next_but_wake Reading acts) ≡ false
+first_goes job acts r first = by (read_next job.core) refl first
+  where
+    by : (a : ReadAction) → read_next job.core ≡ a → is_first (action_as job.piece a) ≡ true → is_over (next_but_wake Reading acts) ≡ false
+    by read.FindRoom is first = ap is_over (sym r.next ∙ ap (action_as job.piece) (awake job read.FindRoom is (λ e. cc)).next_is)
+    by _ is first = absurd cc
+
+-- where it is in its turn, its next step is one that its owner may take
+read_may : (at : Stage) (job : Progress) (step : OwnerStep) (owner : Owner) (acts : List Act) → read_step at job ≡ Some step → (at ≡ stage.MustGiveUp → is_gone owner.stage ≡ true)
+    → (has_given_up acts ≡ false → ReadAs job acts) → PlaceAs (Some Running) (turn_of at) (is_first (action_of job)) acts → GaveAs at acts → MayTake step owner acts
+read_may stage.Runs job step owner acts is gone reads place gave = subst (λ s. MayTake s owner acts) (ap (value_of step) is) (reads place)
+read_may stage.MustGiveUp job step owner acts is gone reads place gave = subst (λ s. MayTake s owner acts) (ap (value_of step) is) (gone refl, first_goes job acts (reads place.1) place.0)
+read_may stage.MustWake job step owner acts is gone reads place gave = subst (λ s. MayTake s owner acts) (ap (value_of step) is) (gave Reading).0
+read_may stage.Waits job step owner acts is gone reads place gave = absurd cc
+read_may stage.GaveUp job step owner acts is gone reads place gave = absurd cc
+
+-- that is an act of the owner's job
+its_act : (at : Stage) (job : Progress) (step : OwnerStep) → read_step at job ≡ Some step → is_of_its_job step ≡ true
+its_act stage.Runs job step is = ap is_of_its_job (sym (ap (value_of step) is))
+its_act stage.MustGiveUp job step is = ap is_of_its_job (sym (ap (value_of step) is))
+its_act stage.MustWake job step is = ap is_of_its_job (sym (ap (value_of step) is))
+its_act stage.Waits job step is = absurd cc
+its_act stage.GaveUp job step is = absurd cc
+
+-- no session begins by it
+its_fresh : (past : List Moment) (step : OwnerStep) → is_of_its_job step ≡ true → IsFresh step past
+its_fresh past (lanes.Begins number) is = absurd cc
+its_fresh past _ is = tt
+
+-- what it is answered is an answer to what it asks for
+answer_of : (a : JobAction) (answer : Answer) → is_answered_action (next_in_turn GoesOn a) answer ≡ true → is_answer a answer ≡ true
+answer_of AskCall answer is = is
+answer_of (AskBytes n) answer is = is
+answer_of _ answer is = absurd cc
+
+-- ---- what is seen where no owner takes a step
+
+or_right_false : (a b : Bool) → a || b ≡ false → b ≡ false
+or_right_false true b is = absurd cc
+or_right_false false b is = is
+
+never : (b : Bool) → b ≡ false → b ≡ true → ⊥
+never b none some = cc
+
+none_in : (a b : Bool) → (a && b && false) ≡ false
+none_in true true = refl
+none_in true false = refl
+none_in false b = refl
+
+module _ (past : List Moment) (new : Parts) (e : Event) where
+  abbrev seen : Party → Option ℕ → Option ℕ → Act → Event
+  seen who owner job act = record { party = who; owner = owner; job = job; act = act; first = e.first; started = e.started; start_refused = e.start_refused }
+
+  nothing_aside : (who : Party) → Told who None NoAction e → IsAside past (seen_in new e)
+  nothing_aside who told = subst (IsAside past) (sym (seen_is new who None None NoAction e told refl))
+      (record { out = λ h. refl; none_made = refl; of_task = λ s its. absurd cc; new = λ s new. absurd cc; not_theirs = λ h s new by. absurd cc })
+
+  -- an act of the pool that accepts no job
+  pool_aside : (act : Act) → Told Pool None act e → IsAside past (seen Pool None None act) → IsAside past (seen_in new e)
+  pool_aside act told is = subst (IsAside past) (sym (seen_is new Pool None None act e told refl)) is
+
+  -- a call of a task
+  call_aside : (k : ℕ) (call : TaskCall) (task : Task) → Told (ByTask k) None (task_act call task) e → IsAside past (seen_in new e)
+  call_aside k call task told = record {
+    out = λ h. ap (is_in_cut h) (seen_is new (ByTask k) None None (task_act call task) e told refl) ∙ none_in (not (is_of_pool (task_act call task))) (not (is_nothing (task_act call task)));
+    none_made = ap is_making told.act_is ∙ by_call (λ act. is_making act ≡ false) refl (λ n. refl) refl refl refl refl call task;
+    of_task = λ s its. absurd (let none = by_no_worker s e (ap is_some_worker told.party) in cc);
+    new = λ s new. absurd (let none = ap (accepts s) told.act_is ∙ by_call (λ act. accepts s act ≡ false) refl (λ n. refl) refl refl refl refl call task in cc);
+    not_theirs = λ h s new by. absurd (let other = sym told.party ∙ by in cc);
+  }
+
+  -- an act of the job of a call
+  job_aside : (v s k : ℕ) (act : Act) → Told (Worker v) (Some s) act e → IsPlain [] act → owner_of new.rows (Some s) ≡ None → holder past s ≡ Some (ByTask k) → IsAside past (seen_in new e)
+  job_aside v s k act told plain whose held = record {
+    out = λ h. ap (is_in_cut h) (seen_is new (Worker v) (Some s) None act e told whose) ∙ none_in (not (is_of_pool act)) (not (is_nothing act));
+    none_made = ap is_making told.act_is ∙ plain.made;
+    of_task = λ t its.
+        let same : (s == t) ≡ true = sym (by_worker v s t act e told plain.pool plain.nothing) ∙ its in
+        (k, ap (holder past) (sym (eqb-true s t same)) ∙ held);
+    new = λ t new. absurd (let none = accepts_no_job e.act t (ap accepted_by told.act_is ∙ plain.new) in cc);
+    not_theirs = λ h t new by. absurd (let other = sym told.party ∙ by in cc);
+  }
+
+  -- the end of a run
+  park_aside : (how : Parking) (v s : ℕ) → Told (Worker v) (Some s) (parked_act how s) e → IsAside past (seen_in new e)
+  park_aside how v s told = subst (IsAside past) (sym (seen_is new (Worker v) (Some s) _ _ e told refl)) (by how)
+    where
+      by : (how : Parking) → IsAside past (seen (Worker v) (owner_of new.rows (Some s)) (Some s) (parked_act how s))
+      by (parking.Parked pass) = record { out = λ h. refl; none_made = refl; of_task = λ t its. absurd cc; new = λ t new. absurd cc; not_theirs = λ h t new by. absurd cc }
+      by (parking.Queued pass) = record { out = λ h. refl; none_made = refl; of_task = λ t its. absurd cc; new = λ t new. absurd cc; not_theirs = λ h t new by. absurd cc }
+      by (parking.HandedOut turn) = record { out = λ h. refl; none_made = refl; of_task = λ t its. absurd cc; new = λ t new. absurd cc; not_theirs = λ h t new by. absurd cc }
+
+-- ---- the owners after it
+
+module _ (setting : ℕ) (plan : List Bool) (w : Parts) (past : List Moment) (t : Tied setting plan w past) (laws : (h : ℕ) → OwnerLaws (cut h (events past))) (new : Parts) (at : Step) (e : Event) where
+  hold : OwnersHold w.owners past
+  hold = record { tied = t.owned; laws = laws }
+
+  abbrev growth : Growth
+  growth = record { started = e.started; refused = e.start_refused }
+
+  stay : IsAside past (seen_in new e) → new.owners ≡ w.owners → OwnersHold new.owners (moment new at e ∷ past)
+  stay out same = subst (λ row. OwnersHold row (moment new at e ∷ past)) (sym same) (aside w.owners past (moment new at e) out hold)
+
+  -- an owner takes a step
+  takes : (step : OwnerStep) (h s v : ℕ) (owner : Owner) (act : Act) → slice_get w.owners h ≡ Some owner → IsHeld (is_of_its_job step) past h s → IsFresh step past → MayTake step owner (acts_of s (events past))
+      → act_of step owner ≡ Some act → seen_in new e ≡ event_by step h v s act e.first growth → new.owners ≡ slice_set w.owners h (owner_after step owner) → OwnersHold new.owners (moment new at e ∷ past)
+  takes step h s v owner act found held fresh may does event is =
+      stepped w.owners new.owners past (moment new at e)
+      (record {
+        step = step;
+        place = h;
+        job = s;
+        worker = v;
+        first = e.first;
+        growth = growth;
+        owner = owner;
+        act = act;
+        there = found;
+        held = held;
+        fresh = fresh;
+        may = may;
+        act_is = does;
+        event_is = event;
+        after_is = is;
+      }) hold
+
+  -- a new call
+  begun : (added : Result JobNumber Refusal) → crew.Moves (IsPlanned plan) (crew.Add Pool added) w.crew e new.crew → Told Pool None (added_act added) e → new.owners ≡ w.owners → OwnersHold new.owners (moment new at e ∷ past)
+  begun (Ok number) does told same =
+      let free = ap (holder past) (added_of plan Pool w.crew new.crew e number does).0 ∙ next_free setting plan w past t in
+      stay
+      (pool_aside past new e (Accepted number.serial) told
+      (record {
+        out = λ h. refl;
+        none_made = refl;
+        of_task = λ s its. absurd cc;
+        new = λ s new. ap (holder past) (sym (eqb-true number.serial s new)) ∙ free;
+        not_theirs = λ h s new by. absurd cc;
+      })) same
+  begun (Err why) does told same =
+      stay
+      (pool_aside past new e (Refused why) told (record { out = λ h. refl; none_made = refl; of_task = λ s its. absurd cc; new = λ s new. absurd cc; not_theirs = λ h s new by. absurd cc })) same
+
+  -- a session begins, or is refused
+  lent : (h : ℕ) (owner : Owner) (added : Result JobNumber Refusal) → May w (Lends h owner added) → crew.Moves (IsPlanned plan) (crew.Add (ByOwner h) added) w.crew e new.crew → Told (ByOwner h) None (added_act added) e
+      → new.owners ≡ owners_after w (Lends h owner added) → OwnersHold new.owners (moment new at e ∷ past)
+  lent h owner (Ok number) may does told is =
+      takes (lanes.Begins number) h 0 0 owner (Accepted number.serial) may.0 tt (ap (holder past) (added_of plan (ByOwner h) w.crew new.crew e number does).0 ∙ next_free setting plan w past t) may.1 refl
+      (seen_is new (ByOwner h) None None (Accepted number.serial) e told refl) is
+  lent h owner (Err why) may does told is = takes (lanes.IsRefused why) h 0 0 owner (Refused why) may.0 tt tt may.1 refl (seen_is new (ByOwner h) None None (Refused why) e told refl) is
+
+  -- who holds the job in a hand
+  its_holder : (v : ℕ) (job : InHand) → IsHere w v job → holder past job.held.turn.serial ≡ Some (party_of job.row.core)
+  its_holder v job here = (t.rowed.each job.held.turn.serial job.row here.has_row).held_by
+
+  -- the owner of a job that has to give up is gone
+  gone_owner : (v : ℕ) (job : InHand) (h : ℕ) (owner : Owner) → IsHere w v job → holder past job.held.turn.serial ≡ Some (ByOwner h) → slice_get w.owners h ≡ Some owner → job.held.stage ≡ stage.MustGiveUp → is_gone owner.stage ≡ true
+  gone_owner v job h owner here held found must =
+      sym (t.owned.each h owner found).gone ∙ sym (ap (λ p. may_cancel p past) held) ∙ let_go_here setting plan w past t v job here must
+
+  -- the job of a reader in a hand takes a step of its owner
+  goes : (v : ℕ) (job : InHand) (h : ℕ) (step : OwnerStep) (owner : Owner) (act : Act) → IsHere w v job → holder past job.held.turn.serial ≡ Some (ByOwner h) → slice_get w.owners h ≡ Some owner → is_of_its_job step ≡ true
+      → MayTake step owner (acts_of job.held.turn.serial (events past)) → act_of step owner ≡ Some act → Told (Worker v) (Some job.held.turn.serial) act e → owner_of new.rows (Some job.held.turn.serial) ≡ Some h
+      → new.owners ≡ slice_set w.owners h (owner_after step owner) → OwnersHold new.owners (moment new at e ∷ past)
+  goes v job h step owner act here held found its may does told whose is =
+      let s = job.held.turn.serial in
+      takes step h s v owner act found (subst (λ b. IsHeld b past h s) (sym its) held) (its_fresh past step its) may does
+      (seen_is new (Worker v) (Some s) (Some h) act e told whose ∙ sym (ap (λ b. lanes.event_for b h v s act e.first growth) its)) is
+
+  -- the job in a hand acts
+  acted : (v : ℕ) (job : InHand) (did : Done) → IsHere w v job → done_by w job ≡ Some did → Told (Worker v) (Some job.held.turn.serial) did.act e
+      → new.rows ≡ slice_set w.rows (job.held.turn.serial - 1) (record job.row { core = did.core }) → new.owners ≡ did.owners → OwnersHold new.owners (moment new at e ∷ past)
+  acted v job did here does told rows is_now = by job.row.core refl
+    where
+      by : (c : Core) → job.row.core ≡ c → OwnersHold new.owners (moment new at e ∷ past)
+      by (core.Call k call) is =
+          let a = call_acts w job.held.stage k call did (ap (λ c. done job.held.stage c w.tasks w.owners) (sym is) ∙ does) in
+          stay
+          (job_aside past new e v job.held.turn.serial k did.act told (may_plain job.held.stage did.act (done_fits did job.held.stage job.row.core w.tasks w.owners does))
+          (its_owner w v job did.core new.rows here rows ∙ ap row.owner_in a.core_is) (its_holder v job here ∙ ap (λ c. Some (party_of c)) is))
+          (is_now ∙ a.owners_are)
+      by (core.Read h read) is =
+          let s = job.held.turn.serial in
+          let acts = acts_of s (events past) in
+          let a = read_acts w job.held.stage h read did (ap (λ c. done job.held.stage c w.tasks w.owners) (sym is) ∙ does) in
+          let held = its_holder v job here ∙ ap (λ c. Some (party_of c)) is in
+          goes v job h a.step a.owner did.act here held a.there (its_act job.held.stage read a.step a.next)
+          (read_may job.held.stage read a.step a.owner acts a.next (gone_owner v job h a.owner here held a.there) (subst (λ c. CoreAs c acts) is (t.rowed.each s job.row here.has_row).core)
+          (subst (λ c. PlaceAs (Some Running) (turn_of job.held.stage) (is_at_first c) acts) is (job_place setting plan w past t v job here)) (t.rowed.in_hand v job.held here.holds))
+          a.act_is told (its_owner w v job did.core new.rows here rows ∙ ap row.owner_in a.core_is) (is_now ∙ a.owners_are)
+
+  -- the owner of a job is there
+  owner_found : (h s : ℕ) → holder past s ≡ Some (ByOwner h) → (owner : Owner) × (slice_get w.owners h ≡ Some owner)
+  owner_found h s held = owner_there setting plan w past t h s held
+
+  -- the job in a hand is answered
+  answered : (v : ℕ) (job : InHand) (answer : Answer) → IsHere w v job → is_answered_action (next_at w v) answer ≡ true → Told (Worker v) (Some job.held.turn.serial) (Answered answer) e
+      → new.rows ≡ slice_set w.rows (job.held.turn.serial - 1) (record job.row { core = core_after_answer answer job.row.core }) → new.owners ≡ w.owners → OwnersHold new.owners (moment new at e ∷ past)
+  answered v job answer here may told rows same = by job.row.core refl
+    where
+      whose : (c : Core) → job.row.core ≡ c → owner_of new.rows (Some job.held.turn.serial) ≡ row.owner_in (core_after_answer answer c)
+      whose c is = its_owner w v job (core_after_answer answer job.row.core) new.rows here rows ∙ ap (λ c. row.owner_in (core_after_answer answer c)) is
+
+      by : (c : Core) → job.row.core ≡ c → OwnersHold new.owners (moment new at e ∷ past)
+      by (core.Call k call) is =
+          stay
+          (job_aside past new e v job.held.turn.serial k (Answered answer) told (record { pool = refl; nothing = refl; made = refl; new = refl }) (whose _ is)
+          (its_holder v job here ∙ ap (λ c. Some (party_of c)) is)) same
+      by (core.Read h read) is =
+          let s = job.held.turn.serial in
+          let held = its_holder v job here ∙ ap (λ c. Some (party_of c)) is in
+          let owner = owner_found h s held in
+          let asks = asks_here setting plan w past t v job answer here may in
+          goes v job h (lanes.IsAnswered read answer) owner.0 (Answered answer) here held owner.1 refl (
+            subst (λ c. CoreAs c (acts_of s (events past))) is (t.rowed.each s job.row here.has_row).core asks.0,
+            answer_of (action_of read) answer (ap (λ c. is_answered_action (next_in_turn GoesOn (row.action_of c)) answer) (sym is) ∙ asks.1),
+          )
+          refl told (whose _ is) (same ∙ sym (set_same w.owners h owner.0 owner.1))
+
+-- After each move the owners hang together with what was seen, and have kept their laws.
+pub owners_after_move : (setting : ℕ) (plan : List Bool) (w : Parts) (past : List Moment) → Tied setting plan w past → ((h : ℕ) → OwnerLaws (cut h (events past))) → (move : Move) (e : Event) (new : Parts) → May w move
+    → CrewMoves (IsPlanned plan) move w e new → new.rows ≡ rows_after w move → new.owners ≡ owners_after w move → OwnersHold new.owners (moment new (step_of move) e ∷ past)
+owners_after_move setting plan w past t laws move e new may does rows owners = by move may does rows owners (said plan w move e new may does)
+  where
+    by : (move : Move) → May w move → CrewMoves (IsPlanned plan) move w e new → new.rows ≡ rows_after w move → new.owners ≡ owners_after w move → SaidBy w move e → OwnersHold new.owners (moment new (step_of move) e ∷ past)
+    by (Idles step) may does rows is told = stay setting plan w past t laws new step e (nothing_aside past new e (named step) told) is
+    by (Makes capacity) may does rows is told =
+        subst (λ row. OwnersHold row (moment new (step_of (Makes capacity)) e ∷ past)) (sym is)
+        (born w.owners past (moment new (step_of (Makes capacity)) e) capacity
+        (record { first = e.first; growth = record { started = e.started; refused = e.start_refused }; event_is = seen_is new (ByOwner (length w.owners)) None None (Made (length w.owners) capacity) e told refl })
+        (record { tied = t.owned; laws = laws }))
+    by (Asks h call owner) may does rows is told =
+        takes setting plan w past t laws new _ e (lanes.IsAsked call) h 0 0 owner (Asked call) may.0 tt tt may.1 refl (seen_is new (ByOwner h) None None (Asked call) e told refl) is
+    by (Owns h owner did) may does rows is told =
+        takes setting plan w past t laws new _ e lanes.Acts h 0 0 owner did.act may.0 tt tt tt (ap act_in may.1) (seen_is new (ByOwner h) None None did.act e told refl)
+        (is ∙ sym (ap (λ o. slice_set w.owners h (owner_in o owner)) may.1))
+    by (Lends h owner added) may does rows is told = lent setting plan w past t laws new _ e h owner added may does told is
+    by (Delivers h owner number) may does rows is told =
+        takes setting plan w past t laws new _ e (lanes.Delivers told.0) h 0 0 owner (JobWoken number.serial told.0) may.0 tt tt tt (ap (delivered told.0) may.1)
+        (seen_is new (ByOwner h) None None (JobWoken number.serial told.0) e told.1 refl) is
+    by (IsDropped h owner) may does rows is told =
+        takes setting plan w past t laws new _ e lanes.IsDropped h 0 0 owner HolderDropped may.0 tt tt may.1 refl (seen_is new (ByOwner h) None None HolderDropped e told refl) is
+    by (Begins added) may does rows is told = begun setting plan w past t laws new _ e added does told is
+    by (Calls k call task) may does rows is told = stay setting plan w past t laws new _ e (call_aside past new e k call task told) is
+    by (Works v job did) may does rows is told = acted setting plan w past t laws new _ e v job did (job_here w v job may.0) may.1 told rows is
+    by (IsAnswered v job answer) may does rows is told = answered setting plan w past t laws new _ e v job answer (job_here w v job may.0) may.1 told rows is
+    by (Parks v job) may does rows is told = stay setting plan w past t laws new _ e (park_aside past new e told.0 v job.held.turn.serial told.1) is
+    by (Passes call) may does rows is told =
+        stay setting plan w past t laws new _ e
+        (record {
+          out = λ h. told.uncut h new.rows;
+          none_made = told.none_made;
+          of_task = λ s its. absurd (never (is_of_job s e) (or_right_false (is_by_task 0 e) (is_of_job s e) (told.out 0 s)) its);
+          new = λ s new. absurd (let none = accepts_no_job e.act s told.none_new in cc);
+          not_theirs = λ h s new by. absurd (let none = accepts_no_job e.act s told.none_new in cc);
+        }) is
+    by (IsWoken s row) may does rows is told =
+        stay setting plan w past t laws new _ e
+        (pool_aside past new e _ told.1 (record { out = λ h. refl; none_made = refl; of_task = λ n its. absurd cc; new = λ n new. absurd cc; not_theirs = λ h n new by. absurd cc })) is
+    by (IsStruck s row) may does rows is told =
+        stay setting plan w past t laws new _ e
+        (pool_aside past new e _ told.1 (record { out = λ h. refl; none_made = refl; of_task = λ n its. absurd cc; new = λ n new. absurd cc; not_theirs = λ h n new by. absurd cc })) is

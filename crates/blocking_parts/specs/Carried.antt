@@ -1,0 +1,41 @@
+-- The bytes that an event carries, and how many a step's event may carry at most: so the room for a copy of them is had before it acts.
+use Rattle.std.specs.Prelude.{ℕ, not, Bool, true, false, List, [], length, slice_get, Option, Some, None}
+use Rattle.blocking_lanes.specs.Owners.{Owner, bytes_in, next_of}
+use Rattle.blocking_lanes.specs.declared.owner.OwnerNext.{OwnerNext}
+use Rattle.blocking_lanes.specs.declared.owner.OwnerNext.TheVariants as next
+use Rattle.blocking_laws.specs.declared.event.Act.{Act}
+use Rattle.blocking_laws.specs.declared.event.Act.TheVariants.{Got, Answered}
+use Rattle.blocking_laws.specs.declared.step.Answer.{Answer}
+use Rattle.blocking_laws.specs.declared.step.Answer.TheVariants.{Gave}
+use Rattle.blocking_laws.specs.declared.step.Step.{Step}
+use Rattle.blocking_laws.specs.declared.step.Step.TheVariants.{Own, Io}
+use Rattle.blocking_parts.specs.Parts.{Parts}
+
+abbrev pub bytes_of_answer : Answer → List ℕ
+bytes_of_answer (Gave bytes) = bytes
+bytes_of_answer _ = []
+
+-- the bytes that an act carries
+abbrev pub bytes_of : Act → List ℕ
+bytes_of (Got bytes told) = bytes
+bytes_of (Answered answer) = bytes_of_answer answer
+bytes_of _ = []
+
+abbrev pub bytes_to_get : Option Owner → ℕ
+bytes_to_get None = 0
+bytes_to_get (Some owner) = bytes_in (next_of owner)
+
+-- how many bytes the event of this step carries at most: those that come out of the pipe, or those of an answer
+abbrev pub bytes_to_come : Parts → Step → ℕ
+bytes_to_come w (Own h) = bytes_to_get (slice_get w.owners h)
+bytes_to_come w (Io v answer) = length (bytes_of_answer answer)
+bytes_to_come w step = 0
+
+-- whether the poll of an owner is under way: there is something that it does next
+abbrev pub is_busy : OwnerNext → Bool
+is_busy next.Rests = false
+is_busy _ = true
+
+abbrev pub polls_in : Option Owner → Bool
+polls_in None = false
+polls_in (Some owner) = is_busy (next_of owner)

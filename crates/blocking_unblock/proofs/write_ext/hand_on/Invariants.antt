@@ -1,0 +1,9 @@
+use Rattle.std.proofs.Common.{◌≤◌, ◌-◌, length}
+use Rattle.futures.specs.Task.{Keeps}
+use Rattle.blocking_unblock.proofs.write_ext.hand_on.Given as goal
+
+abbrev pub invariant-loop-taken : goal.invariant-loop-taken
+invariant-loop-taken g l = (g.A.AsyncWrite.closed l.writer → ⊥) × (l.taken ≤ length l.bytes) × Keeps l.initial.cx l.cx
+
+abbrev pub decreases-loop-taken : goal.decreases-loop-taken
+decreases-loop-taken g l = length l.bytes - l.taken

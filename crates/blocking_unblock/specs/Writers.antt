@@ -1,0 +1,106 @@
+-- What contracts see of a writing job, and what each of its steps does.
+use Rattle.std.specs.Prelude.{◌+◌, ◌≡◌, ◌<◌, ◌≤◌, ℕ, Bool, List, take, Option, Some, None, refl}
+use Rattle.std.specs.Coded.{Coded, code_by, coded×, coded_bool, coded_ℕ, coded_list, coded_option}
+use Rattle.std.specs.Io.KnownBytes.{Appends, Keeps}
+use Rattle.std.specs.declared.io.Error.{Error}
+use Rattle.std.specs.contracts.io.Error.{the_row as error_row}
+use Rattle.blocking_core.specs.Writing.{WriteMachine, write_next, write_after}
+use Rattle.blocking_core.specs.declared.io.JobFault.{JobFault}
+use Rattle.blocking_core.specs.contracts.io.JobFault.{the_row as fault_row}
+use Rattle.blocking_core.specs.declared.job.write.WriteAction.{WriteAction}
+use Rattle.blocking_core.specs.declared.job.write.WriteAction.TheVariants.{Peek, Write, Consume, Flush, Close, Finish, Deliver, Done}
+use Rattle.blocking_core.specs.declared.job.write.WriteAnswer.{WriteAnswer}
+use Rattle.blocking_core.specs.declared.job.write.WriteAnswer.TheVariants as by
+use Rattle.blocking_core.specs.contracts.job.write.WriteAction.{the_row}
+use Rattle.blocking_pool.specs.declared.pool.job.JobStep.{JobStep}
+use Rattle.blocking_pool.specs.declared.pool.job.JobStep.TheVariants as step
+
+-- a writing job: what it does next and what its writer did wrong, its writer until that is given back, what stands in its piece, and
+-- how many bytes it let go of
+pub record WriteSeen (T : Type 0) : Type 0 where
+  pub core : WriteMachine Error
+  pub writer : Option T
+  pub piece : List ℕ
+  pub received : ℕ
+
+abbrev pub machine_code : Coded (WriteMachine Error)
+machine_code =
+    code_by (WriteAction × (Bool × Option (JobFault Error))) (coded× the_row.coded (coded× coded_bool (coded_option (fault_row error_row).coded)))
+    (λ core. (core.next, (core.is_waking, core.fault))) (λ parts. record { next = parts.0; is_waking = parts.1.0; fault = parts.1.1 }) (λ _. refl)
+
+abbrev pub write_code : {T : Type 0} → Coded T → Coded (WriteSeen T)
+write_code {T} code =
+    code_by (WriteMachine Error × (Option T × (List ℕ × ℕ))) (coded× machine_code (coded× (coded_option code) (coded× (coded_list coded_ℕ) coded_ℕ)))
+    (λ seen. (seen.core, (seen.writer, (seen.piece, seen.received))))
+    (λ parts. record { core = parts.0; writer = parts.1.0; piece = parts.1.1.0; received = parts.1.1.1 }) (λ _. refl)
+
+-- this is an answer to that action: one byte at least was copied, and no more were taken than were offered
+abbrev pub Answers : WriteAction → WriteAnswer Error → Type 0
+Answers Peek (by.Peeked count) = (0 < count) × (count ≤ 65536)
+Answers Peek by.Parked = Unit {0}
+Answers Peek by.Drained = Unit {0}
+Answers (Write most) (by.Took count) = count ≤ most
+Answers (Write most) (by.Failed error) = Unit {0}
+Answers (Consume count) (by.Consumed woke) = Unit {0}
+Answers Flush by.Flushed = Unit {0}
+Answers Flush (by.Failed error) = Unit {0}
+Answers Close (by.Closed woke) = Unit {0}
+Answers Finish (by.Finished woke) = Unit {0}
+Answers Deliver by.Delivered = Unit {0}
+Answers action answer = ⊥
+
+-- what a step tells its worker: a job that was seated waits, one that has nothing more to do is done, and else it goes on
+abbrev pub told_by : WriteAnswer Error → WriteAction → JobStep
+told_by by.Parked next = step.Waiting
+told_by answer Done = step.Done
+told_by answer next = step.Again
+
+-- how many bytes leave the pipe by an action
+abbrev pub let_go_by : WriteAction → ℕ
+let_go_by (Consume count) = count
+let_go_by action = 0
+
+module _ {T : Type 0} where
+  -- what a writer holds, where that is known
+  abbrev pub held : (T → Option (List ℕ)) → Option T → Option (List ℕ)
+  held contents None = None
+  held contents (Some writer) = contents writer
+
+  -- What becomes of the writer and the piece: a write offers the first bytes of the piece and no others, and of these the writer holds
+  -- those that it took; nothing else changes what it holds, and only a peek changes the piece.
+  abbrev pub Hands : (T → Option (List ℕ)) → WriteAction → WriteAnswer Error → WriteSeen T → WriteSeen T → Type 0
+  Hands contents (Write most) (by.Took count) old new =
+      Appends (held contents old.writer) (held contents new.writer) (take count (take most old.piece)) × (new.piece ≡ old.piece)
+  Hands contents (Write most) answer old new = Keeps (held contents old.writer) (held contents new.writer) × (new.piece ≡ old.piece)
+  Hands contents Flush answer old new = Keeps (held contents old.writer) (held contents new.writer) × (new.piece ≡ old.piece)
+  Hands contents Peek answer old new = new.writer ≡ old.writer
+  Hands contents Finish answer old new = (new.writer ≡ None) × (new.piece ≡ old.piece)
+  Hands contents action answer old new = (new.writer ≡ old.writer) × (new.piece ≡ old.piece)
+
+  -- the machine got one answer, to the action that was next, and what it says was taken is what the writer and the pipe show
+  abbrev pub OneAnswer : (T → Option (List ℕ)) → WriteAction → WriteSeen T → WriteSeen T → JobStep → Type 0
+  OneAnswer contents action old new told =
+      (answer : WriteAnswer Error) × (new.core ≡ write_after old.core answer) × Answers action answer
+      × (new.received ≡ old.received + let_go_by action) × (told ≡ told_by answer (write_next new.core))
+      × Hands contents action answer old new
+
+  -- What one step does: the machine gets one answer, to the action that was next; a job that is over does nothing.
+  abbrev pub IsSteppedBy : (T → Option (List ℕ)) → WriteAction → WriteSeen T → WriteSeen T → JobStep → Type 0
+  IsSteppedBy contents Done old new told = (new ≡ old) × (told ≡ step.Done)
+  IsSteppedBy contents action old new told = OneAnswer contents action old new told
+
+  abbrev pub IsStepped : (T → Option (List ℕ)) → WriteSeen T → WriteSeen T → JobStep → Type 0
+  IsStepped contents old new told = IsSteppedBy contents (write_next old.core) old new told
+
+-- The job has what its next action is about: its writer until that is given back, and bytes that were shown for what it offers or lets
+-- go. shown is what was shown last and not let go since, piece how many bytes its own piece holds.
+abbrev pub Fits : {T : Type 0} → WriteAction → ℕ → ℕ → Option T → Type 0
+Fits Peek shown piece (Some writer) = Unit {0}
+Fits (Write most) shown piece (Some writer) = (most ≤ shown) × (most ≤ piece)
+Fits (Consume count) shown piece (Some writer) = count ≤ shown
+Fits Flush shown piece (Some writer) = Unit {0}
+Fits Close shown piece (Some writer) = Unit {0}
+Fits Finish shown piece (Some writer) = Unit {0}
+Fits Deliver shown piece writer = ⊥
+Fits Done shown piece writer = Unit {0}
+Fits action shown piece None = ⊥

@@ -1,0 +1,194 @@
+//! Whole writes as futures, so that a program needs no loop of polls.
+ghost use Rattle.std.specs.Prelude.{◌≡◌, ◌≤◌, false, length, IfOk};
+ghost use Rattle.futures.specs.Poll.{IfReady, OnPending};
+ghost use Rattle.futures.specs.Task.{IsArmed, Keeps};
+
+use crate::io::{AsyncWrite, IoFault};
+use blocking_core::io::Fault;
+use futures::Future;
+use futures::task::{Context, Poll};
+
+/// Whole writes of what is written by polls.
+pub trait AsyncWriteExt: AsyncWrite {
+    /// A future that writes once: the first of `bytes`, as many as are taken. It answers how many bytes that were; none, where there is
+    /// one, means that an earlier write failed, which a flush tells. Until it was ready it may be polled.
+    final fn write<'a>(&'a mut self, bytes: &'a [u8]) -> WriteSome<'a, Self>
+    where
+        Self: Sized,
+        requires { Self.closed self.old → ⊥ }
+        ensures writer { result.writer.ghost_name ≡ self.entry.ghost_name }
+        ensures open { Self.closed result.writer.now → ⊥ }
+        ensures all { result.bytes.now ≡ bytes.now }
+    {
+        WriteSome {
+            writer: self,
+            bytes,
+        }
+    }
+
+    /// A future that has all of `bytes` taken for writing; that they are written, a flush tells. Where an earlier write failed it answers
+    /// that fault, and how many bytes were taken before isn't known. Until it was ready it may be polled.
+    final fn write_all<'a>(&'a mut self, bytes: &'a [u8]) -> WriteAll<'a, Self>
+    where
+        Self: Sized,
+        requires { Self.closed self.old → ⊥ }
+        ensures writer { result.writer.ghost_name ≡ self.entry.ghost_name }
+        ensures open { Self.closed result.writer.now → ⊥ }
+        ensures all { result.bytes.now ≡ bytes.now }
+        ensures begins { result.taken ≡ 0 }
+    {
+        WriteAll {
+            writer: self,
+            bytes,
+            taken: 0,
+            has_failed: false,
+        }
+    }
+
+    /// A future that waits until all that was taken is written and flushed, or answers why it isn't. It may be polled again.
+    final fn flush<'a>(&'a mut self) -> Flush<'a, Self>
+    where
+        Self: Sized,
+        ensures writer { result.writer.ghost_name ≡ self.entry.ghost_name }
+    {
+        Flush { writer: self }
+    }
+
+    /// A future that flushes, and then closes. After a fault the writer is open still. It may be polled again.
+    final fn close<'a>(&'a mut self) -> Close<'a, Self>
+    where
+        Self: Sized,
+        ensures writer { result.writer.ghost_name ≡ self.entry.ghost_name }
+    {
+        Close { writer: self }
+    }
+}
+
+impl<A: AsyncWrite> AsyncWriteExt for A {}
+
+/// The future of [`AsyncWriteExt::write`].
+#[derive(Drop)]
+pub struct WriteSome<'a, A> {
+    writer: &'a mut A,
+    bytes: &'a [u8],
+}
+
+impl<'a, A: AsyncWrite> Future for WriteSome<'a, A> {
+    type Output = Result<usize, IoFault>;
+
+    ghost use Rattle.std.specs.Prelude.{◌≤◌, length, IfOk};
+
+    ghost can_poll = { λ write. A.closed write.writer.now → ⊥ };
+
+    ghost gives = { λ write out. IfOk out (λ n. n ≤ length write.bytes.now) };
+
+    fn poll(&mut self, cx: &mut Context<'_>) -> Poll<Result<usize, IoFault>> {
+        let writer = &mut *self.writer;
+        writer.poll_write(cx, self.bytes)
+    }
+}
+
+/// The future of [`AsyncWriteExt::write_all`].
+#[derive(Drop)]
+pub struct WriteAll<'a, A> {
+    writer: &'a mut A,
+    bytes: &'a [u8],
+    // How many bytes were taken.
+    taken: usize,
+    // Whether no more are: a flush has to tell why.
+    has_failed: bool,
+}
+
+// Has the rest of the bytes taken, or answers whether there is a fault to tell.
+fn hand_on<A: AsyncWrite>(
+    writer: &mut A,
+    cx: &mut Context<'_>,
+    bytes: &[u8],
+    taken: &mut usize,
+) -> Poll<Result<bool, IoFault>>
+    requires open { A.closed writer.old → ⊥ }
+    requires within { taken.old ≤ length bytes.now }
+    ensures open { A.closed writer.new → ⊥ }
+    ensures within { taken.new ≤ length bytes.now }
+    ensures whole { IfReady result (λ r. IfOk r (λ has_failed. has_failed ≡ false → taken.new ≡ length bytes.now)) }
+    ensures armed { OnPending result (IsArmed cx.new) }
+    ensures kept { Keeps cx.old cx.new }
+{
+    while *taken < bytes.len() {
+        match writer.poll_write(cx, &bytes[*taken..]) {
+            Poll::Pending => return Poll::Pending,
+            Poll::Ready(Ok(0)) => return Poll::Ready(Ok(true)),
+            Poll::Ready(Ok(count)) => *taken += count,
+            Poll::Ready(Err(why)) => return Poll::Ready(Err(why)),
+        }
+    }
+    Poll::Ready(Ok(false))
+}
+
+// Tells the fault for which a writer takes no more. A writer that knows of none has taken nothing.
+fn tell_fault<A: AsyncWrite>(writer: &mut A, cx: &mut Context<'_>) -> Poll<IoFault>
+    requires { A.closed writer.old → ⊥ }
+    ensures open { A.closed writer.new → ⊥ }
+    ensures armed { OnPending result (IsArmed cx.new) }
+    ensures kept { Keeps cx.old cx.new }
+{
+    match writer.poll_flush(cx) {
+        Poll::Pending => Poll::Pending,
+        Poll::Ready(Ok(())) => Poll::Ready(Fault::WriteZero),
+        Poll::Ready(Err(why)) => Poll::Ready(why),
+    }
+}
+
+impl<'a, A: AsyncWrite> Future for WriteAll<'a, A> {
+    type Output = Result<(), IoFault>;
+
+    ghost use Rattle.std.specs.Prelude.{◌≤◌, length};
+
+    ghost can_poll = { λ write. (A.closed write.writer.now → ⊥) × (write.taken ≤ length write.bytes.now) };
+
+    fn poll(&mut self, cx: &mut Context<'_>) -> Poll<Result<(), IoFault>> {
+        let writer = &mut *self.writer;
+        if !self.has_failed {
+            match hand_on(writer, cx, self.bytes, &mut self.taken) {
+                Poll::Pending => return Poll::Pending,
+                Poll::Ready(Ok(false)) => return Poll::Ready(Ok(())),
+                Poll::Ready(Err(why)) => return Poll::Ready(Err(why)),
+                Poll::Ready(Ok(true)) => self.has_failed = true,
+            }
+        }
+        match tell_fault(writer, cx) {
+            Poll::Pending => Poll::Pending,
+            Poll::Ready(why) => Poll::Ready(Err(why)),
+        }
+    }
+}
+
+/// The future of [`AsyncWriteExt::flush`].
+#[derive(Drop)]
+pub struct Flush<'a, A> {
+    writer: &'a mut A,
+}
+
+impl<'a, A: AsyncWrite> Future for Flush<'a, A> {
+    type Output = Result<(), IoFault>;
+
+    fn poll(&mut self, cx: &mut Context<'_>) -> Poll<Result<(), IoFault>> {
+        let writer = &mut *self.writer;
+        writer.poll_flush(cx)
+    }
+}
+
+/// The future of [`AsyncWriteExt::close`].
+#[derive(Drop)]
+pub struct Close<'a, A> {
+    writer: &'a mut A,
+}
+
+impl<'a, A: AsyncWrite> Future for Close<'a, A> {
+    type Output = Result<(), IoFault>;
+
+    fn poll(&mut self, cx: &mut Context<'_>) -> Poll<Result<(), IoFault>> {
+        let writer = &mut *self.writer;
+        writer.poll_close(cx)
+    }
+}

@@ -1,0 +1,280 @@
+//! The job that writes behind an owner.
+ghost use Rattle.std.specs.Prelude.{◌≡◌, ◌<◌, ◌≤◌, length, take, None, Some};
+ghost use Rattle.std.specs.Io.{WritesAtMost};
+ghost use Rattle.std.specs.Io.KnownBytes.{WriteAppends};
+ghost use Rattle.blocking_core.specs.declared.job.write.WriteAction.TheVariants.{Peek, Write as WritePiece, Consume, Flush, Close, Finish, Deliver};
+ghost use Rattle.blocking_core.specs.Writing.{new_write, write_next};
+
+use crate::link::{Link, OwnerWaker, Returned};
+use blocking_core::job::{WriteAction, WriteAnswer, WriteCore};
+use blocking_core::pipe::Peeked;
+use blocking_core::pool::{Carries, Job, JobNo, JobStep};
+use blocking_core::task;
+use blocking_ends::{AnyPlace, PeekEnd};
+use std::io;
+use std::io::Write;
+use std::marker::Model;
+use std::sync::{Arc, Wait};
+
+/// The job that writes behind an owner: it offers its writer what stands at the front of the pipe, and lets go of what the writer took,
+/// until the owner wants no more and all is written, or the writer fails. Then it flushes the writer and gives it back.
+///
+/// One that is dropped before it is done drops the writer, gives its slot up and calls the owner's waker, with no lock held. What wasn't
+/// written then is lost.
+pub struct WriteJob<T: Drop, H: Wait + Copy> {
+    core: WriteCore<io::Error>,
+    // The writer, until it is given back.
+    writer: Option<T>,
+    // Where a piece stands between the pipe and the writer.
+    piece: Vec<u8>,
+    end: PeekEnd<u8, AnyPlace, H>,
+    // The waker that was taken out of the owner's seat, and has to be called.
+    waker: OwnerWaker,
+    link: Arc<Link<T>>,
+    rt: H,
+}
+
+impl<T: Drop, H: Wait + Copy> Model for WriteJob<T, H> {
+    ghost use Rattle.std.specs.Prelude.{◌<◌, ◌≤◌, vec_len};
+    ghost use Rattle.blocking_unblock.specs.Writers.{WriteSeen, write_code, Fits};
+
+    ghost Value = { WriteSeen T };
+
+    ghost coded = { write_code T.code };
+
+    ghost view = { λ j. record {
+      core = j.core;
+      writer = j.writer;
+      piece = j.piece.items;
+      received = j.end.received;
+    } };
+
+    ghost invariant = { λ j. (0 < vec_len j.piece) × (vec_len j.piece ≤ 65536)
+        × Fits j.core.next j.end.shown (vec_len j.piece) j.writer };
+}
+
+// Offers the writer so many bytes of the piece.
+fn offer<T: Write>(writer: &mut T, piece: &[u8], most: usize) -> io::Result<usize>
+    requires { most ≤ length piece.now }
+    ensures count { WritesAtMost result (take most piece.now) }
+    ensures bytes { WriteAppends (T.contents writer.old) (T.contents writer.new) result (take most piece.now) }
+{
+    writer.write(&piece[..most])
+}
+
+impl<T: Drop, H: Wait + Copy> WriteJob<T, H> {
+    ghost use Rattle.std.specs.Prelude.{vec_len};
+    ghost use Rattle.blocking_unblock.specs.Writers.{WriteSeen};
+
+    pub(crate) fn new(
+        rt: H,
+        writer: T,
+        piece: Vec<u8>,
+        end: PeekEnd<u8, AnyPlace, H>,
+        link: Arc<Link<T>>,
+    ) -> WriteJob<T, H>
+        requires some { 0 < vec_len piece }
+        requires within { vec_len piece ≤ 65536 }
+        ensures { result ≡ record { core = new_write; writer = Some writer; piece = piece.items; received = end.received } }
+    {
+        WriteJob {
+            core: WriteCore::new(),
+            writer: Some(writer),
+            piece,
+            end,
+            waker: None,
+            link,
+            rt,
+        }
+    }
+
+    /// The writer, if it wasn't given back. The slot stays as it is.
+    pub(crate) fn into_writer(self) -> Option<T>
+        ensures { result ≡ self.writer }
+    {
+        let WriteJob {
+            core: _,
+            writer,
+            piece: _,
+            end: _,
+            waker: _,
+            link: _,
+            rt: _,
+        } = self;
+        writer
+    }
+}
+
+impl<T: Write + Drop, H: Wait + Copy> WriteJob<T, H> {
+    ghost use Rattle.blocking_unblock.specs.Writers.{IsSteppedBy};
+
+    fn peek(&mut self, me: JobNo) -> JobStep
+        requires { write_next self.old.core ≡ Peek }
+        ensures { IsSteppedBy T.contents Peek self.old self.new result }
+    {
+        match self.end.peek_or_seat(me, self.piece.as_mut_slice()) {
+            Peeked::Some(count) => {
+                self.core.answer(WriteAnswer::Peeked(count));
+                JobStep::Again
+            }
+            Peeked::Parked => {
+                self.core.answer(WriteAnswer::Parked);
+                JobStep::Waiting
+            }
+            Peeked::Drained => {
+                self.core.answer(WriteAnswer::Drained);
+                JobStep::Again
+            }
+        }
+    }
+
+    fn write(&mut self, most: usize) -> JobStep
+        requires { write_next self.old.core ≡ WritePiece most }
+        ensures { IsSteppedBy T.contents (WritePiece most) self.old self.new result }
+    {
+        let Some(writer) = &mut self.writer else {
+            unreachable!()
+        };
+        match offer(writer, &self.piece, most) {
+            Ok(count) => self.core.answer(WriteAnswer::Took(count)),
+            Err(error) => self.core.answer(WriteAnswer::Failed(error)),
+        }
+        JobStep::Again
+    }
+
+    fn consume(&mut self, count: usize) -> JobStep
+        requires { write_next self.old.core ≡ Consume count }
+        ensures { IsSteppedBy T.contents (Consume count) self.old self.new result }
+    {
+        let seat = self.end.consume(count);
+        let woke = seat.is_some();
+        self.waker = seat.flatten();
+        self.core.answer(WriteAnswer::Consumed { woke });
+        JobStep::Again
+    }
+
+    fn flush(&mut self) -> JobStep
+        requires { write_next self.old.core ≡ Flush }
+        ensures { IsSteppedBy T.contents Flush self.old self.new result }
+    {
+        let Some(writer) = &mut self.writer else {
+            unreachable!()
+        };
+        match writer.flush() {
+            Ok(()) => self.core.answer(WriteAnswer::Flushed),
+            Err(error) => self.core.answer(WriteAnswer::Failed(error)),
+        }
+        JobStep::Again
+    }
+
+    fn close(&mut self) -> JobStep
+        requires { write_next self.old.core ≡ Close }
+        ensures { IsSteppedBy T.contents Close self.old self.new result }
+    {
+        let seat = self.end.close();
+        let woke = seat.is_some();
+        self.waker = seat.flatten();
+        self.core.answer(WriteAnswer::Closed { woke });
+        JobStep::Again
+    }
+
+    fn finish(&mut self) -> JobStep
+        requires { write_next self.old.core ≡ Finish }
+        ensures { IsSteppedBy T.contents Finish self.old self.new result }
+    {
+        let Some(handle) = self.writer.take() else {
+            unreachable!()
+        };
+        let fault = self.core.fault();
+        let returned = Returned { handle, fault };
+        let task::Put { back, wake } = self.link.put(&self.rt, returned);
+        // (a writer that nobody wants is dropped under no lock)
+        drop(back);
+        let woke = wake.is_some();
+        self.waker = wake.flatten();
+        self.core.answer(WriteAnswer::Finished { woke });
+        if woke { JobStep::Again } else { JobStep::Done }
+    }
+
+    fn deliver(&mut self) -> JobStep
+        requires { write_next self.old.core ≡ Deliver }
+        ensures { IsSteppedBy T.contents Deliver self.old self.new result }
+    {
+        if let Some(waker) = self.waker.take() {
+            waker.wake();
+        }
+        self.core.answer(WriteAnswer::Delivered);
+        match self.core.next() {
+            WriteAction::Done => JobStep::Done,
+            _ => JobStep::Again,
+        }
+    }
+}
+
+impl<T: Drop, H: Wait + Copy> Drop for WriteJob<T, H> {
+    fn drop(self) {
+        let WriteJob {
+            core,
+            writer,
+            piece: _,
+            end: _,
+            waker,
+            link,
+            rt,
+        } = self;
+        // The writer is gone before the owner is told. (a waker that is dropped wakes)
+        drop(writer);
+        drop(waker);
+        if let WriteAction::Done = core.next() {
+            return;
+        }
+        if let Some(Some(waker)) = link.give_up(&rt) {
+            waker.wake();
+        }
+    }
+}
+
+// A pool of one kind of writer has its writing job as its job type.
+impl<T: Drop, H: Wait + Copy> Carries<WriteJob<T, H>> for WriteJob<T, H> {
+    ghost use Rattle.std.specs.Prelude.{Some, refl};
+
+    ghost wrapped = { λ job. job };
+
+    ghost opened = { λ job. Some job };
+
+    ghost undoes = { λ job. refl };
+
+    fn wrap(named: WriteJob<T, H>) -> WriteJob<T, H> {
+        named
+    }
+
+    fn unwrap(self) -> Option<WriteJob<T, H>> {
+        Some(self)
+    }
+}
+
+impl<T: Write + Drop, H: Wait + Copy> Job for WriteJob<T, H> {
+    ghost use Rattle.blocking_unblock.specs.Writers.{IsStepped};
+
+    // (another thread may set the mark at any time)
+    ghost may_answer = { λ _ _. Unit {0} };
+
+    fn step(&mut self, me: JobNo) -> JobStep
+        ensures { IsStepped T.contents self.old self.new result }
+    {
+        match self.core.next() {
+            WriteAction::Peek => self.peek(me),
+            WriteAction::Write(most) => self.write(most),
+            WriteAction::Consume(count) => self.consume(count),
+            WriteAction::Flush => self.flush(),
+            WriteAction::Close => self.close(),
+            WriteAction::Finish => self.finish(),
+            WriteAction::Deliver => self.deliver(),
+            WriteAction::Done => JobStep::Done,
+        }
+    }
+
+    fn abandoned(&self) -> bool {
+        self.link.is_marked()
+    }
+}

@@ -1,0 +1,181 @@
+//! Writers of the tests: one that goes by a plan, and one of many bytes.
+use crate::reader::{Cycle, comes};
+use std::alloc::Global;
+use std::fmt::{Debug, Formatter};
+use std::io::{ErrorKind, Read, Write};
+use std::sync::atomic::{AtomicBool, Ordering};
+use std::sync::{Arc, Mutex, Wait};
+use std::{fmt, io};
+
+/// What a planned writer does at one call.
+#[derive(Clone, Copy)]
+pub(crate) enum Taken {
+    /// It takes so many bytes at most. (none is a write that took nothing)
+    AtMost(usize),
+    /// It fails, with an error of this kind.
+    Fails(ErrorKind),
+}
+
+/// A plan: what is done at each write and at each flush. Writes beyond its end take all, and flushes beyond it succeed.
+#[derive(Clone, Copy)]
+pub(crate) struct Plan {
+    pub writes: &'static [Taken],
+    pub flushes: &'static [Taken],
+    /// What can be read.
+    pub reads: &'static [u8],
+}
+
+/// What a test and its writer share: the bytes under a lock, and whether the writer was dropped.
+#[derive(Drop)]
+pub(crate) struct Page {
+    bytes: Mutex<Vec<u8>>,
+    is_gone: AtomicBool,
+}
+
+impl Page {
+    pub(crate) fn new(alloc: Global) -> Page {
+        Page {
+            bytes: Mutex::new(Vec::new(alloc)),
+            is_gone: AtomicBool::new(false),
+        }
+    }
+
+    /// Whether exactly these bytes were written.
+    pub(crate) fn holds<R: Wait>(&self, rt: &R, wanted: &[u8]) -> bool {
+        self.bytes.lock(rt).as_slice() == wanted
+    }
+
+    /// Whether the writer is dropped before long.
+    pub(crate) fn goes(&self) -> bool {
+        comes(&self.is_gone)
+    }
+}
+
+/// A writer that goes by a plan, and can be read too.
+pub(crate) struct PlannedWriter<R: Wait + Copy> {
+    rt: R,
+    page: Arc<Page>,
+    plan: Plan,
+    // How many bytes it took.
+    taken: usize,
+}
+
+impl<R: Wait + Copy> PlannedWriter<R> {
+    pub(crate) fn new(rt: R, page: Arc<Page>, plan: Plan) -> PlannedWriter<R> {
+        PlannedWriter {
+            rt,
+            page,
+            plan,
+            taken: 0,
+        }
+    }
+
+    /// How many bytes it took.
+    pub(crate) fn taken(&self) -> usize {
+        self.taken
+    }
+}
+
+impl<R: Wait + Copy> Write for PlannedWriter<R> {
+    fn write(&mut self, buf: &[u8]) -> io::Result<usize> {
+        let most = match self.plan.writes.split_first() {
+            None => buf.len(),
+            Some((first, rest)) => {
+                self.plan.writes = rest;
+                match *first {
+                    Taken::AtMost(most) => most,
+                    Taken::Fails(kind) => return Err(io::Error::from(kind)),
+                }
+            }
+        };
+        let count = most.min(buf.len());
+        self.page
+            .bytes
+            .lock(&self.rt)
+            .extend_from_slice(&buf[..count])?;
+        self.taken = self.taken.saturating_add(count);
+        Ok(count)
+    }
+
+    fn flush(&mut self) -> io::Result<()> {
+        let Some((first, rest)) = self.plan.flushes.split_first() else {
+            return Ok(());
+        };
+        self.plan.flushes = rest;
+        match *first {
+            Taken::AtMost(_) => Ok(()),
+            Taken::Fails(kind) => Err(io::Error::from(kind)),
+        }
+    }
+}
+
+impl<R: Wait + Copy> Read for PlannedWriter<R> {
+    fn read(&mut self, buf: &mut [u8]) -> io::Result<usize> {
+        let count = self.plan.reads.len().min(buf.len());
+        buf[..count].copy_from_slice(&self.plan.reads[..count]);
+        self.plan.reads = &self.plan.reads[count..];
+        Ok(count)
+    }
+}
+
+// By how many bytes it took.
+impl<R: Wait + Copy> Debug for PlannedWriter<R> {
+    fn fmt<W: fmt::Write>(&self, f: &mut Formatter<W>) -> fmt::Result {
+        write!(f, "{}", self.taken)
+    }
+}
+
+impl<R: Wait + Copy> Drop for PlannedWriter<R> {
+    fn drop(self) {
+        let PlannedWriter {
+            rt: _,
+            page,
+            plan: _,
+            taken: _,
+        } = self;
+        page.is_gone.store(true, Ordering::SeqCst);
+    }
+}
+
+/// A writer that compares: byte i has to be i as `u8`.
+#[derive(Drop)]
+pub(crate) struct Comparing {
+    cycle: Cycle,
+    at_once: usize,
+    // How many bytes came, up to the first wrong one.
+    right: u64,
+    is_wrong: bool,
+}
+
+impl Comparing {
+    pub(crate) fn new(cycle: Cycle, at_once: usize) -> Comparing {
+        Comparing {
+            cycle,
+            at_once,
+            right: 0,
+            is_wrong: false,
+        }
+    }
+
+    /// How many bytes came, each in its place.
+    pub(crate) fn right(&self) -> u64 {
+        self.right
+    }
+}
+
+impl Write for Comparing {
+    fn write(&mut self, buf: &[u8]) -> io::Result<usize> {
+        let count = buf.len().min(self.at_once);
+        if &buf[..count] != self.cycle.at(self.right, count) {
+            self.is_wrong = true;
+        }
+        if !self.is_wrong {
+            self.right = self.right.saturating_add(count as u64);
+        }
+        Ok(count)
+    }
+
+    fn flush(&mut self) -> io::Result<()> {
+        Ok(())
+    }
+}

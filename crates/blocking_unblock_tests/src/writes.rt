@@ -1,0 +1,431 @@
+//! The worked rows of writing, on threads, over one executor of one worker whose jobs read or write.
+use self::Sight::{Count, Done, Fails, NoSession, WritesNone};
+use self::Step::{Close, Debug, Drop, Flush, Goes, Handle, Holds, Read, Write, WriteAll};
+use crate::both::Both;
+use crate::reader::LOOKS;
+use crate::writer::Taken::{AtMost, Fails as FailsAt};
+use crate::writer::{Page, Plan, PlannedWriter};
+use blocking::{
+    AsyncRead, AsyncWrite, Executor, Host, IoFault, ReadJob, Runtime, Unblock, WriteJob,
+};
+use blocking_core::io::Fault;
+use blocking_core::pool::{Carries, Job};
+use futures::task::{Context, Poll};
+use futures::test::MockTask;
+use std::alloc::{AllocGlobal, Global};
+use std::io::ErrorKind;
+use std::io::ErrorKind::{Interrupted, Other};
+use std::sync::Arc;
+use std::test::Fail;
+use std::{io, thread};
+
+/// What is done, and what of it has to be seen. Polls are made, each after a wake, until one doesn't wait.
+#[derive(Clone, Copy)]
+pub(crate) enum Step {
+    Write(&'static [u8], Sight),
+    /// Writes until all is taken.
+    WriteAll(&'static [u8]),
+    Flush(Sight),
+    Close(Sight),
+    /// Reads into a buffer of this size, and sees exactly these bytes; or sees a fault.
+    Read(usize, &'static [u8], Sight),
+    /// Asks for the handle, which took so many bytes.
+    Handle(usize),
+    /// Exactly these bytes were written.
+    Holds(&'static [u8]),
+    /// The text of the owner.
+    Debug(&'static str),
+    /// The owner is dropped.
+    Drop,
+    /// The writer is dropped before long.
+    Goes,
+}
+
+/// What a call answers.
+#[derive(Clone, Copy)]
+pub(crate) enum Sight {
+    Count(usize),
+    Done,
+    /// A fault of the handle, of this kind.
+    Fails(ErrorKind),
+    /// That a write got nothing on.
+    WritesNone,
+    /// That no session could begin.
+    NoSession,
+}
+
+/// A row of one owner.
+pub(crate) struct Row {
+    pub name: &'static str,
+    pub capacity: usize,
+    pub plan: Plan,
+    pub steps: &'static [Step],
+}
+
+const ALL: Plan = Plan {
+    writes: &[],
+    flushes: &[],
+    reads: &[],
+};
+
+const ROWS: &[Row] = &[
+    Row {
+        name: "three bytes go through a pipe of two, to a writer that takes one at a time",
+        capacity: 2,
+        plan: Plan {
+            writes: &[AtMost(1), AtMost(1), AtMost(1)],
+            ..ALL
+        },
+        steps: &[
+            Debug("Unblock { io: 0 }"),
+            Write(b"xyz", Count(2)),
+            Debug("Unblock { io: <blocked> }"),
+            Write(b"z", Count(1)),
+            Flush(Done),
+            Holds(b"xyz"),
+            Debug("Unblock { io: 3 }"),
+            Handle(3),
+        ],
+    },
+    Row {
+        name: "no bytes begin no session, and a flush of an idle writer is done",
+        capacity: 2,
+        plan: ALL,
+        steps: &[
+            Write(b"", Count(0)),
+            Flush(Done),
+            Debug("Unblock { io: 0 }"),
+        ],
+    },
+    Row {
+        name: "a write that took nothing is told once, by a flush",
+        capacity: 4,
+        plan: Plan {
+            writes: &[AtMost(0)],
+            ..ALL
+        },
+        steps: &[
+            Write(b"a", Count(1)),
+            Flush(WritesNone),
+            Flush(Done),
+            Holds(b""),
+        ],
+    },
+    Row {
+        name: "into a pipe whose job has failed nothing is written, and its fault comes at the flush",
+        capacity: 1,
+        plan: Plan {
+            writes: &[FailsAt(Interrupted)],
+            ..ALL
+        },
+        steps: &[
+            Write(b"a", Count(1)),
+            Write(b"b", Count(0)),
+            Write(b"b", Count(0)),
+            Flush(Fails(Interrupted)),
+            Flush(Done),
+            Holds(b""),
+            Write(b"c", Count(1)),
+            Flush(Done),
+            Holds(b"c"),
+        ],
+    },
+    Row {
+        name: "a fault at the first write",
+        capacity: 6,
+        plan: Plan {
+            writes: &[FailsAt(Other)],
+            ..ALL
+        },
+        steps: &[WriteAll(b"abcdef"), Flush(Fails(Other)), Holds(b"")],
+    },
+    Row {
+        name: "a fault at the second",
+        capacity: 6,
+        plan: Plan {
+            writes: &[AtMost(1), FailsAt(Other)],
+            ..ALL
+        },
+        steps: &[WriteAll(b"abcdef"), Flush(Fails(Other)), Holds(b"a")],
+    },
+    Row {
+        name: "a fault at the third",
+        capacity: 6,
+        plan: Plan {
+            writes: &[AtMost(1), AtMost(2), FailsAt(Other)],
+            ..ALL
+        },
+        steps: &[WriteAll(b"abcdef"), Flush(Fails(Other)), Holds(b"abc")],
+    },
+    Row {
+        name: "a fault at the flush",
+        capacity: 6,
+        plan: Plan {
+            flushes: &[FailsAt(Other)],
+            ..ALL
+        },
+        steps: &[
+            WriteAll(b"abcdef"),
+            Flush(Fails(Other)),
+            Holds(b"abcdef"),
+            Flush(Done),
+        ],
+    },
+    Row {
+        name: "a flush that fails after a write that failed tells the write's fault",
+        capacity: 6,
+        plan: Plan {
+            writes: &[FailsAt(Other)],
+            flushes: &[FailsAt(Interrupted)],
+            reads: &[],
+        },
+        steps: &[WriteAll(b"ab"), Flush(Fails(Other)), Flush(Done)],
+    },
+    Row {
+        name: "a close writes, flushes and drops the writer; a second one is done",
+        capacity: 4,
+        plan: ALL,
+        steps: &[
+            Write(b"ab", Count(2)),
+            Close(Done),
+            Holds(b"ab"),
+            Goes,
+            Debug("Unblock { io: <closed> }"),
+            Close(Done),
+            Flush(Done),
+        ],
+    },
+    Row {
+        name: "a close whose flush fails keeps the writer",
+        capacity: 4,
+        plan: Plan {
+            flushes: &[FailsAt(Other)],
+            ..ALL
+        },
+        steps: &[
+            Write(b"ab", Count(2)),
+            Close(Fails(Other)),
+            Debug("Unblock { io: 2 }"),
+            Handle(2),
+            Close(Done),
+            Goes,
+        ],
+    },
+    Row {
+        name: "an owner is dropped while its writer is lent",
+        capacity: 4,
+        plan: ALL,
+        steps: &[Write(b"ab", Count(2)), Drop, Goes],
+    },
+    Row {
+        name: "a read stops a writing session, which writes all before, and a write stops a reading one",
+        capacity: 4,
+        plan: Plan {
+            reads: b"pqr",
+            ..ALL
+        },
+        steps: &[
+            Write(b"ab", Count(2)),
+            Read(2, b"pq", Count(2)),
+            Holds(b"ab"),
+            Write(b"c", Count(1)),
+            Handle(3),
+            Holds(b"abc"),
+        ],
+    },
+    Row {
+        name: "a read tells the fault of a writing session that it stops",
+        capacity: 4,
+        plan: Plan {
+            writes: &[FailsAt(Other)],
+            flushes: &[],
+            reads: b"pq",
+        },
+        steps: &[
+            Write(b"ab", Count(2)),
+            Read(2, b"", Fails(Other)),
+            Read(2, b"pq", Count(2)),
+        ],
+    },
+];
+
+type Owner<J, H> = Unblock<PlannedWriter<H>, (), J, H>;
+
+// An owner, what it shares with its writer, and the task that polls it.
+#[derive(Drop)]
+struct Scene<J: Job, H: Runtime> {
+    rt: H,
+    owner: Option<Owner<J, H>>,
+    page: Arc<Page>,
+    mock: MockTask,
+}
+
+// How often an owner is polled for one step.
+const WAITS: u32 = 1_000;
+
+fn woken(mock: &MockTask) -> bool {
+    for _ in 0..LOOKS {
+        if mock.is_woken() {
+            return true;
+        }
+        thread::yield_now();
+    }
+    false
+}
+
+fn counted(came: Poll<Result<usize, IoFault>>, sight: Sight) -> Option<bool> {
+    match (came, sight) {
+        (Poll::Pending, _) => None,
+        (Poll::Ready(Ok(count)), Count(wanted)) => Some(count == wanted),
+        (Poll::Ready(Err(why)), sight) => Some(is_fault(why, sight)),
+        _ => Some(false),
+    }
+}
+
+fn done(came: Poll<Result<(), IoFault>>, sight: Sight) -> Option<bool> {
+    match (came, sight) {
+        (Poll::Pending, _) => None,
+        (Poll::Ready(Ok(())), Done) => Some(true),
+        (Poll::Ready(Err(why)), sight) => Some(is_fault(why, sight)),
+        _ => Some(false),
+    }
+}
+
+fn is_fault(why: IoFault, sight: Sight) -> bool {
+    match (why, sight) {
+        (Fault::Io(error), Fails(kind)) => error.kind() == kind,
+        (Fault::WriteZero, WritesNone) => true,
+        (Fault::Refused(_), NoSession) => true,
+        _ => false,
+    }
+}
+
+impl<J, H> Scene<J, H>
+where
+    J: Job + Carries<ReadJob<PlannedWriter<H>, H>> + Carries<WriteJob<PlannedWriter<H>, H>>,
+    H: Host,
+{
+    // Whether a poll that doesn't wait shows what it must. (none where it waits)
+    fn poll(&mut self, step: Step, buffer: &mut [u8]) -> Option<bool> {
+        let Some(owner) = &mut self.owner else {
+            return Some(false);
+        };
+        self.mock.enter(|cx| polled(owner, cx, step, buffer))
+    }
+
+    fn calls(&mut self, step: Step, buffer: &mut [u8]) -> bool {
+        for _ in 0..WAITS {
+            if let Some(shows) = self.poll(step, buffer) {
+                return shows;
+            }
+            if !woken(&self.mock) {
+                return false;
+            }
+        }
+        false
+    }
+
+    // Writes until all is taken.
+    fn writes_all(&mut self, bytes: &[u8]) -> bool {
+        let mut taken = 0;
+        for _ in 0..WAITS {
+            let rest = bytes.get(taken..).unwrap_or(&[]);
+            if rest.is_empty() {
+                return true;
+            }
+            let owner = &mut self.owner;
+            let came = self.mock.enter(|cx| match owner {
+                Some(owner) if !owner.is_closed() => owner.poll_write(cx, rest),
+                _ => Poll::Ready(Ok(0)),
+            });
+            match came {
+                Poll::Pending if woken(&self.mock) => {}
+                Poll::Ready(Ok(count)) if count > 0 => taken = taken.saturating_add(count),
+                _ => return false,
+            }
+        }
+        false
+    }
+
+    fn says(&self, alloc: Global, wanted: &str) -> io::Result<bool> {
+        match &self.owner {
+            Some(owner) => Ok(format!(in alloc; "{owner:?}")?.as_str() == wanted),
+            None => Ok(false),
+        }
+    }
+
+    // Whether a step shows what it must.
+    fn take(&mut self, step: Step) -> io::Result<bool> {
+        let alloc = self.rt.alloc();
+        match step {
+            Write(_, _) | Flush(_) | Close(_) | Handle(_) => Ok(self.calls(step, &mut [])),
+            Read(size, bytes, _) => {
+                let mut buffer = vec![in alloc; 0u8; size]?;
+                Ok(self.calls(step, &mut buffer) && buffer.get(..bytes.len()) == Some(bytes))
+            }
+            WriteAll(bytes) => Ok(self.writes_all(bytes)),
+            Holds(bytes) => Ok(self.page.holds(&self.rt, bytes)),
+            Debug(text) => self.says(alloc, text),
+            Drop => {
+                self.owner = None;
+                Ok(true)
+            }
+            Goes => Ok(self.page.goes()),
+        }
+    }
+}
+
+// What one poll of a step shows.
+fn polled<J, H>(
+    owner: &mut Owner<J, H>,
+    cx: &mut Context<'_>,
+    step: Step,
+    buffer: &mut [u8],
+) -> Option<bool>
+where
+    J: Job + Carries<ReadJob<PlannedWriter<H>, H>> + Carries<WriteJob<PlannedWriter<H>, H>>,
+    H: Host,
+{
+    match step {
+        Flush(sight) => done(owner.poll_flush(cx), sight),
+        Close(sight) => done(owner.poll_close(cx), sight),
+        _ if owner.is_closed() => Some(false),
+        Write(bytes, sight) => counted(owner.poll_write(cx, bytes), sight),
+        Read(_, _, sight) => counted(owner.poll_read(cx, buffer), sight),
+        Handle(taken) => match owner.poll_get_mut(cx) {
+            Poll::Ready(writer) => Some(writer.taken() == taken),
+            Poll::Pending => None,
+        },
+        _ => Some(false),
+    }
+}
+
+/// The place of the first step of a row that shows something else than it must, if there is one.
+pub(crate) fn first_wrong<H: Host>(rt: H, row: &Row) -> io::Result<Option<usize>> {
+    let Ok(executor) = Executor::<Both<PlannedWriter<H>, H>, H>::new(rt, Some("1")) else {
+        return Err(io::Error::from(ErrorKind::Other));
+    };
+    let page = Arc::new(rt.alloc(), Page::new(rt.alloc()))?;
+    let writer = PlannedWriter::new(rt, Arc::try_clone(&page)?, row.plan);
+    let capacity = row.capacity.max(1);
+    let mut scene = Scene {
+        rt,
+        owner: Some(Unblock::with_capacity(capacity, executor, writer)),
+        page,
+        mock: MockTask::new(&rt)?,
+    };
+    for (place, step) in row.steps.iter().enumerate() {
+        if !scene.take(*step)? {
+            return Ok(Some(place));
+        }
+    }
+    Ok(None)
+}
+
+#[test]
+fn rows_are_shown(rt: HostRuntime) -> Result<(), Fail> {
+    for row in ROWS {
+        assert_eq!(rt; first_wrong(rt, row)?, None, "{}", row.name);
+    }
+    Ok(())
+}
