@@ -1,5 +1,5 @@
 -- An action of a poll, and an action of an owner's job, is one act.
-use Rattle.std.proofs.Common.{◌≡◌, refl, ℕ, ◌&&◌, Bool, true, false, List, Option, Some, ap, ◌∙◌}
+use Rattle.std.proofs.Common.{◌≡◌, refl, ℕ, ◌&&◌, Bool, true, false, List, Some, ap, ◌∙◌}
 use Rattle.std.specs.Prelude.{not}
 use mathlib.Core.Path.{subst, sym}
 use Rattle.blocking_laws.specs.Seen.{own, acts_of, is_some_worker}
