@@ -282,7 +282,7 @@ module _ (setting : ℕ) (plan : List Bool) (w : Parts) (past : List Moment) (t 
       let act : did.act ≡ JobParked = sym told.act_is ∙ parks in
       let same : n ≡ s = eqb-true n s (sym (by_worker v n s did.act e told (ap is_of_pool act) (ap is_nothing act)) ∙ its) in
       let mine : Some (party_of job.row.core) ≡ Some (ByOwner h) =
-          sym (keeps setting plan past _ laws n (party_of job.row.core) (t.rowed.each n job.row here.has_row).held_by) ∙ ap (holder (moment new (step_of (Works v job did)) e ∷ past)) same ∙ held in
+      sym (keeps setting plan past _ laws n (party_of job.row.core) (t.rowed.each n job.row here.has_row).held_by) ∙ ap (holder (moment new (step_of (Works v job did)) e ∷ past)) same ∙ held in
       subst (IsMet owner) same (job_parks v job did h owner here may.1 act (ap (value_of (ByOwner h)) mine) found)
   move_parks (IsAnswered v job answer) e new h s owner may told laws parks its held found = absurd (let other = told.act_is in cc)
   move_parks (Parks v job) e new h s owner may told laws parks its held found = absurd (by told.0 (sym told.1.act_is ∙ parks))
