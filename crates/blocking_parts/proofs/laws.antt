@@ -3,3 +3,4 @@ pub mod Actions
 pub mod Own
 pub mod Steps
 pub mod Wakes
+pub mod OwnerWakes
