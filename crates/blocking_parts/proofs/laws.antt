@@ -4,3 +4,4 @@ pub mod Own
 pub mod Steps
 pub mod Wakes
 pub mod OwnerWakes
+pub mod Whole
