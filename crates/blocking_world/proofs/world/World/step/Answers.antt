@@ -19,11 +19,9 @@ put_at_end r old between new moment same ok is =
 -- the room for the event's bytes was had
 pub twin_in-twin-requires-clause-enough : goal.twin_in-twin-requires-clause-enough
 twin_in-twin-requires-clause-enough c =
-    let does : Steps (IsPlanned c.deref.result.now) c.in_ok-taken.taken c.self.inside.parts c.in_ok-event.event c.step_with.new.parts = c.in_ok-event.ensures.ok in
-    let same = c.in_ok-taken.ensures in
-    let fits = carried c.deref.result.now c.self.inside.parts c.step_with.new.parts c.args.step.now c.in_ok-event.event
-        (subst (λ (s : Step). Steps (IsPlanned c.deref.result.now) s c.self.inside.parts c.in_ok-event.event c.step_with.new.parts) same does) in
-    subst (λ n. length (bytes_of c.in_ok-event.event.act) ≤ n) (sym (c.in_ok-room.ensures.exact ∙ c.bytes_to_come.ensures)) fits
+    subst (λ n. length (bytes_of c.in_ok-event.event.act) ≤ n) (sym (c.in_ok-room.ensures.exact ∙ c.bytes_to_come.ensures))
+    (carried c.deref.result.now c.self.inside.parts c.step_with.new.parts c.args.step.now c.in_ok-event.event
+    (subst (λ (s : Step). Steps (IsPlanned c.deref.result.now) s c.self.inside.parts c.in_ok-event.event c.step_with.new.parts) c.in_ok-taken.ensures c.in_ok-event.ensures.ok))
 
 -- the step as the parts did it
 does : (c : goal.Joined-push) → Steps (IsPlanned c.self.inside.plan.items) c.args.step.now c.self.inside.parts c.in_ok-event.event c.step_with.new.parts
