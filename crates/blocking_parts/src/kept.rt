@@ -3,12 +3,11 @@ ghost use Rattle.std.specs.Prelude.{◌≡◌, ◌<◌, ◌≤◌, ℕ, not, Boo
 ghost use Rattle.blocking_pool.specs.Limits.{limit_of_setting};
 ghost use Rattle.blocking_pool.specs.Pools.{empty_pool};
 ghost use Rattle.blocking_laws.specs.Growth.{IsPlanned};
-ghost use Rattle.blocking_laws.specs.OwnerSteps.{has_action_with_owners};
 ghost use Rattle.blocking_laws.specs.Seen.{events, acts_of_owner};
 ghost use Rattle.blocking_laws.specs.Served.{IsServed};
 ghost use Rattle.blocking_laws.specs.Sessions.{is_poll_over, under_way};
 ghost use Rattle.blocking_laws.specs.Staffed.{IsStaffed, AreAsSeen};
-ghost use Rattle.blocking_laws.specs.Steps.{is_job_action};
+ghost use Rattle.blocking_laws.specs.Steps.{has_action, is_job_action};
 ghost use Rattle.blocking_laws.specs.declared.event.Event.{Event};
 ghost use Rattle.blocking_laws.specs.declared.event.Moment.{Moment};
 ghost use Rattle.blocking_laws.specs.declared.step.Step.{Step};
@@ -59,7 +58,7 @@ pub fn readings()
         AreAsSeen (free_hands w.crew.hands) (busy_hands w.crew.hands) past }
     ensures acts { (setting : ℕ) (plan : List Bool) (w : Parts) (past : List Moment) (v : ℕ) →
         IsLawful setting plan w past →
-        has_action_with_owners past (Job v) ≡ is_job_action (next_at w v) }
+        has_action past (Job v) ≡ is_job_action (next_at w v) }
     ensures polls { (setting : ℕ) (plan : List Bool) (w : Parts) (past : List Moment) (h : ℕ) →
         IsLawful setting plan w past → polls_in (slice_get w.owners h) ≡
         not (is_poll_over (under_way (acts_of_owner h (events past)))) }

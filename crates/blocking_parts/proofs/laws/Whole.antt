@@ -16,12 +16,11 @@ use Rattle.blocking_lanes.specs.declared.owner.OwnerNext.TheVariants as next
 use Rattle.blocking_lanes.proofs.owners.Actions.{is_rest, rests_next}
 use Rattle.blocking_laws.specs.Growth.{IsPlanned}
 use Rattle.blocking_laws.specs.Jobs.{standing}
-use Rattle.blocking_laws.specs.OwnerSteps.{has_action_with_owners}
 use Rattle.blocking_laws.specs.Seen.{acts_of_owner, cut, events, is_nothing, own}
 use Rattle.blocking_laws.specs.Served.{IsServed}
 use Rattle.blocking_laws.specs.Sessions.{is_poll_over, under_way}
 use Rattle.blocking_laws.specs.Staffed.{IsStaffed, AreAsSeen}
-use Rattle.blocking_laws.specs.Steps.{is_job_action, named}
+use Rattle.blocking_laws.specs.Steps.{has_action, is_job_action, named}
 use Rattle.blocking_laws.specs.declared.event.Event.{Event}
 use Rattle.blocking_laws.specs.declared.event.Moment.{Moment}
 use Rattle.blocking_laws.specs.declared.step.Step.{Step}
@@ -259,7 +258,7 @@ busy_is (next.Acts count) = refl
 
 module _ (setting : ℕ) (plan : List Bool) (w : Parts) (past : List Moment) (t : Tied setting plan w past) where
   -- The step of a worker's job has an action where its next action is the job's own.
-  pub acts_is : (v : ℕ) → has_action_with_owners past (Job v) ≡ is_job_action (next_at w v)
+  pub acts_is : (v : ℕ) → has_action past (Job v) ≡ is_job_action (next_at w v)
   acts_is v = ap is_job_action (next_agrees setting plan w past t v)
 
   -- An owner's poll is under way where it was seen to be.
