@@ -59,6 +59,7 @@ module _ (setting : ℕ) (plan : List Bool) (w : Parts) (past : List Moment) (la
     served : Served setting (moment new step e ∷ past)
     numbers : (s : ℕ) (row : Row) → row_of w.rows s ≡ Some row → IsNumberOf new.crew.pool row.number
 
+  -- A call of the crew keeps the crew, the numbers of jobs, and that queued jobs are served.
   called : (step : Step) (call : crew.Call) → IsAsked w.crew past call → crew.Moves (IsPlanned plan) call w.crew e new.crew → CrewKept step
   called step call asks does = record {
     holds = holds_moved setting plan w.crew past t.crewed (IsPlanned plan) call e new.crew step (owner_of new.rows e.job) (λ n b is. is) does asks;
@@ -80,30 +81,36 @@ module _ (setting : ℕ) (plan : List Bool) (w : Parts) (past : List Moment) (la
         refused = ap (λ (f : Event). f.start_refused) is;
       } in
       record {
-        holds = subst (λ (c : Crew). CrewHolds setting plan c (moment new step e ∷ past)) (sym same) (holds_aside setting plan w.crew past t.crewed (moment new step e) aside);
+        holds = subst (λ (c : Crew). CrewHolds setting plan c (moment new step e ∷ past)) (sym same)
+            (holds_aside setting plan w.crew past t.crewed (moment new step e) aside);
         served = subst (λ (f : Event). Served setting (record { step = step; event = record f { owner = owner_of new.rows f.job } } ∷ past)) (sym is)
             (record { positive = lawful.served.positive; served = lawful.served.served });
         numbers = λ s row found. subst (λ (c : Crew). IsNumberOf c.pool row.number) (sym same) (t.rowed.each s row found).number;
       }
 
+  -- A move keeps them too: what its call of the crew asks is given.
   crew_kept : (move : Move) → May w move → CrewMoves (IsPlanned plan) move w e new → CrewKept (step_of move)
   crew_kept (Idles step) may does = idled step does.0 does.1
   crew_kept move may does = called (step_of move) (call_of w move) (asked setting plan w past t move may) does
 
   -- ---- the rows
 
-  rows_kept : (move : Move) → May w move → CrewMoves (IsPlanned plan) move w e new → new.rows ≡ rows_after w move → new.tasks ≡ tasks_after w move → new.owners ≡ owners_after w move → CrewKept (step_of move)
-      → Rowed new (moment new (step_of move) e ∷ past)
+  -- A move keeps the rows: a job acts or is answered, a call or a session begins, or the rows stay.
+  rows_kept : (move : Move) → May w move → CrewMoves (IsPlanned plan) move w e new → new.rows ≡ rows_after w move → new.tasks ≡ tasks_after w move
+      → new.owners ≡ owners_after w move → CrewKept (step_of move) → Rowed new (moment new (step_of move) e ∷ past)
   rows_kept (Works v job did) may does rows tasks owners c = rows_worked setting plan w past t e new c.numbers v job did may does rows tasks owners c.holds
-  rows_kept (IsAnswered v job answer) may does rows tasks owners c = rows_answered setting plan w past t e new c.numbers v job answer may does rows tasks owners c.holds
+  rows_kept (IsAnswered v job answer) may does rows tasks owners c =
+      rows_answered setting plan w past t e new c.numbers v job answer may does rows tasks owners c.holds
   rows_kept (Begins (Ok number)) may does rows tasks owners c = rows_begun setting plan w past t e new number c.numbers does rows tasks owners c.holds
-  rows_kept (Lends h owner (Ok number)) may does rows tasks owners c = rows_lent setting plan w past t e new number c.numbers h owner may does rows tasks owners c.holds
+  rows_kept (Lends h owner (Ok number)) may does rows tasks owners c =
+      rows_lent setting plan w past t e new number c.numbers h owner may does rows tasks owners c.holds
   rows_kept move may does rows tasks owners c = rows_stay setting plan w past t move e new may does rows tasks owners refl c.holds c.numbers
 
   -- ---- all of it
 
-  lawful_after : (move : Move) → May w move → CrewMoves (IsPlanned plan) move w e new → new.rows ≡ rows_after w move → new.tasks ≡ tasks_after w move → new.owners ≡ owners_after w move
-      → IsLawful setting plan new (moment new (step_of move) e ∷ past)
+  -- A move keeps each tie and each law, by the lemma of each.
+  lawful_after : (move : Move) → May w move → CrewMoves (IsPlanned plan) move w e new → new.rows ≡ rows_after w move
+      → new.tasks ≡ tasks_after w move → new.owners ≡ owners_after w move → IsLawful setting plan new (moment new (step_of move) e ∷ past)
   lawful_after move may does rows tasks owners =
       let c = crew_kept move may does in
       let of_tasks = tasks_after_move setting plan w past t lawful.legal.tasks move e new may does rows tasks in
@@ -131,15 +138,18 @@ module _ (setting : ℕ) (plan : List Bool) (w : Parts) (past : List Moment) (la
       }
 
 module _ (setting : ℕ) (plan : List Bool) (w : Parts) (past : List Moment) (lawful : IsLawful setting plan w past) where
+  -- The move of a step keeps the parts lawful, with the owner that the event names.
   lawful_moved : (new : Parts) (e : Event) (step : Step) → Moves (IsPlanned plan) step w e new → IsLawful setting plan new (moment new step e ∷ past)
   lawful_moved new e step m =
       subst (λ taken. IsLawful setting plan new (moment new taken e ∷ past)) (sym m.step_is)
       (lawful_after setting plan w past lawful new e m.move m.may m.crew m.rows_are m.tasks_are m.owners_are)
 
   -- A step keeps the parts lawful,
-  pub stays_lawful : (new : Parts) (e : Event) (step : Step) → Steps (IsPlanned plan) step w e new → IsLawful setting plan new (record { step = step; event = e } ∷ past)
+  pub stays_lawful : (new : Parts) (e : Event) (step : Step) → Steps (IsPlanned plan) step w e new
+      → IsLawful setting plan new (record { step = step; event = e } ∷ past)
   stays_lawful new e step steps =
-      subst (λ (f : Event). IsLawful setting plan new (record { step = step; event = f } ∷ past)) (sym steps.owned) (lawful_moved new steps.event step steps.moves)
+      subst (λ (f : Event). IsLawful setting plan new (record { step = step; event = f } ∷ past)) (sym steps.owned)
+      (lawful_moved new steps.event step steps.moves)
 
   -- and their setting.
   pub same_setting : (new : Parts) (e : Event) (step : Step) → Steps (IsPlanned plan) step w e new → new.crew.pool.counts.setting ≡ setting
@@ -151,6 +161,7 @@ module _ (setting : ℕ) (plan : List Bool) (w : Parts) (past : List Moment) (la
 abbrev pub first_parts : ℕ → Parts
 first_parts setting = record { crew = record { pool = empty_pool setting 1 1; hands = [] }; rows = []; tasks = []; owners = [] }
 
+-- no job has a row there, nor does a worker hold one
 no_row : (s : ℕ) → row_of [] s ≡ None
 no_row s = by (s == 0) (slice_get [] (s - 1)) refl
   where
@@ -170,7 +181,13 @@ pub begins_lawful : (setting : ℕ) (plan : List Bool) → 0 < setting → IsLaw
 begins_lawful setting plan positive = record {
   tied = record {
     crewed = begins setting plan;
-    tasked = record { count = refl; there = λ k s held. cc; once = λ k s u one other. cc; each = λ k s task held there. cc; unborn = λ k s beyond none. refl };
+    tasked = record {
+      count = refl;
+      there = λ k s held. cc;
+      once = λ k s u one other. cc;
+      each = λ k s task held there. cc;
+      unborn = λ k s beyond none. refl;
+    };
     owned = record {
       count = refl;
       each = λ h owner found. absurd cc;
@@ -207,6 +224,7 @@ pub begun : (setting : ℕ) (plan : List Bool) (w : Parts) → w ≡ first_parts
 begun setting plan w is positive =
     subst (λ v. IsLawful v.crew.pool.counts.setting plan v []) (sym is) (begins_lawful setting plan positive)
 
+-- what a text names as a limit is above 0
 some_limit : (number : Option ℕ) → 0 < limit_by number
 some_limit None = omega arith
 some_limit (Some number) = omega arith
@@ -249,9 +267,11 @@ module _ (setting : ℕ) (plan : List Bool) (w : Parts) (past : List Moment) (t 
     where
       by : (o : Option Owner) → slice_get w.owners h ≡ o → polls_in o ≡ not (is_poll_over (under_way (acts_of_owner h (events past))))
       by None none = sym (ap (λ l. not (is_poll_over (under_way (own l)))) (unseen setting plan w past t h none))
-      by (Some owner) found = busy_is (next_of owner) ∙ ap not (sym (rests_next owner (cut h (events past)) (owner_tie setting plan w past t h owner found)))
+      by (Some owner) found =
+          busy_is (next_of owner) ∙ ap not (sym (rests_next owner (cut h (events past)) (owner_tie setting plan w past t h owner found)))
 
 -- The event of a step carries no more bytes than were told before it.
-pub carried : (plan : List Bool) (w : Parts) (new : Parts) (step : Step) (e : Event) → Steps (IsPlanned plan) step w e new → length (bytes_of e.act) ≤ bytes_to_come w step
+pub carried : (plan : List Bool) (w new : Parts) (step : Step) (e : Event) → Steps (IsPlanned plan) step w e new
+    → length (bytes_of e.act) ≤ bytes_to_come w step
 carried plan w new step e steps =
     subst (λ (f : Event). length (bytes_of f.act) ≤ bytes_to_come w step) (sym steps.owned) (bytes.carried plan step w steps.event new steps.moves)

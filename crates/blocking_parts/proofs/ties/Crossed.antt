@@ -5,7 +5,6 @@ use Rattle.std.proofs.lemmas.Bool.{eqb-true, eq-eqb}
 use Rattle.std.proofs.lemmas.Option.{slice_get_within}
 use Rattle.blocking_core.specs.Reading.{read_next}
 use Rattle.blocking_core.specs.declared.job.read.ReadAction.TheVariants as read_action
-use Rattle.blocking_core.specs.declared.unblock.State.TheVariants as state
 use Rattle.blocking_crew.specs.Moves.{parked_act}
 use Rattle.blocking_crew.specs.Ties.{CrewHolds, turn_of}
 use Rattle.blocking_crew.specs.declared.hand.Stage.{Stage}
@@ -41,7 +40,6 @@ use Rattle.blocking_laws.specs.declared.event.Moment.{Moment}
 use Rattle.blocking_laws.specs.declared.event.Party.{Party}
 use Rattle.blocking_laws.specs.declared.event.Party.TheVariants.{Owner as ByOwner}
 use Rattle.blocking_laws.proofs.Beginnings.{keeps}
-use Rattle.blocking_pool.specs.declared.pool.answer.Woke.{Woke}
 use Rattle.blocking_pool.specs.declared.pool.standing.Standing.TheVariants.{Running}
 use Rattle.blocking_parts.specs.Moves.{Move, Idles, Makes, Asks, Owns, Lends, Delivers, IsDropped, Begins, Calls, Works, IsAnswered, Parks, Passes, IsWoken, IsStruck, May, CrewMoves, step_of, owners_after}
 use Rattle.blocking_parts.specs.Parts.{Parts, InHand, done_by}
@@ -57,7 +55,7 @@ use Rattle.blocking_parts.proofs.ties.Jobs.{IsHere, held_row, holder_stands, job
 use Rattle.blocking_parts.proofs.ties.LetGo.{owner_there}
 use Rattle.blocking_parts.proofs.ties.Owners.{first_goes}
 use Rattle.blocking_parts.proofs.ties.Said.{SaidBy, said}
-use Rattle.blocking_parts.proofs.ties.Told.{Told, by_no_worker, by_worker}
+use Rattle.blocking_parts.proofs.ties.Told.{by_no_worker, by_worker}
 
 -- ---- the last session
 
