@@ -1,4 +1,4 @@
-//! Owners, their sessions and the jobs that were lent their handles, over a past in which owners may be made.
+//! Owners, their sessions and the jobs that were lent their handles.
 
 pub mod ends;
 pub mod jobs;

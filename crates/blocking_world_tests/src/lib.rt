@@ -10,6 +10,10 @@ mod memory;
 #[cfg(test)]
 mod no_action;
 #[cfg(test)]
+mod owners;
+#[cfg(test)]
+mod reading;
+#[cfg(test)]
 mod row;
 #[cfg(test)]
 mod texts;

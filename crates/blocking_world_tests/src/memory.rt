@@ -1,6 +1,8 @@
-//! Worlds whose memory is refused. `rt try --test --fail-alloc N` refuses the Nth piece that a test asks for: the test here
-//! ends as without, whichever it is, and says what came of it.
-use crate::row::PlainStep::{Arrive, End, Io, Job, Late, OfTask, Spawn, Take};
+//! Worlds whose memory is refused. `rt try --test --fail-alloc N` refuses the Nth piece that a test asks for: the tests here
+//! end as without, whichever it is, and say what came of it.
+use crate::row::PlainStep::{
+    Arrive, AskRead, End, Gives, Io, Job, Late, New, OfTask, Own, Spawn, Take,
+};
 use crate::row::{Place, PlainStep, agree, counts};
 use blocking_core::pool::Refusal;
 use blocking_laws::event::{Act, Event};
@@ -11,7 +13,25 @@ use std::alloc::Global;
 use std::fmt::Write;
 use std::test::Fail;
 
-// Takes a step until there is room for it, twice at most: until then the world is as it was.
+// This step has an event of this text.
+fn sees(alloc: Global, world: &mut World, step: PlainStep, text: &str) -> Result<(), Fail> {
+    let events = run(alloc, world, &[step.step(alloc)?])?;
+    let [event] = events.as_slice() else {
+        return Err(Fail::new("not one event"));
+    };
+    agree(place(0), format!(in alloc; "{event}")?.as_str(), text)
+}
+
+// An owner whose session was refused is told so, rests, and asks again.
+fn asks_again(alloc: Global, world: &mut World, owner: usize) -> Result<(), Fail> {
+    sees(alloc, world, Own(owner), "replied fault refused memory")?;
+    if world.poll_under_way(owner) {
+        return Err(Fail::new("an owner polls that was told"));
+    }
+    sees(alloc, world, AskRead(owner, 2), "asked")
+}
+
+// Takes a step until there is room for it, twice at most: until then the world is as it was, but for an owner who was told.
 fn insists(
     rt: &impl Print,
     alloc: Global,
@@ -19,8 +39,12 @@ fn insists(
     step: PlainStep,
 ) -> Result<Event, Fail> {
     for _ in 0..2 {
+        let Ok(asked) = step.step(alloc) else {
+            println!(rt; "refused: {step:?}: the test's own step")?;
+            continue;
+        };
         let before = counts(world);
-        let outcome = run(alloc, world, &[step.step()]);
+        let outcome = run(alloc, world, &[asked]);
         if let Ok(mut events) = outcome {
             let Some(event) = events.pop() else {
                 return Err(Fail::new("no event"));
@@ -29,6 +53,9 @@ fn insists(
                 return Ok(event);
             }
             println!(rt; "refused: {step:?}: refused memory")?;
+            if let Own(owner) = step {
+                asks_again(alloc, world, owner)?;
+            }
         } else {
             println!(rt; "refused: {step:?}: an error")?;
         }
@@ -102,20 +129,71 @@ const CALL: [(PlainStep, &str); 10] = [
     (Late(1), "stopped 1"),
 ];
 
-// Takes the steps of a call, hands in six more calls, and then one more.
-fn goes_on(rt: &impl Print, alloc: Global, world: &mut World) -> Result<(), Fail> {
+// Six bytes through a pipe of four, two by two.
+const READS: [(PlainStep, &str); 39] = [
+    (New(4), "made 0"),
+    (AskRead(0, 2), "asked"),
+    (Own(0), "accepted 1 +1"),
+    (Own(0), "waits"),
+    (Arrive, "arrived 1"),
+    (Take(1), "took 1"),
+    (Job(1), "room 4"),
+    (Gives(1, b"abcd"), "answered 61626364"),
+    (Job(1), "put 4 wake owner"),
+    (Job(1), "delivered owner"),
+    (Job(1), "parked"),
+    (End(1), "ended 1 parked"),
+    (AskRead(0, 2), "asked"),
+    (Own(0), "got 6162 wake 1"),
+    (Own(0), "delivered 1 entered"),
+    (Own(0), "replied ok 2"),
+    (AskRead(0, 2), "asked"),
+    (Own(0), "got 6364"),
+    (Own(0), "replied ok 2"),
+    (Take(1), "took 1"),
+    (Job(1), "room 4"),
+    (Gives(1, b"ef"), "answered 6566"),
+    (Job(1), "put 2"),
+    (Job(1), "room 2"),
+    (Gives(1, b""), "answered -"),
+    (Job(1), "closed"),
+    (Job(1), "finished"),
+    (End(1), "ended 1 done"),
+    (AskRead(0, 2), "asked"),
+    (Own(0), "got 6566"),
+    (Own(0), "replied ok 2"),
+    (AskRead(0, 2), "asked"),
+    (Own(0), "got end"),
+    (Own(0), "back"),
+    (Own(0), "replied ok 0"),
+    (AskRead(0, 2), "asked"),
+    (Own(0), "accepted 2"),
+    (Own(0), "waits"),
+    (Take(1), "took 2"),
+];
+
+// Takes these steps, of which each has an event of its text.
+fn takes_all(
+    rt: &impl Print,
+    alloc: Global,
+    world: &mut World,
+    steps: &[(PlainStep, &str)],
+) -> Result<(), Fail> {
     let mut seen = room(rt, alloc)?;
-    for (lines, (step, text)) in CALL.iter().enumerate() {
+    for (lines, (step, text)) in steps.iter().enumerate() {
         let event = insists(rt, alloc, world, *step)?;
         seen.clear();
         write!(seen, "{event}")?;
         agree(place(lines), seen.as_str(), text)?;
     }
+    Ok(())
+}
+
+// Takes the steps of a call, hands in six more calls, and then one more.
+fn goes_on(rt: &impl Print, alloc: Global, world: &mut World) -> Result<(), Fail> {
+    takes_all(rt, alloc, world, &CALL)?;
     spawns_six(rt, alloc, world)?;
-    let event = insists(rt, alloc, world, Spawn)?;
-    seen.clear();
-    write!(seen, "{event}")?;
-    agree(place(10), seen.as_str(), "accepted 8")?;
+    takes_all(rt, alloc, world, &[(Spawn, "accepted 8")])?;
     if counts(world) == (2, 2, 7, Some(2)) {
         Ok(())
     } else {
@@ -127,6 +205,14 @@ fn goes_on(rt: &impl Print, alloc: Global, world: &mut World) -> Result<(), Fail
 fn each_piece_refused(rt: HostRuntime) -> Result<(), Fail> {
     let mut world = World::new(rt.alloc(), Some("2"), Vec::new(rt.alloc()));
     let outcome = goes_on(&rt, rt.alloc(), &mut world);
+    world.close();
+    outcome
+}
+
+#[test]
+fn each_piece_of_a_reader_refused(rt: HostRuntime) -> Result<(), Fail> {
+    let mut world = World::new(rt.alloc(), Some("4"), Vec::new(rt.alloc()));
+    let outcome = takes_all(&rt, rt.alloc(), &mut world, &READS);
     world.close();
     outcome
 }

@@ -1,4 +1,4 @@
-//! Steps that have no action.
+//! Steps that have no action, of strangers and out of turn. (`owners` has those of owners who are there.)
 use crate::row::Line::{Counts, Futile, Sees};
 use crate::row::PlainStep::{
     Arrive, DropOwner, End, Io, IoFails, Job, Late, OfTask, Own, SetLimit, Spawn, Stray, Strike,

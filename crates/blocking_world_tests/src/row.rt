@@ -1,12 +1,16 @@
 //! Rows: steps, with what is seen of each. And how they are played.
-use blocking_laws::step::{Answer, Step, TaskCall};
+use blocking_laws::bytes::Bytes;
+use blocking_laws::step::{Answer, HandleCall, Step, TaskCall};
 use blocking_world::{World, run};
 use std::alloc::{AllocError, Global};
 use std::test::Fail;
 
-// A step without bytes, as plain data; a call is answered by a number.
+// A step as plain data. What a job asks for is answered by a number (`Io`), by bytes (`Gives`), or by a fault (`IoFails`).
 #[derive(Clone, Copy, Debug)]
 pub(crate) enum PlainStep {
+    New(usize),
+    AskRead(usize, u64),
+    AskMut(usize),
     Own(usize),
     DropOwner(usize),
     Spawn,
@@ -15,6 +19,7 @@ pub(crate) enum PlainStep {
     Take(usize),
     Job(usize),
     Io(usize, u64),
+    Gives(usize, &'static [u8]),
     IoFails(usize, u64),
     End(usize),
     Wait(usize),
@@ -27,8 +32,11 @@ pub(crate) enum PlainStep {
 
 impl PlainStep {
     // The step itself.
-    pub(crate) fn step(self) -> Step {
-        match self {
+    pub(crate) fn step(self, alloc: Global) -> Result<Step, AllocError> {
+        Ok(match self {
+            PlainStep::New(capacity) => Step::New(capacity),
+            PlainStep::AskRead(owner, most) => Step::Ask(owner, HandleCall::Read(most)),
+            PlainStep::AskMut(owner) => Step::Ask(owner, HandleCall::GetMut),
             PlainStep::Own(owner) => Step::Own(owner),
             PlainStep::DropOwner(owner) => Step::DropOwner(owner),
             PlainStep::Spawn => Step::Spawn,
@@ -37,6 +45,9 @@ impl PlainStep {
             PlainStep::Take(worker) => Step::Take(worker),
             PlainStep::Job(worker) => Step::Job(worker),
             PlainStep::Io(worker, number) => Step::Io(worker, Answer::Number(number)),
+            PlainStep::Gives(worker, bytes) => {
+                Step::Io(worker, Answer::Gave(Bytes::new(bytes.to_vec(alloc)?)))
+            }
             PlainStep::IoFails(worker, error) => Step::Io(worker, Answer::Failed(error)),
             PlainStep::End(worker) => Step::End(worker),
             PlainStep::Wait(worker) => Step::Wait(worker),
@@ -45,7 +56,7 @@ impl PlainStep {
             PlainStep::Sweep => Step::Sweep,
             PlainStep::Stray(serial) => Step::Stray(serial),
             PlainStep::Strike(serial) => Step::Strike(serial),
-        }
+        })
     }
 }
 
@@ -60,6 +71,8 @@ pub(crate) enum Line {
     Counts(usize, usize, usize, Option<usize>),
     // whether the job of this worker has an action that is its own to take
     HasAction(usize, bool),
+    // whether the poll of this owner is under way
+    IsPolled(usize, bool),
 }
 
 // What is seen, line by line, of a world with this setting and this plan of its starts.
@@ -115,7 +128,7 @@ fn sees(
     step: PlainStep,
     text: &str,
 ) -> Result<(), Fail> {
-    let events = run(alloc, world, &[step.step()])?;
+    let events = run(alloc, world, &[step.step(alloc)?])?;
     let [event] = events.as_slice() else {
         return agree(place, "not one event", text);
     };
@@ -157,6 +170,13 @@ fn holds(alloc: Global, world: &mut World, place: Place, line: &Line) -> Result<
                 Ok(())
             } else {
                 agree(place, "other action", "")
+            }
+        }
+        Line::IsPolled(owner, is_polled) => {
+            if world.poll_under_way(owner) == is_polled {
+                Ok(())
+            } else {
+                agree(place, "other poll", "")
             }
         }
     }
@@ -203,7 +223,7 @@ fn play_at_once(alloc: Global, row: &Row, lines: &[Line]) -> Result<(), Fail> {
     let mut text = String::new(alloc);
     for line in lines {
         if let Line::Sees(step, event) = *line {
-            steps.push(step.step())?;
+            steps.push(step.step(alloc)?)?;
             text.push_str(format!(in alloc; "{event}\n")?.as_str())?;
         }
     }

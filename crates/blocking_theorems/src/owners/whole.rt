@@ -1,12 +1,22 @@
-//! The cut of an owner, and what its law leaves open.
-ghost use Rattle.std.specs.Prelude.{◌≡◌, ℕ, List, [], true, false, Some};
+//! Whole sessions; the cut of an owner, and what its law leaves open.
+ghost use Rattle.std.specs.Prelude.{◌≡◌, ℕ, List, [], true, false, Some, None};
 ghost use Rattle.blocking_laws.specs.Seen.{events, cut, is_some_worker};
 ghost use Rattle.blocking_laws.specs.Turns.{is_giving_up};
 ghost use Rattle.blocking_laws.specs.Steps.{is_answered};
 ghost use Rattle.blocking_laws.specs.OwnerTable.{next_of_owner};
 ghost use Rattle.blocking_laws.specs.OwnerLaws.{OwnerLaw, is_of_poll, is_settled};
-ghost use Rattle.blocking_laws.specs.OwnerTraces.{reader_parked};
+ghost use Rattle.blocking_laws.specs.Legal.{Legal};
+ghost use Rattle.blocking_laws.specs.Traces.{◌▸◌, moment};
+ghost use Rattle.blocking_laws.specs.OwnerTraces.{polls, takes, works, ends};
+ghost use Rattle.blocking_laws.specs.OwnerTraces.{reader_parked, reader_dropped, end_read, stop_back};
+ghost use Rattle.blocking_pool.specs.declared.pool.answer.Woke.TheVariants.{Entered};
+ghost use Rattle.blocking_pool.specs.declared.pool.standing.Standing.TheVariants.{Dropped};
+ghost use Rattle.blocking_laws.specs.declared.event.Act.TheVariants.{JobCancelled, Replied, TookDropped, Ended, GaveUp};
 ghost use Rattle.blocking_laws.specs.declared.event.Event.{Event};
+ghost use Rattle.blocking_laws.specs.declared.event.HolderWaker.TheVariants.{Absent};
+ghost use Rattle.blocking_laws.specs.declared.event.Party.TheVariants.{Pool};
+ghost use Rattle.blocking_laws.specs.declared.event.Reply.TheVariants.{Handle};
+ghost use Rattle.blocking_laws.specs.declared.step.Step.TheVariants.{Strike};
 
 /// A cut has the events of one owner and of its jobs alone.
 pub fn cuts()
@@ -27,4 +37,18 @@ pub fn one_act()
         now.job ≡ Some s → other.job ≡ Some s →
         is_giving_up now.act ≡ is_giving_up other.act → is_answered now.act ≡ false →
         OwnerLaw cut now → OwnerLaw cut other → now.act ≡ other.act }
+{}
+
+/// Whole sessions, from the making of the owner to the return of its handle, or until it was dropped.
+pub fn sessions()
+    // made 0 / asked / accepted 1 +1 / .. / ended 1 done / asked / got end / back / replied ok 0
+    ensures accepts_read { Legal 1 [] end_read }
+    // .. / asked (for the handle) / closed wake 1 / .. / ended 1 done / asked (for the handle) / back / replied handle
+    ensures accepts_stop { Legal 1 [] (stop_back ▸ polls (Replied Handle) 2) }
+    // .. / ended 1 parked / dropped / cancelled 1 entered / took 1 dropped / gave up / ended 1 dropped
+    ensures accepts_drop { Legal 1 [] (reader_dropped
+        ▸ moment (Strike 1) Pool None (JobCancelled 1 Entered) 2
+        ▸ takes 1 (TookDropped 1)
+        ▸ works 1 (GaveUp Absent)
+        ▸ ends 1 (Ended 1 Dropped)) }
 {}
