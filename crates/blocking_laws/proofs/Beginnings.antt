@@ -2,11 +2,13 @@
 use Rattle.std.proofs.Common.{◌≡◌, refl, ℕ, ◌+◌, ◌≤◌, ◌||◌, ◌==◌, if◌then◌else◌, Bool, true, false, cond, List, [], ◌∷◌, ◌++◌, length, Option, Some, arith, length-append}
 use Rattle.std.proofs.lemmas.Bool.Decides.{nat_tests}
 use mathlib.Core.Path.{subst}
-use Rattle.blocking_laws.specs.Seen.{EachMayFollow, AtEveryBeginning, joined, events, task_cut, is_by_task, is_of_job}
+use Rattle.blocking_laws.specs.Seen.{EachMayFollow, AtEveryBeginning, joined, events, cut, task_cut, is_by_task, is_of_job, is_in_cut}
 use Rattle.blocking_laws.specs.Jobs.{accepts, accepted_by, accepted_jobs, newcomer, holder}
 use Rattle.blocking_laws.specs.Answers.{PoolAnswers}
 use Rattle.blocking_laws.specs.TaskLaws.{TaskLaw}
+use Rattle.blocking_laws.specs.OwnerLaws.{OwnerLaw}
 use Rattle.blocking_laws.specs.Wakes.{NoLostWake}
+use Rattle.blocking_laws.specs.OwnerWakes.{NoLostOwnerWake}
 use Rattle.blocking_laws.specs.Steps.{StepLaw}
 use Rattle.blocking_laws.specs.Legal.{Legal, PoolLaw, LastFollows, HoldsNow, IsLegalThroughout}
 use Rattle.blocking_laws.specs.declared.event.Act.{Act}
@@ -72,16 +74,32 @@ pub before : (setting : ℕ) (plan : List Bool) (past : List Moment) (now : Mome
 before setting plan past now legal = record {
   steps = legal.steps.1;
   pool = legal.pool.1;
+  owners = λ h. without_last OwnerLaw (is_in_cut h now.event) now.event (cut h (events past)) (legal.owners h);
   tasks = λ k s h. without_last (TaskLaw s) (is_by_task k now.event || is_of_job s now.event) now.event (task_cut k s (events past))
       (legal.tasks k s (keeps setting plan past now legal.pool s (Task k) h));
   wakes = legal.wakes.1;
+  owner_wakes = legal.owner_wakes.1;
 }
 
 -- ---- both forms
 
 now_of : (setting : ℕ) (plan : List Bool) (past : List Moment) → Legal setting plan past → HoldsNow setting plan past
-now_of setting plan [] legal = record { step = tt; pool = tt; tasks = legal.tasks; wakes = legal.wakes }
-now_of setting plan (now ∷ past) legal = record { step = legal.steps.0; pool = legal.pool.0; tasks = legal.tasks; wakes = legal.wakes.0 }
+now_of setting plan [] legal = record {
+  step = tt;
+  pool = tt;
+  owners = legal.owners;
+  tasks = legal.tasks;
+  wakes = legal.wakes;
+  owner_wakes = legal.owner_wakes;
+}
+now_of setting plan (now ∷ past) legal = record {
+  step = legal.steps.0;
+  pool = legal.pool.0;
+  owners = legal.owners;
+  tasks = legal.tasks;
+  wakes = legal.wakes.0;
+  owner_wakes = legal.owner_wakes.0;
+}
 
 at_beginning : (setting : ℕ) (plan : List Bool) (later beginning : List Moment) → Legal setting plan (later ++ beginning) → HoldsNow setting plan beginning
 at_beginning setting plan [] beginning legal = now_of setting plan beginning legal
@@ -106,16 +124,24 @@ pub whole : (setting : ℕ) (plan : List Bool) (past : List Moment) → IsLegalT
 whole setting plan past laws = record {
   steps = each_follows StepLaw past (λ later beginning split. (laws later beginning split).step);
   pool = each_follows (PoolLaw setting plan) past (λ later beginning split. (laws later beginning split).pool);
+  owners = (laws [] past refl).owners;
   tasks = (laws [] past refl).tasks;
   wakes = at_each NoLostWake past (λ later beginning split. (laws later beginning split).wakes);
+  owner_wakes = at_each NoLostOwnerWake past (λ later beginning split. (laws later beginning split).owner_wakes);
 }
 
--- ---- what one task's law refuses
+-- ---- what the law of one owner or of one task refuses
 
 with_last : {X : Type 0} (MayFollow : List X → X → Type 0) (b : Bool) (x : X) (xs : List X) → b ≡ true → EachMayFollow MayFollow (cond b (x ∷ xs) xs) → MayFollow xs x
 with_last MayFollow true x xs e laws = laws.0
 with_last MayFollow false x xs e laws = absurd cc
 
+-- an event of an owner or of its job keeps the law of that owner
+pub owner_keeps : (setting : ℕ) (plan : List Bool) (past : List Moment) (now : Moment) (h : ℕ) → is_in_cut h now.event ≡ true
+    → Legal setting plan (now ∷ past) → OwnerLaw (cut h (events past)) now.event
+owner_keeps setting plan past now h e legal = with_last OwnerLaw (is_in_cut h now.event) now.event (cut h (events past)) e (legal.owners h)
+
+-- an event of a task or of its job keeps the law of that task
 pub task_keeps : (setting : ℕ) (plan : List Bool) (past : List Moment) (now : Moment) (k s : ℕ) → holder (now ∷ past) s ≡ Some (Task k)
     → (is_by_task k now.event || is_of_job s now.event) ≡ true → Legal setting plan (now ∷ past) → TaskLaw s (task_cut k s (events past)) now.event
 task_keeps setting plan past now k s h e legal =

@@ -1,6 +1,6 @@
 -- What may be seen at all.
 use Rattle.std.specs.Prelude.{◌≡◌, ℕ, Bool, List, [], ◌∷◌, ◌++◌, Some}
-use Rattle.blocking_laws.specs.Seen.{AtEveryBeginning, EachMayFollow, events, task_cut}
+use Rattle.blocking_laws.specs.Seen.{AtEveryBeginning, EachMayFollow, events, cut, task_cut}
 use Rattle.blocking_laws.specs.Jobs.{holder}
 use Rattle.blocking_laws.specs.Queue.{InOrder}
 use Rattle.blocking_laws.specs.Growth.{GrowthLaw}
@@ -9,6 +9,8 @@ use Rattle.blocking_laws.specs.Answers.{AnswerLaw}
 use Rattle.blocking_laws.specs.TaskLaws.{TaskLaws}
 use Rattle.blocking_laws.specs.Wakes.{NoLostWake}
 use Rattle.blocking_laws.specs.Steps.{StepLaw}
+use Rattle.blocking_laws.specs.OwnerLaws.{OwnerLaws}
+use Rattle.blocking_laws.specs.OwnerWakes.{NoLostOwnerWake}
 use Rattle.blocking_laws.specs.declared.event.Moment.{Moment}
 use Rattle.blocking_laws.specs.declared.event.Party.TheVariants.{Task}
 
@@ -20,13 +22,15 @@ pub record PoolLaw (setting : ℕ) (plan : List Bool) (past : List Moment) (now 
   pub order : InOrder (now ∷ past)
 
 -- A past is legal, by the setting's number and the plan of the starts: each step has the event that it may have, the
--- pool keeps its law, each task with its job keeps theirs, and at every beginning no wake is lost. Only the pool's law and
--- that of the wakes see more than one holder.
+-- pool keeps its law, each owner with its jobs keeps theirs, each task with its job keeps theirs, and at every beginning no
+-- wake is lost, of tasks or of owners. Only the pool's law and those of the wakes see more than one holder.
 pub record Legal (setting : ℕ) (plan : List Bool) (past : List Moment) : Type 0 where
   pub steps : EachMayFollow StepLaw past
   pub pool : EachMayFollow (PoolLaw setting plan) past
+  pub owners : (h : ℕ) → OwnerLaws (cut h (events past))
   pub tasks : (k s : ℕ) → holder past s ≡ Some (Task k) → TaskLaws s (task_cut k s (events past))
   pub wakes : AtEveryBeginning NoLostWake past
+  pub owner_wakes : AtEveryBeginning NoLostOwnerWake past
 
 -- The last moment rightly follows those before it.
 abbrev pub LastFollows : (List Moment → Moment → Type 0) → List Moment → Type 0
@@ -37,8 +41,10 @@ LastFollows MayFollow (now ∷ past) = MayFollow past now
 pub record HoldsNow (setting : ℕ) (plan : List Bool) (past : List Moment) : Type 0 where
   pub step : LastFollows StepLaw past
   pub pool : LastFollows (PoolLaw setting plan) past
+  pub owners : (h : ℕ) → OwnerLaws (cut h (events past))
   pub tasks : (k s : ℕ) → holder past s ≡ Some (Task k) → TaskLaws s (task_cut k s (events past))
   pub wakes : NoLostWake past
+  pub owner_wakes : NoLostOwnerWake past
 
 -- The same as `Legal`, said of every beginning of the trace: however the past is split into a beginning and what came later,
 -- the laws hold at that beginning.

@@ -22,9 +22,7 @@ pub mod Wakes
 pub mod Steps
 pub mod OwnerLaws
 pub mod OwnerWakes
-pub mod OwnerSteps
 pub mod Legal
-pub mod WithOwners
 pub mod Traces
 pub mod OwnerTraces
 pub mod Served

@@ -6,7 +6,7 @@ use Rattle.blocking_laws.specs.Jobs.{tasks, holder, as_owner}
 use Rattle.blocking_laws.specs.Counts.{starts, arrivals}
 use Rattle.blocking_laws.specs.Turns.{Turn, GoesOn, IsWaiting, MustGiveUp, HasGivenUp, turn, hand}
 use Rattle.blocking_laws.specs.JobTable.{Kind, Calling, JobAction, next_of_job, is_answer, is_asking, is_over}
-use Rattle.blocking_laws.specs.Sessions.{kind_of_job, is_dropped}
+use Rattle.blocking_laws.specs.Sessions.{kind_of_job, is_dropped, under_way, is_poll_over, rests}
 use Rattle.blocking_laws.specs.TaskLaws.{is_gone, was_cancelled, is_let_go}
 use Rattle.blocking_laws.specs.declared.event.Act.{Act}
 use Rattle.blocking_laws.specs.declared.event.Act.TheVariants.{Made, Asked, Accepted, Refused, JobWoken, JobCancelled, LimitSet, Swept, Waits, TaskGot, TaskGotNone, TaskCancelled, TaskDetached, HolderDropped, Arrived, Took, TookDropped, TookNone, Stays, Stopped, Ended, HandedOut, Answered, NoAction}
@@ -113,13 +113,13 @@ may_cancel _ past = false
 
 -- ---- steps
 
--- Whether a step names a party that is there and has an action of that kind. Where no owner is ever made, none is there; `OwnerSteps`
--- says it of owners.
+-- Whether a step names a party that is there and has an action of that kind. An owner may always be made; it is asked and dropped
+-- where it rests; and its poll goes on while it is under way.
 abbrev pub has_action : List Moment → Step → Bool
-has_action past (New capacity) = false
-has_action past (Ask h call) = false
-has_action past (Own h) = false
-has_action past (DropOwner h) = false
+has_action past (New capacity) = true
+has_action past (Ask h call) = rests (acts_of_owner h (events past))
+has_action past (Own h) = not (is_poll_over (under_way (acts_of_owner h (events past))))
+has_action past (DropOwner h) = rests (acts_of_owner h (events past))
 has_action past Spawn = true
 has_action past (OfTask k c) = nat_lt k (tasks past) && may_call (acts_of_task k (events past)) c
 has_action past Arrive = nat_lt (arrivals past) (starts past)

@@ -3,3 +3,5 @@ pub mod Actions
 pub mod Own
 pub mod Steps
 pub mod Wakes
+pub mod OwnerWakes
+pub mod Whole

@@ -17,3 +17,4 @@ pub mod Worked
 pub mod Begins
 pub mod Marks
 pub mod Owners
+pub mod Crossed

@@ -16,7 +16,7 @@ use Rattle.blocking_lanes.specs.Tasks.{Task}
 use Rattle.blocking_lanes.specs.Ties.{Tasked}
 use Rattle.blocking_laws.specs.JobTable.{Kind, WakeHolder, Over, next_of_job, next_but_wake, has_finished, has_given_up}
 use Rattle.blocking_laws.specs.Jobs.{accepted_jobs, holder, standing, is_parked, is_running, is_woken, is_to_drop, is_marked, has_ended}
-use Rattle.blocking_laws.specs.WithOwners.{LegalWithOwners}
+use Rattle.blocking_laws.specs.Legal.{Legal}
 use Rattle.blocking_laws.specs.Seen.{events, acts_of, is_this}
 use Rattle.blocking_laws.specs.Steps.{may_cancel}
 use Rattle.blocking_laws.specs.Turns.{Turn, GoesOn, IsWaiting, MustGiveUp, HasGivenUp, turn}
@@ -141,6 +141,6 @@ pub record Tied (setting : ℕ) (plan : List Bool) (w : Parts) (past : List Mome
 -- What all parts keep: they hang together with what was seen, and what was seen is legal.
 pub record IsLawful (setting : ℕ) (plan : List Bool) (w : Parts) (past : List Moment) : Type 0 where
   pub tied : Tied setting plan w past
-  pub legal : LegalWithOwners setting plan past
+  pub legal : Legal setting plan past
   pub served : Served setting past
   pub holding : Holding w.crew past

@@ -5,6 +5,7 @@
 //! for whoever keeps it.
 #![tactic(auto)]
 
+pub mod kept;
 mod parts;
 mod row;
 

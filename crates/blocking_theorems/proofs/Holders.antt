@@ -1,16 +1,21 @@
--- Who holds the jobs of a legal past: each task has a job, and each job in a hand has a task.
+-- Who holds the jobs of a legal past: each task has a job, and each job in a hand has a task or an owner.
 use Rattle.std.proofs.Common.{◌≡◌, refl, ℕ, ◌+◌, ◌<◌, ◌==◌, ◌&&◌, ◌||◌, if◌then◌else◌, Bool, true, false, cond, List, [], ◌∷◌, ◌++◌, length, Option, Some, None, ap, ◌∙◌, arith, inl, inr}
 use Rattle.std.specs.Prelude.{filter, not, is_some}
 use Rattle.std.proofs.lemmas.Bool.{cases_eq}
 use mathlib.Core.Path.{subst, sym}
-use Rattle.blocking_laws.specs.Seen.{EachMayFollow, joined, events, task_cut, is_some_worker, is_this, is_of_pool, is_nothing, is_by_task, is_of_job}
-use Rattle.blocking_laws.specs.Jobs.{accepts, accepted_by, accepted_jobs, is_pool, makes_a_task, tasks, newcomer, holder}
+use Rattle.blocking_laws.specs.Seen.{EachMayFollow, joined, events, own, cut, acts_of, task_cut, is_some_worker, is_this, is_owner, is_of_pool, is_nothing, is_by_task, is_of_job}
+use Rattle.blocking_laws.specs.Jobs.{accepts, accepted_by, accepted_jobs, is_pool, makes_a_task, tasks, newcomer, holder, as_owner}
 use Rattle.blocking_laws.specs.Queue.{times}
 use Rattle.blocking_laws.specs.Turns.{hand}
-use Rattle.blocking_laws.specs.JobTable.{JobAction, AskCall, Finish, WakeHolder, next_of_job, Calling}
+use Rattle.blocking_laws.specs.Core.{Met, Served, Waiting, Closed, find_room, hand_in}
+use Rattle.blocking_laws.specs.JobTable.{JobAction, AskCall, AskBytes, FindRoom, PutPiece, CloseEnd, Finish, WakeHolder, Over, next_of_job, Calling}
+use Rattle.blocking_laws.specs.Sessions.{kind_of_job, is_shut}
+use Rattle.blocking_laws.specs.Passed.{room_in}
+use Rattle.blocking_laws.specs.Places.{seen_room, seated, seen_put}
+use Rattle.blocking_laws.specs.OwnerSeats.{pipe_seat}
+use Rattle.blocking_laws.specs.OwnerLaws.{Works, JobMayAct, OwnerMayAct, OwnerLaw}
 use Rattle.blocking_laws.specs.TaskLaws.{Calls, TaskMayAct, TaskLaw}
-use Rattle.blocking_laws.specs.Seen.{acts_of}
-use Rattle.blocking_laws.specs.Steps.{StepLaw, Happens, has_action, is_answered, is_job_action, job_of, named, party, next_with}
+use Rattle.blocking_laws.specs.Steps.{StepLaw, Happens, has_action, is_answered, is_job_action, job_of, owner_of, named, party, next_with}
 use Rattle.blocking_laws.specs.Legal.{Legal, PoolLaw}
 use Rattle.blocking_laws.specs.declared.event.Act.{Act}
 use Rattle.blocking_laws.specs.declared.event.Act.TheVariants.{Accepted}
@@ -19,8 +24,8 @@ use Rattle.blocking_laws.specs.declared.event.Moment.{Moment}
 use Rattle.blocking_laws.specs.declared.event.Party.{Party}
 use Rattle.blocking_laws.specs.declared.event.Party.TheVariants.{Owner, Task, Worker, Pool}
 use Rattle.blocking_laws.specs.declared.step.Step.{Step}
-use Rattle.blocking_laws.specs.declared.step.Step.TheVariants.{New, Ask, Own, DropOwner, Arrive, Take, Job, Io, End, Wait, Late}
-use Rattle.blocking_laws.proofs.Beginnings.{before, keeps, task_keeps}
+use Rattle.blocking_laws.specs.declared.step.Step.TheVariants.{Arrive, Take, Job, Io, End, Wait, Late}
+use Rattle.blocking_laws.proofs.Beginnings.{before, keeps, owner_keeps, task_keeps}
 use Rattle.blocking_laws.proofs.Queues.{same_self, times_both, times_one, held_so, known_so}
 
 -- ---- each task has a job
@@ -143,35 +148,89 @@ job_law setting plan past now w s k legal event in_hand held =
     (is_jobs (is_of_pool now.event.act) (is_nothing now.event.act) now.event.party now.event.job w s event.own event.done event.by (event.of ∙ in_hand)))
     legal
 
--- ---- every holder is a task
+in_cut_of_job : (b c : Bool) (party : Party) (owner : Option ℕ) (w h : ℕ) → b ≡ false → c ≡ false → party ≡ Worker w → owner ≡ Some h
+    → (not b && not c && (is_owner h party || is_some_worker party && is_this h owner)) ≡ true
+in_cut_of_job b c party owner w h own done by owned = rw (own, done, by, owned) (same_self h)
 
--- the holder is a task
-pub record IsTask (p : Party) : Type 0 where
-  pub task : ℕ
-  pub is : p ≡ Task task
+-- so the law of its owner holds of it
+pub owner_job_law : (setting : ℕ) (plan : List Bool) (past : List Moment) (now : Moment) (w s h : ℕ) → Legal setting plan (now ∷ past) → IsJobEvent past w now.event → hand past w ≡ Some s
+    → holder past s ≡ Some (Owner h) → OwnerLaw (cut h (events past)) now.event
+owner_job_law setting plan past now w s h legal event in_hand held =
+    let of : now.event.job ≡ Some s = event.of ∙ in_hand in
+    let owned : now.event.owner ≡ Some h = legal.steps.0.owned ∙ ap (λ j. owner_of j past) of ∙ ap as_owner held in
+    owner_keeps setting plan past now h
+    (in_cut_of_job (is_of_pool now.event.act) (is_nothing now.event.act) now.event.party now.event.owner w h event.own event.done event.by owned) legal
 
--- every holder so far is a task
-abbrev AreTasks : List Moment → Type 0
-AreTasks past = (s : ℕ) (p : Party) → holder past s ≡ Some p → IsTask p
+-- ---- every holder is a task or an owner
 
--- no job accepts another
+-- whether a party may hold a job: tasks and owners do
+abbrev pub MayHold : Party → Type 0
+MayHold (Task k) = Unit {0}
+MayHold (Owner h) = Unit {0}
+MayHold _ = ⊥
+
+-- every holder so far may hold a job
+abbrev HeldRightly : List Moment → Type 0
+HeldRightly past = (s : ℕ) (p : Party) → holder past s ≡ Some p → MayHold p
+
+-- no job of a call accepts another
 accepts_none : (cut : List Event) (action : JobAction) (t : ℕ) → Calls cut action (Accepted t) → ⊥
 accepts_none cut AskCall t law = law
 accepts_none cut Finish t law = absurd cc
 accepts_none cut WakeHolder t law = absurd cc
 accepts_none cut _ t law = law
 
-by_job : (setting : ℕ) (plan : List Bool) (past : List Moment) (now : Moment) (w t : ℕ) → Legal setting plan (now ∷ past) → AreTasks past
+room_accepts_none : (found : Met ℕ) (t : ℕ) → Accepted t ≡ seen_room found → ⊥
+room_accepts_none (Served room) t law = cc
+room_accepts_none Waiting t law = cc
+room_accepts_none Closed t law = cc
+
+put_accepts_none : (n : ℕ) (found : Met (Option (Unit {0}))) (t : ℕ) → Accepted t ≡ seen_put n found → ⊥
+put_accepts_none n (Served waker) t law = cc
+put_accepts_none n Waiting t law = cc
+put_accepts_none n Closed t law = cc
+
+-- no job of an owner accepts another
+works_at_none : (cut : List Event) (action : JobAction) (t : ℕ) → Works cut action (Accepted t) → ⊥
+works_at_none cut AskCall t law = law
+works_at_none cut (AskBytes n) t law = law
+works_at_none cut FindRoom t law = room_accepts_none (find_room (room_in cut) (not (is_shut (own cut)))) t law
+works_at_none cut (PutPiece bytes) t law =
+    put_accepts_none (length bytes) (hand_in (length bytes) (room_in cut) (not (is_shut (own cut))) (seated (pipe_seat cut))) t law
+works_at_none cut CloseEnd t law = cc
+works_at_none cut Finish t law = cc
+works_at_none cut WakeHolder t law = cc
+works_at_none cut Over t law = law
+
+-- a worker's act by the law of a task is one of the task's job
+task_accepts_none : (s t w : ℕ) (cut : List Event) (now : Event) → now.party ≡ Worker w → now.act ≡ Accepted t → TaskLaw s cut now → ⊥
+task_accepts_none s t w cut now by accepted law =
+    accepts_none cut (next_of_job Calling (acts_of s cut)) t
+    (subst (λ a. TaskMayAct s true cut a) accepted (subst (λ p. TaskMayAct s (is_some_worker p) cut now.act) by law))
+
+-- and by the law of an owner one of the owner's job
+owner_accepts_none : (s t w : ℕ) (cut : List Event) (now : Event) → now.party ≡ Worker w → now.job ≡ Some s → now.act ≡ Accepted t → OwnerLaw cut now → ⊥
+owner_accepts_none s t w cut now by of accepted law =
+    let of_job : JobMayAct cut now.job now.act = subst (λ p. OwnerMayAct (is_some_worker p) cut now) by law.acts in
+    let of_its : JobMayAct cut (Some s) (Accepted t) = subst (λ j. JobMayAct cut j (Accepted t)) of (subst (λ a. JobMayAct cut now.job a) accepted of_job) in
+    works_at_none cut (next_of_job (kind_of_job s (own cut)) (acts_of s cut)) t of_its.1
+
+-- whoever holds a job, the job accepts no other
+held_accepts_none : (p : Party) (setting : ℕ) (plan : List Bool) (past : List Moment) (now : Moment) (w s t : ℕ) → MayHold p → Legal setting plan (now ∷ past)
+    → IsJobEvent past w now.event → hand past w ≡ Some s → holder past s ≡ Some p → now.event.act ≡ Accepted t → ⊥
+held_accepts_none (Task k) setting plan past now w s t may legal event in_hand held accepted =
+    task_accepts_none s t w (task_cut k s (events past)) now.event event.by accepted (job_law setting plan past now w s k legal event in_hand held)
+held_accepts_none (Owner h) setting plan past now w s t may legal event in_hand held accepted =
+    owner_accepts_none s t w (cut h (events past)) now.event event.by (event.of ∙ in_hand) accepted (owner_job_law setting plan past now w s h legal event in_hand held)
+held_accepts_none _ setting plan past now w s t may legal event in_hand held accepted = may
+
+by_job : (setting : ℕ) (plan : List Bool) (past : List Moment) (now : Moment) (w t : ℕ) → Legal setting plan (now ∷ past) → HeldRightly past
     → now.step ≡ Job w → has_action past (Job w) ≡ true → now.event.act ≡ Accepted t → ⊥
-by_job setting plan past now w t legal tasks_so_far step has accepted =
+by_job setting plan past now w t legal so_far step has accepted =
     let event = job_event past now w legal.steps.0 step has in
     let found = has_hand past w has in
     let held = in_hand_is_held setting plan past legal.pool.1 w found.job found.is in
-    let by_task = tasks_so_far found.job held.by held.is in
-    let law = job_law setting plan past now w found.job by_task.task legal event found.is (held.is ∙ ap Some by_task.is) in
-    let cut = task_cut by_task.task found.job (events past) in
-    accepts_none cut (next_of_job Calling (acts_of found.job cut)) t
-    (subst (λ a. TaskMayAct found.job true cut a) accepted (subst (λ p. TaskMayAct found.job (is_some_worker p) cut now.event.act) event.by law))
+    held_accepts_none held.by setting plan past now w found.job t (so_far found.job held.by held.is) legal event found.is held.is accepted
 
 -- a worker accepts a job by its own job alone
 accepts_at : (b : Bool) (past : List Moment) (step : Step) (w t : ℕ) → has_action past step ≡ b → Happens b past step (Accepted t) → Worker w ≡ party past step
@@ -186,51 +245,26 @@ accepts_at true past (Wait v) w t has happens by = absurd happens.1
 accepts_at true past (Late v) w t has happens by = absurd happens.1
 accepts_at true past _ w t has happens by = absurd cc
 
-by_worker : (setting : ℕ) (plan : List Bool) (past : List Moment) (now : Moment) (w t : ℕ) → Legal setting plan (now ∷ past) → AreTasks past
+by_worker : (setting : ℕ) (plan : List Bool) (past : List Moment) (now : Moment) (w t : ℕ) → Legal setting plan (now ∷ past) → HeldRightly past
     → now.event.party ≡ Worker w → now.event.act ≡ Accepted t → ⊥
-by_worker setting plan past now w t legal tasks_so_far by accepted =
+by_worker setting plan past now w t legal so_far by accepted =
     let law = legal.steps.0 in
     let takes = sym by ∙ law.by ∙ ap (λ a. if is_nothing a then named now.step else party past now.step) accepted in
     let at = accepts_at (has_action past now.step) past now.step w t refl (subst (λ a. Happens (has_action past now.step) past now.step a) accepted law.act) takes in
-    by_job setting plan past now at.0 t legal tasks_so_far at.1 at.2 accepted
+    by_job setting plan past now at.0 t legal so_far at.1 at.2 accepted
 
--- no owner is there to accept one
-by_owner : (b : Bool) (past : List Moment) (step : Step) (h t : ℕ) → has_action past step ≡ b → Happens b past step (Accepted t) → Owner h ≡ party past step → ⊥
-by_owner false past step h t has happens by = cc
-by_owner true past (New capacity) h t has happens by = cc
-by_owner true past (Ask g call) h t has happens by = cc
-by_owner true past (Own g) h t has happens by = cc
-by_owner true past (DropOwner g) h t has happens by = cc
-by_owner true past Arrive h t has happens by = cc
-by_owner true past (Take v) h t has happens by = cc
-by_owner true past (Job v) h t has happens by = cc
-by_owner true past (Io v answer) h t has happens by = cc
-by_owner true past (End v) h t has happens by = cc
-by_owner true past (Wait v) h t has happens by = cc
-by_owner true past (Late v) h t has happens by = cc
-by_owner true past _ h t has happens by = cc
-
-not_by_owner : (past : List Moment) (now : Moment) (h t : ℕ) → StepLaw past now → now.event.party ≡ Owner h → now.event.act ≡ Accepted t → ⊥
-not_by_owner past now h t law by accepted =
-    by_owner (has_action past now.step) past now.step h t refl (subst (λ a. Happens (has_action past now.step) past now.step a) accepted law.act)
-    (sym by ∙ law.by ∙ ap (λ a. if is_nothing a then named now.step else party past now.step) accepted)
-
--- neither a worker nor an owner took the step
-abbrev IsByOther : Party → Type 0
-IsByOther p = ((w : ℕ) → p ≡ Worker w → ⊥) × ((h : ℕ) → p ≡ Owner h → ⊥)
-
--- a new job's holder is a task, unless a worker or an owner took the step
-new_holder : (past : List Moment) (party p : Party) → newcomer past party ≡ p → IsByOther party → IsTask p
-new_holder past Pool p e never = record { task = tasks past; is = sym e }
-new_holder past (Task k) p e never = record { task = k; is = sym e }
-new_holder past (Worker w) p e never = absurd (never.0 w refl)
-new_holder past (Owner h) p e never = absurd (never.1 h refl)
+-- a new job's holder may hold it, unless a worker took the step
+new_holder : (past : List Moment) (party p : Party) → newcomer past party ≡ p → ((w : ℕ) → party ≡ Worker w → ⊥) → MayHold p
+new_holder past Pool p e never = subst MayHold e tt
+new_holder past (Task k) p e never = subst MayHold e tt
+new_holder past (Owner h) p e never = subst MayHold e tt
+new_holder past (Worker w) p e never = absurd (never w refl)
 
 some_is : (p q : Party) → Some p ≡ Some q → p ≡ q
 some_is p q e = cc
 
-held_by : (b : Bool) (past : List Moment) (party p : Party) (held : Option Party) → (held ≡ Some p → IsTask p) → (b ≡ true → IsByOther party)
-    → (if b then Some (newcomer past party) else held) ≡ Some p → IsTask p
+held_by : (b : Bool) (past : List Moment) (party p : Party) (held : Option Party) → (held ≡ Some p → MayHold p) → (b ≡ true → (w : ℕ) → party ≡ Worker w → ⊥)
+    → (if b then Some (newcomer past party) else held) ≡ Some p → MayHold p
 held_by true past party p held earlier never e = new_holder past party p (some_is (newcomer past party) p e) (never refl)
 held_by false past party p held earlier never e = earlier e
 
@@ -238,24 +272,21 @@ accepted_is : (act : Act) (s : ℕ) → accepts s act ≡ true → (t : ℕ) × 
 accepted_is (Accepted t) s e = (t, refl)
 accepted_is _ s e = absurd cc
 
-pub are_tasks : (setting : ℕ) (plan : List Bool) (past : List Moment) → Legal setting plan past → AreTasks past
-are_tasks setting plan [] legal = λ s p e. absurd cc
-are_tasks setting plan (now ∷ past) legal =
-    let so_far = are_tasks setting plan past (before setting plan past now legal) in
+held_rightly : (setting : ℕ) (plan : List Bool) (past : List Moment) → Legal setting plan past → HeldRightly past
+held_rightly setting plan [] legal = λ s p e. absurd cc
+held_rightly setting plan (now ∷ past) legal =
+    let so_far = held_rightly setting plan past (before setting plan past now legal) in
     λ s p e. held_by (accepts s now.event.act) past now.event.party p (holder past s) (so_far s p)
-    (λ accepts. let found = accepted_is now.event.act s accepts in (
-      λ w by. by_worker setting plan past now w found.0 legal so_far by found.1,
-      λ h by. not_by_owner past now h found.0 legal.steps.0 by found.1,
-    )) e
+    (λ accepts w by. let found = accepted_is now.event.act s accepts in by_worker setting plan past now w found.0 legal so_far by found.1) e
 
--- ---- so each job in a hand has a task
+-- ---- so each job in a hand has a holder
 
-pub record HasTask (past : List Moment) (s : ℕ) : Type 0 where
-  pub task : ℕ
-  pub held : holder past s ≡ Some (Task task)
+pub record HasHolder (past : List Moment) (s : ℕ) : Type 0 where
+  pub by : Party
+  pub held : holder past s ≡ Some by
+  pub may : MayHold by
 
-pub task_in_hand : (setting : ℕ) (plan : List Bool) (past : List Moment) → Legal setting plan past → (w s : ℕ) → hand past w ≡ Some s → HasTask past s
-task_in_hand setting plan past legal w s e =
+pub holder_in_hand : (setting : ℕ) (plan : List Bool) (past : List Moment) → Legal setting plan past → (w s : ℕ) → hand past w ≡ Some s → HasHolder past s
+holder_in_hand setting plan past legal w s e =
     let held = in_hand_is_held setting plan past legal.pool w s e in
-    let by_task = are_tasks setting plan past legal s held.by held.is in
-    record { task = by_task.task; held = held.is ∙ ap Some by_task.is }
+    record { by = held.by; held = held.is; may = held_rightly setting plan past legal s held.by held.is }

@@ -32,7 +32,7 @@ take_is setting past now (TookDropped s) kind answer = answer
 take_is setting past now TookNone kind answer = answer
 take_is setting past now _ kind answer = absurd cc
 
-wake_is : (setting : ℕ) (past : List Moment) (now : Moment) (s : ℕ) (act : Act) → IsWakeOf s act → PoolAnswers setting past now act → act ≡ JobWoken s (wake_of (standing past s))
+pub wake_is : (setting : ℕ) (past : List Moment) (now : Moment) (s : ℕ) (act : Act) → IsWakeOf s act → PoolAnswers setting past now act → act ≡ JobWoken s (wake_of (standing past s))
 wake_is setting past now s (JobWoken t woke) kind answer = subst (λ u. JobWoken t woke ≡ JobWoken u (wake_of (standing past u))) kind (ap (JobWoken t) answer)
 wake_is setting past now s _ kind answer = absurd kind
 
@@ -145,7 +145,7 @@ not_both setting plan past now other s law other_law =
     let none = other_law.worker in
     omega arith
 
-same_job : (setting : ℕ) (plan : List Bool) (past : List Moment) (now other : Moment) (act other_act : Act) → IsBegun act → IsBegun other_act
+pub same_job : (setting : ℕ) (plan : List Bool) (past : List Moment) (now other : Moment) (act other_act : Act) → IsBegun act → IsBegun other_act
     → is_out_of_memory act ≡ false → is_out_of_memory other_act ≡ false
     → PoolAnswers setting past (with_act now act) act → PoolAnswers setting past (with_act other other_act) other_act
     → LawAt setting plan past now act → LawAt setting plan past other other_act → act ≡ other_act

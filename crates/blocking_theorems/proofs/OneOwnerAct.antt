@@ -1,10 +1,11 @@
 -- An action of a poll, and an action of an owner's job, is one act.
-use Rattle.std.proofs.Common.{◌≡◌, refl, ℕ, Bool, true, false, List, Option, Some, ap, ◌∙◌}
+use Rattle.std.proofs.Common.{◌≡◌, refl, ℕ, ◌&&◌, Bool, true, false, List, Some, ap, ◌∙◌}
+use Rattle.std.specs.Prelude.{not}
 use mathlib.Core.Path.{subst, sym}
 use Rattle.blocking_laws.specs.Seen.{own, acts_of, is_some_worker}
 use Rattle.blocking_laws.specs.Turns.{is_giving_up}
 use Rattle.blocking_laws.specs.JobTable.{Kind, JobAction, AskCall, AskBytes, FindRoom, PutPiece, CloseEnd, Finish, WakeHolder, Over, IsAnswerTo, next_of_job}
-use Rattle.blocking_laws.specs.Sessions.{kind_of_job}
+use Rattle.blocking_laws.specs.Sessions.{kind_of_job, under_way, is_poll_over, is_made, is_dropped}
 use Rattle.blocking_laws.specs.OwnerTable.{OwnerAction, Begin, CloseOwn, WakeJob, Drain, PollSlot, Say, Rest, next_of_owner}
 use Rattle.blocking_laws.specs.OwnerSeats.{slot_seat}
 use Rattle.blocking_laws.specs.OwnerLaws.{OwnerActs, Polls, Works, JobActs, JobMayAct, OwnerMayAct, OwnerLaw, is_of_poll, is_settled}
@@ -16,13 +17,24 @@ use Rattle.blocking_laws.specs.declared.event.Event.{Event}
 
 -- ---- polls
 
-by_poll : (cut : List Event) (act : Act) → is_of_poll act ≡ true → OwnerActs cut act → Polls cut (next_of_owner cut) act
+never_over : (over : Bool) → over ≡ false → over ≡ true → ⊥
+never_over over goes is = cc
+
+-- no owner rests while a poll of it goes on
+no_rest : (made dropped over : Bool) → over ≡ false → (made && not dropped && over) ≡ true → ⊥
+no_rest true false over goes law = cc
+no_rest true true over goes law = cc
+no_rest false dropped over goes law = cc
+
+-- an act of a poll that is under way is the one that its next action gives
+pub by_poll : (cut : List Event) (act : Act) → is_of_poll act ≡ true → OwnerActs cut act → Polls cut (next_of_owner cut) act
 by_poll cut (Made h capacity) of_poll law = absurd cc
 by_poll cut (Asked call) of_poll law = absurd cc
 by_poll cut HolderDropped of_poll law = absurd cc
 by_poll cut _ of_poll law = law
 
-one_line : (cut : List Event) (action : OwnerAction) (act other : Act) → is_settled action ≡ true → Polls cut action act → Polls cut action other → act ≡ other
+-- where the cut alone says what is seen of an action, that is one act
+pub one_line : (cut : List Event) (action : OwnerAction) (act other : Act) → is_settled action ≡ true → Polls cut action act → Polls cut action other → act ≡ other
 one_line cut Begin act other settled law other_law = absurd cc
 one_line cut (WakeJob s) act other settled law other_law = absurd cc
 one_line cut CloseOwn act other settled law other_law = law ∙ sym other_law
@@ -37,6 +49,13 @@ one_poll cut now other of_owner of_other polled other_polled settled law other_l
     let acts = subst (λ b. OwnerMayAct b cut now) of_owner law.acts in
     let other_acts = subst (λ b. OwnerMayAct b cut other) of_other other_law.acts in
     one_line cut (next_of_owner cut) now.act other.act settled (by_poll cut now.act polled acts) (by_poll cut other.act other_polled other_acts)
+
+-- an owner isn't made, asked or dropped while a poll of it is under way
+pub polled : (cut : List Event) (act : Act) → is_poll_over (under_way (own cut)) ≡ false → OwnerActs cut act → is_of_poll act ≡ true
+polled cut (Made h capacity) goes law = absurd (never_over (is_poll_over (under_way (own cut))) goes (ap (λ c. is_poll_over (under_way (own c))) law))
+polled cut (Asked call) goes law = absurd (no_rest (is_made (own cut)) (is_dropped (own cut)) (is_poll_over (under_way (own cut))) goes law)
+polled cut HolderDropped goes law = absurd (no_rest (is_made (own cut)) (is_dropped (own cut)) (is_poll_over (under_way (own cut))) goes law)
+polled cut _ goes law = refl
 
 -- ---- jobs
 

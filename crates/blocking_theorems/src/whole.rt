@@ -1,15 +1,17 @@
 //! Legality as a whole.
 ghost use Rattle.std.specs.Prelude.{◌≡◌, ◌||◌, ℕ, List, Bool, [], ◌∷◌, Some, None, true, false};
-ghost use Rattle.blocking_laws.specs.Seen.{is_by_task, is_of_job};
+ghost use Rattle.blocking_laws.specs.Seen.{is_by_task, is_of_job, is_in_cut};
 ghost use Rattle.blocking_laws.specs.Jobs.{holder};
 ghost use Rattle.blocking_laws.specs.Queue.{InOrder};
 ghost use Rattle.blocking_laws.specs.Growth.{GrowthLaw};
 ghost use Rattle.blocking_laws.specs.Turns.{TurnLaw};
 ghost use Rattle.blocking_laws.specs.Answers.{AnswerLaw};
 ghost use Rattle.blocking_laws.specs.Wakes.{NoLostWake};
+ghost use Rattle.blocking_laws.specs.OwnerWakes.{NoLostOwnerWake};
 ghost use Rattle.blocking_laws.specs.Steps.{StepLaw, is_pool_step, is_out_of_memory};
 ghost use Rattle.blocking_laws.specs.Legal.{Legal, PoolLaw};
 ghost use Rattle.blocking_laws.specs.Traces.{◌▸◌, moment, starting, Refuses, Keeps, LawOfTask, start_refused};
+ghost use Rattle.blocking_laws.specs.OwnerTraces.{LawOfOwner};
 ghost use Rattle.blocking_laws.specs.declared.event.Moment.{Moment};
 ghost use Rattle.blocking_laws.specs.declared.event.Act.TheVariants.{Accepted, TaskGot, Arrived, Took, Stopped, Ended, Answered, Finished, NoAction};
 ghost use Rattle.blocking_laws.specs.declared.event.Party.TheVariants.{Task, Worker, Pool};
@@ -51,6 +53,12 @@ pub fn refusals()
         Refuses (Keeps InOrder) past now → Legal setting plan (past ▸ now) → ⊥ }
     ensures by_wake { (setting : ℕ) (plan : List Bool) (past : List Moment) (now : Moment) →
         Refuses (Keeps NoLostWake) past now → Legal setting plan (past ▸ now) → ⊥ }
+    ensures by_owner_wake { (setting : ℕ) (plan : List Bool) (past : List Moment) (now : Moment) →
+        Refuses (Keeps NoLostOwnerWake) past now → Legal setting plan (past ▸ now) → ⊥ }
+    // an event of this owner or of its job
+    ensures by_owner { (setting : ℕ) (plan : List Bool) (past : List Moment) (now : Moment) →
+        (h : ℕ) → is_in_cut h now.event ≡ true →
+        Refuses (LawOfOwner h) past now → Legal setting plan (past ▸ now) → ⊥ }
     // an event of this task or of its job
     ensures by_task { (setting : ℕ) (plan : List Bool) (past : List Moment) (now : Moment) →
         (k s : ℕ) → holder (past ▸ now) s ≡ Some (Task k) →

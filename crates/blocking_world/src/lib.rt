@@ -1,13 +1,14 @@
-//! A world: a crew with the jobs that its workers run and the tasks that own them, which takes any list of steps, one at a time, and
-//! keeps what was seen.
+//! A world: a pool with its workers, the tasks that own calls, and the owners who lend readers. It takes any list of steps, one at a time,
+//! and keeps what was seen.
 //!
-//! The crew knows a job by its serial alone; what it is for stands here, in a row. That what was seen is legal, by the laws of
+//! The parts of a world stand in `blocking_parts`, where each step is one move. That what was seen is legal, by the laws of
 //! `blocking_laws`, is the invariant of the type [`World`].
 #![tactic(auto)]
 
-mod parts;
-mod row;
+mod copies;
 mod world;
 
-pub use blocking_laws::{Act, Answer, Event, Moment, Party, Step, TaskCall};
+pub use blocking_laws::{
+    Act, Answer, Event, HandleCall, HolderWaker, Moment, Party, Reply, Step, TaskCall, WaitEnd,
+};
 pub use world::{World, run};

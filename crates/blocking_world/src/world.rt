@@ -1,39 +1,40 @@
 //! A world that keeps what was seen of it.
 ghost use Rattle.std.specs.Prelude.{◌≡◌, ◌<◌, ◌∷◌, [], length, true, IfOk, OnErr};
 ghost use Rattle.blocking_pool.specs.Limits.{limit_of_setting};
-ghost use Rattle.blocking_laws.specs.Bare.{is_bare};
 ghost use Rattle.blocking_laws.specs.Counts.{workers, idle};
 ghost use Rattle.blocking_laws.specs.Growth.{IsPlanned, known_limit};
 ghost use Rattle.blocking_laws.specs.Legal.{Legal};
-ghost use Rattle.blocking_world.specs.Moves.{Moves};
 ghost use Rattle.blocking_laws.specs.Queue.{queue};
+ghost use Rattle.blocking_parts.specs.Moves.{Steps};
 ghost use Rattle.blocking_world.specs.Runs.{Adds, StopsShort};
 ghost use Rattle.blocking_laws.specs.Served.{IsServed};
 ghost use Rattle.blocking_laws.specs.Staffed.{IsStaffed, AreAsSeen};
 
-use crate::parts::Parts;
+use crate::copies::twin_in;
 use blocking_crew::{NoStarts, PlannedStarts};
 use blocking_laws::event::{Event, Moment};
 use blocking_laws::step::Step;
+use blocking_parts::Parts;
 use std::alloc::{AllocError, Global};
 use std::marker::{Brand, Model};
 use std::sync::ledger::{Blank, Ledger};
 
-/// A pool of calls with its tasks and workers, and what was seen of them.
+/// A pool with its workers, the tasks that own its calls, the owners who lend readers to its jobs, and what was seen of them.
 ///
-/// What was seen is legal at every moment: the type itself keeps it. A world has no `Drop`, since its workers hold what has to
-/// be spent: it ends by [`World::close`].
+/// What was seen is legal at every moment: the type itself keeps it. A world has no `Drop`, since its workers
+/// and owners hold what has to be spent: it ends by [`World::close`].
 pub struct World {
     parts: Parts,
     plan: Vec<bool>,
     trace: Vec<Moment>,
+    alloc: Global,
 }
 
 impl Model for World {
     ghost use Rattle.std.specs.Prelude.{reverse};
     ghost use Rattle.blocking_crew.specs.Crews.{free_hands, busy_hands};
     ghost use Rattle.blocking_world.specs.Runs.{WorldValue};
-    ghost use Rattle.blocking_world.specs.Ties.{IsLawful};
+    ghost use Rattle.blocking_parts.specs.Ties.{IsLawful};
 
     ghost Value = { WorldValue };
 
@@ -75,20 +76,24 @@ impl World {
             parts: Parts::new(alloc, setting),
             plan,
             trace: Vec::new(alloc),
+            alloc,
         }
     }
 
-    // Takes one step. The trace keeps a copy of it, and of its event, which carries no bytes.
+    // Takes one step. The trace keeps it with its event, of which the caller gets a copy. The room for all of it is had before the step
+    // acts, so where there is none, nothing has happened.
     fn step(&mut self, step: &Step) -> Result<Event, AllocError>
         ensures ok { IfOk result (λ e. self.new.history ≡ record self.old.history {
           past = record { step = step.now; event = e } ∷ self.old.history.past;
         }) }
         ensures err { OnErr result (self.new ≡ self.old) }
     {
+        let room = Vec::with_capacity(self.alloc, self.parts.bytes_to_come(step))?;
         let kept = step.try_clone()?;
+        let taken = step.try_clone()?;
         self.trace.reserve(1)?;
-        let event = step_with::<Brand>(&mut self.parts, &self.plan, Blank::new(1), step)?;
-        let twin = twin_of(&event);
+        let event = step_with::<Brand>(&mut self.parts, &self.plan, Blank::new(1), taken)?;
+        let twin = twin_in(&event, room);
         let _ = self.trace.push(Moment { step: kept, event });
         Ok(twin)
     }
@@ -99,6 +104,7 @@ impl World {
             parts,
             plan: _plan,
             trace: _trace,
+            alloc: _,
         } = self;
         close_with::<Brand>(parts, Blank::new(1));
     }
@@ -107,28 +113,28 @@ impl World {
     pub fn thread_count(&self) -> usize
         ensures { result ≡ workers self.now.history.past }
     {
-        self.parts.crew.pool().thread_count()
+        self.parts.crew().pool().thread_count()
     }
 
     /// How many of the workers run no job, arrived or not.
     pub fn idle_count(&self) -> usize
         ensures { result ≡ idle self.now.history.past }
     {
-        self.parts.crew.pool().idle_count()
+        self.parts.crew().pool().idle_count()
     }
 
     /// How many jobs are queued.
     pub fn queue_len(&self) -> usize
         ensures { result ≡ length (queue self.now.history.past) }
     {
-        self.parts.crew.pool().queue_len()
+        self.parts.crew().pool().queue_len()
     }
 
     /// The limit of workers; None before the first growth, unless it was set.
     pub fn limit(&self) -> Option<usize>
         ensures { result ≡ known_limit self.now.history.setting self.now.history.past }
     {
-        self.parts.crew.pool().limit()
+        self.parts.crew().pool().limit()
     }
 
     /// Whether the worker of this number has a job whose next action is that job's own to take: the step `Job` has an action.
@@ -142,19 +148,8 @@ impl World {
     pub fn poll_under_way(&self, owner: usize) -> bool
         ensures { result ≡ is_poll_under_way owner self.now.history.past }
     {
-        // (As long as no step makes an owner, none is polled.)
-        let _ = owner;
-        let _ = &self.trace;
-        false
+        self.parts.polls(owner)
     }
-}
-
-// An event without bytes once more.
-fn twin_of(event: &Event) -> Event
-    requires { is_bare event.now.act ≡ true }
-    ensures { result ≡ event.now }
-{
-    event.twin().unwrap()
 }
 
 // Takes a step, by the starts of the plan.
@@ -162,12 +157,12 @@ fn step_with<L: Ledger>(
     parts: &mut Parts,
     plan: &[bool],
     blank: Blank,
-    step: &Step,
+    step: Step,
 ) -> Result<Event, AllocError>
     requires name { blank.name ≡ L.name }
     requires parts { blank.parts ≡ L.parts }
     requires some { 0 < L.parts }
-    ensures ok { IfOk result (λ e. Moves (IsPlanned plan.now) step.now parts.old e parts.new) }
+    ensures ok { IfOk result (λ e. Steps (IsPlanned plan.now) step parts.old e parts.new) }
     ensures err { OnErr result (parts.new ≡ parts.old) }
 {
     let mut starter = PlannedStarts::<L>::new(plan, blank);
@@ -188,7 +183,7 @@ fn close_with<L: Ledger>(parts: Parts, blank: Blank)
 ///
 /// Err where there was no room for the world's own lists: the world is then where the steps so far left it. The room for a
 /// step and its event is had before the step acts.
-#[tactic(auto, using(crate::proofs::laws::Whole::served_now, crate::proofs::laws::Whole::staffed_now, crate::proofs::laws::Whole::held_now))]
+#[tactic(auto, using(blocking_parts::proofs::laws::Whole::served_now, blocking_parts::proofs::laws::Whole::staffed_now, blocking_parts::proofs::laws::Whole::held_now))]
 pub fn run(alloc: Global, world: &mut World, steps: &[Step]) -> Result<Vec<Event>, AllocError>
     ensures ok { IfOk result
         (λ events. Adds steps.now events.items world.old.history world.new.history) }

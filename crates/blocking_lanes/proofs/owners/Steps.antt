@@ -210,7 +210,7 @@ begins_by action.Pending last e = absurd (cc)
 begins_by (action.Fill most) last e = absurd (cc)
 begins_by action.DropHandle last e = absurd (cc)
 
-begins_at : (bytes : ℕ) (p : OwnerMachine ℕ) (last : Option Session) (cut : List Event) → OwnerAs (owner_by_parts bytes (stage.Polls p) last) cut
+pub begins_at : (bytes : ℕ) (p : OwnerMachine ℕ) (last : Option Session) (cut : List Event) → OwnerAs (owner_by_parts bytes (stage.Polls p) last) cut
     → next_at (stage.Polls p) last ≡ next.Begins → p.next ≡ action.Begin
 begins_at bytes p last cut t e = begins_by p.next last (ap (λ a. next_by a last) (sym (doing p t.stage.1)) ∙ e)
 

@@ -28,7 +28,6 @@ ghost use Rattle.std.specs.Prelude.{◌∷◌, true};
 ghost use Rattle.blocking_laws.specs.Seen.{cut};
 ghost use Rattle.blocking_laws.specs.Passed.{inside};
 ghost use Rattle.blocking_laws.specs.Jobs.{is_marked};
-ghost use Rattle.blocking_laws.specs.OwnerSteps.{StepLawWithOwners};
 ghost use Rattle.blocking_laws.specs.OwnerWakes.{NoLostOwnerWake};
 ghost use Rattle.blocking_laws.specs.OwnerTraces.{asks, polls, works, given, ends, FirstOwnerLaw, FirstOwnerEnds};
 ghost use Rattle.blocking_laws.specs.OwnerTraces.{reader_waits, room_found, four_given, reader_parked, two_got, two_told, end_given};
@@ -134,7 +133,7 @@ pub fn tasks()
 /// What a poll of an owner does next, what it is answered, and what is told to be over.
 pub fn owners()
     // .. / waits / replied ok 0, where the poll is over
-    ensures refuses_poll_after_wait { Refuses StepLawWithOwners reader_waits (polls (Replied (Count 0)) 2) }
+    ensures refuses_poll_after_wait { Refuses StepLaw reader_waits (polls (Replied (Count 0)) 2) }
     // .. / got 6162 wake 1 / replied ok 2
     ensures refuses_undelivered_note { Refuses FirstOwnerLaw two_got (polls (Replied (Count 2)) 2) }
     // .. / answered 61626364 / put 4 wake owner / .. / got 6162 wake 1

@@ -20,11 +20,10 @@ use Rattle.blocking_lanes.proofs.cuts.Acts.{own_cut}
 use Rattle.blocking_lanes.proofs.owners.Actions.{acts_some, is_rest, rests_is, rests_next}
 use Rattle.blocking_laws.specs.Counts.{starts, arrivals}
 use Rattle.blocking_laws.specs.Jobs.{tasks, holder, standing}
-use Rattle.blocking_laws.specs.OwnerSteps.{has_action_with_owners}
 use Rattle.blocking_laws.specs.Seen.{events, acts_of_owner, acts_of_task, own, cut, task_cut}
 use Rattle.blocking_laws.specs.Sessions.{is_poll_over, under_way}
 use Rattle.blocking_laws.specs.Sessions as sessions
-use Rattle.blocking_laws.specs.Steps.{is_there, is_answered_action, is_job_action, is_for_cancelled, is_turn_end, may_call, may_cancel}
+use Rattle.blocking_laws.specs.Steps.{has_action, is_there, is_answered_action, is_job_action, is_for_cancelled, is_turn_end, may_call, may_cancel}
 use Rattle.blocking_laws.specs.TaskLaws.{is_gone, is_let_go, was_cancelled}
 use Rattle.blocking_laws.specs.Turns.{hand}
 use Rattle.blocking_laws.specs.declared.event.Event.{Event}
@@ -149,7 +148,7 @@ module _ (setting : ℕ) (plan : List Bool) (w : Parts) (past : List Moment) (t 
   strike_by s (Some row) found = let_go_is s row found
 
   -- A step has an action in the parts exactly where it has one by what was seen.
-  pub has_is : (step : Step) → has_action_in w step ≡ has_action_with_owners past step
+  pub has_is : (step : Step) → has_action_in w step ≡ has_action past step
   has_is (New capacity) = refl
   has_is (Ask h call) = asks_by h (slice_get w.owners h) refl
   has_is (Own h) = owns_by h (slice_get w.owners h) refl

@@ -28,9 +28,8 @@ use Rattle.blocking_lanes.proofs.owners.Plain.{plain_of}
 use Rattle.blocking_laws.specs.Counts.{arrivals}
 use Rattle.blocking_laws.specs.Growth.{IsPlanned}
 use Rattle.blocking_laws.specs.Jobs.{holder, as_owner}
-use Rattle.blocking_laws.specs.OwnerSteps.{StepLawWithOwners, has_action_with_owners}
 use Rattle.blocking_laws.specs.Seen.{is_nothing, is_of_pool}
-use Rattle.blocking_laws.specs.Steps.{is_there, is_answered_action, is_turn_end, Happens, Fits, IsBegun, IsEndOf, IsOfTask, job_of, named, owners, party}
+use Rattle.blocking_laws.specs.Steps.{StepLaw, has_action, is_there, is_answered_action, is_turn_end, Happens, Fits, IsBegun, IsEndOf, IsOfTask, job_of, named, owners, party}
 use Rattle.blocking_laws.specs.Steps as law
 use Rattle.blocking_laws.specs.Turns.{hand}
 use Rattle.blocking_laws.specs.declared.event.Act.{Act}
@@ -150,12 +149,12 @@ set_stays rows t old new found same (Some s) = ap owner_by (row_set rows t s old
 
 -- An event is of this step: nothing is done exactly where the step has no action; else it is of the step's kind, by its party and of its job.
 record IsOfStep (past : List Moment) (step : Step) (e : Event) : Type 0 where
-  act : Happens (has_action_with_owners past step) past step e.act
+  act : Happens (has_action past step) past step e.act
   by : e.party ≡ (if is_nothing e.act then named step else party past step)
   of : e.job ≡ (if is_nothing e.act then None else job_of past step e.act)
 
 -- a step that has no action
-idle_so : (past : List Moment) (step : Step) (e : Event) → Told (named step) None NoAction e → has_action_with_owners past step ≡ false → IsOfStep past step e
+idle_so : (past : List Moment) (step : Step) (e : Event) → Told (named step) None NoAction e → has_action past step ≡ false → IsOfStep past step e
 idle_so past step e told none = record {
   act = subst (λ b. Happens b past step e.act) (sym none) told.act_is;
   by = told.party ∙ sym (ap (λ a. if is_nothing a then named step else party past step) told.act_is);
@@ -168,7 +167,7 @@ shown who job act first growth = record { party = refl; owner = refl; job_is = r
 
 module _ (setting : ℕ) (plan : List Bool) (w : Parts) (past : List Moment) (t : Tied setting plan w past) where
   -- where a step has no action in the parts, it has none by what was seen
-  rests : (step : Step) → has_action_in w step ≡ false → has_action_with_owners past step ≡ false
+  rests : (step : Step) → has_action_in w step ≡ false → has_action past step ≡ false
   rests step none = sym (has_is setting plan w past t step) ∙ none
 
   -- what is done at a step that has an action in the parts, by its party and of its job
@@ -280,7 +279,7 @@ module _ (setting : ℕ) (plan : List Bool) (w : Parts) (past : List Moment) (t 
   owner_stays _ e new may told rows = ap (λ all. owner_of all e.job) rows
 
   -- A move keeps the law of steps.
-  pub step_law : (move : Move) (e : Event) (new : Parts) → May w move → CrewMoves (IsPlanned plan) move w e new → new.rows ≡ rows_after w move → StepLawWithOwners past (moment new (step_of move) e)
+  pub step_law : (move : Move) (e : Event) (new : Parts) → May w move → CrewMoves (IsPlanned plan) move w e new → new.rows ≡ rows_after w move → StepLaw past (moment new (step_of move) e)
   step_law move e new may does rows =
       let told = said plan w move e new may does in
       let so = step_so move e new may does told in

@@ -41,7 +41,7 @@ acts_none k (core.Call j call) acts party so place = ran_none call.next call.num
 acts_none k (core.Read h read) acts party so place = absurd cc
 
 -- a job at rest that isn't parked is over, by what was seen of it and what the pool has of it
-rests_over : (found : Option (Entry Ticket)) (stand : Option Standing) (wake cancel mark ended : Bool) (at : Turn) (first : Bool) (acts : List Act) → FiledAs found stand wake cancel mark ended
+pub rests_over : (found : Option (Entry Ticket)) (stand : Option Standing) (wake cancel mark ended : Bool) (at : Turn) (first : Bool) (acts : List Act) → FiledAs found stand wake cancel mark ended
     → PlaceAs stand at first acts → (stand ≡ Some Parked → ⊥) → is_parked stand || ended ≡ true → has_finished acts || has_given_up acts ≡ true
 rests_over found (Some Done) wake cancel mark ended at first acts filed place unparked rest = place
 rests_over found (Some Dropped) wake cancel mark ended at first acts filed place unparked rest = place

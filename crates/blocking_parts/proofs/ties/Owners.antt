@@ -63,7 +63,7 @@ use Rattle.blocking_parts.proofs.ties.Told.{Told, added_of, by_no_worker, by_wor
 -- ---- what the job of a reader may do
 
 -- a job at its first action isn't over
-first_goes : (job : Progress) (acts : List Act) → ReadAs job acts → is_first (action_of job) ≡ true → is_over (next_but_wake Reading acts) ≡ false
+pub first_goes : (job : Progress) (acts : List Act) → ReadAs job acts → is_first (action_of job) ≡ true → is_over (next_but_wake Reading acts) ≡ false
 first_goes job acts r first = by (read_next job.core) refl first
   where
     by : (a : ReadAction) → read_next job.core ≡ a → is_first (action_as job.piece a) ≡ true → is_over (next_but_wake Reading acts) ≡ false

@@ -1,7 +1,6 @@
 //! Which event a step of an owner has.
 ghost use Rattle.std.specs.Prelude.{[], None};
 ghost use Rattle.blocking_laws.specs.Steps.{StepLaw};
-ghost use Rattle.blocking_laws.specs.OwnerSteps.{StepLawWithOwners};
 ghost use Rattle.blocking_laws.specs.Traces.{moment, of_owner, Refuses};
 ghost use Rattle.blocking_laws.specs.OwnerTraces.{asks, polls, drops, works};
 ghost use Rattle.blocking_laws.specs.OwnerTraces.{one_made, one_asked, reader_waits, reader_taken, reader_dropped};
@@ -15,60 +14,56 @@ ghost use Rattle.blocking_laws.specs.declared.step.Step.TheVariants.{New, Ask, O
 /// An owner may be made at any time, is numbered in order, and keeps the capacity that it was made with.
 pub fn makings()
     // made 0
-    ensures accepts_owner { StepLawWithOwners [] (moment (New 4) (Owner 0) None (Made 0 4) 1) }
+    ensures accepts_owner { StepLaw [] (moment (New 4) (Owner 0) None (Made 0 4) 1) }
     // made 0 / made 1
-    ensures accepts_second { StepLawWithOwners one_made (moment (New 0) (Owner 1) None (Made 1 0) 1) }
+    ensures accepts_second { StepLaw one_made (moment (New 0) (Owner 1) None (Made 1 0) 1) }
     // nothing
-    ensures refuses_nothing { Refuses StepLawWithOwners [] (moment (New 4) Pool None NoAction 1) }
+    ensures refuses_nothing { Refuses StepLaw [] (moment (New 4) Pool None NoAction 1) }
     // made 0 / made 0
-    ensures refuses_number_again { Refuses StepLawWithOwners one_made (moment (New 4) (Owner 0) None (Made 0 4) 1) }
+    ensures refuses_number_again { Refuses StepLaw one_made (moment (New 4) (Owner 0) None (Made 0 4) 1) }
     // made 0, of another capacity
-    ensures refuses_other_capacity { Refuses StepLawWithOwners [] (moment (New 4) (Owner 0) None (Made 0 5) 1) }
-    // where no owner is ever made: nothing
-    ensures accepts_nothing_without_owners { StepLaw [] (moment (New 4) Pool None NoAction 1) }
-    // made 0
-    ensures refuses_owner_without_owners { Refuses StepLaw [] (moment (New 4) (Owner 0) None (Made 0 4) 1) }
+    ensures refuses_other_capacity { Refuses StepLaw [] (moment (New 4) (Owner 0) None (Made 0 5) 1) }
 {}
 
 /// An owner is asked and dropped where it is there and no poll of it is under way; its poll goes on while it is.
 pub fn calls()
     // made 0 / asked
-    ensures accepts_call { StepLawWithOwners one_made (asks (Read 2) 1) }
+    ensures accepts_call { StepLaw one_made (asks (Read 2) 1) }
     // made 0 / nothing
-    ensures refuses_nothing { Refuses StepLawWithOwners one_made (moment (Ask 0 (Read 2)) (Owner 0) None NoAction 1) }
+    ensures refuses_nothing { Refuses StepLaw one_made (moment (Ask 0 (Read 2)) (Owner 0) None NoAction 1) }
     // made 0 / asked, of another call
-    ensures refuses_other_call { Refuses StepLawWithOwners one_made
+    ensures refuses_other_call { Refuses StepLaw one_made
         (moment (Ask 0 (Read 2)) (Owner 0) None (Asked GetMut) 1) }
     // made 0 / asked, of owner 1
-    ensures refuses_stranger { Refuses StepLawWithOwners one_made
+    ensures refuses_stranger { Refuses StepLaw one_made
         (moment (Ask 1 (Read 2)) (Owner 1) None (Asked (Read 2)) 1) }
     // made 0 / asked / nothing
-    ensures accepts_no_second_call { StepLawWithOwners one_asked (moment (Ask 0 GetMut) (Owner 0) None NoAction 1) }
+    ensures accepts_no_second_call { StepLaw one_asked (moment (Ask 0 GetMut) (Owner 0) None NoAction 1) }
     // made 0 / asked / asked
-    ensures refuses_second_call { Refuses StepLawWithOwners one_asked (asks GetMut 1) }
+    ensures refuses_second_call { Refuses StepLaw one_asked (asks GetMut 1) }
     // made 0 / asked / nothing, of the poll
-    ensures refuses_idle_poll { Refuses StepLawWithOwners one_asked (moment (Own 0) (Owner 0) None NoAction 1) }
+    ensures refuses_idle_poll { Refuses StepLaw one_asked (moment (Own 0) (Owner 0) None NoAction 1) }
     // .. / waits / nothing, of the poll that is over
-    ensures accepts_poll_over { StepLawWithOwners reader_waits (moment (Own 0) (Owner 0) None NoAction 2) }
+    ensures accepts_poll_over { StepLaw reader_waits (moment (Own 0) (Owner 0) None NoAction 2) }
     // .. / waits / replied handle
-    ensures refuses_poll_after_wait { Refuses StepLawWithOwners reader_waits (polls (Replied Handle) 2) }
+    ensures refuses_poll_after_wait { Refuses StepLaw reader_waits (polls (Replied Handle) 2) }
     // .. / waits / dropped
-    ensures accepts_drop { StepLawWithOwners reader_waits (drops 2) }
+    ensures accepts_drop { StepLaw reader_waits (drops 2) }
     // made 0 / asked / dropped
-    ensures refuses_drop_in_poll { Refuses StepLawWithOwners one_asked (drops 1) }
+    ensures refuses_drop_in_poll { Refuses StepLaw one_asked (drops 1) }
     // .. / dropped / dropped
-    ensures refuses_drop_twice { Refuses StepLawWithOwners reader_dropped (drops 2) }
+    ensures refuses_drop_twice { Refuses StepLaw reader_dropped (drops 2) }
 {}
 
 /// An event of an owner's job is told of that owner; and the job may be cancelled in the pool once its owner was dropped.
 pub fn jobs()
     // .. / took 1 / room 4
-    ensures accepts_job { StepLawWithOwners reader_taken (works 1 (RoomFree 4)) }
+    ensures accepts_job { StepLaw reader_taken (works 1 (RoomFree 4)) }
     // .. / took 1 / room 4, of owner 1
-    ensures refuses_other_owner { Refuses StepLawWithOwners reader_taken (of_owner 1 (works 1 (RoomFree 4))) }
+    ensures refuses_other_owner { Refuses StepLaw reader_taken (of_owner 1 (works 1 (RoomFree 4))) }
     // .. / dropped / cancelled 1 entered
-    ensures accepts_cancel { StepLawWithOwners reader_dropped (moment (Strike 1) Pool None (JobCancelled 1 Entered) 2) }
+    ensures accepts_cancel { StepLaw reader_dropped (moment (Strike 1) Pool None (JobCancelled 1 Entered) 2) }
     // .. / waits / .. / took 1 / cancelled 1 entered: its owner is there
-    ensures refuses_cancel { Refuses StepLawWithOwners reader_taken
+    ensures refuses_cancel { Refuses StepLaw reader_taken
         (moment (Strike 1) Pool None (JobCancelled 1 Entered) 2) }
 {}

@@ -1,17 +1,12 @@
-//! Legality as a whole, where owners may be made.
-ghost use Rattle.std.specs.Prelude.{◌≡◌, ℕ, List, [], Bool, true, false, Some};
-ghost use Rattle.blocking_laws.specs.Seen.{events, cut, is_in_cut, is_some_worker};
+//! The cut of an owner, and what its law leaves open.
+ghost use Rattle.std.specs.Prelude.{◌≡◌, ℕ, List, [], true, false, Some};
+ghost use Rattle.blocking_laws.specs.Seen.{events, cut, is_some_worker};
 ghost use Rattle.blocking_laws.specs.Turns.{is_giving_up};
 ghost use Rattle.blocking_laws.specs.Steps.{is_answered};
 ghost use Rattle.blocking_laws.specs.OwnerTable.{next_of_owner};
 ghost use Rattle.blocking_laws.specs.OwnerLaws.{OwnerLaw, is_of_poll, is_settled};
-ghost use Rattle.blocking_laws.specs.OwnerSteps.{StepLawWithOwners};
-ghost use Rattle.blocking_laws.specs.OwnerWakes.{NoLostOwnerWake};
-ghost use Rattle.blocking_laws.specs.WithOwners.{LegalWithOwners};
-ghost use Rattle.blocking_laws.specs.Traces.{◌▸◌, Refuses, Keeps};
-ghost use Rattle.blocking_laws.specs.OwnerTraces.{LawOfOwner, reader_parked};
+ghost use Rattle.blocking_laws.specs.OwnerTraces.{reader_parked};
 ghost use Rattle.blocking_laws.specs.declared.event.Event.{Event};
-ghost use Rattle.blocking_laws.specs.declared.event.Moment.{Moment};
 
 /// A cut has the events of one owner and of its jobs alone.
 pub fn cuts()
@@ -32,16 +27,4 @@ pub fn one_act()
         now.job ≡ Some s → other.job ≡ Some s →
         is_giving_up now.act ≡ is_giving_up other.act → is_answered now.act ≡ false →
         OwnerLaw cut now → OwnerLaw cut other → now.act ≡ other.act }
-{}
-
-/// What one law of owners refuses is in no trace that is legal with owners.
-pub fn refusals()
-    ensures by_step { (setting : ℕ) (plan : List Bool) (past : List Moment) (now : Moment) →
-        Refuses StepLawWithOwners past now → LegalWithOwners setting plan (past ▸ now) → ⊥ }
-    ensures by_wake { (setting : ℕ) (plan : List Bool) (past : List Moment) (now : Moment) →
-        Refuses (Keeps NoLostOwnerWake) past now → LegalWithOwners setting plan (past ▸ now) → ⊥ }
-    // an event of this owner or of its job
-    ensures by_owner { (setting : ℕ) (plan : List Bool) (past : List Moment) (now : Moment) →
-        (h : ℕ) → is_in_cut h now.event ≡ true →
-        Refuses (LawOfOwner h) past now → LegalWithOwners setting plan (past ▸ now) → ⊥ }
 {}

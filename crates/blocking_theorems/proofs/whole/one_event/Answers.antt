@@ -1,4 +1,4 @@
--- What the pool answers leaves no choice, nor does what tasks and jobs do.
+-- What the pool answers leaves no choice, nor does what tasks, owners and jobs do.
 use Rattle.blocking_theorems.proofs.OneAnswer.{one_event}
 use Rattle.blocking_theorems.proofs.OneEvent.{one_legal_event}
 use Rattle.blocking_theorems.proofs.whole.one_event.Goals as goal

@@ -1,6 +1,12 @@
--- A task's law is kept by each event of its cut.
-use Rattle.blocking_laws.proofs.Beginnings.{task_keeps}
+-- The law of a task, and that of an owner, is kept by each event of its cut.
+use Rattle.blocking_laws.proofs.Beginnings.{owner_keeps, task_keeps}
 use Rattle.blocking_theorems.proofs.whole.refusals.Goals as goal
+
+pub returns-clause-by_owner_wake : goal.returns-clause-by_owner_wake
+returns-clause-by_owner_wake c = λ setting plan past now refused legal. refused legal.owner_wakes.0
+
+pub returns-clause-by_owner : goal.returns-clause-by_owner
+returns-clause-by_owner c = λ setting plan past now h inside refused legal. refused (owner_keeps setting plan past now h inside legal)
 
 pub returns-clause-by_task : goal.returns-clause-by_task
 returns-clause-by_task c = λ setting plan past now k s held of refused legal. refused (task_keeps setting plan past now k s held of legal)

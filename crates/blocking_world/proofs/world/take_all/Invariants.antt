@@ -1,5 +1,5 @@
 use Rattle.std.proofs.Common.{◌≡◌, ◌≤◌, length, vec_capacity}
-use Rattle.blocking_world.proofs.laws.Running.{Taken}
+use Rattle.blocking_world.proofs.Runs.{Taken}
 use Rattle.blocking_world.proofs.world.take_all.Given as goal
 
 -- so many of the steps were taken, and there is room for the events of all

@@ -1,7 +1,7 @@
 use Rattle.std.proofs.Common.{option_map, reverse, subst, sym}
 use Rattle.blocking_pool.specs.Limits.{limit_of_setting}
-use Rattle.blocking_world.specs.Ties.{IsLawful}
-use Rattle.blocking_world.proofs.laws.Whole.{begun, positive_limit}
+use Rattle.blocking_parts.specs.Ties.{IsLawful}
+use Rattle.blocking_parts.proofs.laws.Whole.{begun, positive_limit}
 use Rattle.blocking_world.proofs.world.World.new.Goals as goal
 
 -- a new world is lawful

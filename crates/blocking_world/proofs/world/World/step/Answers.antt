@@ -1,28 +1,33 @@
-use Rattle.std.proofs.Common.{Result, is_ok, true, List, if◌then◌else◌, arith, ◌≡◌, ◌∷◌, [], ◌++◌, reverse, ap, sym, subst, ◌∙◌}
+use Rattle.std.proofs.Common.{Result, is_ok, true, List, if◌then◌else◌, arith, ◌≡◌, ◌≤◌, ◌∷◌, [], ◌++◌, length, reverse, ap, sym, subst, ◌∙◌}
 use Rattle.std.proofs.lemmas.List.{reverse-append}
 use Rattle.blocking_laws.specs.Growth.{IsPlanned}
-use Rattle.blocking_world.specs.Moves.{Moves}
-use Rattle.blocking_world.specs.Ties.{IsLawful}
 use Rattle.blocking_laws.specs.declared.event.Event.{Event}
 use Rattle.blocking_laws.specs.declared.event.Moment.{Moment}
 use Rattle.blocking_laws.specs.declared.step.Step.{Step}
-use Rattle.blocking_world.proofs.laws.Whole.{stays_lawful, same_setting, bare}
+use Rattle.blocking_parts.specs.Carried.{bytes_of}
+use Rattle.blocking_parts.specs.Moves.{Steps}
+use Rattle.blocking_parts.specs.Ties.{IsLawful}
+use Rattle.blocking_parts.proofs.laws.Whole.{stays_lawful, same_setting, carried}
 use Rattle.blocking_world.proofs.world.World.step.Goals as goal
 
+-- what fits stands at the end
 put_at_end : {A B : Type 0} (r : Result A B) (old between new : List Moment) (moment : Moment) → between ≡ old → is_ok r ≡ true
     → new ≡ (if is_ok r then between ++ moment ∷ [] else between) → new ≡ old ++ moment ∷ []
 put_at_end r old between new moment same ok is =
     is ∙ ap (λ b. if b then between ++ moment ∷ [] else between) ok ∙ ap (λ (row : List Moment). row ++ moment ∷ []) same
 
--- the step as the parts did it
-does : (c : goal.Joined-push) → Moves (IsPlanned c.self.inside.plan.items) c.args.step.now c.self.inside.parts c.in_ok-event.event c.step_with.new.parts
-does c = subst (λ plan. Moves (IsPlanned plan) c.args.step.now c.self.inside.parts c.in_ok-event.event c.step_with.new.parts) c.deref.ensures.value c.in_ok-event.ensures.ok
+-- the room for the event's bytes was had
+pub twin_in-twin-requires-clause-enough : goal.twin_in-twin-requires-clause-enough
+twin_in-twin-requires-clause-enough c =
+    subst (λ n. length (bytes_of c.in_ok-event.event.act) ≤ n) (sym (c.in_ok-room.ensures.exact ∙ c.bytes_to_come.ensures))
+    (carried c.deref.result.now c.self.inside.parts c.step_with.new.parts c.args.step.now c.in_ok-event.event
+    (subst (λ (s : Step). Steps (IsPlanned c.deref.result.now) s c.self.inside.parts c.in_ok-event.event c.step_with.new.parts) c.in_ok-taken.ensures c.in_ok-event.ensures.ok))
 
--- what is seen of it carries no bytes
-pub twin_of-twin-requires : goal.twin_of-twin-requires
-twin_of-twin-requires c =
-    bare c.self.inside.parts.crew.pool.counts.setting c.self.inside.plan.items c.self.inside.parts (reverse c.self.inside.trace.items) c.self.invariant c.step_with.new.parts c.in_ok-event.event c.args.step.now
-    (subst (λ plan. Moves (IsPlanned plan) c.args.step.now c.self.inside.parts c.in_ok-event.event c.step_with.new.parts) c.deref.ensures.value c.in_ok-event.ensures.ok)
+-- the step as the parts did it
+does : (c : goal.Joined-push) → Steps (IsPlanned c.self.inside.plan.items) c.args.step.now c.self.inside.parts c.in_ok-event.event c.step_with.new.parts
+does c =
+    subst (λ (s : Step). Steps (IsPlanned c.self.inside.plan.items) s c.self.inside.parts c.in_ok-event.event c.step_with.new.parts) c.in_ok-taken.ensures
+    (subst (λ plan. Steps (IsPlanned plan) c.in_ok-taken.taken c.self.inside.parts c.in_ok-event.event c.step_with.new.parts) c.deref.ensures.value c.in_ok-event.ensures.ok)
 
 -- the moment stands at the end of the trace
 at_end : (c : goal.Joined-push) → c.push.new.self.items ≡ c.self.inside.trace.items ++ record { step = c.args.step.now; event = c.in_ok-event.event } ∷ []
@@ -39,7 +44,7 @@ newest c = ap reverse (at_end c) ∙ reverse-append c.self.inside.trace.items (r
 kept : (c : goal.Joined-push) → c.step_with.new.parts.crew.pool.counts.setting ≡ c.self.inside.parts.crew.pool.counts.setting
 kept c =
     same_setting c.self.inside.parts.crew.pool.counts.setting c.self.inside.plan.items c.self.inside.parts (reverse c.self.inside.trace.items) c.self.invariant c.step_with.new.parts
-    c.args.step.now c.in_ok-event.event (does c)
+    c.in_ok-event.event c.args.step.now (does c)
 
 -- the world stays lawful
 pub invariant_of-self-2 : goal.invariant_of-self-2
@@ -59,4 +64,4 @@ returns-clause-ok c =
       setting = c.self.inside.parts.crew.pool.counts.setting;
       plan = c.self.inside.plan.items;
       past = record { step = c.args.step.now; event = e } ∷ reverse c.self.inside.trace.items;
-    }) (sym c.twin_of-twin.ensures))
+    }) (sym c.twin_in-twin.ensures))

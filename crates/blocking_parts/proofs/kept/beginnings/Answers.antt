@@ -1,0 +1,9 @@
+-- Of new parts, and of their setting.
+use Rattle.blocking_parts.proofs.laws.Whole.{begun, positive_limit}
+use Rattle.blocking_parts.proofs.kept.beginnings.Goals as goal
+
+pub returns-clause-parts : goal.returns-clause-parts
+returns-clause-parts c = begun
+
+pub returns-clause-limit : goal.returns-clause-limit
+returns-clause-limit c = positive_limit

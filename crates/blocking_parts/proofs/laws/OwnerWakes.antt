@@ -1,0 +1,116 @@
+-- No wake between an owner and its job is lost: an owner that waits for a job at rest was woken.
+use Rattle.std.proofs.Common.{◌≡◌, ◌⊎◌, inl, inr, ℕ, ◌==◌, List, [], ◌∷◌, Bool, true, false, refl, sym, ap, ◌∙◌, subst, Option, Some, None}
+use Rattle.std.specs.Prelude.{◌&&◌, ◌||◌, not, slice_get}
+use Rattle.std.specs.FinMap.{get}
+use Rattle.std.proofs.lemmas.Bool.{eq-eqb, or_left}
+use Rattle.blocking_lanes.specs.OwnerTies.{OwnerAs, LastAs, StageAs, newest_note, seat_of}
+use Rattle.blocking_lanes.specs.Owners.{Owner, capacity_of, note_at}
+use Rattle.blocking_lanes.specs.Sessions.{Session}
+use Rattle.blocking_lanes.specs.declared.owner.OwnerStage.{OwnerStage}
+use Rattle.blocking_lanes.specs.declared.owner.OwnerStage.TheVariants as stage
+use Rattle.blocking_lanes.proofs.owners.Wakes.{not_lost, session_is_last}
+use Rattle.blocking_laws.specs.JobTable.{has_finished, has_given_up}
+use Rattle.blocking_laws.specs.Jobs.{holder, standing, is_parked, is_running, is_woken}
+use Rattle.blocking_laws.specs.OwnerSeats.{is_job_seated}
+use Rattle.blocking_laws.specs.OwnerWakes.{IsSessionOf, NoLostOwnerWake}
+use Rattle.blocking_laws.specs.Seen.{events, acts_of, cut, own}
+use Rattle.blocking_laws.specs.Sessions as sessions
+use Rattle.blocking_laws.specs.Sessions.{jobs_of, last_session, session}
+use Rattle.blocking_laws.specs.Turns.{turn}
+use Rattle.blocking_laws.specs.Wakes.{is_at_rest, is_waiting, was_woken}
+use Rattle.blocking_laws.specs.declared.event.Act.{Act}
+use Rattle.blocking_laws.specs.declared.event.Act.TheVariants.{Accepted, Waits}
+use Rattle.blocking_laws.specs.declared.event.Event.{Event}
+use Rattle.blocking_laws.specs.declared.event.Moment.{Moment}
+use Rattle.blocking_laws.specs.declared.event.Party.TheVariants.{Owner as ByOwner}
+use Rattle.blocking_pool.specs.Lists.{is_in}
+use Rattle.blocking_parts.specs.Parts.{Parts}
+use Rattle.blocking_parts.specs.Rows.{is_at_first}
+use Rattle.blocking_parts.specs.Ties.{IsMet, Tied, is_left, is_number, is_waiting_in, seated_in}
+use Rattle.blocking_parts.proofs.laws.Wakes.{rests_over}
+use Rattle.blocking_parts.proofs.ties.Jobs.{held_row}
+use Rattle.blocking_parts.proofs.ties.LetGo.{owner_there}
+
+never : (b : Bool) → b ≡ false → b ≡ true → ⊥
+never b none some = cc
+
+-- ---- the session
+
+-- the job of the last session is one of the owner's
+last_among : (acts : List Act) (r : sessions.Session) → last_session acts ≡ Some r → is_in r.serial (jobs_of acts) ≡ true
+last_among [] r is = absurd cc
+last_among (Accepted s ∷ past) r is =
+    let same : s ≡ r.serial = ap (serial_in s) is in
+    or_left (r.serial == s) (is_in r.serial (jobs_of past)) (eq-eqb r.serial s (sym same))
+  where
+    serial_in : ℕ → Option sessions.Session → ℕ
+    serial_in n None = n
+    serial_in n (Some r) = r.serial
+last_among (_ ∷ past) r is = last_among past r is
+
+-- and so is that of the session that isn't over
+session_among : (acts : List Act) (s : ℕ) → IsSessionOf (session acts) s → is_in s (jobs_of acts) ≡ true
+session_among acts s of = by (session acts) refl of
+  where
+    by : (r : Option sessions.Session) → session acts ≡ r → IsSessionOf r s → is_in s (jobs_of acts) ≡ true
+    by None is of = absurd of
+    by (Some r) is of = subst (λ n. is_in n (jobs_of acts) ≡ true) of (last_among acts r (session_is_last acts r is))
+
+-- ---- where the owner meets its job
+
+-- a job that sits in the pipe was seen to be seated
+seated_seen : (last : Option Session) (bytes : ℕ) (X : List Event) (s : ℕ) → LastAs last bytes X → is_number (seated_in last) s ≡ true → is_job_seated X ≡ true
+seated_seen None bytes X s t is = absurd cc
+seated_seen (Some held) bytes X s t is = by (is_job_seated X) (ap (λ o. is_number o s) (sym t.seats.job) ∙ is)
+  where
+    by : (b : Bool) → is_number (seat_of b held.number) s ≡ true → b ≡ true
+    by true is = refl
+    by false is = absurd cc
+
+-- who waits took no note just now, so has none to deliver
+waits_unnoted : (acts : List Act) → is_waiting acts ≡ true → newest_note acts ≡ None
+waits_unnoted (Waits ∷ past) waits = refl
+waits_unnoted _ waits = absurd cc
+
+none_noted : (here : OwnerStage) (X : List Event) (s : ℕ) → StageAs here X → is_waiting (own X) ≡ true → is_number (note_at here) s ≡ true → ⊥
+none_noted (stage.Wakes poll number) X s t waits noted = let none = waits_unnoted (own X) waits in let some = t.2 in cc
+none_noted (stage.Rests at) X s t waits noted = cc
+none_noted (stage.Polls poll) X s t waits noted = cc
+none_noted stage.Dropped X s t waits noted = cc
+
+-- so an owner that waits meets a job that is left to it in the pipe
+waits_met : (owner : Owner) (X : List Event) (s : ℕ) → OwnerAs owner X → is_waiting (own X) ≡ true → IsMet owner s → is_job_seated X ≡ true
+waits_met owner X s t waits (inl seat) = seated_seen owner.session (capacity_of owner) X s t.last seat
+waits_met owner X s t waits (inr (inl noted)) = absurd (none_noted owner.stage X s t.stage waits noted)
+waits_met owner X s t waits (inr (inr gone)) = absurd (never _ (t.told waits).0 gone)
+
+-- ---- all of them
+
+module _ (setting : ℕ) (plan : List Bool) (w : Parts) (past : List Moment) (t : Tied setting plan w past) where
+  -- a job at rest is over, or is seated at an owner that waits
+  rests_so : (h s : ℕ) (owner : Owner) → slice_get w.owners h ≡ Some owner → holder past s ≡ Some (ByOwner h) → is_waiting (own (cut h (events past))) ≡ true → is_at_rest past s ≡ true
+      → (has_finished (acts_of s (cut h (events past))) || has_given_up (acts_of s (cut h (events past))) ≡ true) ⊎ (is_job_seated (cut h (events past)) ≡ true)
+  rests_so h s owner found held waits rests = by (is_parked (standing past s)) refl
+    where
+      by : (b : Bool) → is_parked (standing past s) ≡ b
+          → (has_finished (acts_of s (cut h (events past))) || has_given_up (acts_of s (cut h (events past))) ≡ true) ⊎ (is_job_seated (cut h (events past)) ≡ true)
+      by true parked =
+          let left : is_left past s ≡ true = or_left (is_parked (standing past s)) (is_running (standing past s) && is_waiting_in (turn past s) && not (is_woken past s)) parked in
+          inr (waits_met owner (cut h (events past)) s (t.owned.each h owner found) waits (t.crossed h s owner found held left))
+      by false unparked =
+          let row = held_row setting plan w past t s (ByOwner h) held in
+          let over =
+          rests_over (get w.crew.pool.jobs s) (standing past s) _ _ _ _ (turn past s) (is_at_first row.0.core) (acts_of s (events past)) (t.crewed.tied.filed s) (t.rowed.each s row.0 row.1).place
+          (λ parked. never (is_parked (standing past s)) unparked (ap is_parked parked)) rests in
+          inl (subst (λ acts. has_finished acts || has_given_up acts ≡ true) (sym (t.owned.acts h s held)) over)
+
+  -- so that owner was woken
+  woken_of : (h s : ℕ) → IsSessionOf (session (own (cut h (events past)))) s → is_waiting (own (cut h (events past))) ≡ true → is_at_rest past s ≡ true → was_woken (cut h (events past)) ≡ true
+  woken_of h s of waits rests =
+      let held = t.owned.held h s (session_among (own (cut h (events past))) s of) in
+      let owner = owner_there setting plan w past t h s held in
+      not_lost owner.0 (cut h (events past)) (t.owned.each h owner.0 owner.1) s of waits (rests_so h s owner.0 owner.1 held waits rests)
+
+  -- no wake between an owner and its job is lost
+  pub no_lost_owner_wake : NoLostOwnerWake past
+  no_lost_owner_wake = record { owners = λ h s of waits rests. inl (woken_of h s of waits rests) }

@@ -1,0 +1,65 @@
+//! What all parts keep, beside what their steps do. Bodies are empty.
+ghost use Rattle.std.specs.Prelude.{◌≡◌, ◌<◌, ◌≤◌, ℕ, not, Bool, List, [], ◌∷◌, length, slice_get, Option};
+ghost use Rattle.blocking_pool.specs.Limits.{limit_of_setting};
+ghost use Rattle.blocking_pool.specs.Pools.{empty_pool};
+ghost use Rattle.blocking_laws.specs.Growth.{IsPlanned};
+ghost use Rattle.blocking_laws.specs.Seen.{events, acts_of_owner};
+ghost use Rattle.blocking_laws.specs.Served.{IsServed};
+ghost use Rattle.blocking_laws.specs.Sessions.{is_poll_over, under_way};
+ghost use Rattle.blocking_laws.specs.Staffed.{IsStaffed, AreAsSeen};
+ghost use Rattle.blocking_laws.specs.Steps.{has_action, is_job_action};
+ghost use Rattle.blocking_laws.specs.declared.event.Event.{Event};
+ghost use Rattle.blocking_laws.specs.declared.event.Moment.{Moment};
+ghost use Rattle.blocking_laws.specs.declared.step.Step.{Step};
+ghost use Rattle.blocking_laws.specs.declared.step.Step.TheVariants.{Job};
+ghost use Rattle.blocking_crew.specs.Crews.{free_hands, busy_hands};
+ghost use Rattle.blocking_parts.specs.Carried.{bytes_of, bytes_to_come, polls_in};
+ghost use Rattle.blocking_parts.specs.Moves.{Steps};
+ghost use Rattle.blocking_parts.specs.Parts.{Parts, next_at};
+ghost use Rattle.blocking_parts.specs.Ties.{IsLawful};
+
+/// Whatever step lawful parts take, by the starts of a plan: they stay lawful, with the moment of the step added to what was seen;
+/// and their setting stays. The event carries no more bytes than were told before the step, of lawful parts or others.
+pub fn each_step()
+    ensures lawful { (setting : ℕ) (plan : List Bool) (w new : Parts) (past : List Moment)
+        (step : Step) (e : Event) → IsLawful setting plan w past →
+        Steps (IsPlanned plan) step w e new →
+        IsLawful setting plan new (record { step = step; event = e } ∷ past) }
+    ensures setting { (setting : ℕ) (plan : List Bool) (w new : Parts) (past : List Moment)
+        (step : Step) (e : Event) → IsLawful setting plan w past →
+        Steps (IsPlanned plan) step w e new → new.crew.pool.counts.setting ≡ setting }
+    ensures carried { (plan : List Bool) (w new : Parts) (step : Step) (e : Event) →
+        Steps (IsPlanned plan) step w e new → length (bytes_of e.act) ≤ bytes_to_come w step }
+{}
+
+/// New parts are lawful where nothing was seen, if their setting is above 0; and the limit of a setting is, whatever its text.
+pub fn beginnings()
+    ensures parts { (setting : ℕ) (plan : List Bool) (w : Parts) →
+        w ≡ record {
+          crew = record { pool = empty_pool setting 1 1; hands = [] };
+          rows = [];
+          tasks = [];
+          owners = [];
+        } → 0 < setting → IsLawful w.crew.pool.counts.setting plan w [] }
+    ensures limit { (text : Option (List ℕ)) → 0 < limit_of_setting text }
+{}
+
+/// What is read off lawful parts: queued jobs are served; what the workers hold is what was seen, and accounts for the workers, the
+/// idle ones and the running jobs; the step of a worker's job has an action where that job's next action is its own to take; and the
+/// poll of an owner is under way where it was seen to be.
+pub fn readings()
+    ensures served { (setting : ℕ) (plan : List Bool) (w : Parts) (past : List Moment) →
+        IsLawful setting plan w past → IsServed past }
+    ensures staffed { (setting : ℕ) (plan : List Bool) (w : Parts) (past : List Moment) →
+        IsLawful setting plan w past →
+        IsStaffed (free_hands w.crew.hands) (busy_hands w.crew.hands) past }
+    ensures held { (setting : ℕ) (plan : List Bool) (w : Parts) (past : List Moment) →
+        IsLawful setting plan w past →
+        AreAsSeen (free_hands w.crew.hands) (busy_hands w.crew.hands) past }
+    ensures acts { (setting : ℕ) (plan : List Bool) (w : Parts) (past : List Moment) (v : ℕ) →
+        IsLawful setting plan w past →
+        has_action past (Job v) ≡ is_job_action (next_at w v) }
+    ensures polls { (setting : ℕ) (plan : List Bool) (w : Parts) (past : List Moment) (h : ℕ) →
+        IsLawful setting plan w past → polls_in (slice_get w.owners h) ≡
+        not (is_poll_over (under_way (acts_of_owner h (events past)))) }
+{}

@@ -1,3 +1,0 @@
-pub mod Drops
-pub mod Stands
-pub mod Holders
