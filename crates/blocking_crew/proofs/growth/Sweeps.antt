@@ -10,7 +10,7 @@ use Rattle.blocking_pool.specs.declared.pool.token.WorkerPass.{WorkerPass}
 use Rattle.blocking_pool.specs.Pools.{IsSound}
 use Rattle.blocking_pool.specs.Sweeps.{AreAsked, swept, serials_below}
 use Rattle.blocking_pool.specs.declared.pool.standing.Standing.{Standing}
-use Rattle.blocking_pool.specs.declared.pool.standing.Standing.TheVariants.{Queued, Running, Parked, Done, Dropped}
+use Rattle.blocking_pool.specs.declared.pool.standing.Standing.TheVariants.{Running, Parked}
 use Rattle.blocking_pool.specs.declared.pool.answer.Waited.{Waited}
 use Rattle.blocking_pool.specs.declared.pool.answer.Waited.TheVariants.{Stay, Stop}
 use Rattle.blocking_crew.specs.Closing.{NoneDue}

@@ -7,7 +7,7 @@ use Rattle.blocking_pool.specs.Jobs.{Job, Jobs, JobNumber, amend, if_at, is_runn
 use Rattle.blocking_pool.specs.Lists.{is_in}
 use Rattle.blocking_pool.specs.Sweeps.{serials_below}
 use Rattle.blocking_pool.specs.declared.pool.standing.Standing.{Standing}
-use Rattle.blocking_pool.specs.declared.pool.standing.Standing.TheVariants.{Queued, Running, Parked, Done, Dropped}
+use Rattle.blocking_pool.specs.declared.pool.standing.Standing.TheVariants.{Running, Parked}
 use Rattle.blocking_pool.proofs.Lists.{is_in-last, is_in-push}
 use Rattle.blocking_crew.specs.Tickets.{JobPool, is_valued, AreValued, is_due_to_sweep, is_marked_ticket, to_sweep}
 use Rattle.blocking_crew.specs.Closing.{NoneDue}

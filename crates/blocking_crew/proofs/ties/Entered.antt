@@ -8,7 +8,7 @@ use Rattle.blocking_pool.specs.declared.pool.answer.Refusal.TheVariants.{Memory,
 use Rattle.blocking_pool.specs.declared.pool.answer.Waited.TheVariants.{Stay, Stop}
 use Rattle.blocking_pool.specs.declared.pool.answer.Woke.TheVariants.{Entered as PutBack, Marked, Nothing}
 use Rattle.blocking_laws.specs.Counts.{workers}
-use Rattle.blocking_laws.specs.Growth.{IsPlanned, HasWorker, grows}
+use Rattle.blocking_laws.specs.Growth.{IsPlanned, HasWorker}
 use Rattle.blocking_laws.specs.Queue.{entered_by, to_sweep as seen_to_sweep}
 use Rattle.blocking_laws.specs.Seen.{joined, has_timed_out, is_nothing}
 use Rattle.blocking_laws.specs.declared.event.Act.{Act}
