@@ -2,6 +2,7 @@
 use Rattle.std.proofs.Common.{◌≡◌, ℕ, zero, suc, ◌<◌, ◌≤◌, ◌==◌, ◌||◌, cond, Bool, true, false, refl, sym, ap, ◌∙◌, subst, if◌then◌else◌, List, [], ◌∷◌, Option, Some, None, inl, inr, arith}
 use Rattle.std.specs.Prelude.{option_map, is_some, filter}
 use Rattle.std.specs.FinMap.{get, insert, remove}
+use Rattle.std.proofs.Math.Bool.{or-true}
 use Rattle.std.proofs.lemmas.Bool.{eqb-true, cases_eq, cases_lt, and_parts, and_from}
 use Rattle.blocking_pool.specs.Jobs.{Job, Jobs, JobNumber, amend, if_at, is_running, is_parked, is_running_job, is_parked_job, is_running_as, jobs_after_requeue, entry_after_requeue}
 use Rattle.blocking_pool.specs.Lists.{is_in}
@@ -44,13 +45,9 @@ changed_kept change standing place valued (Some job) = record {
   valued = λ has. valued job has;
 }
 
-pub or_true : (b : Bool) → (b || true) ≡ true
-or_true true = refl
-or_true false = refl
-
 -- a job with its ticket is valued
 pub with_ticket : (job : Job Ticket) (ticket : Ticket) → job.value ≡ Some ticket → is_valued (Some job) ≡ true
-with_ticket job ticket has = ap (λ (o : Option Ticket). is_running job.standing || is_some o) has ∙ or_true (is_running job.standing)
+with_ticket job ticket has = ap (λ (o : Option Ticket). is_running job.standing || is_some o) has ∙ or-true (is_running job.standing)
 
 not_parked : (standing : Standing) → is_running standing ≡ true → is_parked standing ≡ true → ⊥
 not_parked Running runs parked = cc

@@ -1,5 +1,5 @@
 -- Look-ups of a job in the pool, after a change of that job or of others.
-use Rattle.std.proofs.Common.{◌≡◌, ℕ, ◌==◌, ◌&&◌, ◌||◌, cond, Bool, true, false, refl, sym, ap, ◌∙◌, subst, if◌then◌else◌, List, [], ◌∷◌, Option, Some, None}
+use Rattle.std.proofs.Common.{◌≡◌, ℕ, ◌==◌, ◌&&◌, ◌||◌, cond, Bool, true, false, refl, sym, ap, ◌∙◌, subst, if◌then◌else◌, arith, List, [], ◌∷◌, Option, Some, None}
 use Rattle.std.specs.Prelude.{option_map, filter}
 use Rattle.std.specs.Ordering.{eq_by_cmp, nat_cmp}
 use Rattle.std.specs.Cmp.{nat_cmp_total}
@@ -118,12 +118,7 @@ runs_at place (Some entry) runs = by (entry.place == place) runs
     by false is = absurd cc
 
 filter_by : (b d c m : Bool) (s x : ℕ) (ns : List ℕ) → (s == x) ≡ c → (c ≡ true → d ≡ b) → is_in s ns ≡ (d && m) → is_in s (cond b (x ∷ ns) ns) ≡ (d && (c || m))
-filter_by true true c m s x ns is same e = ap (λ (b : Bool). b || is_in s ns) is ∙ ap (λ (b : Bool). c || b) e
-filter_by true false true m s x ns is same e = let bad : false ≡ true = same refl in absurd cc
-filter_by true false false m s x ns is same e = ap (λ (b : Bool). b || is_in s ns) is ∙ e
-filter_by false true true m s x ns is same e = let bad : true ≡ false = same refl in absurd cc
-filter_by false true false m s x ns is same e = e
-filter_by false false c m s x ns is same e = e
+filter_by b d c m s x ns is same e = grind (arith, is, same, e)
 
 -- what a filter leaves is what was there and passes its test
 pub in_filter : (p : ℕ → Bool) (ns : List ℕ) (s : ℕ) → is_in s (filter p ns) ≡ (p s && is_in s ns)
