@@ -250,7 +250,7 @@ module _ (setting : ℕ) (plan : List Bool) (crew : Crew) (past : List Moment) (
   unstaffed : (who : Party) (growth : Growth) (pool : JobPool) → FindsNoWorker (IsPlanned plan) crew.pool growth pool → Counted setting (record crew { pool = pool }) (now who None (Refused NoWorker) growth ∷ past)
   unstaffed who growth pool finds =
       counted_by 0 crew.pool.counts.idle (record crew { pool = pool }) (now who None (Refused NoWorker) growth) (record { came = refl; stop = refl; most = λ l. refl; set = refl })
-      (grew_so (IsPlanned plan) (length crew.pool.queue + 1) crew.pool.counts pool.counts growth finds.starts (ap (λ (p : JobPool). record p.counts { bell = (after_growth crew.pool.counts growth).bell }) finds.after_is))
+      (grew_so (IsPlanned plan) (length crew.pool.queue + 1) crew.pool.counts pool.counts growth finds.starts (rw finds.after_is refl))
       h.tied.counted.idle_are refl h.tied.counted.busy_are
 
   -- ---- every move
@@ -265,10 +265,10 @@ module _ (setting : ℕ) (plan : List Bool) (crew : Crew) (past : List Moment) (
   counts_after (Arrives pass) may = arrives pass may
   counts_after (TakesJob v old true turn ticket growth pool) may =
       takes v old _ _ turn.serial (length may.1.rest) growth pool may.0 (record { came = refl; stop = refl; most = λ l. refl; set = refl }) refl refl refl may.1.starts
-      (ap (λ (p : JobPool). record p.counts { bell = (after_growth (after_pickup crew.pool.counts) growth).bell }) may.1.after_is)
+      (rw may.1.after_is refl)
   counts_after (TakesJob v old false turn ticket growth pool) may =
       takes v old _ _ turn.serial (length may.1.rest) growth pool may.0 (record { came = refl; stop = refl; most = λ l. refl; set = refl }) refl refl refl may.1.starts
-      (ap (λ (p : JobPool). record p.counts { bell = (after_growth (after_pickup crew.pool.counts) growth).bell }) may.1.after_is)
+      (rw may.1.after_is refl)
   counts_after (EndsTurn v held pass) may = ended v held (standing_after (outcome_of held.stage)) (without_job crew.pool held.turn.serial) pass crew.pool.counts.bell may.0 refl
   counts_after (Parks v held ticket (parking.Parked pass) pool) may = ended v held Parked pool pass crew.pool.counts.bell may.0 (ap (λ (p : JobPool). p.counts) may.2.effect.2)
   counts_after (Parks v held ticket (parking.Queued pass) pool) may = ended v held Queued pool pass (louder One crew.pool.counts.bell) may.0 (ap (λ (p : JobPool). p.counts) may.2.effect.2)
