@@ -1,5 +1,5 @@
 -- Moves at which jobs enter the queue, or none, and the pool grows by them.
-use Rattle.std.proofs.Common.{◌≡◌, ℕ, suc, ◌≤◌, ◌+◌, ◌-◌, ◌==◌, List, [], ◌∷◌, ◌++◌, Bool, true, false, length, length-append, length-set, refl, sym, ap, ◌∙◌, subst, arith, if◌then◌else◌, Option, Some, None}
+use Rattle.std.proofs.Common.{◌≡◌, ℕ, suc, ◌≤◌, ◌+◌, ◌-◌, ◌==◌, List, [], ◌∷◌, ◌++◌, Bool, true, false, length, length-append, length-set, refl, sym, ap, ◌∙◌, arith, if◌then◌else◌, Option, Some, None}
 use Rattle.std.specs.Prelude.{◌||◌, not, slice_get, Ok, Err}
 use Rattle.std.proofs.lemmas.Bool.Decides.{nat_tests}
 use Rattle.blocking_pool.specs.Counts.{Counts, limit_of}
@@ -20,13 +20,12 @@ use Rattle.blocking_laws.specs.declared.event.Moment.{Moment}
 use Rattle.blocking_laws.specs.declared.event.Party.{Party}
 use Rattle.blocking_laws.specs.declared.event.Party.TheVariants.{Worker}
 use Rattle.blocking_laws.specs.declared.step.Step.{Step}
-use Rattle.blocking_crew.specs.Crews.{Crew, with_hand, may_act, held_after_act, one_if_busy, busy_hands}
+use Rattle.blocking_crew.specs.Crews.{Crew, with_hand, held_after_act, one_if_busy, busy_hands}
 use Rattle.blocking_crew.specs.Moves.{Move, Idles, Adds, Arrives, TakesJob, TakesNone, Works, EndsTurn, Parks, HasWaited, SetsLimit, Sweeps, IsWoken, IsCancelled, IsLetGo, Tells, May, after, next_start, hand_after_park, is_aside}
 use Rattle.blocking_crew.specs.Tickets.{JobPool, no_growth, GrowsBy, Accepts, SweepsTo, SweepsIf, to_sweep}
 use Rattle.blocking_crew.specs.Ties.{Numbered, CrewHolds, moment_of}
 use Rattle.blocking_crew.specs.declared.hand.Hand.{Hand}
 use Rattle.blocking_crew.specs.declared.hand.Hand.TheVariants.{Free, Holds}
-use Rattle.blocking_crew.specs.declared.hand.Held.{Held}
 use Rattle.blocking_crew.specs.declared.tickets.Parking.TheVariants as parking
 use Rattle.blocking_crew.proofs.growth.Reads.{numbers_last}
 use Rattle.blocking_crew.proofs.hands.Rows.{at_held, at_free, sum_set}

@@ -1,10 +1,9 @@
 -- Each move keeps the pool's queue that of the past, and the serials those of the jobs that were accepted.
-use Rattle.std.proofs.Common.{◌≡◌, ℕ, if◌then◌else◌, ◌||◌, List, [], ◌∷◌, ◌++◌, Bool, true, false, sym, ap, ◌∙◌, Option, Some, None, ◌+◌, length, length-append, refl, arith, suc, ap₂}
-use Rattle.std.specs.Prelude.{Ok, Err}
+use Rattle.std.proofs.Common.{◌≡◌, ℕ, if◌then◌else◌, ◌||◌, List, [], ◌∷◌, ◌++◌, Bool, true, false, sym, ap, ◌∙◌, Option, Some, None, refl, ap₂}
+use Rattle.std.specs.Prelude.{Err}
 use Rattle.blocking_pool.specs.Growth.{Growth}
-use Rattle.blocking_pool.specs.declared.pool.answer.Refusal.TheVariants.{Memory, NoWorker, Numbers}
-use Rattle.blocking_pool.specs.declared.pool.answer.Waited.TheVariants.{Stay, Stop}
-use Rattle.blocking_pool.specs.declared.pool.answer.Woke.TheVariants.{Entered, Marked, Nothing}
+use Rattle.blocking_pool.specs.declared.pool.answer.Refusal.TheVariants.{NoWorker}
+use Rattle.blocking_pool.specs.declared.pool.answer.Waited.TheVariants.{Stop}
 use Rattle.blocking_laws.specs.Growth.{IsPlanned}
 use Rattle.blocking_laws.specs.Queue.{queue, to_sweep, entered_by}
 use Rattle.blocking_laws.specs.Seen.{has_timed_out, is_nothing, joined, without_all}
@@ -14,18 +13,13 @@ use Rattle.blocking_laws.specs.declared.event.Party.{Party}
 use Rattle.blocking_laws.specs.declared.event.Party.TheVariants.{Worker}
 use Rattle.blocking_laws.specs.declared.step.Step.{Step}
 use Rattle.blocking_crew.specs.Crews.{Crew}
-use Rattle.blocking_crew.specs.Moves.{Move, Adds, Arrives, TakesJob, Works, EndsTurn, Parks, HasWaited, Sweeps, IsWoken, IsCancelled, IsLetGo, Tells, May, after, next_start, is_aside, SetsLimit}
-use Rattle.blocking_crew.specs.Tickets.{JobPool, no_growth, Accepts}
+use Rattle.blocking_crew.specs.Moves.{Move, Adds, Arrives, TakesJob, EndsTurn, Parks, HasWaited, May, after, next_start, is_aside, SetsLimit}
+use Rattle.blocking_crew.specs.Tickets.{JobPool, no_growth}
 use Rattle.blocking_crew.specs.Ties.{Lined, CrewHolds, moment_of, Numbered}
 use Rattle.blocking_crew.specs.declared.tickets.Parking.TheVariants as parking
-use Rattle.blocking_crew.proofs.ties.Acts.{now_with, plain, aside_plain, by_work, by_let_go, by_end, aside_or, enters_so}
-use Rattle.blocking_crew.proofs.jobs.Marks.{let_go_alone}
+use Rattle.blocking_crew.proofs.ties.Acts.{now_with, by_end, enters_so}
 use Rattle.blocking_crew.proofs.ties.Known.{front_out}
-use Rattle.blocking_crew.proofs.ties.Sweeps.{is_swept, is_swept_if}
-use Rattle.blocking_pool.specs.Jobs.{JobNumber}
-use Rattle.blocking_pool.specs.Sweeps.{serials_below}
-use Rattle.blocking_laws.specs.Jobs.{accepted_jobs}
-use Rattle.blocking_laws.specs.declared.event.Act.TheVariants.{Accepted}
+use Rattle.blocking_crew.proofs.ties.Sweeps.{is_swept_if}
 use Rattle.blocking_crew.proofs.ties.Entered.{Enters, enters, enters_aside, kept, swept}
 
 module _ (setting : ℕ) (plan : List Bool) (crew : Crew) (past : List Moment) (step : Step) (owner : Option ℕ) (h : CrewHolds setting plan crew past) where
