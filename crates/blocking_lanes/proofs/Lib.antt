@@ -1,4 +1,3 @@
-pub mod Places
 pub mod cuts
 pub mod acts
 pub mod ties

@@ -1,6 +1,7 @@
 pub mod GrowthLemmas
 pub mod LimitLemmas
 pub mod Lists
+pub mod Places
 pub mod ParkLemmas
 pub mod PoolLemmas
 pub mod RingLemmas

@@ -10,7 +10,7 @@ use Rattle.blocking_crew.specs.declared.hand.Hand.{Hand}
 use Rattle.blocking_crew.specs.declared.hand.Hand.TheVariants.{Out, Free, Holds}
 use Rattle.blocking_crew.specs.declared.hand.Held.{Held}
 use Rattle.blocking_crew.proofs.hands.Rows.{sum_pushed, hand_from_place}
-use Rattle.blocking_crew.proofs.hands.Places.{got_same, got_other, got_pushed, got_before, set_same}
+use Rattle.blocking_pool.proofs.Places.{got_same, got_other, got_pushed, got_before, set_same}
 use Rattle.blocking_crew.proofs.ready.Hands.{over_ready}
 
 -- ---- one turn

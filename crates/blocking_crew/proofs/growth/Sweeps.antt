@@ -1,23 +1,25 @@
 -- What sweeps and waits do, with the growth that was read.
-use Rattle.std.proofs.Common.{◌≡◌, ℕ, ◌+◌, ◌-◌, ◌<◌, nat_lt, arith, ◌∙◌, Bool, true, false, cond, List, [], ◌∷◌, length, ap, subst, sym, refl}
+use Rattle.std.proofs.Common.{◌≡◌, ℕ, ◌+◌, ◌<◌, nat_lt, arith, ◌∙◌, Bool, true, false, cond, List, [], ◌∷◌, length, ap, subst, sym, refl}
 use Rattle.std.specs.Prelude.{◌&&◌, ◌||◌, filter, is_some, Option, Some, None}
 use Rattle.std.specs.FinMap as map
+use Rattle.std.proofs.Math.Bool.{or-true}
 use Rattle.blocking_pool.specs.Counts.{limit_of}
 use Rattle.blocking_pool.specs.Growth.{Asking, Growth}
 use Rattle.blocking_pool.specs.Jobs.{Job, Jobs, is_running, is_parked, is_parked_job, jobs_after_requeue}
-use Rattle.blocking_pool.specs.PoolAnswers.{Sweeps as CoreSweeps, SweepsTo as CoreSweepsTo, SweepsIf as CoreSweepsIf, Waits as CoreWaits, StaysOrStops, must_stop, is_empty}
+use Rattle.blocking_pool.specs.PoolAnswers.{Sweeps as CoreSweeps, SweepsTo as CoreSweepsTo, SweepsIf as CoreSweepsIf, Waits as CoreWaits, StaysOrStops, must_stop}
 use Rattle.blocking_pool.specs.declared.pool.token.WorkerPass.{WorkerPass}
 use Rattle.blocking_pool.specs.Pools.{IsSound}
 use Rattle.blocking_pool.specs.Sweeps.{AreAsked, swept, serials_below}
 use Rattle.blocking_pool.specs.declared.pool.standing.Standing.{Standing}
-use Rattle.blocking_pool.specs.declared.pool.standing.Standing.TheVariants.{Queued, Running, Parked, Done, Dropped}
+use Rattle.blocking_pool.specs.declared.pool.standing.Standing.TheVariants.{Running, Parked}
 use Rattle.blocking_pool.specs.declared.pool.answer.Waited.{Waited}
 use Rattle.blocking_pool.specs.declared.pool.answer.Waited.TheVariants.{Stay, Stop}
+use Rattle.blocking_laws.specs.Seen.{joined}
 use Rattle.blocking_crew.specs.Closing.{NoneDue}
 use Rattle.blocking_crew.specs.Tickets.{JobPool, SweepsTo, SweepsIf, WaitsSo, no_growth, is_valued, AreValued, to_sweep, is_due_to_sweep, is_marked_ticket}
 use Rattle.blocking_crew.specs.declared.ticket.Ticket.{Ticket}
 use Rattle.blocking_crew.proofs.growth.Again.{GrewSo, again_numbers, again_next, again_setting, enters_again}
-use Rattle.blocking_crew.proofs.jobs.Kept.{AreKept, or_true, all_kept, requeued_kept, stay_valued, swept_parked, none_due, sweeps_nothing}
+use Rattle.blocking_crew.proofs.jobs.Kept.{AreKept, all_kept, requeued_kept, stay_valued, swept_parked, none_due, sweeps_nothing}
 use Rattle.blocking_crew.proofs.growth.Reads.{is_marked_so, IsRead}
 
 -- a parked job has its ticket
@@ -98,17 +100,20 @@ sweeps_some asking old new count seen some read swept_here =
 
 -- ---- what a sweep leaves
 
--- the pool after these entered again, or where there are none
+-- What these leave that enter again, or none where there are none; as many idle workers have arrived as before.
 pub record LeftBySweep (old new : JobPool) (serials : List ℕ) : Type 0 where
-  pub jobs_are : new.jobs ≡ jobs_after_requeue old.jobs serials
+  pub jobs : new.jobs ≡ jobs_after_requeue old.jobs serials
+  pub line : new.queue ≡ joined old.queue serials
+  pub serial : new.next_serial ≡ old.next_serial
+  pub level : new.counts.idle + old.counts.arriving ≡ old.counts.idle + new.counts.arriving
 
-left_by : (may_answer : ℕ → Bool → Type 0) (old new : JobPool) (serials : List ℕ) (growth : Growth) → SweepsTo may_answer old serials growth new → LeftBySweep old new serials
-left_by may_answer old new [] growth sweeps = record { jobs_are = ap (λ (p : JobPool). p.jobs) sweeps.1 }
-left_by may_answer old new (serial ∷ serials) growth sweeps = record { jobs_are = ap (λ (p : JobPool). p.jobs) sweeps.after_is }
+pub left_by : (may_answer : ℕ → Bool → Type 0) (old new : JobPool) (serials : List ℕ) (growth : Growth) → SweepsTo may_answer old serials growth new → LeftBySweep old new serials
+left_by may_answer old new [] growth sweeps = rw sweeps.1 (record { jobs = refl; line = refl; serial = refl; level = refl })
+left_by may_answer old new (serial ∷ serials) growth sweeps = rw sweeps.after_is (record { jobs = refl; line = refl; serial = refl; level = omega arith })
 
 module _ (may_answer : ℕ → Bool → Type 0) (old new : JobPool) (growth : Growth) (sweeps : SweepsTo may_answer old (to_sweep old) growth new) where
-  pub sweep_jobs : new.jobs ≡ jobs_after_requeue old.jobs (to_sweep old)
-  sweep_jobs = (left_by may_answer old new (to_sweep old) growth sweeps).jobs_are
+  sweep_jobs : new.jobs ≡ jobs_after_requeue old.jobs (to_sweep old)
+  sweep_jobs = (left_by may_answer old new (to_sweep old) growth sweeps).jobs
 
   pub sweep_keeps : AreKept old.jobs new.jobs
   sweep_keeps = subst (AreKept old.jobs) (sym sweep_jobs) (requeued_kept old.jobs (to_sweep old) (swept_parked old))
@@ -138,74 +143,49 @@ pub waits_after_sweep : (asking : Asking) (timed_out : Bool) (inside between new
 waits_after_sweep asking timed_out inside between new waited same valued none waits =
     subst (λ (p : JobPool). StaysOrStops timed_out p waited new) (sweeps_if_nothing asking timed_out inside between waits.between same valued none waits.sweep) waits.answer
 
--- what a wait leaves of the counts
-pub record KeepsNumbers (old new : JobPool) : Type 0 where
+-- what a wait leaves of the jobs and the counts
+pub record KeptByWait (old new : JobPool) : Type 0 where
+  pub jobs : new.jobs ≡ old.jobs
   pub setting : new.counts.setting ≡ old.counts.setting
   pub next : new.counts.next_worker ≡ old.counts.next_worker
 
-pub wait_numbers : (timed_out : Bool) (old new : JobPool) (waited : Waited) → StaysOrStops timed_out old waited new → KeepsNumbers old new
-wait_numbers timed_out old new (Stay pass) answer = record { setting = ap (λ (p : JobPool). p.counts.setting) answer.1; next = ap (λ (p : JobPool). p.counts.next_worker) answer.1 }
-wait_numbers timed_out old new Stop answer = record { setting = ap (λ (p : JobPool). p.counts.setting) answer.1; next = ap (λ (p : JobPool). p.counts.next_worker) answer.1 }
-
-pub wait_jobs : (timed_out : Bool) (old new : JobPool) (waited : Waited) → StaysOrStops timed_out old waited new → new.jobs ≡ old.jobs
-wait_jobs timed_out old new (Stay pass) answer = ap (λ (p : JobPool). p.jobs) answer.1
-wait_jobs timed_out old new Stop answer = ap (λ (p : JobPool). p.jobs) answer.1
+pub wait_keeps : (timed_out : Bool) (old new : JobPool) (waited : Waited) → StaysOrStops timed_out old waited new → KeptByWait old new
+wait_keeps timed_out old new (Stay pass) answer = rw answer.1 (record { jobs = refl; setting = refl; next = refl })
+wait_keeps timed_out old new Stop answer = rw answer.1 (record { jobs = refl; setting = refl; next = refl })
 
 pub none_due_in : (old new : JobPool) → new.jobs ≡ old.jobs → NoneDue old → NoneDue new
 none_due_in old new same none s = ap (λ (jobs : Jobs Ticket). is_due_to_sweep (map.get jobs s)) same ∙ none s
 
 -- ---- how many idle workers have arrived
 
-pub record KeepsLevel (old new : JobPool) : Type 0 where
-  pub level : new.counts.idle + old.counts.arriving ≡ old.counts.idle + new.counts.arriving
-
-sweep_levels_by : (may_answer : ℕ → Bool → Type 0) (old new : JobPool) (serials : List ℕ) (growth : Growth) → SweepsTo may_answer old serials growth new → KeepsLevel old new
-sweep_levels_by may_answer old new [] growth sweeps =
-    let idle = ap (λ (p : JobPool). p.counts.idle) sweeps.1 in let arriving = ap (λ (p : JobPool). p.counts.arriving) sweeps.1 in record { level = omega (arith, idle, arriving) }
-sweep_levels_by may_answer old new (serial ∷ serials) growth sweeps =
-    let idle : new.counts.idle ≡ old.counts.idle + growth.started = ap (λ (p : JobPool). p.counts.idle) sweeps.after_is in
-    let arriving : new.counts.arriving ≡ old.counts.arriving + growth.started = ap (λ (p : JobPool). p.counts.arriving) sweeps.after_is in
-    record { level = omega (arith, idle, arriving) }
-
-pub sweep_levels : (may_answer : ℕ → Bool → Type 0) (old new : JobPool) (growth : Growth) → SweepsTo may_answer old (to_sweep old) growth new → KeepsLevel old new
-sweep_levels may_answer old new growth sweeps = sweep_levels_by may_answer old new (to_sweep old) growth sweeps
+abbrev pub KeepsLevel : JobPool → JobPool → Type 0
+KeepsLevel old new = new.counts.idle + old.counts.arriving ≡ old.counts.idle + new.counts.arriving
 
 pub sweeps_if_levels : (timed_out : Bool) (may_answer : ℕ → Bool → Type 0) (old new : JobPool) (growth : Growth) → SweepsIf timed_out may_answer old growth new → KeepsLevel old new
-sweeps_if_levels false may_answer old new growth sweeps =
-    let idle = ap (λ (p : JobPool). p.counts.idle) sweeps.1 in let arriving = ap (λ (p : JobPool). p.counts.arriving) sweeps.1 in record { level = omega (arith, idle, arriving) }
-sweeps_if_levels true may_answer old new growth sweeps = sweep_levels may_answer old new growth sweeps
+sweeps_if_levels false may_answer old new growth sweeps = rw sweeps.1 refl
+sweeps_if_levels true may_answer old new growth sweeps = (left_by may_answer old new (to_sweep old) growth sweeps).level
 
 pub sweeps_if_keeps : (timed_out : Bool) (may_answer : ℕ → Bool → Type 0) (old new : JobPool) (growth : Growth) → SweepsIf timed_out may_answer old growth new → AreKept old.jobs new.jobs
-sweeps_if_keeps false may_answer old new growth sweeps = subst (AreKept old.jobs) (sym (ap (λ (p : JobPool). p.jobs) sweeps.1)) (all_kept old.jobs)
+sweeps_if_keeps false may_answer old new growth sweeps = rw sweeps.1 (all_kept old.jobs)
 sweeps_if_keeps true may_answer old new growth sweeps = sweep_keeps may_answer old new growth sweeps
 
 -- after a wait
 module _ (may_answer : ℕ → Bool → Type 0) (timed_out : Bool) (old new : JobPool) (waited : Waited) (growth : Growth) (waits : WaitsSo may_answer timed_out old waited growth new) where
+  level : KeepsLevel old waits.between
+  level = sweeps_if_levels timed_out may_answer old waits.between growth waits.sweep
+
   pub stay_levels : (pass : WorkerPass) → waited ≡ Stay pass → KeepsLevel old new
-  stay_levels pass stays =
-      let answer = subst (λ (w : Waited). StaysOrStops timed_out waits.between w new) stays waits.answer in
-      let level = (sweeps_if_levels timed_out may_answer old waits.between growth waits.sweep).level in
-      let idle = ap (λ (p : JobPool). p.counts.idle) answer.1 in
-      let arriving = ap (λ (p : JobPool). p.counts.arriving) answer.1 in
-      record { level = omega (arith, level, idle, arriving) }
+  stay_levels pass stays = rw ((rw stays at waits.answer).1) level
 
   pub stop_levels : waited ≡ Stop → old.counts.arriving < old.counts.idle → new.counts.idle + 1 + old.counts.arriving ≡ old.counts.idle + new.counts.arriving
-  stop_levels stops free =
-      let answer = subst (λ (w : Waited). StaysOrStops timed_out waits.between w new) stops waits.answer in
-      let level = (sweeps_if_levels timed_out may_answer old waits.between growth waits.sweep).level in
-      let idle : new.counts.idle ≡ waits.between.counts.idle - 1 = ap (λ (p : JobPool). p.counts.idle) answer.1 in
-      let arriving : new.counts.arriving ≡ waits.between.counts.arriving = ap (λ (p : JobPool). p.counts.arriving) answer.1 in
-      omega (arith, level, idle, arriving, free)
+  stop_levels stops free = rw ((rw stops at waits.answer).1) (omega (arith, level, free))
 
   -- where nothing is due and the queue is empty, a worker whose time is up doesn't stay
   pub no_stay : (pass : WorkerPass) → timed_out ≡ true → waited ≡ Stay pass → NoneDue old → old.queue ≡ [] → ⊥
   no_stay pass late stays none empty =
-      let sweep = subst (λ (b : Bool). SweepsIf b may_answer old growth waits.between) late waits.sweep in
-      let same : waits.between ≡ old = (subst (λ (serials : List ℕ). SweepsTo may_answer old serials growth waits.between) (sweeps_nothing old none) sweep).1 in
-      let answer = subst (λ (w : Waited). StaysOrStops timed_out waits.between w new) stays waits.answer in
-      let queue : waits.between.queue ≡ [] = ap (λ (p : JobPool). p.queue) same ∙ empty in
-      let stop : must_stop timed_out waits.between ≡ true =
-      ap (λ (b : Bool). nat_lt (limit_of waits.between.counts) waits.between.counts.workers || (b && is_empty waits.between.queue)) late
-      ∙ ap (λ (q : List ℕ). nat_lt (limit_of waits.between.counts) waits.between.counts.workers || is_empty q) queue ∙ or_true (nat_lt (limit_of waits.between.counts) waits.between.counts.workers) in
+      let sweep = rw late at waits.sweep in
+      let same : waits.between ≡ old = (rw (sweeps_nothing old none) at sweep).1 in
+      let answer = rw stays at waits.answer in
+      let stop : must_stop timed_out waits.between ≡ true = rw (late, same, empty) (or-true (nat_lt (limit_of old.counts) old.counts.workers)) in
       let bad : true ≡ false = sym stop ∙ answer.0 in
       cc

@@ -8,7 +8,7 @@ use Rattle.blocking_crew.specs.declared.hand.Hand.{Hand}
 use Rattle.blocking_crew.specs.declared.hand.Hand.TheVariants.{Out, Free, Holds}
 use Rattle.blocking_crew.specs.declared.hand.Held.{Held}
 use Rattle.blocking_crew.specs.declared.hand.Stage.{Stage}
-use Rattle.blocking_crew.proofs.hands.Places.{got_same, set_same}
+use Rattle.blocking_pool.proofs.Places.{got_same, set_same}
 use Rattle.blocking_crew.proofs.hands.Rows.{IsAt}
 
 -- ---- one hand

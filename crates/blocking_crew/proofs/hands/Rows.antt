@@ -9,7 +9,7 @@ use Rattle.blocking_crew.specs.Crews.{sum_of}
 use Rattle.blocking_crew.specs.declared.hand.Hand.{Hand}
 use Rattle.blocking_crew.specs.declared.hand.Hand.TheVariants.{Out, Free, Holds}
 use Rattle.blocking_crew.specs.declared.hand.Held.{Held}
-use Rattle.blocking_crew.proofs.hands.Places.{got_same, got_other, got_pushed}
+use Rattle.blocking_pool.proofs.Places.{got_same, got_other, got_pushed}
 
 -- ---- the hand of a worker that is there
 

@@ -2,12 +2,13 @@
 use Rattle.std.proofs.Common.{◌≡◌, ℕ, zero, suc, ◌<◌, ◌≤◌, ◌==◌, ◌||◌, cond, Bool, true, false, refl, sym, ap, ◌∙◌, subst, if◌then◌else◌, List, [], ◌∷◌, Option, Some, None, inl, inr, arith}
 use Rattle.std.specs.Prelude.{option_map, is_some, filter}
 use Rattle.std.specs.FinMap.{get, insert, remove}
+use Rattle.std.proofs.Math.Bool.{or-true}
 use Rattle.std.proofs.lemmas.Bool.{eqb-true, cases_eq, cases_lt, and_parts, and_from}
 use Rattle.blocking_pool.specs.Jobs.{Job, Jobs, JobNumber, amend, if_at, is_running, is_parked, is_running_job, is_parked_job, is_running_as, jobs_after_requeue, entry_after_requeue}
 use Rattle.blocking_pool.specs.Lists.{is_in}
 use Rattle.blocking_pool.specs.Sweeps.{serials_below}
 use Rattle.blocking_pool.specs.declared.pool.standing.Standing.{Standing}
-use Rattle.blocking_pool.specs.declared.pool.standing.Standing.TheVariants.{Queued, Running, Parked, Done, Dropped}
+use Rattle.blocking_pool.specs.declared.pool.standing.Standing.TheVariants.{Running, Parked}
 use Rattle.blocking_pool.proofs.Lists.{is_in-last, is_in-push}
 use Rattle.blocking_crew.specs.Tickets.{JobPool, is_valued, AreValued, is_due_to_sweep, is_marked_ticket, to_sweep}
 use Rattle.blocking_crew.specs.Closing.{NoneDue}
@@ -28,12 +29,8 @@ kept_if : (b : Bool) (old new : Option (Job Ticket)) → (b ≡ true → IsKept 
 kept_if true old new kept = kept refl
 kept_if false old new kept = same_kept old
 
-if_alike : (b : Bool) (job new : Job Ticket) → new.standing ≡ job.standing → is_running_job (if b then Some new else None) ≡ is_running_job (if b then Some job else None)
-if_alike true job new e = ap is_running e
-if_alike false job new e = refl
-
 place_alike : (p : ℕ) (job new : Job Ticket) → new.standing ≡ job.standing → new.place ≡ job.place → is_running_job (if_at p (Some new)) ≡ is_running_job (if_at p (Some job))
-place_alike p job new st pl = ap (λ (n : ℕ). is_running_job (if n == p then Some new else None)) pl ∙ if_alike (job.place == p) job new st
+place_alike p job new st pl = rw pl (grind (arith, st))
 
 -- a job whose standing and place stay is kept, if its value is
 pub changed_kept : (change : Job Ticket → Job Ticket) → ((job : Job Ticket) → (change job).standing ≡ job.standing) → ((job : Job Ticket) → (change job).place ≡ job.place)
@@ -44,13 +41,9 @@ changed_kept change standing place valued (Some job) = record {
   valued = λ has. valued job has;
 }
 
-pub or_true : (b : Bool) → (b || true) ≡ true
-or_true true = refl
-or_true false = refl
-
 -- a job with its ticket is valued
 pub with_ticket : (job : Job Ticket) (ticket : Ticket) → job.value ≡ Some ticket → is_valued (Some job) ≡ true
-with_ticket job ticket has = ap (λ (o : Option Ticket). is_running job.standing || is_some o) has ∙ or_true (is_running job.standing)
+with_ticket job ticket has = rw has (or-true (is_running job.standing))
 
 not_parked : (standing : Standing) → is_running standing ≡ true → is_parked standing ≡ true → ⊥
 not_parked Running runs parked = cc
@@ -133,12 +126,7 @@ requeued_undue None = refl
 requeued_undue (Some job) = refl
 
 undue_if : (b : Bool) (found : Option (Job Ticket)) → (is_due_to_sweep found ≡ true → b ≡ true) → is_due_to_sweep (if b then option_map entry_after_requeue found else found) ≡ false
-undue_if true found due = requeued_undue found
-undue_if false found due = by (is_due_to_sweep found) refl
-  where
-    by : (d : Bool) → is_due_to_sweep found ≡ d → is_due_to_sweep found ≡ false
-    by true is = let bad : false ≡ true = due is in absurd cc
-    by false is = is
+undue_if b found due = let undue = requeued_undue found in grind (arith, due, undue)
 
 -- after a sweep of a pool whose jobs have serials below the next, none is due
 pub none_due : (pool : JobPool) (jobs : Jobs Ticket) → ((s : ℕ) → pool.next_serial ≤ s → get pool.jobs s ≡ None) → jobs ≡ jobs_after_requeue pool.jobs (to_sweep pool)
@@ -165,12 +153,12 @@ sweeps_nothing pool none = filter_none (λ serial. is_due_to_sweep (get pool.job
 
 -- ---- after one was taken out
 
+pub valued_if : (b : Bool) (new old : Option (Job Ticket)) → is_valued new ≡ true → is_valued old ≡ true → is_valued (if b then new else old) ≡ true
+valued_if true new old has had = has
+valued_if false new old has had = had
+
 pub removed_valued : (jobs : Jobs Ticket) (t : ℕ) → AreValued jobs → AreValued (remove jobs t)
-removed_valued jobs t valued s = ap is_valued (job_out jobs t s (t == s) refl) ∙ by (t == s)
-  where
-    by : (b : Bool) → is_valued (if b then None else get jobs s) ≡ true
-    by true = refl
-    by false = valued s
+removed_valued jobs t valued s = ap is_valued (job_out jobs t s (t == s) refl) ∙ valued_if (t == s) None (get jobs s) refl (valued s)
 
 -- the others run on
 pub removed_runs : (jobs : Jobs Ticket) (t : ℕ) (number : JobNumber) → (t == number.serial) ≡ false → is_running_as (remove jobs t) number ≡ is_running_as jobs number

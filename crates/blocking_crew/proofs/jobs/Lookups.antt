@@ -1,9 +1,10 @@
 -- Look-ups of a job in the pool, after a change of that job or of others.
-use Rattle.std.proofs.Common.{◌≡◌, ℕ, ◌==◌, ◌&&◌, ◌||◌, cond, Bool, true, false, refl, sym, ap, ◌∙◌, subst, if◌then◌else◌, List, [], ◌∷◌, Option, Some, None}
+use Rattle.std.proofs.Common.{◌≡◌, ℕ, ◌==◌, ◌&&◌, ◌||◌, cond, Bool, true, false, refl, sym, ap, ◌∙◌, subst, if◌then◌else◌, arith, List, [], ◌∷◌, Option, Some, None}
 use Rattle.std.specs.Prelude.{option_map, filter}
 use Rattle.std.specs.Ordering.{eq_by_cmp, nat_cmp}
 use Rattle.std.specs.Cmp.{nat_cmp_total}
 use Rattle.std.specs.FinMap.{get, insert, remove, get-insert, get-remove}
+use Rattle.std.proofs.Math.Bool.{and-false}
 use Rattle.std.proofs.lemmas.Bool.{eqb-true, eq-eqb}
 use Rattle.blocking_pool.specs.Jobs.{Job as Entry, Jobs, JobNumber, jobs_after_change, jobs_after_requeue, amend, if_at, is_running_job, is_running_as, entry_after_take, entry_after_requeue}
 use Rattle.blocking_pool.specs.Lists.{is_in}
@@ -68,30 +69,19 @@ cancelled_is _ e = absurd cc
 -- a job that is found by its number is the job of that serial
 pub found_at : (place : ℕ) (found : Option (Entry Ticket)) (entry : Entry Ticket) → if_at place found ≡ Some entry → found ≡ Some entry
 found_at place None entry e = absurd cc
-found_at place (Some found) entry e = by (found.place == place) e
-  where
-    by : (b : Bool) → (if b then Some found else None) ≡ Some entry → Some found ≡ Some entry
-    by true e = e
-    by false e = absurd cc
+found_at place (Some found) entry e = grind (arith, e)
 
 -- so is one that stands somehow by its number
 pub stands_at : (place : ℕ) (found : Option (Entry Ticket)) (how : Standing) → option_map (λ (job : Entry Ticket). job.standing) (if_at place found) ≡ Some how
     → (entry : Entry Ticket) × (found ≡ Some entry) × (entry.standing ≡ how)
 stands_at place None how is = absurd cc
-stands_at place (Some entry) how is = by (entry.place == place) is
-  where
-    by : (b : Bool) → option_map (λ (job : Entry Ticket). job.standing) (if b then Some entry else None) ≡ Some how → (e : Entry Ticket) × (Some entry ≡ Some e) × (e.standing ≡ how)
-    by true is = (entry, refl, cc)
-    by false is = absurd cc
+stands_at place (Some entry) how is = (entry, refl, grind (arith, is))
 
 twice : (b c : Bool) (found : Option (Entry Ticket))
     → (if c then option_map entry_after_requeue (if b then option_map entry_after_requeue found else found) else (if b then option_map entry_after_requeue found else found))
     ≡ (if b || c then option_map entry_after_requeue found else found)
-twice true true None = refl
-twice true true (Some entry) = refl
-twice true false found = refl
-twice false true found = refl
-twice false false found = refl
+twice b c None = grind arith
+twice b c (Some entry) = grind arith
 
 -- the jobs after some entered again
 pub job_requeued : (serials : List ℕ) (jobs : Jobs Ticket) (s : ℕ)
@@ -111,25 +101,12 @@ taken_runs jobs number entry place =
 -- a job of a number that runs is there, and runs
 pub runs_at : (place : ℕ) (found : Option (Entry Ticket)) → is_running_job (if_at place found) ≡ true → is_running_job found ≡ true
 runs_at place None runs = runs
-runs_at place (Some entry) runs = by (entry.place == place) runs
-  where
-    by : (b : Bool) → is_running_job (if b then Some entry else None) ≡ true → is_running_job (Some entry) ≡ true
-    by true is = is
-    by false is = absurd cc
+runs_at place (Some entry) runs = grind (arith, runs)
 
 filter_by : (b d c m : Bool) (s x : ℕ) (ns : List ℕ) → (s == x) ≡ c → (c ≡ true → d ≡ b) → is_in s ns ≡ (d && m) → is_in s (cond b (x ∷ ns) ns) ≡ (d && (c || m))
-filter_by true true c m s x ns is same e = ap (λ (b : Bool). b || is_in s ns) is ∙ ap (λ (b : Bool). c || b) e
-filter_by true false true m s x ns is same e = let bad : false ≡ true = same refl in absurd cc
-filter_by true false false m s x ns is same e = ap (λ (b : Bool). b || is_in s ns) is ∙ e
-filter_by false true true m s x ns is same e = let bad : true ≡ false = same refl in absurd cc
-filter_by false true false m s x ns is same e = e
-filter_by false false c m s x ns is same e = e
+filter_by b d c m s x ns is same e = grind (arith, is, same, e)
 
 -- what a filter leaves is what was there and passes its test
 pub in_filter : (p : ℕ → Bool) (ns : List ℕ) (s : ℕ) → is_in s (filter p ns) ≡ (p s && is_in s ns)
-in_filter p [] s = by (p s)
-  where
-    by : (b : Bool) → false ≡ (b && false)
-    by true = refl
-    by false = refl
+in_filter p [] s = sym (and-false (p s))
 in_filter p (n ∷ ns) s = filter_by (p n) (p s) (s == n) (is_in s ns) s n (filter p ns) refl (λ is. ap p (eqb-true s n is)) (in_filter p ns s)

@@ -29,7 +29,7 @@ use Rattle.blocking_laws.specs.declared.event.WaitEnd.{WaitEnd}
 use Rattle.blocking_laws.specs.declared.step.Step.{Step}
 use Rattle.blocking_crew.specs.Crews.{Crew, hand_at, may_end, outcome_of, standing_after}
 use Rattle.blocking_crew.specs.Moves.{Move, Adds, Arrives, TakesJob, TakesNone, Works, EndsTurn, Parks, HasWaited, Sweeps, IsWoken, IsCancelled, IsLetGo, Tells, May, call_of, next_start, took_act, parked_act, is_aside}
-use Rattle.blocking_crew.specs.Tickets.{JobPool, no_growth, TakesFront, SweepsIf, ParksTo, ParksSo}
+use Rattle.blocking_crew.specs.Tickets.{JobPool, no_growth, is_marked_ticket, TakesFront, SweepsIf, ParksTo, ParksSo}
 use Rattle.blocking_crew.specs.Ties.{FiledAs, FiledHere, ValueAs, IsNumberOf, IsAsked, CrewHolds, turn_of, moment_of}
 use Rattle.blocking_crew.specs.declared.hand.Hand.TheVariants.{Holds}
 use Rattle.blocking_crew.specs.declared.hand.Held.{Held}
@@ -47,14 +47,10 @@ use Rattle.blocking_crew.proofs.ties.Sweeps.{sweep_same}
 
 -- ---- takes
 
-mark_in : Option Ticket → Bool
-mark_in None = false
-mark_in (Some ticket) = ticket.is_marked
-
 -- the mark of a ticket that is there
 mark_is : (stand : Standing) (found : Option Ticket) (mark : Bool) (value : Ticket) → found ≡ Some value → ValueAs stand found mark → value.is_marked ≡ mark
-mark_is Queued found mark value e v = let both : Some value ≡ Some (record { is_marked = mark }) = sym e ∙ v in let same : value ≡ record { is_marked = mark } = cc in ap (λ (x : Ticket). x.is_marked) same
-mark_is Parked found mark value e v = let both : Some value ≡ Some (record { is_marked = mark }) = sym e ∙ v in let same : value ≡ record { is_marked = mark } = cc in ap (λ (x : Ticket). x.is_marked) same
+mark_is Queued found mark value e v = ap is_marked_ticket (sym e ∙ v)
+mark_is Parked found mark value e v = ap is_marked_ticket (sym e ∙ v)
 mark_is Running found mark value e v = absurd cc
 mark_is _ found mark value e v = absurd v
 
@@ -86,23 +82,15 @@ none_left (n ∷ ns) = grind (arith, nat_tests)
 
 -- ---- wakes and cancels
 
-met_here : (b : Bool) (answer : Option Standing → Woke) (entry : Entry Ticket) (stand : Option Standing) → b ≡ true → stand ≡ Some entry.standing
-    → answer (option_map (λ (job : Entry Ticket). job.standing) (if b then Some entry else None)) ≡ answer stand
-met_here true answer entry stand e f = ap answer (sym f)
-met_here false answer entry stand e f = absurd cc
-
 -- an answer to a standing: a job that is over is as one that isn't there
 met_as : (answer : Option Standing → Woke) (entry : Option (Entry Ticket)) (place : ℕ) (stand : Option Standing) (wake cancel mark ended : Bool)
     → answer None ≡ answer (Some Done) → answer None ≡ answer (Some Dropped) → ((found : Entry Ticket) → entry ≡ Some found → found.place ≡ place)
     → FiledAs entry stand wake cancel mark ended → answer (option_map (λ (job : Entry Ticket). job.standing) (if_at place entry)) ≡ answer stand
 met_as answer None place None wake cancel mark ended done dropped at_place f = refl
-met_as answer None place (Some Queued) wake cancel mark ended done dropped at_place f = absurd f
-met_as answer None place (Some Running) wake cancel mark ended done dropped at_place f = absurd f
-met_as answer None place (Some Parked) wake cancel mark ended done dropped at_place f = absurd f
 met_as answer None place (Some Done) wake cancel mark ended done dropped at_place f = done
 met_as answer None place (Some Dropped) wake cancel mark ended done dropped at_place f = dropped
-met_as answer (Some entry) place stand wake cancel mark ended done dropped at_place f =
-    met_here (entry.place == place) answer entry stand (eq-eqb entry.place place (at_place entry refl)) f.0
+met_as answer None place (Some _) wake cancel mark ended done dropped at_place f = absurd f
+met_as answer (Some entry) place stand wake cancel mark ended done dropped at_place f = rw (eq-eqb entry.place place (at_place entry refl), f.0) refl
 
 module _ (setting : ℕ) (plan : List Bool) (crew : Crew) (past : List Moment) (step : Step) (owner : Option ℕ) (h : CrewHolds setting plan crew past) where
   take_is : (number : JobNumber) (value : Ticket) (to_drop : Bool) (growth : Growth) (pool : JobPool) → TakesFront (IsPlanned plan) crew.pool number value to_drop growth pool → took_act to_drop number.serial ≡ take_answer past
@@ -183,8 +171,7 @@ module _ (setting : ℕ) (plan : List Bool) (crew : Crew) (past : List Moment) (
       (λ at act is same fits. (plain setting past step owner (Worker v) (Some held.turn.serial) (next_start crew) no_growth act is).answered) tt (λ w. tt) held.stage act may.1
   answer_law (EndsTurn v held pass) may asked = ends held v may.0 may.1
   answer_law (Parks v held ticket (parking.Parked pass) pool) may asked = parks held v ticket (parking.Parked pass) pool may.0 may.1 may.2 (asked held may.0)
-  answer_law (Parks v held ticket (parking.Queued pass) pool) may asked = parks held v ticket (parking.Queued pass) pool may.0 may.1 may.2 (asked held may.0)
-  answer_law (Parks v held ticket (parking.HandedOut back) pool) may asked = parks held v ticket (parking.HandedOut back) pool may.0 may.1 may.2 (asked held may.0)
+  answer_law (Parks v held ticket parked pool) may asked = parks held v ticket parked pool may.0 may.1 may.2 (asked held may.0)
   answer_law (HasWaited v pass end (Stay back) growth pool) may asked = stop_is end growth may.1.between may.1.sweep ∙ may.1.answer.0
   answer_law (HasWaited v pass end Stop growth pool) may asked = stop_is end growth may.1.between may.1.sweep ∙ may.1.answer.0
   answer_law (Sweeps growth pool) may asked = ap length (sweep_same setting plan crew past h)

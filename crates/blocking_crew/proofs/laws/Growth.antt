@@ -1,5 +1,5 @@
 -- Each move grows as the law of growth says.
-use Rattle.std.proofs.Common.{◌≡◌, ℕ, ◌+◌, ◌-◌, ◌==◌, ◌||◌, List, [], ◌∷◌, ◌++◌, Bool, true, false, length, length-append, refl, sym, ap, ap₂, ◌∙◌, subst, arith, if◌then◌else◌, Option, Some, None}
+use Rattle.std.proofs.Common.{◌≡◌, ℕ, ◌+◌, ◌-◌, ◌==◌, ◌||◌, List, [], ◌∷◌, ◌++◌, Bool, true, false, length, length-append, refl, sym, ap, ap₂, ◌∙◌, arith, if◌then◌else◌, Option, Some, None}
 use Rattle.std.specs.Prelude.{not, Err}
 use Rattle.blocking_pool.specs.Counts.{limit_of, after_pickup}
 use Rattle.blocking_pool.specs.Growth.{Growth, IsGrowth, StartAnswer}
@@ -43,7 +43,7 @@ module _ (setting : ℕ) (plan : List Bool) (crew : Crew) (past : List Moment) (
   plain_law : (who : Party) (job : Option ℕ) (act : Act) → grows past act ≡ false → ((n : ℕ) → HasWorker act n) → GrowthLaw setting plan past (now who job act no_growth)
   plain_law who job act grew worker = record {
     first = h.tied.counted.next_is;
-    starting = subst (λ b. StartsRightly b setting plan past (now who job act no_growth)) (sym grew) (refl, refl);
+    starting = rw grew (refl, refl);
     worker = worker (workers past + 0);
   }
 
@@ -53,7 +53,7 @@ module _ (setting : ℕ) (plan : List Bool) (crew : Crew) (past : List Moment) (
       → IsGrowth (StartAnswer (IsPlanned plan)) ready idle crew.pool.counts.workers (limit_of crew.pool.counts) crew.pool.counts.next_worker growth → GrowthLaw setting plan past (now who job act growth)
   grown_law who job act growth ready idle grew ready_is idle_is worker starting = record {
     first = h.tied.counted.next_is;
-    starting = subst (λ b. StartsRightly b setting plan past (now who job act growth)) (sym grew)
+    starting = rw grew
         (same_growth plan _ _ _ _ _ _ _ _ _ _ growth ready_is idle_is (workers_now setting plan crew past step owner h) h.tied.counted.limit_is refl starting);
     worker = worker;
   }
@@ -67,7 +67,7 @@ module _ (setting : ℕ) (plan : List Bool) (crew : Crew) (past : List Moment) (
       → grows past last.event.act ≡ not (length (entered_by past last.event.act) == 0) → turned_away last.event.act ≡ 0 → running (last ∷ past) ≡ running past → Lined pool (last ∷ past) → GrowthLaw setting plan past last
   entering last pool entered first worker grew away busy lined = record {
     first = first ∙ h.tied.counted.next_is;
-    starting = subst (λ b. StartsRightly b setting plan past last) (sym grew) (by (entered_by past last.event.act) refl);
+    starting = rw grew (by (entered_by past last.event.act) refl);
     worker = worker;
   }
     where
@@ -78,7 +78,7 @@ module _ (setting : ℕ) (plan : List Bool) (crew : Crew) (past : List Moment) (
       by (n ∷ ns) is =
           let ready : length pool.queue ≡ length (queue (last ∷ past)) + turned_away last.event.act = (let long : length pool.queue ≡ length (queue (last ∷ past)) = ap length lined in omega (arith, long, away)) in
           let idle : crew.pool.counts.idle ≡ workers past - length (running (last ∷ past)) = idle_now ∙ ap (λ (ms : List ℕ). workers past - length ms) (sym busy) in
-          subst (λ b. StartsRightly b setting plan past last) (sym (more_than_none n ns))
+          rw (more_than_none n ns)
           (same_growth plan _ _ _ _ _ _ _ _ _ _ (growth_in last) ready idle (workers_now setting plan crew past step owner h) h.tied.counted.limit_is first
           (entered.starts (λ none. (let bad : n ∷ ns ≡ [] = sym is ∙ none in cc))))
 

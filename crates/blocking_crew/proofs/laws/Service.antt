@@ -1,5 +1,5 @@
 -- Where jobs are queued and no worker is left, the last start that was tried was refused.
-use Rattle.std.proofs.Common.{◌≡◌, ◌<◌, ◌≤◌, ◌+◌, ◌-◌, ◌==◌, ◌&&◌, ◌||◌, not, nat_lt, ℕ, Bool, true, false, List, [], ◌∷◌, ◌++◌, length, length-append, refl, sym, ap, ◌∙◌, subst, arith, Option, zero, suc, Err}
+use Rattle.std.proofs.Common.{◌≡◌, ◌<◌, ◌≤◌, ◌+◌, ◌-◌, ◌&&◌, ◌||◌, nat_lt, ℕ, Bool, true, false, List, [], ◌∷◌, ◌++◌, length, length-append, refl, sym, ap, ◌∙◌, subst, arith, Option, zero, suc, Err}
 use Rattle.std.proofs.lemmas.Bool.Decides.{nat_tests}
 use Rattle.blocking_pool.specs.Counts.{Counts, limit_of}
 use Rattle.blocking_pool.specs.Growth.{Growth, is_due, limit_after}
@@ -69,14 +69,14 @@ module _ (setting : ℕ) (plan : List Bool) (crew : Crew) (past : List Moment) (
   acts (Parks v held ticket (parking.Queued pass) pool) may = s.positive
   acts (HasWaited v pass end Stop growth pool) may = s.positive
   acts (SetsLimit n) may = may
-  acts move may = subst (λ l. 0 < l) (sym ((enters_so past (event_of crew move).act (enters setting plan crew past step owner h move may refl).only).steady.most (limit setting past))) s.positive
+  acts move may = rw ((enters_so past (event_of crew move).act (enters setting plan crew past step owner h move may refl).only).steady.most (limit setting past)) s.positive
 
   -- who serves the queue of the pool
   before : (crew.pool.queue ≡ [] → ⊥) → crew.pool.counts.workers ≡ 0 → last_refused past ≡ true
   before some none = s.served (λ e. some (h.tied.lined ∙ e)) (sym (workers_now setting plan crew past step owner h) ∙ none)
 
   positive : 0 < limit_of crew.pool.counts
-  positive = subst (λ n. 0 < n) (sym h.tied.counted.limit_is) s.positive
+  positive = rw h.tied.counted.limit_is s.positive
 
   fewer : crew.pool.counts.idle ≤ crew.pool.counts.workers
   fewer = let e = h.tied.counted.idle_are in omega (arith, e)
@@ -87,7 +87,7 @@ module _ (setting : ℕ) (plan : List Bool) (crew : Crew) (past : List Moment) (
     where
       by : (ns : List ℕ) → entered_by past last.event.act ≡ ns → last_refused_by last.event.started last.event.start_refused (last_refused past) ≡ true
       by [] is =
-          let no : growth_in last ≡ no_growth = e.entered.grew.none (ap (λ (ns : List ℕ). not (length ns == 0)) is) in
+          let no : growth_in last ≡ no_growth = e.entered.grew.none (rw is refl) in
           let hired = e.entered.grew.workers in
           subst (λ (g : Growth). last_refused_by g.started g.refused (last_refused past) ≡ true) (sym no)
           (before (λ empty. some (e.entered.line ∙ ap (joined crew.pool.queue) is ∙ empty)) (omega (arith, hired, none)))
@@ -124,7 +124,7 @@ module _ (setting : ℕ) (plan : List Bool) (crew : Crew) (past : List Moment) (
       let between = may.1.between in
       let g = (swept setting plan crew past step owner h (has_timed_out end) growth between may.1.sweep).grew in
       let left : between.counts.workers - 1 ≡ 0 = ap (λ (p : JobPool). p.counts.workers) (sym may.1.answer.1) ∙ none in
-      let most : 0 < limit_of between.counts = subst (λ n. 0 < n) (sym g.most) (positive_grown growth.refused (limit_of crew.pool.counts) (crew.pool.counts.workers + growth.started) positive) in
+      let most : 0 < limit_of between.counts = rw g.most (positive_grown growth.refused (limit_of crew.pool.counts) (crew.pool.counts.workers + growth.started) positive) in
       let empty : between.queue ≡ [] =
       empty_by (nat_lt (limit_of between.counts) between.counts.workers) (has_timed_out end) between.queue may.1.answer.0 (one_left (limit_of between.counts) between.counts.workers most left) in
       some (ap (λ (p : JobPool). p.queue) may.1.answer.1 ∙ empty)

@@ -72,8 +72,7 @@ module _ (setting : ℕ) (plan : List Bool) (crew : Crew) (past : List Moment) (
   turn_law (Works v held act) may = works v held act may
   turn_law (EndsTurn v held pass) may = record { one = its_job v held may.0; acts = tt }
   turn_law (Parks v held ticket (parking.Parked pass) pool) may = record { one = its_job v held may.0; acts = tt }
-  turn_law (Parks v held ticket (parking.Queued pass) pool) may = record { one = its_job v held may.0; acts = tt }
-  turn_law (Parks v held ticket (parking.HandedOut back) pool) may = record { one = its_job v held may.0; acts = tt }
+  turn_law (Parks v held ticket _ pool) may = record { one = its_job v held may.0; acts = tt }
   turn_law (HasWaited v pass end (Stay back) growth pool) may = record { one = tt; acts = tt }
   turn_law (HasWaited v pass end Stop growth pool) may = record { one = tt; acts = tt }
   turn_law (IsLetGo who act number) may = by_let_go (λ act. TurnLaw past (now who None act no_growth)) (record { one = tt; acts = tt }) (record { one = tt; acts = tt }) act may

@@ -1,5 +1,5 @@
 -- A crew stays ready where a worker's hand changes with its pool.
-use Rattle.std.proofs.Common.{◌≡◌, ℕ, ◌+◌, ◌-◌, ◌<◌, ◌==◌, Bool, true, false, if◌then◌else◌, refl, sym, ap, ◌∙◌, subst, arith, Option, Some, None}
+use Rattle.std.proofs.Common.{◌≡◌, ℕ, ◌+◌, ◌-◌, ◌<◌, ◌==◌, Bool, true, false, refl, sym, ap, ◌∙◌, subst, arith, Option, Some, None}
 use Rattle.std.specs.Prelude.{option_map}
 use Rattle.std.specs.FinMap.{get, insert}
 use Rattle.std.proofs.lemmas.Bool.{ne_eqb, eqb-false}
@@ -17,8 +17,8 @@ use Rattle.blocking_crew.specs.declared.hand.Held.{Held}
 use Rattle.blocking_crew.specs.declared.hand.Stage.{Stage}
 use Rattle.blocking_crew.specs.declared.ticket.Ticket.{Ticket}
 use Rattle.blocking_crew.proofs.hands.Rows.{IsAt, at_free, at_held, sum_set}
-use Rattle.blocking_crew.proofs.jobs.Kept.{removed_valued, removed_runs, with_ticket}
-use Rattle.blocking_crew.proofs.jobs.Lookups.{job_put, job_changed, taken_runs, runs_at}
+use Rattle.blocking_crew.proofs.jobs.Kept.{valued_if, removed_valued, removed_runs, with_ticket}
+use Rattle.blocking_crew.proofs.jobs.Lookups.{job_put, job_changed, changed_twice, taken_runs, runs_at}
 use Rattle.blocking_crew.proofs.ready.Changes.{hand_ready}
 
 -- the workers of two numbers that differ are two
@@ -96,11 +96,8 @@ amended_runs jobs t change number apart = ap (λ (o : Option (Job Ticket)). is_r
 
 amended_valued : (jobs : Jobs Ticket) (t : ℕ) (change : Job Ticket → Job Ticket) → ((found : Option (Job Ticket)) → is_valued found ≡ true → is_valued (option_map change found) ≡ true)
     → AreValued jobs → AreValued (amend jobs t change)
-amended_valued jobs t change keeps valued s = ap is_valued (job_changed jobs t change s (t == s) refl) ∙ by (t == s)
-  where
-    by : (b : Bool) → is_valued (if b then option_map change (get jobs s) else get jobs s) ≡ true
-    by true = keeps (get jobs s) (valued s)
-    by false = valued s
+amended_valued jobs t change keeps valued s =
+    ap is_valued (job_changed jobs t change s (t == s) refl) ∙ valued_if (t == s) (option_map change (get jobs s)) (get jobs s) (keeps (get jobs s) (valued s)) (valued s)
 
 park_valued : (ticket : Ticket) (found : Option (Job Ticket)) → is_valued found ≡ true → is_valued (option_map (entry_after_park ticket) found) ≡ true
 park_valued ticket None has = refl
@@ -121,14 +118,7 @@ return_valued ticket (Some job) = refl
 
 returned_valued : (jobs : Jobs Ticket) (t : ℕ) (ticket : Ticket) → AreValued jobs → AreValued (amend (amend jobs t (entry_after_park ticket)) t entry_after_requeue)
 returned_valued jobs t ticket valued s =
-    ap is_valued (job_changed (amend jobs t (entry_after_park ticket)) t entry_after_requeue s (t == s) refl)
-    ∙ ap (λ (o : Option (Job Ticket)). is_valued (if t == s then option_map entry_after_requeue o else o)) (job_changed jobs t (entry_after_park ticket) s (t == s) refl) ∙ by (t == s)
-  where
-    by : (b : Bool)
-        → is_valued (if b then option_map entry_after_requeue (if b then option_map (entry_after_park ticket) (get jobs s) else get jobs s)
-        else (if b then option_map (entry_after_park ticket) (get jobs s) else get jobs s)) ≡ true
-    by true = return_valued ticket (get jobs s)
-    by false = valued s
+    ap is_valued (changed_twice jobs t (entry_after_park ticket) entry_after_requeue s (t == s) refl) ∙ valued_if (t == s) _ (get jobs s) (return_valued ticket (get jobs s)) (valued s)
 
 -- the job is queued again
 pub return_ready : (crew : Crew) (v : ℕ) (held : Held) (ticket : Ticket) (pass : WorkerPass) → IsReady crew → hand_at crew.hands v ≡ Holds held
@@ -160,11 +150,7 @@ queued_runs : (found : Option (Job Ticket)) (job : Job Ticket) (place : ℕ) →
 queued_runs found job place there idle runs = let bad : true ≡ false = sym (runs_at place found runs) ∙ ap is_running_job there ∙ idle in cc
 
 taken_valued : (jobs : Jobs Ticket) (t : ℕ) (job : Job Ticket) → AreValued jobs → AreValued (insert jobs t (entry_after_take job))
-taken_valued jobs t job valued s = ap is_valued (job_put jobs t (entry_after_take job) s (t == s) refl) ∙ by (t == s)
-  where
-    by : (b : Bool) → is_valued (if b then Some (entry_after_take job) else get jobs s) ≡ true
-    by true = refl
-    by false = valued s
+taken_valued jobs t job valued s = ap is_valued (job_put jobs t (entry_after_take job) s (t == s) refl) ∙ valued_if (t == s) (Some (entry_after_take job)) (get jobs s) refl (valued s)
 
 module _ (may_answer : ℕ → Bool → Type 0) (crew : Crew) (pool : JobPool) (v : ℕ) (pass : WorkerPass) (turn : JobNumber) (ticket : Ticket) (to_drop : Bool) (stage : Stage) (growth : Growth)
     (ready : IsReady crew) (at : hand_at crew.hands v ≡ Free pass) (takes : TakesFront may_answer crew.pool turn ticket to_drop growth pool) where

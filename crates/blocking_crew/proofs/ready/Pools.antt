@@ -1,10 +1,10 @@
 -- What each change of a crew's pool keeps.
-use Rattle.std.proofs.Common.{◌≡◌, ℕ, ◌+◌, ◌==◌, ◌||◌, Bool, true, false, refl, sym, ap, ◌∙◌, subst, [], ◌∷◌, Option, Some, None, Result, Ok, Err, arith}
-use Rattle.std.specs.Prelude.{option_map, is_some}
+use Rattle.std.proofs.Common.{◌≡◌, ℕ, ◌==◌, ◌||◌, Bool, true, false, refl, ap, ◌∙◌, [], ◌∷◌, Option, Some, None, Result, Ok, Err, arith}
+use Rattle.std.specs.Prelude.{option_map}
 use Rattle.std.specs.FinMap.{get}
 use Rattle.std.proofs.lemmas.Bool.{eqb-true, eq-eqb}
 use Rattle.blocking_pool.specs.Growth.{Growth}
-use Rattle.blocking_pool.specs.Jobs.{Job, Jobs, JobNumber, if_at, is_running, is_parked, is_parked_job, standing_of, entry_after_wake, entry_after_cancel, entry_with, new_job, value_at, job_of}
+use Rattle.blocking_pool.specs.Jobs.{Job, Jobs, JobNumber, if_at, is_parked, is_parked_job, standing_of, entry_after_wake, entry_after_cancel, entry_with, new_job, value_at, job_of}
 use Rattle.blocking_pool.specs.Lists.{is_in}
 use Rattle.blocking_pool.specs.Pools.{with_job}
 use Rattle.blocking_pool.specs.Wakes.{wake_of, cancel_of}
@@ -12,38 +12,26 @@ use Rattle.blocking_pool.specs.declared.pool.answer.Refusal.{Refusal}
 use Rattle.blocking_pool.specs.declared.pool.answer.Refusal.TheVariants.{Memory, NoWorker, Numbers}
 use Rattle.blocking_pool.specs.declared.pool.answer.Woke.{Woke}
 use Rattle.blocking_pool.specs.declared.pool.answer.Woke.TheVariants.{Entered, Marked, Nothing}
-use Rattle.blocking_pool.specs.declared.pool.standing.Standing.{Standing}
 use Rattle.blocking_pool.specs.declared.pool.standing.Standing.TheVariants.{Parked}
-use Rattle.blocking_crew.specs.Tickets.{JobPool, new_ticket, ticket_after_mark, pool_after_mark_of, pool_after_mark, pool_after_let_go, AddsTo, Wakes, WakesTo, Cancels, CancelsTo, EntersAgain, SweepsTo, SweepsIf, to_sweep}
+use Rattle.blocking_crew.specs.Tickets.{JobPool, new_ticket, ticket_after_mark, pool_after_mark_of, pool_after_mark, pool_after_let_go, is_valued, AddsTo, Wakes, WakesTo, Cancels, CancelsTo, EntersAgain, SweepsTo, SweepsIf, to_sweep}
 use Rattle.blocking_crew.specs.declared.ticket.Ticket.{Ticket}
-use Rattle.blocking_crew.proofs.growth.Sweeps.{sweep_keeps, sweep_levels, sweeps_if_keeps, sweeps_if_levels}
-use Rattle.blocking_crew.proofs.jobs.Kept.{AreKept, changed_kept, with_ticket, all_kept, kept_then, amended_kept, inserted_kept, requeued_kept}
+use Rattle.blocking_crew.proofs.growth.Sweeps.{sweep_keeps, left_by, sweeps_if_keeps, sweeps_if_levels}
+use Rattle.blocking_crew.proofs.jobs.Kept.{changed_kept, with_ticket, all_kept, kept_then, amended_kept, inserted_kept, requeued_kept}
 use Rattle.blocking_crew.proofs.jobs.Lookups.{job_changed, woken_is, cancelled_is, stands_at}
 use Rattle.blocking_crew.proofs.ready.Changes.{PoolKept}
 
 -- the same pool
 pub same_pool : (old new : JobPool) → new ≡ old → PoolKept old new
-same_pool old new same = record {
-  jobs = subst (AreKept old.jobs) (sym (ap (λ (p : JobPool). p.jobs) same)) (all_kept old.jobs);
-  level = let idle = ap (λ (p : JobPool). p.counts.idle) same in let arriving = ap (λ (p : JobPool). p.counts.arriving) same in omega (arith, idle, arriving);
-}
-
--- the jobs change so, and the counts grow
-grown_pool : (old new : JobPool) (growth : Growth) → new.counts.idle ≡ old.counts.idle + growth.started → new.counts.arriving ≡ old.counts.arriving + growth.started
-    → AreKept old.jobs new.jobs → PoolKept old new
-grown_pool old new growth idle arriving kept = record { jobs = kept; level = omega (arith, idle, arriving) }
+same_pool old new same = rw same (record { jobs = all_kept old.jobs; level = refl })
 
 -- ---- new jobs
 
 pub adds_keep : (may_answer : ℕ → Bool → Type 0) (old new : JobPool) (added : Result JobNumber Refusal) (growth : Growth) → AddsTo may_answer old added growth new → PoolKept old new
 adds_keep may_answer old new (Ok number) growth adds =
-    grown_pool old new growth (ap (λ (p : JobPool). p.counts.idle) adds.after_is) (ap (λ (p : JobPool). p.counts.arriving) adds.after_is)
-    (subst (AreKept old.jobs) (sym (ap (λ (p : JobPool). p.jobs) adds.after_is)) (inserted_kept old.jobs old.next_serial (new_job number.place new_ticket) adds.unused refl))
+    rw adds.after_is (record { jobs = inserted_kept old.jobs old.next_serial (new_job number.place new_ticket) adds.unused refl; level = omega arith })
 adds_keep may_answer old new (Err Numbers) growth adds = same_pool old new adds.2
 adds_keep may_answer old new (Err Memory) growth adds = same_pool old new adds.1
-adds_keep may_answer old new (Err NoWorker) growth adds =
-    grown_pool old new growth (ap (λ (p : JobPool). p.counts.idle) adds.after_is) (ap (λ (p : JobPool). p.counts.arriving) adds.after_is)
-    (subst (AreKept old.jobs) (sym (ap (λ (p : JobPool). p.jobs) adds.after_is)) (all_kept old.jobs))
+adds_keep may_answer old new (Err NoWorker) growth adds = rw adds.after_is (record { jobs = all_kept old.jobs; level = omega arith })
 
 -- ---- wakes and cancels
 
@@ -60,20 +48,15 @@ one_parked jobs t parked s found = by (s == t) refl found
 
 enters_keep : (may_answer : ℕ → Bool → Type 0) (old new : JobPool) (t : ℕ) (growth : Growth) → is_parked_job (get old.jobs t) ≡ true → EntersAgain may_answer old (t ∷ []) growth new → PoolKept old new
 enters_keep may_answer old new t growth parked enters =
-    grown_pool old new growth (ap (λ (p : JobPool). p.counts.idle) enters.after_is) (ap (λ (p : JobPool). p.counts.arriving) enters.after_is)
-    (subst (AreKept old.jobs) (sym (ap (λ (p : JobPool). p.jobs) enters.after_is)) (requeued_kept old.jobs (t ∷ []) (one_parked old.jobs t parked)))
+    rw enters.after_is (record { jobs = requeued_kept old.jobs (t ∷ []) (one_parked old.jobs t parked); level = omega arith })
 
 -- a flag of a job
 flag_keeps : (old new : JobPool) (t : ℕ) (change : Job Ticket → Job Ticket) → ((job : Job Ticket) → (change job).standing ≡ job.standing) → ((job : Job Ticket) → (change job).place ≡ job.place)
     → ((job : Job Ticket) → (change job).value ≡ job.value) → new ≡ with_job old t change → PoolKept old new
-flag_keeps old new t change standing place value is = record {
-  jobs =
-      subst (AreKept old.jobs) (sym (ap (λ (p : JobPool). p.jobs) is))
-      (amended_kept old.jobs t change
-      (changed_kept change standing place (λ job has. ap (λ (s : Standing). is_running s || is_some (change job).value) (standing job) ∙ ap (λ (v : Option Ticket). is_running job.standing || is_some v) (value job) ∙ has)
-      (get old.jobs t)));
-  level = let idle : new.counts.idle ≡ old.counts.idle = ap (λ (p : JobPool). p.counts.idle) is in let arriving : new.counts.arriving ≡ old.counts.arriving = ap (λ (p : JobPool). p.counts.arriving) is in omega (arith, idle, arriving);
-}
+flag_keeps old new t change standing place value is = rw is (record { jobs = amended_kept old.jobs t change (changed_kept change standing place has_value (get old.jobs t)); level = refl })
+  where
+    has_value : (job : Job Ticket) → is_valued (Some job) ≡ true → is_valued (Some (change job)) ≡ true
+    has_value job has = rw (standing job, value job) has
 
 wake_keeps : (may_answer : ℕ → Bool → Type 0) (old new : JobPool) (number : JobNumber) (woke : Woke) (growth : Growth) → woke ≡ wake_of (standing_of old.jobs number)
     → WakesTo may_answer old number.serial woke growth new → PoolKept old new
@@ -114,11 +97,11 @@ cancels_keep may_answer old new number woke growth cancels = cancel_keeps may_an
 -- ---- sweeps and marks
 
 pub sweep_keeps_pool : (may_answer : ℕ → Bool → Type 0) (old new : JobPool) (growth : Growth) → SweepsTo may_answer old (to_sweep old) growth new → PoolKept old new
-sweep_keeps_pool may_answer old new growth sweeps = record { jobs = sweep_keeps may_answer old new growth sweeps; level = (sweep_levels may_answer old new growth sweeps).level }
+sweep_keeps_pool may_answer old new growth sweeps = record { jobs = sweep_keeps may_answer old new growth sweeps; level = (left_by may_answer old new (to_sweep old) growth sweeps).level }
 
 pub sweep_if_keeps_pool : (timed_out : Bool) (may_answer : ℕ → Bool → Type 0) (old new : JobPool) (growth : Growth) → SweepsIf timed_out may_answer old growth new → PoolKept old new
 sweep_if_keeps_pool timed_out may_answer old new growth sweeps =
-    record { jobs = sweeps_if_keeps timed_out may_answer old new growth sweeps; level = (sweeps_if_levels timed_out may_answer old new growth sweeps).level }
+    record { jobs = sweeps_if_keeps timed_out may_answer old new growth sweeps; level = sweeps_if_levels timed_out may_answer old new growth sweeps }
 
 mark_of_keeps : (pool : JobPool) (number : JobNumber) (value : Option Ticket) → PoolKept pool (pool_after_mark_of pool number value)
 mark_of_keeps pool number None = same_pool pool pool refl

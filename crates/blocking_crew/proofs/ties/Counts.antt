@@ -1,9 +1,9 @@
 -- Each move keeps the counts of a crew what the past tells.
-use Rattle.std.proofs.Common.{◌≡◌, ◌≢◌, ℕ, ◌<◌, ◌≤◌, ◌+◌, ◌-◌, ◌==◌, min, List, [], ◌∷◌, ◌++◌, Bool, true, false, cond, length, length-append, length-set, refl, sym, ap, ◌∙◌, subst, ap₂, arith, if◌then◌else◌, Option, Some, None, zero, suc}
+use Rattle.std.proofs.Common.{◌≡◌, ℕ, ◌<◌, ◌≤◌, ◌+◌, ◌-◌, ◌==◌, min, List, [], ◌∷◌, ◌++◌, Bool, true, false, cond, length, length-append, length-set, refl, sym, ap, ◌∙◌, ap₂, arith, if◌then◌else◌, Option, Some, None, zero, suc}
 use Rattle.std.specs.Prelude.{◌||◌, not, filter, Err}
-use Rattle.std.proofs.lemmas.Bool.{eqb-true, eqb-false}
+use Rattle.std.proofs.lemmas.Bool.Decides.{nat_tests}
 use Rattle.blocking_pool.specs.Counts.{Counts, limit_of, louder, after_pickup, after_release, after_stop}
-use Rattle.blocking_pool.specs.Growth.{greatest, Growth, after_growth, limit_after, number_after}
+use Rattle.blocking_pool.specs.Growth.{greatest, Growth, limit_after, number_after}
 use Rattle.blocking_pool.specs.Jobs.{one_if}
 use Rattle.blocking_pool.specs.PoolAnswers.{is_empty}
 use Rattle.blocking_pool.specs.Pools.{without_job}
@@ -44,55 +44,36 @@ pub added_is : (n m : ℕ) → added n m ≡ n + m
 added_is n zero = omega arith
 added_is n (suc m) = refl
 
-number_by : (c : Bool) (bound number before : ℕ) → (number == bound) ≡ c → number ≡ min (1 + before) bound → cond c number (number + 1) ≡ min (1 + suc before) bound
-number_by true bound number before test is = let same = eqb-true number bound test in omega (arith, same, is)
-number_by false bound number before test is =
-    let other : number ≢ bound = eqb-false number bound test in
-    omega (arith, other, is)
+number_if : (r : Bool) (n : ℕ) → number_after n r ≡ (if r then if n == greatest then n else n + 1 else n)
+number_if true n = refl
+number_if false n = refl
 
-number_is : (r : Bool) (number before : ℕ) → number ≡ min (1 + before) greatest → number_after number r ≡ min (1 + cond r (suc before) before) greatest
-number_is false number before is = is
-number_is true number before is = number_by (number == greatest) greatest number before refl is
-
-moved_by : (bound first begun refusals started : ℕ) → first ≡ min (1 + begun + refusals) bound → first + started ≤ bound → first + started ≡ min (1 + (begun + started + refusals)) bound
-moved_by bound first begun refusals started is le = omega (arith, is, le)
-
-more_by : (r : Bool) (bound begun refusals : ℕ) → min (1 + cond r (suc (begun + refusals)) (begun + refusals)) bound ≡ min (1 + begun + cond r (suc refusals) refusals) bound
-more_by true bound begun refusals = omega arith
-more_by false bound begun refusals = omega arith
-
-within : (bound first before : ℕ) → first ≡ min (1 + before) bound → first ≤ bound
-within bound first before is = omega (arith, is)
-
-refused_more : (r : Bool) (now : Moment) (past : List Moment) → length (cond r (now ∷ past) past) ≡ cond r (suc (length past)) (length past)
-refused_more true now past = refl
-refused_more false now past = refl
+-- the number of the next start, after these starts and the one that was refused, if one was
+next_by : (r : Bool) (bound first started begun refusals : ℕ) → first ≡ min (1 + begun + refusals) bound → (first ≤ bound → first + started ≤ bound)
+    → (if r then if first + started == bound then first + started else first + started + 1 else first + started) ≡ min (1 + (begun + started) + (refusals + one_if r)) bound
+next_by r bound first started begun refusals is within = grind (arith, nat_tests, is, within)
 
 -- ---- how a move changes the counts
 
 -- and a worker stops after it
 stop_grew : (rings : Bool) (old between new : Counts) (growth : Growth) (grew : Bool) → 0 < between.idle → between.idle ≤ between.workers → new ≡ after_stop rings between → GrewBy 0 old between growth grew → GrewBy 1 old new growth grew
 stop_grew rings old between new growth grew some fewer stopped g =
-    let w : new.workers ≡ between.workers - 1 = ap (λ (c : Counts). c.workers) stopped in
-    let i : new.idle ≡ between.idle - 1 = ap (λ (c : Counts). c.idle) stopped in
-    let most : limit_of new ≡ limit_of between = ap limit_of stopped in
     let gw = g.workers in
     let gi = g.idle in
-    record {
-      workers = omega (arith, w, gw, some, fewer);
-      idle = omega (arith, i, gi, some);
-      arriving = ap (λ (c : Counts). c.arriving) stopped ∙ g.arriving;
-      setting = ap (λ (c : Counts). c.setting) stopped ∙ g.setting;
-      most = most ∙ g.most;
-      limit = ap (λ (c : Counts). c.limit) stopped ∙ g.limit ∙ ap (λ l. if grew then Some l else old.limit) (sym most);
+    rw stopped (record {
+      workers = omega (arith, gw, some, fewer);
+      idle = omega (arith, gi, some);
+      arriving = g.arriving;
+      setting = g.setting;
+      most = g.most;
+      limit = g.limit;
       none = g.none;
-      next = ap (λ (c : Counts). c.next_worker) stopped ∙ g.next;
+      next = g.next;
       numbers = g.numbers;
-    }
+    })
 
 count_one : (b : Bool) (now : Moment) (past : List Moment) → length (cond b (now ∷ past) past) ≡ length past + one_if b
-count_one true now past = omega arith
-count_one false now past = omega arith
+count_one b now past = grind arith
 
 module _ (setting : ℕ) (plan : List Bool) (crew : Crew) (past : List Moment) (step : Step) (owner : Option ℕ) (h : CrewHolds setting plan crew past) where
   abbrev now : Party → Option ℕ → Act → Growth → Moment
@@ -110,9 +91,7 @@ module _ (setting : ℕ) (plan : List Bool) (crew : Crew) (past : List Moment) (
       omega (arith, one, all)
 
   known_by : (grew had : Bool) (most later : ℕ) (new : Option ℕ) → new ≡ (if grew then Some later else (if had then Some most else None)) → (grew ≡ false → later ≡ most) → new ≡ (if grew || had then Some later else None)
-  known_by true had most later new is same = is
-  known_by false true most later new is same = is ∙ ap Some (sym (same refl))
-  known_by false false most later new is same = is
+  known_by grew had most later new is same = grind (arith, is, same)
 
   -- the counts after a move at which the pool grew or didn't, by how many workers were idle before it and run now
   counted_by : (gone free : ℕ) (new : Crew) (last : Moment) → Steady gone last.event.act
@@ -123,6 +102,7 @@ module _ (setting : ℕ) (plan : List Bool) (crew : Crew) (past : List Moment) (
       let more = added_is (starts past) last.event.started in
       let stopped = count_one (is_stop last.event.act) last (filter (λ (m : Moment). is_stop m.event.act) past) in
       let came = count_one (is_arrival last.event.act) last (filter (λ (m : Moment). is_arrival m.event.act) past) in
+      let refused = count_one last.event.start_refused last (filter (λ (m : Moment). m.event.start_refused) past) in
       let none : one_if (is_arrival last.event.act) ≡ 0 = ap one_if steady.came in
       let stops_now : all_stops (last ∷ past) ≡ all_stops past + gone = stopped ∙ ap (λ n. all_stops past + n) steady.stop in
       let arrived : arrivals (last ∷ past) ≡ arrivals past = omega (arith, came, none) in
@@ -149,11 +129,9 @@ module _ (setting : ℕ) (plan : List Bool) (crew : Crew) (past : List Moment) (
             ∙ ap (λ b. if b || grows past last.event.act || has_limit past then Some (limit setting (last ∷ past)) else None) (sym steady.set);
         next_is =
             g.next
-            ∙ number_is last.event.start_refused (crew.pool.counts.next_worker + last.event.started) (starts past + last.event.started + refused_starts past)
-            (moved_by greatest crew.pool.counts.next_worker (starts past) (refused_starts past) last.event.started c.next_is
-            (g.numbers (within greatest crew.pool.counts.next_worker (starts past + refused_starts past) (c.next_is ∙ ap (λ n. min n greatest) (omega arith)))))
-            ∙ more_by last.event.start_refused greatest (starts past + last.event.started) (refused_starts past)
-            ∙ ap₂ (λ a b. min (1 + a + b) greatest) (sym more) (sym (refused_more last.event.start_refused last (filter (λ (m : Moment). m.event.start_refused) past)));
+            ∙ number_if last.event.start_refused (crew.pool.counts.next_worker + last.event.started)
+            ∙ next_by last.event.start_refused greatest crew.pool.counts.next_worker last.event.started (starts past) (refused_starts past) c.next_is g.numbers
+            ∙ ap₂ (λ a b. min (1 + a + b) greatest) (sym more) (sym refused);
       }
 
   -- ---- hands
@@ -172,7 +150,7 @@ module _ (setting : ℕ) (plan : List Bool) (crew : Crew) (past : List Moment) (
   entered last new e =
       let a = enters_so past last.event.act e.only in
       let same : running (last ∷ past) ≡ running past = ap₂ (λ (gone come : List ℕ). joined (without_all gone (running past)) come) a.ended a.taken in
-      counted_by 0 crew.pool.counts.idle new last a.steady (subst (λ b. GrewBy 0 crew.pool.counts new.pool.counts (growth_in last) b) (sym a.grew_is) e.entered.grew)
+      counted_by 0 crew.pool.counts.idle new last a.steady (rw a.grew_is e.entered.grew)
       (h.tied.counted.idle_are ∙ ap (λ (ns : List ℕ). crew.pool.counts.idle + length ns) (sym same)) e.hands (e.busy ∙ h.tied.counted.busy_are ∙ ap length (sym same))
 
   arrives : (pass : WorkerPass) → 0 < crew.pool.counts.arriving → Counted setting (after crew (Arrives pass)) (moment_of crew (Arrives pass) step owner ∷ past)
@@ -219,8 +197,7 @@ module _ (setting : ℕ) (plan : List Bool) (crew : Crew) (past : List Moment) (
       let taken = busy_free v pass (Holds new) free in
       let longer : length (running (last ∷ past)) ≡ length (running past) + 1 = ap length busy ∙ length-append (running past) (s ∷ []) in
       counted_by 0 (crew.pool.counts.idle - 1) (record { pool = pool; hands = with_hand crew.hands v (Holds new) }) last steady
-      (subst (λ (g : Growth). GrewBy 0 (after_pickup crew.pool.counts) pool.counts g (grows past last.event.act)) (sym same)
-      (subst (λ b. GrewBy 0 (after_pickup crew.pool.counts) pool.counts growth b) (sym grew) (grew_so (IsPlanned plan) ready (after_pickup crew.pool.counts) pool.counts growth starting counts)))
+      (rw (same, grew) (grew_so (IsPlanned plan) ready (after_pickup crew.pool.counts) pool.counts growth starting counts))
       (omega (arith, idle_are, longer, some)) (length-set crew.hands (v - 1) (Holds new)) (omega (arith, taken, longer))
 
   ended : (v : ℕ) (held : Held) (how : Standing) (pool : JobPool) (pass : WorkerPass) (bell : _) → hand_at crew.hands v ≡ Holds held → pool.counts ≡ record (after_release crew.pool.counts) { bell = bell }
@@ -250,7 +227,7 @@ module _ (setting : ℕ) (plan : List Bool) (crew : Crew) (past : List Moment) (
   unstaffed : (who : Party) (growth : Growth) (pool : JobPool) → FindsNoWorker (IsPlanned plan) crew.pool growth pool → Counted setting (record crew { pool = pool }) (now who None (Refused NoWorker) growth ∷ past)
   unstaffed who growth pool finds =
       counted_by 0 crew.pool.counts.idle (record crew { pool = pool }) (now who None (Refused NoWorker) growth) (record { came = refl; stop = refl; most = λ l. refl; set = refl })
-      (grew_so (IsPlanned plan) (length crew.pool.queue + 1) crew.pool.counts pool.counts growth finds.starts (ap (λ (p : JobPool). record p.counts { bell = (after_growth crew.pool.counts growth).bell }) finds.after_is))
+      (grew_so (IsPlanned plan) (length crew.pool.queue + 1) crew.pool.counts pool.counts growth finds.starts (rw finds.after_is refl))
       h.tied.counted.idle_are refl h.tied.counted.busy_are
 
   -- ---- every move
@@ -265,10 +242,10 @@ module _ (setting : ℕ) (plan : List Bool) (crew : Crew) (past : List Moment) (
   counts_after (Arrives pass) may = arrives pass may
   counts_after (TakesJob v old true turn ticket growth pool) may =
       takes v old _ _ turn.serial (length may.1.rest) growth pool may.0 (record { came = refl; stop = refl; most = λ l. refl; set = refl }) refl refl refl may.1.starts
-      (ap (λ (p : JobPool). record p.counts { bell = (after_growth (after_pickup crew.pool.counts) growth).bell }) may.1.after_is)
+      (rw may.1.after_is refl)
   counts_after (TakesJob v old false turn ticket growth pool) may =
       takes v old _ _ turn.serial (length may.1.rest) growth pool may.0 (record { came = refl; stop = refl; most = λ l. refl; set = refl }) refl refl refl may.1.starts
-      (ap (λ (p : JobPool). record p.counts { bell = (after_growth (after_pickup crew.pool.counts) growth).bell }) may.1.after_is)
+      (rw may.1.after_is refl)
   counts_after (EndsTurn v held pass) may = ended v held (standing_after (outcome_of held.stage)) (without_job crew.pool held.turn.serial) pass crew.pool.counts.bell may.0 refl
   counts_after (Parks v held ticket (parking.Parked pass) pool) may = ended v held Parked pool pass crew.pool.counts.bell may.0 (ap (λ (p : JobPool). p.counts) may.2.effect.2)
   counts_after (Parks v held ticket (parking.Queued pass) pool) may = ended v held Queued pool pass (louder One crew.pool.counts.bell) may.0 (ap (λ (p : JobPool). p.counts) may.2.effect.2)

@@ -1,12 +1,13 @@
 -- An entry of the pool by what was seen of its job, over plain values: what it tells, and each kind of change.
 use Rattle.std.proofs.Common.{◌≡◌, Bool, true, false, refl, sym, ap, ◌∙◌, subst, Option, Some, None, ◌&&◌, ◌||◌, not}
 use Rattle.std.specs.Prelude.{option_map}
+use Rattle.std.proofs.Math.Bool.{and-true}
 use Rattle.blocking_pool.specs.Jobs.{Job as Entry, entry_after_requeue, is_running_job, is_parked as is_parked_so}
 use Rattle.blocking_pool.specs.declared.pool.standing.Standing.{Standing}
 use Rattle.blocking_pool.specs.declared.pool.standing.Standing.TheVariants.{Queued, Running, Parked, Done, Dropped}
 use Rattle.blocking_pool.proofs.Standings.{running_is}
 use Rattle.blocking_laws.specs.Jobs.{is_parked}
-use Rattle.blocking_crew.specs.Tickets.{is_due_to_sweep, is_marked_ticket, ticket_after_mark}
+use Rattle.blocking_crew.specs.Tickets.{is_due_to_sweep, is_marked_ticket}
 use Rattle.blocking_crew.specs.Ties.{ValueAs, AbsentAs, FiledAs, has_ticket}
 use Rattle.blocking_crew.specs.declared.ticket.Ticket.{Ticket}
 use Rattle.blocking_crew.proofs.ties.Lookups.{mark_ticket, mark_if}
@@ -24,8 +25,6 @@ filed_none None stand wake cancel mark ended filed none = refl
 filed_none (Some entry) stand wake cancel mark ended filed none = let bad = sym none ∙ filed.0 in absurd cc
 
 due_value : (at : Standing) (value : Option Ticket) (mark : Bool) → ValueAs at value mark → (is_parked_so at && is_marked_ticket value) ≡ (is_parked_so at && mark)
-due_value Queued value mark v = refl
-due_value Running value mark v = refl
 due_value Parked value mark v = ap is_marked_ticket v
 due_value _ value mark v = refl
 
@@ -34,9 +33,6 @@ parked_as Queued = refl
 parked_as _ = refl
 
 due_absent : (stand : Option Standing) (wake cancel mark ended : Bool) → AbsentAs stand wake cancel mark ended → false ≡ (is_parked stand && mark)
-due_absent None wake cancel mark ended a = refl
-due_absent (Some Queued) wake cancel mark ended a = absurd a
-due_absent (Some Running) wake cancel mark ended a = absurd a
 due_absent (Some Parked) wake cancel mark ended a = absurd a
 due_absent _ wake cancel mark ended a = refl
 
@@ -62,30 +58,26 @@ requeued_filed (Some entry) stand wake cancel mark ended filed parked =
     let same : entry.standing ≡ Parked = (let both : Some entry.standing ≡ Some Parked = sym filed.0 ∙ parked in cc) in
     (refl, filed.1, filed.2, filed.3, subst (λ st. ValueAs st entry.value mark) same filed.4)
 
-marked_value : (b held : Bool) (stand : Standing) (value : Option Ticket) (mark : Bool) → (has_ticket (Some stand) ≡ true → held ≡ b) → ValueAs stand value mark → ValueAs stand (mark_ticket b value) (held || mark)
-marked_value true held Queued value mark same v = ap (option_map ticket_after_mark) v ∙ ap (λ h. Some (record { is_marked = h || mark })) (sym (same refl))
-marked_value false held Queued value mark same v = v ∙ ap (λ h. Some (record { is_marked = h || mark })) (sym (same refl))
-marked_value true held Parked value mark same v = ap (option_map ticket_after_mark) v ∙ ap (λ h. Some (record { is_marked = h || mark })) (sym (same refl))
-marked_value false held Parked value mark same v = v ∙ ap (λ h. Some (record { is_marked = h || mark })) (sym (same refl))
-marked_value true held Running value mark same v = ap (option_map ticket_after_mark) v
-marked_value false held Running value mark same v = v
-marked_value b held _ value mark same v = absurd v
+marked_so : (b mark : Bool) → mark_ticket b (Some (record { is_marked = mark })) ≡ Some (record { is_marked = b || mark })
+marked_so true mark = refl
+marked_so false mark = refl
 
-going : (held ended : Bool) → ended ≡ false → (held && not ended) ≡ held
-going true ended e = ap not e
-going false ended e = refl
+unmarked_so : (b : Bool) → mark_ticket b None ≡ None
+unmarked_so true = refl
+unmarked_so false = refl
+
+marked_value : (b held : Bool) (stand : Standing) (value : Option Ticket) (mark : Bool) → (has_ticket (Some stand) ≡ true → held ≡ b) → ValueAs stand value mark → ValueAs stand (mark_ticket b value) (held || mark)
+marked_value b held Queued value mark same v = rw (same refl, v) (marked_so b mark)
+marked_value b held Parked value mark same v = rw (same refl, v) (marked_so b mark)
+marked_value b held Running value mark same v = rw v (unmarked_so b)
+marked_value b held _ value mark same v = absurd v
 
 -- the ticket of a job is marked where its holder lets it go while it is queued or parked
 pub marked_filed : (b held : Bool) (found : Option (Entry Ticket)) (stand : Option Standing) (wake cancel mark ended : Bool) → (has_ticket stand ≡ true → held ≡ b) → (stand ≡ None → held ≡ false)
     → FiledAs found stand wake cancel mark ended → FiledAs (option_map (mark_if b) found) stand wake cancel (held && not ended || mark) ended
-marked_filed b held None None wake cancel mark ended same nobody filed = (filed.0, filed.1, ap (λ h. h && not ended || mark) (nobody refl) ∙ filed.2, filed.3)
+marked_filed b held None None wake cancel mark ended same nobody filed = rw (nobody refl) filed
 marked_filed b held None (Some Done) wake cancel mark ended same nobody filed = filed
 marked_filed b held None (Some Dropped) wake cancel mark ended same nobody filed = filed
 marked_filed b held None _ wake cancel mark ended same nobody filed = absurd filed
-marked_filed b held (Some entry) stand wake cancel mark ended same nobody filed = (
-  filed.0,
-  filed.1,
-  filed.2,
-  filed.3,
-  subst (λ h. ValueAs entry.standing (mark_ticket b entry.value) (h || mark)) (sym (going held ended filed.3)) (marked_value b held entry.standing entry.value mark (λ has. same (ap has_ticket filed.0 ∙ has)) filed.4),
-)
+marked_filed b held (Some entry) stand wake cancel mark ended same nobody filed =
+    (filed.0, filed.1, filed.2, filed.3, rw (filed.3, and-true held) (marked_value b held entry.standing entry.value mark (λ has. same (ap has_ticket filed.0 ∙ has)) filed.4))

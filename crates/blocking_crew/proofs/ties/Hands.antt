@@ -9,7 +9,7 @@ use Rattle.blocking_pool.specs.declared.pool.standing.Standing.{Standing}
 use Rattle.blocking_pool.specs.declared.pool.standing.Standing.TheVariants.{Queued, Running, Parked}
 use Rattle.blocking_pool.specs.declared.pool.token.WorkerPass.{WorkerPass}
 use Rattle.blocking_laws.specs.Growth.{IsPlanned}
-use Rattle.blocking_laws.specs.Jobs.{standing, is_running}
+use Rattle.blocking_laws.specs.Jobs.{standing}
 use Rattle.blocking_laws.specs.Seen.{is_nothing}
 use Rattle.blocking_laws.specs.Steps.{is_there}
 use Rattle.blocking_laws.specs.Turns.{Turn, GoesOn, IsWaiting, MustGiveUp, HasGivenUp, turn, hand}
@@ -48,7 +48,7 @@ at_pushed : (row : List Hand) (u : ℕ) (h : Hand) (P : Hand → Type 0) → ((l
 at_pushed row u h P same other = subst P (sym (hand_pushed row u h)) (if_case (length row + 1 == u) P h (hand_at row u) same other)
 
 queued_not_running : (st : Option Standing) → st ≡ Some Queued → st ≡ Some Running → ⊥
-queued_not_running st one other = let bad : false ≡ true = sym (ap is_running one) ∙ ap is_running other in absurd cc
+queued_not_running st one other = cc
 
 module _ (setting : ℕ) (plan : List Bool) (crew : Crew) (past : List Moment) (step : Step) (owner : Option ℕ) (h : CrewHolds setting plan crew past) where
   abbrev now : Party → Option ℕ → Act → Growth → Moment
@@ -68,8 +68,7 @@ module _ (setting : ℕ) (plan : List Bool) (crew : Crew) (past : List Moment) (
     each = λ u.
         at_set crew.hands v u old new at (λ g. HandAs g (is_there (last ∷ past) u) (hand (last ∷ past) u))
         (λ e. subst (λ n. HandAs new (is_there (last ∷ past) n) (hand (last ∷ past) n)) (eqb-true v u e) here)
-        (λ e. let same = others u e in
-        subst (λ b. HandAs (hand_at crew.hands u) b (hand (last ∷ past) u)) (sym same.0) (subst (λ o. HandAs (hand_at crew.hands u) (is_there past u) o) (sym same.1) (h.tied.handed.each u)));
+        (λ e. rw ((others u e).0, (others u e).1) (h.tied.handed.each u));
     turn_is = λ u held.
         at_set crew.hands v u old new at (λ g. g ≡ Holds held → turn (last ∷ past) held.turn.serial ≡ turn_of held.stage)
         (λ e is. own_turn held is)
@@ -140,8 +139,8 @@ module _ (setting : ℕ) (plan : List Bool) (crew : Crew) (past : List Moment) (
       record {
         each = λ u.
             at_pushed row u (Free pass) (λ g. HandAs g (next == u || is_there past u) (hand past u))
-            (λ e. (ap (λ b. b || is_there past u) e, subst (λ n. hand past n ≡ None) (eqb-true next u e) none))
-            (λ e. subst (λ b. HandAs (hand_at row u) (b || is_there past u) (hand past u)) (sym e) (h.tied.handed.each u));
+            (λ e. rw e (refl, subst (λ n. hand past n ≡ None) (eqb-true next u e) none))
+            (λ e. rw e (h.tied.handed.each u));
         turn_is = λ u held.
             at_pushed row u (Free pass) (λ g. g ≡ Holds held → turn past held.turn.serial ≡ turn_of held.stage) (λ e is. absurd cc) (λ e is. h.tied.handed.turn_is u held is);
       }

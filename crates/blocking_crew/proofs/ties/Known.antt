@@ -2,7 +2,7 @@
 use Rattle.std.proofs.Common.{◌≡◌, ℕ, ◌+◌, ◌==◌, List, [], ◌∷◌, length, Bool, true, false, refl, sym, ap, ◌∙◌, subst, arith, Option, Some, None, inl, inr, if◌then◌else◌}
 use Rattle.std.specs.Prelude.{◌&&◌, not, nat_lt, is_some}
 use Rattle.std.specs.FinMap.{get}
-use Rattle.std.proofs.lemmas.Bool.{eq-eqb, ne_eqb, cases_eq}
+use Rattle.std.proofs.lemmas.Bool.{ne_eqb, cases_eq}
 use Rattle.std.proofs.lemmas.Bool.Decides.{nat_tests}
 use Rattle.blocking_pool.specs.Growth.{Growth}
 use Rattle.blocking_pool.specs.Jobs.{JobNumber, is_running_job, one_if}
@@ -31,21 +31,8 @@ unknown_is : (st : Option Standing) → one_if (is_some st) ≡ 0 → st ≡ Non
 unknown_is None e = refl
 unknown_is (Some how) e = absurd (omega (arith, e))
 
-one_more : (b : Bool) (n : ℕ) → n + 1 ≡ one_if b → n ≡ 0
-one_more true n e = omega (arith, e)
-one_more false n e = absurd (omega (arith, e))
-
-none_less : (b : Bool) (n : ℕ) → n + one_if b ≡ 0 → n ≡ 0
-none_less b n e = omega (arith, e)
-
 known_by : (k z l : Bool) → one_if k + one_if z ≡ one_if l → k ≡ (not z && l)
-known_by true true true e = absurd (omega (arith, e))
-known_by true true false e = absurd (omega (arith, e))
-known_by true false true e = refl
-known_by true false false e = absurd (omega (arith, e))
-known_by false true l e = refl
-known_by false false true e = absurd (omega (arith, e))
-known_by false false false e = refl
+known_by k z l e = grind (arith, e)
 
 -- a job that wasn't accepted is held by nobody
 held_by_none : (past : List Moment) (s : ℕ) → is_in s (accepted_jobs past) ≡ false → holder past s ≡ None
@@ -71,15 +58,16 @@ module _ (setting : ℕ) (plan : List Bool) (crew : Crew) (past : List Moment) (
   pub fresh : standing past crew.pool.next_serial ≡ None
   fresh =
       let n = crew.pool.next_serial in
-      let last : nat_lt n n ≡ false = grind (arith, nat_tests) in
-      let none : times n (accepted_jobs past) ≡ 0 = none_less (0 == n) (times n (accepted_jobs past)) (serials n ∙ ap one_if last) in
+      let all = serials n in
+      let none : times n (accepted_jobs past) ≡ 0 = grind (arith, nat_tests, all) in
       unknown_is (standing past n) (sym (known_so setting plan past h.laws n) ∙ none)
 
   -- nor does a job of the number 0
   pub none_zero : standing past 0 ≡ None
   none_zero =
-      let one : times 0 (accepted_jobs past) + 1 ≡ one_if (nat_lt 0 crew.pool.next_serial) = ap (λ b. times 0 (accepted_jobs past) + one_if b) (sym (eq-eqb 0 0 refl)) ∙ serials 0 in
-      unknown_is (standing past 0) (sym (known_so setting plan past h.laws 0) ∙ one_more (nat_lt 0 crew.pool.next_serial) (times 0 (accepted_jobs past)) one)
+      let all = serials 0 in
+      let none : times 0 (accepted_jobs past) ≡ 0 = grind (arith, nat_tests, all) in
+      unknown_is (standing past 0) (sym (known_so setting plan past h.laws 0) ∙ none)
 
   -- and the pool has none
   pub get_zero : get crew.pool.jobs 0 ≡ None

@@ -1,10 +1,9 @@
 -- Each move keeps the pool's queue that of the past, and the serials those of the jobs that were accepted.
-use Rattle.std.proofs.Common.{◌≡◌, ℕ, if◌then◌else◌, ◌||◌, List, [], ◌∷◌, ◌++◌, Bool, true, false, sym, ap, ◌∙◌, Option, Some, None, ◌+◌, length, length-append, refl, arith, suc, ap₂}
-use Rattle.std.specs.Prelude.{Ok, Err}
+use Rattle.std.proofs.Common.{◌≡◌, ℕ, if◌then◌else◌, ◌||◌, List, [], ◌∷◌, ◌++◌, Bool, true, false, sym, ap, ◌∙◌, Option, Some, None, refl, ap₂}
+use Rattle.std.specs.Prelude.{Err}
 use Rattle.blocking_pool.specs.Growth.{Growth}
-use Rattle.blocking_pool.specs.declared.pool.answer.Refusal.TheVariants.{Memory, NoWorker, Numbers}
-use Rattle.blocking_pool.specs.declared.pool.answer.Waited.TheVariants.{Stay, Stop}
-use Rattle.blocking_pool.specs.declared.pool.answer.Woke.TheVariants.{Entered, Marked, Nothing}
+use Rattle.blocking_pool.specs.declared.pool.answer.Refusal.TheVariants.{NoWorker}
+use Rattle.blocking_pool.specs.declared.pool.answer.Waited.TheVariants.{Stop}
 use Rattle.blocking_laws.specs.Growth.{IsPlanned}
 use Rattle.blocking_laws.specs.Queue.{queue, to_sweep, entered_by}
 use Rattle.blocking_laws.specs.Seen.{has_timed_out, is_nothing, joined, without_all}
@@ -14,19 +13,14 @@ use Rattle.blocking_laws.specs.declared.event.Party.{Party}
 use Rattle.blocking_laws.specs.declared.event.Party.TheVariants.{Worker}
 use Rattle.blocking_laws.specs.declared.step.Step.{Step}
 use Rattle.blocking_crew.specs.Crews.{Crew}
-use Rattle.blocking_crew.specs.Moves.{Move, Adds, Arrives, TakesJob, Works, EndsTurn, Parks, HasWaited, Sweeps, IsWoken, IsCancelled, IsLetGo, Tells, May, after, next_start, is_aside, SetsLimit}
-use Rattle.blocking_crew.specs.Tickets.{JobPool, no_growth, Accepts}
+use Rattle.blocking_crew.specs.Moves.{Move, Adds, Arrives, TakesJob, EndsTurn, Parks, HasWaited, May, after, next_start, is_aside, SetsLimit}
+use Rattle.blocking_crew.specs.Tickets.{JobPool, no_growth}
 use Rattle.blocking_crew.specs.Ties.{Lined, CrewHolds, moment_of, Numbered}
 use Rattle.blocking_crew.specs.declared.tickets.Parking.TheVariants as parking
-use Rattle.blocking_crew.proofs.ties.Acts.{now_with, plain, aside_plain, by_work, by_let_go, by_end, aside_or, enters_so}
-use Rattle.blocking_crew.proofs.jobs.Marks.{let_go_alone}
+use Rattle.blocking_crew.proofs.ties.Acts.{now_with, by_end, enters_so}
 use Rattle.blocking_crew.proofs.ties.Known.{front_out}
-use Rattle.blocking_crew.proofs.ties.Sweeps.{is_swept, is_swept_if}
-use Rattle.blocking_pool.specs.Jobs.{JobNumber}
-use Rattle.blocking_pool.specs.Sweeps.{serials_below}
-use Rattle.blocking_laws.specs.Jobs.{accepted_jobs}
-use Rattle.blocking_laws.specs.declared.event.Act.TheVariants.{Accepted}
-use Rattle.blocking_crew.proofs.ties.Entered.{Enters, enters, enters_aside, swept}
+use Rattle.blocking_crew.proofs.ties.Sweeps.{is_swept_if}
+use Rattle.blocking_crew.proofs.ties.Entered.{Enters, enters, enters_aside, kept, swept}
 
 module _ (setting : ℕ) (plan : List Bool) (crew : Crew) (past : List Moment) (step : Step) (owner : Option ℕ) (h : CrewHolds setting plan crew past) where
   abbrev now : Party → Option ℕ → Act → Growth → Moment
@@ -61,59 +55,20 @@ module _ (setting : ℕ) (plan : List Bool) (crew : Crew) (past : List Moment) (
 
   -- ---- the serials
 
-  -- no job was accepted
-  kept : (new : JobPool) (last : Moment) → new.next_serial ≡ crew.pool.next_serial → accepted_jobs (last ∷ past) ≡ accepted_jobs past → Numbered new (last ∷ past)
-  kept new last same none = record {
-    next = same ∙ h.tied.numbered.next ∙ ap (λ (ns : List ℕ). 1 + length ns) (sym none);
-    all_are = ap serials_below same ∙ h.tied.numbered.all_are ∙ ap (λ (ns : List ℕ). 0 ∷ ns) (sym none);
-  }
-
-  accepted : (who : Party) (number : JobNumber) (growth : Growth) (pool : JobPool) → Accepts (IsPlanned plan) crew.pool number growth pool → Numbered pool (now who None (Accepted number.serial) growth ∷ past)
-  accepted who number growth pool accepts =
-      let n = crew.pool.next_serial in
-      let next : pool.next_serial ≡ suc n = ap (λ (p : JobPool). p.next_serial) accepts.after_is ∙ omega arith in
-      let before = h.tied.numbered.next in
-      let longer = length-append (accepted_jobs past) (number.serial ∷ []) in
-      record {
-        next = omega (arith, next, before, longer);
-        all_are = ap serials_below next ∙ ap (λ (ns : List ℕ). ns ++ n ∷ []) h.tied.numbered.all_are ∙ ap (λ (s : ℕ). 0 ∷ (accepted_jobs past ++ s ∷ [])) (sym accepts.serial);
-      }
-
   -- an event that is nothing to the crew keeps them
   pub serials_aside : (who : Party) (act : Act) → (is_aside act || is_nothing act) ≡ true → Numbered crew.pool (now who None act no_growth ∷ past)
-  serials_aside who act is =
-      kept crew.pool _ refl (plain setting past step owner who None (next_start crew) no_growth act (aside_plain act is)).accepted
+  serials_aside who act is = (enters_aside setting plan crew past step owner h who act is).numbered
 
   -- Each move keeps the serials those of the jobs that were accepted.
   pub serials_after : (move : Move) → May (IsPlanned plan) crew move → Numbered (after crew move).pool (moment_of crew move step owner ∷ past)
-  serials_after (Adds who (Ok number) growth pool) may = accepted who number growth pool may
-  serials_after (Adds who (Err Memory) growth pool) may = kept pool _ (ap (λ (p : JobPool). p.next_serial) may.1) refl
-  serials_after (Adds who (Err Numbers) growth pool) may = kept pool _ (ap (λ (p : JobPool). p.next_serial) may.2) refl
-  serials_after (Adds who (Err NoWorker) growth pool) may = kept pool _ (ap (λ (p : JobPool). p.next_serial) may.after_is) refl
-  serials_after (TakesJob v old true turn ticket growth pool) may = kept pool _ (ap (λ (p : JobPool). p.next_serial) may.1.after_is) refl
-  serials_after (TakesJob v old false turn ticket growth pool) may = kept pool _ (ap (λ (p : JobPool). p.next_serial) may.1.after_is) refl
-  serials_after (Works v held act) may =
-      by_work (λ at act. Numbered crew.pool (now (Worker v) (Some held.turn.serial) act no_growth ∷ past))
-      (λ at act is same fits. kept crew.pool _ refl (plain setting past step owner (Worker v) (Some held.turn.serial) (next_start crew) no_growth act is).accepted)
-      (kept crew.pool _ refl refl) (λ w. kept crew.pool _ refl refl) held.stage act may.1
-  serials_after (EndsTurn v held pass) may = kept (after crew (EndsTurn v held pass)).pool _ refl refl
-  serials_after (Parks v held ticket (parking.Parked pass) pool) may = kept pool _ (ap (λ (p : JobPool). p.next_serial) may.2.effect.2) refl
-  serials_after (Parks v held ticket (parking.Queued pass) pool) may = kept pool _ (ap (λ (p : JobPool). p.next_serial) may.2.effect.2) refl
-  serials_after (Parks v held ticket (parking.HandedOut back) pool) may = kept pool _ (ap (λ (p : JobPool). p.next_serial) may.2.effect.2) refl
-  serials_after (HasWaited v pass end (Stay back) growth pool) may =
-      kept pool _ (ap (λ (p : JobPool). p.next_serial) may.1.answer.1 ∙ (is_swept_if setting plan crew past h (IsPlanned plan) (has_timed_out end) growth may.1.between may.1.sweep).serial) refl
+  serials_after (Adds who (Err NoWorker) growth pool) may = kept setting plan crew past step owner h pool _ (rw may.after_is refl) refl
+  serials_after (Arrives pass) may = kept setting plan crew past step owner h (after crew (Arrives pass)).pool _ refl refl
+  serials_after (TakesJob v old true turn ticket growth pool) may = kept setting plan crew past step owner h pool _ (rw may.1.after_is refl) refl
+  serials_after (TakesJob v old false turn ticket growth pool) may = kept setting plan crew past step owner h pool _ (rw may.1.after_is refl) refl
+  serials_after (EndsTurn v held pass) may = kept setting plan crew past step owner h (after crew (EndsTurn v held pass)).pool _ refl refl
+  serials_after (Parks v held ticket (parking.Parked pass) pool) may = kept setting plan crew past step owner h pool _ (rw may.2.effect.2 refl) refl
+  serials_after (Parks v held ticket (parking.Queued pass) pool) may = kept setting plan crew past step owner h pool _ (rw may.2.effect.2 refl) refl
   serials_after (HasWaited v pass end Stop growth pool) may =
-      kept pool _ (ap (λ (p : JobPool). p.next_serial) may.1.answer.1 ∙ (is_swept_if setting plan crew past h (IsPlanned plan) (has_timed_out end) growth may.1.between may.1.sweep).serial) refl
-  serials_after (Sweeps growth pool) may = kept pool _ (is_swept setting plan crew past h (IsPlanned plan) growth pool may).serial refl
-  serials_after (IsWoken who number Entered growth pool) may = kept pool _ (ap (λ (p : JobPool). p.next_serial) may.effect.after_is) refl
-  serials_after (IsWoken who number Marked growth pool) may = kept pool _ (ap (λ (p : JobPool). p.next_serial) may.effect.1) refl
-  serials_after (IsWoken who number Nothing growth pool) may = kept pool _ (ap (λ (p : JobPool). p.next_serial) may.effect.1) refl
-  serials_after (IsCancelled who number Entered growth pool) may = kept pool _ (ap (λ (p : JobPool). p.next_serial) may.effect.after_is) refl
-  serials_after (IsCancelled who number Marked growth pool) may = kept pool _ (ap (λ (p : JobPool). p.next_serial) may.effect.1) refl
-  serials_after (IsCancelled who number Nothing growth pool) may = kept pool _ (ap (λ (p : JobPool). p.next_serial) may.effect.1) refl
-  serials_after (IsLetGo who act number) may =
-      let new = (after crew (IsLetGo who act number)).pool in
-      let same : new.next_serial ≡ crew.pool.next_serial = ap (λ (p : JobPool). p.next_serial) (let_go_alone crew.pool number) in
-      by_let_go (λ act. Numbered new (now who None act no_growth ∷ past)) (kept new _ same refl) (kept new _ same refl) act may
-  serials_after (Tells who act) may = serials_aside who act (aside_or act may)
-  serials_after move may = kept (after crew move).pool _ refl refl
+      kept setting plan crew past step owner h pool _ (rw may.1.answer.1 (is_swept_if setting plan crew past h (IsPlanned plan) (has_timed_out end) growth may.1.between may.1.sweep).serial) refl
+  serials_after (SetsLimit n) may = kept setting plan crew past step owner h (after crew (SetsLimit n)).pool _ refl refl
+  serials_after move may = (enters setting plan crew past step owner h move may refl).numbered

@@ -3,7 +3,7 @@ use Rattle.std.proofs.Common.{◌≡◌, ℕ, ◌&&◌, if◌then◌else◌, con
 use Rattle.std.specs.Prelude.{option_map, is_some, filter}
 use Rattle.std.specs.FinMap.{get}
 use Rattle.blocking_pool.specs.Growth.{Growth}
-use Rattle.blocking_pool.specs.Jobs.{Jobs, jobs_after_requeue, entry_after_requeue}
+use Rattle.blocking_pool.specs.Jobs.{Jobs, entry_after_requeue}
 use Rattle.blocking_pool.specs.Lists.{is_in}
 use Rattle.blocking_pool.specs.declared.pool.standing.Standing.{Standing}
 use Rattle.blocking_pool.specs.declared.pool.standing.Standing.TheVariants.{Queued, Running, Parked}
@@ -15,6 +15,7 @@ use Rattle.blocking_crew.specs.Crews.{Crew}
 use Rattle.blocking_crew.specs.Tickets.{JobPool, SweepsTo, SweepsIf, to_sweep, is_due_to_sweep}
 use Rattle.blocking_crew.specs.Ties.{CrewHolds}
 use Rattle.blocking_crew.specs.declared.ticket.Ticket.{Ticket}
+use Rattle.blocking_crew.proofs.growth.Sweeps.{left_by}
 use Rattle.blocking_crew.proofs.ties.Lists.{same_filter}
 use Rattle.blocking_crew.proofs.jobs.Lookups.{job_requeued, in_filter}
 use Rattle.blocking_crew.proofs.ties.Entries.{due_filed}
@@ -28,12 +29,6 @@ swept_test (Some Running) mark = refl
 swept_test (Some Parked) true = refl
 swept_test (Some Parked) false = refl
 swept_test _ mark = refl
-
-swept_by : (may_answer : ℕ → Bool → Type 0) (old new : JobPool) (growth : Growth) (serials : List ℕ) → SweepsTo may_answer old serials growth new
-    → (new.jobs ≡ jobs_after_requeue old.jobs serials) × (new.queue ≡ joined old.queue serials) × (new.next_serial ≡ old.next_serial)
-swept_by may_answer old new growth [] sweeps = (ap (λ (p : JobPool). p.jobs) sweeps.1, ap (λ (p : JobPool). p.queue) sweeps.1, ap (λ (p : JobPool). p.next_serial) sweeps.1)
-swept_by may_answer old new growth (serial ∷ serials) sweeps =
-    (ap (λ (p : JobPool). p.jobs) sweeps.after_is, ap (λ (p : JobPool). p.queue) sweeps.after_is, ap (λ (p : JobPool). p.next_serial) sweeps.after_is)
 
 -- What a sweep, if there was one, leaves of jobs, queue and serials, by what was seen.
 pub record IsSwept (late : Bool) (old new : JobPool) (past : List Moment) : Type 0 where
@@ -61,17 +56,16 @@ module _ (setting : ℕ) (plan : List Bool) (crew : Crew) (past : List Moment) (
 
   pub is_swept : (may_answer : ℕ → Bool → Type 0) (growth : Growth) (new : JobPool) → SweepsTo may_answer crew.pool (to_sweep crew.pool) growth new → IsSwept true crew.pool new past
   is_swept may_answer growth new sweeps =
-      let all = swept_by may_answer crew.pool new growth (to_sweep crew.pool) sweeps in
+      let all = left_by may_answer crew.pool new (to_sweep crew.pool) growth sweeps in
       record {
         jobs = λ s.
-            ap (λ (jobs : Jobs Ticket). get jobs s) all.0 ∙ job_requeued (to_sweep crew.pool) crew.pool.jobs s
+            ap (λ (jobs : Jobs Ticket). get jobs s) all.jobs ∙ job_requeued (to_sweep crew.pool) crew.pool.jobs s
             ∙ ap (λ (b : Bool). if b then option_map entry_after_requeue (get crew.pool.jobs s) else get crew.pool.jobs s) (due_test s);
-        line = all.1 ∙ ap (joined crew.pool.queue) sweep_same;
-        serial = all.2;
+        line = all.line ∙ ap (joined crew.pool.queue) sweep_same;
+        serial = all.serial;
       }
 
   -- a wait sweeps where its time was up
   pub is_swept_if : (may_answer : ℕ → Bool → Type 0) (late : Bool) (growth : Growth) (new : JobPool) → SweepsIf late may_answer crew.pool growth new → IsSwept late crew.pool new past
   is_swept_if may_answer true growth new sweeps = is_swept may_answer growth new sweeps
-  is_swept_if may_answer false growth new sweeps =
-      record { jobs = λ s. ap (λ (p : JobPool). get p.jobs s) sweeps.1; line = ap (λ (p : JobPool). p.queue) sweeps.1; serial = ap (λ (p : JobPool). p.next_serial) sweeps.1 }
+  is_swept_if may_answer false growth new sweeps = rw sweeps.1 (record { jobs = λ s. refl; line = refl; serial = refl })

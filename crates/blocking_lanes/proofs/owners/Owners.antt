@@ -23,7 +23,7 @@ use Rattle.blocking_lanes.specs.Owners.{Owner, Worked, worked, new_owner, capaci
 use Rattle.blocking_lanes.specs.OwnerSteps.{OwnerStep, IsAsked, Acts, Begins, IsRefused, Delivers, IsDropped, Works, IsAnswered, GivesUp, CallsWaker, IsAside, MakesOwner, TakesStep, MayTake, IsFresh, IsHeld, is_of_its_job, event_for, by_owner, by_its_job, owner_after}
 use Rattle.blocking_lanes.specs.OwnerTies.{OwnerAs, OwnersHold}
 use Rattle.blocking_lanes.specs.Reads.{Progress, ReadAs}
-use Rattle.blocking_lanes.proofs.Places.{got_same, got_other, in_pushed}
+use Rattle.blocking_pool.proofs.Places.{got_same, got_other, in_pushed}
 use Rattle.blocking_lanes.proofs.owners.Cuts.{passes}
 use Rattle.blocking_lanes.proofs.owners.Own.{Goes}
 use Rattle.blocking_lanes.proofs.owners.Plain.{IsPlain, brought, plain_of}

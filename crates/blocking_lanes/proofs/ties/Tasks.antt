@@ -18,7 +18,7 @@ use Rattle.blocking_laws.specs.declared.event.Party.TheVariants.{Owner as ByOwne
 use Rattle.blocking_lanes.specs.Tasks.{Task, new_task}
 use Rattle.blocking_lanes.specs.Ties.{TaskAs, Tasked, TasksHold}
 use Rattle.blocking_lanes.specs.Steps.{IsAside, IsBeside, MakesTask, TakesStep, MayTake, task_after}
-use Rattle.blocking_lanes.proofs.Places.{got_same, got_other, in_pushed}
+use Rattle.blocking_pool.proofs.Places.{got_same, got_other, in_pushed}
 use Rattle.blocking_lanes.proofs.acts.Own.{Goes}
 use Rattle.blocking_lanes.proofs.acts.Steps.{step_goes, is_call, in_cut, accepts_none}
 use Rattle.blocking_lanes.proofs.cuts.Acts.{acts_cut}

@@ -2,12 +2,12 @@ use Rattle.std.proofs.Common.{ap, ◌∙◌, subst, sym, arith}
 use Rattle.blocking_pool.specs.PoolAnswers.{StaysOrStops}
 use Rattle.blocking_pool.specs.Starters.{asked}
 use Rattle.blocking_crew.specs.Tickets.{JobPool, AreValued}
-use Rattle.blocking_crew.proofs.growth.Sweeps.{waits_after_sweep, wait_numbers, wait_jobs, none_due_in, sweeps_if_levels}
+use Rattle.blocking_crew.proofs.growth.Sweeps.{waits_after_sweep, wait_keeps, none_due_in, sweeps_if_levels}
 use Rattle.blocking_crew.proofs.tickets.Tickets.after_wait.Goals as goal
 
 pub after_wait-requires : goal.after_wait-requires
 after_wait-requires g c =
-    let level = (sweeps_if_levels c.args.timed_out (g.S.Starter.may_answer c.args.starter.now) c.args.self.now c.sweep_if-growth.new.self c.sweep_if-growth.result c.sweep_if-growth.ensures.after).level in
+    let level = sweeps_if_levels c.args.timed_out (g.S.Starter.may_answer c.args.starter.now) c.args.self.now c.sweep_if-growth.new.self c.sweep_if-growth.result c.sweep_if-growth.ensures.after in
     let free = c.requires.free in
     let idle = ap (λ (p : JobPool). p.counts.idle) c.self.view_is in
     let arriving = ap (λ (p : JobPool). p.counts.arriving) c.self.view_is in
@@ -21,7 +21,7 @@ answered g c =
 
 pub returns : goal.returns
 returns g c =
-    let jobs = wait_jobs c.args.timed_out c.sweep_if-growth.new.self c.after_wait.new.self c.after_wait.result (answered g c) in
+    let jobs = (wait_keeps c.args.timed_out c.sweep_if-growth.new.self c.after_wait.new.self c.after_wait.result (answered g c)).jobs in
     record {
       waits = record { between = c.sweep_if-growth.new.self; sweep = c.sweep_if-growth.ensures.after; answer = answered g c };
       valued = subst AreValued (sym jobs) c.sweep_if-growth.ensures.valued;
@@ -30,7 +30,7 @@ returns g c =
 
 pub invariant_of-self : goal.invariant_of-self
 invariant_of-self g c =
-    let kept = wait_numbers c.args.timed_out c.sweep_if-growth.new.self c.after_wait.new.self c.after_wait.result (answered g c) in
+    let kept = wait_keeps c.args.timed_out c.sweep_if-growth.new.self c.after_wait.new.self c.after_wait.result (answered g c) in
     let setting = ap (λ (p : JobPool). p.counts.setting) c.self.view_is in
     let next = ap (λ (p : JobPool). p.counts.next_worker) c.self.view_is in
     (c.self.invariant.0 ∙ setting ∙ sym kept.setting, c.self.invariant.1 ∙ next ∙ sym kept.next)
