@@ -1,5 +1,5 @@
 -- The parts of a world as contracts see them: the crew, the rows of its jobs, the tasks and the owners, and what is found in them.
-use Rattle.std.specs.Prelude.{ℕ, Bool, true, false, ◌==◌, ◌-◌, if◌then◌else◌, List, slice_get, refl, Option, Some, None}
+use Rattle.std.specs.Prelude.{ℕ, Bool, false, ◌==◌, ◌-◌, if◌then◌else◌, List, slice_get, refl, Option, Some, None}
 use Rattle.std.specs.Coded.{Coded, code_by, coded×, coded_list}
 use Rattle.blocking_crew.specs.Crews.{Crew, crew_code, hand_at}
 use Rattle.blocking_crew.specs.declared.hand.Hand.{Hand}

@@ -1,6 +1,5 @@
 -- How the parts of a world hang together with what was seen.
-use Rattle.std.specs.Prelude.{◌≡◌, ◌||◌, ◌&&◌, ◌⊎◌, ℕ, Bool, not, true, false, List, [], length, slice_get, Option, Some, None, is_some}
-use Rattle.blocking_core.specs.Pipes.{Pipe}
+use Rattle.std.specs.Prelude.{◌≡◌, ◌||◌, ◌&&◌, ◌⊎◌, ℕ, Bool, not, true, false, List, length, slice_get, Option, Some, None}
 use Rattle.blocking_crew.specs.Crews.{hand_at}
 use Rattle.blocking_crew.specs.Ties.{CrewHolds, Holding, IsNumberOf, Served}
 use Rattle.blocking_crew.specs.declared.hand.Hand.TheVariants.{Holds}

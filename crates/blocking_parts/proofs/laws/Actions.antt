@@ -24,7 +24,7 @@ use Rattle.blocking_laws.specs.Seen.{events, acts_of_owner, acts_of_task, own, c
 use Rattle.blocking_laws.specs.Sessions.{is_poll_over, under_way}
 use Rattle.blocking_laws.specs.Sessions as sessions
 use Rattle.blocking_laws.specs.Steps.{has_action, is_there, is_answered_action, is_job_action, is_for_cancelled, is_turn_end, may_call, may_cancel}
-use Rattle.blocking_laws.specs.TaskLaws.{is_gone, is_let_go, was_cancelled}
+use Rattle.blocking_laws.specs.TaskLaws.{is_gone, was_cancelled}
 use Rattle.blocking_laws.specs.Turns.{hand}
 use Rattle.blocking_laws.specs.declared.event.Event.{Event}
 use Rattle.blocking_laws.specs.declared.event.Moment.{Moment}
@@ -34,13 +34,11 @@ use Rattle.blocking_laws.specs.declared.step.Step.TheVariants.{New, Ask, Own, Dr
 use Rattle.blocking_laws.specs.declared.step.TaskCall.{TaskCall}
 use Rattle.blocking_laws.specs.declared.step.TaskCall.TheVariants.{Poll, Cancel, Detach, Drop}
 use Rattle.blocking_parts.specs.Moves.{has_action_in, may_call_in, may_own, may_own_in, rests_in}
-use Rattle.blocking_parts.specs.Parts.{Parts, row_of, let_go_by, let_go_of, owner_let_go, task_let_go}
-use Rattle.blocking_parts.specs.Rows.{party_of}
+use Rattle.blocking_parts.specs.Parts.{Parts, row_of, let_go_by}
 use Rattle.blocking_parts.specs.Ties.{Tied}
-use Rattle.blocking_parts.specs.declared.row.Core.{Core}
-use Rattle.blocking_parts.specs.declared.row.Core.TheVariants as core
 use Rattle.blocking_parts.specs.declared.row.Row.{Row}
-use Rattle.blocking_parts.proofs.laws.Next.{missing, unseen, owner_there, task_there, next_agrees, own_is}
+use Rattle.blocking_parts.proofs.laws.Next.{missing, unseen, next_agrees, own_is}
+use Rattle.blocking_parts.proofs.ties.LetGo.{let_go_is}
 use Rattle.blocking_parts.proofs.ties.Jobs.{has_row, holder_stands, owner_tie, task_tie}
 
 -- ---- workers and limits
@@ -125,27 +123,13 @@ module _ (setting : ℕ) (plan : List Bool) (w : Parts) (past : List Moment) (t 
       by false none = refl
   stray_by s (Some row) found = sym (ap is_some (t.rowed.each s row found).held_by)
 
-  -- who let a job go in the parts was seen to
-  pub let_go_is : (s : ℕ) (row : Row) → row_of w.rows s ≡ Some row → let_go_of w row.core ≡ may_cancel (holder past s) past
-  let_go_is s row found =
-      let held = (t.rowed.each s row found).held_by in
-      by row.core held ∙ sym (ap (λ o. may_cancel o past) held)
-    where
-      by : (c : Core) → holder past s ≡ Some (party_of c) → let_go_of w c ≡ may_cancel (Some (party_of c)) past
-      by (core.Call k call) held =
-          let task = task_there setting plan w past t k s held in
-          ap task_let_go task.1 ∙ sym (t.tasked.each k s task.0 held task.1).let_go ∙ ap is_let_go (own_cut k s (events past))
-      by (core.Read h job) held =
-          let owner = owner_there setting plan w past t h s held in
-          ap owner_let_go owner.1 ∙ sym (owner_tie setting plan w past t h owner.0 owner.1).gone
-
   strike_by : (s : ℕ) (found : Option Row) → row_of w.rows s ≡ found → let_go_by w found ≡ may_cancel (holder past s) past
   strike_by s None found = by (holder past s) (stray_by s None found)
     where
       by : (o : Option Party) → false ≡ is_some o → false ≡ may_cancel o past
       by None none = refl
       by (Some who) none = absurd cc
-  strike_by s (Some row) found = let_go_is s row found
+  strike_by s (Some row) found = let_go_is setting plan w past t s row found
 
   -- A step has an action in the parts exactly where it has one by what was seen.
   pub has_is : (step : Step) → has_action_in w step ≡ has_action past step

@@ -27,14 +27,11 @@ use Rattle.blocking_lanes.proofs.owners.Actions.{works_some}
 use Rattle.blocking_lanes.proofs.owners.Reads.{action_is}
 use Rattle.blocking_laws.specs.JobTable.{Calling, is_asking, is_over, next_of_job, has_given_up}
 use Rattle.blocking_laws.specs.Jobs.{holder}
-use Rattle.blocking_laws.specs.Seen.{events, acts_of, cut, own}
-use Rattle.blocking_laws.specs.Sessions.{jobs_of}
+use Rattle.blocking_laws.specs.Seen.{events, acts_of, cut}
 use Rattle.blocking_laws.specs.Steps.{is_there, kind_by, next_in_turn, next_with, next_of_worker, is_job_action}
 use Rattle.blocking_laws.specs.Turns.{GoesOn, turn, hand}
 use Rattle.blocking_laws.specs.declared.event.Act.{Act}
 use Rattle.blocking_laws.specs.declared.event.Moment.{Moment}
-use Rattle.blocking_laws.specs.declared.event.Party.TheVariants.{Owner as ByOwner, Task as ByTask}
-use Rattle.blocking_pool.specs.Lists.{is_in}
 use Rattle.blocking_pool.specs.declared.pool.standing.Standing.TheVariants.{Running}
 use Rattle.blocking_parts.specs.Parts.{Parts, InHand, row_of, job_at, job_in, next_at, next_in, done_by, done_in}
 use Rattle.blocking_parts.specs.Rows.{call_action, action_of, call_done, call_step, call_step_by, done, is_at_first, kind_of, next_of, party_of, read_done, read_seen, read_step}
@@ -42,8 +39,8 @@ use Rattle.blocking_parts.specs.Ties.{Tied, CoreAs, PlaceAs, GaveAs}
 use Rattle.blocking_parts.specs.declared.row.Core.{Core}
 use Rattle.blocking_parts.specs.declared.row.Core.TheVariants as core
 use Rattle.blocking_parts.specs.declared.row.Row.{Row}
-use Rattle.blocking_parts.proofs.moves.Found.{there}
 use Rattle.blocking_parts.proofs.ties.Jobs.{IsHere, job_here, job_place, hand_job, next_here}
+use Rattle.blocking_parts.proofs.ties.LetGo.{owner_there, task_there}
 
 -- ---- what a job does next
 
@@ -139,19 +136,6 @@ module _ (setting : ℕ) (plan : List Bool) (w : Parts) (past : List Moment) (t 
   pub unseen : (h : ℕ) → slice_get w.owners h ≡ None → cut h (events past) ≡ []
   unseen h none = t.owned.unborn h (missing w.owners h none)
 
-  -- who holds a job is there
-  pub owner_there : (h s : ℕ) → holder past s ≡ Some (ByOwner h) → (owner : Owner) × (slice_get w.owners h ≡ Some owner)
-  owner_there h s held = by (slice_get w.owners h) refl
-    where
-      by : (o : Option Owner) → slice_get w.owners h ≡ o → (owner : Owner) × (slice_get w.owners h ≡ Some owner)
-      by (Some owner) found = (owner, found)
-      by None none =
-          let begun : false ≡ true = sym (ap (λ l. is_in s (jobs_of (own l))) (unseen h none)) ∙ t.owned.begun h s held in
-          absurd cc
-
-  pub task_there : (k s : ℕ) → holder past s ≡ Some (ByTask k) → (task : Task) × (slice_get w.tasks k ≡ Some task)
-  task_there k s held = there w.tasks k (t.tasked.there k s held)
-
   -- the kind of a job is that of its row
   kind_is : (s : ℕ) (row : Row) → row_of w.rows s ≡ Some row → kind_by (holder past s) past s ≡ kind_of row.core
   kind_is s row found =
@@ -161,7 +145,7 @@ module _ (setting : ℕ) (plan : List Bool) (w : Parts) (past : List Moment) (t 
       by : (c : Core) → holder past s ≡ Some (party_of c) → kind_by (Some (party_of c)) past s ≡ kind_of c
       by (core.Call k call) held = refl
       by (core.Read h job) held =
-          let owner = owner_there h s held in
+          let owner = owner_there setting plan w past t h s held in
           (t.owned.each h owner.0 owner.1).kinds s (t.owned.begun h s held)
 
   next_by_hand : (v : ℕ) (h : Hand) → hand_at w.crew.hands v ≡ h → HandAs h (is_there past v) (hand past v) → next_of_worker past v ≡ next_at w v
@@ -193,11 +177,11 @@ module _ (setting : ℕ) (plan : List Bool) (w : Parts) (past : List Moment) (t 
 
       by : (c : Core) → job.row.core ≡ c → is_some (done job.held.stage c w.tasks w.owners) ≡ is_job_action (next_of job.held.stage c)
       by (core.Call k call) is =
-          let task = task_there k s ((t.rowed.each s job.row here.has_row).held_by ∙ ap (λ c. Some (party_of c)) is) in
+          let task = task_there setting plan w past t k s ((t.rowed.each s job.row here.has_row).held_by ∙ ap (λ c. Some (party_of c)) is) in
           ap (λ o. is_some (call_done k call job.held.stage w.tasks w.owners o (call_step job.held.stage call))) task.1 ∙ call_some job.held.stage k call w.tasks w.owners task.0
       by (core.Read h p) is =
           let held = (t.rowed.each s job.row here.has_row).held_by ∙ ap (λ c. Some (party_of c)) is in
-          let owner = owner_there h s held in
+          let owner = owner_there setting plan w past t h s held in
           ap (λ o. is_some (read_done h p w.tasks w.owners o (read_step job.held.stage p))) owner.1
           ∙ read_some job.held.stage h p w.tasks w.owners owner.0
           (λ runs.

@@ -1,5 +1,5 @@
 -- What an owner does by itself is nothing to the crew.
-use Rattle.std.proofs.Common.{◌≡◌, ℕ, List, Bool, true, false, refl, sym, ap, ◌∙◌, Option, Some, None}
+use Rattle.std.proofs.Common.{◌≡◌, ℕ, List, Bool, true, false, refl, Option, Some, None}
 use Rattle.blocking_core.specs.OwnerCalls.{OwnerMachine, owner_next}
 use Rattle.blocking_core.specs.Places.{Met, Served, Waiting, Closed}
 use Rattle.blocking_core.specs.Slots.{Content, Empty, Full, GivenUp, Abandoned}

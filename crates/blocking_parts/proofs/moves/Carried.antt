@@ -1,16 +1,16 @@
 -- The event of a move carries no more bytes than was told before it.
-use Rattle.std.proofs.Common.{◌≡◌, ◌≤◌, ℕ, List, [], ◌∷◌, length, Bool, true, false, refl, sym, ap, ◌∙◌, subst, arith, Option, Some, None, if◌then◌else◌}
-use Rattle.std.specs.Prelude.{slice_get, min, max, take}
+use Rattle.std.proofs.Common.{◌≡◌, ◌≤◌, ℕ, List, [], ◌∷◌, length, Bool, true, false, refl, sym, ap, ◌∙◌, subst, arith, Option, Some, None}
+use Rattle.std.specs.Prelude.{slice_get, min, max}
 use Rattle.std.proofs.lemmas.Bool.Decides.{nat_tests}
 use Rattle.std.proofs.lemmas.List.{length-take}
 use Rattle.blocking_core.specs.OwnerCalls.{OwnerMachine, owner_next}
-use Rattle.blocking_core.specs.Places.{Met, Served, Waiting, Closed, drain}
+use Rattle.blocking_core.specs.Places.{drain}
 use Rattle.blocking_core.specs.Slots.{Content, Empty, Full, GivenUp, Abandoned}
 use Rattle.blocking_core.specs.declared.io.Fault.{Fault}
 use Rattle.blocking_core.specs.declared.unblock.OwnerAction.{OwnerAction}
 use Rattle.blocking_core.specs.declared.unblock.OwnerAction.TheVariants as action
 use Rattle.blocking_lanes.specs.Owners.{Owner, Did, bytes_in, next_of, next_at, next_by, did, did_by, did_in, drain_did, look_did, looked_as, reply_as, reply_did}
-use Rattle.blocking_lanes.specs.Sessions.{Session, drained, reach, session_after_look}
+use Rattle.blocking_lanes.specs.Sessions.{Session, session_after_look}
 use Rattle.blocking_lanes.specs.declared.owner.OwnerStage.{OwnerStage}
 use Rattle.blocking_lanes.specs.declared.owner.OwnerStage.TheVariants as stage
 use Rattle.blocking_laws.specs.Bare.{is_bare, is_bare_answer}
@@ -22,7 +22,6 @@ use Rattle.blocking_laws.specs.declared.event.Reply.{Reply as Told}
 use Rattle.blocking_laws.specs.declared.step.Answer.{Answer}
 use Rattle.blocking_laws.specs.declared.step.Answer.TheVariants.{Gave}
 use Rattle.blocking_laws.specs.declared.step.Step.{Step}
-use Rattle.blocking_lanes.specs.Tasks.{Task, task_act}
 use Rattle.blocking_lanes.proofs.acts.Calls.{by_call}
 use Rattle.blocking_pool.specs.Jobs.{JobNumber}
 use Rattle.blocking_crew.specs.Moves.{added_act, parked_act}

@@ -4,7 +4,7 @@ use Rattle.std.specs.Prelude.{slice_get, slice_set}
 use Rattle.std.proofs.lemmas.Bool.{eqb-true}
 use Rattle.std.proofs.lemmas.Bool.Decides.{nat_tests}
 use Rattle.std.proofs.lemmas.Option.{slice_get_within}
-use Rattle.blocking_lanes.proofs.Places.{got_same, got_other, got_pushed}
+use Rattle.blocking_pool.proofs.Places.{got_same, got_other, got_pushed}
 use Rattle.blocking_parts.specs.Parts.{row_of}
 use Rattle.blocking_parts.specs.declared.row.Row.{Row}
 

@@ -8,12 +8,11 @@ use Rattle.blocking_crew.specs.Moves.{next_start, nothing, NeverAsked}
 use Rattle.blocking_crew.specs.declared.crew.InHand as crew_hand
 use Rattle.blocking_crew.specs.declared.hand.Hand.{Hand}
 use Rattle.blocking_crew.specs.declared.hand.Hand.TheVariants.{Out, Free, Holds}
-use Rattle.blocking_crew.specs.declared.hand.Held.{Held}
 use Rattle.blocking_crew.specs.declared.hand.Stage.{Stage}
 use Rattle.blocking_crew.specs.declared.hand.Stage.TheVariants as stage
 use Rattle.blocking_lanes.specs.Owners.{Owner}
 use Rattle.blocking_lanes.specs.Tasks.{Task}
-use Rattle.blocking_lanes.proofs.Places.{set_same}
+use Rattle.blocking_pool.proofs.Places.{set_same}
 use Rattle.blocking_laws.specs.Steps.{is_answered_action, is_turn_end}
 use Rattle.blocking_laws.specs.declared.event.Act.{Act}
 use Rattle.blocking_laws.specs.declared.event.Act.TheVariants.{Answered}

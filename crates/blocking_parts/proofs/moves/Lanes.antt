@@ -1,5 +1,5 @@
 -- What an act of a job does at its task or at its owner is what it does to all of them.
-use Rattle.std.proofs.Common.{◌≡◌, ℕ, ◌<◌, List, length, refl, sym, ap, ◌∙◌, subst, Option, Some, None}
+use Rattle.std.proofs.Common.{◌≡◌, ℕ, List, length, refl, sym, ap, ◌∙◌, subst, Option, Some, None}
 use Rattle.std.specs.Prelude.{slice_get, slice_set}
 use Rattle.std.proofs.Math.ListN.{length-set}
 use Rattle.blocking_crew.specs.declared.hand.Stage.{Stage}
@@ -11,7 +11,7 @@ use Rattle.blocking_lanes.specs.OwnerSteps.{OwnerStep, act_of_work, owner_after_
 use Rattle.blocking_lanes.specs.Reads as reads
 use Rattle.blocking_lanes.specs.Steps.{TaskStep}
 use Rattle.blocking_lanes.specs.Tasks.{Task}
-use Rattle.blocking_lanes.proofs.Places.{set_same}
+use Rattle.blocking_pool.proofs.Places.{set_same}
 use Rattle.blocking_laws.specs.declared.event.Act.{Act}
 use Rattle.blocking_parts.specs.declared.row.Core.{Core}
 use Rattle.blocking_parts.specs.Rows.{Done, IsActed, IsRead, IsDone, done, call_step, call_done, read_step, read_done, read_seen}

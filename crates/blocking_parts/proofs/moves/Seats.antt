@@ -20,10 +20,9 @@ use Rattle.blocking_laws.specs.declared.step.HandleCall.{HandleCall}
 use Rattle.blocking_lanes.specs.Owners.{Owner, Did, Worked, did, did_by, did_in, drain_did, goes_on, is_gone, is_resting, look_did, looked_as, note_at, number_in, number_of, owner_after_ask, owner_after_delivery, owner_after_drop, owner_after_give_up, owner_after_refusal, reply_as, reply_did, rests, stage_after_ask, stage_after_delivery, stage_after_drop, stage_after_refusal, without_job, worked, worked_as, worked_by, worked_in}
 use Rattle.blocking_lanes.specs.OwnerTies.{seat_of}
 use Rattle.blocking_lanes.specs.Reads.{Progress}
-use Rattle.blocking_lanes.specs.Sessions.{Session, Work, drained, fits_in, found_put, found_room, reach, session_after_close, session_after_look, session_after_put, session_after_room, work_at_put, work_by}
+use Rattle.blocking_lanes.specs.Sessions.{Session, Work, drained, fits_in, found_put, found_room, reach, session_after_look, session_after_put, session_after_room, work_at_put, work_by}
 use Rattle.blocking_lanes.specs.declared.owner.OwnerStage.{OwnerStage}
 use Rattle.blocking_lanes.specs.declared.owner.OwnerStage.TheVariants as stage
-use Rattle.blocking_lanes.proofs.owners.Own.{owner_by_parts}
 use Rattle.blocking_pool.specs.Jobs.{JobNumber}
 use Rattle.blocking_pool.specs.declared.pool.answer.Refusal.{Refusal}
 use Rattle.blocking_parts.specs.Ties.{IsMet, is_number, seated_in}

@@ -10,7 +10,7 @@ use Rattle.blocking_lanes.specs.OwnerSteps as owners_steps
 use Rattle.blocking_lanes.specs.Owners.{Owner, Did, IsDid, did, new_owner, next_of, note_at, number_of, owner_after_ask, owner_after_delivery, owner_after_drop}
 use Rattle.blocking_lanes.specs.declared.owner.OwnerNext.TheVariants as next
 use Rattle.blocking_lanes.specs.Tasks.{Task, task_act, task_after_call}
-use Rattle.blocking_lanes.proofs.Places.{set_same}
+use Rattle.blocking_pool.proofs.Places.{set_same}
 use Rattle.blocking_lanes.proofs.acts.Calls.{call_number}
 use Rattle.blocking_laws.specs.Steps.{named}
 use Rattle.blocking_laws.specs.declared.event.Act.{Act}

@@ -1,11 +1,11 @@
 -- What an event leaves of the marks: whose job may be cancelled after it, and which jobs are marked, by what it owes to them.
-use Rattle.std.proofs.Common.{◌≡◌, ◌⊎◌, inl, inr, ⊎_elim, ℕ, ◌==◌, List, [], ◌∷◌, map, filter, cond, Bool, true, false, refl, sym, ap, ◌∙◌, subst, Option, Some, None, if◌then◌else◌}
+use Rattle.std.proofs.Common.{◌≡◌, ◌⊎◌, inl, inr, ⊎_elim, ℕ, List, ◌∷◌, map, filter, cond, Bool, true, false, refl, ap, ◌∙◌, Option, Some, None, if◌then◌else◌}
 use Rattle.std.specs.Prelude.{◌&&◌, ◌||◌, not}
 use Rattle.std.proofs.lemmas.Bool.{or_left, or_right, or_parts, eq-eqb}
 use Rattle.blocking_crew.proofs.ties.Acts.{is_plain, by_let_go}
-use Rattle.blocking_laws.specs.Jobs.{accepts, holder, is_holder, newcomer, cancels, lets_go, ends_for_good, has_ended, is_cancelled, is_marked, is_to_drop}
+use Rattle.blocking_laws.specs.Jobs.{accepts, holder, is_holder, newcomer, cancels, lets_go, ends_for_good, has_ended, is_marked, is_to_drop}
 use Rattle.blocking_laws.specs.Legal.{PoolLaw}
-use Rattle.blocking_laws.specs.Seen.{EachMayFollow, events, own, acts_of_task, acts_of_owner, cut, is_by_task, is_in_cut, is_nothing, is_of_pool, is_owner, is_task, is_this, is_some_worker}
+use Rattle.blocking_laws.specs.Seen.{EachMayFollow, events, own, acts_of_task, cut, is_by_task, is_in_cut, is_nothing, is_of_pool, is_owner, is_task, is_this, is_some_worker}
 use Rattle.blocking_laws.specs.Sessions.{is_dropped}
 use Rattle.blocking_laws.specs.Steps.{may_cancel}
 use Rattle.blocking_laws.specs.TaskLaws.{is_let_go}

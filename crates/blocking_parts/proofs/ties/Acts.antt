@@ -1,5 +1,5 @@
 -- What an act of the job in a hand leaves of it: how far its core is, where it is in its turn, and of whom it is.
-use Rattle.std.proofs.Common.{◌≡◌, inl, inr, ⊎_elim, ℕ, ◌==◌, List, [], ◌∷◌, Bool, true, false, refl, sym, ap, ◌∙◌, subst, arith, Option, Some, None, if◌then◌else◌}
+use Rattle.std.proofs.Common.{◌≡◌, inl, inr, ℕ, ◌==◌, List, [], ◌∷◌, Bool, true, false, refl, sym, ap, ◌∙◌, subst, arith, Option, Some, None, if◌then◌else◌}
 use Rattle.std.specs.Prelude.{◌&&◌, slice_get, slice_set}
 use Rattle.std.proofs.lemmas.Bool.{eqb-true}
 use Rattle.std.proofs.lemmas.Bool.Decides.{nat_tests}
@@ -23,8 +23,8 @@ use Rattle.blocking_lanes.specs.Reads as reads
 use Rattle.blocking_lanes.specs.Reads.{ReadAs}
 use Rattle.blocking_lanes.specs.Steps as tasks
 use Rattle.blocking_lanes.specs.Steps.{TaskStep}
-use Rattle.blocking_lanes.specs.Tasks.{Task, finish_wakes, give_up_wakes}
-use Rattle.blocking_lanes.proofs.Places.{got_same, got_other}
+use Rattle.blocking_lanes.specs.Tasks.{Task, finish_wakes}
+use Rattle.blocking_pool.proofs.Places.{got_same, got_other}
 use Rattle.blocking_lanes.proofs.acts.Calls.{call_number}
 use Rattle.blocking_lanes.proofs.owners.Own.{value_of}
 use Rattle.blocking_lanes.proofs.owners.Reads.{action_is, answers, awake}

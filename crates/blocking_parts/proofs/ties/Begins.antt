@@ -1,8 +1,7 @@
 -- A new job keeps the rows: where it is accepted, it gets the next one.
-use Rattle.std.proofs.Common.{◌≡◌, ◌⊎◌, inl, inr, ⊎_elim, ℕ, ◌+◌, ◌==◌, ◌++◌, List, [], ◌∷◌, length, length-append, Bool, true, false, refl, sym, ap, ◌∙◌, subst, arith, Some, if◌then◌else◌}
+use Rattle.std.proofs.Common.{◌≡◌, ◌⊎◌, inl, inr, ⊎_elim, ℕ, ◌+◌, ◌==◌, ◌++◌, List, [], ◌∷◌, length, length-append, Bool, true, false, refl, sym, ap, ◌∙◌, subst, Some, if◌then◌else◌}
 use Rattle.std.specs.Prelude.{slice_get, slice_set, Ok}
 use Rattle.std.proofs.lemmas.Bool.{eqb-true, eq-eqb}
-use Rattle.std.proofs.lemmas.Bool.Decides.{nat_tests}
 use Rattle.std.proofs.lemmas.Option.{slice_get_within}
 use Rattle.blocking_core.specs.Pipes.{Pipe, empty_pipe}
 use Rattle.blocking_crew.specs.Crews.{hand_at}
@@ -11,12 +10,12 @@ use Rattle.blocking_crew.specs.Ties.{CrewHolds, IsNumberOf}
 use Rattle.blocking_crew.specs.declared.hand.Hand.TheVariants.{Holds}
 use Rattle.blocking_crew.specs.declared.hand.Held.{Held}
 use Rattle.blocking_lanes.specs.OwnerSteps as owners
-use Rattle.blocking_lanes.specs.Owners.{Owner, after_begin, capacity_of, next_at, next_of, number_of}
+use Rattle.blocking_lanes.specs.Owners.{Owner, after_begin, capacity_of, next_at, number_of}
 use Rattle.blocking_lanes.specs.Tasks.{Task, new_task}
 use Rattle.blocking_lanes.specs.declared.owner.OwnerNext.TheVariants as next
 use Rattle.blocking_lanes.specs.declared.owner.OwnerStage.{OwnerStage}
 use Rattle.blocking_lanes.specs.declared.owner.OwnerStage.TheVariants as stage
-use Rattle.blocking_lanes.proofs.Places.{got_before, got_other, got_same, in_pushed}
+use Rattle.blocking_pool.proofs.Places.{got_before, got_other, got_same, in_pushed}
 use Rattle.blocking_lanes.proofs.cuts.Acts.{acts_more}
 use Rattle.blocking_laws.specs.Growth.{IsPlanned}
 use Rattle.blocking_laws.specs.Jobs.{accepted_by, accepted_jobs, accepts, ends_for_good, holder, newcomer, standing}
@@ -25,7 +24,6 @@ use Rattle.blocking_laws.specs.Turns.{turn}
 use Rattle.blocking_laws.specs.declared.event.Act.TheVariants.{Accepted}
 use Rattle.blocking_laws.specs.declared.event.Event.{Event}
 use Rattle.blocking_laws.specs.declared.event.Moment.{Moment}
-use Rattle.blocking_laws.specs.declared.event.Party.{Party}
 use Rattle.blocking_laws.specs.declared.event.Party.TheVariants.{Owner as ByOwner, Task as ByTask, Pool}
 use Rattle.blocking_pool.specs.Jobs.{JobNumber}
 use Rattle.blocking_pool.specs.declared.pool.standing.Standing.TheVariants.{Queued}
@@ -39,7 +37,7 @@ use Rattle.blocking_parts.proofs.moves.Found.{row_found, row_at, row_pushed}
 use Rattle.blocking_parts.proofs.ties.Hands.{IsOldOrBegins, hands_moved}
 use Rattle.blocking_parts.proofs.ties.Jobs.{next_row, next_free}
 use Rattle.blocking_parts.proofs.ties.Kept.{row_kept}
-use Rattle.blocking_parts.proofs.ties.Told.{Told, told, by_no_worker, added_of}
+use Rattle.blocking_parts.proofs.ties.Told.{told, by_no_worker, added_of}
 
 -- an older row stays
 row_stays : (rows : List Row) (new row : Row) (s : ℕ) → row_of rows s ≡ Some row → row_of (rows ++ new ∷ []) s ≡ Some row

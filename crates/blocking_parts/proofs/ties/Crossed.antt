@@ -21,7 +21,7 @@ use Rattle.blocking_lanes.specs.Sessions.{Session}
 use Rattle.blocking_lanes.specs.declared.owner.OwnerNext.TheVariants as next
 use Rattle.blocking_lanes.specs.declared.owner.OwnerStage.{OwnerStage}
 use Rattle.blocking_lanes.specs.declared.owner.OwnerStage.TheVariants as owner_stage
-use Rattle.blocking_lanes.proofs.Places.{got_same, in_pushed}
+use Rattle.blocking_pool.proofs.Places.{got_same, in_pushed}
 use Rattle.blocking_lanes.proofs.owners.Own.{fits_at, owner_by_parts, value_of}
 use Rattle.blocking_lanes.proofs.owners.Sessions.{going}
 use Rattle.blocking_lanes.proofs.owners.Steps.{IsLast, begins_at, its_last}

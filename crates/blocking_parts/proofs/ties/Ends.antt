@@ -31,7 +31,7 @@ use Rattle.blocking_pool.specs.declared.pool.answer.Waited.TheVariants.{Stay, St
 use Rattle.blocking_pool.specs.declared.pool.standing.Standing.{Standing}
 use Rattle.blocking_pool.specs.declared.pool.standing.Standing.TheVariants.{Running, Done, Dropped}
 use Rattle.blocking_parts.specs.Moves.{is_pass, IsDue}
-use Rattle.blocking_parts.specs.Parts.{Parts, next_at}
+use Rattle.blocking_parts.specs.Parts.{Parts}
 use Rattle.blocking_parts.specs.Rows.{call_action, is_at_first, next_of}
 use Rattle.blocking_parts.specs.Ties.{Tied, CoreAs, PlaceAs}
 use Rattle.blocking_parts.specs.declared.row.Core.{Core}

@@ -18,7 +18,7 @@ use Rattle.blocking_lanes.specs.OwnerTies.{OwnersHold}
 use Rattle.blocking_lanes.specs.Owners.{Owner, is_gone}
 use Rattle.blocking_lanes.specs.Reads.{Progress, ReadAs, action_as, action_of}
 use Rattle.blocking_lanes.specs.Tasks.{Task, task_act}
-use Rattle.blocking_lanes.proofs.Places.{set_same}
+use Rattle.blocking_pool.proofs.Places.{set_same}
 use Rattle.blocking_lanes.proofs.acts.Calls.{by_call}
 use Rattle.blocking_lanes.proofs.owners.Own.{value_of}
 use Rattle.blocking_lanes.proofs.owners.Owners.{aside, born, stepped}
@@ -33,7 +33,7 @@ use Rattle.blocking_laws.specs.Seen.{events, acts_of, cut, is_in_cut, is_of_pool
 use Rattle.blocking_laws.specs.Steps.{may_cancel, is_answered_action, is_making, named, next_in_turn}
 use Rattle.blocking_laws.specs.Turns.{GoesOn}
 use Rattle.blocking_laws.specs.declared.event.Act.{Act}
-use Rattle.blocking_laws.specs.declared.event.Act.TheVariants.{Made, Asked, Accepted, Refused, JobWoken, JobCancelled, HolderDropped, Answered, NoAction}
+use Rattle.blocking_laws.specs.declared.event.Act.TheVariants.{Made, Asked, Accepted, Refused, JobWoken, HolderDropped, Answered, NoAction}
 use Rattle.blocking_laws.specs.declared.event.Event.{Event}
 use Rattle.blocking_laws.specs.declared.event.Moment.{Moment}
 use Rattle.blocking_laws.specs.declared.event.Party.{Party}
@@ -44,7 +44,6 @@ use Rattle.blocking_laws.specs.declared.step.TaskCall.{TaskCall}
 use Rattle.blocking_pool.specs.Growth.{Growth}
 use Rattle.blocking_pool.specs.Jobs.{JobNumber}
 use Rattle.blocking_pool.specs.declared.pool.answer.Refusal.{Refusal}
-use Rattle.blocking_pool.specs.declared.pool.answer.Woke.{Woke}
 use Rattle.blocking_pool.specs.declared.pool.standing.Standing.TheVariants.{Running}
 use Rattle.blocking_parts.specs.Moves.{Move, Idles, Makes, Asks, Owns, Lends, Delivers, IsDropped, Begins, Calls, Works, IsAnswered, Parks, Passes, IsWoken, IsStruck, May, CrewMoves, step_of, rows_after, owners_after}
 use Rattle.blocking_parts.specs.Parts.{Parts, InHand, done_by, owner_of, next_at}
@@ -53,7 +52,6 @@ use Rattle.blocking_parts.specs.Rows.{Done, done, read_step, core_after_answer, 
 use Rattle.blocking_parts.specs.Ties.{CoreAs, GaveAs, PlaceAs, Tied, moment}
 use Rattle.blocking_parts.specs.declared.row.Core.{Core}
 use Rattle.blocking_parts.specs.declared.row.Core.TheVariants as core
-use Rattle.blocking_parts.proofs.moves.Found.{there}
 use Rattle.blocking_parts.proofs.ties.Acted.{call_acts, read_acts, may_plain, seen_in, seen_is, its_owner, let_go_here, asks_here}
 use Rattle.blocking_parts.proofs.ties.Jobs.{IsHere, job_here, job_place, next_free}
 use Rattle.blocking_parts.proofs.ties.Said.{SaidBy, done_fits, said}

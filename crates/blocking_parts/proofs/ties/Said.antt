@@ -16,36 +16,31 @@ use Rattle.blocking_crew.specs.declared.hand.Stage.{Stage}
 use Rattle.blocking_crew.specs.declared.hand.Stage.TheVariants as stage
 use Rattle.blocking_crew.specs.declared.ticket.Ticket.{Ticket}
 use Rattle.blocking_crew.specs.declared.tickets.Parking.{Parking}
-use Rattle.blocking_crew.specs.declared.tickets.Parking.TheVariants as parking
 use Rattle.blocking_lanes.specs.Calls as calls
 use Rattle.blocking_lanes.specs.OwnerSteps as owners
 use Rattle.blocking_lanes.specs.OwnerSteps.{OwnerStep}
 use Rattle.blocking_lanes.specs.Owners.{Owner, Worked, worked, worked_as, worked_by, worked_in}
 use Rattle.blocking_lanes.specs.Reads as reads
 use Rattle.blocking_lanes.specs.Sessions.{Session, Work, work_by, work_at_put, fits_in, found_room, found_put}
-use Rattle.blocking_lanes.specs.Steps as tasks
-use Rattle.blocking_lanes.specs.Steps.{TaskStep}
 use Rattle.blocking_lanes.specs.Tasks.{Task, task_act}
 use Rattle.blocking_laws.specs.Growth.{IsPlanned}
 use Rattle.blocking_laws.specs.Places.{seen_room, seen_put}
 use Rattle.blocking_laws.specs.Steps.{named, is_answered_action}
 use Rattle.blocking_laws.specs.declared.event.Act.{Act}
-use Rattle.blocking_laws.specs.declared.event.Act.TheVariants.{Made, Asked, JobWoken, JobCancelled, HolderDropped, Answered, NoAction, Ended, HandedOut}
+use Rattle.blocking_laws.specs.declared.event.Act.TheVariants.{Made, Asked, JobWoken, JobCancelled, HolderDropped, Answered, NoAction}
 use Rattle.blocking_laws.specs.declared.event.Event.{Event}
 use Rattle.blocking_laws.specs.declared.event.Party.TheVariants.{Owner as ByOwner, Task as ByTask, Worker, Pool}
 use Rattle.blocking_laws.specs.declared.step.Answer.{Answer}
 use Rattle.blocking_laws.specs.declared.step.TaskCall.{TaskCall}
 use Rattle.blocking_laws.specs.declared.step.TaskCall.TheVariants.{Poll, Cancel, Detach, Drop}
-use Rattle.blocking_pool.specs.Jobs.{JobNumber}
 use Rattle.blocking_pool.specs.declared.pool.answer.Woke.{Woke}
 use Rattle.blocking_parts.specs.Carried.{bytes_of}
-use Rattle.blocking_parts.specs.Moves.{Move, Idles, Makes, Asks, Owns, Lends, Delivers, IsDropped, Begins, Calls, Works, IsAnswered, Parks, Passes, IsWoken, IsStruck, May, CrewMoves, task_call, call_of}
-use Rattle.blocking_parts.specs.Parts.{Parts, InHand, job_at, job_in, job_with, row_of, next_at, next_in, let_go_of}
+use Rattle.blocking_parts.specs.Moves.{Move, Idles, Makes, Asks, Owns, Lends, Delivers, IsDropped, Begins, Calls, Works, IsAnswered, Parks, Passes, IsWoken, IsStruck, May, CrewMoves, task_call}
+use Rattle.blocking_parts.specs.Parts.{Parts}
 use Rattle.blocking_parts.specs.Rows.{Done, done, call_done, call_step, call_step_by, read_done, read_seen, read_step, next_of}
 use Rattle.blocking_parts.specs.declared.row.Core.{Core}
 use Rattle.blocking_parts.specs.declared.row.Core.TheVariants as core
-use Rattle.blocking_parts.specs.declared.row.Row.{Row}
-use Rattle.blocking_parts.proofs.ties.Jobs.{IsHere, job_here, next_here}
+use Rattle.blocking_parts.proofs.ties.Jobs.{job_here, next_here}
 use Rattle.blocking_parts.proofs.ties.Told.{Told, ToldBy, IsPlain, told, worked as works_so, plain}
 
 -- ---- what a job does fits its turn

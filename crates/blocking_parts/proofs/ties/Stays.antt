@@ -1,5 +1,5 @@
 -- The moves that leave the rows alone keep what is tied to them.
-use Rattle.std.proofs.Common.{◌≡◌, ◌⊎◌, inl, inr, ⊎_elim, ℕ, ◌==◌, List, [], ◌∷◌, Bool, true, false, refl, sym, ap, ◌∙◌, Option, Some, None}
+use Rattle.std.proofs.Common.{◌≡◌, inl, ⊎_elim, ℕ, List, [], ◌∷◌, Bool, true, false, refl, sym, ap, ◌∙◌, Option, Some, None}
 use Rattle.std.specs.Prelude.{◌||◌, slice_get, slice_set, Ok, Err}
 use Rattle.blocking_crew.specs.Crews.{Crew, hand_at}
 use Rattle.blocking_crew.specs.Moves as crew
@@ -10,11 +10,11 @@ use Rattle.blocking_crew.specs.declared.tickets.Parking.{Parking}
 use Rattle.blocking_crew.specs.declared.tickets.Parking.TheVariants as parking
 use Rattle.blocking_lanes.specs.OwnerSteps as step
 use Rattle.blocking_lanes.specs.OwnerSteps.{OwnerStep, owner_after, owner_in, act_in}
-use Rattle.blocking_lanes.specs.Owners.{Owner, number_of, did}
-use Rattle.blocking_lanes.specs.Tasks.{Task, task_act, task_after_call}
-use Rattle.blocking_lanes.proofs.Places.{in_pushed}
+use Rattle.blocking_lanes.specs.Owners.{Owner, number_of}
+use Rattle.blocking_lanes.specs.Tasks.{Task, task_after_call}
+use Rattle.blocking_pool.proofs.Places.{in_pushed}
 use Rattle.blocking_lanes.proofs.acts.Calls.{by_call, call_number}
-use Rattle.blocking_lanes.proofs.owners.Plain.{brought, plain_of}
+use Rattle.blocking_lanes.proofs.owners.Plain.{plain_of}
 use Rattle.blocking_laws.specs.Growth.{IsPlanned}
 use Rattle.blocking_laws.specs.Jobs.{accepted_by, ends_for_good}
 use Rattle.blocking_laws.specs.Seen.{events, acts_of, is_of_job, is_of_pool, is_some_worker}
@@ -23,7 +23,6 @@ use Rattle.blocking_laws.specs.declared.event.Act.TheVariants.{Ended}
 use Rattle.blocking_laws.specs.declared.event.Event.{Event}
 use Rattle.blocking_laws.specs.declared.event.Moment.{Moment}
 use Rattle.blocking_laws.specs.declared.event.Party.{Party}
-use Rattle.blocking_laws.specs.declared.event.Party.TheVariants.{Owner as ByOwner, Task as ByTask, Pool}
 use Rattle.blocking_laws.specs.declared.step.TaskCall.{TaskCall}
 use Rattle.blocking_laws.specs.declared.step.TaskCall.TheVariants.{Poll, Cancel, Detach, Drop}
 use Rattle.blocking_pool.specs.Jobs.{JobNumber}
@@ -31,7 +30,7 @@ use Rattle.blocking_parts.specs.Moves.{Move, Idles, Makes, Asks, Owns, Lends, De
 use Rattle.blocking_parts.specs.Parts.{Parts, row_of}
 use Rattle.blocking_parts.specs.Ties.{Tied, Rowed, moment}
 use Rattle.blocking_parts.specs.declared.row.Row.{Row}
-use Rattle.blocking_parts.proofs.moves.Found.{in_set, one_found}
+use Rattle.blocking_parts.proofs.moves.Found.{in_set}
 use Rattle.blocking_parts.proofs.ties.Ends.{pass_over}
 use Rattle.blocking_parts.proofs.ties.Hands.{IsOldOrBegins, leaves_turns, hands_moved}
 use Rattle.blocking_parts.proofs.ties.Kept.{KeepsRows, rows_kept}

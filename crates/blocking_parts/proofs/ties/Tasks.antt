@@ -1,5 +1,5 @@
 -- Each move keeps the tie of the tasks, and their laws: it is an event of none, makes a new one, or is a step of one.
-use Rattle.std.proofs.Common.{◌≡◌, ℕ, ◌==◌, ◌-◌, List, [], ◌∷◌, length, Bool, true, false, refl, sym, ap, ◌∙◌, subst, Option, Some, None}
+use Rattle.std.proofs.Common.{◌≡◌, ℕ, ◌==◌, ◌-◌, List, [], ◌∷◌, length, Bool, true, false, refl, sym, ap, ◌∙◌, subst, Some, None}
 use Rattle.std.specs.Prelude.{not, slice_get, slice_set, Result, Ok, Err}
 use Rattle.std.proofs.lemmas.Bool.{and_right, eqb-true, or_from}
 use Rattle.blocking_core.specs.declared.job.Action.{Action}
@@ -16,7 +16,7 @@ use Rattle.blocking_lanes.specs.Steps.{TaskStep, IsAside, IsBeside, MayTake, act
 use Rattle.blocking_lanes.specs.Steps as lanes
 use Rattle.blocking_lanes.specs.Tasks.{Task, has_let_go, may_be, task_act}
 use Rattle.blocking_lanes.specs.Ties.{AllLaws, TasksHold}
-use Rattle.blocking_lanes.proofs.Places.{set_same}
+use Rattle.blocking_pool.proofs.Places.{set_same}
 use Rattle.blocking_lanes.proofs.acts.Steps.{is_call}
 use Rattle.blocking_lanes.proofs.cuts.Acts.{own_cut}
 use Rattle.blocking_lanes.proofs.owners.Own.{value_of}

@@ -1,12 +1,6 @@
 -- What is seen of a move: by a call of the crew alone, and by the move.
-use Rattle.std.proofs.Common.{◌≡◌, ◌⊎◌, ℕ, List, [], length, Bool, true, false, refl, sym, ap, ◌∙◌, subst, Option, Some, None}
+use Rattle.std.proofs.Common.{◌≡◌, ℕ, List, [], Bool, true, false, refl, sym, ap, ◌∙◌, subst, Option, Some, None}
 use Rattle.std.specs.Prelude.{◌&&◌, ◌||◌, ◌==◌, not, is_some, if◌then◌else◌, Ok}
-use Rattle.blocking_core.specs.Places.{Met, Served, Waiting, Closed}
-use Rattle.blocking_core.specs.declared.job.read.ReadAction.{ReadAction}
-use Rattle.blocking_core.specs.declared.job.read.ReadAction.TheVariants as read
-use Rattle.blocking_core.specs.declared.job.Action.{Action}
-use Rattle.blocking_core.specs.declared.job.Action.TheVariants as action
-use Rattle.blocking_core.specs.Reading.{read_next}
 use Rattle.blocking_crew.specs.Crews.{Crew, hand_at, may_act, acting_in}
 use Rattle.blocking_crew.specs.Moves as crew
 use Rattle.blocking_crew.specs.Moves.{added_act, parked_act, nothing, next_start}
@@ -14,7 +8,6 @@ use Rattle.blocking_crew.specs.Tickets.{AddsTo}
 use Rattle.blocking_crew.specs.Ties.{IsNumberOf}
 use Rattle.blocking_crew.specs.declared.hand.Hand.TheVariants.{Holds}
 use Rattle.blocking_crew.specs.declared.hand.Held.{Held}
-use Rattle.blocking_crew.specs.declared.tickets.Parking.{Parking}
 use Rattle.blocking_crew.proofs.ties.Numbers.{number_of_new}
 use Rattle.blocking_laws.specs.Bare.{is_bare}
 use Rattle.blocking_laws.specs.Growth.{IsPlanned}
@@ -25,12 +18,12 @@ use Rattle.blocking_laws.specs.declared.event.Act.{Act}
 use Rattle.blocking_laws.specs.declared.event.Act.TheVariants.{JobWoken, JobCancelled}
 use Rattle.blocking_laws.specs.declared.event.Event.{Event}
 use Rattle.blocking_laws.specs.declared.event.Party.{Party}
-use Rattle.blocking_laws.specs.declared.event.Party.TheVariants.{Worker, Pool}
+use Rattle.blocking_laws.specs.declared.event.Party.TheVariants.{Worker}
 use Rattle.blocking_pool.specs.Jobs.{JobNumber}
 use Rattle.blocking_pool.specs.declared.pool.answer.Waited.TheVariants.{Stay, Stop}
 use Rattle.blocking_pool.specs.declared.pool.answer.Woke.{Woke}
 use Rattle.blocking_parts.specs.Moves.{is_pass}
-use Rattle.blocking_parts.specs.Parts.{Parts, owner_of}
+use Rattle.blocking_parts.specs.Parts.{owner_of}
 use Rattle.blocking_parts.specs.declared.row.Row.{Row}
 
 -- ---- who did what

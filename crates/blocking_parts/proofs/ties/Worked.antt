@@ -1,6 +1,6 @@
 -- An act of the job in a hand keeps the rows: its own row has changed, and no other.
-use Rattle.std.proofs.Common.{◌≡◌, ℕ, ◌==◌, ◌-◌, List, [], ◌∷◌, length, cond, Bool, true, false, refl, sym, ap, ◌∙◌, subst, Option, Some, if◌then◌else◌}
-use Rattle.std.specs.Prelude.{◌&&◌, slice_get, slice_set}
+use Rattle.std.proofs.Common.{◌≡◌, ℕ, ◌==◌, ◌-◌, List, [], ◌∷◌, length, cond, Bool, true, false, refl, sym, ap, ◌∙◌, subst, Some, if◌then◌else◌}
+use Rattle.std.specs.Prelude.{◌&&◌, slice_set}
 use Rattle.std.proofs.lemmas.Bool.{eqb-true, eqb-false, eq-eqb, ne_eqb}
 use Rattle.std.proofs.Math.ListN.{length-set}
 use Rattle.blocking_crew.specs.Crews.{hand_at, held_after_act, may_act, stage_after}
@@ -8,11 +8,8 @@ use Rattle.blocking_crew.specs.Moves as crew
 use Rattle.blocking_crew.specs.Ties.{CrewHolds, IsNumberOf, turn_of}
 use Rattle.blocking_crew.specs.declared.hand.Hand.TheVariants.{Holds}
 use Rattle.blocking_crew.specs.declared.hand.Held.{Held}
-use Rattle.blocking_crew.specs.declared.hand.Stage.TheVariants as stage
 use Rattle.blocking_crew.proofs.hands.Rows.{at_held, hand_set}
 use Rattle.blocking_crew.proofs.ties.Known.{held_runs}
-use Rattle.blocking_lanes.specs.Owners.{Owner, number_of}
-use Rattle.blocking_lanes.specs.Tasks.{Task}
 use Rattle.blocking_lanes.proofs.cuts.Acts.{acts_more}
 use Rattle.blocking_lanes.proofs.ties.Holders.{holder_stays}
 use Rattle.blocking_laws.specs.Growth.{IsPlanned}
@@ -40,7 +37,7 @@ use Rattle.blocking_parts.proofs.ties.Acts.{IsOwnAct, own_act, place_acted, gave
 use Rattle.blocking_parts.proofs.ties.Jobs.{IsHere, job_here, next_here, job_place}
 use Rattle.blocking_parts.proofs.ties.Kept.{none_accepted, row_kept}
 use Rattle.blocking_parts.proofs.ties.Said.{done_fits, answer_fits}
-use Rattle.blocking_parts.proofs.ties.Told.{Told, by_worker, worked}
+use Rattle.blocking_parts.proofs.ties.Told.{worked}
 
 -- What an act of the job in the hand of worker v makes of the parts, where it leaves its row with this core.
 record IsWork (w new : Parts) (past : List Moment) (now : Moment) (v : ℕ) (job : InHand) (act : Act) (core : Core) : Type 0 where

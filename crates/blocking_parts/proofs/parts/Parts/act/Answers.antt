@@ -1,4 +1,4 @@
-use Rattle.std.proofs.Common.{◌≡◌, ◌<◌, length, refl, sym, ap, ◌∙◌, subst, Ok, Some, IfOk, IfSome}
+use Rattle.std.proofs.Common.{◌≡◌, ◌<◌, length, sym, subst, IfOk, IfSome}
 use Rattle.std.specs.Prelude.{slice_get, slice_set}
 use Rattle.blocking_crew.specs.Moves.{NeverAsked}
 use Rattle.blocking_lanes.specs.Owners.{Owner, next_of}

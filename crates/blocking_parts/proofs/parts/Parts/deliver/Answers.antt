@@ -1,4 +1,4 @@
-use Rattle.std.proofs.Common.{subst, refl, sym, ap, ◌∙◌, arith, length, ◌<◌}
+use Rattle.std.proofs.Common.{subst, sym, length, ◌<◌}
 use Rattle.blocking_parts.specs.Parts.{Parts}
 use Rattle.blocking_parts.specs.contracts.parts.Parts.{the_view}
 use Rattle.blocking_parts.proofs.moves.Steps.{delivered}

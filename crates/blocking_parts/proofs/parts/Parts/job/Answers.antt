@@ -9,7 +9,7 @@ use Rattle.blocking_parts.specs.Rows.{IsDone, done}
 use Rattle.blocking_parts.specs.declared.row.Row.{Row}
 use Rattle.blocking_parts.specs.Parts.{Parts, job_at, places_of}
 use Rattle.blocking_parts.specs.contracts.parts.Parts.{the_view}
-use Rattle.blocking_parts.proofs.moves.Jobs.{row_within, none_done, job_acts, job_rests}
+use Rattle.blocking_parts.proofs.moves.Jobs.{none_done, job_acts, job_rests}
 use Rattle.blocking_parts.proofs.moves.Lanes.{same_lengths}
 use Rattle.blocking_parts.proofs.moves.Steps.{idles}
 use Rattle.blocking_parts.proofs.parts.Parts.job.Goals as goal

@@ -1,4 +1,4 @@
-use Rattle.std.proofs.Common.{refl, sym, ap, ◌∙◌, ◌≡◌, ◌-◌, Some, None}
+use Rattle.std.proofs.Common.{sym, ap, ◌∙◌, ◌-◌, Some}
 use Rattle.std.specs.Prelude.{option_map}
 use Rattle.blocking_parts.specs.Parts.{Parts, row_of, places_of}
 use Rattle.blocking_parts.specs.contracts.parts.Parts.{the_view}

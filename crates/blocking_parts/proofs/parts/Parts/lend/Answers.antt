@@ -1,4 +1,4 @@
-use Rattle.std.proofs.Common.{◌≡◌, ◌++◌, ◌∷◌, ◌<◌, [], length, refl, sym, ap, ◌∙◌, subst, Some, IfSome}
+use Rattle.std.proofs.Common.{◌≡◌, ◌++◌, ◌∷◌, ◌<◌, [], length, sym, ap, ◌∙◌, subst, Some, IfSome}
 use Rattle.std.specs.Prelude.{slice_get, slice_set}
 use Rattle.blocking_lanes.specs.OwnerSteps as owners_steps
 use Rattle.blocking_lanes.specs.Owners.{Owner, capacity_of, next_of, owner_after_begin}

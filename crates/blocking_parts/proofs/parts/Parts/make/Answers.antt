@@ -1,7 +1,6 @@
-use Rattle.std.proofs.Common.{refl, sym, ap, ◌∙◌, ◌≡◌, ◌++◌, ◌∷◌, [], arith, length, subst}
+use Rattle.std.proofs.Common.{sym, ap, ◌∙◌, ◌≡◌, ◌++◌, ◌∷◌, [], arith, length, subst}
 use Rattle.blocking_crew.specs.Moves as crew
 use Rattle.blocking_crew.specs.Moves.{NeverAsked}
-use Rattle.blocking_lanes.specs.Owners.{new_owner}
 use Rattle.blocking_laws.specs.declared.event.Act.TheVariants.{Made}
 use Rattle.blocking_laws.specs.declared.event.Party.TheVariants.{Owner as ByOwner}
 use Rattle.blocking_parts.specs.contracts.parts.Parts.{the_view}

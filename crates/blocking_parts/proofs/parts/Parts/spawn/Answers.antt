@@ -1,4 +1,4 @@
-use Rattle.std.proofs.Common.{◌≡◌, ◌++◌, ◌∷◌, [], List, length, refl, sym, ap, ◌∙◌, arith, subst}
+use Rattle.std.proofs.Common.{◌≡◌, ◌++◌, ◌∷◌, [], length, sym, ap, ◌∙◌, arith, subst}
 use Rattle.blocking_laws.specs.declared.step.Step.TheVariants.{Spawn}
 use Rattle.blocking_parts.specs.Moves.{Moves, rows_after_add, tasks_after_add}
 use Rattle.blocking_parts.specs.Rows.{call_row}

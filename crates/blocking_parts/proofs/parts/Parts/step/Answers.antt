@@ -1,5 +1,4 @@
-use Rattle.std.proofs.Common.{refl, sym, ap, ◌∙◌}
-use Rattle.blocking_laws.specs.declared.event.Event.{Event}
+use Rattle.std.proofs.Common.{ap}
 use Rattle.blocking_parts.proofs.parts.Parts.step.Goals as goal
 
 pub returns-clause-ok : goal.returns-clause-ok
