@@ -1,7 +1,7 @@
 //! Tasks that let their calls go, and worlds that end, at each stage.
 use crate::row::Line::{Counts, Sees};
 use crate::row::PlainStep::{Arrive, End, Io, Job, OfTask, Spawn, Stray, Strike, Take};
-use crate::row::{NO_SETTING, Row, play};
+use crate::row::{NO_SETTING, Row, play_all};
 use blocking_laws::step::TaskCall::{Cancel, Detach, Drop as Release, Poll};
 use std::test::Fail;
 
@@ -364,8 +364,5 @@ const ROWS: &[Row] = &[
 
 #[test]
 fn letting_go(rt: HostRuntime) -> Result<(), Fail> {
-    for row in ROWS {
-        play(rt.alloc(), row)?;
-    }
-    Ok(())
+    play_all(rt.alloc(), ROWS)
 }

@@ -4,7 +4,7 @@ use crate::row::PlainStep::{
     Arrive, DropOwner, End, Io, IoFails, Job, Late, OfTask, Own, SetLimit, Spawn, Stray, Strike,
     Take, Wait,
 };
-use crate::row::{NO_SETTING, PlainStep, Row, play};
+use crate::row::{NO_SETTING, PlainStep, Row, play_all};
 use blocking_laws::step::TaskCall::{Cancel, Detach, Drop as Release, Poll};
 use std::test::Fail;
 
@@ -118,8 +118,5 @@ const ROWS: &[Row] = &[
 
 #[test]
 fn no_action(rt: HostRuntime) -> Result<(), Fail> {
-    for row in ROWS {
-        play(rt.alloc(), row)?;
-    }
-    Ok(())
+    play_all(rt.alloc(), ROWS)
 }

@@ -4,7 +4,7 @@ use crate::row::PlainStep::{
     Arrive, AskMut, AskRead, DropOwner, End, Gives, Io, Job, Late, New, OfTask, Own, Spawn, Strike,
     Sweep, Take,
 };
-use crate::row::{NO_SETTING, PlainStep, Row, play};
+use crate::row::{NO_SETTING, PlainStep, Row, play_all};
 use blocking_laws::step::TaskCall::Poll;
 use std::test::Fail;
 
@@ -25,7 +25,8 @@ const ABSENT_OWNER: &[PlainStep] = &[
 // What it can't do as long as its poll is under way.
 const POLLED: &[PlainStep] = &[AskRead(0, 0), AskRead(0, 2), AskMut(0), DropOwner(0)];
 
-const ROWS: &[Row] = &[
+// Owners and tasks beside each other.
+const MANY: &[Row] = &[
     Row {
         name: "two owners read beside each other, on two workers",
         setting: Some("2"),
@@ -47,8 +48,8 @@ const ROWS: &[Row] = &[
             Sees(Arrive, "arrived 2"),
             Sees(Take(2), "took 2"),
             Sees(Job(2), "room 2"),
-            Sees(Gives(2, b"xy"), "answered 7879"),
-            Sees(Gives(1, b"abcd"), "answered 61626364"),
+            Sees(Gives(2, "xy"), "answered 7879"),
+            Sees(Gives(1, "abcd"), "answered 61626364"),
             Sees(Job(2), "put 2 wake owner"),
             Sees(Job(1), "put 4 wake owner"),
             Sees(Job(1), "delivered owner"),
@@ -60,12 +61,12 @@ const ROWS: &[Row] = &[
             Sees(Job(2), "room 2"),
             HasAction(1, true),
             HasAction(2, false),
-            Sees(Gives(2, b"z"), "answered 7a"),
+            Sees(Gives(2, "z"), "answered 7a"),
             Sees(Job(1), "parked"),
             Sees(End(1), "ended 1 parked"),
             Sees(Job(2), "put 1"),
             Sees(Job(2), "room 1"),
-            Sees(Gives(2, b""), "answered -"),
+            Sees(Gives(2, ""), "answered -"),
             Sees(Job(2), "closed"),
             Sees(Job(2), "finished"),
             Sees(End(2), "ended 2 done"),
@@ -81,10 +82,10 @@ const ROWS: &[Row] = &[
             Sees(Own(0), "replied ok 2"),
             Sees(Take(2), "took 1"),
             Sees(Job(2), "room 4"),
-            Sees(Gives(2, b"ef"), "answered 6566"),
+            Sees(Gives(2, "ef"), "answered 6566"),
             Sees(Job(2), "put 2"),
             Sees(Job(2), "room 2"),
-            Sees(Gives(2, b""), "answered -"),
+            Sees(Gives(2, ""), "answered -"),
             Sees(Job(2), "closed"),
             Sees(Job(2), "finished"),
             Sees(End(2), "ended 1 done"),
@@ -115,14 +116,14 @@ const ROWS: &[Row] = &[
             Sees(Own(0), "waits"),
             Sees(Arrive, "arrived 1"),
             Sees(Take(1), "took 1"),
-            Futile(&[Gives(1, b"xy"), Gives(1, b"")]),
+            Futile(&[Gives(1, "xy"), Gives(1, "")]),
             Sees(Io(1, 7), "answered 7"),
             Sees(Job(1), "finished"),
             Sees(End(1), "ended 1 done"),
             Sees(Take(1), "took 2"),
             Sees(Job(1), "room 2"),
             Futile(&[Io(1, 7)]),
-            Sees(Gives(1, b"xy"), "answered 7879"),
+            Sees(Gives(1, "xy"), "answered 7879"),
             Sees(Job(1), "put 2 wake owner"),
             Sees(OfTask(0, Poll), "got 7"),
             Sees(Job(1), "delivered owner"),
@@ -153,12 +154,12 @@ const ROWS: &[Row] = &[
             Sees(Take(1), "took 1"),
             Futile(&[Own(0), Strike(1)]),
             Sees(Job(1), "room 4"),
-            Sees(Gives(1, b"abcd"), "answered 61626364"),
+            Sees(Gives(1, "abcd"), "answered 61626364"),
             Sees(Job(1), "put 4 wake owner"),
             Futile(&[Own(0), End(1)]),
             Sees(Job(1), "delivered owner"),
             Sees(Job(1), "parked"),
-            Futile(&[Job(1), Gives(1, b"a"), Strike(1)]),
+            Futile(&[Job(1), Gives(1, "a"), Strike(1)]),
             Sees(End(1), "ended 1 parked"),
             Futile(&[Job(1), End(1), Strike(1)]),
             Sees(AskRead(0, 2), "asked"),
@@ -180,7 +181,7 @@ const ROWS: &[Row] = &[
             Sees(Job(1), "closed"),
             Sees(Job(1), "finished wake owner"),
             Sees(Job(1), "delivered owner"),
-            Futile(&[Own(0), Job(1), Gives(1, b"a")]),
+            Futile(&[Own(0), Job(1), Gives(1, "a")]),
             Sees(End(1), "ended 1 done"),
             Sees(AskMut(0), "asked"),
             Sees(Own(0), "back"),
@@ -194,6 +195,10 @@ const ROWS: &[Row] = &[
         ],
         ..AT_LIMIT_1
     },
+];
+
+// What becomes of the jobs of dropped owners, queued and parked.
+const DROPS: &[Row] = &[
     Row {
         name: "an owner that rests is dropped",
         lines: &[
@@ -220,7 +225,7 @@ const ROWS: &[Row] = &[
             Futile(ABSENT_OWNER),
             Sees(Arrive, "arrived 1"),
             Sees(Take(1), "took 1 dropped"),
-            Futile(&[Gives(1, b"a"), End(1)]),
+            Futile(&[Gives(1, "a"), End(1)]),
             HasAction(1, true),
             Sees(Job(1), "gave up"),
             HasAction(1, false),
@@ -262,7 +267,7 @@ const ROWS: &[Row] = &[
             Sees(Arrive, "arrived 1"),
             Sees(Take(1), "took 1"),
             Sees(Job(1), "room 4"),
-            Sees(Gives(1, b"abcd"), "answered 61626364"),
+            Sees(Gives(1, "abcd"), "answered 61626364"),
             Sees(Job(1), "put 4 wake owner"),
             Sees(Job(1), "delivered owner"),
             Sees(Job(1), "parked"),
@@ -292,14 +297,14 @@ const ROWS: &[Row] = &[
             Sees(Arrive, "arrived 1"),
             Sees(Take(1), "took 1"),
             Sees(Job(1), "room 1"),
-            Sees(Gives(1, b"a"), "answered 61"),
+            Sees(Gives(1, "a"), "answered 61"),
             Sees(Job(1), "put 1 wake owner"),
             Sees(Job(1), "delivered owner"),
             Sees(Job(1), "parked"),
             Sees(End(1), "ended 1 parked"),
             Sees(Take(1), "took 2"),
             Sees(Job(1), "room 1"),
-            Sees(Gives(1, b"b"), "answered 62"),
+            Sees(Gives(1, "b"), "answered 62"),
             Sees(Job(1), "put 1 wake owner"),
             Sees(Job(1), "delivered owner"),
             Sees(Job(1), "parked"),
@@ -313,6 +318,10 @@ const ROWS: &[Row] = &[
         ],
         ..AT_LIMIT_1
     },
+];
+
+// And of those that run, or are struck.
+const RUNNING_DROPS: &[Row] = &[
     Row {
         name: "the running job of a dropped owner is handed out where it waits",
         lines: &[
@@ -324,12 +333,12 @@ const ROWS: &[Row] = &[
             Sees(Take(1), "took 1"),
             Sees(Job(1), "room 4"),
             Sees(DropOwner(0), "dropped"),
-            Sees(Gives(1, b"abcd"), "answered 61626364"),
+            Sees(Gives(1, "abcd"), "answered 61626364"),
             Sees(Job(1), "put 4 wake owner"),
             Sees(Job(1), "delivered owner"),
             Sees(Job(1), "parked"),
             Sees(End(1), "drop 1"),
-            Futile(&[End(1), Gives(1, b"a")]),
+            Futile(&[End(1), Gives(1, "a")]),
             Sees(Job(1), "gave up"),
             Sees(End(1), "ended 1 dropped"),
         ],
@@ -347,11 +356,11 @@ const ROWS: &[Row] = &[
             Sees(DropOwner(0), "dropped"),
             Sees(Strike(1), "cancelled 1 marked"),
             Sees(Job(1), "room 4"),
-            Sees(Gives(1, b"ab"), "answered 6162"),
+            Sees(Gives(1, "ab"), "answered 6162"),
             Sees(Job(1), "put 2 wake owner"),
             Sees(Job(1), "delivered owner"),
             Sees(Job(1), "room 2"),
-            Sees(Gives(1, b""), "answered -"),
+            Sees(Gives(1, ""), "answered -"),
             Sees(Job(1), "closed"),
             Sees(Job(1), "finished"),
             Sees(End(1), "ended 1 done"),
@@ -369,7 +378,7 @@ const ROWS: &[Row] = &[
             Sees(Arrive, "arrived 1"),
             Sees(Take(1), "took 1"),
             Sees(Job(1), "room 1"),
-            Sees(Gives(1, b"a"), "answered 61"),
+            Sees(Gives(1, "a"), "answered 61"),
             Sees(Job(1), "put 1 wake owner"),
             Sees(Job(1), "delivered owner"),
             Sees(Job(1), "parked"),
@@ -385,9 +394,16 @@ const ROWS: &[Row] = &[
 ];
 
 #[test]
-fn owners(rt: HostRuntime) -> Result<(), Fail> {
-    for row in ROWS {
-        play(rt.alloc(), row)?;
-    }
-    Ok(())
+fn owners_share_workers(rt: HostRuntime) -> Result<(), Fail> {
+    play_all(rt.alloc(), MANY)
+}
+
+#[test]
+fn owners_are_dropped(rt: HostRuntime) -> Result<(), Fail> {
+    play_all(rt.alloc(), DROPS)
+}
+
+#[test]
+fn owners_are_dropped_while_their_jobs_run(rt: HostRuntime) -> Result<(), Fail> {
+    play_all(rt.alloc(), RUNNING_DROPS)
 }

@@ -4,7 +4,7 @@ use crate::row::PlainStep::{
     Arrive, AskMut, AskRead, End, Gives, Io, IoFails, Job, Late, New, Own, SetLimit, Spawn, Stray,
     Take,
 };
-use crate::row::{NO_SETTING, Row, play};
+use crate::row::{NO_SETTING, Row, play_all};
 use std::test::Fail;
 
 const AT_LIMIT_4: Row = Row {
@@ -12,7 +12,8 @@ const AT_LIMIT_4: Row = Row {
     ..NO_SETTING
 };
 
-const ROWS: &[Row] = &[
+// Bytes come in order, faults behind them, and a stop takes the handle back.
+const BYTES: &[Row] = &[
     Row {
         name: "six bytes come through a pipe of four, two by two",
         lines: &[
@@ -30,7 +31,7 @@ const ROWS: &[Row] = &[
             HasAction(1, true),
             Sees(Job(1), "room 4"),
             HasAction(1, false),
-            Sees(Gives(1, b"abcd"), "answered 61626364"),
+            Sees(Gives(1, "abcd"), "answered 61626364"),
             HasAction(1, true),
             Sees(Job(1), "put 4 wake owner"),
             HasAction(1, true),
@@ -53,10 +54,10 @@ const ROWS: &[Row] = &[
             Sees(Own(0), "replied ok 2"),
             Sees(Take(1), "took 1"),
             Sees(Job(1), "room 4"),
-            Sees(Gives(1, b"ef"), "answered 6566"),
+            Sees(Gives(1, "ef"), "answered 6566"),
             Sees(Job(1), "put 2"),
             Sees(Job(1), "room 2"),
-            Sees(Gives(1, b""), "answered -"),
+            Sees(Gives(1, ""), "answered -"),
             HasAction(1, true),
             Sees(Job(1), "closed"),
             Sees(Job(1), "finished"),
@@ -86,7 +87,7 @@ const ROWS: &[Row] = &[
             Sees(Arrive, "arrived 1"),
             Sees(Take(1), "took 1"),
             Sees(Job(1), "room 4"),
-            Sees(Gives(1, b"ab"), "answered 6162"),
+            Sees(Gives(1, "ab"), "answered 6162"),
             Sees(Job(1), "put 2 wake owner"),
             Sees(Job(1), "delivered owner"),
             Sees(Job(1), "room 2"),
@@ -118,7 +119,7 @@ const ROWS: &[Row] = &[
             Sees(Arrive, "arrived 1"),
             Sees(Take(1), "took 1"),
             Sees(Job(1), "room 4"),
-            Sees(Gives(1, b"abcd"), "answered 61626364"),
+            Sees(Gives(1, "abcd"), "answered 61626364"),
             Sees(Job(1), "put 4 wake owner"),
             Sees(Job(1), "delivered owner"),
             Sees(Job(1), "parked"),
@@ -147,6 +148,10 @@ const ROWS: &[Row] = &[
         ],
         ..AT_LIMIT_4
     },
+];
+
+// What a stop loses and keeps, and what changes nothing.
+const STOPS: &[Row] = &[
     Row {
         name: "a piece in the job's hand is lost at a stop, and a stop for the handle ignores the fault",
         lines: &[
@@ -157,7 +162,7 @@ const ROWS: &[Row] = &[
             Sees(Arrive, "arrived 1"),
             Sees(Take(1), "took 1"),
             Sees(Job(1), "room 4"),
-            Sees(Gives(1, b"ab"), "answered 6162"),
+            Sees(Gives(1, "ab"), "answered 6162"),
             Sees(AskMut(0), "asked"),
             Sees(Own(0), "closed"),
             Sees(Own(0), "waits"),
@@ -233,7 +238,7 @@ const ROWS: &[Row] = &[
             Sees(Arrive, "arrived 1"),
             Sees(Take(1), "took 1"),
             Sees(Job(1), "room 4"),
-            Sees(Gives(1, b"ab"), "answered 6162"),
+            Sees(Gives(1, "ab"), "answered 6162"),
             Sees(Job(1), "put 2 wake owner"),
             Sees(Job(1), "delivered owner"),
             Sees(AskRead(0, 0), "asked"),
@@ -259,15 +264,19 @@ const ROWS: &[Row] = &[
             Sees(Own(0), "waits"),
             Sees(Arrive, "arrived 1"),
             Sees(Take(1), "took 1"),
-            Futile(&[Gives(1, b"a"), Io(1, 4), IoFails(1, 5), End(1)]),
+            Futile(&[Gives(1, "a"), Io(1, 4), IoFails(1, 5), End(1)]),
             Sees(Job(1), "room 4"),
-            Futile(&[Gives(1, b"abcde"), Io(1, 4), Job(1), End(1), Gives(2, b"a")]),
-            Sees(Gives(1, b"abcd"), "answered 61626364"),
-            Futile(&[Gives(1, b"a"), IoFails(1, 5), End(1)]),
+            Futile(&[Gives(1, "abcde"), Io(1, 4), Job(1), End(1), Gives(2, "a")]),
+            Sees(Gives(1, "abcd"), "answered 61626364"),
+            Futile(&[Gives(1, "a"), IoFails(1, 5), End(1)]),
             Sees(Job(1), "put 4 wake owner"),
         ],
         ..AT_LIMIT_4
     },
+];
+
+// What was refused, how much room there is, and a job that waits.
+const REFUSALS: &[Row] = &[
     Row {
         name: "a refused session is told to its owner, who rests, and the next try works",
         plan: &[true],
@@ -303,7 +312,7 @@ const ROWS: &[Row] = &[
             Sees(AskMut(0), "asked"),
             Sees(Own(0), "closed"),
             Sees(Own(0), "waits"),
-            Sees(Gives(1, b""), "answered -"),
+            Sees(Gives(1, ""), "answered -"),
             Sees(Job(1), "closed wake owner"),
             Sees(Job(1), "delivered owner"),
             Sees(Job(1), "finished wake owner"),
@@ -334,7 +343,7 @@ const ROWS: &[Row] = &[
             Sees(Arrive, "arrived 1"),
             Sees(Take(1), "took 1"),
             Sees(Job(1), "room 1"),
-            Sees(Gives(1, b"a"), "answered 61"),
+            Sees(Gives(1, "a"), "answered 61"),
             Sees(Job(1), "put 1 wake owner"),
             Sees(Job(1), "delivered owner"),
             Sees(Job(1), "parked"),
@@ -367,21 +376,21 @@ const ROWS: &[Row] = &[
             Sees(Arrive, "arrived 1"),
             Sees(Take(1), "took 1"),
             Sees(Job(1), "room 8388608"),
-            Sees(Gives(1, &[0, 255]), "answered 00ff"),
+            Sees(Gives(1, "\0\u{7f}"), "answered 007f"),
             Sees(Job(1), "put 2 wake owner"),
             Sees(Job(1), "delivered owner"),
             Sees(Job(1), "room 8388606"),
             Sees(AskRead(0, 9), "asked"),
-            Sees(Own(0), "got 00ff"),
+            Sees(Own(0), "got 007f"),
             Sees(Own(0), "replied ok 2"),
-            Sees(Gives(1, b""), "answered -"),
+            Sees(Gives(1, ""), "answered -"),
             Sees(Job(1), "closed"),
             Sees(Job(1), "finished"),
             Sees(End(1), "ended 1 done"),
             Sees(Take(1), "took 2"),
             Sees(Job(1), "room 1"),
-            Futile(&[Gives(1, b"ab")]),
-            Sees(Gives(1, b"a"), "answered 61"),
+            Futile(&[Gives(1, "ab")]),
+            Sees(Gives(1, "a"), "answered 61"),
             Sees(Job(1), "put 1 wake owner"),
         ],
         ..NO_SETTING
@@ -397,7 +406,7 @@ const ROWS: &[Row] = &[
             Sees(Arrive, "arrived 1"),
             Sees(Take(1), "took 1"),
             Sees(Job(1), "room 1"),
-            Sees(Gives(1, b"a"), "answered 61"),
+            Sees(Gives(1, "a"), "answered 61"),
             Sees(Job(1), "put 1 wake owner"),
             Sees(Job(1), "delivered owner"),
             Sees(Job(1), "parked"),
@@ -408,7 +417,7 @@ const ROWS: &[Row] = &[
             Sees(End(1), "ended 1 queued"),
             Sees(Take(1), "took 1"),
             Sees(Job(1), "room 1"),
-            Sees(Gives(1, b"b"), "answered 62"),
+            Sees(Gives(1, "b"), "answered 62"),
             Sees(Job(1), "put 1"),
             Sees(Job(1), "parked"),
             Sees(End(1), "ended 1 parked"),
@@ -423,9 +432,16 @@ const ROWS: &[Row] = &[
 ];
 
 #[test]
-fn reading(rt: HostRuntime) -> Result<(), Fail> {
-    for row in ROWS {
-        play(rt.alloc(), row)?;
-    }
-    Ok(())
+fn bytes_come(rt: HostRuntime) -> Result<(), Fail> {
+    play_all(rt.alloc(), BYTES)
+}
+
+#[test]
+fn sessions_are_stopped(rt: HostRuntime) -> Result<(), Fail> {
+    play_all(rt.alloc(), STOPS)
+}
+
+#[test]
+fn sessions_are_refused(rt: HostRuntime) -> Result<(), Fail> {
+    play_all(rt.alloc(), REFUSALS)
 }

@@ -5,7 +5,7 @@ use blocking_world::{World, run};
 use std::alloc::{AllocError, Global};
 use std::test::Fail;
 
-// A step as plain data. What a job asks for is answered by a number (`Io`), by bytes (`Gives`), or by a fault (`IoFails`).
+// A step as plain data. What a job asks for is answered by a number (`Io`), by the bytes of a text (`Gives`), or by a fault (`IoFails`).
 #[derive(Clone, Copy, Debug)]
 pub(crate) enum PlainStep {
     New(usize),
@@ -19,7 +19,7 @@ pub(crate) enum PlainStep {
     Take(usize),
     Job(usize),
     Io(usize, u64),
-    Gives(usize, &'static [u8]),
+    Gives(usize, &'static str),
     IoFails(usize, u64),
     End(usize),
     Wait(usize),
@@ -45,8 +45,11 @@ impl PlainStep {
             PlainStep::Take(worker) => Step::Take(worker),
             PlainStep::Job(worker) => Step::Job(worker),
             PlainStep::Io(worker, number) => Step::Io(worker, Answer::Number(number)),
-            PlainStep::Gives(worker, bytes) => {
-                Step::Io(worker, Answer::Gave(Bytes::new(bytes.to_vec(alloc)?)))
+            PlainStep::Gives(worker, text) => {
+                Step::Io(
+                    worker,
+                    Answer::Gave(Bytes::new(text.as_bytes().to_vec(alloc)?)),
+                )
             }
             PlainStep::IoFails(worker, error) => Step::Io(worker, Answer::Failed(error)),
             PlainStep::End(worker) => Step::End(worker),
@@ -238,11 +241,19 @@ fn play_at_once(alloc: Global, row: &Row, lines: &[Line]) -> Result<(), Fail> {
 }
 
 // Plays a row, and each beginning of it too: a world ends wherever it stands.
-pub(crate) fn play(alloc: Global, row: &Row) -> Result<(), Fail> {
+fn play(alloc: Global, row: &Row) -> Result<(), Fail> {
     for count in 0..=row.lines.len() {
         let lines = row.lines.get(..count).unwrap_or(&[]);
         play_step_by_step(alloc, row, lines)?;
         play_at_once(alloc, row, lines)?;
+    }
+    Ok(())
+}
+
+// Plays all of these rows.
+pub(crate) fn play_all(alloc: Global, rows: &[Row]) -> Result<(), Fail> {
+    for row in rows {
+        play(alloc, row)?;
     }
     Ok(())
 }

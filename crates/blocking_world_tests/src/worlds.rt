@@ -3,7 +3,7 @@ use crate::row::Line::{Counts, HasAction, Sees};
 use crate::row::PlainStep::{
     Arrive, End, Io, Job, Late, OfTask, SetLimit, Spawn, Stray, Sweep, Take, Wait,
 };
-use crate::row::{NO_SETTING, Row, play};
+use crate::row::{NO_SETTING, Row, play_all};
 use blocking_laws::step::TaskCall::{Cancel, Poll};
 use std::test::Fail;
 
@@ -222,8 +222,5 @@ const ROWS: &[Row] = &[
 
 #[test]
 fn worlds(rt: HostRuntime) -> Result<(), Fail> {
-    for row in ROWS {
-        play(rt.alloc(), row)?;
-    }
-    Ok(())
+    play_all(rt.alloc(), ROWS)
 }
