@@ -6,7 +6,7 @@ use Rattle.blocking_laws.specs.Seen.{events, cut}
 use Rattle.blocking_laws.specs.Ends.{EndsTruly}
 use Rattle.blocking_laws.specs.Passed.{PassesOn}
 use Rattle.blocking_laws.specs.OwnerLaws.{OwnerLaw, OwnerLaws}
-use Rattle.blocking_laws.specs.OwnerWakes.{IsNotLost}
+use Rattle.blocking_laws.specs.OwnerWakes.{IsNotLost, ParksRightly}
 use Rattle.blocking_laws.specs.Traces.{◌▸◌, moment, starting, of_owner}
 use Rattle.blocking_laws.specs.declared.event.Act.{Act}
 use Rattle.blocking_laws.specs.declared.event.Act.TheVariants.{Made, Asked, Accepted, OwnerClosed, JobWoken, Got, GotEnd, Back, Replied, Waits, HolderDropped, Arrived, Took, Ended, Answered, RoomFree, RoomShut, JobParked, Put, JobClosed, Finished, HolderWoken}
@@ -57,7 +57,7 @@ FirstOwnerLaw past now = LawOfOwner 0 past now
 abbrev pub KeepsFirstOwner : List Moment → Type 0
 KeepsFirstOwner past = OwnerLaws (cut 0 (events past))
 
--- the law of ends of owner 0; what passed in its last session; and that it doesn't wait in vain for job 1
+-- the law of ends of owner 0; what passed in its last session; that it doesn't wait in vain for job 1; and that this job has reason to park
 abbrev pub FirstOwnerEnds : List Moment → Moment → Type 0
 FirstOwnerEnds past now = EndsTruly (cut 0 (events past)) now.event.act
 
@@ -66,6 +66,9 @@ FirstOwnerPasses past = PassesOn (cut 0 (events past))
 
 abbrev pub FirstOwnerIsNotLost : List Moment → Type 0
 FirstOwnerIsNotLost past = IsNotLost past 1 (cut 0 (events past))
+
+abbrev pub FirstOwnersJobParksRightly : List Moment → Type 0
+FirstOwnersJobParksRightly past = ParksRightly past 1 (cut 0 (events past))
 
 -- ---- an owner that reads
 
