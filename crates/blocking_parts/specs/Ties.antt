@@ -95,11 +95,12 @@ pub record Marked (past : List Moment) : Type 0 where
 
 -- ---- who waits for whom
 
--- whether a job is left to its owner: it is parked, or waits and has met no wake since its turn began
+-- whether a job waits, by its turn
 abbrev pub is_waiting_in : Turn → Bool
 is_waiting_in IsWaiting = true
 is_waiting_in _ = false
 
+-- whether a job is left to its owner: it is parked, or waits and has met no wake since its turn began
 abbrev pub is_left : List Moment → ℕ → Bool
 is_left past s = is_parked (standing past s) || (is_running (standing past s) && is_waiting_in (turn past s) && not (is_woken past s))
 
@@ -130,6 +131,7 @@ moment new step e = record { step = step; event = record e { owner = owner_of ne
 
 -- ---- all of it
 
+-- The parts hang together with what was seen: the crew, the tasks, the owners, the rows, the marks, and who waits for whom.
 pub record Tied (setting : ℕ) (plan : List Bool) (w : Parts) (past : List Moment) : Type 0 where
   pub crewed : CrewHolds setting plan w.crew past
   pub tasked : Tasked w.tasks past
