@@ -135,6 +135,11 @@ abbrev pub state_in : Option Session → Bool → State
 state_in None shut = Idle
 state_in (Some s) shut = In s.kind (not shut)
 
+-- the same, and by whether the handle was dropped by a close
+abbrev pub state_by : Bool → Option Session → Bool → State
+state_by true last shut = Closed
+state_by false last shut = state_in last shut
+
 -- the state that the own acts tell
 abbrev pub state : List Act → State
-state acts = if is_closed acts then Closed else state_in (session acts) (is_shut acts)
+state acts = state_by (is_closed acts) (session acts) (is_shut acts)

@@ -113,7 +113,7 @@ may_cancel (Some (Owner h)) past = is_dropped (acts_of_owner h (events past))
 may_cancel (Some (Task k)) past = is_let_go (acts_of_task k (events past))
 may_cancel _ past = false
 
--- whether what is asked for is known to the pool's owners yet: a read and the handle are, and a write, a flush and a close aren't
+-- whether owners are asked for this yet: for a read and for the handle they are, for a write, a flush and a close they aren't
 abbrev pub is_known : HandleCall → Bool
 is_known (Read n) = true
 is_known GetMut = true

@@ -12,7 +12,7 @@ use Rattle.blocking_core.specs.declared.job.read.ReadAction.{ReadAction}
 use Rattle.blocking_core.specs.declared.job.read.ReadAction.TheVariants as read
 use Rattle.blocking_core.specs.declared.job.read.ReadAnswer.TheVariants as by
 use Rattle.blocking_laws.specs.Ends.{EndsTruly, back_by, came_back}
-use Rattle.blocking_laws.specs.JobTable.{Reading, JobAction, FindRoom, AskBytes, PutPiece, CloseEnd, Finish, WakeHolder, Over, next_but_wake, next_of_job, is_over, is_answer, takes_waker, is_taken, fault, has_finished, has_given_up}
+use Rattle.blocking_laws.specs.JobTable.{Kind, Reading, JobAction, FindRoom, AskBytes, PutPiece, CloseEnd, Finish, WakeHolder, Over, next_but_wake, next_of_job, is_over, is_answer, takes_waker, is_taken, fault, has_finished, has_given_up}
 use Rattle.blocking_laws.specs.JobTable as job
 use Rattle.blocking_laws.specs.OwnerLaws.{JobActs, Works}
 use Rattle.blocking_laws.specs.OwnerSeats.{place_of, is_job_seated, job_seated_by, pipe_seat, pipe_seated_by, slot_seat, slot_seated_by}
@@ -112,7 +112,7 @@ module _ (bytes : ℕ) (here : OwnerStage) (s : Session) (h v first : ℕ) (grow
     pub lawful : JobActs cut s.number.serial Reading act
     pub ends : EndsTruly cut act
     pub back : (here : List Event) (before : Option (List Event)) → back_by act here before ≡ before
-    pub faults : over ≡ true → fault (act ∷ acts) ≡ fault acts
+    pub faults : over ≡ true → (kind : Kind) → fault kind (act ∷ acts) ≡ fault kind acts
     pub session :
         SessionAs (record { number = s.number; pipe = pipe; slot = slot }) (bound bytes) began shut over gone took (act ∷ acts)
         (job_seated_by act (is_job_seated cut)) (pipe_seated_by act (place_of (next_of_owner cut)) (pipe_seat cut))
@@ -130,7 +130,7 @@ module _ (bytes : ℕ) (here : OwnerStage) (s : Session) (h v first : ℕ) (grow
   keeps_goes act pipe slot among k =
       let e = event act in
       let more = acts_more act k.pool k.nothing in
-      let faults = λ (is : over ≡ true) (n : ℕ). same_fault is n (s.number.serial == n) refl in
+      let faults = λ (is : over ≡ true) (kind : Kind) (n : ℕ). same_fault is kind n (s.number.serial == n) refl in
       let next = next_stays (e ∷ cut) cut (own cut) faults in
       record {
         acts = (among, subst (λ kind. JobActs cut s.number.serial kind act) (sym (t.kinds s.number.serial among)) k.lawful);
@@ -158,11 +158,11 @@ module _ (bytes : ℕ) (here : OwnerStage) (s : Session) (h v first : ℕ) (grow
         };
       }
     where
-      same_fault : over ≡ true → (n : ℕ) (b : Bool) → (s.number.serial == n) ≡ b → fault (acts_of n (event act ∷ cut)) ≡ fault (acts_of n cut)
-      same_fault is n true test =
+      same_fault : over ≡ true → (kind : Kind) (n : ℕ) (b : Bool) → (s.number.serial == n) ≡ b → fault kind (acts_of n (event act ∷ cut)) ≡ fault kind (acts_of n cut)
+      same_fault is kind n true test =
           let same : s.number.serial ≡ n = grind (arith, nat_tests) in
-          subst (λ m. fault (acts_of m (event act ∷ cut)) ≡ fault (acts_of m cut)) same (ap fault (acts_more act k.pool k.nothing) ∙ k.faults is)
-      same_fault is n false test = ap fault (acts_other act n k.pool k.nothing test)
+          subst (λ m. fault kind (acts_of m (event act ∷ cut)) ≡ fault kind (acts_of m cut)) same (ap (fault kind) (acts_more act k.pool k.nothing) ∙ k.faults is kind)
+      same_fault is kind n false test = ap (fault kind) (acts_other act n k.pool k.nothing test)
 
   -- ---- its acts at the session
 
@@ -312,7 +312,7 @@ module _ (bytes : ℕ) (here : OwnerStage) (s : Session) (h v first : ℕ) (grow
     finish_works is =
         let a = awake p read.Finish is (λ e. cc) in
         let here = tied Finish (table read.Finish a) in
-        let empty = (going s.slot.content (has_finished acts) (has_given_up acts) over gone (fault acts) here.result).empty in
+        let empty = (going s.slot.content (has_finished acts) (has_given_up acts) over gone (fault Reading acts) here.result).empty in
         let woke = finish_wakes p.fault s in
         let sits : woke ≡ is_some s.slot.seat = ap (λ c. is_some (answer_of c s.slot.seat p.fault).wake) empty in
         let act = Finished (waker_in woke) in
@@ -337,7 +337,7 @@ module _ (bytes : ℕ) (here : OwnerStage) (s : Session) (h v first : ℕ) (grow
         let q = asks p acts answer r is in
         let here = tied (AskBytes q.most) q.table in
         let next = next_by acts ∙ ap (λ b. job.wake_first b (next_but_wake Reading acts)) (sym r.waking ∙ q.a.waking) ∙ q.table in
-        let going_on = going s.slot.content (has_finished acts) (has_given_up acts) over gone (fault acts) here.result in
+        let going_on = going s.slot.content (has_finished acts) (has_given_up acts) over gone (fault Reading acts) here.result in
         keeps_goes (Answered answer) s.pipe s.slot among (record {
           pool = refl;
           nothing = refl;
@@ -354,8 +354,8 @@ module _ (bytes : ℕ) (here : OwnerStage) (s : Session) (h v first : ℕ) (grow
   pub give_up_goes : is_in s.number.serial (jobs_of (own cut)) ≡ true → is_over (next_but_wake Reading acts) ≡ false → gone ≡ true
       → Goes (owner_by_parts bytes here (Some (session_after_give_up s))) cut (event (GaveUp (waker_in (give_up_wakes s))))
   give_up_goes among goes dropped =
-      let result = subst (λ b. ResultAs s.slot.content (has_finished acts) (has_given_up acts) b over gone (fault acts)) goes t.last.result in
-      let empty = (going s.slot.content (has_finished acts) (has_given_up acts) over gone (fault acts) result).empty in
+      let result = subst (λ b. ResultAs s.slot.content (has_finished acts) (has_given_up acts) b over gone (fault Reading acts)) goes t.last.result in
+      let empty = (going s.slot.content (has_finished acts) (has_given_up acts) over gone (fault Reading acts) result).empty in
       let woke = give_up_wakes s in
       let sits : woke ≡ is_some s.slot.seat = ap (λ c. is_some (waker_out_of c s.slot.seat)) empty in
       keeps_goes (GaveUp (waker_in woke)) s.pipe (slot_without_job s.slot.content s.slot.seat) among (record {

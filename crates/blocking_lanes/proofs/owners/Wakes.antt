@@ -55,7 +55,7 @@ module _ (s : Session) (capacity : ℕ) (cut : List Event) (t : LastAs (Some s) 
       at : (b : Bool) → is_some s.pipe.owner_seat ≡ b → b || is_some s.slot.seat ≡ true → ⊥
       at true seat sits = (let given_up = t.flow.unclosed (sym t.result.over_is ∙ or_left (has_finished works) (has_given_up works) done) (t.seats.reason.owner seat).1 in cc)
       at false seat sits =
-          full_slot s.slot.content (has_finished works) (has_given_up works) (is_none (session (own cut))) (fault works) t.result.slot done lent (t.seats.reason.slot sits).0
+          full_slot s.slot.content (has_finished works) (has_given_up works) (is_none (session (own cut))) (fault Reading works) t.result.slot done lent (t.seats.reason.slot sits).0
 
   -- Who sits in a seat doesn't wait for a job that sits in its own.
   not_seated : has_given_up works ≡ false → is_job_seated cut ≡ true → is_seated (Some s) ≡ true → ⊥
