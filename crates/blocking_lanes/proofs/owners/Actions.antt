@@ -32,6 +32,7 @@ use Rattle.blocking_lanes.specs.declared.owner.OwnerNext.{OwnerNext}
 use Rattle.blocking_lanes.specs.declared.owner.OwnerNext.TheVariants.{Rests, Acts}
 use Rattle.blocking_lanes.specs.declared.owner.OwnerStage.{OwnerStage}
 use Rattle.blocking_lanes.specs.declared.owner.OwnerStage.TheVariants as stage
+use Rattle.blocking_lanes.proofs.owners.Cuts.{is_open, state_is}
 use Rattle.blocking_lanes.proofs.owners.Own.{owner_by_parts, bound, doing, fits_at}
 use Rattle.blocking_lanes.proofs.owners.Reads.{awake}
 use Rattle.blocking_lanes.proofs.owners.Steps.{its_last}

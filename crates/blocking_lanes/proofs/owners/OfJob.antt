@@ -199,7 +199,7 @@ module _ (bytes : ℕ) (here : OwnerStage) (s : Session) (h v first : ℕ) (grow
             lawful = lawful_at p FindRoom (RoomFree (suc n)) r (ap (action_as p.piece) is) (ap seen_room (sym found ∙ room_found));
             ends = tt;
             back = λ here before. refl;
-            faults = λ is. refl;
+            faults = λ is kind. refl;
             session = finds s (bound bytes) began shut over gone took acts js ps ss (suc n) found (tied FindRoom (table read.FindRoom a));
             ended = λ e. e;
             told = λ e. inr e;
@@ -215,7 +215,7 @@ module _ (bytes : ℕ) (here : OwnerStage) (s : Session) (h v first : ℕ) (grow
             lawful = lawful_at p FindRoom JobParked r (ap (action_as p.piece) is) (ap seen_room (sym found ∙ room_found));
             ends = tt;
             back = λ here before. refl;
-            faults = λ is. refl;
+            faults = λ is kind. refl;
             session = parks s (bound bytes) began shut over gone took acts js ps ss found (table read.FindRoom a) t.last;
             ended = λ e. e;
             told = λ e. inr e;
@@ -231,7 +231,7 @@ module _ (bytes : ℕ) (here : OwnerStage) (s : Session) (h v first : ℕ) (grow
             lawful = lawful_at p FindRoom RoomShut r (ap (action_as p.piece) is) (ap seen_room (sym found ∙ room_found));
             ends = tt;
             back = λ here before. refl;
-            faults = λ is. refl;
+            faults = λ is kind. refl;
             session = finds_shut s (bound bytes) began shut over gone took acts js ps ss found (tied FindRoom (table read.FindRoom a));
             ended = λ e. e;
             told = λ e. inr e;
@@ -260,7 +260,7 @@ module _ (bytes : ℕ) (here : OwnerStage) (s : Session) (h v first : ℕ) (grow
             lawful = lawful_at p (PutPiece p.piece) act r (ap (action_as p.piece) is) (ap (seen_put (length p.piece)) (sym found ∙ put_found));
             ends = tt;
             back = λ here before. refl;
-            faults = λ is. refl;
+            faults = λ is kind. refl;
             session = puts s (bound bytes) began shut over gone took acts js ps ss p.piece (waker_in (is_some seat)) seat found here;
             ended = λ e. absurd (let closed = e.1 in let lasts = here.flow.passed_is.0 in cc);
             told = λ e. subst (λ o. (is_taken (waker_in (is_some o)) ≡ true) ⊎ (is_some s.slot.seat ≡ true)) (sym took_it) (taken_first (is_some s.pipe.owner_seat) (is_some s.slot.seat) e);
@@ -277,7 +277,7 @@ module _ (bytes : ℕ) (here : OwnerStage) (s : Session) (h v first : ℕ) (grow
             lawful = lawful_at p (PutPiece p.piece) act r (ap (action_as p.piece) is) (ap (seen_put (length p.piece)) (sym found ∙ put_found));
             ends = tt;
             back = λ here before. refl;
-            faults = λ is. refl;
+            faults = λ is kind. refl;
             session = loses s (bound bytes) began shut over gone took acts js ps ss p.piece found (tied (PutPiece p.piece) (table (read.Put count) a));
             ended = λ e. e;
             told = λ e. inr e;
@@ -299,7 +299,7 @@ module _ (bytes : ℕ) (here : OwnerStage) (s : Session) (h v first : ℕ) (grow
             lawful = lawful_at p CloseEnd act r (ap (action_as p.piece) is) (ap (λ b. JobClosed (waker_in b)) (sym t.last.seats.owner));
             ends = tt;
             back = λ here before. refl;
-            faults = λ is. refl;
+            faults = λ is kind. refl;
             session = closes s (bound bytes) began shut over gone took acts js ps ss (waker_in woke) here;
             ended = λ e. absurd (let closed = e.1 in let lasts = here.flow.passed_is.0 in cc);
             told = λ e. taken_first (is_some s.pipe.owner_seat) (is_some s.slot.seat) e;
@@ -323,7 +323,7 @@ module _ (bytes : ℕ) (here : OwnerStage) (s : Session) (h v first : ℕ) (grow
             lawful = lawful_at p Finish act r (ap (action_as p.piece) is) (ap (λ b. Finished (waker_in b)) (sits ∙ sym t.last.seats.slot));
             ends = tt;
             back = λ here before. refl;
-            faults = λ is. refl;
+            faults = λ is kind. refl;
             session = finishes s (bound bytes) began shut over gone took acts js ps ss (waker_in woke) p.fault r.fault_is here;
             ended = λ e. e;
             told = λ e. taken_last (is_some s.pipe.owner_seat) (is_some s.slot.seat) woke _ sits e;
@@ -364,7 +364,7 @@ module _ (bytes : ℕ) (here : OwnerStage) (s : Session) (h v first : ℕ) (grow
         lawful = (dropped, goes, ap waker_in (sits ∙ sym t.last.seats.slot));
         ends = tt;
         back = λ here before. refl;
-        faults = λ is. refl;
+        faults = λ is kind. refl;
         session = gives_up s (bound bytes) began shut over gone took acts js ps ss (waker_in woke) goes dropped t.last;
         ended = λ e. e;
         told = λ e. taken_last (is_some s.pipe.owner_seat) (is_some s.slot.seat) woke _ sits e;

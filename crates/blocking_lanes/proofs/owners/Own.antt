@@ -517,6 +517,17 @@ end_is (poll_call.Read (suc n)) r back said same e = subst (λ told. IsTrueEnd (
     by_reply reply.Closed same e = absurd (cc)
 end_is _ r back said same e = tt
 
+-- no reply of a machine that the laws know ends a close
+stays_open : (r : Reply ℕ) (said : Told) (asked : Option HandleCall) → reply_as r ≡ Some said → sessions.ends_close said asked ≡ false
+stays_open r (told.Count n) asked e = refl
+stays_open r told.Handle asked e = refl
+stays_open r (told.Failed why) asked e = refl
+stays_open (reply.Count n) told.Okay asked e = absurd (cc)
+stays_open reply.Handle told.Okay asked e = absurd (cc)
+stays_open (reply.Failed why) told.Okay asked e = absurd (cc)
+stays_open reply.Done told.Okay asked e = absurd (cc)
+stays_open reply.Closed told.Okay asked e = absurd (cc)
+
 reply_goes : (bytes : ℕ) (p : OwnerMachine ℕ) (last : Option Session) (h first : ℕ) (growth : Growth) (cut : List Event) (r : Reply ℕ) (said : Told) → p.next ≡ action.Reply r
     → reply_as r ≡ Some said → OwnerAs (owner_by_parts bytes (stage.Polls p) last) cut
     → Goes (owner_by_parts bytes (stage.Rests p.state) last) cut (by_owner h (Replied said) first growth)
@@ -530,7 +541,11 @@ reply_goes bytes p last h first growth cut r said is same t =
         gone = t.gone;
         polled = refl;
         bytes = t.bytes;
-        stage = (t.stage.0.at_is, refl, refl);
+        stage = (
+          ap (λ b. Some (sessions.state_by (b || sessions.is_closed (own cut)) (sessions.session (own cut)) (sessions.is_shut (own cut)))) (stays_open r said (sessions.call (own cut)) same) ∙ t.stage.0.at_is,
+          refl,
+          refl,
+        );
         last = t.last;
         ended = λ is_end. absurd (cc);
         earlier = t.earlier;

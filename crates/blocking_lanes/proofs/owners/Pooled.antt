@@ -220,7 +220,7 @@ deliver_goes bytes p note last h first growth cut woke t =
             known = t.stage.0.known;
             asked_is = t.stage.0.asked_is;
             at_is = t.stage.0.at_is;
-            next_is = next_stays (e ∷ cut) cut (own cut) (λ back s. refl) ∙ t.stage.0.next_is;
+            next_is = next_stays (e ∷ cut) cut (own cut) (λ back k s. refl) ∙ t.stage.0.next_is;
             fits = fits_then p p.next (law.is_at_end (own cut)) (came_back cut) (noted_goes_on (own cut) note.serial t.stage.2) t.stage.0.fits;
           },
           refl,

@@ -133,7 +133,7 @@ answers p acts (Gave bytes) r is =
     record {
       next = ap (λ (c : Machine ReadAction). action_as bytes c.next) core ∙ g.2 ∙ ap (λ action. next_after_answer action (Gave bytes)) (sym q.table);
       waking = ap (λ (c : Machine ReadAction). c.is_waking) core;
-      fault_is = no_fault p.fault ∙ first_fault p.fault Reading acts (Gave bytes) r.fault_is;
+      fault_is = no_fault p.fault ∙ first_fault p.fault acts (Gave bytes) r.fault_is;
     }
 answers p acts (Failed error) r is =
     let q = asks p acts (Failed error) r is in
@@ -141,7 +141,7 @@ answers p acts (Failed error) r is =
     record {
       next = ap (λ (c : Machine ReadAction). action_as p.piece c.next) core ∙ ap (λ action. next_after_answer action (Failed error)) (sym q.table);
       waking = ap (λ (c : Machine ReadAction). c.is_waking) core;
-      fault_is = first_fault p.fault Reading acts (Failed error) r.fault_is;
+      fault_is = first_fault p.fault acts (Failed error) r.fault_is;
     }
 answers p acts (Number n) r is = let q = asks p acts (Number n) r is in absurd (let f = q.fits in cc)
 answers p acts Fine r is = let q = asks p acts Fine r is in absurd (let f = q.fits in cc)
