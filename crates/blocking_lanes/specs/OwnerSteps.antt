@@ -5,7 +5,7 @@ use Rattle.blocking_core.specs.Pipes.{empty_pipe}
 use Rattle.blocking_laws.specs.JobTable.{Reading, WakeHolder, next_of_job, next_but_wake, is_answer, is_over}
 use Rattle.blocking_laws.specs.Jobs.{accepts, holder}
 use Rattle.blocking_laws.specs.Seen.{events, acts_of, is_in_cut, is_of_job}
-use Rattle.blocking_laws.specs.Steps.{is_making}
+use Rattle.blocking_laws.specs.Steps.{is_known, is_making}
 use Rattle.blocking_laws.specs.declared.event.Act.{Act}
 use Rattle.blocking_laws.specs.declared.event.Act.TheVariants.{Made, Asked, Accepted, Refused, JobWoken, HolderDropped, Answered, HolderWoken}
 use Rattle.blocking_laws.specs.declared.event.Event.{Event}
@@ -98,7 +98,7 @@ owner_after CallsWaker owner = owner
 
 -- Whether there may be such a step of an owner, where its job has done this so far.
 abbrev pub MayTake : OwnerStep → Owner → List Act → Type 0
-MayTake (IsAsked call) owner acts = rests owner ≡ true
+MayTake (IsAsked call) owner acts = (is_known call ≡ true) × (rests owner ≡ true)
 MayTake Acts owner acts = Unit {0}
 MayTake (Begins number) owner acts = next_of owner ≡ next.Begins
 MayTake (IsRefused why) owner acts = next_of owner ≡ next.Begins

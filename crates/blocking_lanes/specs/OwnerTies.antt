@@ -20,7 +20,7 @@ use Rattle.blocking_laws.specs.OwnerLaws.{OwnerLaws}
 use Rattle.blocking_laws.specs.OwnerSeats.{is_job_seated, pipe_seat, slot_seat}
 use Rattle.blocking_laws.specs.OwnerTable.{owner_next_but_wake, note_in, is_at_end}
 use Rattle.blocking_laws.specs.OwnerTable as law
-use Rattle.blocking_laws.specs.Passed.{gave, got, answered, was_put, is_serial}
+use Rattle.blocking_laws.specs.Passed.{gave, got, answered, was_put, taken as written_by, is_serial}
 use Rattle.blocking_laws.specs.Seen.{IsBeginning, events, acts_of, own, cut}
 use Rattle.blocking_laws.specs.Sessions.{call, under_way, is_made, is_dropped, last_session, is_shut, jobs_of, kind_of_job, capacity}
 use Rattle.blocking_laws.specs.Sessions as sessions
@@ -130,13 +130,14 @@ StageAs here cut =
 -- ---- what passes between it and its job
 
 -- What a job was given and what it put, by its acts: all the bytes of its reader, those that are or were in the pipe, those of the last
--- answer, whether its reader failed, and whether it ended.
+-- answer, whether its reader failed, and whether it ended; and what it wrote.
 pub record Passed : Type 0 where
   pub given : List ℕ
   pub put : List ℕ
   pub held : List ℕ
   pub failed : Bool
   pub ended : Bool
+  pub written : List ℕ
 
 abbrev pub passed_by : List Act → Passed
 passed_by acts = record {
@@ -145,6 +146,7 @@ passed_by acts = record {
   held = answered acts;
   failed = has_failure (handle_answers acts);
   ended = last_is_end (handle_answers acts);
+  written = written_by acts;
 }
 
 -- All that a job was given is in the pipe but these bytes, and nothing failed.
@@ -184,6 +186,8 @@ pub record FlowAs (s : Session) (shut : Bool) (taken : List ℕ) (next : JobActi
   pub put : IsBeginning passed.put passed.given
   pub bounded : length passed.given ≤ length taken + s.pipe.capacity
   pub passed_is : PassedAs next (room s.pipe) s.pipe.is_job_open (shut || given_up) passed
+  -- a job that reads writes nothing
+  pub unwritten : passed.written ≡ []
   -- a job that is over has closed its end, unless it gave up
   pub unclosed : is_over next ≡ true → s.pipe.is_job_open ≡ true → given_up ≡ true
 
@@ -230,7 +234,7 @@ pub record SessionAs (s : Session) (capacity : ℕ) (last : Option sessions.Sess
     (acts : List Act) (job_seated pipe_seated slot_seated : Bool) : Type 0 where
   pub lent : LentAs s capacity last shut
   pub flow : FlowAs s shut taken (next_but_wake Reading acts) (has_closed acts) (has_given_up acts) (passed_by acts)
-  pub result : ResultAs s.slot.content (has_finished acts) (has_given_up acts) (is_over (next_but_wake Reading acts)) back dropped (fault acts)
+  pub result : ResultAs s.slot.content (has_finished acts) (has_given_up acts) (is_over (next_but_wake Reading acts)) back dropped (fault Reading acts)
   pub seats : SeatsAs s (is_finding (next_but_wake Reading acts) || has_given_up acts) job_seated pipe_seated slot_seated
 
 -- the last session, if there was one, by the same of each job

@@ -65,6 +65,9 @@ number_of owner = number_in owner.session
 -- a call, in the words of the machine
 abbrev pub poll_call_of : HandleCall → PollCall
 poll_call_of (handle_call.Read most) = poll_call.Read most
+poll_call_of (handle_call.Write bytes) = poll_call.Write (length bytes)
+poll_call_of handle_call.Flush = poll_call.Flush
+poll_call_of handle_call.Close = poll_call.Close
 poll_call_of handle_call.GetMut = poll_call.GetMut
 
 -- a reply, in the words of the laws, which know no other reply yet

@@ -11,7 +11,7 @@ use Rattle.blocking_core.specs.declared.job.read.ReadAnswer.TheVariants as by
 use Rattle.blocking_laws.specs.JobTable.{Reading, JobAction, AskBytes, FindRoom, PutPiece, CloseEnd, Finish, WakeHolder, Over, next_but_wake, takes_waker, earlier, fault}
 use Rattle.blocking_laws.specs.declared.event.Act.{Act}
 use Rattle.blocking_laws.specs.declared.step.Answer.{Answer}
-use Rattle.blocking_laws.specs.declared.step.Answer.TheVariants.{Number, Gave, Failed}
+use Rattle.blocking_laws.specs.declared.step.Answer.TheVariants.{Number, Gave, Fine, Failed}
 
 -- What the job of a reader does next, what its reader gave last, and its fault, once it met one.
 pub record Progress : Type 0 where
@@ -56,6 +56,7 @@ progress_after_failure job error = record job { core = read_after job.core by.Fa
 -- the reader answered so
 abbrev pub progress_after_answer : Progress → Answer → Progress
 progress_after_answer job (Number n) = job
+progress_after_answer job Fine = job
 progress_after_answer job (Gave bytes) = progress_after_gift job bytes
 progress_after_answer job (Failed error) = progress_after_failure job error
 
@@ -70,4 +71,4 @@ has_waker (act ∷ past) = takes_waker act
 pub record ReadAs (job : Progress) (acts : List Act) : Type 0 where
   pub next : action_as job.piece job.core.next ≡ next_but_wake Reading acts
   pub waking : job.core.is_waking ≡ has_waker acts
-  pub fault_is : job.fault ≡ fault acts
+  pub fault_is : job.fault ≡ fault Reading acts

@@ -71,11 +71,14 @@ fn serial_of(note: &Option<WakeNote>) -> Option<u64>
 }
 
 // A call, in the words of the machine.
-fn poll_call(call: HandleCall) -> PollCall
-    ensures { result ≡ poll_call_of call }
+fn poll_call(call: &HandleCall) -> PollCall
+    ensures { result ≡ poll_call_of call.now }
 {
     match call {
-        HandleCall::Read(most) => PollCall::Read(most as usize),
+        HandleCall::Read(most) => PollCall::Read(*most as usize),
+        HandleCall::Write(bytes) => PollCall::Write(bytes.as_slice().len()),
+        HandleCall::Flush => PollCall::Flush,
+        HandleCall::Close => PollCall::Close,
         HandleCall::GetMut => PollCall::GetMut,
     }
 }
@@ -182,8 +185,8 @@ impl Owner {
     }
 
     /// A poll of it begins, and asks for this. Nothing is done where it doesn't rest.
-    pub fn ask(&mut self, call: HandleCall)
-        ensures { self.new ≡ owner_after_ask call self.old }
+    pub fn ask(&mut self, call: &HandleCall)
+        ensures { self.new ≡ owner_after_ask call.now self.old }
     {
         if let OwnerStage::Rests(state) = &self.stage {
             let poll = OwnerCall::new(poll_call(call), *state);

@@ -8,4 +8,4 @@ pub use Rattle.blocking_pool.specs.Growth.{greatest, is_due, StartAnswer, Growth
 -- What a wake and a cancel do to a job, by how it stands.
 pub use Rattle.blocking_pool.specs.Wakes.{wake_of, cancel_of}
 -- What the owner and the job are answered at a pipe, by what is inside, how much room there is, which ends are open, and who is seated.
-pub use Rattle.blocking_core.specs.Places.{Met, Served, Waiting, Closed, drain, find_room, hand_in}
+pub use Rattle.blocking_core.specs.Places.{Met, Served, Waiting, Closed, drain, fill, find_room, hand_in, peek}

@@ -1,31 +1,37 @@
 -- The table of a job: what it does next, read from its own acts, the newest first.
-use Rattle.std.specs.Prelude.{◌≡◌, ℕ, nat_le, min, Bool, true, false, List, [], ◌∷◌, length, Option, Some, None}
+use Rattle.std.specs.Prelude.{◌≡◌, ℕ, zero, suc, nat_le, min, Bool, true, false, List, [], ◌∷◌, length, Option, Some, None}
 use Rattle.blocking_core.specs.declared.io.Fault.{Fault}
-use Rattle.blocking_core.specs.declared.io.Fault.TheVariants.{Io}
+use Rattle.blocking_core.specs.declared.io.Fault.TheVariants.{Io, WriteZero}
 use Rattle.blocking_laws.specs.declared.event.Act.{Act}
-use Rattle.blocking_laws.specs.declared.event.Act.TheVariants.{RoomFree, RoomShut, Answered, Put, Lost, JobClosed, Finished, GaveUp}
+use Rattle.blocking_laws.specs.declared.event.Act.TheVariants.{RoomFree, RoomShut, Answered, Put, Lost, Peeked, Drained, Taken as TakenOut, JobClosed, Finished, GaveUp}
 use Rattle.blocking_laws.specs.declared.event.HolderWaker.{HolderWaker}
 use Rattle.blocking_laws.specs.declared.event.HolderWaker.TheVariants.{Taken, Absent}
 use Rattle.blocking_laws.specs.declared.step.Answer.{Answer}
-use Rattle.blocking_laws.specs.declared.step.Answer.TheVariants.{Number, Gave}
+use Rattle.blocking_laws.specs.declared.step.Answer.TheVariants.{Number, Gave, Fine}
 use Rattle.blocking_laws.specs.declared.step.Answer.TheVariants as answer
 
--- what a job is for: to make a call, or to read ahead for an owner
+-- what a job is for: to make a call, to read ahead for an owner, or to write behind it
 pub data Kind : Type 0 where
   Calling : Kind
   Reading : Kind
+  Writing : Kind
 
--- the most bytes that a reader is asked for at once
+-- the most bytes that a reader is asked for, and a writer offered, at once
 abbrev pub piece : ℕ
 piece = 65536
 
 -- The next action of a job: it asks for its call's answer; it asks its reader for at most so many bytes, looks for room in the pipe,
--- puts these bytes there, closes its end; it puts its result, calls the waker that it took, or has nothing left to do.
+-- puts these bytes there; it looks at the front of the pipe, offers these bytes to its writer, takes so many out of the pipe, has its
+-- writer flushed; it closes its end; it puts its result, calls the waker that it took, or has nothing left to do.
 pub data JobAction : Type 0 where
   AskCall : JobAction
   AskBytes : ℕ → JobAction
   FindRoom : JobAction
   PutPiece : List ℕ → JobAction
+  Peek : JobAction
+  OfferBytes : List ℕ → JobAction
+  Consume : ℕ → JobAction
+  AskFlush : JobAction
   CloseEnd : JobAction
   Finish : JobAction
   WakeHolder : JobAction
@@ -35,11 +41,16 @@ pub data JobAction : Type 0 where
 abbrev pub first_action : Kind → JobAction
 first_action Calling = AskCall
 first_action Reading = FindRoom
+first_action Writing = Peek
 
--- the action after an answer to this one: bytes of a reader are put, and after none, and after a failure, the job closes its end
+-- the action after an answer to this one: bytes of a reader are put, and after none, and after a failure, the job closes its end; bytes
+-- that a writer took leave the pipe, after none, and after a failure, it is flushed, and after the flush the job closes its end
 abbrev pub next_after_answer : JobAction → Answer → JobAction
 next_after_answer (AskBytes n) (Gave (b ∷ bs)) = PutPiece (b ∷ bs)
 next_after_answer (AskBytes n) answer = CloseEnd
+next_after_answer (OfferBytes bytes) (Number (suc k)) = Consume (suc k)
+next_after_answer (OfferBytes bytes) answer = AskFlush
+next_after_answer AskFlush answer = CloseEnd
 next_after_answer action answer = Finish
 
 -- the job's next action, were no waker to be called first; after a wait it is the same again
@@ -50,6 +61,9 @@ next_but_wake kind (RoomFree n ∷ past) = AskBytes (min n piece)
 next_but_wake kind (RoomShut ∷ past) = CloseEnd
 next_but_wake kind (Put n waker ∷ past) = FindRoom
 next_but_wake kind (Lost n ∷ past) = CloseEnd
+next_but_wake kind (Peeked bytes ∷ past) = OfferBytes bytes
+next_but_wake kind (Drained ∷ past) = AskFlush
+next_but_wake kind (TakenOut n waker ∷ past) = Peek
 next_but_wake kind (JobClosed waker ∷ past) = Finish
 next_but_wake kind (Finished waker ∷ past) = Over
 next_but_wake kind (GaveUp waker ∷ past) = Over
@@ -63,6 +77,7 @@ is_taken Absent = false
 -- whether an act took the holder's waker out of its seat
 abbrev pub takes_waker : Act → Bool
 takes_waker (Put n waker) = is_taken waker
+takes_waker (TakenOut n waker) = is_taken waker
 takes_waker (JobClosed waker) = is_taken waker
 takes_waker (Finished waker) = is_taken waker
 takes_waker (GaveUp waker) = is_taken waker
@@ -78,17 +93,24 @@ abbrev pub next_of_job : Kind → List Act → JobAction
 next_of_job kind [] = first_action kind
 next_of_job kind (act ∷ past) = wake_first (takes_waker act) (next_but_wake kind (act ∷ past))
 
--- whether this is an answer to what the job asks for: a reader gives no more bytes than it was asked for, or fails
+-- whether this is an answer to what the job asks for: a reader gives no more bytes than it was asked for, a writer takes no more than it
+-- was offered, or is flushed, or either fails
 abbrev pub is_answer : JobAction → Answer → Bool
 is_answer AskCall (Number n) = true
 is_answer (AskBytes n) (Gave bytes) = nat_le (length bytes) n
 is_answer (AskBytes n) (answer.Failed e) = true
+is_answer (OfferBytes bytes) (Number k) = nat_le k (length bytes)
+is_answer (OfferBytes bytes) (answer.Failed e) = true
+is_answer AskFlush Fine = true
+is_answer AskFlush (answer.Failed e) = true
 is_answer action answer = false
 
 -- whether the job waits for an answer from outside
 abbrev pub is_asking : JobAction → Bool
 is_asking AskCall = true
 is_asking (AskBytes n) = true
+is_asking (OfferBytes bytes) = true
+is_asking AskFlush = true
 is_asking _ = false
 
 -- whether the job has nothing left to do
@@ -112,21 +134,22 @@ number [] = 0
 number (Answered answer ∷ past) = number_in answer (number past)
 number (_ ∷ past) = number past
 
--- the fault in an answer
-abbrev pub fault_in : Answer → Option (Fault ℕ)
-fault_in (answer.Failed e) = Some (Io e)
-fault_in _ = None
+-- the fault in an answer to this action: a failure, or a write of which nothing was taken
+abbrev pub fault_in : JobAction → Answer → Option (Fault ℕ)
+fault_in action (answer.Failed e) = Some (Io e)
+fault_in (OfferBytes bytes) (Number zero) = Some WriteZero
+fault_in action _ = None
 
 -- the first of two faults
 abbrev pub earlier : Option (Fault ℕ) → Option (Fault ℕ) → Option (Fault ℕ)
 earlier (Some why) later = Some why
 earlier None later = later
 
--- the job's fault: the first one
-abbrev pub fault : List Act → Option (Fault ℕ)
-fault [] = None
-fault (Answered answer ∷ past) = earlier (fault past) (fault_in answer)
-fault (_ ∷ past) = fault past
+-- the fault of a job of this kind: the first one
+abbrev pub fault : Kind → List Act → Option (Fault ℕ)
+fault kind [] = None
+fault kind (Answered answer ∷ past) = earlier (fault kind past) (fault_in (next_but_wake kind past) answer)
+fault kind (_ ∷ past) = fault kind past
 
 -- whether the job closed its end of the pipe
 abbrev pub has_closed : List Act → Bool

@@ -25,5 +25,6 @@ pub mod OwnerWakes
 pub mod Legal
 pub mod Traces
 pub mod OwnerTraces
+pub mod WriteTraces
 pub mod Served
 pub mod Staffed

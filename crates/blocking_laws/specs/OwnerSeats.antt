@@ -3,9 +3,9 @@
 use Rattle.std.specs.Prelude.{ℕ, Bool, true, false, List, [], ◌∷◌, Option, Some, None}
 use Rattle.blocking_laws.specs.Seen.{own}
 use Rattle.blocking_laws.specs.Sessions.{Session, last_session}
-use Rattle.blocking_laws.specs.OwnerTable.{OwnerAction, Drain, PollSlot, next_of_owner}
+use Rattle.blocking_laws.specs.OwnerTable.{OwnerAction, Drain, Fill, PollSlot, next_of_owner}
 use Rattle.blocking_laws.specs.declared.event.Act.{Act}
-use Rattle.blocking_laws.specs.declared.event.Act.TheVariants.{Accepted, OwnerClosed, Got, Waits, JobParked, Put, JobClosed, Finished, GaveUp}
+use Rattle.blocking_laws.specs.declared.event.Act.TheVariants.{Accepted, OwnerClosed, Got, Filled, Waits, JobParked, Put, Taken, JobClosed, Finished, GaveUp}
 use Rattle.blocking_laws.specs.declared.event.Event.{Event}
 
 -- where a poll that waits is seated
@@ -17,14 +17,16 @@ pub data WaitPlace : Type 0 where
 -- where a poll waits whose next action was this
 abbrev pub place_of : OwnerAction → WaitPlace
 place_of (Drain n) = AtPipe
+place_of (Fill bytes) = AtPipe
 place_of PollSlot = AtSlot
 place_of _ = Nowhere
 
--- whether the job is seated in the pipe after an act: it waits there, and what the owner takes or closes takes it out
+-- whether the job is seated in the pipe after an act: it waits there, and what the owner takes, fills or closes takes it out
 abbrev pub job_seated_by : Act → Bool → Bool
 job_seated_by JobParked before = true
 job_seated_by (Accepted s) before = false
 job_seated_by (Got bytes told) before = false
+job_seated_by (Filled n told) before = false
 job_seated_by (OwnerClosed told) before = false
 job_seated_by _ before = before
 
@@ -33,11 +35,12 @@ abbrev pub is_job_seated : List Event → Bool
 is_job_seated [] = false
 is_job_seated (now ∷ cut) = job_seated_by now.act (is_job_seated cut)
 
--- whether the owner is seated in the pipe after an act: it waits there, and what the job puts or closes takes it out
+-- whether the owner is seated in the pipe after an act: it waits there, and what the job puts, takes or closes takes it out
 abbrev pub pipe_seated_by : Act → WaitPlace → Bool → Bool
 pipe_seated_by Waits AtPipe before = true
 pipe_seated_by (Accepted s) place before = false
 pipe_seated_by (Put n waker) place before = false
+pipe_seated_by (Taken n waker) place before = false
 pipe_seated_by (JobClosed waker) place before = false
 pipe_seated_by _ place before = before
 

@@ -3,35 +3,45 @@ use Rattle.std.specs.Prelude.{ℕ, zero, Bool, true, false, if◌then◌else◌,
 use Rattle.blocking_core.specs.declared.io.Fault.{Fault}
 use Rattle.blocking_core.specs.declared.io.Fault.TheVariants as why
 use Rattle.blocking_laws.specs.Seen.{own, acts_of}
-use Rattle.blocking_laws.specs.JobTable.{Reading, fault}
-use Rattle.blocking_laws.specs.Sessions.{Session, call, last_session, State, Idle, In, state}
+use Rattle.blocking_laws.specs.JobTable.{Reading, Writing, fault}
+use Rattle.blocking_laws.specs.Sessions.{Session, call, last_session, State, Closed, Idle, In, state}
 use Rattle.blocking_laws.specs.declared.event.Act.{Act}
-use Rattle.blocking_laws.specs.declared.event.Act.TheVariants.{Asked, Accepted, Refused, OwnerClosed, JobWoken, Got, GotEnd, Back}
+use Rattle.blocking_laws.specs.declared.event.Act.TheVariants.{Asked, Accepted, Refused, OwnerClosed, JobWoken, Got, GotEnd, Filled, FillShut, Back}
 use Rattle.blocking_laws.specs.declared.event.Event.{Event}
 use Rattle.blocking_laws.specs.declared.event.Reply.{Reply}
-use Rattle.blocking_laws.specs.declared.event.Reply.TheVariants.{Count, Handle, Failed}
+use Rattle.blocking_laws.specs.declared.event.Reply.TheVariants.{Okay, Count, Handle, Failed}
 use Rattle.blocking_laws.specs.declared.step.HandleCall.{HandleCall}
-use Rattle.blocking_laws.specs.declared.step.HandleCall.TheVariants.{Read, GetMut}
+use Rattle.blocking_laws.specs.declared.step.HandleCall.TheVariants.{Read, Write, Flush, Close, GetMut}
 
 -- The next action of a poll: it begins a session, closes the owner's end of the pipe, wakes this job, drains at most so many bytes,
--- looks into the job's slot, or replies; or there is nothing to do.
+-- fills the pipe with these, looks into the job's slot, or replies; or there is nothing to do.
 pub data OwnerAction : Type 0 where
   Begin : OwnerAction
   CloseOwn : OwnerAction
   WakeJob : ℕ → OwnerAction
   Drain : ℕ → OwnerAction
+  Fill : List ℕ → OwnerAction
   PollSlot : OwnerAction
   Say : Reply → OwnerAction
   Rest : OwnerAction
 
 -- The table: what a call does where the handle is there. From a session that isn't its own it stops that: it closes the owner's end
--- where that is open, and looks for the handle.
+-- where that is open, and looks for the handle. A flush and a close have no session of their own, and of an idle handle nothing is left to
+-- be written.
 abbrev pub table : HandleCall → State → OwnerAction
 table (Read zero) at = Say (Count 0)
+table (Write []) at = Say (Count 0)
+table Flush Idle = Say Okay
+table Flush Closed = Say Okay
+table Close Idle = Say Okay
+table Close Closed = Say Okay
 table GetMut Idle = Say Handle
 table call Idle = Begin
+table call Closed = Rest
 table (Read n) (In Reading true) = Drain n
+table (Write bytes) (In Writing true) = Fill bytes
 table call (In Reading true) = CloseOwn
+table call (In Writing true) = CloseOwn
 table call at = PollSlot
 
 -- what the call that is asked does in this state
@@ -41,8 +51,8 @@ at_accepted (Some call) at = table call at
 
 -- whether a call tells the fault of a session that is over
 abbrev pub tells_faults : HandleCall → Bool
-tells_faults (Read n) = true
 tells_faults GetMut = false
+tells_faults _ = true
 
 -- what a call does once the handle is back: the end where it saw that, else what it does with an idle handle
 abbrev pub after_end : HandleCall → Bool → OwnerAction
@@ -61,7 +71,7 @@ is_at_end _ = false
 
 -- what follows once the handle is back, by the call and the session
 abbrev pub at_back : Option HandleCall → Option Session → Bool → List Event → OwnerAction
-at_back (Some call) (Some s) ended cut = after_back call (fault (acts_of s.serial cut)) ended
+at_back (Some call) (Some s) ended cut = after_back call (fault s.kind (acts_of s.serial cut)) ended
 at_back _ _ ended cut = Rest
 
 -- what follows the owner's last act, were no job to be woken first
@@ -73,6 +83,8 @@ owner_next_but_wake cut (Refused reason ∷ past) = Say (Failed (why.Refused rea
 owner_next_but_wake cut (OwnerClosed told ∷ past) = PollSlot
 owner_next_but_wake cut (Got bytes told ∷ past) = Say (Count (length bytes))
 owner_next_but_wake cut (GotEnd ∷ past) = PollSlot
+owner_next_but_wake cut (Filled n told ∷ past) = Say (Count n)
+owner_next_but_wake cut (FillShut ∷ past) = Say (Count 0)
 owner_next_but_wake cut (Back ∷ past) = at_back (call past) (last_session past) (is_at_end past) cut
 owner_next_but_wake cut (JobWoken s woke ∷ past) = owner_next_but_wake cut past
 owner_next_but_wake cut (_ ∷ past) = Rest
@@ -81,6 +93,7 @@ owner_next_but_wake cut (_ ∷ past) = Rest
 abbrev pub note_in : Act → Option ℕ
 note_in (OwnerClosed told) = told
 note_in (Got bytes told) = told
+note_in (Filled n told) = told
 note_in _ = None
 
 -- a job whose note was taken is woken before all else

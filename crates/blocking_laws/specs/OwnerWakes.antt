@@ -1,7 +1,8 @@
 -- Wakes between an owner and its job, and who of the two waits.
 use Rattle.std.specs.Prelude.{◌≡◌, ℕ, ◌==◌, ◌&&◌, ◌||◌, ◌⊎◌, not, Bool, true, false, List, [], ◌∷◌, length, Option, Some, None}
 use Rattle.blocking_laws.specs.Jobs.{holder, standing, is_parked}
-use Rattle.blocking_laws.specs.Passed.{inside}
+use Rattle.blocking_laws.specs.JobTable.{Kind, Writing}
+use Rattle.blocking_laws.specs.Passed.{inside, last_kind}
 use Rattle.blocking_laws.specs.Seen.{events, own, is_this, cut}
 use Rattle.blocking_laws.specs.Sessions.{Session, session, is_shut, capacity}
 use Rattle.blocking_laws.specs.OwnerTable.{note_in}
@@ -32,16 +33,21 @@ abbrev pub IsSessionOf : Option Session → ℕ → Type 0
 IsSessionOf None s = ⊥
 IsSessionOf (Some r) s = r.serial ≡ s
 
--- a job that looks for room has to wait: its owner's end is open, and the pipe is full
-abbrev pub HasNoRoom : List Event → Type 0
-HasNoRoom cut = (is_shut (own cut) ≡ false) × (length (inside cut) ≡ capacity (own cut))
+-- what is inside where a job of this kind can't go on: nothing for one that writes, all that the pipe holds for one that reads
+abbrev pub IsStuck : Kind → List Event → Type 0
+IsStuck Writing cut = inside cut ≡ []
+IsStuck _ cut = length (inside cut) ≡ capacity (own cut)
+
+-- a job has reason to wait: its owner's end is open, and it can't go on
+abbrev pub HasReason : List Event → Type 0
+HasReason cut = (is_shut (own cut) ≡ false) × IsStuck (last_kind cut) cut
 
 -- A parked job has reason to wait, unless a wake of it is under way.
 abbrev pub ParksRightly : List Moment → ℕ → List Event → Type 0
-ParksRightly past s cut = is_parked (standing past s) ≡ true → is_waking s (own cut) ≡ false → HasNoRoom cut
+ParksRightly past s cut = is_parked (standing past s) ≡ true → is_waking s (own cut) ≡ false → HasReason cut
 
--- No wake is lost: no owner waits for the job of its session at rest, and no job of an owner is parked beside room or beside a closed
--- end, with no wake under way.
+-- No wake is lost: no owner waits for the job of its session at rest, and no job of an owner is parked where it could go on, or beside a
+-- closed end, with no wake under way.
 pub record NoLostOwnerWake (past : List Moment) : Type 0 where
   pub owners : (h s : ℕ) → IsSessionOf (session (own (cut h (events past)))) s → IsNotLost past s (cut h (events past))
   pub jobs : (h s : ℕ) → holder past s ≡ Some (Owner h) → ParksRightly past s (cut h (events past))

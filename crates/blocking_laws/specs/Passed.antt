@@ -1,13 +1,15 @@
 -- What passed in a session: what the handle gave, what the owner got, and what is inside the pipe.
 use Rattle.std.specs.Prelude.{ℕ, ◌+◌, ◌-◌, ◌≤◌, List, [], ◌∷◌, ◌++◌, length, take, drop, Option, Some, None, map, filter, not, ◌&&◌, Bool, false}
 use Rattle.blocking_laws.specs.Seen.{IsBeginning, own, is_this, is_of_pool, is_nothing, is_some_worker}
-use Rattle.blocking_laws.specs.JobTable.{Kind, Calling, Reading}
-use Rattle.blocking_laws.specs.Sessions.{Session, last_session, capacity}
+use Rattle.blocking_laws.specs.JobTable.{Kind, Calling, Reading, Writing}
+use Rattle.blocking_laws.specs.Sessions.{Session, last_session, call, capacity}
 use Rattle.blocking_laws.specs.declared.event.Act.{Act}
-use Rattle.blocking_laws.specs.declared.event.Act.TheVariants.{Accepted, Got, Answered, Put}
+use Rattle.blocking_laws.specs.declared.event.Act.TheVariants.{Accepted, Got, Filled, Answered, Put, Peeked, Taken}
 use Rattle.blocking_laws.specs.declared.event.Event.{Event}
 use Rattle.blocking_laws.specs.declared.step.Answer.{Answer}
-use Rattle.blocking_laws.specs.declared.step.Answer.TheVariants.{Gave}
+use Rattle.blocking_laws.specs.declared.step.Answer.TheVariants.{Number, Gave}
+use Rattle.blocking_laws.specs.declared.step.HandleCall.{HandleCall}
+use Rattle.blocking_laws.specs.declared.step.HandleCall.TheVariants.{Write}
 
 -- ---- what was given and got
 
@@ -29,6 +31,37 @@ got (Accepted s ∷ past) = []
 got (Got bytes told ∷ past) = got past ++ bytes
 got (_ ∷ past) = got past
 
+-- ---- what was taken for writing, and written
+
+-- the bytes that a call has to write
+abbrev pub data_of : Option HandleCall → List ℕ
+data_of (Some (Write bytes)) = bytes
+data_of _ = []
+
+-- what was accepted of the owner's writes since its last session began: of each write as many of the first bytes as went in
+abbrev pub accepted : List Act → List ℕ
+accepted [] = []
+accepted (Accepted s ∷ past) = []
+accepted (Filled n told ∷ past) = accepted past ++ take n (data_of (call past))
+accepted (_ ∷ past) = accepted past
+
+-- the piece that the job found last at the front of the pipe
+abbrev pub peeked : List Act → List ℕ
+peeked [] = []
+peeked (Peeked bytes ∷ past) = bytes
+peeked (_ ∷ past) = peeked past
+
+-- what an answer says was taken of the piece that was offered: so many of its first bytes
+abbrev pub counted : Answer → List ℕ → List ℕ
+counted (Number k) piece = take k piece
+counted _ piece = []
+
+-- what the writer of a job took of the pieces that it was offered, all joined
+abbrev pub taken : List Act → List ℕ
+taken [] = []
+taken (Answered answer ∷ past) = taken past ++ counted answer (peeked past)
+taken (_ ∷ past) = taken past
+
 -- ---- what is inside
 
 -- what the reader gave last
@@ -43,9 +76,16 @@ was_put [] = []
 was_put (Put n waker ∷ past) = was_put past ++ take n (answered past)
 was_put (_ ∷ past) = was_put past
 
--- what is inside a pipe, by the acts of its owner and of its job: what was put and not got yet
+-- how many bytes the job took out of the pipe
+abbrev pub removed : List Act → ℕ
+removed [] = 0
+removed (Taken n waker ∷ past) = n + removed past
+removed (_ ∷ past) = removed past
+
+-- what is inside a pipe, by the acts of its owner and of its job: what was put and not got yet, or what was accepted and not taken out yet
 abbrev pub inside_by : Kind → List Act → List Act → List ℕ
 inside_by Reading owner job = drop (length (got owner)) (was_put job)
+inside_by Writing owner job = drop (removed job) (accepted owner)
 inside_by Calling owner job = []
 
 -- whether the job is that of this session
@@ -78,9 +118,10 @@ inside cut = inside_by (last_kind cut) (own cut) (last_job cut)
 abbrev pub room_in : List Event → ℕ
 room_in cut = capacity (own cut) - length (inside cut)
 
--- In the last session the owner got a beginning of what its reader gave; no more is inside than the pipe holds; and the reader gave no
--- more than what the owner got and what the pipe holds.
+-- In the last session the owner got a beginning of what its reader gave, and its writer took a beginning of what was accepted; no more is
+-- inside than the pipe holds; and the reader gave no more than what the owner got and what the pipe holds.
 pub record PassesOn (cut : List Event) : Type 0 where
   pub read : IsBeginning (got (own cut)) (gave (last_job cut))
+  pub written : IsBeginning (taken (last_job cut)) (accepted (own cut))
   pub within : length (inside cut) ≤ capacity (own cut)
   pub bounded : length (gave (last_job cut)) ≤ length (got (own cut)) + capacity (own cut)

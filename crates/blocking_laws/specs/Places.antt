@@ -3,7 +3,7 @@ use Rattle.std.specs.Prelude.{ℕ, Bool, true, false, List, Option, Some, None, 
 use Rattle.blocking_laws.specs.Core.{Met, Served, Waiting, Closed}
 use Rattle.blocking_laws.specs.Seats.{waker_in}
 use Rattle.blocking_laws.specs.declared.event.Act.{Act}
-use Rattle.blocking_laws.specs.declared.event.Act.TheVariants.{Waits, TaskGot, TaskGotNone, Got, GotEnd, Back, RoomFree, RoomShut, JobParked, Put, Lost}
+use Rattle.blocking_laws.specs.declared.event.Act.TheVariants.{Waits, TaskGot, TaskGotNone, Got, GotEnd, Filled, FillShut, Back, RoomFree, RoomShut, JobParked, Put, Lost, Peeked, Drained}
 
 -- A poll of a task finds the call's answer where the call finished before any cancel; else it finds that none will come,
 -- once the call is over; until then it waits.
@@ -17,6 +17,13 @@ abbrev pub seen_drain : Met (List ℕ × Option ℕ) → Act
 seen_drain (Served found) = Got found.0 found.1
 seen_drain Waiting = Waits
 seen_drain Closed = GotEnd
+
+-- What an owner finds that fills its pipe: so many bytes went in, with the job whose note it took; or it waits; or the job's end is
+-- closed.
+abbrev pub seen_fill : Met (ℕ × Option ℕ) → Act
+seen_fill (Served went) = Filled went.0 went.1
+seen_fill Waiting = Waits
+seen_fill Closed = FillShut
 
 -- What a job finds that looks for room in the pipe: so much; or it waits; or the owner's end is closed.
 abbrev pub seen_room : Met ℕ → Act
@@ -35,6 +42,12 @@ abbrev pub seen_put : ℕ → Met (Option (Unit {0})) → Act
 seen_put n (Served waker) = Put n (waker_in (is_some waker))
 seen_put n Waiting = JobParked
 seen_put n Closed = Lost n
+
+-- What a job finds that looks at the front of the pipe: these bytes; or it waits; or the pipe is drained for good.
+abbrev pub seen_peek : Met (List ℕ) → Act
+seen_peek (Served piece) = Peeked piece
+seen_peek Waiting = JobParked
+seen_peek Closed = Drained
 
 -- An owner that looks into the slot of its job finds the handle, once the job has finished; until then it waits.
 abbrev pub poll_slot : Bool → Act

@@ -1,10 +1,12 @@
 -- What an owner is doing, read from its own acts, the newest first.
-use Rattle.std.specs.Prelude.{ℕ, ◌==◌, ◌&&◌, not, if◌then◌else◌, Bool, true, false, List, [], ◌∷◌, Option, Some, None}
-use Rattle.blocking_laws.specs.JobTable.{Kind, Calling, Reading}
+use Rattle.std.specs.Prelude.{ℕ, ◌==◌, ◌&&◌, ◌||◌, not, if◌then◌else◌, Bool, true, false, List, [], ◌∷◌, Option, Some, None}
+use Rattle.blocking_laws.specs.JobTable.{Kind, Calling, Reading, Writing}
 use Rattle.blocking_laws.specs.declared.event.Act.{Act}
 use Rattle.blocking_laws.specs.declared.event.Act.TheVariants.{Made, Asked, Accepted, OwnerClosed, Waits, Back, Replied, HolderDropped}
+use Rattle.blocking_laws.specs.declared.event.Reply.{Reply}
+use Rattle.blocking_laws.specs.declared.event.Reply.TheVariants.{Okay}
 use Rattle.blocking_laws.specs.declared.step.HandleCall.{HandleCall}
-use Rattle.blocking_laws.specs.declared.step.HandleCall.TheVariants.{Read}
+use Rattle.blocking_laws.specs.declared.step.HandleCall.TheVariants.{Read, Write, Flush, Close}
 
 -- ---- polls
 
@@ -45,6 +47,27 @@ is_dropped (_ ∷ past) = is_dropped past
 abbrev pub rests : List Act → Bool
 rests acts = is_made acts && not (is_dropped acts) && is_poll_over (under_way acts)
 
+-- whether a reply ends a close without a fault, after which the handle is gone
+abbrev pub ends_close : Reply → Option HandleCall → Bool
+ends_close Okay (Some Close) = true
+ends_close reply asked = false
+
+-- whether the handle was dropped by a close
+abbrev pub is_closed : List Act → Bool
+is_closed [] = false
+is_closed (Replied reply ∷ past) = ends_close reply (call past) || is_closed past
+is_closed (_ ∷ past) = is_closed past
+
+-- what may be asked of an owner whose handle is gone
+abbrev pub is_for_closed : HandleCall → Bool
+is_for_closed Flush = true
+is_for_closed Close = true
+is_for_closed _ = false
+
+-- whether the owner may be asked for this
+abbrev pub may_ask : List Act → HandleCall → Bool
+may_ask acts c = rests acts && (not (is_closed acts) || is_for_closed c)
+
 -- ---- sessions
 
 -- a session: the serial of the job that was lent the handle, and what that job is for
@@ -55,6 +78,7 @@ pub record Session : Type 0 where
 -- the kind of the session that a call begins
 abbrev pub kind_of : Option HandleCall → Kind
 kind_of (Some (Read n)) = Reading
+kind_of (Some (Write bytes)) = Writing
 kind_of _ = Calling
 
 -- the session that began last
@@ -99,8 +123,10 @@ capacity [] = 0
 capacity (Made h n ∷ past) = if n == 0 then default_capacity else n
 capacity (_ ∷ past) = capacity past
 
--- Where the handle is: with its owner, or with the job of a session of this kind, with the owner's end of the pipe open or not.
+-- Where the handle is: nowhere after a close, with its owner, or with the job of a session of this kind, with the owner's end of the pipe
+-- open or not.
 pub data State : Type 0 where
+  Closed : State
   Idle : State
   In : Kind → Bool → State
 
@@ -109,6 +135,11 @@ abbrev pub state_in : Option Session → Bool → State
 state_in None shut = Idle
 state_in (Some s) shut = In s.kind (not shut)
 
+-- the same, and by whether the handle was dropped by a close
+abbrev pub state_by : Bool → Option Session → Bool → State
+state_by true last shut = Closed
+state_by false last shut = state_in last shut
+
 -- the state that the own acts tell
 abbrev pub state : List Act → State
-state acts = state_in (session acts) (is_shut acts)
+state acts = state_by (is_closed acts) (session acts) (is_shut acts)

@@ -1,5 +1,5 @@
 -- The texts of events, as lists of bytes.
-use Rattle.std.specs.Prelude.{ℕ, zero, suc, ◌+◌, Bool, true, false, List, [], ◌++◌, codes, decimal, Option, Some, None}
+use Rattle.std.specs.Prelude.{ℕ, zero, suc, ◌+◌, Bool, true, false, List, [], ◌++◌, length, codes, decimal, Option, Some, None}
 use Rattle.blocking_core.specs.declared.io.Fault.TheVariants as fault
 use Rattle.blocking_pool.specs.declared.pool.answer.Refusal.{Refusal}
 use Rattle.blocking_pool.specs.declared.pool.answer.Refusal.TheVariants.{Memory, NoWorker, Numbers}
@@ -11,12 +11,12 @@ use Rattle.blocking_laws.specs.Hex.{hex_text}
 use Rattle.blocking_laws.specs.declared.step.Answer.{Answer}
 use Rattle.blocking_laws.specs.declared.step.Answer.TheVariants as answer
 use Rattle.blocking_laws.specs.declared.event.Act.{Act}
-use Rattle.blocking_laws.specs.declared.event.Act.TheVariants.{Made, Asked, OwnerClosed, Got, GotEnd, Back, Replied, RoomFree, RoomShut, Put, Lost, JobClosed, Accepted, Refused, JobWoken, JobCancelled, LimitSet, Swept, Waits, TaskGot, TaskGotNone, TaskCancelled, TaskDetached, HolderDropped, Arrived, Took, TookDropped, TookNone, Stays, Stopped, Ended, HandedOut, Answered, JobParked, Finished, GaveUp, HolderWoken, NoAction}
+use Rattle.blocking_laws.specs.declared.event.Act.TheVariants.{Made, Asked, OwnerClosed, Got, GotEnd, Filled, FillShut, Back, Replied, RoomFree, RoomShut, Put, Lost, Peeked, Drained, Taken as TakenOut, JobClosed, Accepted, Refused, JobWoken, JobCancelled, LimitSet, Swept, Waits, TaskGot, TaskGotNone, TaskCancelled, TaskDetached, HolderDropped, Arrived, Took, TookDropped, TookNone, Stays, Stopped, Ended, HandedOut, Answered, JobParked, Finished, GaveUp, HolderWoken, NoAction}
 use Rattle.blocking_laws.specs.declared.event.Event.{Event}
 use Rattle.blocking_laws.specs.declared.event.HolderWaker.{HolderWaker}
 use Rattle.blocking_laws.specs.declared.event.HolderWaker.TheVariants.{Taken, Absent}
 use Rattle.blocking_laws.specs.declared.event.Reply.{Reply}
-use Rattle.blocking_laws.specs.declared.event.Reply.TheVariants.{Count, Handle, Failed}
+use Rattle.blocking_laws.specs.declared.event.Reply.TheVariants.{Okay, Count, Handle, Failed}
 
 -- why a job is refused
 abbrev pub refusal_text : Refusal → List ℕ
@@ -52,10 +52,12 @@ note_text None = []
 abbrev pub answer_text : Answer → List ℕ
 answer_text (answer.Number n) = decimal n
 answer_text (answer.Gave bytes) = hex_text bytes
+answer_text answer.Fine = codes "ok"
 answer_text (answer.Failed e) = codes "fault " ++ decimal e
 
 -- what a poll replies
 abbrev pub reply_text : Reply → List ℕ
+reply_text Okay = codes "ok"
 reply_text (Count n) = codes "ok " ++ decimal n
 reply_text Handle = codes "handle"
 reply_text (Failed (fault.Io e)) = codes "fault io " ++ decimal e
@@ -69,6 +71,8 @@ act_text (Asked call) = codes "asked"
 act_text (OwnerClosed note) = codes "closed" ++ note_text note
 act_text (Got bytes note) = codes "got " ++ hex_text bytes ++ note_text note
 act_text GotEnd = codes "got end"
+act_text (Filled n note) = codes "put " ++ decimal n ++ note_text note
+act_text FillShut = codes "put shut"
 act_text Back = codes "back"
 act_text (Replied reply) = codes "replied " ++ reply_text reply
 act_text (Accepted s) = codes "accepted " ++ decimal s
@@ -97,6 +101,9 @@ act_text RoomShut = codes "shut"
 act_text JobParked = codes "parked"
 act_text (Put n waker) = codes "put " ++ decimal n ++ wake_text waker
 act_text (Lost n) = codes "lost " ++ decimal n
+act_text (Peeked bytes) = codes "peeked " ++ decimal (length bytes)
+act_text Drained = codes "drained"
+act_text (TakenOut n waker) = codes "taken " ++ decimal n ++ wake_text waker
 act_text (JobClosed waker) = codes "closed" ++ wake_text waker
 act_text (Finished waker) = codes "finished" ++ wake_text waker
 act_text (GaveUp waker) = codes "gave up" ++ wake_text waker

@@ -67,7 +67,9 @@ impl HolderWaker {
 /// What a poll of an owner replies.
 #[derive(Clone, Copy, Debug, PartialEq, Eq)]
 pub enum Reply {
-    /// So many bytes were read; none for an empty buffer, and at the reader's end.
+    /// All was written and the writer flushed; or the handle was dropped, after that.
+    Okay,
+    /// So many bytes were read, or taken for writing; none for an empty buffer, at the reader's end, and where the job's end is closed.
     Count(u64),
     /// The handle.
     Handle,
@@ -89,6 +91,11 @@ pub enum Act {
     Got(Bytes, Option<u64>),
     /// The pipe was found empty, with the job's end closed.
     GotEnd,
+    /// So many of the first bytes that it was asked to write went into the pipe, one at least; and the note of this job out of its seat,
+    /// if one was seated.
+    Filled(usize, Option<u64>),
+    /// None went in, as the job's end of the pipe is closed.
+    FillShut,
     /// The handle came back.
     Back,
     /// The poll replied so, and is over.
@@ -150,6 +157,12 @@ pub enum Act {
     Put(usize, HolderWaker),
     /// So many bytes were lost, since the owner's end of the pipe is closed.
     Lost(usize),
+    /// The job found these bytes at the front of the pipe, one at least, and left them there.
+    Peeked(Bytes),
+    /// The job found the pipe empty, with the owner's end closed.
+    Drained,
+    /// The job took so many of the first bytes out of the pipe, which its writer had taken, and found this in the owner's seat.
+    Taken(usize, HolderWaker),
     /// The job closed its end of the pipe, and found this in the owner's seat.
     JobClosed(HolderWaker),
     /// The job put its result where its holder finds it, and found this in the holder's seat.
@@ -174,10 +187,12 @@ impl Act {
     {
         Ok(match self {
             Act::Made(owner, capacity) => Act::Made(*owner, *capacity),
-            Act::Asked(call) => Act::Asked(*call),
+            Act::Asked(call) => Act::Asked(call.try_clone()?),
             Act::OwnerClosed(note) => Act::OwnerClosed(*note),
             Act::Got(bytes, note) => Act::Got(bytes.try_clone()?, *note),
             Act::GotEnd => Act::GotEnd,
+            Act::Filled(count, note) => Act::Filled(*count, *note),
+            Act::FillShut => Act::FillShut,
             Act::Back => Act::Back,
             Act::Replied(reply) => Act::Replied(*reply),
             Act::Accepted(serial) => Act::Accepted(*serial),
@@ -206,6 +221,9 @@ impl Act {
             Act::JobParked => Act::JobParked,
             Act::Put(count, waker) => Act::Put(*count, *waker),
             Act::Lost(count) => Act::Lost(*count),
+            Act::Peeked(bytes) => Act::Peeked(bytes.try_clone()?),
+            Act::Drained => Act::Drained,
+            Act::Taken(count, waker) => Act::Taken(*count, *waker),
             Act::JobClosed(waker) => Act::JobClosed(*waker),
             Act::Finished(waker) => Act::Finished(*waker),
             Act::GaveUp(waker) => Act::GaveUp(*waker),

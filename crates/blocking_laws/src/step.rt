@@ -53,7 +53,7 @@ impl Step {
     {
         Ok(match self {
             Step::New(capacity) => Step::New(*capacity),
-            Step::Ask(owner, call) => Step::Ask(*owner, *call),
+            Step::Ask(owner, call) => Step::Ask(*owner, call.try_clone()?),
             Step::Own(owner) => Step::Own(*owner),
             Step::DropOwner(owner) => Step::DropOwner(*owner),
             Step::Spawn => Step::Spawn,
@@ -74,12 +74,45 @@ impl Step {
 }
 
 /// What the poll of an owner may ask for.
-#[derive(Clone, Copy, Debug, PartialEq, Eq)]
+#[derive(Debug, Drop)]
 pub enum HandleCall {
     /// To read at most so many bytes.
     Read(u64),
+    /// To write these bytes, or as many of the first of them as there is room for.
+    Write(Bytes),
+    /// To have all written that was taken for writing, and the writer flushed.
+    Flush,
+    /// To flush, and then to drop the handle.
+    Close,
     /// To have the handle itself.
     GetMut,
+}
+
+impl HandleCall {
+    ghost use Rattle.std.specs.Prelude.{IsOk, true};
+    ghost use Rattle.blocking_laws.specs.Bare.{is_bare_call};
+    ghost use Rattle.blocking_laws.specs.Steps.{is_known};
+
+    /// Whether owners are asked for this yet: for a read and for the handle they are, for a write, a flush and a close they aren't.
+    pub fn is_known(&self) -> bool
+        ensures { result ≡ is_known self.now }
+    {
+        matches!(self, HandleCall::Read(_) | HandleCall::GetMut)
+    }
+
+    /// The same call once more. Err where there is no memory for its bytes: a call without bytes is always had.
+    pub fn try_clone(&self) -> Result<HandleCall, AllocError>
+        ensures same { IfOk result (λ call. call ≡ self.now) }
+        ensures bare { is_bare_call self.now ≡ true → IsOk result }
+    {
+        match self {
+            HandleCall::Read(most) => Ok(HandleCall::Read(*most)),
+            HandleCall::Write(bytes) => Ok(HandleCall::Write(bytes.try_clone()?)),
+            HandleCall::Flush => Ok(HandleCall::Flush),
+            HandleCall::Close => Ok(HandleCall::Close),
+            HandleCall::GetMut => Ok(HandleCall::GetMut),
+        }
+    }
 }
 
 /// What may be asked of a task.
@@ -98,10 +131,12 @@ pub enum TaskCall {
 /// What a job is answered from outside: by its call, or by the handle that was lent to it.
 #[derive(Debug, Drop)]
 pub enum Answer {
-    /// This number, which a call gave.
+    /// This number, which a call gave; or so many bytes, which a writer took.
     Number(u64),
     /// These bytes, which a reader gave; none at its end.
     Gave(Bytes),
+    /// The writer was flushed.
+    Fine,
     /// The handle failed, with the error of this number.
     Failed(u64),
 }
@@ -118,6 +153,7 @@ impl Answer {
         match self {
             Answer::Number(number) => Ok(Answer::Number(*number)),
             Answer::Gave(bytes) => Ok(Answer::Gave(bytes.try_clone()?)),
+            Answer::Fine => Ok(Answer::Fine),
             Answer::Failed(error) => Ok(Answer::Failed(*error)),
         }
     }

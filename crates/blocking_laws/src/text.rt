@@ -45,6 +45,8 @@ impl fmt::Display for Act {
             Act::OwnerClosed(note) => write!(f, "closed{}", Noted(*note)),
             Act::Got(bytes, note) => write!(f, "got {bytes}{}", Noted(*note)),
             Act::GotEnd => f.write_str("got end"),
+            Act::Filled(count, note) => write!(f, "put {count}{}", Noted(*note)),
+            Act::FillShut => f.write_str("put shut"),
             Act::Back => f.write_str("back"),
             Act::Replied(reply) => write!(f, "replied {reply}"),
             Act::Accepted(serial) => write!(f, "accepted {serial}"),
@@ -73,6 +75,9 @@ impl fmt::Display for Act {
             Act::JobParked => f.write_str("parked"),
             Act::Put(count, waker) => write!(f, "put {count}{}", wake_word(*waker)),
             Act::Lost(count) => write!(f, "lost {count}"),
+            Act::Peeked(bytes) => write!(f, "peeked {}", bytes.as_slice().len()),
+            Act::Drained => f.write_str("drained"),
+            Act::Taken(count, waker) => write!(f, "taken {count}{}", wake_word(*waker)),
             Act::JobClosed(waker) => write!(f, "closed{}", wake_word(*waker)),
             Act::Finished(waker) => write!(f, "finished{}", wake_word(*waker)),
             Act::GaveUp(waker) => write!(f, "gave up{}", wake_word(*waker)),
@@ -89,6 +94,7 @@ impl fmt::Display for Answer {
         match self {
             Answer::Number(number) => write!(f, "{number}"),
             Answer::Gave(bytes) => write!(f, "{bytes}"),
+            Answer::Fine => f.write_str("ok"),
             Answer::Failed(error) => write!(f, "fault {error}"),
         }
     }
@@ -99,6 +105,7 @@ impl fmt::Display for Reply {
 
     fn fmt<W: fmt::Write>(&self, f: &mut fmt::Formatter<W>) -> fmt::Result {
         match *self {
+            Reply::Okay => f.write_str("ok"),
             Reply::Count(count) => write!(f, "ok {count}"),
             Reply::Handle => f.write_str("handle"),
             Reply::Failed(Fault::Io(error)) => write!(f, "fault io {error}"),

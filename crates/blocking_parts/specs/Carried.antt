@@ -4,9 +4,11 @@ use Rattle.blocking_lanes.specs.Owners.{Owner, bytes_in, next_of}
 use Rattle.blocking_lanes.specs.declared.owner.OwnerNext.{OwnerNext}
 use Rattle.blocking_lanes.specs.declared.owner.OwnerNext.TheVariants as next
 use Rattle.blocking_laws.specs.declared.event.Act.{Act}
-use Rattle.blocking_laws.specs.declared.event.Act.TheVariants.{Got, Answered}
+use Rattle.blocking_laws.specs.declared.event.Act.TheVariants.{Asked, Got, Peeked, Answered}
 use Rattle.blocking_laws.specs.declared.step.Answer.{Answer}
 use Rattle.blocking_laws.specs.declared.step.Answer.TheVariants.{Gave}
+use Rattle.blocking_laws.specs.declared.step.HandleCall.{HandleCall}
+use Rattle.blocking_laws.specs.declared.step.HandleCall.TheVariants.{Write}
 use Rattle.blocking_laws.specs.declared.step.Step.{Step}
 use Rattle.blocking_laws.specs.declared.step.Step.TheVariants.{Own, Io}
 use Rattle.blocking_parts.specs.Parts.{Parts}
@@ -16,9 +18,15 @@ abbrev pub bytes_of_answer : Answer → List ℕ
 bytes_of_answer (Gave bytes) = bytes
 bytes_of_answer _ = []
 
+abbrev pub bytes_of_call : HandleCall → List ℕ
+bytes_of_call (Write bytes) = bytes
+bytes_of_call _ = []
+
 -- the bytes that an act carries
 abbrev pub bytes_of : Act → List ℕ
+bytes_of (Asked call) = bytes_of_call call
 bytes_of (Got bytes told) = bytes
+bytes_of (Peeked bytes) = bytes
 bytes_of (Answered answer) = bytes_of_answer answer
 bytes_of _ = []
 

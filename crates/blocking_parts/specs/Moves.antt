@@ -1,6 +1,6 @@
 -- The moves of a world: each step is one of them, which has at most one call of the crew and says what becomes of a row, a task and an
 -- owner.
-use Rattle.std.specs.Prelude.{◌≡◌, ℕ, Bool, true, false, ◌-◌, List, [], ◌∷◌, ◌++◌, length, slice_get, slice_set, Option, Some, None, is_some, Result, Ok, Err}
+use Rattle.std.specs.Prelude.{◌≡◌, ℕ, ◌&&◌, Bool, true, false, ◌-◌, List, [], ◌∷◌, ◌++◌, length, slice_get, slice_set, Option, Some, None, is_some, Result, Ok, Err}
 use Rattle.blocking_crew.specs.Moves as crew
 use Rattle.blocking_crew.specs.Moves.{next_start, nothing}
 use Rattle.blocking_crew.specs.declared.hand.Stage.TheVariants as stage
@@ -10,7 +10,7 @@ use Rattle.blocking_lanes.specs.declared.owner.OwnerNext.{OwnerNext}
 use Rattle.blocking_lanes.specs.declared.owner.OwnerNext.TheVariants as next
 use Rattle.blocking_lanes.specs.Steps as tasks
 use Rattle.blocking_lanes.specs.Tasks.{Task, new_task, may_be, task_act}
-use Rattle.blocking_laws.specs.Steps.{named, is_answered_action, is_turn_end}
+use Rattle.blocking_laws.specs.Steps.{named, is_known, is_answered_action, is_turn_end}
 use Rattle.blocking_laws.specs.declared.event.Act.TheVariants.{Made, Asked, HolderDropped, Answered}
 use Rattle.blocking_laws.specs.declared.event.Event.{Event}
 use Rattle.blocking_laws.specs.declared.event.Party.TheVariants.{Owner as ByOwner, Task as ByTask, Pool}
@@ -192,7 +192,7 @@ may_own_in (Some owner) = may_own (next_of owner) (did owner)
 -- Whether a step has an action.
 abbrev pub has_action_in : Parts → Step → Bool
 has_action_in w (New capacity) = true
-has_action_in w (Ask h call) = rests_in (slice_get w.owners h)
+has_action_in w (Ask h call) = is_known call && rests_in (slice_get w.owners h)
 has_action_in w (Own h) = may_own_in (slice_get w.owners h)
 has_action_in w (DropOwner h) = rests_in (slice_get w.owners h)
 has_action_in w Spawn = true
@@ -234,7 +234,7 @@ IsThere w h owner = slice_get w.owners h ≡ Some owner
 abbrev pub May : Parts → Move → Type 0
 May w (Idles step) = has_action_in w step ≡ false
 May w (Makes capacity) = Unit {0}
-May w (Asks h call owner) = IsThere w h owner × (rests owner ≡ true)
+May w (Asks h call owner) = IsThere w h owner × (rests owner ≡ true) × (is_known call ≡ true)
 May w (Owns h owner done) = IsThere w h owner × (did owner ≡ Some done)
 May w (Lends h owner added) = IsThere w h owner × (next_of owner ≡ next.Begins)
 May w (Delivers h owner number) = IsThere w h owner × (note_at owner.stage ≡ Some number)

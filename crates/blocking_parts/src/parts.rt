@@ -41,7 +41,7 @@ impl Model for Parts {
 }
 
 impl Parts {
-    ghost use Rattle.std.specs.Prelude.{slice_get, option_map};
+    ghost use Rattle.std.specs.Prelude.{◌&&◌, slice_get, option_map};
     ghost use Rattle.blocking_pool.specs.PoolAnswers.{pool_of};
     ghost use Rattle.blocking_crew.specs.Moves.{NeverAsked};
     ghost use Rattle.blocking_lanes.specs.Owners.{next_of};
@@ -49,7 +49,7 @@ impl Parts {
     ghost use Rattle.blocking_parts.specs.Carried.{bytes_to_come, polls_in};
     ghost use Rattle.blocking_parts.specs.Moves.{Moves, Steps, may_call_in, rests_in, wait_step};
     ghost use Rattle.blocking_lanes.specs.declared.owner.OwnerNext.TheVariants as next;
-    ghost use Rattle.blocking_laws.specs.Steps.{is_job_action};
+    ghost use Rattle.blocking_laws.specs.Steps.{is_job_action, is_known};
     ghost use Rattle.blocking_laws.specs.declared.step.Step.TheVariants as step;
 
     /// The parts of a new world. Takes no memory.
@@ -145,15 +145,22 @@ impl Parts {
         }
     }
 
+    // Whether this owner may be asked for this: it is there and rests, and owners are asked for that.
+    fn may_ask(&self, place: usize, call: &HandleCall) -> bool
+        ensures { result ≡ (is_known call.now && rests_in (slice_get self.now.owners place)) }
+    {
+        call.is_known() && self.rests(place)
+    }
+
     // A poll of this owner begins, and asks for this.
     fn ask(&mut self, place: usize, call: HandleCall) -> Event
         ensures { Moves NeverAsked (step.Ask place call) self.old result self.new }
     {
         let party = Party::Owner(place);
-        if !self.rests(place) {
+        if !self.may_ask(place, &call) {
             return self.crew.nothing(party);
         }
-        self.owners[place].ask(call);
+        self.owners[place].ask(&call);
         self.crew.tell(party, Act::Asked(call))
     }
 

@@ -7,11 +7,11 @@ use Rattle.blocking_laws.specs.Seen.{EachMayFollow, joined, events, own, cut, ac
 use Rattle.blocking_laws.specs.Jobs.{accepts, accepted_by, accepted_jobs, is_pool, makes_a_task, tasks, newcomer, holder, as_owner}
 use Rattle.blocking_laws.specs.Queue.{times}
 use Rattle.blocking_laws.specs.Turns.{hand}
-use Rattle.blocking_laws.specs.Core.{Met, Served, Waiting, Closed, find_room, hand_in}
-use Rattle.blocking_laws.specs.JobTable.{JobAction, AskCall, AskBytes, FindRoom, PutPiece, CloseEnd, Finish, WakeHolder, Over, next_of_job, Calling}
+use Rattle.blocking_laws.specs.Core.{Met, Served, Waiting, Closed, find_room, hand_in, peek}
+use Rattle.blocking_laws.specs.JobTable.{JobAction, AskCall, AskBytes, FindRoom, PutPiece, Peek, OfferBytes, Consume, AskFlush, piece, CloseEnd, Finish, WakeHolder, Over, next_of_job, Calling}
 use Rattle.blocking_laws.specs.Sessions.{kind_of_job, is_shut}
-use Rattle.blocking_laws.specs.Passed.{room_in}
-use Rattle.blocking_laws.specs.Places.{seen_room, seated, seen_put}
+use Rattle.blocking_laws.specs.Passed.{inside, room_in}
+use Rattle.blocking_laws.specs.Places.{seen_room, seated, seen_put, seen_peek}
 use Rattle.blocking_laws.specs.OwnerSeats.{pipe_seat}
 use Rattle.blocking_laws.specs.OwnerLaws.{Works, JobMayAct, OwnerMayAct, OwnerLaw}
 use Rattle.blocking_laws.specs.TaskLaws.{Calls, TaskMayAct, TaskLaw}
@@ -190,6 +190,11 @@ put_accepts_none n (Served waker) t law = cc
 put_accepts_none n Waiting t law = cc
 put_accepts_none n Closed t law = cc
 
+peek_accepts_none : (found : Met (List ℕ)) (t : ℕ) → Accepted t ≡ seen_peek found → ⊥
+peek_accepts_none (Served seen) t law = cc
+peek_accepts_none Waiting t law = cc
+peek_accepts_none Closed t law = cc
+
 -- no job of an owner accepts another
 works_at_none : (cut : List Event) (action : JobAction) (t : ℕ) → Works cut action (Accepted t) → ⊥
 works_at_none cut AskCall t law = law
@@ -197,6 +202,10 @@ works_at_none cut (AskBytes n) t law = law
 works_at_none cut FindRoom t law = room_accepts_none (find_room (room_in cut) (not (is_shut (own cut)))) t law
 works_at_none cut (PutPiece bytes) t law =
     put_accepts_none (length bytes) (hand_in (length bytes) (room_in cut) (not (is_shut (own cut))) (seated (pipe_seat cut))) t law
+works_at_none cut Peek t law = peek_accepts_none (peek piece (inside cut) (not (is_shut (own cut)))) t law
+works_at_none cut (OfferBytes bytes) t law = law
+works_at_none cut (Consume n) t law = cc
+works_at_none cut AskFlush t law = law
 works_at_none cut CloseEnd t law = cc
 works_at_none cut Finish t law = cc
 works_at_none cut WakeHolder t law = cc

@@ -1,12 +1,12 @@
 -- An action of a poll, and an action of an owner's job, is one act.
-use Rattle.std.proofs.Common.{◌≡◌, refl, ℕ, ◌&&◌, Bool, true, false, List, Some, ap, ◌∙◌}
+use Rattle.std.proofs.Common.{◌≡◌, refl, ℕ, ◌&&◌, ◌||◌, Bool, true, false, List, Some, ap, ◌∙◌}
 use Rattle.std.specs.Prelude.{not}
 use mathlib.Core.Path.{subst, sym}
 use Rattle.blocking_laws.specs.Seen.{own, acts_of, is_some_worker}
 use Rattle.blocking_laws.specs.Turns.{is_giving_up}
-use Rattle.blocking_laws.specs.JobTable.{Kind, JobAction, AskCall, AskBytes, FindRoom, PutPiece, CloseEnd, Finish, WakeHolder, Over, IsAnswerTo, next_of_job}
-use Rattle.blocking_laws.specs.Sessions.{kind_of_job, under_way, is_poll_over, is_made, is_dropped}
-use Rattle.blocking_laws.specs.OwnerTable.{OwnerAction, Begin, CloseOwn, WakeJob, Drain, PollSlot, Say, Rest, next_of_owner}
+use Rattle.blocking_laws.specs.JobTable.{Kind, JobAction, AskCall, AskBytes, FindRoom, PutPiece, Peek, OfferBytes, Consume, AskFlush, CloseEnd, Finish, WakeHolder, Over, IsAnswerTo, next_of_job}
+use Rattle.blocking_laws.specs.Sessions.{kind_of_job, under_way, is_poll_over, is_made, is_dropped, is_closed, is_for_closed}
+use Rattle.blocking_laws.specs.OwnerTable.{OwnerAction, Begin, CloseOwn, WakeJob, Drain, Fill, PollSlot, Say, Rest, next_of_owner}
 use Rattle.blocking_laws.specs.OwnerSeats.{slot_seat}
 use Rattle.blocking_laws.specs.OwnerLaws.{OwnerActs, Polls, Works, JobActs, JobMayAct, OwnerMayAct, OwnerLaw, is_of_poll, is_settled}
 use Rattle.blocking_laws.specs.Seats.{waker_in}
@@ -26,6 +26,12 @@ no_rest true false over goes law = cc
 no_rest true true over goes law = cc
 no_rest false dropped over goes law = cc
 
+-- nor may it be asked
+no_call : (made dropped over may : Bool) → over ≡ false → ((made && not dropped && over) && may) ≡ true → ⊥
+no_call true false over may goes law = let stopped = ap (λ b. b && may) (sym goes) ∙ law in cc
+no_call true true over may goes law = cc
+no_call false dropped over may goes law = cc
+
 -- an act of a poll that is under way is the one that its next action gives
 pub by_poll : (cut : List Event) (act : Act) → is_of_poll act ≡ true → OwnerActs cut act → Polls cut (next_of_owner cut) act
 by_poll cut (Made h capacity) of_poll law = absurd cc
@@ -39,6 +45,7 @@ one_line cut Begin act other settled law other_law = absurd cc
 one_line cut (WakeJob s) act other settled law other_law = absurd cc
 one_line cut CloseOwn act other settled law other_law = law ∙ sym other_law
 one_line cut (Drain n) act other settled law other_law = law ∙ sym other_law
+one_line cut (Fill bytes) act other settled law other_law = law ∙ sym other_law
 one_line cut PollSlot act other settled law other_law = law ∙ sym other_law
 one_line cut (Say reply) act other settled law other_law = law ∙ sym other_law
 one_line cut Rest act other settled law other_law = absurd law
@@ -53,7 +60,7 @@ one_poll cut now other of_owner of_other polled other_polled settled law other_l
 -- an owner isn't made, asked or dropped while a poll of it is under way
 pub polled : (cut : List Event) (act : Act) → is_poll_over (under_way (own cut)) ≡ false → OwnerActs cut act → is_of_poll act ≡ true
 polled cut (Made h capacity) goes law = absurd (never_over (is_poll_over (under_way (own cut))) goes (ap (λ c. is_poll_over (under_way (own c))) law))
-polled cut (Asked call) goes law = absurd (no_rest (is_made (own cut)) (is_dropped (own cut)) (is_poll_over (under_way (own cut))) goes law)
+polled cut (Asked call) goes law = absurd (no_call (is_made (own cut)) (is_dropped (own cut)) (is_poll_over (under_way (own cut))) (not (is_closed (own cut)) || is_for_closed call) goes law)
 polled cut HolderDropped goes law = absurd (no_rest (is_made (own cut)) (is_dropped (own cut)) (is_poll_over (under_way (own cut))) goes law)
 polled cut _ goes law = refl
 
@@ -74,8 +81,12 @@ unanswered action _ own law = law
 one_work : (cut : List Event) (action : JobAction) (act other : Act) → is_answered act ≡ false → Works cut action act → Works cut action other → act ≡ other
 one_work cut AskCall act other own law other_law = absurd (unanswered AskCall act own law)
 one_work cut (AskBytes n) act other own law other_law = absurd (unanswered (AskBytes n) act own law)
+one_work cut (OfferBytes bytes) act other own law other_law = absurd (unanswered (OfferBytes bytes) act own law)
+one_work cut AskFlush act other own law other_law = absurd (unanswered AskFlush act own law)
 one_work cut FindRoom act other own law other_law = law ∙ sym other_law
 one_work cut (PutPiece bytes) act other own law other_law = law ∙ sym other_law
+one_work cut Peek act other own law other_law = law ∙ sym other_law
+one_work cut (Consume n) act other own law other_law = law ∙ sym other_law
 one_work cut CloseEnd act other own law other_law = law ∙ sym other_law
 one_work cut Finish act other own law other_law = law ∙ sym other_law
 one_work cut WakeHolder act other own law other_law = law ∙ sym other_law

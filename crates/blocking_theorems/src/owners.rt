@@ -8,3 +8,4 @@ pub mod seats;
 pub mod steps;
 pub mod wakes;
 pub mod whole;
+pub mod writing;

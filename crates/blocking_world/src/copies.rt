@@ -4,7 +4,7 @@ ghost use Rattle.blocking_parts.specs.Carried.{bytes_of};
 
 use blocking_laws::bytes::Bytes;
 use blocking_laws::event::{Act, Event};
-use blocking_laws::step::Answer;
+use blocking_laws::step::{Answer, HandleCall};
 
 /// The same event once more, its bytes in this room, which is empty and large enough for them. Takes no memory.
 pub(crate) fn twin_in(event: &Event, room: Vec<u8>) -> Event
@@ -30,7 +30,11 @@ fn act_in(act: &Act, room: Vec<u8>) -> Act
     ensures { result ≡ act.now }
 {
     match act {
+        Act::Asked(HandleCall::Write(bytes)) => Act::Asked(HandleCall::Write(bytes_in(
+            bytes, room,
+        ))),
         Act::Got(bytes, note) => Act::Got(bytes_in(bytes, room), *note),
+        Act::Peeked(bytes) => Act::Peeked(bytes_in(bytes, room)),
         Act::Answered(Answer::Gave(bytes)) => Act::Answered(Answer::Gave(bytes_in(bytes, room))),
         bare => bare.try_clone().unwrap(),
     }

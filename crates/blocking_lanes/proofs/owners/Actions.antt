@@ -32,6 +32,7 @@ use Rattle.blocking_lanes.specs.declared.owner.OwnerNext.{OwnerNext}
 use Rattle.blocking_lanes.specs.declared.owner.OwnerNext.TheVariants.{Rests, Acts}
 use Rattle.blocking_lanes.specs.declared.owner.OwnerStage.{OwnerStage}
 use Rattle.blocking_lanes.specs.declared.owner.OwnerStage.TheVariants as stage
+use Rattle.blocking_lanes.proofs.owners.Cuts.{is_open, state_is}
 use Rattle.blocking_lanes.proofs.owners.Own.{owner_by_parts, bound, doing, fits_at}
 use Rattle.blocking_lanes.proofs.owners.Reads.{awake}
 use Rattle.blocking_lanes.proofs.owners.Steps.{its_last}
@@ -84,6 +85,17 @@ rests_at bytes stage.Dropped last cut t = rw (t.made, t.gone) refl
 pub rests_is : (owner : Owner) (cut : List Event) → OwnerAs owner cut → sessions.rests (own cut) ≡ rests owner
 rests_is owner cut t = rests_at owner.capacity owner.stage owner.session cut t
 
+may_ask_at : (bytes : ℕ) (here : OwnerStage) (last : Option Session) (cut : List Event) (call : HandleCall) → OwnerAs (owner_by_parts bytes here last) cut
+    → sessions.may_ask (own cut) call ≡ rests (owner_by_parts bytes here last)
+may_ask_at bytes (stage.Rests st) last cut call t = rw (t.made, t.gone, t.polled, is_open (own cut) st t.stage.0) refl
+may_ask_at bytes (stage.Polls p) last cut call t = rw (t.made, t.gone, t.polled, not_over (call_as p.call) t.stage.0.known) refl
+may_ask_at bytes (stage.Wakes p note) last cut call t = rw (t.made, t.gone, t.polled, not_over (call_as p.call) t.stage.0.known) refl
+may_ask_at bytes stage.Dropped last cut call t = rw (t.made, t.gone) refl
+
+-- and there it may be asked for anything, as its handle was never closed
+pub may_ask_is : (owner : Owner) (cut : List Event) (call : HandleCall) → OwnerAs owner cut → sessions.may_ask (own cut) call ≡ rests owner
+may_ask_is owner cut call t = may_ask_at owner.capacity owner.stage owner.session cut call t
+
 -- ---- what it does is there to be done
 
 -- a handle that is lent is lent to the last session's job
@@ -92,7 +104,7 @@ lent (Some s) bytes cut st l at other = refl
 lent None bytes cut state.Idle l at other = absurd (other refl)
 lent None bytes cut (state.Writing end) l at other = absurd (cc)
 lent None bytes cut state.Closed l at other = absurd (cc)
-lent None bytes cut (state.Reading end) l at other = absurd (none (sessions.session (own cut)) refl end at)
+lent None bytes cut (state.Reading end) l at other = absurd (none (sessions.session (own cut)) refl end (ap Some (sym (state_is (own cut) (state.Reading end) at)) ∙ at))
   where
     none : (r : Option sessions.Session) → sessions.session (own cut) ≡ r → (end : OwnerEnd) → Some (sessions.state_in (sessions.session (own cut)) (sessions.is_shut (own cut))) ≡ state_as (state.Reading end) → ⊥
     none (Some r) is end at = let began = sym (session_is_last (own cut) r is) ∙ l.0 in cc
@@ -123,7 +135,7 @@ some_by bytes p cut (action.Reply r) last t is n e =
 some_by bytes p cut action.Close (Some s) t is n e = refl
 some_by bytes p cut (action.Drain most) (Some s) t is n e = refl
 some_by bytes p cut action.PollSlot (Some s) t is n e =
-    look_some s.slot.content (has_finished (acts_of s.number.serial cut)) (has_given_up (acts_of s.number.serial cut)) (is_none (sessions.session (own cut))) (fault (acts_of s.number.serial cut)) p
+    look_some s.slot.content (has_finished (acts_of s.number.serial cut)) (has_given_up (acts_of s.number.serial cut)) (is_none (sessions.session (own cut))) (fault Reading (acts_of s.number.serial cut)) p
     (session_after_look s.slot.content s) (owner_by_parts bytes (stage.Polls p) (Some s)) t.last.result.slot (stays (has_given_up (acts_of s.number.serial cut)) refl)
   where
     stays : (b : Bool) → has_given_up (acts_of s.number.serial cut) ≡ b → has_given_up (acts_of s.number.serial cut) ≡ false

@@ -1,14 +1,16 @@
 -- What the cut of an owner says, by the tie of the owner to it.
-use Rattle.std.proofs.Common.{◌≡◌, ℕ, ◌≤◌, List, [], ◌∷◌, ◌++◌, length, append_assoc, Bool, true, false, refl, sym, ap, ◌∙◌, subst, arith, Option, Some, None}
-use Rattle.std.specs.Prelude.{◌+◌, ◌-◌, ◌&&◌, not, if◌then◌else◌, drop, map, filter, is_none}
-use Rattle.std.proofs.Math.Bool.{and-false}
+use Rattle.std.proofs.Common.{◌≡◌, ℕ, ◌≤◌, ◌&&◌, cond, List, [], ◌∷◌, ◌++◌, length, append_assoc, Bool, true, false, refl, sym, ap, ◌∙◌, subst, arith, Option, Some, None}
+use Rattle.std.specs.Prelude.{◌+◌, ◌-◌, not, drop, map, filter, is_none}
 use Rattle.std.proofs.Math.Seq.{drop-append_seam}
 use Rattle.blocking_core.specs.Places.{Met, Served, Waiting, Closed, drain}
 use Rattle.blocking_core.specs.Pipes.{room}
-use Rattle.blocking_laws.specs.JobTable.{Reading, fault, has_closed}
+use Rattle.blocking_core.specs.declared.unblock.OwnerEnd.TheVariants.{Open, Shut}
+use Rattle.blocking_core.specs.declared.unblock.State.{State}
+use Rattle.blocking_core.specs.declared.unblock.State.TheVariants as state
+use Rattle.blocking_laws.specs.JobTable.{Kind, Reading, fault, has_closed}
 use Rattle.blocking_laws.specs.OwnerSeats.{note_of, noted, is_job_seated}
 use Rattle.blocking_laws.specs.OwnerTable.{owner_next_but_wake, next_of_owner, next_of_owner_by, deliver_first, at_back, after_back, is_at_end}
-use Rattle.blocking_laws.specs.Passed.{inside, inside_by, last_job, kind_in, room_in, was_put, gave, got, is_of_session, PassesOn}
+use Rattle.blocking_laws.specs.Passed.{inside, inside_by, last_job, kind_in, room_in, was_put, gave, got, accepted, taken, is_of_session, PassesOn}
 use Rattle.blocking_laws.specs.Places.{seen_drain}
 use Rattle.blocking_laws.specs.Seen.{own, acts_of, is_of_pool, is_nothing, is_some_worker}
 use Rattle.blocking_laws.specs.Sessions.{call, last_session, is_shut, capacity}
@@ -17,9 +19,27 @@ use Rattle.blocking_laws.specs.declared.event.Act.{Act}
 use Rattle.blocking_laws.specs.declared.event.Act.TheVariants.{Got, GotEnd, Waits, JobWoken, Back}
 use Rattle.blocking_laws.specs.declared.event.Event.{Event}
 use Rattle.blocking_laws.specs.declared.step.HandleCall.{HandleCall}
-use Rattle.blocking_lanes.specs.OwnerTies.{LastAs, newest_note, seat_of}
+use Rattle.blocking_lanes.specs.OwnerTies.{LastAs, newest_note, seat_of, state_as}
 use Rattle.blocking_lanes.specs.Sessions.{Session, serial_of}
 use Rattle.blocking_pool.specs.Jobs.{JobNumber}
+
+-- ---- where the handle is
+
+open_by : (b : Bool) (r : Option sessions.Session) (shut : Bool) (st : State) → Some (sessions.state_by b r shut) ≡ state_as st → b ≡ false
+open_by false r shut st e = refl
+open_by true r shut state.Idle e = absurd (cc)
+open_by true r shut (state.Reading Open) e = absurd (cc)
+open_by true r shut (state.Reading Shut) e = absurd (cc)
+open_by true r shut (state.Writing end) e = absurd (cc)
+open_by true r shut state.Closed e = absurd (cc)
+
+-- the handle wasn't closed, where the owner's machine says where it is
+pub is_open : (acts : List Act) (st : State) → Some (sessions.state acts) ≡ state_as st → sessions.is_closed acts ≡ false
+is_open acts st e = open_by (sessions.is_closed acts) (sessions.session acts) (is_shut acts) st e
+
+-- so it is with its owner, or with a job
+pub state_is : (acts : List Act) (st : State) → Some (sessions.state acts) ≡ state_as st → sessions.state acts ≡ sessions.state_in (sessions.session acts) (is_shut acts)
+state_is acts st e = ap (λ b. sessions.state_by b (sessions.session acts) (is_shut acts)) (is_open acts st e)
 
 -- ---- the last session
 
@@ -59,25 +79,29 @@ module _ (s : Session) (bytes : ℕ) (cut : List Event) (t : LastAs (Some s) byt
       seat_note true = refl
       seat_note false = refl
 
--- no session, no job
-not_its : (e : Event) → is_of_session None e ≡ false
-not_its e = and-false (not (is_of_pool e.act) && not (is_nothing e.act) && is_some_worker e.party)
+no_more : (b : Bool) (e : Event) (seen : List Event) → b ≡ false → seen ≡ [] → cond b (e ∷ seen) seen ≡ []
+no_more true e seen out none = absurd (cc)
+no_more false e seen out none = none
 
-no_job : (X : List Event) → filter (is_of_session None) X ≡ []
-no_job [] = refl
-no_job (e ∷ X) = by (is_of_session None e) (not_its e) (no_job X)
+-- no event is of a session that there isn't
+of_none : (seen : List Event) → filter (is_of_session None) seen ≡ []
+of_none [] = refl
+of_none (e ∷ seen) = no_more (is_of_session None e) e (filter (is_of_session None) seen) (out (is_of_pool e.act) (is_nothing e.act) (is_some_worker e.party)) (of_none seen)
   where
-    by : (b : Bool) → b ≡ false → filter (is_of_session None) X ≡ [] → (if b then e ∷ filter (is_of_session None) X else filter (is_of_session None) X) ≡ []
-    by true is none = absurd (cc)
-    by false is none = none
+    out : (pool nothing worker : Bool) → (not pool && not nothing && worker && false) ≡ false
+    out true nothing worker = refl
+    out false true worker = refl
+    out false false true = refl
+    out false false false = refl
 
 -- what passed is what the tie says
 pub passes : (last : Option Session) (bytes : ℕ) (cut : List Event) → capacity (own cut) ≡ bytes → LastAs last bytes cut → PassesOn cut
 passes None bytes cut same t = record {
   read = (gave (last_job cut), ap (λ l. gave (last_job cut)) t.0 ∙ ap (λ l. l ++ gave (last_job cut)) (sym t.1));
+  written = (accepted (own cut), ap (λ l. l ++ accepted (own cut)) (sym (ap (λ r. taken (map (λ e. e.act) (filter (is_of_session r) cut))) t.0 ∙ ap (λ l. taken (map (λ e. e.act) l)) (of_none cut))));
   within = subst (λ l. length l ≤ capacity (own cut)) (sym (ap (λ l. inside_by (kind_in l) (own cut) (last_job cut)) t.0)) (omega arith);
   bounded = subst (λ l. length (gave l) ≤ length (got (own cut)) + capacity (own cut))
-      (sym (ap (λ l. map (λ e. e.act) (filter (is_of_session l) cut)) t.0 ∙ ap (λ l. map (λ e. e.act) l) (no_job cut))) (omega arith);
+      (sym (ap (λ l. map (λ e. e.act) (filter (is_of_session l) cut)) t.0 ∙ ap (λ l. map (λ e. e.act) l) (of_none cut))) (omega arith);
 }
 passes (Some s) bytes cut same t =
     let within = t.lent.within in
@@ -88,6 +112,7 @@ passes (Some s) bytes cut same t =
         s.pipe.items ++ t.flow.put.0,
         ap gave (its_job s bytes cut t) ∙ t.flow.put.1 ∙ ap (λ l. l ++ t.flow.put.0) t.flow.inside ∙ append_assoc (got (own cut)) s.pipe.items t.flow.put.0,
       );
+      written = (accepted (own cut), ap (λ l. l ++ accepted (own cut)) (sym (ap taken (its_job s bytes cut t) ∙ t.flow.unwritten)));
       within = subst (λ l. length l ≤ capacity (own cut)) (sym (inside_is s bytes cut t)) (omega (arith, within, same));
       bounded = subst (λ l. length (gave l) ≤ length (got (own cut)) + capacity (own cut)) (sym (its_job s bytes cut t)) (omega (arith, bounded, holds, same));
     }
@@ -103,7 +128,7 @@ next_with cut = by_acts (own cut)
     by_acts (act ∷ past) = refl
 
 -- What is next stays where the faults of jobs do: they matter once the handle is back.
-pub next_stays : (new old : List Event) (acts : List Act) → (is_none (sessions.session acts) ≡ true → (s : ℕ) → fault (acts_of s new) ≡ fault (acts_of s old))
+pub next_stays : (new old : List Event) (acts : List Act) → (is_none (sessions.session acts) ≡ true → (k : Kind) (s : ℕ) → fault k (acts_of s new) ≡ fault k (acts_of s old))
     → owner_next_but_wake new acts ≡ owner_next_but_wake old acts
 next_stays new old [] same = refl
 next_stays new old (Back ∷ past) same = back (call past) (last_session past)
@@ -111,7 +136,7 @@ next_stays new old (Back ∷ past) same = back (call past) (last_session past)
     back : (asked : Option HandleCall) (r : Option sessions.Session) → at_back asked r (is_at_end past) new ≡ at_back asked r (is_at_end past) old
     back None r = refl
     back (Some c) None = refl
-    back (Some c) (Some r) = ap (λ f. after_back c f (is_at_end past)) (same refl r.serial)
+    back (Some c) (Some r) = ap (λ f. after_back c f (is_at_end past)) (same refl r.kind r.serial)
 next_stays new old (JobWoken s woke ∷ past) same = next_stays new old past same
 next_stays new old (_ ∷ past) same = refl
 

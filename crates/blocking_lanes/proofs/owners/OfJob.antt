@@ -12,7 +12,7 @@ use Rattle.blocking_core.specs.declared.job.read.ReadAction.{ReadAction}
 use Rattle.blocking_core.specs.declared.job.read.ReadAction.TheVariants as read
 use Rattle.blocking_core.specs.declared.job.read.ReadAnswer.TheVariants as by
 use Rattle.blocking_laws.specs.Ends.{EndsTruly, back_by, came_back}
-use Rattle.blocking_laws.specs.JobTable.{Reading, JobAction, FindRoom, AskBytes, PutPiece, CloseEnd, Finish, WakeHolder, Over, next_but_wake, next_of_job, is_over, is_answer, takes_waker, is_taken, fault, has_finished, has_given_up}
+use Rattle.blocking_laws.specs.JobTable.{Kind, Reading, JobAction, FindRoom, AskBytes, PutPiece, CloseEnd, Finish, WakeHolder, Over, next_but_wake, next_of_job, is_over, is_answer, takes_waker, is_taken, fault, has_finished, has_given_up}
 use Rattle.blocking_laws.specs.JobTable as job
 use Rattle.blocking_laws.specs.OwnerLaws.{JobActs, Works}
 use Rattle.blocking_laws.specs.OwnerSeats.{place_of, is_job_seated, job_seated_by, pipe_seat, pipe_seated_by, slot_seat, slot_seated_by}
@@ -112,7 +112,7 @@ module _ (bytes : ℕ) (here : OwnerStage) (s : Session) (h v first : ℕ) (grow
     pub lawful : JobActs cut s.number.serial Reading act
     pub ends : EndsTruly cut act
     pub back : (here : List Event) (before : Option (List Event)) → back_by act here before ≡ before
-    pub faults : over ≡ true → fault (act ∷ acts) ≡ fault acts
+    pub faults : over ≡ true → (kind : Kind) → fault kind (act ∷ acts) ≡ fault kind acts
     pub session :
         SessionAs (record { number = s.number; pipe = pipe; slot = slot }) (bound bytes) began shut over gone took (act ∷ acts)
         (job_seated_by act (is_job_seated cut)) (pipe_seated_by act (place_of (next_of_owner cut)) (pipe_seat cut))
@@ -130,7 +130,7 @@ module _ (bytes : ℕ) (here : OwnerStage) (s : Session) (h v first : ℕ) (grow
   keeps_goes act pipe slot among k =
       let e = event act in
       let more = acts_more act k.pool k.nothing in
-      let faults = λ (is : over ≡ true) (n : ℕ). same_fault is n (s.number.serial == n) refl in
+      let faults = λ (is : over ≡ true) (kind : Kind) (n : ℕ). same_fault is kind n (s.number.serial == n) refl in
       let next = next_stays (e ∷ cut) cut (own cut) faults in
       record {
         acts = (among, subst (λ kind. JobActs cut s.number.serial kind act) (sym (t.kinds s.number.serial among)) k.lawful);
@@ -158,11 +158,11 @@ module _ (bytes : ℕ) (here : OwnerStage) (s : Session) (h v first : ℕ) (grow
         };
       }
     where
-      same_fault : over ≡ true → (n : ℕ) (b : Bool) → (s.number.serial == n) ≡ b → fault (acts_of n (event act ∷ cut)) ≡ fault (acts_of n cut)
-      same_fault is n true test =
+      same_fault : over ≡ true → (kind : Kind) (n : ℕ) (b : Bool) → (s.number.serial == n) ≡ b → fault kind (acts_of n (event act ∷ cut)) ≡ fault kind (acts_of n cut)
+      same_fault is kind n true test =
           let same : s.number.serial ≡ n = grind (arith, nat_tests) in
-          subst (λ m. fault (acts_of m (event act ∷ cut)) ≡ fault (acts_of m cut)) same (ap fault (acts_more act k.pool k.nothing) ∙ k.faults is)
-      same_fault is n false test = ap fault (acts_other act n k.pool k.nothing test)
+          subst (λ m. fault kind (acts_of m (event act ∷ cut)) ≡ fault kind (acts_of m cut)) same (ap (fault kind) (acts_more act k.pool k.nothing) ∙ k.faults is kind)
+      same_fault is kind n false test = ap (fault kind) (acts_other act n k.pool k.nothing test)
 
   -- ---- its acts at the session
 
@@ -199,7 +199,7 @@ module _ (bytes : ℕ) (here : OwnerStage) (s : Session) (h v first : ℕ) (grow
             lawful = lawful_at p FindRoom (RoomFree (suc n)) r (ap (action_as p.piece) is) (ap seen_room (sym found ∙ room_found));
             ends = tt;
             back = λ here before. refl;
-            faults = λ is. refl;
+            faults = λ is kind. refl;
             session = finds s (bound bytes) began shut over gone took acts js ps ss (suc n) found (tied FindRoom (table read.FindRoom a));
             ended = λ e. e;
             told = λ e. inr e;
@@ -215,7 +215,7 @@ module _ (bytes : ℕ) (here : OwnerStage) (s : Session) (h v first : ℕ) (grow
             lawful = lawful_at p FindRoom JobParked r (ap (action_as p.piece) is) (ap seen_room (sym found ∙ room_found));
             ends = tt;
             back = λ here before. refl;
-            faults = λ is. refl;
+            faults = λ is kind. refl;
             session = parks s (bound bytes) began shut over gone took acts js ps ss found (table read.FindRoom a) t.last;
             ended = λ e. e;
             told = λ e. inr e;
@@ -231,7 +231,7 @@ module _ (bytes : ℕ) (here : OwnerStage) (s : Session) (h v first : ℕ) (grow
             lawful = lawful_at p FindRoom RoomShut r (ap (action_as p.piece) is) (ap seen_room (sym found ∙ room_found));
             ends = tt;
             back = λ here before. refl;
-            faults = λ is. refl;
+            faults = λ is kind. refl;
             session = finds_shut s (bound bytes) began shut over gone took acts js ps ss found (tied FindRoom (table read.FindRoom a));
             ended = λ e. e;
             told = λ e. inr e;
@@ -260,7 +260,7 @@ module _ (bytes : ℕ) (here : OwnerStage) (s : Session) (h v first : ℕ) (grow
             lawful = lawful_at p (PutPiece p.piece) act r (ap (action_as p.piece) is) (ap (seen_put (length p.piece)) (sym found ∙ put_found));
             ends = tt;
             back = λ here before. refl;
-            faults = λ is. refl;
+            faults = λ is kind. refl;
             session = puts s (bound bytes) began shut over gone took acts js ps ss p.piece (waker_in (is_some seat)) seat found here;
             ended = λ e. absurd (let closed = e.1 in let lasts = here.flow.passed_is.0 in cc);
             told = λ e. subst (λ o. (is_taken (waker_in (is_some o)) ≡ true) ⊎ (is_some s.slot.seat ≡ true)) (sym took_it) (taken_first (is_some s.pipe.owner_seat) (is_some s.slot.seat) e);
@@ -277,7 +277,7 @@ module _ (bytes : ℕ) (here : OwnerStage) (s : Session) (h v first : ℕ) (grow
             lawful = lawful_at p (PutPiece p.piece) act r (ap (action_as p.piece) is) (ap (seen_put (length p.piece)) (sym found ∙ put_found));
             ends = tt;
             back = λ here before. refl;
-            faults = λ is. refl;
+            faults = λ is kind. refl;
             session = loses s (bound bytes) began shut over gone took acts js ps ss p.piece found (tied (PutPiece p.piece) (table (read.Put count) a));
             ended = λ e. e;
             told = λ e. inr e;
@@ -299,7 +299,7 @@ module _ (bytes : ℕ) (here : OwnerStage) (s : Session) (h v first : ℕ) (grow
             lawful = lawful_at p CloseEnd act r (ap (action_as p.piece) is) (ap (λ b. JobClosed (waker_in b)) (sym t.last.seats.owner));
             ends = tt;
             back = λ here before. refl;
-            faults = λ is. refl;
+            faults = λ is kind. refl;
             session = closes s (bound bytes) began shut over gone took acts js ps ss (waker_in woke) here;
             ended = λ e. absurd (let closed = e.1 in let lasts = here.flow.passed_is.0 in cc);
             told = λ e. taken_first (is_some s.pipe.owner_seat) (is_some s.slot.seat) e;
@@ -312,7 +312,7 @@ module _ (bytes : ℕ) (here : OwnerStage) (s : Session) (h v first : ℕ) (grow
     finish_works is =
         let a = awake p read.Finish is (λ e. cc) in
         let here = tied Finish (table read.Finish a) in
-        let empty = (going s.slot.content (has_finished acts) (has_given_up acts) over gone (fault acts) here.result).empty in
+        let empty = (going s.slot.content (has_finished acts) (has_given_up acts) over gone (fault Reading acts) here.result).empty in
         let woke = finish_wakes p.fault s in
         let sits : woke ≡ is_some s.slot.seat = ap (λ c. is_some (answer_of c s.slot.seat p.fault).wake) empty in
         let act = Finished (waker_in woke) in
@@ -323,7 +323,7 @@ module _ (bytes : ℕ) (here : OwnerStage) (s : Session) (h v first : ℕ) (grow
             lawful = lawful_at p Finish act r (ap (action_as p.piece) is) (ap (λ b. Finished (waker_in b)) (sits ∙ sym t.last.seats.slot));
             ends = tt;
             back = λ here before. refl;
-            faults = λ is. refl;
+            faults = λ is kind. refl;
             session = finishes s (bound bytes) began shut over gone took acts js ps ss (waker_in woke) p.fault r.fault_is here;
             ended = λ e. e;
             told = λ e. taken_last (is_some s.pipe.owner_seat) (is_some s.slot.seat) woke _ sits e;
@@ -337,7 +337,7 @@ module _ (bytes : ℕ) (here : OwnerStage) (s : Session) (h v first : ℕ) (grow
         let q = asks p acts answer r is in
         let here = tied (AskBytes q.most) q.table in
         let next = next_by acts ∙ ap (λ b. job.wake_first b (next_but_wake Reading acts)) (sym r.waking ∙ q.a.waking) ∙ q.table in
-        let going_on = going s.slot.content (has_finished acts) (has_given_up acts) over gone (fault acts) here.result in
+        let going_on = going s.slot.content (has_finished acts) (has_given_up acts) over gone (fault Reading acts) here.result in
         keeps_goes (Answered answer) s.pipe s.slot among (record {
           pool = refl;
           nothing = refl;
@@ -354,8 +354,8 @@ module _ (bytes : ℕ) (here : OwnerStage) (s : Session) (h v first : ℕ) (grow
   pub give_up_goes : is_in s.number.serial (jobs_of (own cut)) ≡ true → is_over (next_but_wake Reading acts) ≡ false → gone ≡ true
       → Goes (owner_by_parts bytes here (Some (session_after_give_up s))) cut (event (GaveUp (waker_in (give_up_wakes s))))
   give_up_goes among goes dropped =
-      let result = subst (λ b. ResultAs s.slot.content (has_finished acts) (has_given_up acts) b over gone (fault acts)) goes t.last.result in
-      let empty = (going s.slot.content (has_finished acts) (has_given_up acts) over gone (fault acts) result).empty in
+      let result = subst (λ b. ResultAs s.slot.content (has_finished acts) (has_given_up acts) b over gone (fault Reading acts)) goes t.last.result in
+      let empty = (going s.slot.content (has_finished acts) (has_given_up acts) over gone (fault Reading acts) result).empty in
       let woke = give_up_wakes s in
       let sits : woke ≡ is_some s.slot.seat = ap (λ c. is_some (waker_out_of c s.slot.seat)) empty in
       keeps_goes (GaveUp (waker_in woke)) s.pipe (slot_without_job s.slot.content s.slot.seat) among (record {
@@ -364,7 +364,7 @@ module _ (bytes : ℕ) (here : OwnerStage) (s : Session) (h v first : ℕ) (grow
         lawful = (dropped, goes, ap waker_in (sits ∙ sym t.last.seats.slot));
         ends = tt;
         back = λ here before. refl;
-        faults = λ is. refl;
+        faults = λ is kind. refl;
         session = gives_up s (bound bytes) began shut over gone took acts js ps ss (waker_in woke) goes dropped t.last;
         ended = λ e. e;
         told = λ e. taken_last (is_some s.pipe.owner_seat) (is_some s.slot.seat) woke _ sits e;

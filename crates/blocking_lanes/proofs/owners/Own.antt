@@ -48,7 +48,7 @@ use Rattle.blocking_lanes.specs.OwnerTies.{OwnerAs, SlotAs, Passed, passed_by, P
 use Rattle.blocking_lanes.specs.Sessions.{Session, serial_of, reach, drained, session_after_close, session_after_drain, session_after_look}
 use Rattle.blocking_lanes.specs.declared.owner.OwnerStage.{OwnerStage}
 use Rattle.blocking_lanes.specs.declared.owner.OwnerStage.TheVariants as stage
-use Rattle.blocking_lanes.proofs.owners.Cuts.{not_not, next_with, inside_is, lasts_is, open_is, noted_is, its_job, drain_act, drain_seen}
+use Rattle.blocking_lanes.proofs.owners.Cuts.{not_not, next_with, is_open, state_is, inside_is, lasts_is, open_is, noted_is, its_job, drain_act, drain_seen}
 use Rattle.blocking_lanes.proofs.owners.Takes.{shuts, takes, waits, returns, waits_for_it, front, at_end, reached}
 
 -- an owner by its parts
@@ -117,15 +117,15 @@ earlier_none : (a b : Option (Fault ℕ)) → earlier a b ≡ None → (a ≡ No
 earlier_none None b e = (refl, e)
 earlier_none (Some why) b e = absurd (cc)
 
-no_failure : (past : List Act) → fault past ≡ None → has_failure (handle_answers past) ≡ false
+no_failure : (past : List Act) → fault Reading past ≡ None → has_failure (handle_answers past) ≡ false
 no_failure [] e = refl
 no_failure (Answered answer ∷ past) e =
-    let both = earlier_none (fault past) (fault_in answer) e in
-    or_from (is_failure answer) (has_failure (handle_answers past)) (sound answer both.1) (no_failure past both.0)
+    let both = earlier_none (fault Reading past) (fault_in (next_but_wake Reading past) answer) e in
+    or_from (is_failure answer) (has_failure (handle_answers past)) (sound (next_but_wake Reading past) answer both.1) (no_failure past both.0)
   where
-    sound : (answer : Answer) → fault_in answer ≡ None → is_failure answer ≡ false
-    sound (Failed error) e = absurd (cc)
-    sound _ e = refl
+    sound : (action : JobAction) (answer : Answer) → fault_in action answer ≡ None → is_failure answer ≡ false
+    sound action (Failed error) e = absurd (cc)
+    sound action _ e = refl
 no_failure (_ ∷ past) e = no_failure past e
 
 pub last_is : (a : JobAction) → is_over a ≡ true → a ≡ Over
@@ -191,12 +191,13 @@ module _ (bytes : ℕ) (p : OwnerMachine ℕ) (s : Session) (h first : ℕ) (gro
       let fits = fits_at bytes p cut (Some s) action.Close t is in
       let same : owner_after p (by.Closed (is_some note)) ≡ q =
       turned p action.Close (by.Closed (is_some note)) t.stage.1 is ∙ ap (λ st. record p { state = machine.shut st; next = action.PollSlot; is_waking = is_some note }) fits.0 in
-      let where_it_was = ap (value_of sessions.Idle) (t.stage.0.at_is ∙ ap state_as fits.0) in
+      let opened = is_open (own cut) p.state t.stage.0.at_is in
+      let where_it_was = sym (state_is (own cut) p.state t.stage.0.at_is) ∙ ap (value_of sessions.Idle) (t.stage.0.at_is ∙ ap state_as fits.0) in
       let last = session_after_close s in
       let polled : PollAs q (sessions.call (own cut)) (sessions.state (own (e ∷ cut))) law.PollSlot false (came_back cut) = record {
         known = t.stage.0.known;
         asked_is = t.stage.0.asked_is;
-        at_is = ap Some (shut_state (sessions.session (own cut)) (sessions.is_shut (own cut)) where_it_was);
+        at_is = ap (λ b. Some (sessions.state_by b (sessions.session (own cut)) true)) opened ∙ ap Some (shut_state (sessions.session (own cut)) (sessions.is_shut (own cut)) where_it_was);
         next_is = refl;
         fits = (subst (λ b. LooksFrom p.call (state.Reading Shut) b) (sym fits.1) tt, fits.1);
       } in
@@ -316,7 +317,7 @@ module _ (bytes : ℕ) (p : OwnerMachine ℕ) (s : Session) (h first : ℕ) (gro
       let same : owner_after p by.Ended ≡ q = turned p (action.Drain most) by.Ended t.stage.1 is in
       let closed = at_end (max 1 (reach most s)) s.pipe.items s.pipe.is_job_open s.pipe.job_seat e in
       let lasts : s.pipe.is_owner_open ≡ true =
-      sym (open_is s (bound bytes) cut t.last) ∙ open_state (sessions.session (own cut)) shut (ap (value_of sessions.Idle) (t.stage.0.at_is ∙ ap state_as fits.2)) in
+      sym (open_is s (bound bytes) cut t.last) ∙ open_state (sessions.session (own cut)) shut (sym (state_is (own cut) p.state t.stage.0.at_is) ∙ ap (value_of sessions.Idle) (t.stage.0.at_is ∙ ap state_as fits.2)) in
       subst (λ (m : OwnerMachine ℕ). Goes (owner_by_parts bytes (stage.Polls m) (Some s)) cut seen) (sym same)
       (record {
         acts = subst (λ n. Polls cut n GotEnd) (sym (lawful bytes p cut (Some s) (action.Drain most) t is)) (ap drain_act (sym e) ∙ found_so most fits.1 t);
@@ -374,10 +375,11 @@ module _ (bytes : ℕ) (p : OwnerMachine ℕ) (s : Session) (h first : ℕ) (gro
   slot_waits is t empty =
       let fits = fits_at bytes p cut (Some s) action.PollSlot t is in
       let at_slot = lawful bytes p cut (Some s) action.PollSlot t is in
-      let slot = subst (λ c. SlotAs c (has_finished acts) (has_given_up acts) over (fault acts)) empty t.last.result.slot in
-      let going_on = lent_state p.call p.state p.is_at_end fits.0 (sessions.session (own cut)) shut t.stage.0.at_is in
+      let slot = subst (λ c. SlotAs c (has_finished acts) (has_given_up acts) over (fault Reading acts)) empty t.last.result.slot in
+      let at = ap Some (sym (state_is (own cut) p.state t.stage.0.at_is)) ∙ t.stage.0.at_is in
+      let going_on = lent_state p.call p.state p.is_at_end fits.0 (sessions.session (own cut)) shut at in
       let unfinished = ap has_finished (its_job s (bound bytes) cut t.last) ∙ slot.0 ∙ going_on in
-      let closed = closed_end p.call p.state p.is_at_end fits.0 t.stage.0.at_is t.last.lent.shut_is (λ is_end. t.ended (sym fits.1 ∙ is_end)) in
+      let closed = closed_end p.call p.state p.is_at_end fits.0 at t.last.lent.shut_is (λ is_end. t.ended (sym fits.1 ∙ is_end)) in
       record {
         acts = subst (λ n. Polls cut n Waits) (sym at_slot) (ap poll_slot (sym unfinished));
         ends = tt;
@@ -403,7 +405,7 @@ module _ (bytes : ℕ) (p : OwnerMachine ℕ) (s : Session) (h first : ℕ) (gro
   once_back (Some call) why ended = law.after_back call why ended
 
   at_back_is : (asked : Option HandleCall) (r : sessions.Session) (ended : Bool) (seen : List Event)
-      → law.at_back asked (Some r) ended seen ≡ once_back asked (fault (acts_of r.serial seen)) ended
+      → law.at_back asked (Some r) ended seen ≡ once_back asked (fault r.kind (acts_of r.serial seen)) ended
   at_back_is None r ended seen = refl
   at_back_is (Some call) r ended seen = refl
 
@@ -432,7 +434,7 @@ module _ (bytes : ℕ) (p : OwnerMachine ℕ) (s : Session) (h first : ℕ) (gro
   back_fits q _ ended why back known asked at end whole = absurd (cc)
 
   -- a session whose end was seen, and whose job met no fault, was read whole
-  read_whole : Old → IsAtEnd s → has_finished acts ≡ true → has_given_up acts ≡ false → fault acts ≡ None → IsReadWhole (by_owner h Back first growth ∷ cut)
+  read_whole : Old → IsAtEnd s → has_finished acts ≡ true → has_given_up acts ≡ false → fault Reading acts ≡ None → IsReadWhole (by_owner h Back first growth ∷ cut)
   read_whole t ends finished stays sound =
       let job = its_job s (bound bytes) cut t.last in
       let next = last_is (next_but_wake Reading acts) (sym t.last.result.over_is ∙ or_left (has_finished acts) (has_given_up acts) finished) in
@@ -451,7 +453,7 @@ module _ (bytes : ℕ) (p : OwnerMachine ℕ) (s : Session) (h first : ℕ) (gro
   back_goes is t why full =
       let fits = fits_at bytes p cut (Some s) action.PollSlot t is in
       let e = by_owner h Back first growth in
-      let slot = subst (λ c. SlotAs c (has_finished acts) (has_given_up acts) over (fault acts)) full t.last.result.slot in
+      let slot = subst (λ c. SlotAs c (has_finished acts) (has_given_up acts) over (fault Reading acts)) full t.last.result.slot in
       let q : OwnerMachine ℕ = record p { state = state.Idle; next = machine.after_back p.call p.is_at_end why } in
       let same : owner_after p (by.Back why) ≡ q = turned p action.PollSlot (by.Back why) t.stage.1 is in
       let finished = ap has_finished (its_job s (bound bytes) cut t.last) ∙ slot.0 in
@@ -476,7 +478,7 @@ module _ (bytes : ℕ) (p : OwnerMachine ℕ) (s : Session) (h first : ℕ) (gro
             record {
               known = t.stage.0.known;
               asked_is = t.stage.0.asked_is;
-              at_is = refl;
+              at_is = ap (λ b. Some (sessions.state_by b None shut)) (is_open (own cut) p.state t.stage.0.at_is);
               next_is = table ∙ after_back_is p.call p.state p.is_at_end why t.stage.0.known fits.0;
               fits = back_fits q p.call p.is_at_end why (Some (e ∷ cut)) t.stage.0.known refl refl refl whole;
             },
@@ -499,7 +501,7 @@ module _ (bytes : ℕ) (p : OwnerMachine ℕ) (s : Session) (h first : ℕ) (gro
   look_goes is t (Full why) e done does =
       subst (λ (d : Did). Goes d.owner cut (by_owner h d.act first growth)) (ap (value_of done) does) (back_goes is t why e)
   look_goes is t GivenUp e done does = absurd (cc)
-  look_goes is t (Abandoned was) e done does = absurd (subst (λ c. SlotAs c (has_finished acts) (has_given_up acts) over (fault acts)) e t.last.result.slot)
+  look_goes is t (Abandoned was) e done does = absurd (subst (λ c. SlotAs c (has_finished acts) (has_given_up acts) over (fault Reading acts)) e t.last.result.slot)
 
 -- ---- it replies
 
@@ -515,6 +517,17 @@ end_is (poll_call.Read (suc n)) r back said same e = subst (λ told. IsTrueEnd (
     by_reply reply.Closed same e = absurd (cc)
 end_is _ r back said same e = tt
 
+-- no reply of a machine that the laws know ends a close
+stays_open : (r : Reply ℕ) (said : Told) (asked : Option HandleCall) → reply_as r ≡ Some said → sessions.ends_close said asked ≡ false
+stays_open r (told.Count n) asked e = refl
+stays_open r told.Handle asked e = refl
+stays_open r (told.Failed why) asked e = refl
+stays_open (reply.Count n) told.Okay asked e = absurd (cc)
+stays_open reply.Handle told.Okay asked e = absurd (cc)
+stays_open (reply.Failed why) told.Okay asked e = absurd (cc)
+stays_open reply.Done told.Okay asked e = absurd (cc)
+stays_open reply.Closed told.Okay asked e = absurd (cc)
+
 reply_goes : (bytes : ℕ) (p : OwnerMachine ℕ) (last : Option Session) (h first : ℕ) (growth : Growth) (cut : List Event) (r : Reply ℕ) (said : Told) → p.next ≡ action.Reply r
     → reply_as r ≡ Some said → OwnerAs (owner_by_parts bytes (stage.Polls p) last) cut
     → Goes (owner_by_parts bytes (stage.Rests p.state) last) cut (by_owner h (Replied said) first growth)
@@ -528,7 +541,11 @@ reply_goes bytes p last h first growth cut r said is same t =
         gone = t.gone;
         polled = refl;
         bytes = t.bytes;
-        stage = (t.stage.0.at_is, refl, refl);
+        stage = (
+          ap (λ b. Some (sessions.state_by (b || sessions.is_closed (own cut)) (sessions.session (own cut)) (sessions.is_shut (own cut)))) (stays_open r said (sessions.call (own cut)) same) ∙ t.stage.0.at_is,
+          refl,
+          refl,
+        );
         last = t.last;
         ended = λ is_end. absurd (cc);
         earlier = t.earlier;

@@ -24,6 +24,7 @@ use Rattle.blocking_laws.specs.Passed.{is_serial}
 use Rattle.blocking_laws.specs.Seen.{own, acts_of}
 use Rattle.blocking_laws.specs.Sessions.{jobs_of, kind_of, kind_of_job, default_capacity}
 use Rattle.blocking_laws.specs.Sessions as sessions
+use Rattle.blocking_laws.specs.Steps.{is_known}
 use Rattle.blocking_laws.specs.declared.event.Act.{Act}
 use Rattle.blocking_laws.specs.declared.event.Act.TheVariants.{Asked, Accepted, Refused, JobWoken, HolderDropped, GotEnd}
 use Rattle.blocking_laws.specs.declared.event.Event.{Event}
@@ -39,61 +40,62 @@ use Rattle.blocking_lanes.specs.OwnerSteps.{by_owner}
 use Rattle.blocking_lanes.specs.OwnerTies.{OwnerAs, FitsNext, EndAs, LastAs, SessionAs, SlotAs, call_as, state_as, action_as, newest_note}
 use Rattle.blocking_lanes.specs.Sessions.{Session, new_session}
 use Rattle.blocking_lanes.specs.declared.owner.OwnerStage.TheVariants as stage
-use Rattle.blocking_lanes.proofs.owners.Cuts.{next_with, next_stays}
+use Rattle.blocking_lanes.proofs.owners.Cuts.{next_with, next_stays, is_open, state_is}
 use Rattle.blocking_lanes.proofs.owners.Own.{Goes, owner_by_parts, bound, value_of, turned, lawful, fits_at, last_is}
 use Rattle.blocking_lanes.proofs.owners.Takes.{begins}
 
 -- ---- it is asked
 
-call_back : (call : HandleCall) → Some call ≡ call_as (poll_call_of call)
-call_back (handle_call.Read n) = refl
-call_back handle_call.GetMut = refl
+call_back : (call : HandleCall) → is_known call ≡ true → Some call ≡ call_as (poll_call_of call)
+call_back (handle_call.Read n) known = refl
+call_back handle_call.GetMut known = refl
+call_back _ known = absurd (cc)
 
 -- the machine's table is that of the laws
-table_is : (call : HandleCall) (at : State) (here : sessions.State) → Some here ≡ state_as at → law.table call here ≡ action_as (machine.table (poll_call_of call) at)
-table_is (handle_call.Read zero) at here e = refl
-table_is (handle_call.Read (suc n)) state.Idle here e = ap (λ o. law.table (handle_call.Read (suc n)) (value_of here o)) e
-table_is (handle_call.Read (suc n)) (state.Reading Open) here e = ap (λ o. law.table (handle_call.Read (suc n)) (value_of here o)) e
-table_is (handle_call.Read (suc n)) (state.Reading Shut) here e = ap (λ o. law.table (handle_call.Read (suc n)) (value_of here o)) e
-table_is handle_call.GetMut state.Idle here e = ap (λ o. law.table handle_call.GetMut (value_of here o)) e
-table_is handle_call.GetMut (state.Reading Open) here e = ap (λ o. law.table handle_call.GetMut (value_of here o)) e
-table_is handle_call.GetMut (state.Reading Shut) here e = ap (λ o. law.table handle_call.GetMut (value_of here o)) e
-table_is _ _ here e = absurd (cc)
+table_is : (call : HandleCall) (at : State) (here : sessions.State) → is_known call ≡ true → Some here ≡ state_as at → law.table call here ≡ action_as (machine.table (poll_call_of call) at)
+table_is (handle_call.Read zero) at here known e = refl
+table_is (handle_call.Read (suc n)) state.Idle here known e = ap (λ o. law.table (handle_call.Read (suc n)) (value_of here o)) e
+table_is (handle_call.Read (suc n)) (state.Reading Open) here known e = ap (λ o. law.table (handle_call.Read (suc n)) (value_of here o)) e
+table_is (handle_call.Read (suc n)) (state.Reading Shut) here known e = ap (λ o. law.table (handle_call.Read (suc n)) (value_of here o)) e
+table_is handle_call.GetMut state.Idle here known e = ap (λ o. law.table handle_call.GetMut (value_of here o)) e
+table_is handle_call.GetMut (state.Reading Open) here known e = ap (λ o. law.table handle_call.GetMut (value_of here o)) e
+table_is handle_call.GetMut (state.Reading Shut) here known e = ap (λ o. law.table handle_call.GetMut (value_of here o)) e
+table_is _ _ here known e = absurd (cc)
 
-table_fits : (call : HandleCall) (at : State) (back : Option (List Event)) → is_some (state_as at) ≡ true
+table_fits : (call : HandleCall) (at : State) (back : Option (List Event)) → is_known call ≡ true → is_some (state_as at) ≡ true
     → FitsNext (new_poll (poll_call_of call) at) (machine.table (poll_call_of call) at) false back
-table_fits (handle_call.Read zero) at back known = (refl, tt)
-table_fits (handle_call.Read (suc n)) state.Idle back known = (n, refl, refl, refl)
-table_fits (handle_call.Read (suc n)) (state.Reading Open) back known = (refl, omega arith, refl, refl)
-table_fits (handle_call.Read (suc n)) (state.Reading Shut) back known = (tt, refl)
-table_fits handle_call.GetMut state.Idle back known = (refl, tt)
-table_fits handle_call.GetMut (state.Reading Open) back known = (refl, refl)
-table_fits handle_call.GetMut (state.Reading Shut) back known = (tt, refl)
-table_fits _ _ back known = absurd (cc)
+table_fits (handle_call.Read zero) at back known at_known = (refl, tt)
+table_fits (handle_call.Read (suc n)) state.Idle back known at_known = (n, refl, refl, refl)
+table_fits (handle_call.Read (suc n)) (state.Reading Open) back known at_known = (refl, omega arith, refl, refl)
+table_fits (handle_call.Read (suc n)) (state.Reading Shut) back known at_known = (tt, refl)
+table_fits handle_call.GetMut state.Idle back known at_known = (refl, tt)
+table_fits handle_call.GetMut (state.Reading Open) back known at_known = (refl, refl)
+table_fits handle_call.GetMut (state.Reading Shut) back known at_known = (tt, refl)
+table_fits _ _ back known at_known = absurd (cc)
 
 -- it rests, by the law
 rests_so : (bytes : ℕ) (here : State) (last : Option Session) (cut : List Event) → OwnerAs (owner_by_parts bytes (stage.Rests here) last) cut → sessions.rests (own cut) ≡ true
 rests_so bytes here last cut t = rw (t.made, t.gone, t.polled) refl
 
 pub ask_goes : (bytes : ℕ) (here : State) (last : Option Session) (h first : ℕ) (growth : Growth) (cut : List Event) (call : HandleCall)
-    → OwnerAs (owner_by_parts bytes (stage.Rests here) last) cut
+    → is_known call ≡ true → OwnerAs (owner_by_parts bytes (stage.Rests here) last) cut
     → Goes (owner_by_parts bytes (stage.Polls (new_poll (poll_call_of call) here)) last) cut (by_owner h (Asked call) first growth)
-ask_goes bytes here last h first growth cut call t =
+ask_goes bytes here last h first growth cut call known t =
     record {
-      acts = rests_so bytes here last cut t;
+      acts = rw (t.made, t.gone, t.polled, is_open (own cut) here t.stage.0) refl;
       ends = tt;
       tie = record {
         made = t.made;
         gone = t.gone;
-        polled = call_back call;
+        polled = call_back call known;
         bytes = t.bytes;
         stage = (
           record {
-            known = ap is_some (sym (call_back call));
-            asked_is = call_back call;
+            known = ap is_some (sym (call_back call known));
+            asked_is = call_back call known;
             at_is = t.stage.0;
-            next_is = table_is call here (sessions.state (own cut)) t.stage.0;
-            fits = table_fits call here None (ap is_some (sym t.stage.0));
+            next_is = table_is call here (sessions.state (own cut)) known t.stage.0;
+            fits = table_fits call here None known (ap is_some (sym t.stage.0));
           },
           refl,
           refl,
@@ -218,7 +220,7 @@ deliver_goes bytes p note last h first growth cut woke t =
             known = t.stage.0.known;
             asked_is = t.stage.0.asked_is;
             at_is = t.stage.0.at_is;
-            next_is = next_stays (e ∷ cut) cut (own cut) (λ back s. refl) ∙ t.stage.0.next_is;
+            next_is = next_stays (e ∷ cut) cut (own cut) (λ back k s. refl) ∙ t.stage.0.next_is;
             fits = fits_then p p.next (law.is_at_end (own cut)) (came_back cut) (noted_goes_on (own cut) note.serial t.stage.2) t.stage.0.fits;
           },
           refl,
@@ -248,14 +250,14 @@ in_more : (t s : ℕ) (jobs : List ℕ) → (t == s) ≡ false → is_in t (s �
 in_more t s jobs other e = ap (λ b. b || is_in t jobs) (sym other) ∙ e
 
 -- the handle was back, so the job of the last session is over
-last_over : (last : Option Session) (bytes : ℕ) (cut : List Event) → LastAs last bytes cut → sessions.state (own cut) ≡ sessions.Idle → (t : ℕ)
+last_over : (last : Option Session) (bytes : ℕ) (cut : List Event) → LastAs last bytes cut → sessions.state_in (sessions.session (own cut)) (sessions.is_shut (own cut)) ≡ sessions.Idle → (t : ℕ)
     → is_serial (sessions.last_session (own cut)) (Some t) ≡ true → next_but_wake Reading (acts_of t cut) ≡ Over
 last_over None bytes cut l idle t is = absurd (let none = ap (λ r. is_serial r (Some t)) (sym l.0) ∙ is in cc)
 last_over (Some s) bytes cut l idle t is =
     let test : (t == s.number.serial) ≡ true = ap (λ r. is_serial r (Some t)) (sym l.lent.begun) ∙ is in
     let same : t ≡ s.number.serial = grind (arith, nat_tests) in
     let works = acts_of s.number.serial cut in
-    let finished = back_finished s.slot.content (has_finished works) (has_given_up works) (is_none (sessions.session (own cut))) (fault works) (back (sessions.session (own cut)) (sessions.is_shut (own cut)) idle) l.result.slot in
+    let finished = back_finished s.slot.content (has_finished works) (has_given_up works) (is_none (sessions.session (own cut))) (fault Reading works) (back (sessions.session (own cut)) (sessions.is_shut (own cut)) idle) l.result.slot in
     ap (λ n. next_but_wake Reading (acts_of n cut)) same
     ∙ last_is (next_but_wake Reading works) (sym l.result.over_is ∙ or_left (has_finished works) (has_given_up works) finished)
   where
@@ -281,7 +283,10 @@ begin_goes bytes p last h first growth cut number is fresh quiet t =
     let same : owner_after p by.Begun ≡ q = turn ∙ ap (λ c. record p { state = machine.begun_by c; next = machine.table c (machine.begun_by c) }) fits.1 in
     let asked : sessions.call (own cut) ≡ Some (handle_call.Read (suc n)) = t.stage.0.asked_is ∙ ap call_as fits.1 in
     let kind : kind_of (sessions.call (own cut)) ≡ Reading = ap kind_of asked in
-    let idle = ap (value_of sessions.Idle) (t.stage.0.at_is ∙ ap state_as fits.2) in
+    let began : Option sessions.Session = Some (record { serial = number.serial; kind = kind_of (sessions.call (own cut)) }) in
+    let opened : sessions.state_by (sessions.is_closed (own cut)) began false ≡ sessions.state_in began false =
+    ap (λ b. sessions.state_by b began false) (is_open (own cut) p.state t.stage.0.at_is) in
+    let idle = sym (state_is (own cut) p.state t.stage.0.at_is) ∙ ap (value_of sessions.Idle) (t.stage.0.at_is ∙ ap state_as fits.2) in
     let s = new_session number (bound bytes) in
     subst (λ (m : OwnerMachine ℕ). Goes (owner_by_parts bytes (stage.Polls m) (Some s)) cut e) (sym same)
     (record {
@@ -296,8 +301,9 @@ begin_goes bytes p last h first growth cut number is fresh quiet t =
           record {
             known = t.stage.0.known;
             asked_is = t.stage.0.asked_is;
-            at_is = ap (λ k. Some (sessions.In k true)) kind;
-            next_is = ap (λ c. law.at_accepted c (sessions.In (kind_of (sessions.call (own cut))) true)) asked ∙ ap (λ k. law.table (handle_call.Read (suc n)) (sessions.In k true)) kind;
+            at_is = ap Some (opened ∙ ap (λ k. sessions.In k true) kind);
+            next_is = ap (λ st. law.at_accepted (sessions.call (own cut)) st) opened
+                ∙ ap (λ c. law.at_accepted c (sessions.In (kind_of (sessions.call (own cut))) true)) asked ∙ ap (λ k. law.table (handle_call.Read (suc n)) (sessions.In k true)) kind;
             fits = (fits.1, omega arith, refl, fits.3);
           },
           t.stage.1,
@@ -314,7 +320,7 @@ begin_goes bytes p last h first growth cut number is fresh quiet t =
       };
     })
   where
-    earlier : (s : ℕ) (b : Bool) → is_serial (sessions.last_session (own cut)) (Some s) ≡ b → is_in s (jobs_of (own cut)) ≡ true → sessions.state (own cut) ≡ sessions.Idle
+    earlier : (s : ℕ) (b : Bool) → is_serial (sessions.last_session (own cut)) (Some s) ≡ b → is_in s (jobs_of (own cut)) ≡ true → sessions.state_in (sessions.session (own cut)) (sessions.is_shut (own cut)) ≡ sessions.Idle
         → next_but_wake Reading (acts_of s cut) ≡ Over
     earlier s true of among idle = last_over last (bound bytes) cut t.last idle s of
     earlier s false of among idle = t.earlier s among of

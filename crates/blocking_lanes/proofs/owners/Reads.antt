@@ -13,7 +13,7 @@ use Rattle.blocking_laws.specs.JobTable as job
 use Rattle.blocking_laws.specs.declared.event.Act.{Act}
 use Rattle.blocking_laws.specs.declared.event.Act.TheVariants.{Answered, HolderWoken}
 use Rattle.blocking_laws.specs.declared.step.Answer.{Answer}
-use Rattle.blocking_laws.specs.declared.step.Answer.TheVariants.{Number, Gave, Failed}
+use Rattle.blocking_laws.specs.declared.step.Answer.TheVariants.{Number, Gave, Fine, Failed}
 use Rattle.blocking_lanes.specs.Reads.{Progress, ReadAs, action_as, action_of, has_waker, progress_with, progress_after_answer}
 
 -- ---- what it does next
@@ -54,7 +54,7 @@ after_is p next answer a = ap (λ b. read_in b p.core.next answer) a.waking ∙ 
 -- The job met its owner, and goes on by its table.
 pub meets : (p : Progress) (acts : List Act) (now next : ReadAction) (woke : Bool) (answer : ReadAnswer) (act : Act) → ReadAs p acts → Awake p now
     → read_by now answer ≡ machine next woke → action_as p.piece next ≡ next_but_wake Reading (act ∷ acts) → woke ≡ takes_waker act
-    → fault (act ∷ acts) ≡ fault acts → ReadAs (progress_with p answer) (act ∷ acts)
+    → fault Reading (act ∷ acts) ≡ fault Reading acts → ReadAs (progress_with p answer) (act ∷ acts)
 meets p acts now next woke answer act r a goes table took same =
     let core = after_is p now answer a ∙ goes in
     record {
@@ -116,8 +116,8 @@ asks p acts answer r is =
       fits = ap (λ n. is_answer (action_as p.piece n) answer) (sym found.1) ∙ is;
     }
 
-first_fault : (held : Option (Fault ℕ)) (acts : List Act) (answer : Answer) → held ≡ fault acts → job.earlier held (fault_in answer) ≡ fault (Answered answer ∷ acts)
-first_fault held acts answer same = ap (λ f. job.earlier f (fault_in answer)) same
+first_fault : (held : Option (Fault ℕ)) (acts : List Act) (answer : Answer) → held ≡ fault Reading acts → job.earlier held (fault_in (next_but_wake Reading acts) answer) ≡ fault Reading (Answered answer ∷ acts)
+first_fault held acts answer same = ap (λ f. job.earlier f (fault_in (next_but_wake Reading acts) answer)) same
 
 no_fault : (held : Option (Fault ℕ)) → held ≡ job.earlier held None
 no_fault None = refl
@@ -144,3 +144,4 @@ answers p acts (Failed error) r is =
       fault_is = first_fault p.fault acts (Failed error) r.fault_is;
     }
 answers p acts (Number n) r is = let q = asks p acts (Number n) r is in absurd (let f = q.fits in cc)
+answers p acts Fine r is = let q = asks p acts Fine r is in absurd (let f = q.fits in cc)

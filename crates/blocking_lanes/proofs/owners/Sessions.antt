@@ -11,13 +11,13 @@ use Rattle.blocking_core.specs.Slots.{Content, Empty, Full, GivenUp, Abandoned, 
 use Rattle.blocking_core.specs.declared.io.Fault.{Fault}
 use Rattle.blocking_laws.specs.Ends.{handle_answers, has_failure}
 use Rattle.blocking_laws.specs.JobTable.{Reading, JobAction, FindRoom, AskBytes, PutPiece, CloseEnd, Finish, next_but_wake, is_over, next_after_answer, is_answer, fault, has_closed, has_finished, has_given_up}
-use Rattle.blocking_laws.specs.Passed.{gave, got, answered, was_put, carried}
+use Rattle.blocking_laws.specs.Passed.{gave, got, answered, was_put, carried, peeked, counted}
 use Rattle.blocking_laws.specs.Sessions as sessions
 use Rattle.blocking_laws.specs.declared.event.Act.{Act}
 use Rattle.blocking_laws.specs.declared.event.Act.TheVariants.{RoomFree, RoomShut, JobParked, Answered, Put, Lost, JobClosed, Finished, GaveUp, HolderWoken}
 use Rattle.blocking_laws.specs.declared.event.HolderWaker.{HolderWaker}
 use Rattle.blocking_laws.specs.declared.step.Answer.{Answer}
-use Rattle.blocking_laws.specs.declared.step.Answer.TheVariants.{Number, Gave, Failed}
+use Rattle.blocking_laws.specs.declared.step.Answer.TheVariants.{Number, Gave, Fine, Failed}
 use Rattle.blocking_lanes.specs.Sessions.{Session, session_after_room, session_after_put, session_after_job_close, session_after_finish, session_after_give_up}
 use Rattle.blocking_lanes.specs.OwnerTies.{SessionAs, LentAs, FlowAs, ResultAs, SeatsAs, SlotAs, passed_by, PassedAs, GaveAll, is_finding}
 
@@ -91,7 +91,7 @@ module _ (s : Session) (capacity : ℕ) (last : Option sessions.Session) (shut b
   pub record At (next : JobAction) : Type 0 where
     pub lent : LentAs s capacity last shut
     pub flow : FlowAs s shut taken next (has_closed acts) (has_given_up acts) (passed_by acts)
-    pub result : ResultAs s.slot.content (has_finished acts) (has_given_up acts) (is_over next) back dropped (fault acts)
+    pub result : ResultAs s.slot.content (has_finished acts) (has_given_up acts) (is_over next) back dropped (fault Reading acts)
     pub seats : SeatsAs s (is_finding next || has_given_up acts) js ps ss
 
   -- from the tie to that, and back
@@ -99,7 +99,7 @@ module _ (s : Session) (capacity : ℕ) (last : Option sessions.Session) (shut b
   at next e t = record {
     lent = t.lent;
     flow = subst (λ a. FlowAs s shut taken a (has_closed acts) (has_given_up acts) (passed_by acts)) e t.flow;
-    result = subst (λ a. ResultAs s.slot.content (has_finished acts) (has_given_up acts) (is_over a) back dropped (fault acts)) e t.result;
+    result = subst (λ a. ResultAs s.slot.content (has_finished acts) (has_given_up acts) (is_over a) back dropped (fault Reading acts)) e t.result;
     seats = subst (λ a. SeatsAs s (is_finding a || has_given_up acts) js ps ss) e t.seats;
   }
 
@@ -107,7 +107,7 @@ module _ (s : Session) (capacity : ℕ) (last : Option sessions.Session) (shut b
   tied_at next e t = record {
     lent = t.lent;
     flow = subst (λ a. FlowAs s shut taken a (has_closed acts) (has_given_up acts) (passed_by acts)) (sym e) t.flow;
-    result = subst (λ a. ResultAs s.slot.content (has_finished acts) (has_given_up acts) (is_over a) back dropped (fault acts)) (sym e) t.result;
+    result = subst (λ a. ResultAs s.slot.content (has_finished acts) (has_given_up acts) (is_over a) back dropped (fault Reading acts)) (sym e) t.result;
     seats = subst (λ a. SeatsAs s (is_finding a || has_given_up acts) js ps ss) (sym e) t.seats;
   }
 
@@ -122,7 +122,7 @@ module _ (s : Session) (capacity : ℕ) (last : Option sessions.Session) (shut b
       let any = some.1 in
       record {
         lent = t.lent;
-        flow = record { closed_is = t.flow.closed_is; inside = t.flow.inside; put = t.flow.put; bounded = t.flow.bounded; passed_is = (p.0, p.1, omega (arith, free)); unclosed = λ is. absurd (cc) };
+        flow = record { closed_is = t.flow.closed_is; inside = t.flow.inside; put = t.flow.put; bounded = t.flow.bounded; passed_is = (p.0, p.1, omega (arith, free)); unclosed = λ is. absurd (cc); unwritten = t.flow.unwritten };
         result = t.result;
         seats = record {
           job = t.seats.job;
@@ -151,6 +151,7 @@ module _ (s : Session) (capacity : ℕ) (last : Option sessions.Session) (shut b
           bounded = t.flow.bounded;
           passed_is = (t.flow.passed_is.0, subst (λ b. GaveAll (b || has_given_up acts) (passed_by acts)) (sym stopped) tt);
           unclosed = λ is. absurd (cc);
+          unwritten = t.flow.unwritten;
         };
         result = t.result;
         seats = record {
@@ -173,7 +174,7 @@ module _ (s : Session) (capacity : ℕ) (last : Option sessions.Session) (shut b
       let full = no_room (room s.pipe) s.pipe.is_owner_open found in
       record {
         lent = record { begun = t.lent.begun; some = t.lent.some; holds = t.lent.holds; within = t.lent.within; shut_is = t.lent.shut_is };
-        flow = record { closed_is = t.flow.closed_is; inside = t.flow.inside; put = t.flow.put; bounded = t.flow.bounded; passed_is = t.flow.passed_is; unclosed = t.flow.unclosed };
+        flow = record { closed_is = t.flow.closed_is; inside = t.flow.inside; put = t.flow.put; bounded = t.flow.bounded; passed_is = t.flow.passed_is; unclosed = t.flow.unclosed; unwritten = t.flow.unwritten };
         result = t.result;
         seats = record {
           job = refl;
@@ -234,15 +235,15 @@ bounds given put taken items more capacity all inside within fits =
 
 module _ (s : Session) (capacity : ℕ) (last : Option sessions.Session) (shut back dropped : Bool) (taken : List ℕ) (acts : List Act) (js ps ss : Bool) (most : ℕ) where
   -- what an answer leaves of a job that asks for bytes
-  left : (answer : Answer) (next : JobAction) → is_over next ≡ false → is_finding next ≡ false → next_after_answer (AskBytes most) answer ≡ next → next_but_wake Reading acts ≡ AskBytes most
+  left : (answer : Answer) (next : JobAction) → is_over next ≡ false → is_finding next ≡ false → next_after_answer (AskBytes most) answer ≡ next → ((piece : List ℕ) → counted answer piece ≡ []) → next_but_wake Reading acts ≡ AskBytes most
       → PassedAs next (room s.pipe) s.pipe.is_job_open (shut || has_given_up acts) (passed_by (Answered answer ∷ acts)) → length (carried answer) ≤ room s.pipe
       → SessionAs s capacity last shut back dropped taken acts js ps ss → SessionAs s capacity last shut back dropped taken (Answered answer ∷ acts) js ps ss
-  left answer next goes on table e passed fits t =
+  left answer next goes on table uncounted e passed fits t =
       let a = at s capacity last shut back dropped taken acts js ps ss (AskBytes most) e t in
       let within = a.lent.within in
       let holds = a.lent.holds in
       let whole : length s.pipe.items ≤ s.pipe.capacity = omega (arith, within, holds) in
-      let none = (going s.slot.content (has_finished acts) (has_given_up acts) back dropped (fault acts) a.result).stays in
+      let none = (going s.slot.content (has_finished acts) (has_given_up acts) back dropped (fault Reading acts) a.result).stays in
       tied_at s capacity last shut back dropped taken (Answered answer ∷ acts) js ps ss next (ap (λ n. next_after_answer n answer) e ∙ table)
       (record {
         lent = a.lent;
@@ -253,9 +254,10 @@ module _ (s : Session) (capacity : ℕ) (last : Option sessions.Session) (shut b
           bounded = bounds (gave acts) (was_put acts) taken s.pipe.items (carried answer) s.pipe.capacity a.flow.passed_is.1.0 a.flow.inside whole fits;
           passed_is = passed;
           unclosed = λ is. absurd (cc);
+          unwritten = ap (λ l. l ++ counted answer (peeked acts)) a.flow.unwritten ∙ uncounted (peeked acts);
         };
-        result = subst (λ b. ResultAs s.slot.content (has_finished acts) (has_given_up acts) b back dropped (fault (Answered answer ∷ acts))) (sym goes)
-            (still s.slot.content (has_finished acts) (has_given_up acts) back dropped (fault acts) (fault (Answered answer ∷ acts)) a.result);
+        result = subst (λ b. ResultAs s.slot.content (has_finished acts) (has_given_up acts) b back dropped (fault Reading (Answered answer ∷ acts))) (sym goes)
+            (still s.slot.content (has_finished acts) (has_given_up acts) back dropped (fault Reading acts) (fault Reading (Answered answer ∷ acts)) a.result);
         seats = unseated s (false || has_given_up acts) (is_finding next || has_given_up acts) js ps ss none a.seats;
       })
 
@@ -265,11 +267,11 @@ module _ (s : Session) (capacity : ℕ) (last : Option sessions.Session) (shut b
   answers (Gave (b ∷ bs)) fits e t =
       let p = (at s capacity last shut back dropped taken acts js ps ss (AskBytes most) e t).flow.passed_is in
       let room = p.2 in
-      left (Gave (b ∷ bs)) (PutPiece (b ∷ bs)) refl refl refl e
+      left (Gave (b ∷ bs)) (PutPiece (b ∷ bs)) refl refl refl (λ piece. refl) e
       (p.0, (ap (λ l. l ++ (b ∷ bs)) (p.1.0 ∙ append-nil (was_put acts)), p.1.1), grind (arith, nat_tests), refl) (grind (arith, nat_tests)) t
   answers (Gave []) fits e t =
       let p = (at s capacity last shut back dropped taken acts js ps ss (AskBytes most) e t).flow.passed_is in
-      left (Gave []) CloseEnd refl refl refl e
+      left (Gave []) CloseEnd refl refl refl (λ piece. refl) e
       (p.0, gave_all (shut || has_given_up acts) (append-nil (gave acts) ∙ p.1.0 ∙ append-nil (was_put acts)) (or_right (has_failure (handle_answers acts)) true refl)) (omega arith) t
     where
       gave_all : (b : Bool) → gave acts ++ [] ≡ was_put acts → has_failure (handle_answers acts) || true ≡ true → GaveAll b (passed_by (Answered (Gave []) ∷ acts))
@@ -277,13 +279,14 @@ module _ (s : Session) (capacity : ℕ) (last : Option sessions.Session) (shut b
       gave_all false same ended = (same, ended)
   answers (Failed error) fits e t =
       let p = (at s capacity last shut back dropped taken acts js ps ss (AskBytes most) e t).flow.passed_is in
-      left (Failed error) CloseEnd refl refl refl e
+      left (Failed error) CloseEnd refl refl refl (λ piece. refl) e
       (p.0, gave_all (shut || has_given_up acts) (append-nil (gave acts) ∙ p.1.0 ∙ append-nil (was_put acts))) (omega arith) t
     where
       gave_all : (b : Bool) → gave acts ++ [] ≡ was_put acts → GaveAll b (passed_by (Answered (Failed error) ∷ acts))
       gave_all true same = tt
       gave_all false same = (same, refl)
   answers (Number n) fits e t = absurd (cc)
+  answers Fine fits e t = absurd (cc)
 
 -- ---- it puts bytes
 
@@ -294,7 +297,7 @@ module _ (s : Session) (capacity : ℕ) (last : Option sessions.Session) (shut b
       → SessionAs (session_after_put bytes (Served seat) s) capacity last shut back dropped taken (Put (length bytes) waker ∷ acts) js false ss
   puts waker seat found t =
       let p = t.flow.passed_is in
-      let none = (going s.slot.content (has_finished acts) (has_given_up acts) back dropped (fault acts) t.result).stays in
+      let none = (going s.slot.content (has_finished acts) (has_given_up acts) back dropped (fault Reading acts) t.result).stays in
       let fits = (put_is (length bytes) (room s.pipe) s.pipe.is_owner_open s.pipe.owner_seat seat found).1 in
       let within = t.lent.within in
       let holds = t.lent.holds in
@@ -315,6 +318,7 @@ module _ (s : Session) (capacity : ℕ) (last : Option sessions.Session) (shut b
           bounded = t.flow.bounded;
           passed_is = (p.0, (p.1.0 ∙ sym more ∙ sym (append-nil (was_put acts ++ take (length bytes) (answered acts))), p.1.1));
           unclosed = λ is. absurd (cc);
+          unwritten = t.flow.unwritten;
         };
         result = t.result;
         seats = record {
@@ -333,7 +337,7 @@ module _ (s : Session) (capacity : ℕ) (last : Option sessions.Session) (shut b
   pub loses : hand_in (length bytes) (room s.pipe) s.pipe.is_owner_open s.pipe.owner_seat ≡ Closed → At s capacity last shut back dropped taken acts js ps ss (PutPiece bytes)
       → SessionAs s capacity last shut back dropped taken (Lost (length bytes) ∷ acts) js ps ss
   loses found t =
-      let none = (going s.slot.content (has_finished acts) (has_given_up acts) back dropped (fault acts) t.result).stays in
+      let none = (going s.slot.content (has_finished acts) (has_given_up acts) back dropped (fault Reading acts) t.result).stays in
       let closed = lost_is (length bytes) (room s.pipe) s.pipe.is_owner_open s.pipe.owner_seat found in
       let stopped : shut ≡ true = t.lent.shut_is ∙ ap not closed in
       record {
@@ -345,6 +349,7 @@ module _ (s : Session) (capacity : ℕ) (last : Option sessions.Session) (shut b
           bounded = t.flow.bounded;
           passed_is = (t.flow.passed_is.0, subst (λ b. GaveAll (b || has_given_up acts) (passed_by acts)) (sym stopped) tt);
           unclosed = λ is. absurd (cc);
+          unwritten = t.flow.unwritten;
         };
         result = t.result;
         seats = unseated s (false || has_given_up acts) (false || has_given_up acts) js ps ss none t.seats;
@@ -357,10 +362,10 @@ module _ (s : Session) (capacity : ℕ) (last : Option sessions.Session) (shut b
   pub closes : (waker : HolderWaker) → At s capacity last shut back dropped taken acts js ps ss CloseEnd
       → SessionAs (session_after_job_close s) capacity last shut back dropped taken (JobClosed waker ∷ acts) js false ss
   closes waker t =
-      let none = (going s.slot.content (has_finished acts) (has_given_up acts) back dropped (fault acts) t.result).stays in
+      let none = (going s.slot.content (has_finished acts) (has_given_up acts) back dropped (fault Reading acts) t.result).stays in
       record {
         lent = record { begun = t.lent.begun; some = t.lent.some; holds = t.lent.holds; within = t.lent.within; shut_is = t.lent.shut_is };
-        flow = record { closed_is = refl; inside = t.flow.inside; put = t.flow.put; bounded = t.flow.bounded; passed_is = (refl, t.flow.passed_is.1); unclosed = λ is. absurd (cc) };
+        flow = record { closed_is = refl; inside = t.flow.inside; put = t.flow.put; bounded = t.flow.bounded; passed_is = (refl, t.flow.passed_is.1); unclosed = λ is. absurd (cc); unwritten = t.flow.unwritten };
         result = t.result;
         seats = record {
           job = t.seats.job;
@@ -375,19 +380,19 @@ module _ (s : Session) (capacity : ℕ) (last : Option sessions.Session) (shut b
       }
 
   -- it puts its result
-  pub finishes : (waker : HolderWaker) (why : Option (Fault ℕ)) → why ≡ fault acts → At s capacity last shut back dropped taken acts js ps ss Finish
+  pub finishes : (waker : HolderWaker) (why : Option (Fault ℕ)) → why ≡ fault Reading acts → At s capacity last shut back dropped taken acts js ps ss Finish
       → SessionAs (session_after_finish why s) capacity last shut back dropped taken (Finished waker ∷ acts) js ps false
   finishes waker why same t =
-      let g = going s.slot.content (has_finished acts) (has_given_up acts) back dropped (fault acts) t.result in
+      let g = going s.slot.content (has_finished acts) (has_given_up acts) back dropped (fault Reading acts) t.result in
       let none = g.stays in
       let put : slot_after s.slot.content s.slot.seat why ≡ record { content = Full why; seat = None } = ap (λ c. slot_after c s.slot.seat why) g.empty in
       let full = ap (λ (l : Slot (Option (Fault ℕ)) (Unit {0})). l.content) put in
       let out = ap (λ (l : Slot (Option (Fault ℕ)) (Unit {0})). l.seat) put in
       record {
         lent = record { begun = t.lent.begun; some = t.lent.some; holds = t.lent.holds; within = t.lent.within; shut_is = t.lent.shut_is };
-        flow = record { closed_is = t.flow.closed_is; inside = t.flow.inside; put = t.flow.put; bounded = t.flow.bounded; passed_is = t.flow.passed_is.1; unclosed = λ is lasts. absurd (let closed = t.flow.passed_is.0 in cc) };
+        flow = record { closed_is = t.flow.closed_is; inside = t.flow.inside; put = t.flow.put; bounded = t.flow.bounded; passed_is = t.flow.passed_is.1; unclosed = λ is lasts. absurd (let closed = t.flow.passed_is.0 in cc); unwritten = t.flow.unwritten };
         result = record {
-          slot = subst (λ c. SlotAs c true (has_given_up acts) back (fault acts)) (sym full) (refl, none, g.lent, same);
+          slot = subst (λ c. SlotAs c true (has_given_up acts) back (fault Reading acts)) (sym full) (refl, none, g.lent, same);
           over_is = refl;
           let_go = t.result.let_go;
         };
@@ -408,8 +413,8 @@ module _ (s : Session) (capacity : ℕ) (last : Option sessions.Session) (shut b
       → SessionAs s capacity last shut back dropped taken acts js ps ss
       → SessionAs (session_after_give_up s) capacity last shut back dropped taken (GaveUp waker ∷ acts) js ps false
   gives_up waker goes gone t =
-      let result = subst (λ b. ResultAs s.slot.content (has_finished acts) (has_given_up acts) b back dropped (fault acts)) goes t.result in
-      let g = going s.slot.content (has_finished acts) (has_given_up acts) back dropped (fault acts) result in
+      let result = subst (λ b. ResultAs s.slot.content (has_finished acts) (has_given_up acts) b back dropped (fault Reading acts)) goes t.result in
+      let g = going s.slot.content (has_finished acts) (has_given_up acts) back dropped (fault Reading acts) result in
       let given : slot_without_job s.slot.content s.slot.seat ≡ record { content = GivenUp; seat = None } = ap (λ c. slot_without_job c s.slot.seat) g.empty in
       let full = ap (λ (l : Slot (Option (Fault ℕ)) (Unit {0})). l.content) given in
       let out = ap (λ (l : Slot (Option (Fault ℕ)) (Unit {0})). l.seat) given in
@@ -422,9 +427,10 @@ module _ (s : Session) (capacity : ℕ) (last : Option sessions.Session) (shut b
           bounded = t.flow.bounded;
           passed_is = subst (λ b. GaveAll b (passed_by acts)) (sym (or_right shut true refl)) tt;
           unclosed = λ is lasts. refl;
+          unwritten = t.flow.unwritten;
         };
         result = record {
-          slot = subst (λ c. SlotAs c (has_finished acts) true back (fault acts)) (sym full) (g.unfinished, refl, g.lent);
+          slot = subst (λ c. SlotAs c (has_finished acts) true back (fault Reading acts)) (sym full) (g.unfinished, refl, g.lent);
           over_is = or_right (has_finished acts) true refl;
           let_go = λ is. gone;
         };

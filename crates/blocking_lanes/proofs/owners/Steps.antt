@@ -80,7 +80,7 @@ module _ (bytes : ℕ) (here : OwnerStage) (last : Option Session) (h v n first 
       polled = t.polled;
       bytes = t.bytes;
       stage = subst (λ next. StageBy here (sessions.call (own cut)) (sessions.state (own cut)) next (law.is_at_end (own cut)) (came_back cut) (newest_note (own cut)))
-          (sym (next_stays (woken ∷ cut) cut (own cut) (λ back m. same_of fault (λ l. refl) m))) t.stage;
+          (sym (next_stays (woken ∷ cut) cut (own cut) (λ back k m. same_of (fault k) (λ l. refl) m))) t.stage;
       last = woken_last last t.last;
       ended = t.ended;
       earlier = λ m of other. same_of (next_but_wake Reading) (λ l. refl) m ∙ t.earlier m of other;
@@ -239,10 +239,10 @@ module _ (bytes : ℕ) (last : Option Session) (h v n first : ℕ) (growth : Gro
   step_by : (step : OwnerStep) (here : OwnerStage) → OwnerAs (owner_by_parts bytes here last) cut → IsAllowed step (owner_by_parts bytes here last) n cut
       → act_of step (owner_by_parts bytes here last) ≡ Some act → Goes (owner_after step (owner_by_parts bytes here last)) cut (event_by step h v n act first growth)
   step_by (IsAsked call) (stage.Rests st) t w seen =
-      subst (λ a. Goes (owner_after (IsAsked call) (owner_by_parts bytes (stage.Rests st) last)) cut (by_owner h a first growth)) (ap (value_of act) seen) (ask_goes bytes st last h first growth cut call t)
-  step_by (IsAsked call) (stage.Polls p) t w seen = absurd (let no = w.may in cc)
-  step_by (IsAsked call) (stage.Wakes p note) t w seen = absurd (let no = w.may in cc)
-  step_by (IsAsked call) stage.Dropped t w seen = absurd (let no = w.may in cc)
+      subst (λ a. Goes (owner_after (IsAsked call) (owner_by_parts bytes (stage.Rests st) last)) cut (by_owner h a first growth)) (ap (value_of act) seen) (ask_goes bytes st last h first growth cut call w.may.0 t)
+  step_by (IsAsked call) (stage.Polls p) t w seen = absurd (let no = w.may.1 in cc)
+  step_by (IsAsked call) (stage.Wakes p note) t w seen = absurd (let no = w.may.1 in cc)
+  step_by (IsAsked call) stage.Dropped t w seen = absurd (let no = w.may.1 in cc)
   step_by Acts here t w seen = by_did (did (owner_by_parts bytes here last)) refl seen
     where
       by_did : (o : Option Did) → did (owner_by_parts bytes here last) ≡ o → act_in o ≡ Some act → Goes (owner_in o (owner_by_parts bytes here last)) cut (by_owner h act first growth)

@@ -80,6 +80,7 @@ module _ (s : Session) (capacity : ℕ) (last : Option sessions.Session) (shut b
       bounded = t.flow.bounded;
       passed_is = stops (next_but_wake Reading acts) (room s.pipe) s.pipe.is_job_open (shut || has_given_up acts) (passed_by acts) t.flow.passed_is;
       unclosed = t.flow.unclosed;
+      unwritten = t.flow.unwritten;
     };
     result = t.result;
     seats = record {
@@ -109,6 +110,7 @@ module _ (s : Session) (capacity : ℕ) (last : Option sessions.Session) (shut b
           passed_is = more_room (next_but_wake Reading acts) (room s.pipe) (s.pipe.capacity - length (drop (length got.0) s.pipe.items)) s.pipe.is_job_open (shut || has_given_up acts) (passed_by acts)
               (omega (arith, shorter)) t.flow.passed_is;
           unclosed = t.flow.unclosed;
+          unwritten = t.flow.unwritten;
         };
         result = t.result;
         seats = record {
@@ -134,7 +136,7 @@ module _ (s : Session) (capacity : ℕ) (last : Option sessions.Session) (shut b
       → SessionAs s capacity last shut back dropped taken acts js ps ss → SessionAs (session_after_drain Waiting s) capacity last shut back dropped taken acts js true ss
   waits n found t = record {
     lent = record { begun = t.lent.begun; some = t.lent.some; holds = t.lent.holds; within = t.lent.within; shut_is = t.lent.shut_is };
-    flow = record { closed_is = t.flow.closed_is; inside = t.flow.inside; put = t.flow.put; bounded = t.flow.bounded; passed_is = t.flow.passed_is; unclosed = t.flow.unclosed };
+    flow = record { closed_is = t.flow.closed_is; inside = t.flow.inside; put = t.flow.put; bounded = t.flow.bounded; passed_is = t.flow.passed_is; unclosed = t.flow.unclosed; unwritten = t.flow.unwritten };
     result = t.result;
     seats = record {
       job = t.seats.job;
@@ -152,10 +154,10 @@ module _ (s : Session) (capacity : ℕ) (last : Option sessions.Session) (shut b
   pub returns : (why : Option (Fault ℕ)) → s.slot.content ≡ Full why → SessionAs s capacity last shut back dropped taken acts js ps ss
       → SessionAs (session_after_look (Full why) s) capacity last shut true dropped taken acts js ps ss
   returns why found t =
-      let slot = subst (λ c. SlotAs c (has_finished acts) (has_given_up acts) back (fault acts)) found t.result.slot in
+      let slot = subst (λ c. SlotAs c (has_finished acts) (has_given_up acts) back (fault Reading acts)) found t.result.slot in
       record {
         lent = record { begun = t.lent.begun; some = t.lent.some; holds = t.lent.holds; within = t.lent.within; shut_is = t.lent.shut_is };
-        flow = record { closed_is = t.flow.closed_is; inside = t.flow.inside; put = t.flow.put; bounded = t.flow.bounded; passed_is = t.flow.passed_is; unclosed = t.flow.unclosed };
+        flow = record { closed_is = t.flow.closed_is; inside = t.flow.inside; put = t.flow.put; bounded = t.flow.bounded; passed_is = t.flow.passed_is; unclosed = t.flow.unclosed; unwritten = t.flow.unwritten };
         result = record { slot = (slot.0, slot.1); over_is = t.result.over_is; let_go = t.result.let_go };
         seats = record {
           job = t.seats.job;
@@ -174,7 +176,7 @@ module _ (s : Session) (capacity : ℕ) (last : Option sessions.Session) (shut b
       → SessionAs (session_after_look Empty s) capacity last shut back dropped taken acts js ps true
   waits_for_it found closed t = record {
     lent = record { begun = t.lent.begun; some = t.lent.some; holds = t.lent.holds; within = t.lent.within; shut_is = t.lent.shut_is };
-    flow = record { closed_is = t.flow.closed_is; inside = t.flow.inside; put = t.flow.put; bounded = t.flow.bounded; passed_is = t.flow.passed_is; unclosed = t.flow.unclosed };
+    flow = record { closed_is = t.flow.closed_is; inside = t.flow.inside; put = t.flow.put; bounded = t.flow.bounded; passed_is = t.flow.passed_is; unclosed = t.flow.unclosed; unwritten = t.flow.unwritten };
     result = t.result;
     seats = record {
       job = t.seats.job;
@@ -189,7 +191,7 @@ pub begins : (number : JobNumber) (capacity : ℕ) (dropped : Bool) → 0 < capa
     → SessionAs (new_session number capacity) capacity (Some (record { serial = number.serial; kind = Reading })) false false dropped [] [] false false false
 begins number capacity dropped some = record {
   lent = record { begun = refl; some = some; holds = refl; within = omega arith; shut_is = refl };
-  flow = record { closed_is = refl; inside = refl; put = ([], refl); bounded = omega arith; passed_is = (refl, (refl, refl)); unclosed = λ is. absurd (cc) };
+  flow = record { closed_is = refl; inside = refl; put = ([], refl); bounded = omega arith; passed_is = (refl, (refl, refl)); unclosed = λ is. absurd (cc); unwritten = refl };
   result = record { slot = (refl, refl); over_is = refl; let_go = λ is. absurd (cc) };
   seats = record {
     job = refl;

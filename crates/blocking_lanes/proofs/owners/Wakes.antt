@@ -1,8 +1,8 @@
 -- An owner that waits for a job at rest was woken, or wakes the job.
-use Rattle.std.proofs.Common.{◌≡◌, ℕ, List, [], ◌∷◌, length, Bool, true, false, refl, sym, ap, ◌∙◌, subst, arith, Option, Some, None, ⊎_elim, inl, inr}
-use Rattle.std.specs.Prelude.{◌||◌, ◌⊎◌, is_some, is_none}
+use Rattle.std.proofs.Common.{◌≡◌, ℕ, ◌==◌, if◌then◌else◌, List, [], ◌∷◌, length, Bool, true, false, refl, sym, ap, ◌∙◌, subst, arith, Option, Some, None, ⊎_elim, inl, inr}
+use Rattle.std.specs.Prelude.{◌||◌, ◌⊎◌, min, is_some, is_none}
 use Rattle.std.proofs.lemmas.Bool.{or_left, or_right, eq-eqb}
-use Rattle.blocking_core.specs.Places.{drain}
+use Rattle.blocking_core.specs.Places.{Met, Served, Waiting, drain, fill}
 use Rattle.blocking_core.specs.Pipes.{room}
 use Rattle.blocking_core.specs.Slots.{Content, Empty, Full, GivenUp, Abandoned}
 use Rattle.blocking_core.specs.declared.io.Fault.{Fault}
@@ -10,9 +10,9 @@ use Rattle.blocking_laws.specs.JobTable.{Reading, JobAction, FindRoom, next_but_
 use Rattle.std.specs.Prelude.{not}
 use Rattle.blocking_laws.specs.OwnerLaws.{OwnerActs, Polls}
 use Rattle.blocking_laws.specs.OwnerSeats.{is_job_seated, job_seated_by, note_of, noted}
-use Rattle.blocking_laws.specs.OwnerTable.{OwnerAction, CloseOwn, Drain, PollSlot, Say, next_of_owner}
-use Rattle.blocking_laws.specs.Passed.{inside, last_job}
-use Rattle.blocking_laws.specs.Places.{seen_drain, poll_slot}
+use Rattle.blocking_laws.specs.OwnerTable.{OwnerAction, CloseOwn, Drain, Fill, PollSlot, Say, next_of_owner}
+use Rattle.blocking_laws.specs.Passed.{inside, room_in, last_job}
+use Rattle.blocking_laws.specs.Places.{seen_drain, seen_fill, poll_slot}
 use Rattle.blocking_pool.specs.declared.pool.answer.Woke.{Woke}
 use Rattle.blocking_laws.specs.OwnerWakes.{IsSessionOf, is_waking, is_waking_by}
 use Rattle.blocking_laws.specs.Seen.{own, acts_of, is_this}
@@ -20,7 +20,7 @@ use Rattle.blocking_laws.specs.Sessions.{last_session, session, is_dropped}
 use Rattle.blocking_laws.specs.Sessions as sessions
 use Rattle.blocking_laws.specs.Wakes.{is_waiting, was_woken}
 use Rattle.blocking_laws.specs.declared.event.Act.{Act}
-use Rattle.blocking_laws.specs.declared.event.Act.TheVariants.{Accepted, JobWoken, OwnerClosed, Got, Waits, Back, JobParked}
+use Rattle.blocking_laws.specs.declared.event.Act.TheVariants.{Accepted, JobWoken, OwnerClosed, Got, Filled, FillShut, Waits, Back, JobParked}
 use Rattle.blocking_laws.specs.declared.event.Event.{Event}
 use Rattle.blocking_lanes.specs.Owners.{Owner, capacity_of}
 use Rattle.blocking_lanes.specs.OwnerTies.{OwnerAs, LastAs, SlotAs, PassedAs, passed_by, is_finding, seat_of, is_seated}
@@ -55,7 +55,7 @@ module _ (s : Session) (capacity : ℕ) (cut : List Event) (t : LastAs (Some s) 
       at : (b : Bool) → is_some s.pipe.owner_seat ≡ b → b || is_some s.slot.seat ≡ true → ⊥
       at true seat sits = (let given_up = t.flow.unclosed (sym t.result.over_is ∙ or_left (has_finished works) (has_given_up works) done) (t.seats.reason.owner seat).1 in cc)
       at false seat sits =
-          full_slot s.slot.content (has_finished works) (has_given_up works) (is_none (session (own cut))) (fault works) t.result.slot done lent (t.seats.reason.slot sits).0
+          full_slot s.slot.content (has_finished works) (has_given_up works) (is_none (session (own cut))) (fault Reading works) t.result.slot done lent (t.seats.reason.slot sits).0
 
   -- Who sits in a seat doesn't wait for a job that sits in its own.
   not_seated : has_given_up works ≡ false → is_job_seated cut ≡ true → is_seated (Some s) ≡ true → ⊥
@@ -137,10 +137,34 @@ not_looked : (act : Act) (b : Bool) → (act ≡ Back → ⊥) → (act ≡ Wait
 not_looked act true back waits e = back e
 not_looked act false back waits e = waits e
 
+drain_fills_none : (n : ℕ) (items : List ℕ) (lasts : Bool) (seat told : Option ℕ) (m : ℕ) → Filled m told ≡ seen_drain (drain n items lasts seat) → ⊥
+drain_fills_none n [] true seat told m e = cc
+drain_fills_none n [] false seat told m e = cc
+drain_fills_none n (x ∷ xs) lasts seat told m e = cc
+
+fill_told : (n free : ℕ) (lasts : Bool) (seat told : Option ℕ) (m : ℕ) → Filled m told ≡ seen_fill (fill n free lasts seat) → told ≡ seat
+fill_told n free false seat told m e = absurd (cc)
+fill_told n free true seat told m e = at (free == 0) e
+  where
+    at : (b : Bool) → Filled m told ≡ seen_fill (if b then Waiting else Served (min n free, seat)) → told ≡ seat
+    at true e = absurd (cc)
+    at false e = cc
+
+not_filled : (act : Act) (n free : ℕ) (lasts : Bool) (seat : Option ℕ) → ((m : ℕ) (told : Option ℕ) → act ≡ Filled m told → ⊥) → (act ≡ Waits → ⊥) → (act ≡ FillShut → ⊥)
+    → act ≡ seen_fill (fill n free lasts seat) → ⊥
+not_filled act n free false seat filled waits shut e = shut e
+not_filled act n free true seat filled waits shut e = at (free == 0) e
+  where
+    at : (b : Bool) → act ≡ seen_fill (if b then Waiting else Served (min n free, seat)) → ⊥
+    at true e = waits e
+    at false e = filled (min n free) seat e
+
 -- an act that takes a note takes that of the job which is seated
 got_told : (cut : List Event) (action : OwnerAction) (bytes : List ℕ) (told : Option ℕ) → Polls cut action (Got bytes told) → told ≡ noted cut
 got_told cut (Drain n) bytes told law = drain_told n (inside cut) (not (has_closed (last_job cut))) (noted cut) told bytes law
 got_told cut PollSlot bytes told law = absurd (not_looked (Got bytes told) (has_finished (last_job cut)) (λ e. cc) (λ e. cc) law)
+got_told cut (Fill offered) bytes told law =
+    absurd (not_filled (Got bytes told) (length offered) (room_in cut) (not (has_closed (last_job cut))) (noted cut) (λ m note e. cc) (λ e. cc) (λ e. cc) law)
 got_told cut CloseOwn bytes told law = absurd (cc)
 got_told cut (Say reply) bytes told law = absurd (cc)
 got_told cut _ bytes told law = absurd law
@@ -148,9 +172,19 @@ got_told cut _ bytes told law = absurd law
 closed_told : (cut : List Event) (action : OwnerAction) (told : Option ℕ) → Polls cut action (OwnerClosed told) → told ≡ noted cut
 closed_told cut (Drain n) told law = absurd (not_drained n (inside cut) (not (has_closed (last_job cut))) (noted cut) told law)
 closed_told cut PollSlot told law = absurd (not_looked (OwnerClosed told) (has_finished (last_job cut)) (λ e. cc) (λ e. cc) law)
+closed_told cut (Fill offered) told law =
+    absurd (not_filled (OwnerClosed told) (length offered) (room_in cut) (not (has_closed (last_job cut))) (noted cut) (λ m note e. cc) (λ e. cc) (λ e. cc) law)
 closed_told cut CloseOwn told law = cc
 closed_told cut (Say reply) told law = absurd (cc)
 closed_told cut _ told law = absurd law
+
+filled_told : (cut : List Event) (action : OwnerAction) (m : ℕ) (told : Option ℕ) → Polls cut action (Filled m told) → told ≡ noted cut
+filled_told cut (Drain n) m told law = absurd (drain_fills_none n (inside cut) (not (has_closed (last_job cut))) (noted cut) told m law)
+filled_told cut PollSlot m told law = absurd (not_looked (Filled m told) (has_finished (last_job cut)) (λ e. cc) (λ e. cc) law)
+filled_told cut (Fill offered) m told law = fill_told (length offered) (room_in cut) (not (has_closed (last_job cut))) (noted cut) told m law
+filled_told cut CloseOwn m told law = absurd (cc)
+filled_told cut (Say reply) m told law = absurd (cc)
+filled_told cut _ m told law = absurd law
 
 -- Whatever its owner does, but for beginning anew or delivering a note, a job that is seated stays so, or its wake is under way.
 pub stays_told : (cut : List Event) (act : Act) (r : sessions.Session) → OwnerActs cut act → last_session (own cut) ≡ Some r → ((s : ℕ) → act ≡ Accepted s → ⊥)
@@ -161,6 +195,7 @@ stays_told cut act r law begun new wakes (inr waking) = inr (still act wakes)
     still : (act : Act) → ((s : ℕ) (woke : Woke) → act ≡ JobWoken s woke → ⊥) → is_waking r.serial (act ∷ own cut) ≡ true
     still (JobWoken s woke) none = absurd (none s woke refl)
     still (Got bytes told) none = or_right (is_this r.serial told) (is_waking r.serial (own cut)) waking
+    still (Filled m told) none = or_right (is_this r.serial told) (is_waking r.serial (own cut)) waking
     still (OwnerClosed told) none = or_right (is_this r.serial told) (is_waking r.serial (own cut)) waking
     still _ none = waking
 stays_told cut act r law begun new wakes (inl seated) = by_act act law new
@@ -173,6 +208,7 @@ stays_told cut act r law begun new wakes (inl seated) = by_act act law new
     by_act : (act : Act) → OwnerActs cut act → ((s : ℕ) → act ≡ Accepted s → ⊥) → (job_seated_by act (is_job_seated cut) ≡ true) ⊎ (is_waking r.serial (act ∷ own cut) ≡ true)
     by_act (Accepted s) law none = absurd (none s refl)
     by_act (Got bytes told) law none = inr (taken told (got_told cut (next_of_owner cut) bytes told law))
+    by_act (Filled m told) law none = inr (taken told (filled_told cut (next_of_owner cut) m told law))
     by_act (OwnerClosed told) law none = inr (taken told (closed_told cut (next_of_owner cut) told law))
     by_act JobParked law none = inl refl
     by_act _ law none = inl seated

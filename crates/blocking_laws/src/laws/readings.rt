@@ -33,9 +33,18 @@ ghost use Rattle.blocking_laws.specs.OwnerTraces.{asks, polls, works, given, end
 ghost use Rattle.blocking_laws.specs.OwnerTraces.{reader_waits, room_found, four_given, reader_parked, two_got, two_told, end_given};
 ghost use Rattle.blocking_laws.specs.OwnerTraces.{told_before, reader_dropped};
 ghost use Rattle.blocking_laws.specs.declared.event.Act.TheVariants.{Got, Replied, RoomFree, GaveUp};
-ghost use Rattle.blocking_laws.specs.declared.event.Reply.TheVariants.{Count};
-ghost use Rattle.blocking_laws.specs.declared.step.Answer.TheVariants.{Gave};
-ghost use Rattle.blocking_laws.specs.declared.step.HandleCall.TheVariants.{Read};
+ghost use Rattle.blocking_laws.specs.declared.event.Reply.TheVariants.{Okay, Count};
+ghost use Rattle.blocking_laws.specs.declared.step.Answer.TheVariants.{Number, Gave};
+ghost use Rattle.blocking_laws.specs.declared.step.HandleCall.TheVariants.{Read, Write, Flush, GetMut};
+ghost use Rattle.blocking_core.specs.declared.io.Fault.TheVariants.{WriteZero};
+ghost use Rattle.blocking_laws.specs.JobTable.{Writing, fault};
+ghost use Rattle.blocking_laws.specs.Passed.{accepted, taken};
+ghost use Rattle.blocking_laws.specs.Seen.{own};
+ghost use Rattle.blocking_laws.specs.WriteTraces.{writer_made, two_filled, two_peeked, one_answered, one_written, last_filled, writer_parked};
+ghost use Rattle.blocking_laws.specs.WriteTraces.{writer_drained, flush_asked, unflushed_back, writer_closed, one_peeked, then_done, then_back};
+ghost use Rattle.blocking_laws.specs.WriteTraces.{none_written, write_failed};
+ghost use Rattle.blocking_laws.specs.declared.event.Act.TheVariants.{Filled, FillShut, Answered, Peeked, JobClosed, Taken as TakenOut};
+ghost use Rattle.blocking_laws.specs.declared.event.HolderWaker.TheVariants.{Taken};
 
 /// What the pool answers: with the next serial, with the front job and only as it was let go, by how a job stands.
 pub fn answers()
@@ -158,4 +167,52 @@ pub fn jobs_of_owners()
     ensures refuses_giving_up_unasked { Refuses FirstOwnerLaw four_given (works 1 (GaveUp Absent)) }
     // .. / ended 1 parked / dropped
     ensures dropped_owner_marks { is_marked reader_dropped 1 ≡ true }
+{}
+
+/// What a poll of an owner that writes does next, and what a flush tells.
+pub fn writers()
+    // made 0 / asked (to flush): no owner is asked for it yet
+    ensures refuses_unknown_call { Refuses StepLaw writer_made (asks Flush 1) }
+    // .. / replied ok / asked (to close) / replied ok / asked (for the handle)
+    ensures refuses_call_of_closed { Refuses FirstOwnerLaw writer_closed (asks GetMut 2) }
+    // .. / ended 1 parked / asked (to flush) / replied ok
+    ensures refuses_early_flush { Refuses FirstOwnerLaw flush_asked (polls (Replied Okay) 2) }
+    // .. / put 2 / replied ok 3
+    ensures refuses_other_count { Refuses FirstOwnerLaw two_filled (polls (Replied (Count 3)) 2) }
+    // .. / ended 1 done / asked (to write 61) / put shut / replied ok 1
+    ensures refuses_count_of_closed_pipe { Refuses FirstOwnerLaw
+        (then_done none_written ▸ asks (Write (97 ∷ [])) 2 ▸ polls FillShut 2) (polls (Replied (Count 1)) 2) }
+    // .. / ended 1 parked / asked (to write 61) / put 1 wake 1 / replied ok 1
+    ensures refuses_undelivered_note_of_put { Refuses FirstOwnerLaw
+        (writer_parked ▸ asks (Write (97 ∷ [])) 2 ▸ polls (Filled 1 (Some 1)) 2) (polls (Replied (Count 1)) 2) }
+    // .. / answered fault 8 / answered ok / .. / back / replied ok
+    ensures refuses_fault_hidden_by_flush { Refuses FirstOwnerEnds (then_back write_failed) (polls (Replied Okay) 2) }
+    // .. / answered 0 / answered ok / .. / back / replied ok
+    ensures refuses_none_as_written { Refuses FirstOwnerEnds (then_back none_written) (polls (Replied Okay) 2) }
+    // .. / drained / answered fault 9 / .. / asked (to close) / back / replied ok
+    ensures refuses_close_of_unflushed { Refuses FirstOwnerEnds unflushed_back (polls (Replied Okay) 2) }
+{}
+
+/// What the job of an owner that writes does next, what it wrote, and what is inside its pipe.
+pub fn jobs_of_writers()
+    // .. / peeked 2 / taken 2 wake owner: its writer hasn't taken them
+    ensures refuses_taken_before_answer { Refuses FirstOwnerLaw two_peeked (works 1 (TakenOut 2 Taken)) }
+    // .. / peeked 2 / answered 3
+    ensures refuses_more_than_offered { Refuses FirstOwnerLaw two_peeked (given 1 (Number 3)) }
+    // .. / drained / closed
+    ensures refuses_close_before_flush { Refuses FirstOwnerLaw writer_drained (works 1 (JobClosed Absent)) }
+    // .. / peeked 1 / answered 0 / peeked 1
+    ensures refuses_peek_after_none { Refuses FirstOwnerLaw (one_peeked ▸ given 1 (Number 0)) (works 1 (Peeked (97 ∷ []))) }
+    // .. / waits / .. / peeked 2 / answered 1 / taken 1
+    ensures refuses_forgotten_waker { Refuses FirstOwnerLaw one_answered (works 1 (TakenOut 1 Absent)) }
+    // .. / replied ok 1 / answered 1 / taken 1 wake owner
+    ensures refuses_waker_twice { Refuses FirstOwnerLaw (last_filled ▸ given 1 (Number 1)) (works 1 (TakenOut 1 Taken)) }
+    // answered 0, after peeked 01
+    ensures none_is_a_fault { fault Writing (Answered (Number 0) ∷ Peeked (1 ∷ []) ∷ []) ≡ Some WriteZero }
+    // .. / peeked 2 / answered 1 / taken 1 wake owner
+    ensures rest_is_inside_to_write { inside (cut 0 (events one_written)) ≡ 121 ∷ [] }
+    // .. / put 2 / .. / put 1
+    ensures accepted_in_order { accepted (own (cut 0 (events last_filled))) ≡ 120 ∷ 121 ∷ 122 ∷ [] }
+    // answered 1 of 0102, after answered 1 of 0304
+    ensures taken_in_order { taken (Answered (Number 1) ∷ Peeked (1 ∷ 2 ∷ []) ∷ Answered (Number 1) ∷ Peeked (3 ∷ 4 ∷ []) ∷ []) ≡ 3 ∷ 1 ∷ [] }
 {}

@@ -17,13 +17,13 @@ use Rattle.blocking_lanes.specs.declared.owner.OwnerNext.TheVariants as next
 use Rattle.blocking_lanes.specs.declared.task.TaskStage.{TaskStage}
 use Rattle.blocking_lanes.specs.declared.task.TaskStage.TheVariants as task_stage
 use Rattle.blocking_lanes.proofs.cuts.Acts.{own_cut}
-use Rattle.blocking_lanes.proofs.owners.Actions.{acts_some, is_rest, rests_is, rests_next}
+use Rattle.blocking_lanes.proofs.owners.Actions.{acts_some, is_rest, rests_is, may_ask_is, rests_next}
 use Rattle.blocking_laws.specs.Counts.{starts, arrivals}
 use Rattle.blocking_laws.specs.Jobs.{tasks, holder, standing}
 use Rattle.blocking_laws.specs.Seen.{events, acts_of_owner, acts_of_task, own, cut, task_cut}
 use Rattle.blocking_laws.specs.Sessions.{is_poll_over, under_way}
 use Rattle.blocking_laws.specs.Sessions as sessions
-use Rattle.blocking_laws.specs.Steps.{has_action, is_there, is_answered_action, is_job_action, is_for_cancelled, is_turn_end, may_call, may_cancel}
+use Rattle.blocking_laws.specs.Steps.{has_action, is_known, is_there, is_answered_action, is_job_action, is_for_cancelled, is_turn_end, may_call, may_cancel}
 use Rattle.blocking_laws.specs.TaskLaws.{is_gone, was_cancelled}
 use Rattle.blocking_laws.specs.Turns.{hand}
 use Rattle.blocking_laws.specs.declared.event.Event.{Event}
@@ -99,6 +99,10 @@ module _ (setting : ℕ) (plan : List Bool) (w : Parts) (past : List Moment) (t 
   asks_by h None found = sym (ap (λ l. sessions.rests (own l)) (unseen setting plan w past t h found))
   asks_by h (Some owner) found = sym (rests_is owner (cut h (events past)) (owner_tie setting plan w past t h owner found))
 
+  asked_by : (h : ℕ) (call : HandleCall) (found : Option Owner) → slice_get w.owners h ≡ found → rests_in found ≡ sessions.may_ask (acts_of_owner h (events past)) call
+  asked_by h call None found = sym (ap (λ l. sessions.may_ask (own l) call) (unseen setting plan w past t h found))
+  asked_by h call (Some owner) found = sym (may_ask_is owner (cut h (events past)) call (owner_tie setting plan w past t h owner found))
+
   owns_by : (h : ℕ) (found : Option Owner) → slice_get w.owners h ≡ found → may_own_in found ≡ not (is_poll_over (under_way (acts_of_owner h (events past))))
   owns_by h None found = sym (ap (λ l. not (is_poll_over (under_way (own l)))) (unseen setting plan w past t h found))
   owns_by h (Some owner) found =
@@ -134,7 +138,7 @@ module _ (setting : ℕ) (plan : List Bool) (w : Parts) (past : List Moment) (t 
   -- A step has an action in the parts exactly where it has one by what was seen.
   pub has_is : (step : Step) → has_action_in w step ≡ has_action past step
   has_is (New capacity) = refl
-  has_is (Ask h call) = asks_by h (slice_get w.owners h) refl
+  has_is (Ask h call) = ap (λ b. is_known call && b) (asked_by h call (slice_get w.owners h) refl)
   has_is (Own h) = owns_by h (slice_get w.owners h) refl
   has_is (DropOwner h) = asks_by h (slice_get w.owners h) refl
   has_is Spawn = refl

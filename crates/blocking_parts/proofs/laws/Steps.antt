@@ -243,7 +243,7 @@ module _ (setting : ℕ) (plan : List Bool) (w : Parts) (past : List Moment) (t 
   step_so : (move : Move) (e : Event) (new : Parts) → May w move → CrewMoves (IsPlanned plan) move w e new → SaidBy w move e → IsOfStep past (step_of move) e
   step_so (Idles step) e new may does told = idle_so past step e told (rests step may)
   step_so (Makes capacity) e new may does told = done_so _ _ _ _ e told refl refl (ap (λ h. Made h capacity) t.owned.count) (ap ByOwner t.owned.count) refl
-  step_so (Asks h call owner) e new may does told = done_so _ _ _ _ e told (ap rests_in may.0 ∙ may.1) refl refl refl refl
+  step_so (Asks h call owner) e new may does told = done_so _ _ _ _ e told (ap (λ b. b && rests_in (slice_get w.owners h)) may.2 ∙ ap rests_in may.0 ∙ may.1) refl refl refl refl
   step_so (Owns h owner done) e new may does told =
       let plain = plain_of Acts owner done.act (ap act_in may.1) in
       done_so _ _ _ _ e told (ap may_own_in may.0 ∙ owner_acts owner done may.1) plain.nothing plain.pool refl refl

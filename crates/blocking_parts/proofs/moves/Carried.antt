@@ -13,14 +13,17 @@ use Rattle.blocking_lanes.specs.Owners.{Owner, Did, bytes_in, next_of, next_at, 
 use Rattle.blocking_lanes.specs.Sessions.{Session, session_after_look}
 use Rattle.blocking_lanes.specs.declared.owner.OwnerStage.{OwnerStage}
 use Rattle.blocking_lanes.specs.declared.owner.OwnerStage.TheVariants as stage
-use Rattle.blocking_laws.specs.Bare.{is_bare, is_bare_answer}
+use Rattle.blocking_laws.specs.Bare.{is_bare, is_bare_answer, is_bare_call}
 use Rattle.blocking_laws.specs.Growth.{IsPlanned}
+use Rattle.blocking_laws.specs.Steps.{is_known}
 use Rattle.blocking_laws.specs.declared.event.Act.{Act}
-use Rattle.blocking_laws.specs.declared.event.Act.TheVariants.{Got, Answered}
+use Rattle.blocking_laws.specs.declared.event.Act.TheVariants.{Asked, Got, Peeked, Answered}
 use Rattle.blocking_laws.specs.declared.event.Event.{Event}
 use Rattle.blocking_laws.specs.declared.event.Reply.{Reply as Told}
 use Rattle.blocking_laws.specs.declared.step.Answer.{Answer}
 use Rattle.blocking_laws.specs.declared.step.Answer.TheVariants.{Gave}
+use Rattle.blocking_laws.specs.declared.step.HandleCall.{HandleCall}
+use Rattle.blocking_laws.specs.declared.step.HandleCall.TheVariants.{Write}
 use Rattle.blocking_laws.specs.declared.step.Step.{Step}
 use Rattle.blocking_lanes.proofs.acts.Calls.{by_call}
 use Rattle.blocking_pool.specs.Jobs.{JobNumber}
@@ -29,7 +32,7 @@ use Rattle.blocking_crew.specs.declared.tickets.Parking.{Parking}
 use Rattle.blocking_crew.specs.declared.tickets.Parking.TheVariants as parking
 use Rattle.blocking_pool.specs.declared.pool.answer.Refusal.{Refusal}
 use Rattle.std.specs.Prelude.{Result, Ok, Err}
-use Rattle.blocking_parts.specs.Carried.{bytes_of, bytes_of_answer, bytes_to_come, bytes_to_get}
+use Rattle.blocking_parts.specs.Carried.{bytes_of, bytes_of_answer, bytes_of_call, bytes_to_come, bytes_to_get}
 use Rattle.blocking_parts.specs.Moves.{Move, Idles, Makes, Asks, Owns, Lends, Delivers, IsDropped, Begins, Calls, Works, IsAnswered, Parks, Passes, IsWoken, IsStruck, May, CrewMoves, Moves, step_of}
 use Rattle.blocking_parts.specs.Parts.{Parts}
 use Rattle.blocking_parts.proofs.ties.Said.{SaidBy, said, done_so}
@@ -95,8 +98,19 @@ answer_bare : (answer : Answer) → is_bare_answer answer ≡ true → bytes_of_
 answer_bare (Gave bytes) is = absurd cc
 answer_bare _ is = refl
 
+call_bare : (call : HandleCall) → is_bare_call call ≡ true → bytes_of_call call ≡ []
+call_bare (Write bytes) is = absurd cc
+call_bare _ is = refl
+
+-- what owners are asked for yet carries nothing
+known_bare : (call : HandleCall) → is_known call ≡ true → bytes_of_call call ≡ []
+known_bare (Write bytes) is = absurd cc
+known_bare _ is = refl
+
 act_bare : (act : Act) → is_bare act ≡ true → bytes_of act ≡ []
+act_bare (Asked call) is = call_bare call is
 act_bare (Got bytes told) is = absurd cc
+act_bare (Peeked bytes) is = absurd cc
 act_bare (Answered answer) is = answer_bare answer is
 act_bare _ is = refl
 
@@ -110,7 +124,7 @@ carried_by plan w move e new may does = by move may (said plan w move e new may 
     by : (move : Move) → May w move → SaidBy w move e → length (bytes_of e.act) ≤ bytes_to_come w (step_of move)
     by (Idles step) may seen = bare_told _ e _ seen.act_is refl
     by (Makes capacity) may seen = bare_told _ e _ seen.act_is refl
-    by (Asks h call owner) may seen = bare_told _ e _ seen.act_is refl
+    by (Asks h call owner) may seen = bare_told _ e _ seen.act_is (known_bare call may.2)
     by (Owns h owner done) may seen =
         subst (λ a. length (bytes_of a) ≤ bytes_to_get (slice_get w.owners h)) (sym seen.act_is)
         (subst (λ o. length (bytes_of done.act) ≤ bytes_to_get o) (sym may.0) (owner_carries owner done may.1))

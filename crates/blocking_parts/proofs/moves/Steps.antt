@@ -12,7 +12,7 @@ use Rattle.blocking_lanes.specs.declared.owner.OwnerNext.TheVariants as next
 use Rattle.blocking_lanes.specs.Tasks.{Task, task_act, task_after_call}
 use Rattle.blocking_pool.proofs.Places.{set_same}
 use Rattle.blocking_lanes.proofs.acts.Calls.{call_number}
-use Rattle.blocking_laws.specs.Steps.{named}
+use Rattle.blocking_laws.specs.Steps.{is_known, named}
 use Rattle.blocking_laws.specs.declared.event.Act.{Act}
 use Rattle.blocking_laws.specs.declared.event.Act.TheVariants.{Made, Asked, HolderDropped}
 use Rattle.blocking_laws.specs.declared.event.Event.{Event}
@@ -144,11 +144,11 @@ pub made : (w : Parts) (capacity : ℕ) (owners : List Owner) (e : Event) → ow
     → crew.Moves NeverAsked (crew.Tell (ByOwner (length w.owners)) (Made (length w.owners) capacity)) w.crew e w.crew → Moves NeverAsked (New capacity) w e (record w { owners = owners })
 made w capacity owners e is does = record { move = Makes capacity; step_is = refl; may = tt; crew = does; rows_are = refl; tasks_are = refl; owners_are = is }
 
-pub asked : (w : Parts) (h : ℕ) (call : HandleCall) (old left : Owner) (e : Event) → rests_in (slice_get w.owners h) ≡ true → old ≡ slice_index_or w.owners h old → left ≡ owner_after_ask call old
+pub asked : (w : Parts) (h : ℕ) (call : HandleCall) (old left : Owner) (e : Event) → is_known call ≡ true → rests_in (slice_get w.owners h) ≡ true → old ≡ slice_index_or w.owners h old → left ≡ owner_after_ask call old
     → crew.Moves NeverAsked (crew.Tell (ByOwner h) (Asked call)) w.crew e w.crew → Moves NeverAsked (Ask h call) w e (record w { owners = slice_set w.owners h left })
-asked w h call old left e rests value left_is does =
+asked w h call old left e known rests value left_is does =
     let found = found_at w.owners h old (resting_within w.owners h rests) value in
-    record { move = Asks h call old; step_is = refl; may = (found, sym (ap rests_in found) ∙ rests); crew = does; rows_are = refl; tasks_are = refl; owners_are = ap (slice_set w.owners h) left_is }
+    record { move = Asks h call old; step_is = refl; may = (found, sym (ap rests_in found) ∙ rests, known); crew = does; rows_are = refl; tasks_are = refl; owners_are = ap (slice_set w.owners h) left_is }
 
 pub dropped : (w : Parts) (h : ℕ) (old left : Owner) (number : Option JobNumber) (e : Event) (new : Crew) → rests_in (slice_get w.owners h) ≡ true → old ≡ slice_index_or w.owners h old → left ≡ owner_after_drop old
     → number ≡ number_of old → crew.Moves NeverAsked (crew.LetGo (ByOwner h) HolderDropped number) w.crew e new → Moves NeverAsked (DropOwner h) w e (record w { crew = new; owners = slice_set w.owners h left })

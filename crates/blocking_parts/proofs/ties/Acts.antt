@@ -29,7 +29,7 @@ use Rattle.blocking_lanes.proofs.acts.Calls.{call_number}
 use Rattle.blocking_lanes.proofs.owners.Own.{value_of}
 use Rattle.blocking_lanes.proofs.owners.Reads.{action_is, answers, awake}
 use Rattle.blocking_lanes.proofs.owners.Steps.{works_goes}
-use Rattle.blocking_laws.specs.JobTable.{JobAction, Reading, AskCall, AskBytes, FindRoom, PutPiece, CloseEnd, Finish, WakeHolder, Over, next_of_job, is_answer, has_given_up}
+use Rattle.blocking_laws.specs.JobTable.{JobAction, Reading, AskCall, AskBytes, FindRoom, PutPiece, Peek, OfferBytes, Consume, AskFlush, CloseEnd, Finish, WakeHolder, Over, next_of_job, is_answer, has_given_up}
 use Rattle.blocking_laws.specs.Jobs.{accepted_by, ends_for_good, holder, sweeps, stands_by, is_parked}
 use Rattle.blocking_laws.specs.Seats.{waker_in}
 use Rattle.blocking_laws.specs.Seen.{events, acts_of, cut, is_of_pool, is_nothing}
@@ -40,7 +40,7 @@ use Rattle.blocking_laws.specs.declared.event.Act.TheVariants.{Answered, Finishe
 use Rattle.blocking_laws.specs.declared.event.HolderWaker.TheVariants.{Taken, Absent}
 use Rattle.blocking_laws.specs.declared.event.Moment.{Moment}
 use Rattle.blocking_laws.specs.declared.step.Answer.{Answer}
-use Rattle.blocking_laws.specs.declared.step.Answer.TheVariants.{Number, Gave, Failed}
+use Rattle.blocking_laws.specs.declared.step.Answer.TheVariants.{Number, Gave, Fine, Failed}
 use Rattle.blocking_pool.specs.declared.pool.standing.Standing.{Standing}
 use Rattle.blocking_pool.specs.declared.pool.standing.Standing.TheVariants.{Queued, Running}
 use Rattle.blocking_parts.specs.Parts.{Parts}
@@ -212,6 +212,10 @@ asked AskCall answer is = is
 asked (AskBytes n) answer is = is
 asked FindRoom answer is = absurd cc
 asked (PutPiece bytes) answer is = absurd cc
+asked Peek answer is = absurd cc
+asked (OfferBytes bytes) answer is = is
+asked (Consume n) answer is = absurd cc
+asked AskFlush answer is = is
 asked CloseEnd answer is = absurd cc
 asked Finish answer is = absurd cc
 asked WakeHolder answer is = absurd cc
@@ -221,6 +225,7 @@ call_answered : (k : ℕ) (next : Action) (n : ℕ) (answer : Answer) (acts : Li
     → Leaves (core.Call k (call_by_parts next n)) (core_after_answer answer (core.Call k (call_by_parts next n))) (Answered answer) acts
 call_answered k action.Call n (Number m) acts ran going is = record { party = refl; core = λ on. ap (λ (l : List Act). Answered (Number m) ∷ l) (ran going); parks = λ parks. absurd cc }
 call_answered k action.Call n (Gave bytes) acts ran going is = absurd cc
+call_answered k action.Call n Fine acts ran going is = absurd cc
 call_answered k action.Call n (Failed error) acts ran going is = absurd cc
 call_answered k action.Finish n answer acts ran going is = absurd cc
 call_answered k action.Deliver n answer acts ran going is = absurd cc

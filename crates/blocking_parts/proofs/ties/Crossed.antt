@@ -22,6 +22,7 @@ use Rattle.blocking_lanes.specs.declared.owner.OwnerNext.TheVariants as next
 use Rattle.blocking_lanes.specs.declared.owner.OwnerStage.{OwnerStage}
 use Rattle.blocking_lanes.specs.declared.owner.OwnerStage.TheVariants as owner_stage
 use Rattle.blocking_pool.proofs.Places.{got_same, in_pushed}
+use Rattle.blocking_lanes.proofs.owners.Cuts.{state_is}
 use Rattle.blocking_lanes.proofs.owners.Own.{fits_at, owner_by_parts, value_of}
 use Rattle.blocking_lanes.proofs.owners.Sessions.{going}
 use Rattle.blocking_lanes.proofs.owners.Steps.{IsLast, begins_at, its_last}
@@ -70,8 +71,8 @@ still_lent session bytes X t goes =
     let works = acts_of session.number.serial X in
     let back = is_none (sessions.session (own X)) in
     let dropped = sessions.is_dropped (own X) in
-    (going session.slot.content (has_finished works) (has_given_up works) back dropped (fault works)
-    (subst (λ over. ResultAs session.slot.content (has_finished works) (has_given_up works) over back dropped (fault works)) goes t.result)).lent
+    (going session.slot.content (has_finished works) (has_given_up works) back dropped (fault Reading works)
+    (subst (λ over. ResultAs session.slot.content (has_finished works) (has_given_up works) over back dropped (fault Reading works)) goes t.result)).lent
 
 -- where the handle is with its owner, it is back
 idle_back : (last : Option sessions.Session) (shut : Bool) → sessions.state_in last shut ≡ sessions.Idle → is_none last ≡ true
@@ -79,10 +80,11 @@ idle_back None shut is = refl
 idle_back (Some session) shut is = absurd cc
 
 -- an owner whose session begins has its handle
-begins_idle : (bytes : ℕ) (here : OwnerStage) (last : Option Session) (X : List Event) → OwnerAs (owner_by_parts bytes here last) X → next_at here last ≡ next.Begins → sessions.state (own X) ≡ sessions.Idle
+begins_idle : (bytes : ℕ) (here : OwnerStage) (last : Option Session) (X : List Event) → OwnerAs (owner_by_parts bytes here last) X → next_at here last ≡ next.Begins
+    → sessions.state_in (sessions.session (own X)) (sessions.is_shut (own X)) ≡ sessions.Idle
 begins_idle bytes (owner_stage.Polls poll) last X t begins =
     let fits = fits_at bytes poll X last _ t (begins_at bytes poll last X t begins) in
-    ap (value_of sessions.Idle) (t.stage.0.at_is ∙ ap state_as fits.2)
+    sym (state_is (own X) poll.state t.stage.0.at_is) ∙ ap (value_of sessions.Idle) (t.stage.0.at_is ∙ ap state_as fits.2)
 begins_idle bytes (owner_stage.Rests at) last X t begins = absurd cc
 begins_idle bytes (owner_stage.Wakes poll note) last X t begins = absurd cc
 begins_idle bytes owner_stage.Dropped last X t begins = absurd cc

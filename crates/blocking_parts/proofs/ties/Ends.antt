@@ -1,5 +1,5 @@
 -- A job that ends for good is over: the end of a turn alone ends one so, and comes where nothing is left to do.
-use Rattle.std.proofs.Common.{◌≡◌, inl, inr, ℕ, List, [], ◌∷◌, Bool, true, false, refl, sym, ap, ◌∙◌, subst, Some}
+use Rattle.std.proofs.Common.{◌≡◌, inl, inr, ℕ, zero, suc, List, [], ◌∷◌, Bool, true, false, refl, sym, ap, ◌∙◌, subst, Some}
 use Rattle.std.specs.Prelude.{◌||◌}
 use Rattle.std.proofs.lemmas.Bool.{eqb-true, or_right}
 use Rattle.blocking_core.specs.declared.job.Action.{Action}
@@ -16,17 +16,17 @@ use Rattle.blocking_lanes.specs.Reads.{Progress, ReadAs, action_of, has_waker}
 use Rattle.blocking_lanes.proofs.owners.Own.{last_is}
 use Rattle.blocking_lanes.proofs.owners.Reads.{action_is, next_by}
 use Rattle.blocking_laws.specs.Growth.{IsPlanned}
-use Rattle.blocking_laws.specs.JobTable.{Kind, Calling, Reading, JobAction, AskBytes, Over, next_but_wake, next_after_answer, wake_first, is_over, has_finished, has_given_up}
+use Rattle.blocking_laws.specs.JobTable.{Kind, Calling, Reading, Writing, JobAction, AskBytes, OfferBytes, AskFlush, Over, next_but_wake, next_after_answer, wake_first, is_over, has_finished, has_given_up}
 use Rattle.blocking_laws.specs.Jobs.{ends_for_good}
 use Rattle.blocking_laws.specs.Seen.{events, acts_of}
 use Rattle.blocking_laws.specs.Steps.{next_in_turn, is_turn_end}
 use Rattle.blocking_laws.specs.Turns.{GoesOn}
 use Rattle.blocking_laws.specs.declared.event.Act.{Act}
-use Rattle.blocking_laws.specs.declared.event.Act.TheVariants.{RoomFree, RoomShut, Answered, Put, Lost, JobClosed, Finished, GaveUp, Ended}
+use Rattle.blocking_laws.specs.declared.event.Act.TheVariants.{RoomFree, RoomShut, Answered, Put, Lost, Peeked, Drained, Taken, JobClosed, Finished, GaveUp, Ended}
 use Rattle.blocking_laws.specs.declared.event.Event.{Event}
 use Rattle.blocking_laws.specs.declared.event.Moment.{Moment}
 use Rattle.blocking_laws.specs.declared.step.Answer.{Answer}
-use Rattle.blocking_laws.specs.declared.step.Answer.TheVariants.{Gave}
+use Rattle.blocking_laws.specs.declared.step.Answer.TheVariants.{Number, Gave}
 use Rattle.blocking_pool.specs.declared.pool.answer.Waited.TheVariants.{Stay, Stop}
 use Rattle.blocking_pool.specs.declared.pool.standing.Standing.{Standing}
 use Rattle.blocking_pool.specs.declared.pool.standing.Standing.TheVariants.{Running, Done, Dropped}
@@ -46,12 +46,17 @@ not_answered : (before : JobAction) (answer : Answer) → next_after_answer befo
 not_answered (AskBytes n) (Gave (b ∷ bs)) is = cc
 not_answered (AskBytes n) (Gave []) is = cc
 not_answered (AskBytes n) _ is = cc
+not_answered (OfferBytes bytes) (Number (suc k)) is = cc
+not_answered (OfferBytes bytes) (Number zero) is = cc
+not_answered (OfferBytes bytes) _ is = cc
+not_answered AskFlush answer is = cc
 not_answered _ answer is = cc
 
 -- a job that has nothing left to do by its table has put its result or given up
 table_over : (kind : Kind) (acts : List Act) → next_but_wake kind acts ≡ Over → IsOver acts
 table_over Calling [] is = absurd cc
 table_over Reading [] is = absurd cc
+table_over Writing [] is = absurd cc
 table_over kind (Finished waker ∷ past) is = refl
 table_over kind (GaveUp waker ∷ past) is = or_right (has_finished past) true refl
 table_over kind (Answered answer ∷ past) is = absurd (not_answered (next_but_wake kind past) answer is)
@@ -59,6 +64,9 @@ table_over kind (RoomFree n ∷ past) is = absurd cc
 table_over kind (RoomShut ∷ past) is = absurd cc
 table_over kind (Put n waker ∷ past) is = absurd cc
 table_over kind (Lost n ∷ past) is = absurd cc
+table_over kind (Peeked bytes ∷ past) is = absurd cc
+table_over kind (Drained ∷ past) is = absurd cc
+table_over kind (Taken n waker ∷ past) is = absurd cc
 table_over kind (JobClosed waker ∷ past) is = absurd cc
 table_over kind (_ ∷ past) is = table_over kind past is
 

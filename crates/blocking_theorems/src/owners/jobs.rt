@@ -17,7 +17,7 @@ pub fn tables()
     // room 70000: no more than a piece is asked for at once
     ensures asks_for_piece { next_of_job Reading (RoomFree 70000 ∷ []) ≡ AskBytes 65536 }
     // answered fault 1 / answered fault 2
-    ensures tells_first_fault { fault (Answered (Failed 2) ∷ Answered (Failed 1) ∷ []) ≡ Some (Io 1) }
+    ensures tells_first_fault { fault Reading (Answered (Failed 2) ∷ Answered (Failed 1) ∷ []) ≡ Some (Io 1) }
     // .. / took 1 / answered 6162: it has found no room
     ensures refuses_answer_before_room { Refuses FirstOwnerLaw reader_taken (given 1 (Gave (97 ∷ 98 ∷ []))) }
     // .. / room 4 / answered 6162636465

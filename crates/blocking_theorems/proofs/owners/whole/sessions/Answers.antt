@@ -4,8 +4,9 @@ use Rattle.std.specs.Prelude.{not, if◌then◌else◌}
 use Rattle.std.proofs.lemmas.Bool.Decides.{nat_tests}
 use mathlib.Core.Path.{subst, sym}
 use Rattle.blocking_laws.specs.Jobs.{accepts, holder, is_parked, newcomer, standing}
-use Rattle.blocking_laws.specs.OwnerWakes.{IsNotLost, IsSessionOf, NoLostOwnerWake, ParksRightly, is_waking}
-use Rattle.blocking_laws.specs.Passed.{inside}
+use Rattle.blocking_laws.specs.OwnerWakes.{IsNotLost, IsSessionOf, IsStuck, NoLostOwnerWake, ParksRightly, is_waking}
+use Rattle.blocking_laws.specs.JobTable.{Kind, Writing}
+use Rattle.blocking_laws.specs.Passed.{inside, last_kind}
 use Rattle.blocking_laws.specs.Seen.{AtEveryBeginning, events, cut, own, is_owner, is_some_worker, is_this, is_of_pool, is_nothing, is_in_cut}
 use Rattle.blocking_laws.specs.Sessions.{Session, capacity, is_shut, session}
 use Rattle.blocking_laws.specs.Wakes.{is_at_rest, is_waiting, was_woken}
@@ -124,10 +125,26 @@ abbrev is_told : List Moment → Bool
 is_told past =
     not (is_waiting (own (cut 0 (events past)))) || (not (is_at_rest past 1) || (was_woken (cut 0 (events past)) || is_waking 1 (own (cut 0 (events past)))))
 
+abbrev is_empty : List ℕ → Bool
+is_empty [] = true
+is_empty _ = false
+
+abbrev is_stuck : Kind → List Event → Bool
+is_stuck Writing cut = is_empty (inside cut)
+is_stuck _ cut = length (inside cut) == capacity (own cut)
+
 abbrev has_reason : List Moment → Bool
 has_reason past =
     not (is_parked (standing past 1)) || (is_waking 1 (own (cut 0 (events past)))
-    || (not (is_shut (own (cut 0 (events past)))) && (length (inside (cut 0 (events past))) == capacity (own (cut 0 (events past))))))
+    || (not (is_shut (own (cut 0 (events past)))) && is_stuck (last_kind (cut 0 (events past))) (cut 0 (events past))))
+
+stuck_is : (kind : Kind) (cut : List Event) → is_stuck kind cut ≡ true → IsStuck kind cut
+stuck_is Writing cut stuck = nothing (inside cut) stuck
+  where
+    nothing : (bytes : List ℕ) → is_empty bytes ≡ true → bytes ≡ []
+    nothing [] none = refl
+    nothing (b ∷ bytes) none = absurd cc
+stuck_is _ cut stuck = grind (arith, nat_tests)
 
 told_by : (waits rests woken waking : Bool) → not waits || (not rests || (woken || waking)) ≡ true → waits ≡ true → rests ≡ true → (woken ≡ true) ⊎ (waking ≡ true)
 told_by true true true waking e w r = inl refl
@@ -136,11 +153,11 @@ told_by true true false false e w r = absurd cc
 told_by true false woken waking e w r = absurd cc
 told_by false rests woken waking e w r = absurd cc
 
-reason_by : (parked waking shut : Bool) (n m : ℕ) → not parked || (waking || (not shut && (n == m))) ≡ true → parked ≡ true → waking ≡ false → (shut ≡ false) × (n ≡ m)
-reason_by true false false n m e p w = (refl, grind (arith, nat_tests))
-reason_by true false true n m e p w = absurd cc
-reason_by true true shut n m e p w = absurd cc
-reason_by false waking shut n m e p w = absurd cc
+reason_by : (parked waking shut stuck : Bool) → not parked || (waking || (not shut && stuck)) ≡ true → parked ≡ true → waking ≡ false → (shut ≡ false) × (stuck ≡ true)
+reason_by true false false stuck e p w = (refl, e)
+reason_by true false true stuck e p w = absurd cc
+reason_by true true shut stuck e p w = absurd cc
+reason_by false waking shut stuck e p w = absurd cc
 
 -- whether all this holds at this point, and at every beginning
 abbrev is_right : List Moment → Bool
@@ -164,8 +181,11 @@ module _ (past : List Moment) (right : is_right past ≡ true) where
 
   reason_first : ParksRightly past 1 (cut 0 (events past))
   reason_first parked still =
-      reason_by (is_parked (standing past 1)) (is_waking 1 (own (cut 0 (events past)))) (is_shut (own (cut 0 (events past)))) (length (inside (cut 0 (events past))))
-      (capacity (own (cut 0 (events past)))) (both_are (is_told past) (has_reason past) others.1).1 parked still
+      let stuck = is_stuck (last_kind (cut 0 (events past))) (cut 0 (events past)) in
+      let why =
+      reason_by (is_parked (standing past 1)) (is_waking 1 (own (cut 0 (events past)))) (is_shut (own (cut 0 (events past)))) stuck
+      (both_are (is_told past) (has_reason past) others.1).1 parked still in
+      (why.0, stuck_is (last_kind (cut 0 (events past))) (cut 0 (events past)) why.1)
 
   owner_is_told : (b : Bool) (h s : ℕ) → (0 == h) ≡ b → IsSessionOf (session (own (cut h (events past)))) s → IsNotLost past s (cut h (events past))
   owner_is_told true h s same of =
