@@ -1,5 +1,5 @@
 -- How owners hang together with what was seen: each with its cut.
-use Rattle.std.specs.Prelude.{◌≡◌, ◌<◌, ◌≤◌, ◌⊎◌, ◌||◌, ℕ, zero, suc, not, Bool, true, false, List, [], ◌∷◌, ◌++◌, length, slice_get, Option, Some, None, is_some, is_none}
+use Rattle.std.specs.Prelude.{◌≡◌, ◌<◌, ◌≤◌, ◌+◌, ◌⊎◌, ◌||◌, ℕ, zero, suc, not, Bool, true, false, List, [], ◌∷◌, ◌++◌, length, slice_get, Option, Some, None, is_some, is_none}
 use Rattle.blocking_core.specs.OwnerCalls.{OwnerMachine}
 use Rattle.blocking_core.specs.Pipes.{room}
 use Rattle.blocking_core.specs.Slots.{Content, Empty, Full, GivenUp, Abandoned}
@@ -176,11 +176,13 @@ pub record LentAs (s : Session) (capacity : ℕ) (last : Option sessions.Session
   pub within : length s.pipe.items ≤ capacity
   pub shut_is : shut ≡ not s.pipe.is_owner_open
 
--- What went through the pipe: what the job put is what its owner took and what is inside, and a beginning of what the job was given.
+-- What went through the pipe: what the job put is what its owner took and what is inside, and a beginning of what the job was given, which
+-- is no more than what its owner took and what the pipe holds.
 pub record FlowAs (s : Session) (shut : Bool) (taken : List ℕ) (next : JobAction) (closed given_up : Bool) (passed : Passed) : Type 0 where
   pub closed_is : closed ≡ not s.pipe.is_job_open
   pub inside : passed.put ≡ taken ++ s.pipe.items
   pub put : IsBeginning passed.put passed.given
+  pub bounded : length passed.given ≤ length taken + s.pipe.capacity
   pub passed_is : PassedAs next (room s.pipe) s.pipe.is_job_open (shut || given_up) passed
   -- a job that is over has closed its end, unless it gave up
   pub unclosed : is_over next ≡ true → s.pipe.is_job_open ≡ true → given_up ≡ true

@@ -6,7 +6,7 @@ use Rattle.blocking_laws.specs.Seen.{events, cut}
 use Rattle.blocking_laws.specs.Ends.{EndsTruly}
 use Rattle.blocking_laws.specs.Passed.{PassesOn}
 use Rattle.blocking_laws.specs.OwnerLaws.{OwnerLaw, OwnerLaws}
-use Rattle.blocking_laws.specs.OwnerWakes.{IsNotLost}
+use Rattle.blocking_laws.specs.OwnerWakes.{IsNotLost, ParksRightly}
 use Rattle.blocking_laws.specs.Traces.{◌▸◌, moment, starting, of_owner}
 use Rattle.blocking_laws.specs.declared.event.Act.{Act}
 use Rattle.blocking_laws.specs.declared.event.Act.TheVariants.{Made, Asked, Accepted, OwnerClosed, JobWoken, Got, GotEnd, Back, Replied, Waits, HolderDropped, Arrived, Took, Ended, Answered, RoomFree, RoomShut, JobParked, Put, JobClosed, Finished, HolderWoken}
@@ -22,10 +22,11 @@ use Rattle.blocking_laws.specs.declared.step.Step.TheVariants.{New, Ask, Own, Dr
 
 -- ---- how they are written
 
--- owner 0 is asked, no start having been made, or one; and its poll takes an action
+-- owner 0 is asked, no start having been made, or one
 abbrev pub asks : HandleCall → ℕ → Moment
 asks call next = moment (Ask 0 call) (Owner 0) None (Asked call) next
 
+-- its poll takes an action
 abbrev pub polls : Act → ℕ → Moment
 polls act next = moment (Own 0) (Owner 0) None act next
 
@@ -33,23 +34,27 @@ polls act next = moment (Own 0) (Owner 0) None act next
 abbrev pub drops : ℕ → Moment
 drops next = moment (DropOwner 0) (Owner 0) None HolderDropped next
 
--- worker 1 takes job s of owner 0, takes an action of it, has it answered, and ends its turn
+-- worker 1 takes job s of owner 0
 abbrev pub takes : ℕ → Act → Moment
 takes s act = of_owner 0 (moment (Take 1) (Worker 1) (Some s) act 2)
 
+-- it takes an action of that job
 abbrev pub works : ℕ → Act → Moment
 works s act = of_owner 0 (moment (Job 1) (Worker 1) (Some s) act 2)
 
+-- that job's reader answers
 abbrev pub given : ℕ → Answer → Moment
 given s answer = of_owner 0 (moment (Io 1 answer) (Worker 1) (Some s) (Answered answer) 2)
 
+-- the turn of that job ends
 abbrev pub ends : ℕ → Act → Moment
 ends s act = of_owner 0 (moment (End 1) (Worker 1) (Some s) act 2)
 
--- the law of owner h, and of owner 0
+-- the law of owner h
 abbrev pub LawOfOwner : ℕ → List Moment → Moment → Type 0
 LawOfOwner h past now = OwnerLaw (cut h (events past)) now.event
 
+-- (of owner 0)
 abbrev pub FirstOwnerLaw : List Moment → Moment → Type 0
 FirstOwnerLaw past now = LawOfOwner 0 past now
 
@@ -57,15 +62,21 @@ FirstOwnerLaw past now = LawOfOwner 0 past now
 abbrev pub KeepsFirstOwner : List Moment → Type 0
 KeepsFirstOwner past = OwnerLaws (cut 0 (events past))
 
--- the law of ends of owner 0; what passed in its last session; and that it doesn't wait in vain for job 1
+-- the law of ends of owner 0
 abbrev pub FirstOwnerEnds : List Moment → Moment → Type 0
 FirstOwnerEnds past now = EndsTruly (cut 0 (events past)) now.event.act
 
+-- what passed in its last session
 abbrev pub FirstOwnerPasses : List Moment → Type 0
 FirstOwnerPasses past = PassesOn (cut 0 (events past))
 
+-- that it doesn't wait in vain for job 1
 abbrev pub FirstOwnerIsNotLost : List Moment → Type 0
 FirstOwnerIsNotLost past = IsNotLost past 1 (cut 0 (events past))
+
+-- and that this job has reason to park
+abbrev pub FirstOwnersJobParksRightly : List Moment → Type 0
+FirstOwnersJobParksRightly past = ParksRightly past 1 (cut 0 (events past))
 
 -- ---- an owner that reads
 

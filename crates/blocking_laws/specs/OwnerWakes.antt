@@ -1,13 +1,16 @@
 -- Wakes between an owner and its job, and who of the two waits.
-use Rattle.std.specs.Prelude.{◌≡◌, ℕ, ◌==◌, ◌&&◌, ◌||◌, ◌⊎◌, not, Bool, true, false, List, [], ◌∷◌, Option, Some, None}
+use Rattle.std.specs.Prelude.{◌≡◌, ℕ, ◌==◌, ◌&&◌, ◌||◌, ◌⊎◌, not, Bool, true, false, List, [], ◌∷◌, length, Option, Some, None}
+use Rattle.blocking_laws.specs.Jobs.{holder, standing, is_parked}
+use Rattle.blocking_laws.specs.Passed.{inside}
 use Rattle.blocking_laws.specs.Seen.{events, own, is_this, cut}
-use Rattle.blocking_laws.specs.Sessions.{Session, session}
+use Rattle.blocking_laws.specs.Sessions.{Session, session, is_shut, capacity}
 use Rattle.blocking_laws.specs.OwnerTable.{note_in}
 use Rattle.blocking_laws.specs.Wakes.{is_waiting, was_woken, is_at_rest}
 use Rattle.blocking_laws.specs.declared.event.Act.{Act}
 use Rattle.blocking_laws.specs.declared.event.Act.TheVariants.{JobWoken}
 use Rattle.blocking_laws.specs.declared.event.Event.{Event}
 use Rattle.blocking_laws.specs.declared.event.Moment.{Moment}
+use Rattle.blocking_laws.specs.declared.event.Party.TheVariants.{Owner}
 
 -- whether a wake of this job is under way after an act of the owner: from the act that took its note to the delivery
 abbrev pub is_waking_by : ℕ → Act → Bool → Bool
@@ -29,6 +32,16 @@ abbrev pub IsSessionOf : Option Session → ℕ → Type 0
 IsSessionOf None s = ⊥
 IsSessionOf (Some r) s = r.serial ≡ s
 
--- No wake is lost: no owner waits for the job of its session at rest, with no wake of either under way.
+-- a job that looks for room has to wait: its owner's end is open, and the pipe is full
+abbrev pub HasNoRoom : List Event → Type 0
+HasNoRoom cut = (is_shut (own cut) ≡ false) × (length (inside cut) ≡ capacity (own cut))
+
+-- A parked job has reason to wait, unless a wake of it is under way.
+abbrev pub ParksRightly : List Moment → ℕ → List Event → Type 0
+ParksRightly past s cut = is_parked (standing past s) ≡ true → is_waking s (own cut) ≡ false → HasNoRoom cut
+
+-- No wake is lost: no owner waits for the job of its session at rest, and no job of an owner is parked beside room or beside a closed
+-- end, with no wake under way.
 pub record NoLostOwnerWake (past : List Moment) : Type 0 where
   pub owners : (h s : ℕ) → IsSessionOf (session (own (cut h (events past)))) s → IsNotLost past s (cut h (events past))
+  pub jobs : (h s : ℕ) → holder past s ≡ Some (Owner h) → ParksRightly past s (cut h (events past))

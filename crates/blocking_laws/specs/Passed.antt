@@ -1,5 +1,5 @@
 -- What passed in a session: what the handle gave, what the owner got, and what is inside the pipe.
-use Rattle.std.specs.Prelude.{ℕ, ◌-◌, ◌≤◌, List, [], ◌∷◌, ◌++◌, length, take, drop, Option, Some, None, map, filter, not, ◌&&◌, Bool, false}
+use Rattle.std.specs.Prelude.{ℕ, ◌+◌, ◌-◌, ◌≤◌, List, [], ◌∷◌, ◌++◌, length, take, drop, Option, Some, None, map, filter, not, ◌&&◌, Bool, false}
 use Rattle.blocking_laws.specs.Seen.{IsBeginning, own, is_this, is_of_pool, is_nothing, is_some_worker}
 use Rattle.blocking_laws.specs.JobTable.{Kind, Calling, Reading}
 use Rattle.blocking_laws.specs.Sessions.{Session, last_session, capacity}
@@ -78,7 +78,9 @@ inside cut = inside_by (last_kind cut) (own cut) (last_job cut)
 abbrev pub room_in : List Event → ℕ
 room_in cut = capacity (own cut) - length (inside cut)
 
--- In the last session the owner got a beginning of what its reader gave, and no more is inside than the pipe holds.
+-- In the last session the owner got a beginning of what its reader gave; no more is inside than the pipe holds; and the reader gave no
+-- more than what the owner got and what the pipe holds.
 pub record PassesOn (cut : List Event) : Type 0 where
   pub read : IsBeginning (got (own cut)) (gave (last_job cut))
   pub within : length (inside cut) ≤ capacity (own cut)
+  pub bounded : length (gave (last_job cut)) ≤ length (got (own cut)) + capacity (own cut)

@@ -11,6 +11,7 @@ use Rattle.blocking_laws.specs.declared.step.Step.{Step}
 use Rattle.blocking_laws.specs.declared.step.Step.TheVariants.{Own, Io}
 use Rattle.blocking_parts.specs.Parts.{Parts}
 
+-- the bytes of an answer
 abbrev pub bytes_of_answer : Answer → List ℕ
 bytes_of_answer (Gave bytes) = bytes
 bytes_of_answer _ = []
@@ -21,6 +22,7 @@ bytes_of (Got bytes told) = bytes
 bytes_of (Answered answer) = bytes_of_answer answer
 bytes_of _ = []
 
+-- how many bytes come out of the pipe where this owner acts next
 abbrev pub bytes_to_get : Option Owner → ℕ
 bytes_to_get None = 0
 bytes_to_get (Some owner) = bytes_in (next_of owner)
@@ -36,6 +38,7 @@ abbrev pub is_busy : OwnerNext → Bool
 is_busy next.Rests = false
 is_busy _ = true
 
+-- whether there is such an owner, and its poll is under way
 abbrev pub polls_in : Option Owner → Bool
 polls_in None = false
 polls_in (Some owner) = is_busy (next_of owner)

@@ -28,6 +28,7 @@ use Rattle.blocking_parts.specs.Rows.{Done, call_row, read_row, core_after_answe
 use Rattle.blocking_parts.specs.Parts.{Parts, InHand, row_of, owner_of, job_at, next_at, done_by, done_in, let_go_of, let_go_by}
 use Rattle.blocking_parts.specs.declared.row.Row.{Row}
 
+-- What a step does to the parts: one act of an owner, of a task or of a worker's job, or what the crew does alone.
 pub data Move : Type 0 where
   -- the step has no action
   Idles : Step → Move
@@ -183,6 +184,7 @@ may_own next.Delivers finds = true
 may_own (next.Acts count) finds = is_some finds
 may_own next.Rests finds = false
 
+-- whether there is such an owner, and its poll has an action
 abbrev pub may_own_in : Option Owner → Bool
 may_own_in None = false
 may_own_in (Some owner) = may_own (next_of owner) (did owner)
@@ -228,6 +230,7 @@ IsDue w call = Unit {0}
 abbrev pub IsThere : Parts → ℕ → Owner → Type 0
 IsThere w h owner = slice_get w.owners h ≡ Some owner
 
+-- Whether a move may be made: whom it names is there, and may do so.
 abbrev pub May : Parts → Move → Type 0
 May w (Idles step) = has_action_in w step ≡ false
 May w (Makes capacity) = Unit {0}

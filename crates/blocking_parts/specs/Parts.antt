@@ -38,6 +38,7 @@ abbrev pub owner_by : Option Row → Option ℕ
 owner_by None = None
 owner_by (Some row) = owner_in row.core
 
+-- the owner whose job that of an event is, if the event is of a job of an owner
 abbrev pub owner_of : List Row → Option ℕ → Option ℕ
 owner_of all None = None
 owner_of all (Some serial) = owner_by (row_of all serial)
@@ -49,10 +50,12 @@ pub record InHand : Type 0 where
   pub held : Held
   pub row : Row
 
+-- the job in a hand with its row, where the row is there
 abbrev pub job_with : Held → Option Row → Option InHand
 job_with held None = None
 job_with held (Some row) = Some (record { held = held; row = row })
 
+-- the same of any hand
 abbrev pub job_in : List Row → Hand → Option InHand
 job_in all (Holds held) = job_with held (row_of all held.turn.serial)
 job_in all hand = None
@@ -70,6 +73,7 @@ abbrev pub next_in : Option InHand → WorkerAction
 next_in None = NoNext
 next_in (Some job) = next_of job.held.stage job.row.core
 
+-- the next action of this worker
 abbrev pub next_at : Parts → ℕ → WorkerAction
 next_at w worker = next_in (job_at w worker)
 
@@ -77,16 +81,19 @@ next_at w worker = next_in (job_at w worker)
 abbrev pub done_by : Parts → InHand → Option Done
 done_by w job = done job.held.stage job.row.core w.tasks w.owners
 
+-- the same of a hand that may hold no job
 abbrev pub done_in : Parts → Option InHand → Option Done
 done_in w None = None
 done_in w (Some job) = done_by w job
 
 -- ---- who let a job go
 
+-- whether there is such a task, and it has let its job go; and the same of an owner, which lets it go by its drop
 abbrev pub task_let_go : Option Task → Bool
 task_let_go None = false
 task_let_go (Some task) = has_let_go task.stage
 
+-- (of an owner)
 abbrev pub owner_let_go : Option Owner → Bool
 owner_let_go None = false
 owner_let_go (Some owner) = is_gone owner.stage

@@ -46,6 +46,7 @@ kind_of (core.Read h read) = Reading
 abbrev pub call_row : JobNumber → ℕ → Row
 call_row number k = record { number = number; core = core.Call k calls.not_begun }
 
+-- (of a session of owner h)
 abbrev pub read_row : JobNumber → ℕ → Row
 read_row number h = record { number = number; core = core.Read h reads.not_begun }
 
@@ -77,6 +78,7 @@ is_first AskCall = true
 is_first FindRoom = true
 is_first _ = false
 
+-- whether a core hasn't begun: its next action is the first of its kind
 abbrev pub is_at_first : Core → Bool
 is_at_first core = is_first (action_of core)
 
@@ -88,6 +90,7 @@ call_step_by action.Finish n = Some (tasks.Finishes n)
 call_step_by action.Deliver n = Some tasks.CallsWaker
 call_step_by _ n = None
 
+-- the step of its task that it takes where it stands in its turn so, if it takes one
 abbrev pub call_step : Stage → calls.Progress → Option TaskStep
 call_step stage.Runs call = call_step_by call.next call.number
 call_step stage.MustGiveUp call = Some tasks.GivesUp
@@ -151,6 +154,7 @@ read_seen h read all rows owner step (Some act) = Some (record {
   owners = slice_set rows h (owners.owner_after step owner);
 })
 
+-- what the job of owner h does, where that owner is there and its next action is one of its session
 abbrev pub read_done : ℕ → reads.Progress → List Task → List Owner → Option Owner → Option OwnerStep → Option Done
 read_done h read all rows (Some owner) (Some step) = read_seen h read all rows owner step (owners.act_of step owner)
 read_done h read all rows _ _ = None
@@ -171,17 +175,20 @@ abbrev pub call_answered : Answer → calls.Progress → calls.Progress
 call_answered (Number n) call = calls.progress_after_answer call n
 call_answered _ call = call
 
+-- (of any kind)
 abbrev pub core_after_answer : Answer → Core → Core
 core_after_answer answer (core.Call k call) = core.Call k (call_answered answer call)
 core_after_answer answer (core.Read h read) = core.Read h (reads.progress_after_answer read answer)
 
 -- ---- one act, at its task or its owner alone
 
+-- what is seen of a call's job and its task, and what both are then, by the step that it takes, if it takes one
 abbrev pub IsActed : Option TaskStep → Stage → calls.Progress → Task → Option Act → calls.Progress → Task → Type 0
 IsActed None at call task seen new_call new_task = (seen ≡ None) × (new_call ≡ call) × (new_task ≡ task)
 IsActed (Some step) at call task seen new_call new_task =
     (seen ≡ Some (tasks.act_of step task)) × (new_call ≡ call_after step at task call) × (new_task ≡ tasks.task_after step task)
 
+-- the same of a reader's job and its owner
 abbrev pub IsRead : Option OwnerStep → reads.Progress → Owner → Option Act → reads.Progress → Owner → Type 0
 IsRead None read owner seen new_read new_owner = (seen ≡ None) × (new_read ≡ read) × (new_owner ≡ owner)
 IsRead (Some step) read owner seen new_read new_owner =

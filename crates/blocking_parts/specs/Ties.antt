@@ -8,7 +8,7 @@ use Rattle.blocking_crew.specs.declared.hand.Stage.{Stage}
 use Rattle.blocking_crew.specs.declared.hand.Stage.TheVariants as stage
 use Rattle.blocking_lanes.specs.Calls.{RanAs}
 use Rattle.blocking_lanes.specs.OwnerTies.{Owned}
-use Rattle.blocking_lanes.specs.Owners.{Owner, is_gone, note_at, number_of}
+use Rattle.blocking_lanes.specs.Owners.{Owner, note_at, number_of}
 use Rattle.blocking_lanes.specs.Reads.{ReadAs}
 use Rattle.blocking_lanes.specs.Sessions.{Session}
 use Rattle.blocking_lanes.specs.Tasks.{Task}
@@ -95,11 +95,12 @@ pub record Marked (past : List Moment) : Type 0 where
 
 -- ---- who waits for whom
 
--- whether a job is left to its owner: it is parked, or waits and has met no wake since its turn began
+-- whether a job waits, by its turn
 abbrev pub is_waiting_in : Turn → Bool
 is_waiting_in IsWaiting = true
 is_waiting_in _ = false
 
+-- whether a job is left to its owner: it is parked, or waits and has met no wake since its turn began
 abbrev pub is_left : List Moment → ℕ → Bool
 is_left past s = is_parked (standing past s) || (is_running (standing past s) && is_waiting_in (turn past s) && not (is_woken past s))
 
@@ -113,10 +114,11 @@ abbrev pub is_number : Option JobNumber → ℕ → Bool
 is_number None s = false
 is_number (Some number) s = is_this s (Some number.serial)
 
--- A job that is left to its owner is seated in the pipe of the owner's session; or the owner has its note to deliver, or is gone.
+-- A job that is left to its owner is seated in the pipe of the owner's session; or the owner has its note to deliver.
 abbrev pub IsMet : Owner → ℕ → Type 0
-IsMet owner s = (is_number (seated_in owner.session) s ≡ true) ⊎ ((is_number (note_at owner.stage) s ≡ true) ⊎ (is_gone owner.stage ≡ true))
+IsMet owner s = (is_number (seated_in owner.session) s ≡ true) ⊎ (is_number (note_at owner.stage) s ≡ true)
 
+-- Each owner meets the jobs that are left to it.
 abbrev pub Crossed : Parts → List Moment → Type 0
 Crossed w past =
     (h s : ℕ) (owner : Owner) → slice_get w.owners h ≡ Some owner → holder past s ≡ Some (ByOwner h) → is_left past s ≡ true → IsMet owner s
@@ -129,6 +131,7 @@ moment new step e = record { step = step; event = record e { owner = owner_of ne
 
 -- ---- all of it
 
+-- The parts hang together with what was seen: the crew, the tasks, the owners, the rows, the marks, and who waits for whom.
 pub record Tied (setting : ℕ) (plan : List Bool) (w : Parts) (past : List Moment) : Type 0 where
   pub crewed : CrewHolds setting plan w.crew past
   pub tasked : Tasked w.tasks past

@@ -1,12 +1,17 @@
-//! A session whose job is dropped beside its owner, which no pool does by itself: a job type of the test's own lets its job go.
+//! Sessions whose job is dropped beside its owner, which no pool does by itself: a job type of the test's own lets its job go.
 use crate::reader::Given::{Bytes, Stops as Stop};
 use crate::reader::Planned;
 use crate::scene::Sight::Waits;
 use crate::scene::Step::{GoOn, Goes, Poll, PollReader, Rests, Stops, Wakes};
-use crate::scene::{Row, first_wrong_in};
-use blocking::{Executor, Host, ReadJob, Runtime};
+use crate::scene::{Row, first_wrong_in, rests};
+use crate::writer::{Page, Plan, PlannedWriter, Taken};
+use crate::writes::{ALL, woken};
+use blocking::{AsyncWrite, Executor, Host, ReadJob, Runtime, Unblock, WriteJob};
 use blocking_core::pool::{Carries, Job, JobNo, JobStep};
+use futures::task::Poll as Polled;
+use futures::test::MockTask;
 use std::io;
+use std::sync::Arc;
 use std::test::Fail;
 
 // A job that is dropped after so many steps.
@@ -16,7 +21,7 @@ struct Cut<J: Job> {
     left: u32,
 }
 
-// It has found room, and has read.
+// It has found room, and has read; or it has looked at the pipe, and has written.
 const STEPS: u32 = 2;
 
 impl<J: Job> Carries<J> for Cut<J> {
@@ -88,5 +93,44 @@ fn first_wrong_of_cut<H: Host + Print>(rt: H) -> io::Result<Option<usize>> {
 #[test]
 fn dropped_job_wakes_its_owner(rt: HostRuntime) -> Result<(), Fail> {
     assert_eq!(rt; first_wrong_of_cut(rt)?, None);
+    Ok(())
+}
+
+type CutWriter<H> = Cut<WriteJob<PlannedWriter<H>, H>>;
+
+// Whether the owner of a dropped writing job waits for its flush until the job is dropped, and the worker goes on.
+fn wakes_its_owner<H: Host>(rt: H) -> io::Result<bool> {
+    let Ok(executor) = Executor::<CutWriter<H>, H>::new(rt, Some("1")) else {
+        return Err(io::Error::from(io::ErrorKind::Other));
+    };
+    let page = Arc::new(rt.alloc(), Page::new(rt.alloc()))?;
+    let plan = Plan {
+        writes: &[Taken::Stops],
+        ..ALL
+    };
+    let writer = PlannedWriter::new(rt, Arc::try_clone(&page)?, plan);
+    let mut owner = Unblock::<_, (), CutWriter<H>, H>::with_capacity(
+        4,
+        executor.try_clone()?,
+        writer,
+    );
+    let mut mock = MockTask::new(&rt)?;
+    let wrote = mock.enter(|cx| owner.poll_write(cx, b"ab"));
+    if !matches!(wrote, Polled::Ready(Ok(2))) || !page.track.stops() {
+        return Ok(false);
+    }
+    let flushed = mock.enter(|cx| owner.poll_flush(cx));
+    page.track.go_on();
+    Ok(
+        matches!(flushed, Polled::Pending)
+            && page.track.goes()
+            && woken(&mock)
+            && rests(&executor, 1),
+    )
+}
+
+#[test]
+fn dropped_writing_job_wakes_its_owner(rt: HostRuntime) -> Result<(), Fail> {
+    assert!(rt; wakes_its_owner(rt)?);
     Ok(())
 }

@@ -21,6 +21,8 @@ mod whole;
 #[cfg(test)]
 mod whole_reads;
 #[cfg(test)]
+mod whole_writes;
+#[cfg(test)]
 mod writer;
 #[cfg(test)]
 mod writes;

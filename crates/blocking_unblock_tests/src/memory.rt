@@ -4,6 +4,9 @@ use crate::reader::Given::Bytes;
 use crate::scene::Sight::Bytes as Shows;
 use crate::scene::Step::{Begin, Debug, Read, Rests};
 use crate::scene::{Row, first_wrong};
+use crate::writer::Plan;
+use crate::writes::Sight::{Count, Done};
+use crate::writes::{self, ALL, Step as WriteStep};
 use std::test::Fail;
 
 const REFUSED: Row = Row {
@@ -30,5 +33,34 @@ fn each_piece_refused(rt: HostRuntime) -> Result<(), Fail> {
         }
     };
     assert_eq!(rt; wrong, None, "{}", REFUSED.name);
+    Ok(())
+}
+
+const REFUSED_AFTER_A_WRITE: writes::Row = writes::Row {
+    name: "a reading session that is refused after a writing one leaves the handle idle, and the next try works",
+    capacity: 4,
+    plan: Plan {
+        reads: b"pqr",
+        ..ALL
+    },
+    steps: &[
+        WriteStep::Begin(b"ab", Count(2)),
+        WriteStep::BeginRead(2, b"pq", Count(2)),
+        WriteStep::Holds(b"ab"),
+        WriteStep::BeginRead(2, b"r", Count(1)),
+        WriteStep::Flush(Done),
+    ],
+};
+
+#[test]
+fn each_piece_refused_after_a_write(rt: HostRuntime) -> Result<(), Fail> {
+    let wrong = match writes::first_wrong(rt, &REFUSED_AFTER_A_WRITE) {
+        Ok(wrong) => wrong,
+        Err(_) => {
+            println!(rt; "refused: a piece of the scene's own")?;
+            writes::first_wrong(rt, &REFUSED_AFTER_A_WRITE)?
+        }
+    };
+    assert_eq!(rt; wrong, None, "{}", REFUSED_AFTER_A_WRITE.name);
     Ok(())
 }

@@ -113,7 +113,7 @@ pub(crate) enum Given {
     Stops,
 }
 
-/// What a test and its reader share.
+/// What a test and its reader or writer share.
 #[derive(Drop)]
 pub(crate) struct Track {
     has_stopped: AtomicBool,
@@ -132,8 +132,8 @@ impl Track {
         }
     }
 
-    // (a stop that nobody ends lasts about as long as a test looks for anything)
-    fn stop(&self) {
+    /// Stops until it is let go on. (a stop that nobody ends lasts about as long as a test looks for anything)
+    pub(crate) fn stop(&self) {
         self.has_stopped.store(true, Ordering::SeqCst);
         let _ = comes(&self.may_go_on);
     }
@@ -142,12 +142,17 @@ impl Track {
         self.may_go_on.store(true, Ordering::SeqCst);
     }
 
-    /// Whether the reader comes to its stop.
+    /// Whether it comes to its stop.
     pub(crate) fn stops(&self) -> bool {
         comes(&self.has_stopped)
     }
 
-    /// Whether the reader was dropped.
+    /// Says that it was dropped.
+    pub(crate) fn leave(&self) {
+        self.is_gone.store(true, Ordering::SeqCst);
+    }
+
+    /// Whether it was dropped.
     pub(crate) fn is_gone(&self) -> bool {
         self.is_gone.load(Ordering::SeqCst)
     }
@@ -246,6 +251,6 @@ impl Drop for Planned {
             front: _,
             given: _,
         } = self;
-        track.is_gone.store(true, Ordering::SeqCst);
+        track.leave();
     }
 }

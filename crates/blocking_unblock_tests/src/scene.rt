@@ -224,7 +224,7 @@ impl<J: Job + Carries<ReadJob<Planned, H>>, H: Runtime + RandomSource + Print> S
     fn take(&mut self, place: usize, step: Step) -> io::Result<bool> {
         let alloc = self.rt.alloc();
         if let Step::Rests(workers) = step {
-            return Ok(self.rests(workers));
+            return Ok(rests(&self.executor, workers));
         }
         let Some(seen) = self.owners.get_mut(place) else {
             return Ok(false);
@@ -266,18 +266,6 @@ impl<J: Job + Carries<ReadJob<Planned, H>>, H: Runtime + RandomSource + Print> S
         }
     }
 
-    // Whether there come to be so many workers, all idle, and no job that is queued.
-    fn rests(&self, workers: usize) -> bool {
-        for _ in 0..LOOKS {
-            let counts = self.executor.counts();
-            if counts.queued == 0 && counts.idle == counts.workers && counts.workers == workers {
-                return true;
-            }
-            thread::yield_now();
-        }
-        false
-    }
-
     // The place of the first step that shows something else, if there is one.
     fn first_wrong(&mut self, steps: &[(usize, Step)]) -> io::Result<Option<usize>> {
         for (place, (owner, step)) in steps.iter().enumerate() {
@@ -287,6 +275,18 @@ impl<J: Job + Carries<ReadJob<Planned, H>>, H: Runtime + RandomSource + Print> S
         }
         Ok(None)
     }
+}
+
+/// Whether there come to be so many workers, all idle, and no job that is queued.
+pub(crate) fn rests<J: Job, H: Runtime>(executor: &Executor<J, H>, workers: usize) -> bool {
+    for _ in 0..LOOKS {
+        let counts = executor.counts();
+        if counts.queued == 0 && counts.idle == counts.workers && counts.workers == workers {
+            return true;
+        }
+        thread::yield_now();
+    }
+    false
 }
 
 /// A scene. Each step names its owner, by the place of the owner's plan.

@@ -1,9 +1,8 @@
 //! Writers of the tests: one that goes by a plan, and one of many bytes.
-use crate::reader::{Cycle, comes};
+use crate::reader::{Cycle, Track};
 use std::alloc::Global;
 use std::fmt::{Debug, Formatter};
 use std::io::{ErrorKind, Read, Write};
-use std::sync::atomic::{AtomicBool, Ordering};
 use std::sync::{Arc, Mutex, Wait};
 use std::{fmt, io};
 
@@ -14,6 +13,8 @@ pub(crate) enum Taken {
     AtMost(usize),
     /// It fails, with an error of this kind.
     Fails(ErrorKind),
+    /// It stops until it is let go on, and then does what comes next.
+    Stops,
 }
 
 /// A plan: what is done at each write and at each flush. Writes beyond its end take all, and flushes beyond it succeed.
@@ -25,29 +26,24 @@ pub(crate) struct Plan {
     pub reads: &'static [u8],
 }
 
-/// What a test and its writer share: the bytes under a lock, and whether the writer was dropped.
+/// What a test and its writer share: the bytes under a lock, and where the writer is.
 #[derive(Drop)]
 pub(crate) struct Page {
     bytes: Mutex<Vec<u8>>,
-    is_gone: AtomicBool,
+    pub track: Track,
 }
 
 impl Page {
     pub(crate) fn new(alloc: Global) -> Page {
         Page {
             bytes: Mutex::new(Vec::new(alloc)),
-            is_gone: AtomicBool::new(false),
+            track: Track::new(),
         }
     }
 
     /// Whether exactly these bytes were written.
     pub(crate) fn holds<R: Wait>(&self, rt: &R, wanted: &[u8]) -> bool {
         self.bytes.lock(rt).as_slice() == wanted
-    }
-
-    /// Whether the writer is dropped before long.
-    pub(crate) fn goes(&self) -> bool {
-        comes(&self.is_gone)
     }
 }
 
@@ -78,6 +74,10 @@ impl<R: Wait + Copy> PlannedWriter<R> {
 
 impl<R: Wait + Copy> Write for PlannedWriter<R> {
     fn write(&mut self, buf: &[u8]) -> io::Result<usize> {
+        if let Some((Taken::Stops, rest)) = self.plan.writes.split_first() {
+            self.plan.writes = rest;
+            self.page.track.stop();
+        }
         let most = match self.plan.writes.split_first() {
             None => buf.len(),
             Some((first, rest)) => {
@@ -85,6 +85,7 @@ impl<R: Wait + Copy> Write for PlannedWriter<R> {
                 match *first {
                     Taken::AtMost(most) => most,
                     Taken::Fails(kind) => return Err(io::Error::from(kind)),
+                    Taken::Stops => 0,
                 }
             }
         };
@@ -103,7 +104,7 @@ impl<R: Wait + Copy> Write for PlannedWriter<R> {
         };
         self.plan.flushes = rest;
         match *first {
-            Taken::AtMost(_) => Ok(()),
+            Taken::AtMost(_) | Taken::Stops => Ok(()),
             Taken::Fails(kind) => Err(io::Error::from(kind)),
         }
     }
@@ -133,7 +134,7 @@ impl<R: Wait + Copy> Drop for PlannedWriter<R> {
             plan: _,
             taken: _,
         } = self;
-        page.is_gone.store(true, Ordering::SeqCst);
+        page.track.leave();
     }
 }
 

@@ -1,6 +1,8 @@
 //! The worked rows of writing, on threads, over one executor of one worker whose jobs read or write.
-use self::Sight::{Count, Done, Fails, NoSession, WritesNone};
-use self::Step::{Close, Debug, Drop, Flush, Goes, Handle, Holds, Read, Write, WriteAll};
+use self::Sight::{Count, Done, Fails, WritesNone};
+use self::Step::{
+    Begin, BeginRead, Close, Debug, Drop, Flush, Goes, Handle, Holds, Read, Write, WriteAll,
+};
 use crate::both::Both;
 use crate::reader::LOOKS;
 use crate::writer::Taken::{AtMost, Fails as FailsAt};
@@ -9,7 +11,7 @@ use blocking::{
     AsyncRead, AsyncWrite, Executor, Host, IoFault, ReadJob, Runtime, Unblock, WriteJob,
 };
 use blocking_core::io::Fault;
-use blocking_core::pool::{Carries, Job};
+use blocking_core::pool::{Carries, Job, Refusal};
 use futures::task::{Context, Poll};
 use futures::test::MockTask;
 use std::alloc::{AllocGlobal, Global};
@@ -23,12 +25,16 @@ use std::{io, thread};
 #[derive(Clone, Copy)]
 pub(crate) enum Step {
     Write(&'static [u8], Sight),
+    /// The same of an idle writer. Where its session is refused, that is printed, and the owner has the handle and tries once more.
+    Begin(&'static [u8], Sight),
     /// Writes until all is taken.
     WriteAll(&'static [u8]),
     Flush(Sight),
     Close(Sight),
     /// Reads into a buffer of this size, and sees exactly these bytes; or sees a fault.
     Read(usize, &'static [u8], Sight),
+    /// The same, where the reading session may be refused once.
+    BeginRead(usize, &'static [u8], Sight),
     /// Asks for the handle, which took so many bytes.
     Handle(usize),
     /// Exactly these bytes were written.
@@ -50,8 +56,25 @@ pub(crate) enum Sight {
     Fails(ErrorKind),
     /// That a write got nothing on.
     WritesNone,
-    /// That no session could begin.
-    NoSession,
+}
+
+/// How an answer fits to what must be seen.
+#[derive(Clone, Copy)]
+pub(crate) enum Came {
+    Right,
+    Wrong,
+    /// No session could begin.
+    Refused(Refusal),
+}
+
+impl Came {
+    pub(crate) fn is_right(self) -> bool {
+        matches!(self, Came::Right)
+    }
+
+    pub(crate) fn if_right(is_right: bool) -> Came {
+        if is_right { Came::Right } else { Came::Wrong }
+    }
 }
 
 /// A row of one owner.
@@ -62,7 +85,8 @@ pub(crate) struct Row {
     pub steps: &'static [Step],
 }
 
-const ALL: Plan = Plan {
+/// A writer that takes all.
+pub(crate) const ALL: Plan = Plan {
     writes: &[],
     flushes: &[],
     reads: &[],
@@ -263,7 +287,8 @@ struct Scene<J: Job, H: Runtime> {
 // How often an owner is polled for one step.
 const WAITS: u32 = 1_000;
 
-fn woken(mock: &MockTask) -> bool {
+/// Whether the task is woken before long.
+pub(crate) fn woken(mock: &MockTask) -> bool {
     for _ in 0..LOOKS {
         if mock.is_woken() {
             return true;
@@ -273,56 +298,78 @@ fn woken(mock: &MockTask) -> bool {
     false
 }
 
-fn counted(came: Poll<Result<usize, IoFault>>, sight: Sight) -> Option<bool> {
+/// How a count fits. (none where the poll waits)
+pub(crate) fn counted(came: Poll<Result<usize, IoFault>>, sight: Sight) -> Option<Came> {
     match (came, sight) {
         (Poll::Pending, _) => None,
-        (Poll::Ready(Ok(count)), Count(wanted)) => Some(count == wanted),
-        (Poll::Ready(Err(why)), sight) => Some(is_fault(why, sight)),
-        _ => Some(false),
+        (Poll::Ready(Ok(count)), Count(wanted)) => Some(Came::if_right(count == wanted)),
+        (Poll::Ready(Err(why)), sight) => Some(failed(why, sight)),
+        _ => Some(Came::Wrong),
     }
 }
 
-fn done(came: Poll<Result<(), IoFault>>, sight: Sight) -> Option<bool> {
+/// How the answer of a flush or a close fits. (none where the poll waits)
+pub(crate) fn done(came: Poll<Result<(), IoFault>>, sight: Sight) -> Option<Came> {
     match (came, sight) {
         (Poll::Pending, _) => None,
-        (Poll::Ready(Ok(())), Done) => Some(true),
-        (Poll::Ready(Err(why)), sight) => Some(is_fault(why, sight)),
-        _ => Some(false),
+        (Poll::Ready(Ok(())), Done) => Some(Came::Right),
+        (Poll::Ready(Err(why)), sight) => Some(failed(why, sight)),
+        _ => Some(Came::Wrong),
     }
 }
 
-fn is_fault(why: IoFault, sight: Sight) -> bool {
+fn failed(why: IoFault, sight: Sight) -> Came {
     match (why, sight) {
-        (Fault::Io(error), Fails(kind)) => error.kind() == kind,
-        (Fault::WriteZero, WritesNone) => true,
-        (Fault::Refused(_), NoSession) => true,
-        _ => false,
+        (Fault::Refused(why), _) => Came::Refused(why),
+        (Fault::Io(error), Fails(kind)) => Came::if_right(error.kind() == kind),
+        (Fault::WriteZero, WritesNone) => Came::Right,
+        _ => Came::Wrong,
     }
 }
 
 impl<J, H> Scene<J, H>
 where
     J: Job + Carries<ReadJob<PlannedWriter<H>, H>> + Carries<WriteJob<PlannedWriter<H>, H>>,
-    H: Host,
+    H: Host + Print,
 {
-    // Whether a poll that doesn't wait shows what it must. (none where it waits)
-    fn poll(&mut self, step: Step, buffer: &mut [u8]) -> Option<bool> {
+    // What a poll shows that doesn't wait. (none where it waits)
+    fn poll(&mut self, step: Step, buffer: &mut [u8]) -> Option<Came> {
         let Some(owner) = &mut self.owner else {
-            return Some(false);
+            return Some(Came::Wrong);
         };
         self.mock.enter(|cx| polled(owner, cx, step, buffer))
     }
 
-    fn calls(&mut self, step: Step, buffer: &mut [u8]) -> bool {
+    fn calls(&mut self, step: Step, buffer: &mut [u8]) -> Came {
         for _ in 0..WAITS {
-            if let Some(shows) = self.poll(step, buffer) {
-                return shows;
+            if let Some(came) = self.poll(step, buffer) {
+                return came;
             }
             if !woken(&self.mock) {
-                return false;
+                return Came::Wrong;
             }
         }
-        false
+        Came::Wrong
+    }
+
+    // Calls an owner whose session may be refused once.
+    fn begins(&mut self, step: Step, buffer: &mut [u8]) -> io::Result<bool> {
+        match self.calls(step, buffer) {
+            Came::Refused(why) => {
+                println!(self.rt; "refused: {why}")?;
+                Ok(self.has_handle() && self.calls(step, buffer).is_right())
+            }
+            came => Ok(came.is_right()),
+        }
+    }
+
+    // Whether the handle is with its owner, or is there at once.
+    fn has_handle(&mut self) -> bool {
+        let owner = &mut self.owner;
+        self.mock.enter(|cx| match owner {
+            Some(owner) if !owner.is_closed() => matches!(owner.poll_get_mut(cx), Poll::Ready(_)),
+            _ => false,
+        })
     }
 
     // Writes until all is taken.
@@ -358,10 +405,18 @@ where
     fn take(&mut self, step: Step) -> io::Result<bool> {
         let alloc = self.rt.alloc();
         match step {
-            Write(_, _) | Flush(_) | Close(_) | Handle(_) => Ok(self.calls(step, &mut [])),
+            Write(_, _) | Flush(_) | Close(_) | Handle(_) => {
+                Ok(self.calls(step, &mut []).is_right())
+            }
+            Begin(_, _) => self.begins(step, &mut []),
             Read(size, bytes, _) => {
                 let mut buffer = vec![in alloc; 0u8; size]?;
-                Ok(self.calls(step, &mut buffer) && buffer.get(..bytes.len()) == Some(bytes))
+                let came = self.calls(step, &mut buffer);
+                Ok(came.is_right() && buffer.get(..bytes.len()) == Some(bytes))
+            }
+            BeginRead(size, bytes, _) => {
+                let mut buffer = vec![in alloc; 0u8; size]?;
+                Ok(self.begins(step, &mut buffer)? && buffer.get(..bytes.len()) == Some(bytes))
             }
             WriteAll(bytes) => Ok(self.writes_all(bytes)),
             Holds(bytes) => Ok(self.page.holds(&self.rt, bytes)),
@@ -370,7 +425,7 @@ where
                 self.owner = None;
                 Ok(true)
             }
-            Goes => Ok(self.page.goes()),
+            Goes => Ok(self.page.track.goes()),
         }
     }
 }
@@ -381,27 +436,27 @@ fn polled<J, H>(
     cx: &mut Context<'_>,
     step: Step,
     buffer: &mut [u8],
-) -> Option<bool>
+) -> Option<Came>
 where
     J: Job + Carries<ReadJob<PlannedWriter<H>, H>> + Carries<WriteJob<PlannedWriter<H>, H>>,
-    H: Host,
+    H: Host + Print,
 {
     match step {
         Flush(sight) => done(owner.poll_flush(cx), sight),
         Close(sight) => done(owner.poll_close(cx), sight),
-        _ if owner.is_closed() => Some(false),
-        Write(bytes, sight) => counted(owner.poll_write(cx, bytes), sight),
-        Read(_, _, sight) => counted(owner.poll_read(cx, buffer), sight),
+        _ if owner.is_closed() => Some(Came::Wrong),
+        Write(bytes, sight) | Begin(bytes, sight) => counted(owner.poll_write(cx, bytes), sight),
+        Read(_, _, sight) | BeginRead(_, _, sight) => counted(owner.poll_read(cx, buffer), sight),
         Handle(taken) => match owner.poll_get_mut(cx) {
-            Poll::Ready(writer) => Some(writer.taken() == taken),
+            Poll::Ready(writer) => Some(Came::if_right(writer.taken() == taken)),
             Poll::Pending => None,
         },
-        _ => Some(false),
+        _ => Some(Came::Wrong),
     }
 }
 
 /// The place of the first step of a row that shows something else than it must, if there is one.
-pub(crate) fn first_wrong<H: Host>(rt: H, row: &Row) -> io::Result<Option<usize>> {
+pub(crate) fn first_wrong<H: Host + Print>(rt: H, row: &Row) -> io::Result<Option<usize>> {
     let Ok(executor) = Executor::<Both<PlannedWriter<H>, H>, H>::new(rt, Some("1")) else {
         return Err(io::Error::from(ErrorKind::Other));
     };

@@ -8,6 +8,7 @@
 mod copies;
 mod world;
 
+pub use blocking_laws::bytes::Bytes;
 pub use blocking_laws::{
     Act, Answer, Event, HandleCall, HolderWaker, Moment, Party, Reply, Step, TaskCall, WaitEnd,
 };

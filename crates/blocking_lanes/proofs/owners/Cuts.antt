@@ -1,6 +1,7 @@
 -- What the cut of an owner says, by the tie of the owner to it.
 use Rattle.std.proofs.Common.{◌≡◌, ℕ, ◌≤◌, List, [], ◌∷◌, ◌++◌, length, append_assoc, Bool, true, false, refl, sym, ap, ◌∙◌, subst, arith, Option, Some, None}
-use Rattle.std.specs.Prelude.{◌-◌, not, drop, map, filter, is_none}
+use Rattle.std.specs.Prelude.{◌+◌, ◌-◌, ◌&&◌, not, if◌then◌else◌, drop, map, filter, is_none}
+use Rattle.std.proofs.Math.Bool.{and-false}
 use Rattle.std.proofs.Math.Seq.{drop-append_seam}
 use Rattle.blocking_core.specs.Places.{Met, Served, Waiting, Closed, drain}
 use Rattle.blocking_core.specs.Pipes.{room}
@@ -9,7 +10,7 @@ use Rattle.blocking_laws.specs.OwnerSeats.{note_of, noted, is_job_seated}
 use Rattle.blocking_laws.specs.OwnerTable.{owner_next_but_wake, next_of_owner, next_of_owner_by, deliver_first, at_back, after_back, is_at_end}
 use Rattle.blocking_laws.specs.Passed.{inside, inside_by, last_job, kind_in, room_in, was_put, gave, got, is_of_session, PassesOn}
 use Rattle.blocking_laws.specs.Places.{seen_drain}
-use Rattle.blocking_laws.specs.Seen.{own, acts_of}
+use Rattle.blocking_laws.specs.Seen.{own, acts_of, is_of_pool, is_nothing, is_some_worker}
 use Rattle.blocking_laws.specs.Sessions.{call, last_session, is_shut, capacity}
 use Rattle.blocking_laws.specs.Sessions as sessions
 use Rattle.blocking_laws.specs.declared.event.Act.{Act}
@@ -58,20 +59,37 @@ module _ (s : Session) (bytes : ℕ) (cut : List Event) (t : LastAs (Some s) byt
       seat_note true = refl
       seat_note false = refl
 
+-- no session, no job
+not_its : (e : Event) → is_of_session None e ≡ false
+not_its e = and-false (not (is_of_pool e.act) && not (is_nothing e.act) && is_some_worker e.party)
+
+no_job : (X : List Event) → filter (is_of_session None) X ≡ []
+no_job [] = refl
+no_job (e ∷ X) = by (is_of_session None e) (not_its e) (no_job X)
+  where
+    by : (b : Bool) → b ≡ false → filter (is_of_session None) X ≡ [] → (if b then e ∷ filter (is_of_session None) X else filter (is_of_session None) X) ≡ []
+    by true is none = absurd (cc)
+    by false is none = none
+
 -- what passed is what the tie says
 pub passes : (last : Option Session) (bytes : ℕ) (cut : List Event) → capacity (own cut) ≡ bytes → LastAs last bytes cut → PassesOn cut
 passes None bytes cut same t = record {
   read = (gave (last_job cut), ap (λ l. gave (last_job cut)) t.0 ∙ ap (λ l. l ++ gave (last_job cut)) (sym t.1));
   within = subst (λ l. length l ≤ capacity (own cut)) (sym (ap (λ l. inside_by (kind_in l) (own cut) (last_job cut)) t.0)) (omega arith);
+  bounded = subst (λ l. length (gave l) ≤ length (got (own cut)) + capacity (own cut))
+      (sym (ap (λ l. map (λ e. e.act) (filter (is_of_session l) cut)) t.0 ∙ ap (λ l. map (λ e. e.act) l) (no_job cut))) (omega arith);
 }
 passes (Some s) bytes cut same t =
     let within = t.lent.within in
+    let holds = t.lent.holds in
+    let bounded = t.flow.bounded in
     record {
       read = (
         s.pipe.items ++ t.flow.put.0,
         ap gave (its_job s bytes cut t) ∙ t.flow.put.1 ∙ ap (λ l. l ++ t.flow.put.0) t.flow.inside ∙ append_assoc (got (own cut)) s.pipe.items t.flow.put.0,
       );
       within = subst (λ l. length l ≤ capacity (own cut)) (sym (inside_is s bytes cut t)) (omega (arith, within, same));
+      bounded = subst (λ l. length (gave l) ≤ length (got (own cut)) + capacity (own cut)) (sym (its_job s bytes cut t)) (omega (arith, bounded, holds, same));
     }
 
 -- ---- what comes next

@@ -1,6 +1,6 @@
 -- The session of an owner after each act of its job.
 use Rattle.std.proofs.Common.{◌≡◌, ℕ, ◌<◌, ◌≤◌, ◌==◌, List, [], ◌∷◌, ◌++◌, length, length-append, append_assoc, Bool, true, false, refl, sym, ap, ◌∙◌, subst, arith, Option, None, if◌then◌else◌, inr}
-use Rattle.std.specs.Prelude.{◌||◌, nat_le, not, take, is_some}
+use Rattle.std.specs.Prelude.{◌||◌, ◌+◌, ◌-◌, nat_le, not, take, is_some}
 use Rattle.std.proofs.lemmas.Bool.{or_left, or_right, eqb-true}
 use Rattle.std.proofs.lemmas.Bool.Decides.{nat_tests}
 use Rattle.std.proofs.lemmas.List.{append-nil}
@@ -122,7 +122,7 @@ module _ (s : Session) (capacity : ℕ) (last : Option sessions.Session) (shut b
       let any = some.1 in
       record {
         lent = t.lent;
-        flow = record { closed_is = t.flow.closed_is; inside = t.flow.inside; put = t.flow.put; passed_is = (p.0, p.1, omega (arith, free)); unclosed = λ is. absurd (cc) };
+        flow = record { closed_is = t.flow.closed_is; inside = t.flow.inside; put = t.flow.put; bounded = t.flow.bounded; passed_is = (p.0, p.1, omega (arith, free)); unclosed = λ is. absurd (cc) };
         result = t.result;
         seats = record {
           job = t.seats.job;
@@ -148,6 +148,7 @@ module _ (s : Session) (capacity : ℕ) (last : Option sessions.Session) (shut b
           closed_is = t.flow.closed_is;
           inside = t.flow.inside;
           put = t.flow.put;
+          bounded = t.flow.bounded;
           passed_is = (t.flow.passed_is.0, subst (λ b. GaveAll (b || has_given_up acts) (passed_by acts)) (sym stopped) tt);
           unclosed = λ is. absurd (cc);
         };
@@ -172,7 +173,7 @@ module _ (s : Session) (capacity : ℕ) (last : Option sessions.Session) (shut b
       let full = no_room (room s.pipe) s.pipe.is_owner_open found in
       record {
         lent = record { begun = t.lent.begun; some = t.lent.some; holds = t.lent.holds; within = t.lent.within; shut_is = t.lent.shut_is };
-        flow = record { closed_is = t.flow.closed_is; inside = t.flow.inside; put = t.flow.put; passed_is = t.flow.passed_is; unclosed = t.flow.unclosed };
+        flow = record { closed_is = t.flow.closed_is; inside = t.flow.inside; put = t.flow.put; bounded = t.flow.bounded; passed_is = t.flow.passed_is; unclosed = t.flow.unclosed };
         result = t.result;
         seats = record {
           job = refl;
@@ -224,13 +225,23 @@ still content finished given_up back dropped why new r =
 longer : (put given more : List ℕ) → (rest : List ℕ) × (given ≡ put ++ rest) → (rest : List ℕ) × (given ++ more ≡ put ++ rest)
 longer put given more found = (found.0 ++ more, ap (λ l. l ++ more) found.1 ∙ append_assoc put found.0 more)
 
+-- what goes into the room that was found is bounded, where all that was given before was taken or is inside
+bounds : (given put taken items more : List ℕ) (capacity : ℕ) → given ≡ put ++ [] → put ≡ taken ++ items → length items ≤ capacity → length more ≤ capacity - length items
+    → length (given ++ more) ≤ length taken + capacity
+bounds given put taken items more capacity all inside within fits =
+    let whole : length given ≡ length taken + length items = ap (λ (l : List ℕ). length l) (all ∙ append-nil put ∙ inside) ∙ length-append taken items in
+    rw length-append (omega (arith, whole, within, fits))
+
 module _ (s : Session) (capacity : ℕ) (last : Option sessions.Session) (shut back dropped : Bool) (taken : List ℕ) (acts : List Act) (js ps ss : Bool) (most : ℕ) where
   -- what an answer leaves of a job that asks for bytes
   left : (answer : Answer) (next : JobAction) → is_over next ≡ false → is_finding next ≡ false → next_after_answer (AskBytes most) answer ≡ next → next_but_wake Reading acts ≡ AskBytes most
-      → PassedAs next (room s.pipe) s.pipe.is_job_open (shut || has_given_up acts) (passed_by (Answered answer ∷ acts))
+      → PassedAs next (room s.pipe) s.pipe.is_job_open (shut || has_given_up acts) (passed_by (Answered answer ∷ acts)) → length (carried answer) ≤ room s.pipe
       → SessionAs s capacity last shut back dropped taken acts js ps ss → SessionAs s capacity last shut back dropped taken (Answered answer ∷ acts) js ps ss
-  left answer next goes on table e passed t =
+  left answer next goes on table e passed fits t =
       let a = at s capacity last shut back dropped taken acts js ps ss (AskBytes most) e t in
+      let within = a.lent.within in
+      let holds = a.lent.holds in
+      let whole : length s.pipe.items ≤ s.pipe.capacity = omega (arith, within, holds) in
       let none = (going s.slot.content (has_finished acts) (has_given_up acts) back dropped (fault acts) a.result).stays in
       tied_at s capacity last shut back dropped taken (Answered answer ∷ acts) js ps ss next (ap (λ n. next_after_answer n answer) e ∙ table)
       (record {
@@ -239,6 +250,7 @@ module _ (s : Session) (capacity : ℕ) (last : Option sessions.Session) (shut b
           closed_is = a.flow.closed_is;
           inside = a.flow.inside;
           put = longer (was_put acts) (gave acts) (carried answer) a.flow.put;
+          bounded = bounds (gave acts) (was_put acts) taken s.pipe.items (carried answer) s.pipe.capacity a.flow.passed_is.1.0 a.flow.inside whole fits;
           passed_is = passed;
           unclosed = λ is. absurd (cc);
         };
@@ -254,11 +266,11 @@ module _ (s : Session) (capacity : ℕ) (last : Option sessions.Session) (shut b
       let p = (at s capacity last shut back dropped taken acts js ps ss (AskBytes most) e t).flow.passed_is in
       let room = p.2 in
       left (Gave (b ∷ bs)) (PutPiece (b ∷ bs)) refl refl refl e
-      (p.0, (ap (λ l. l ++ (b ∷ bs)) (p.1.0 ∙ append-nil (was_put acts)), p.1.1), grind (arith, nat_tests), refl) t
+      (p.0, (ap (λ l. l ++ (b ∷ bs)) (p.1.0 ∙ append-nil (was_put acts)), p.1.1), grind (arith, nat_tests), refl) (grind (arith, nat_tests)) t
   answers (Gave []) fits e t =
       let p = (at s capacity last shut back dropped taken acts js ps ss (AskBytes most) e t).flow.passed_is in
       left (Gave []) CloseEnd refl refl refl e
-      (p.0, gave_all (shut || has_given_up acts) (append-nil (gave acts) ∙ p.1.0 ∙ append-nil (was_put acts)) (or_right (has_failure (handle_answers acts)) true refl)) t
+      (p.0, gave_all (shut || has_given_up acts) (append-nil (gave acts) ∙ p.1.0 ∙ append-nil (was_put acts)) (or_right (has_failure (handle_answers acts)) true refl)) (omega arith) t
     where
       gave_all : (b : Bool) → gave acts ++ [] ≡ was_put acts → has_failure (handle_answers acts) || true ≡ true → GaveAll b (passed_by (Answered (Gave []) ∷ acts))
       gave_all true same ended = tt
@@ -266,7 +278,7 @@ module _ (s : Session) (capacity : ℕ) (last : Option sessions.Session) (shut b
   answers (Failed error) fits e t =
       let p = (at s capacity last shut back dropped taken acts js ps ss (AskBytes most) e t).flow.passed_is in
       left (Failed error) CloseEnd refl refl refl e
-      (p.0, gave_all (shut || has_given_up acts) (append-nil (gave acts) ∙ p.1.0 ∙ append-nil (was_put acts))) t
+      (p.0, gave_all (shut || has_given_up acts) (append-nil (gave acts) ∙ p.1.0 ∙ append-nil (was_put acts))) (omega arith) t
     where
       gave_all : (b : Bool) → gave acts ++ [] ≡ was_put acts → GaveAll b (passed_by (Answered (Failed error) ∷ acts))
       gave_all true same = tt
@@ -300,6 +312,7 @@ module _ (s : Session) (capacity : ℕ) (last : Option sessions.Session) (shut b
           closed_is = t.flow.closed_is;
           inside = more ∙ ap (λ l. l ++ bytes) t.flow.inside ∙ append_assoc taken s.pipe.items bytes;
           put = ([], p.1.0 ∙ sym more ∙ sym (append-nil (was_put acts ++ take (length bytes) (answered acts))));
+          bounded = t.flow.bounded;
           passed_is = (p.0, (p.1.0 ∙ sym more ∙ sym (append-nil (was_put acts ++ take (length bytes) (answered acts))), p.1.1));
           unclosed = λ is. absurd (cc);
         };
@@ -329,6 +342,7 @@ module _ (s : Session) (capacity : ℕ) (last : Option sessions.Session) (shut b
           closed_is = t.flow.closed_is;
           inside = t.flow.inside;
           put = t.flow.put;
+          bounded = t.flow.bounded;
           passed_is = (t.flow.passed_is.0, subst (λ b. GaveAll (b || has_given_up acts) (passed_by acts)) (sym stopped) tt);
           unclosed = λ is. absurd (cc);
         };
@@ -346,7 +360,7 @@ module _ (s : Session) (capacity : ℕ) (last : Option sessions.Session) (shut b
       let none = (going s.slot.content (has_finished acts) (has_given_up acts) back dropped (fault acts) t.result).stays in
       record {
         lent = record { begun = t.lent.begun; some = t.lent.some; holds = t.lent.holds; within = t.lent.within; shut_is = t.lent.shut_is };
-        flow = record { closed_is = refl; inside = t.flow.inside; put = t.flow.put; passed_is = (refl, t.flow.passed_is.1); unclosed = λ is. absurd (cc) };
+        flow = record { closed_is = refl; inside = t.flow.inside; put = t.flow.put; bounded = t.flow.bounded; passed_is = (refl, t.flow.passed_is.1); unclosed = λ is. absurd (cc) };
         result = t.result;
         seats = record {
           job = t.seats.job;
@@ -371,7 +385,7 @@ module _ (s : Session) (capacity : ℕ) (last : Option sessions.Session) (shut b
       let out = ap (λ (l : Slot (Option (Fault ℕ)) (Unit {0})). l.seat) put in
       record {
         lent = record { begun = t.lent.begun; some = t.lent.some; holds = t.lent.holds; within = t.lent.within; shut_is = t.lent.shut_is };
-        flow = record { closed_is = t.flow.closed_is; inside = t.flow.inside; put = t.flow.put; passed_is = t.flow.passed_is.1; unclosed = λ is lasts. absurd (let closed = t.flow.passed_is.0 in cc) };
+        flow = record { closed_is = t.flow.closed_is; inside = t.flow.inside; put = t.flow.put; bounded = t.flow.bounded; passed_is = t.flow.passed_is.1; unclosed = λ is lasts. absurd (let closed = t.flow.passed_is.0 in cc) };
         result = record {
           slot = subst (λ c. SlotAs c true (has_given_up acts) back (fault acts)) (sym full) (refl, none, g.lent, same);
           over_is = refl;
@@ -405,6 +419,7 @@ module _ (s : Session) (capacity : ℕ) (last : Option sessions.Session) (shut b
           closed_is = t.flow.closed_is;
           inside = t.flow.inside;
           put = t.flow.put;
+          bounded = t.flow.bounded;
           passed_is = subst (λ b. GaveAll b (passed_by acts)) (sym (or_right shut true refl)) tt;
           unclosed = λ is lasts. refl;
         };

@@ -1,5 +1,5 @@
 -- The session of an owner after each act of the owner itself.
-use Rattle.std.proofs.Common.{◌≡◌, ℕ, ◌<◌, ◌≤◌, List, [], ◌∷◌, ◌++◌, length, append_assoc, Bool, true, false, refl, sym, ap, ◌∙◌, subst, arith, Option, Some, inl}
+use Rattle.std.proofs.Common.{◌≡◌, ℕ, ◌<◌, ◌≤◌, List, [], ◌∷◌, ◌++◌, length, length-append, append_assoc, Bool, true, false, refl, sym, ap, ◌∙◌, subst, arith, Option, Some, inl}
 use Rattle.std.specs.Prelude.{◌||◌, ◌⊎◌, ◌-◌, min, max, take, drop}
 use Rattle.std.proofs.lemmas.List.{take-append-drop, length-drop, take_min, length-take}
 use Rattle.blocking_core.specs.Pipes.{room}
@@ -77,6 +77,7 @@ module _ (s : Session) (capacity : ℕ) (last : Option sessions.Session) (shut b
       closed_is = t.flow.closed_is;
       inside = t.flow.inside;
       put = t.flow.put;
+      bounded = t.flow.bounded;
       passed_is = stops (next_but_wake Reading acts) (room s.pipe) s.pipe.is_job_open (shut || has_given_up acts) (passed_by acts) t.flow.passed_is;
       unclosed = t.flow.unclosed;
     };
@@ -96,6 +97,7 @@ module _ (s : Session) (capacity : ℕ) (last : Option sessions.Session) (shut b
   takes n got found t =
       let f = front n s.pipe.items s.pipe.is_job_open s.pipe.job_seat got found in
       let within = t.lent.within in
+      let bounded = t.flow.bounded in
       let shorter : length (drop (length got.0) s.pipe.items) ≤ length s.pipe.items = simp length-drop (omega arith) in
       record {
         lent = record { begun = t.lent.begun; some = t.lent.some; holds = t.lent.holds; within = omega (arith, shorter, within); shut_is = t.lent.shut_is };
@@ -103,6 +105,7 @@ module _ (s : Session) (capacity : ℕ) (last : Option sessions.Session) (shut b
           closed_is = t.flow.closed_is;
           inside = t.flow.inside ∙ ap (λ l. taken ++ l) (sym (rejoined n s.pipe.items got.0 f.0)) ∙ sym (append_assoc taken got.0 (drop (length got.0) s.pipe.items));
           put = t.flow.put;
+          bounded = rw length-append (omega (arith, bounded));
           passed_is = more_room (next_but_wake Reading acts) (room s.pipe) (s.pipe.capacity - length (drop (length got.0) s.pipe.items)) s.pipe.is_job_open (shut || has_given_up acts) (passed_by acts)
               (omega (arith, shorter)) t.flow.passed_is;
           unclosed = t.flow.unclosed;
@@ -131,7 +134,7 @@ module _ (s : Session) (capacity : ℕ) (last : Option sessions.Session) (shut b
       → SessionAs s capacity last shut back dropped taken acts js ps ss → SessionAs (session_after_drain Waiting s) capacity last shut back dropped taken acts js true ss
   waits n found t = record {
     lent = record { begun = t.lent.begun; some = t.lent.some; holds = t.lent.holds; within = t.lent.within; shut_is = t.lent.shut_is };
-    flow = record { closed_is = t.flow.closed_is; inside = t.flow.inside; put = t.flow.put; passed_is = t.flow.passed_is; unclosed = t.flow.unclosed };
+    flow = record { closed_is = t.flow.closed_is; inside = t.flow.inside; put = t.flow.put; bounded = t.flow.bounded; passed_is = t.flow.passed_is; unclosed = t.flow.unclosed };
     result = t.result;
     seats = record {
       job = t.seats.job;
@@ -152,7 +155,7 @@ module _ (s : Session) (capacity : ℕ) (last : Option sessions.Session) (shut b
       let slot = subst (λ c. SlotAs c (has_finished acts) (has_given_up acts) back (fault acts)) found t.result.slot in
       record {
         lent = record { begun = t.lent.begun; some = t.lent.some; holds = t.lent.holds; within = t.lent.within; shut_is = t.lent.shut_is };
-        flow = record { closed_is = t.flow.closed_is; inside = t.flow.inside; put = t.flow.put; passed_is = t.flow.passed_is; unclosed = t.flow.unclosed };
+        flow = record { closed_is = t.flow.closed_is; inside = t.flow.inside; put = t.flow.put; bounded = t.flow.bounded; passed_is = t.flow.passed_is; unclosed = t.flow.unclosed };
         result = record { slot = (slot.0, slot.1); over_is = t.result.over_is; let_go = t.result.let_go };
         seats = record {
           job = t.seats.job;
@@ -171,7 +174,7 @@ module _ (s : Session) (capacity : ℕ) (last : Option sessions.Session) (shut b
       → SessionAs (session_after_look Empty s) capacity last shut back dropped taken acts js ps true
   waits_for_it found closed t = record {
     lent = record { begun = t.lent.begun; some = t.lent.some; holds = t.lent.holds; within = t.lent.within; shut_is = t.lent.shut_is };
-    flow = record { closed_is = t.flow.closed_is; inside = t.flow.inside; put = t.flow.put; passed_is = t.flow.passed_is; unclosed = t.flow.unclosed };
+    flow = record { closed_is = t.flow.closed_is; inside = t.flow.inside; put = t.flow.put; bounded = t.flow.bounded; passed_is = t.flow.passed_is; unclosed = t.flow.unclosed };
     result = t.result;
     seats = record {
       job = t.seats.job;
@@ -186,7 +189,7 @@ pub begins : (number : JobNumber) (capacity : ℕ) (dropped : Bool) → 0 < capa
     → SessionAs (new_session number capacity) capacity (Some (record { serial = number.serial; kind = Reading })) false false dropped [] [] false false false
 begins number capacity dropped some = record {
   lent = record { begun = refl; some = some; holds = refl; within = omega arith; shut_is = refl };
-  flow = record { closed_is = refl; inside = refl; put = ([], refl); passed_is = (refl, (refl, refl)); unclosed = λ is. absurd (cc) };
+  flow = record { closed_is = refl; inside = refl; put = ([], refl); bounded = omega arith; passed_is = (refl, (refl, refl)); unclosed = λ is. absurd (cc) };
   result = record { slot = (refl, refl); over_is = refl; let_go = λ is. absurd (cc) };
   seats = record {
     job = refl;

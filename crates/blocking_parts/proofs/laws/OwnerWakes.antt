@@ -1,6 +1,6 @@
 -- No wake between an owner and its job is lost: an owner that waits for a job at rest was woken.
-use Rattle.std.proofs.Common.{◌≡◌, ◌⊎◌, inl, inr, ℕ, ◌==◌, List, [], ◌∷◌, Bool, true, false, refl, sym, ap, ◌∙◌, subst, Option, Some, None}
-use Rattle.std.specs.Prelude.{◌&&◌, ◌||◌, not, slice_get}
+use Rattle.std.proofs.Common.{◌≡◌, ◌⊎◌, inl, inr, ℕ, ◌==◌, List, [], ◌∷◌, length, Bool, true, false, refl, sym, ap, ◌∙◌, subst, arith, Option, Some, None}
+use Rattle.std.specs.Prelude.{◌&&◌, ◌||◌, not, slice_get, is_some}
 use Rattle.std.specs.FinMap.{get}
 use Rattle.std.proofs.lemmas.Bool.{eq-eqb, or_left}
 use Rattle.blocking_lanes.specs.OwnerTies.{OwnerAs, LastAs, StageAs, newest_note, seat_of}
@@ -8,21 +8,24 @@ use Rattle.blocking_lanes.specs.Owners.{Owner, capacity_of, note_at}
 use Rattle.blocking_lanes.specs.Sessions.{Session}
 use Rattle.blocking_lanes.specs.declared.owner.OwnerStage.{OwnerStage}
 use Rattle.blocking_lanes.specs.declared.owner.OwnerStage.TheVariants as stage
+use Rattle.blocking_lanes.proofs.owners.Cuts.{inside_is}
 use Rattle.blocking_lanes.proofs.owners.Wakes.{not_lost, session_is_last}
 use Rattle.blocking_laws.specs.JobTable.{has_finished, has_given_up}
 use Rattle.blocking_laws.specs.Jobs.{holder, standing, is_parked, is_running, is_woken}
 use Rattle.blocking_laws.specs.OwnerSeats.{is_job_seated}
-use Rattle.blocking_laws.specs.OwnerWakes.{IsSessionOf, NoLostOwnerWake}
-use Rattle.blocking_laws.specs.Seen.{events, acts_of, cut, own}
+use Rattle.blocking_laws.specs.OwnerTable.{note_in}
+use Rattle.blocking_laws.specs.OwnerWakes.{HasNoRoom, IsSessionOf, NoLostOwnerWake, ParksRightly, is_waking, is_waking_by}
+use Rattle.blocking_laws.specs.Seen.{events, acts_of, cut, is_this, own}
 use Rattle.blocking_laws.specs.Sessions as sessions
-use Rattle.blocking_laws.specs.Sessions.{jobs_of, last_session, session}
+use Rattle.blocking_laws.specs.Sessions.{capacity, jobs_of, last_session, session}
 use Rattle.blocking_laws.specs.Turns.{turn}
 use Rattle.blocking_laws.specs.Wakes.{is_at_rest, is_waiting, was_woken}
 use Rattle.blocking_laws.specs.declared.event.Act.{Act}
-use Rattle.blocking_laws.specs.declared.event.Act.TheVariants.{Accepted, Waits}
+use Rattle.blocking_laws.specs.declared.event.Act.TheVariants.{Accepted, Got, OwnerClosed, Waits}
 use Rattle.blocking_laws.specs.declared.event.Event.{Event}
 use Rattle.blocking_laws.specs.declared.event.Moment.{Moment}
 use Rattle.blocking_laws.specs.declared.event.Party.TheVariants.{Owner as ByOwner}
+use Rattle.blocking_pool.specs.Jobs.{JobNumber}
 use Rattle.blocking_pool.specs.Lists.{is_in}
 use Rattle.blocking_parts.specs.Parts.{Parts}
 use Rattle.blocking_parts.specs.Rows.{is_at_first}
@@ -81,12 +84,52 @@ none_noted stage.Dropped X s t waits noted = cc
 -- so an owner that waits meets a job that is left to it in the pipe
 waits_met : (owner : Owner) (X : List Event) (s : ℕ) → OwnerAs owner X → is_waiting (own X) ≡ true → IsMet owner s → is_job_seated X ≡ true
 waits_met owner X s t waits (inl seat) = seated_seen owner.session (capacity_of owner) X s t.last seat
-waits_met owner X s t waits (inr (inl noted)) = absurd (none_noted owner.stage X s t.stage waits noted)
-waits_met owner X s t waits (inr (inr gone)) = absurd (never _ (t.told waits).0 gone)
+waits_met owner X s t waits (inr noted) = absurd (none_noted owner.stage X s t.stage waits noted)
+
+-- ---- why a job waits
+
+-- a job that sits in the pipe has no room there, at an open end
+seated_full : (last : Option Session) (bytes : ℕ) (X : List Event) (s : ℕ) → capacity (own X) ≡ bytes → LastAs last bytes X → is_number (seated_in last) s ≡ true → HasNoRoom X
+seated_full None bytes X s same t is = absurd cc
+seated_full (Some held) bytes X s same t is =
+    let reason = t.seats.reason.job (some_seat held.pipe.job_seat is) in
+    let full = reason.1 in
+    let within = t.lent.within in
+    let holds = t.lent.holds in
+    (t.lent.shut_is ∙ ap not reason.2, ap (λ (l : List ℕ). length l) (inside_is held bytes X t) ∙ omega (arith, full, within, holds, same))
+  where
+    some_seat : (seat : Option JobNumber) → is_number seat s ≡ true → is_some seat ≡ true
+    some_seat None is = absurd cc
+    some_seat (Some number) is = refl
+
+-- the job whose note was taken just now has a wake under way
+waking_by : (s : ℕ) (act : Act) (before : Bool) (n : ℕ) → note_in act ≡ Some n → is_this s (Some n) ≡ true → is_waking_by s act before ≡ true
+waking_by s (OwnerClosed told) before n is same = or_left (is_this s told) before (ap (is_this s) is ∙ same)
+waking_by s (Got bytes told) before n is same = or_left (is_this s told) before (ap (is_this s) is ∙ same)
+waking_by s _ before n is same = absurd cc
+
+noted_waking : (acts : List Act) (s n : ℕ) → newest_note acts ≡ Some n → is_this s (Some n) ≡ true → is_waking s acts ≡ true
+noted_waking [] s n is same = absurd cc
+noted_waking (act ∷ past) s n is same = waking_by s act (is_waking s past) n is same
+
+noted_under_way : (here : OwnerStage) (X : List Event) (s : ℕ) → StageAs here X → is_number (note_at here) s ≡ true → is_waking s (own X) ≡ true
+noted_under_way (stage.Wakes poll number) X s t noted = noted_waking (own X) s number.serial t.2 noted
+noted_under_way (stage.Rests at) X s t noted = absurd cc
+noted_under_way (stage.Polls poll) X s t noted = absurd cc
+noted_under_way stage.Dropped X s t noted = absurd cc
+
+-- so a job that is left to its owner has no room, or a wake of it is under way
+parks_met : (owner : Owner) (X : List Event) (s : ℕ) → OwnerAs owner X → is_waking s (own X) ≡ false → IsMet owner s → HasNoRoom X
+parks_met owner X s t still (inl seat) = seated_full owner.session (capacity_of owner) X s t.bytes t.last seat
+parks_met owner X s t still (inr noted) = absurd (never _ still (noted_under_way owner.stage X s t.stage noted))
 
 -- ---- all of them
 
 module _ (setting : ℕ) (plan : List Bool) (w : Parts) (past : List Moment) (t : Tied setting plan w past) where
+  -- a parked job is left to its owner
+  left_of : (s : ℕ) → is_parked (standing past s) ≡ true → is_left past s ≡ true
+  left_of s parked = or_left (is_parked (standing past s)) (is_running (standing past s) && is_waiting_in (turn past s) && not (is_woken past s)) parked
+
   -- a job at rest is over, or is seated at an owner that waits
   rests_so : (h s : ℕ) (owner : Owner) → slice_get w.owners h ≡ Some owner → holder past s ≡ Some (ByOwner h) → is_waiting (own (cut h (events past))) ≡ true → is_at_rest past s ≡ true
       → (has_finished (acts_of s (cut h (events past))) || has_given_up (acts_of s (cut h (events past))) ≡ true) ⊎ (is_job_seated (cut h (events past)) ≡ true)
@@ -95,8 +138,7 @@ module _ (setting : ℕ) (plan : List Bool) (w : Parts) (past : List Moment) (t 
       by : (b : Bool) → is_parked (standing past s) ≡ b
           → (has_finished (acts_of s (cut h (events past))) || has_given_up (acts_of s (cut h (events past))) ≡ true) ⊎ (is_job_seated (cut h (events past)) ≡ true)
       by true parked =
-          let left : is_left past s ≡ true = or_left (is_parked (standing past s)) (is_running (standing past s) && is_waiting_in (turn past s) && not (is_woken past s)) parked in
-          inr (waits_met owner (cut h (events past)) s (t.owned.each h owner found) waits (t.crossed h s owner found held left))
+          inr (waits_met owner (cut h (events past)) s (t.owned.each h owner found) waits (t.crossed h s owner found held (left_of s parked)))
       by false unparked =
           let row = held_row setting plan w past t s (ByOwner h) held in
           let over =
@@ -111,6 +153,12 @@ module _ (setting : ℕ) (plan : List Bool) (w : Parts) (past : List Moment) (t 
       let owner = owner_there setting plan w past t h s held in
       not_lost owner.0 (cut h (events past)) (t.owned.each h owner.0 owner.1) s of waits (rests_so h s owner.0 owner.1 held waits rests)
 
+  -- a parked job has reason to wait
+  parks_rightly : (h s : ℕ) → holder past s ≡ Some (ByOwner h) → ParksRightly past s (cut h (events past))
+  parks_rightly h s held parked still =
+      let owner = owner_there setting plan w past t h s held in
+      parks_met owner.0 (cut h (events past)) s (t.owned.each h owner.0 owner.1) still (t.crossed h s owner.0 owner.1 held (left_of s parked))
+
   -- no wake between an owner and its job is lost
   pub no_lost_owner_wake : NoLostOwnerWake past
-  no_lost_owner_wake = record { owners = λ h s of waits rests. inl (woken_of h s of waits rests) }
+  no_lost_owner_wake = record { owners = λ h s of waits rests. inl (woken_of h s of waits rests); jobs = parks_rightly }

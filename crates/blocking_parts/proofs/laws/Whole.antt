@@ -213,7 +213,7 @@ begins_lawful setting plan positive = record {
     owners = λ h. tt;
     tasks = λ k s held. tt;
     wakes = record { tasks = λ k s held. cc };
-    owner_wakes = record { owners = λ h s is. absurd is };
+    owner_wakes = record { owners = λ h s is. absurd is; jobs = λ h s held. absurd cc };
   };
   served = record { positive = positive; served = λ some none. absurd (some refl) };
   holding = record { passes_are = refl; turns_are = refl; jobs_are = refl };

@@ -1,4 +1,4 @@
--- Where an owner meets a job that is left to it, after each step: in the pipe's seat, by the note that it has to deliver, or gone.
+-- Where an owner meets a job that is left to it, after each step: in the pipe's seat, or by the note that it has to deliver.
 use Rattle.std.proofs.Common.{◌≡◌, ◌⊎◌, inl, inr, ℕ, List, [], ◌∷◌, length, Bool, true, false, refl, sym, ap, ◌∙◌, subst, Option, Some, None, if◌then◌else◌}
 use Rattle.std.specs.Prelude.{nat_le}
 use Rattle.blocking_core.specs.OwnerCalls.{OwnerMachine, owner_next}
@@ -17,7 +17,7 @@ use Rattle.blocking_laws.specs.declared.event.Act.{Act}
 use Rattle.blocking_laws.specs.declared.event.Act.TheVariants.{JobParked, HolderWoken}
 use Rattle.blocking_laws.specs.declared.event.Reply.{Reply as Told}
 use Rattle.blocking_laws.specs.declared.step.HandleCall.{HandleCall}
-use Rattle.blocking_lanes.specs.Owners.{Owner, Did, Worked, did, did_by, did_in, drain_did, goes_on, is_gone, is_resting, look_did, looked_as, note_at, number_in, number_of, owner_after_ask, owner_after_delivery, owner_after_drop, owner_after_give_up, owner_after_refusal, reply_as, reply_did, rests, stage_after_ask, stage_after_delivery, stage_after_drop, stage_after_refusal, without_job, worked, worked_as, worked_by, worked_in}
+use Rattle.blocking_lanes.specs.Owners.{Owner, Did, Worked, did, did_by, did_in, drain_did, goes_on, is_resting, look_did, looked_as, note_at, number_in, number_of, owner_after_ask, owner_after_delivery, owner_after_drop, owner_after_give_up, owner_after_refusal, reply_as, reply_did, rests, stage_after_ask, stage_after_delivery, stage_after_drop, stage_after_refusal, without_job, worked, worked_as, worked_by, worked_in}
 use Rattle.blocking_lanes.specs.OwnerTies.{seat_of}
 use Rattle.blocking_lanes.specs.Reads.{Progress}
 use Rattle.blocking_lanes.specs.Sessions.{Session, Work, drained, fits_in, found_put, found_room, reach, session_after_look, session_after_put, session_after_room, work_at_put, work_by}
@@ -46,18 +46,16 @@ drained_seat n (x ∷ xs) lasts seat got is = cc
 
 -- where the owner meets job s, by where it is in its polls and by its session
 abbrev MetAt : OwnerStage → Option Session → ℕ → Type 0
-MetAt here last s = (is_number (seated_in last) s ≡ true) ⊎ ((is_number (note_at here) s ≡ true) ⊎ (is_gone here ≡ true))
+MetAt here last s = (is_number (seated_in last) s ≡ true) ⊎ (is_number (note_at here) s ≡ true)
 
 -- an owner that rests, or goes on with its poll, meets it in the seat
 seat_at_rest : (at : State) (last : Option Session) (s : ℕ) → MetAt (stage.Rests at) last s → is_number (seated_in last) s ≡ true
 seat_at_rest at last s (inl seat) = seat
-seat_at_rest at last s (inr (inl note)) = absurd cc
-seat_at_rest at last s (inr (inr gone)) = absurd cc
+seat_at_rest at last s (inr note) = absurd cc
 
 seat_at_poll : (poll : OwnerMachine ℕ) (last : Option Session) (s : ℕ) → MetAt (stage.Polls poll) last s → is_number (seated_in last) s ≡ true
 seat_at_poll poll last s (inl seat) = seat
-seat_at_poll poll last s (inr (inl note)) = absurd cc
-seat_at_poll poll last s (inr (inr gone)) = absurd cc
+seat_at_poll poll last s (inr note) = absurd cc
 
 -- it is asked
 pub asked_met : (call : HandleCall) (owner : Owner) (s : ℕ) → IsMet owner s → IsMet (owner_after_ask call owner) s
@@ -81,17 +79,16 @@ delivered_met owner s other met = by owner.stage other met
   where
     by : (here : OwnerStage) → (is_number (note_at here) s ≡ true → ⊥) → MetAt here owner.session s → MetAt (stage_after_delivery here) owner.session s
     by (stage.Wakes poll note) other (inl seat) = inl seat
-    by (stage.Wakes poll note) other (inr (inl noted)) = absurd (other noted)
-    by (stage.Wakes poll note) other (inr (inr gone)) = absurd cc
+    by (stage.Wakes poll note) other (inr noted) = absurd (other noted)
     by _ other met = met
 
--- it is dropped
-pub dropped_met : (owner : Owner) (s : ℕ) → rests owner ≡ true → IsMet (owner_after_drop owner) s
-dropped_met owner s rests = by owner.stage rests
+-- it is dropped: it closes nothing, and empties no seat
+pub dropped_met : (owner : Owner) (s : ℕ) → rests owner ≡ true → IsMet owner s → IsMet (owner_after_drop owner) s
+dropped_met owner s rests met = by owner.stage rests met
   where
-    by : (here : OwnerStage) → is_resting here ≡ true → MetAt (stage_after_drop here) owner.session s
-    by (stage.Rests at) rests = inr (inr refl)
-    by _ rests = absurd cc
+    by : (here : OwnerStage) → is_resting here ≡ true → MetAt here owner.session s → MetAt (stage_after_drop here) owner.session s
+    by (stage.Rests at) rests met = inl (seat_at_rest at owner.session s met)
+    by _ rests met = absurd cc
 
 -- its poll acts
 module _ (owner : Owner) (s : ℕ) (done : Did) (poll : OwnerMachine ℕ) where
@@ -102,13 +99,13 @@ module _ (owner : Owner) (s : ℕ) (done : Did) (poll : OwnerMachine ℕ) where
       told (Some reply) does = moved (λ (d : Did). IsMet d.owner s) _ done does (inl (ap (λ o. is_number (seated_in o) s) here ∙ seat))
       told None does = absurd cc
   acts_met action.Close (Some session) here does seat =
-      moved (λ (d : Did). IsMet d.owner s) _ done does (inr (inl (ap (λ o. is_number o s) (noted_on _ session.pipe.job_seat) ∙ seat)))
+      moved (λ (d : Did). IsMet d.owner s) _ done does (inr (ap (λ o. is_number o s) (noted_on _ session.pipe.job_seat) ∙ seat))
   acts_met (action.Drain most) (Some session) here does seat = drains (drained (reach most session) session) refl does
     where
       drains : (met : Met (List ℕ × Option JobNumber)) → drained (reach most session) session ≡ met → Some (drain_did met poll session owner) ≡ Some done → IsMet done.owner s
       drains (Served got) found does =
           let same = drained_seat _ session.pipe.items session.pipe.is_job_open session.pipe.job_seat got found in
-          moved (λ (d : Did). IsMet d.owner s) _ done does (inr (inl (ap (λ o. is_number o s) (noted_on _ got.1 ∙ same) ∙ seat)))
+          moved (λ (d : Did). IsMet d.owner s) _ done does (inr (ap (λ o. is_number o s) (noted_on _ got.1 ∙ same) ∙ seat))
       drains Waiting found does = moved (λ (d : Did). IsMet d.owner s) _ done does (inl seat)
       drains Closed found does = moved (λ (d : Did). IsMet d.owner s) _ done does (inl (ap (λ o. is_number (seated_in o) s) here ∙ seat))
   acts_met action.PollSlot (Some session) here does seat = looks session.slot.content does

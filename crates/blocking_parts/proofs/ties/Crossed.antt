@@ -222,7 +222,7 @@ module _ (setting : ℕ) (plan : List Bool) (w : Parts) (past : List Moment) (t 
         other noted =
             let same : number.serial ≡ s = eqb-true number.serial s (ap (λ o. is_number o s) (sym may.1) ∙ noted) in
             left_unwoken setting plan past (moment new (step_of (Delivers g owner number)) e) laws s later told.0 (told.1.act_is ∙ ap (λ n. JobWoken n told.0) same)
-    move_met (IsDropped g owner) e new may told laws later = set_met g owner _ may.0 (λ same met. dropped_met owner s may.1)
+    move_met (IsDropped g owner) e new may told laws later = set_met g owner _ may.0 (λ same met. dropped_met owner s may.1 met)
     move_met (Begins added) e new may told laws later = still
     move_met (Calls k call task) e new may told laws later = still
     move_met (Works v job did) e new may told laws later = acts_met v job did may.1

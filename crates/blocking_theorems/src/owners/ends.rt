@@ -2,8 +2,8 @@
 ghost use Rattle.std.specs.Prelude.{◌≡◌, [], ◌∷◌, None};
 ghost use Rattle.blocking_laws.specs.Passed.{gave, was_put};
 ghost use Rattle.blocking_laws.specs.Traces.{◌▸◌, Refuses, Keeps};
-ghost use Rattle.blocking_laws.specs.OwnerTraces.{asks, polls, FirstOwnerEnds, FirstOwnerPasses};
-ghost use Rattle.blocking_laws.specs.OwnerTraces.{one_made, reader_parked, two_told, reader_done, reader_back, end_read, failed_back, all_stopped_back};
+ghost use Rattle.blocking_laws.specs.OwnerTraces.{asks, polls, given, FirstOwnerEnds, FirstOwnerPasses};
+ghost use Rattle.blocking_laws.specs.OwnerTraces.{one_made, room_found, reader_parked, two_told, reader_done, reader_back, end_read, failed_back, all_stopped_back};
 ghost use Rattle.blocking_laws.specs.declared.event.Act.TheVariants.{Got, Replied, Answered, Put};
 ghost use Rattle.blocking_laws.specs.declared.event.Reply.TheVariants.{Count};
 ghost use Rattle.blocking_laws.specs.declared.event.HolderWaker.TheVariants.{Absent};
@@ -29,7 +29,7 @@ pub fn ends()
     ensures refuses_end_after_fault { Refuses FirstOwnerEnds failed_back (polls (Replied (Count 0)) 2) }
 {}
 
-/// What an owner got is a beginning of what its reader gave.
+/// What an owner got is a beginning of what its reader gave, which is no more than that and what the pipe holds.
 pub fn passing()
     // .. / got 6162 wake 1 / .. / got 6364 / .. / got end / back / replied ok 0
     ensures accepts_session { FirstOwnerPasses end_read }
@@ -46,4 +46,7 @@ pub fn passing()
     // .. / got 6162 wake 1 / .. / asked / got 636465: more than was given
     ensures refuses_invented_bytes { Refuses (Keeps FirstOwnerPasses)
         (two_told ▸ polls (Replied (Count 2)) 2 ▸ asks (Read 3) 2) (polls (Got (99 ∷ 100 ∷ 101 ∷ []) None) 2) }
+    // .. / room 4 / answered 6162636465
+    ensures refuses_more_than_the_pipe_holds { Refuses (Keeps FirstOwnerPasses) room_found
+        (given 1 (Gave (97 ∷ 98 ∷ 99 ∷ 100 ∷ 101 ∷ []))) }
 {}

@@ -1,16 +1,23 @@
 -- The first owner keeps its law, and of any other nothing was seen.
-use Rattle.std.proofs.Common.{rules, ◌≡◌, refl, ℕ, ◌==◌, ◌&&◌, ◌||◌, Bool, true, false, cond, List, [], ◌∷◌, Option, Some, None, arith}
-use Rattle.std.specs.Prelude.{not}
+use Rattle.std.proofs.Common.{rules, ◌≡◌, refl, ℕ, ◌==◌, ◌&&◌, ◌||◌, ◌⊎◌, inl, inr, Bool, true, false, cond, List, [], ◌∷◌, length, Option, Some, None, arith}
+use Rattle.std.specs.Prelude.{not, if◌then◌else◌}
 use Rattle.std.proofs.lemmas.Bool.Decides.{nat_tests}
 use mathlib.Core.Path.{subst, sym}
-use Rattle.blocking_laws.specs.Seen.{events, cut, is_owner, is_some_worker, is_this, is_of_pool, is_nothing, is_in_cut}
+use Rattle.blocking_laws.specs.Jobs.{accepts, holder, is_parked, newcomer, standing}
+use Rattle.blocking_laws.specs.OwnerWakes.{IsNotLost, IsSessionOf, NoLostOwnerWake, ParksRightly, is_waking}
+use Rattle.blocking_laws.specs.Passed.{inside}
+use Rattle.blocking_laws.specs.Seen.{AtEveryBeginning, events, cut, own, is_owner, is_some_worker, is_this, is_of_pool, is_nothing, is_in_cut}
+use Rattle.blocking_laws.specs.Sessions.{Session, capacity, is_shut, session}
+use Rattle.blocking_laws.specs.Wakes.{is_at_rest, is_waiting, was_woken}
 use Rattle.blocking_laws.specs.OwnerLaws.{OwnerLaws}
 use Rattle.blocking_laws.specs.Traces.{◌▸◌}
 use Rattle.blocking_laws.specs.OwnerTraces.{polls, end_read, stop_back}
-use Rattle.blocking_laws.specs.declared.event.Act.TheVariants.{Replied}
+use Rattle.blocking_laws.specs.declared.event.Act.{Act}
+use Rattle.blocking_laws.specs.declared.event.Act.TheVariants.{Accepted, Replied}
 use Rattle.blocking_laws.specs.declared.event.Event.{Event}
+use Rattle.blocking_laws.specs.declared.event.Moment.{Moment}
 use Rattle.blocking_laws.specs.declared.event.Party.{Party}
-use Rattle.blocking_laws.specs.declared.event.Party.TheVariants.{Owner}
+use Rattle.blocking_laws.specs.declared.event.Party.TheVariants.{Owner, Pool}
 use Rattle.blocking_laws.specs.declared.event.Reply.TheVariants.{Handle}
 use Rattle.blocking_theorems.proofs.owners.whole.sessions.Goals as goal
 
@@ -70,6 +77,119 @@ by_first : (b : Bool) (h : ℕ) (seen : List Event) → (0 == h) ≡ b → are_f
 by_first true h seen same firsts laws = subst (λ g. OwnerLaws (cut g seen)) (is_zero h same) laws
 by_first false h seen other firsts laws = subst OwnerLaws (sym (none_of_other h seen other firsts)) tt
 
+-- ---- no wake is lost
+
+-- whether the first owner alone began sessions, with the first job alone
+abbrev is_first_job : Act → Bool
+is_first_job (Accepted s) = s == 1
+is_first_job _ = true
+
+abbrev is_only : List Moment → Bool
+is_only [] = true
+is_only (now ∷ past) = (is_first_job now.event.act && is_first (owner_in now.event.party)) && is_only past
+
+first_job : (act : Act) (s : ℕ) → accepts s act ≡ true → is_first_job act ≡ true → 1 ≡ s
+first_job (Accepted t) s accepted first = grind (arith, nat_tests)
+first_job _ s accepted first = absurd cc
+
+first_owner : (past : List Moment) (party : Party) (h : ℕ) → Some (newcomer past party) ≡ Some (Owner h) → is_first (owner_in party) ≡ true → 0 ≡ h
+first_owner past (Owner g) h new first = let same : g ≡ h = cc in grind (arith, nat_tests)
+first_owner past Pool h new first = absurd cc
+first_owner past _ h new first = absurd cc
+
+-- so it holds that job, and no other owner holds any
+held_is : (past : List Moment) (h s : ℕ) → is_only past ≡ true → holder past s ≡ Some (Owner h) → (1 ≡ s) × (0 ≡ h)
+held_is [] h s only held = absurd cc
+held_is (now ∷ past) h s only held = by (accepts s now.event.act) refl held (held_is past h s (both_are _ (is_only past) only).1)
+  where
+    first : (is_first_job now.event.act ≡ true) × (is_first (owner_in now.event.party) ≡ true)
+    first = both_are (is_first_job now.event.act) (is_first (owner_in now.event.party)) (both_are _ (is_only past) only).0
+
+    by : (b : Bool) → accepts s now.event.act ≡ b → (if b then Some (newcomer past now.event.party) else holder past s) ≡ Some (Owner h)
+        → (holder past s ≡ Some (Owner h) → (1 ≡ s) × (0 ≡ h)) → (1 ≡ s) × (0 ≡ h)
+    by true is held before = (first_job now.event.act s is first.0, first_owner past now.event.party h held first.1)
+    by false is held before = before held
+
+-- whether the first owner's session is that of the first job
+abbrev is_of_first : Option Session → Bool
+is_of_first None = true
+is_of_first (Some r) = r.serial == 1
+
+session_is : (r : Option Session) (s : ℕ) → is_of_first r ≡ true → IsSessionOf r s → 1 ≡ s
+session_is None s first of = absurd of
+session_is (Some r) s first of = grind (arith, nat_tests)
+
+-- whether the first owner doesn't wait in vain, and whether its job has reason to park
+abbrev is_told : List Moment → Bool
+is_told past =
+    not (is_waiting (own (cut 0 (events past)))) || (not (is_at_rest past 1) || (was_woken (cut 0 (events past)) || is_waking 1 (own (cut 0 (events past)))))
+
+abbrev has_reason : List Moment → Bool
+has_reason past =
+    not (is_parked (standing past 1)) || (is_waking 1 (own (cut 0 (events past)))
+    || (not (is_shut (own (cut 0 (events past)))) && (length (inside (cut 0 (events past))) == capacity (own (cut 0 (events past))))))
+
+told_by : (waits rests woken waking : Bool) → not waits || (not rests || (woken || waking)) ≡ true → waits ≡ true → rests ≡ true → (woken ≡ true) ⊎ (waking ≡ true)
+told_by true true true waking e w r = inl refl
+told_by true true false true e w r = inr refl
+told_by true true false false e w r = absurd cc
+told_by true false woken waking e w r = absurd cc
+told_by false rests woken waking e w r = absurd cc
+
+reason_by : (parked waking shut : Bool) (n m : ℕ) → not parked || (waking || (not shut && (n == m))) ≡ true → parked ≡ true → waking ≡ false → (shut ≡ false) × (n ≡ m)
+reason_by true false false n m e p w = (refl, grind (arith, nat_tests))
+reason_by true false true n m e p w = absurd cc
+reason_by true true shut n m e p w = absurd cc
+reason_by false waking shut n m e p w = absurd cc
+
+-- whether all this holds at this point, and at every beginning
+abbrev is_right : List Moment → Bool
+is_right past = (are_firsts (events past) && is_only past) && (is_of_first (session (own (cut 0 (events past)))) && (is_told past && has_reason past))
+
+abbrev are_right : List Moment → Bool
+are_right [] = is_right []
+are_right (now ∷ past) = is_right (now ∷ past) && are_right past
+
+module _ (past : List Moment) (right : is_right past ≡ true) where
+  firsts : (are_firsts (events past) ≡ true) × (is_only past ≡ true)
+  firsts = both_are (are_firsts (events past)) (is_only past) (both_are (are_firsts (events past) && is_only past) _ right).0
+
+  others : (is_of_first (session (own (cut 0 (events past)))) ≡ true) × ((is_told past && has_reason past) ≡ true)
+  others = both_are (is_of_first (session (own (cut 0 (events past))))) (is_told past && has_reason past) (both_are (are_firsts (events past) && is_only past) _ right).1
+
+  told_first : IsNotLost past 1 (cut 0 (events past))
+  told_first waits rests =
+      told_by (is_waiting (own (cut 0 (events past)))) (is_at_rest past 1) (was_woken (cut 0 (events past))) (is_waking 1 (own (cut 0 (events past))))
+      (both_are (is_told past) (has_reason past) others.1).0 waits rests
+
+  reason_first : ParksRightly past 1 (cut 0 (events past))
+  reason_first parked still =
+      reason_by (is_parked (standing past 1)) (is_waking 1 (own (cut 0 (events past)))) (is_shut (own (cut 0 (events past)))) (length (inside (cut 0 (events past))))
+      (capacity (own (cut 0 (events past)))) (both_are (is_told past) (has_reason past) others.1).1 parked still
+
+  owner_is_told : (b : Bool) (h s : ℕ) → (0 == h) ≡ b → IsSessionOf (session (own (cut h (events past)))) s → IsNotLost past s (cut h (events past))
+  owner_is_told true h s same of =
+      let zero = is_zero h same in
+      let one = session_is (session (own (cut 0 (events past)))) s others.0 (subst (λ g. IsSessionOf (session (own (cut g (events past)))) s) (sym zero) of) in
+      subst (λ g. IsNotLost past s (cut g (events past))) zero (subst (λ n. IsNotLost past n (cut 0 (events past))) one told_first)
+  owner_is_told false h s other of = absurd (subst (λ c. IsSessionOf (session (own c)) s) (none_of_other h (events past) other firsts.0) of)
+
+  none_is_lost : NoLostOwnerWake past
+  none_is_lost = record {
+    owners = λ h s of. owner_is_told (0 == h) h s refl of;
+    jobs = λ h s held.
+        (let its = held_is past h s firsts.1 held in
+        subst (λ g. ParksRightly past s (cut g (events past))) its.1 (subst (λ n. ParksRightly past n (cut 0 (events past))) its.0 reason_first));
+  }
+
+none_is_ever_lost : (past : List Moment) → are_right past ≡ true → AtEveryBeginning NoLostOwnerWake past
+none_is_ever_lost [] right = none_is_lost [] right
+none_is_ever_lost (now ∷ past) right =
+    let both = both_are (is_right (now ∷ past)) (are_right past) right in
+    (none_is_lost (now ∷ past) both.0, none_is_ever_lost past both.1)
+
+-- ---- whole sessions
+
 read_whole : OwnerLaws (cut 0 (events end_read))
 read_whole = search rules
 
@@ -83,7 +203,7 @@ returns-clause-accepts_read c = record {
   owners = λ h. by_first (0 == h) h (events end_read) refl refl read_whole;
   tasks = search rules;
   wakes = search rules;
-  owner_wakes = search rules;
+  owner_wakes = none_is_ever_lost end_read refl;
 }
 
 pub returns-clause-accepts_stop : goal.returns-clause-accepts_stop
@@ -93,5 +213,5 @@ returns-clause-accepts_stop c = record {
   owners = λ h. by_first (0 == h) h (events (stop_back ▸ polls (Replied Handle) 2)) refl refl stopped_whole;
   tasks = search rules;
   wakes = search rules;
-  owner_wakes = search rules;
+  owner_wakes = none_is_ever_lost (stop_back ▸ polls (Replied Handle) 2) refl;
 }

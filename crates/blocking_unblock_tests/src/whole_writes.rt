@@ -1,0 +1,163 @@
+//! Whole writes by futures, one after another on one writer.
+use self::Step::{Close, Flush, Holds, IsGone, Write, WriteAll};
+use crate::writer::Taken::{AtMost, Fails as FailsAt};
+use crate::writer::{Page, Plan, PlannedWriter};
+use crate::writes::Sight::{Count, Done, Fails, WritesNone};
+use crate::writes::{ALL, Came, Sight, counted, done};
+use blocking::{AsyncWriteExt, Executor, Host, Runtime, Unblock, WriteJob};
+use futures::executor::block_on;
+use futures::task::Poll;
+use std::io;
+use std::io::ErrorKind;
+use std::io::ErrorKind::{Interrupted, Other};
+use std::sync::Arc;
+use std::test::Fail;
+
+// What is written, and what of it has to be seen.
+#[derive(Clone, Copy)]
+enum Step {
+    // Once.
+    Write(&'static [u8], Sight),
+    // Until all is taken.
+    WriteAll(&'static [u8], Sight),
+    Flush(Sight),
+    Close(Sight),
+    // Exactly these bytes were written.
+    Holds(&'static [u8]),
+    // The writer was dropped, or wasn't.
+    IsGone(bool),
+}
+
+struct Row {
+    name: &'static str,
+    plan: Plan,
+    steps: &'static [Step],
+}
+
+// Each through a pipe of four bytes.
+const ROWS: &[Row] = &[
+    Row {
+        name: "one write hands on what the pipe holds, all of them wait for room",
+        plan: ALL,
+        steps: &[
+            Write(b"abcdef", Count(4)),
+            WriteAll(b"efghijklm", Done),
+            WriteAll(b"", Done),
+            Flush(Done),
+            Holds(b"abcdefghijklm"),
+            IsGone(false),
+        ],
+    },
+    Row {
+        name: "the fault for which no more is taken is told, and told once",
+        plan: Plan {
+            writes: &[FailsAt(Interrupted)],
+            ..ALL
+        },
+        steps: &[
+            WriteAll(b"abcdefgh", Fails(Interrupted)),
+            Flush(Done),
+            Holds(b""),
+            WriteAll(b"xyzabc", Done),
+            Flush(Done),
+            Holds(b"xyzabc"),
+        ],
+    },
+    Row {
+        name: "a flush tells that the writer's own failed, once",
+        plan: Plan {
+            flushes: &[FailsAt(Other)],
+            ..ALL
+        },
+        steps: &[
+            WriteAll(b"ab", Done),
+            Flush(Fails(Other)),
+            Flush(Done),
+            Holds(b"ab"),
+        ],
+    },
+    Row {
+        name: "a writer that takes nothing",
+        plan: Plan {
+            writes: &[AtMost(0)],
+            ..ALL
+        },
+        steps: &[WriteAll(b"abcdefgh", WritesNone), Flush(Done), Holds(b"")],
+    },
+    Row {
+        name: "a close writes and flushes first, and keeps a writer whose flush fails",
+        plan: Plan {
+            flushes: &[FailsAt(Other)],
+            ..ALL
+        },
+        steps: &[
+            WriteAll(b"ab", Done),
+            Close(Fails(Other)),
+            Holds(b"ab"),
+            IsGone(false),
+            WriteAll(b"c", Done),
+            Close(Done),
+            Holds(b"abc"),
+            IsGone(true),
+            Flush(Done),
+            Close(Done),
+        ],
+    },
+];
+
+type Writing<H> = WriteJob<PlannedWriter<H>, H>;
+
+// An owner, and what it shares with its writer.
+#[derive(Drop)]
+struct Scene<H: Runtime> {
+    rt: H,
+    owner: Unblock<PlannedWriter<H>, (), Writing<H>, H>,
+    page: Arc<Page>,
+}
+
+impl<H: Host> Scene<H> {
+    // Whether a step shows what it must.
+    fn take(&mut self, step: Step) -> io::Result<bool> {
+        let Scene { rt, owner, page } = self;
+        let shows = match step {
+            Flush(sight) => done(Poll::Ready(block_on(rt, owner.flush())?), sight),
+            Close(sight) => done(Poll::Ready(block_on(rt, owner.close())?), sight),
+            Holds(bytes) => Some(Came::if_right(page.holds(rt, bytes))),
+            IsGone(wanted) => Some(Came::if_right(page.track.is_gone() == wanted)),
+            _ if owner.is_closed() => None,
+            Write(bytes, sight) => counted(Poll::Ready(block_on(rt, owner.write(bytes))?), sight),
+            WriteAll(bytes, sight) => {
+                done(Poll::Ready(block_on(rt, owner.write_all(bytes))?), sight)
+            }
+        };
+        Ok(shows.is_some_and(Came::is_right))
+    }
+}
+
+// The place of the first step of a row that shows something else than it must, if there is one.
+fn first_wrong<H: Host>(rt: H, row: &Row) -> io::Result<Option<usize>> {
+    let Ok(executor) = Executor::<Writing<H>, H>::new(rt, Some("1")) else {
+        return Err(io::Error::from(ErrorKind::Other));
+    };
+    let page = Arc::new(rt.alloc(), Page::new(rt.alloc()))?;
+    let writer = PlannedWriter::new(rt, Arc::try_clone(&page)?, row.plan);
+    let mut scene = Scene {
+        rt,
+        owner: Unblock::with_capacity(4, executor, writer),
+        page,
+    };
+    for (place, step) in row.steps.iter().enumerate() {
+        if !scene.take(*step)? {
+            return Ok(Some(place));
+        }
+    }
+    Ok(None)
+}
+
+#[test]
+fn writes_are_whole(rt: HostRuntime) -> Result<(), Fail> {
+    for row in ROWS {
+        assert_eq!(rt; first_wrong(rt, row)?, None, "{}", row.name);
+    }
+    Ok(())
+}
