@@ -1,5 +1,5 @@
 //! The pool's half of a world: each kind of step of the pool is one call, and answers what is seen of it.
-ghost use Rattle.std.specs.Prelude.{◌≡◌, [], true, IfOk, OnErr};
+ghost use Rattle.std.specs.Prelude.{◌≡◌, [], true, Err, IfOk, OnErr};
 ghost use Rattle.blocking_laws.specs.Answers.{wait_act};
 ghost use Rattle.blocking_crew.specs.Moves.{Moves, NeverAsked, hand_after_take, job_of_take, act_of_take, hand_after_park, parked_act, hand_after_wait, is_stop, seen as what_is_seen, nothing as what_is_not};
 
@@ -83,6 +83,17 @@ impl Crew {
         };
         let event = seen(party, None, act, first, growth);
         Added { number, event }
+    }
+
+    /// A new job, which this party brings, is refused, since there was no memory for what it needs beside its place in the pool; or for its
+    /// number, where the numbers are used up. Nothing changes: why, and what is seen of it.
+    pub fn refuse(&self, party: Party) -> (Refusal, Event)
+        ensures { Moves NeverAsked (Add party (Err result.0)) self.now result.1 self.now }
+    {
+        let first = self.next_start();
+        let why = self.tickets.refuse();
+        let event = seen(party, None, Act::Refused(why), first, NO_GROWTH);
+        (why, event)
     }
 
     /// A started worker arrives, and gets the next number. Where there is no room for its hand, the crew is as before.

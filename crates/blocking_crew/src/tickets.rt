@@ -1,5 +1,5 @@
 //! A pool of tickets, with what is told of its growth.
-ghost use Rattle.std.specs.Prelude.{◌≡◌, ◌<◌, ◌≤◌, ◌+◌, ◌-◌, length, [], ℕ, Bool, true, false};
+ghost use Rattle.std.specs.Prelude.{◌≡◌, ◌<◌, ◌≤◌, ◌+◌, ◌-◌, length, [], ℕ, Bool, true, false, Err};
 ghost use Rattle.blocking_pool.specs.Growth.{is_due, greatest, number_after};
 ghost use Rattle.blocking_pool.specs.Counts.{limit_of};
 
@@ -35,12 +35,13 @@ pub(crate) const NO_GROWTH: Grown = Grown {
     refused: false,
 };
 
-// A pool of tickets that knows the number of its next start.
+// A pool of tickets that knows the numbers of its next start and of its next job.
 #[derive(Drop)]
 pub(crate) struct Tickets {
     pool: Pool<Ticket>,
     setting: usize,
     next_start: u64,
+    next_serial: u64,
 }
 
 // How the turn of a job that is over ends.
@@ -88,7 +89,8 @@ impl Model for Tickets {
     ghost view = { λ t. t.pool };
 
     ghost invariant = { λ t. (t.setting ≡ t.pool.counts.setting)
-        × (t.next_start ≡ t.pool.counts.next_worker) };
+        × (t.next_start ≡ t.pool.counts.next_worker)
+        × (t.next_serial ≡ t.pool.next_serial) };
 }
 
 // The workers of a pool before a call that lets it grow, and the limit that the growth goes by.
@@ -104,7 +106,8 @@ impl Tickets {
     ghost use Rattle.blocking_pool.specs.Pools.{IsSound, without_job};
     ghost use Rattle.blocking_pool.specs.Counts.{after_limit};
     ghost use Rattle.blocking_crew.specs.Closing.{NoneDue, PassesOver};
-    ghost use Rattle.blocking_crew.specs.Tickets.{AddsTo, TakesTo, Wakes, Cancels, AreValued, to_sweep, SweepsTo, SweepsIf, WaitsSo, ParksSo, pool_after_mark, pool_after_let_go};
+    ghost use Rattle.blocking_crew.specs.Moves.{NeverAsked};
+    ghost use Rattle.blocking_crew.specs.Tickets.{AddsTo, no_growth, TakesTo, Wakes, Cancels, AreValued, to_sweep, SweepsTo, SweepsIf, WaitsSo, ParksSo, pool_after_mark, pool_after_let_go};
 
     // A pool with no job and no worker.
     pub(crate) fn new(alloc: Global, setting: Option<&str>) -> Tickets
@@ -114,6 +117,7 @@ impl Tickets {
             pool: Pool::new(alloc, setting),
             setting: max_threads(setting),
             next_start: 1,
+            next_serial: 1,
         }
     }
 
@@ -145,6 +149,7 @@ impl Tickets {
                 let ready = self.pool.queue_len();
                 let growth = growth_since(&self.pool, before, ready);
                 self.next_start = next_after(self.next_start, growth);
+                self.next_serial += 1;
                 (Ok(number), growth)
             }
             Err(refused) => match refused.why {
@@ -157,6 +162,16 @@ impl Tickets {
                 why => (Err(why), NO_GROWTH),
             },
         }
+    }
+
+    // Why a new job is refused that found no memory before it came to the pool.
+    pub(crate) fn refuse(&self) -> Refusal
+        ensures { AddsTo NeverAsked self.now (Err result) no_growth self.now }
+    {
+        if self.next_serial == u64::MAX {
+            return Refusal::Numbers;
+        }
+        Refusal::Memory
     }
 
     // A worker takes the front job.

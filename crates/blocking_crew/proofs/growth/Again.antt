@@ -32,6 +32,9 @@ module _ (asking : Asking) (old new : JobPool) (serials : List ℕ) (seen : Grow
   pub again_setting : new.counts.setting ≡ old.counts.setting
   again_setting = ap (λ (p : JobPool). p.counts.setting) again.after_is ∙ ap (λ (c : Counts). c.setting) again_reads.counts
 
+  pub again_serial : new.next_serial ≡ old.next_serial
+  again_serial = ap (λ (p : JobPool). p.next_serial) again.after_is
+
   pub enters_again : EntersAgain asking.may_answer old serials seen new
   enters_again = record { starts = again_reads.starts; after_is = again.after_is ∙ ap (after_requeue old serials) again_reads.counts }
 
@@ -40,6 +43,7 @@ pub record GrewSo (old : JobPool) (seen : Growth) (new : JobPool) : Type 0 where
   pub numbers : old.counts.next_worker ≤ greatest → old.counts.next_worker + seen.started ≤ greatest
   pub next : new.counts.next_worker ≡ number_after (old.counts.next_worker + seen.started) seen.refused
   pub setting : new.counts.setting ≡ old.counts.setting
+  pub serial : new.next_serial ≡ old.next_serial
 
 module _ (asking : Asking) (inside old new : JobPool) (number : JobNumber) (woke : Woke) (seen : Growth)
     (same : inside ≡ old) (entered_is : woke ≡ Entered)
@@ -56,6 +60,7 @@ module _ (asking : Asking) (inside old new : JobPool) (number : JobNumber) (woke
       numbers = again_numbers asking old new (number.serial ∷ []) seen woke_here.effect read;
       next = again_next asking old new (number.serial ∷ []) seen woke_here.effect read;
       setting = again_setting asking old new (number.serial ∷ []) seen woke_here.effect read;
+      serial = again_serial asking old new (number.serial ∷ []) seen woke_here.effect read;
     }
 
     pub woke_so : Wakes asking.may_answer old number Entered seen new
@@ -73,6 +78,7 @@ module _ (asking : Asking) (inside old new : JobPool) (number : JobNumber) (woke
       numbers = again_numbers asking (with_job old number.serial entry_after_cancel) new (number.serial ∷ []) seen cancelled_here.effect read;
       next = again_next asking (with_job old number.serial entry_after_cancel) new (number.serial ∷ []) seen cancelled_here.effect read;
       setting = again_setting asking (with_job old number.serial entry_after_cancel) new (number.serial ∷ []) seen cancelled_here.effect read;
+      serial = again_serial asking (with_job old number.serial entry_after_cancel) new (number.serial ∷ []) seen cancelled_here.effect read;
     }
 
     pub cancelled_so : Cancels asking.may_answer old number Entered seen new

@@ -154,3 +154,6 @@ module _ (asking : Asking) (inside old new : JobPool) (why : Refusal) (seen : Gr
 
   pub unstaffed_setting : new.counts.setting ≡ old.counts.setting
   unstaffed_setting = ap (λ (p : JobPool). p.counts.setting) finds.after_is ∙ ap (λ (c : Counts). c.setting) unstaffed_reads.counts
+
+  pub unstaffed_serial : new.next_serial ≡ old.next_serial
+  unstaffed_serial = ap (λ (p : JobPool). p.next_serial) finds.after_is

@@ -18,7 +18,7 @@ use Rattle.blocking_laws.specs.Seen.{joined}
 use Rattle.blocking_crew.specs.Closing.{NoneDue}
 use Rattle.blocking_crew.specs.Tickets.{JobPool, SweepsTo, SweepsIf, WaitsSo, no_growth, is_valued, AreValued, to_sweep, is_due_to_sweep, is_marked_ticket}
 use Rattle.blocking_crew.specs.declared.ticket.Ticket.{Ticket}
-use Rattle.blocking_crew.proofs.growth.Again.{GrewSo, again_numbers, again_next, again_setting, enters_again}
+use Rattle.blocking_crew.proofs.growth.Again.{GrewSo, again_numbers, again_next, again_setting, again_serial, enters_again}
 use Rattle.blocking_crew.proofs.jobs.Kept.{AreKept, all_kept, requeued_kept, stay_valued, swept_parked, none_due, sweeps_nothing}
 use Rattle.blocking_crew.proofs.growth.Reads.{is_marked_so, IsRead}
 
@@ -88,6 +88,7 @@ some_again asking old new (serial ∷ serials) seen some read effect = record {
         numbers = again_numbers asking old new (serial ∷ serials) seen effect read;
         next = again_next asking old new (serial ∷ serials) seen effect read;
         setting = again_setting asking old new (serial ∷ serials) seen effect read;
+        serial = again_serial asking old new (serial ∷ serials) seen effect read;
       };
   sweeps = enters_again asking old new (serial ∷ serials) seen effect read;
 }
@@ -143,15 +144,16 @@ pub waits_after_sweep : (asking : Asking) (timed_out : Bool) (inside between new
 waits_after_sweep asking timed_out inside between new waited same valued none waits =
     subst (λ (p : JobPool). StaysOrStops timed_out p waited new) (sweeps_if_nothing asking timed_out inside between waits.between same valued none waits.sweep) waits.answer
 
--- what a wait leaves of the jobs and the counts
+-- what a wait leaves of the jobs, the counts and the numbers
 pub record KeptByWait (old new : JobPool) : Type 0 where
   pub jobs : new.jobs ≡ old.jobs
   pub setting : new.counts.setting ≡ old.counts.setting
   pub next : new.counts.next_worker ≡ old.counts.next_worker
+  pub serial : new.next_serial ≡ old.next_serial
 
 pub wait_keeps : (timed_out : Bool) (old new : JobPool) (waited : Waited) → StaysOrStops timed_out old waited new → KeptByWait old new
-wait_keeps timed_out old new (Stay pass) answer = rw answer.1 (record { jobs = refl; setting = refl; next = refl })
-wait_keeps timed_out old new Stop answer = rw answer.1 (record { jobs = refl; setting = refl; next = refl })
+wait_keeps timed_out old new (Stay pass) answer = rw answer.1 (record { jobs = refl; setting = refl; next = refl; serial = refl })
+wait_keeps timed_out old new Stop answer = rw answer.1 (record { jobs = refl; setting = refl; next = refl; serial = refl })
 
 pub none_due_in : (old new : JobPool) → new.jobs ≡ old.jobs → NoneDue old → NoneDue new
 none_due_in old new same none s = ap (λ (jobs : Jobs Ticket). is_due_to_sweep (map.get jobs s)) same ∙ none s

@@ -21,6 +21,10 @@ let_go_alone pool (Some number) = mark_alone pool number (value_at (job_of pool.
 pub marked_counts : (pool : JobPool) (number : JobNumber) → (pool_after_mark pool number).counts ≡ pool.counts
 marked_counts pool number = ap (λ (p : JobPool). p.counts) (mark_alone pool number (value_at (job_of pool.jobs number)))
 
+-- and the next serial
+pub marked_serial : (pool : JobPool) (number : JobNumber) → (pool_after_mark pool number).next_serial ≡ pool.next_serial
+marked_serial pool number = ap (λ (p : JobPool). p.next_serial) (mark_alone pool number (value_at (job_of pool.jobs number)))
+
 -- a value that was lent and marked
 pub lent_marked : (inside old last : JobPool) (number : JobNumber) (lent : Option (MutBor Ticket)) (job : MutBor Ticket) → inside ≡ old → lent ≡ Some job
     → OnSome lent (last ≡ with_job inside number.serial (entry_with (ticket_after_mark job.now)))

@@ -3,7 +3,7 @@ use Rattle.blocking_pool.specs.Counts.{limit_of}
 use Rattle.blocking_pool.specs.Starters.{asked}
 use Rattle.blocking_crew.specs.Tickets.{JobPool}
 use Rattle.blocking_crew.proofs.growth.Reads.{IsRead, read_as}
-use Rattle.blocking_crew.proofs.growth.Entries.{accepts, entered_numbers, finds_no_worker, unstaffed_next, unstaffed_setting}
+use Rattle.blocking_crew.proofs.growth.Entries.{accepts, entered_numbers, finds_no_worker, unstaffed_next, unstaffed_setting, unstaffed_serial}
 use Rattle.blocking_crew.proofs.tickets.Tickets.add.Goals as goal
 
 pub next_after-self-inside-requires : goal.next_after-self-inside-requires
@@ -41,7 +41,8 @@ invariant_of-self-in-NoWorker g c =
     let next : c.self.inside.next_start ≡ old.counts.next_worker = c.self.invariant.1 ∙ ap (λ (p : JobPool). p.counts.next_worker) c.self.view_is in
     let setting = unstaffed_setting (asked g.S.Starter c.args.starter.now c.add.new.starter) c.self.inside.pool old new c.in-Err.refused.why seen c.growth_since-growth-in-NoWorker.ensures.order c.self.view_is c.in-NoWorker.is c.in-Err.ensures.answer.1 (read_there g c) in
     let number = unstaffed_next (asked g.S.Starter c.args.starter.now c.add.new.starter) c.self.inside.pool old new c.in-Err.refused.why seen c.growth_since-growth-in-NoWorker.ensures.order c.self.view_is c.in-NoWorker.is c.in-Err.ensures.answer.1 (read_there g c) in
-    (cc (c.self.invariant.0, setting, c.self.view_is), cc (c.next_after-self-inside-in-NoWorker.ensures, number, next))
+    let serial = unstaffed_serial (asked g.S.Starter c.args.starter.now c.add.new.starter) c.self.inside.pool old new c.in-Err.refused.why seen c.growth_since-growth-in-NoWorker.ensures.order c.self.view_is c.in-NoWorker.is c.in-Err.ensures.answer.1 (read_there g c) in
+    (cc (c.self.invariant.0, setting, c.self.view_is), cc (c.next_after-self-inside-in-NoWorker.ensures, number, next), cc (c.self.invariant.2, serial, c.self.view_is))
 
 pub returns-in-NoWorker : goal.returns-in-NoWorker
 returns-in-NoWorker g c =

@@ -33,4 +33,5 @@ invariant_of-self g c =
     let kept = wait_keeps c.args.timed_out c.sweep_if-growth.new.self c.after_wait.new.self c.after_wait.result (answered g c) in
     let setting = ap (λ (p : JobPool). p.counts.setting) c.self.view_is in
     let next = ap (λ (p : JobPool). p.counts.next_worker) c.self.view_is in
-    (c.self.invariant.0 ∙ setting ∙ sym kept.setting, c.self.invariant.1 ∙ next ∙ sym kept.next)
+    let serial = ap (λ (p : JobPool). p.next_serial) c.self.view_is in
+    (c.self.invariant.0 ∙ setting ∙ sym kept.setting, c.self.invariant.1 ∙ next ∙ sym kept.next, c.self.invariant.2 ∙ serial ∙ sym kept.serial)

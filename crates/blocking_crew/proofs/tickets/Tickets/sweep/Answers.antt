@@ -35,8 +35,9 @@ invariant_of-self-2 g c =
     let some = sweeps_some (asked g.S.Starter c.args.starter.now c.sweep-count.new.starter) c.args.self.now c.sweep-count.new.self c.sweep-count.result c.growth_since-growth.result c.if-count-eq0.false read here in
     let setting = some.grew.setting in
     let number = some.grew.next in
+    let serial = some.grew.serial in
     let next : c.self.inside.next_start ≡ c.args.self.now.counts.next_worker = c.self.invariant.1 ∙ ap (λ (p : JobPool). p.counts.next_worker) c.self.view_is in
-    (cc (c.self.invariant.0, setting, c.self.view_is), cc (c.next_after-self-inside.ensures, number, next))
+    (cc (c.self.invariant.0, setting, c.self.view_is), cc (c.next_after-self-inside.ensures, number, next), cc (c.self.invariant.2, serial, c.self.view_is))
 
 pub returns-clause-count : goal.returns-clause-count
 returns-clause-count g c =
