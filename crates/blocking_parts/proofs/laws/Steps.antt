@@ -2,7 +2,7 @@
 use Rattle.std.proofs.Common.{◌≡◌, ℕ, ◌+◌, ◌-◌, List, length, Bool, true, false, refl, sym, ap, ◌∙◌, subst, arith, Option, Some, None, if◌then◌else◌}
 use Rattle.std.proofs.lemmas.Bool.{eqb-true}
 use Rattle.std.proofs.lemmas.Bool.Decides.{nat_tests}
-use Rattle.std.specs.Prelude.{nat_lt, not, ◌==◌, slice_set, is_some, Result, Ok, Err}
+use Rattle.std.specs.Prelude.{◌&&◌, nat_lt, slice_get, not, ◌==◌, slice_set, is_some, Result, Ok, Err}
 use Rattle.blocking_core.specs.OwnerCalls.{OwnerMachine, owner_next}
 use Rattle.blocking_core.specs.declared.unblock.OwnerAction.{OwnerAction}
 use Rattle.blocking_core.specs.declared.unblock.OwnerAction.TheVariants as action

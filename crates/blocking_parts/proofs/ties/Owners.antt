@@ -26,7 +26,7 @@ use Rattle.blocking_lanes.proofs.owners.Plain.{IsPlain}
 use Rattle.blocking_lanes.proofs.owners.Reads.{awake}
 use Rattle.blocking_lanes.proofs.ties.Holders.{accepts_no_job}
 use Rattle.blocking_laws.specs.Growth.{IsPlanned}
-use Rattle.blocking_laws.specs.JobTable.{Reading, JobAction, AskCall, AskBytes, next_but_wake, is_answer, is_over, has_given_up}
+use Rattle.blocking_laws.specs.JobTable.{Reading, JobAction, AskCall, AskBytes, OfferBytes, AskFlush, next_but_wake, is_answer, is_over, has_given_up}
 use Rattle.blocking_laws.specs.Jobs.{accepted_by, accepts, holder}
 use Rattle.blocking_laws.specs.OwnerLaws.{OwnerLaws}
 use Rattle.blocking_laws.specs.Seen.{events, acts_of, cut, is_in_cut, is_of_pool, is_nothing, is_some_worker, is_of_job, is_by_task}
@@ -94,6 +94,8 @@ its_fresh past _ is = tt
 answer_of : (a : JobAction) (answer : Answer) → is_answered_action (next_in_turn GoesOn a) answer ≡ true → is_answer a answer ≡ true
 answer_of AskCall answer is = is
 answer_of (AskBytes n) answer is = is
+answer_of (OfferBytes bytes) answer is = is
+answer_of AskFlush answer is = is
 answer_of _ answer is = absurd cc
 
 -- ---- what is seen where no owner takes a step

@@ -1,12 +1,14 @@
 //! What owners who write keep: their polls, their jobs, their pipes, and what a flush tells.
-ghost use Rattle.std.specs.Prelude.{◌≡◌, [], ◌∷◌, Some, None};
+ghost use Rattle.std.specs.Prelude.{◌≡◌, false, List, [], ◌∷◌, Some, None};
 ghost use Rattle.blocking_core.specs.declared.io.Fault.TheVariants as fault;
 ghost use Rattle.blocking_pool.specs.declared.pool.answer.Refusal.TheVariants.{Memory};
 ghost use Rattle.blocking_pool.specs.declared.pool.standing.Standing.TheVariants.{Parked};
 ghost use Rattle.blocking_laws.specs.Seen.{events, cut, own};
-ghost use Rattle.blocking_laws.specs.JobTable.{Writing, OfferBytes, AskFlush, fault as fault_of, next_of_job};
+ghost use Rattle.blocking_laws.specs.JobTable.{Writing, Peek, OfferBytes, AskFlush, fault as fault_of, next_of_job};
+ghost use Rattle.blocking_laws.specs.OwnerLaws.{Works};
 ghost use Rattle.blocking_laws.specs.OwnerWakes.{NoLostOwnerWake};
 ghost use Rattle.blocking_laws.specs.Passed.{accepted, inside, taken};
+ghost use Rattle.blocking_laws.specs.Sessions.{is_shut};
 ghost use Rattle.blocking_laws.specs.Steps.{StepLaw};
 ghost use Rattle.blocking_laws.specs.Traces.{◌▸◌, moment, Refuses, Keeps};
 ghost use Rattle.blocking_laws.specs.OwnerTraces.{asks, polls, works, given, ends, drops};
@@ -20,6 +22,7 @@ ghost use Rattle.blocking_laws.specs.WriteTraces.{one_peeked, then_done, then_ba
 ghost use Rattle.blocking_laws.specs.WriteTraces.{untold_writer, untold_write_job};
 ghost use Rattle.blocking_laws.specs.declared.event.Act.TheVariants.{Asked, Accepted, Refused, OwnerClosed, Filled, FillShut, Replied, Waits, Answered, Peeked, Drained, Ended, JobParked, JobClosed, NoAction};
 ghost use Rattle.blocking_laws.specs.declared.event.Act.TheVariants.{Taken as TakenOut};
+ghost use Rattle.blocking_laws.specs.declared.event.Event.{Event};
 ghost use Rattle.blocking_laws.specs.declared.event.HolderWaker.TheVariants.{Taken, Absent};
 ghost use Rattle.blocking_laws.specs.declared.event.Party.TheVariants.{Owner};
 ghost use Rattle.blocking_laws.specs.declared.event.Reply.TheVariants.{Okay, Count, Handle, Failed};
@@ -198,6 +201,11 @@ pub fn passing()
         (given 1 (Number 2)) }
     // .. / accepted 1 +1 / put 3
     ensures refuses_overfull_pipe { Refuses (Keeps FirstOwnerPasses) write_begun (polls (Filled 3 None) 2) }
+{}
+
+/// A job that parks where it looks at the front of its pipe found that empty, and its owner's end open.
+pub fn parking()
+    ensures beside_empty_pipe { (cut : List Event) → Works cut Peek JobParked → (inside cut ≡ []) × (is_shut (own cut) ≡ false) }
 {}
 
 /// An owner that waits for room, or for its handle, is told.
