@@ -70,7 +70,8 @@ impl Parts {
         }
     }
 
-    /// Takes a step, and answers what is seen of it. Where there is no room for what it makes, nothing is done.
+    /// Takes a step, and answers what is seen of it. Where there is no room for what it adds to a list, or for the bytes that it tells, nothing
+    /// is done. That there is none for a session is seen.
     pub fn step<S: Starter>(&mut self, step: Step, starter: &mut S) -> Result<Event, AllocError>
         ensures ok { IfOk result
             (λ e. Steps (S.may_answer starter.old) step self.old e self.new) }
@@ -181,7 +182,7 @@ impl Parts {
         }
     }
 
-    // The poll of this owner begins a session: its memory is had first.
+    // The poll of this owner begins a session: its memory is had first. Where there is none for its pipe, the crew tells the refusal.
     fn lend<S: Starter>(&mut self, place: usize, starter: &mut S) -> Result<Event, AllocError>
         requires there { place < length self.old.owners }
         requires begins { IfSome (slice_get self.old.owners place) (λ owner. next_of owner ≡ next.Begins) }
@@ -189,8 +190,10 @@ impl Parts {
             (λ e. Moves (S.may_answer starter.old) (step.Own place) self.old e self.new) }
         ensures err { OnErr result (self.new ≡ self.old) }
     {
-        let pipe = self.owners[place].pipe(self.alloc)?;
         self.rows.reserve(1)?;
+        let Ok(pipe) = self.owners[place].pipe(self.alloc) else {
+            return Ok(self.refuse(place));
+        };
         let added = self.crew.add(Party::Owner(place), starter);
         let owner = &mut self.owners[place];
         match added.number {
@@ -201,6 +204,17 @@ impl Parts {
             Err(why) => owner.refuse(why),
         }
         Ok(added.event)
+    }
+
+    // The poll of this owner begins no session, since there is no memory for one.
+    fn refuse(&mut self, place: usize) -> Event
+        requires there { place < length self.old.owners }
+        requires begins { IfSome (slice_get self.old.owners place) (λ owner. next_of owner ≡ next.Begins) }
+        ensures { Moves NeverAsked (step.Own place) self.old result self.new }
+    {
+        let (why, event) = self.crew.refuse(Party::Owner(place));
+        self.owners[place].refuse(why);
+        event
     }
 
     // The poll of this owner delivers the note that it took.

@@ -298,6 +298,27 @@ const REFUSALS: &[Row] = &[
         ..NO_SETTING
     },
     Row {
+        name: "a session without memory for its pipe is told to its owner, who rests, and nobody is started",
+        lines: &[
+            Sees(New(usize::MAX), "made 0"),
+            Sees(AskRead(0, 1), "asked"),
+            Sees(Own(0), "refused memory"),
+            IsPolled(0, true),
+            Counts(0, 0, 0, None),
+            Sees(Own(0), "replied fault refused memory"),
+            IsPolled(0, false),
+            Sees(AskMut(0), "asked"),
+            Sees(Own(0), "replied handle"),
+            Sees(New(4), "made 1"),
+            Sees(AskRead(1, 1), "asked"),
+            Sees(Own(1), "accepted 1 +1"),
+            Sees(AskRead(0, 1), "asked"),
+            Sees(Own(0), "refused memory"),
+            Counts(1, 1, 1, Some(500)),
+        ],
+        ..NO_SETTING
+    },
+    Row {
         name: "a session that is refused after another was stopped leaves the handle",
         setting: Some("1"),
         plan: &[false, true],

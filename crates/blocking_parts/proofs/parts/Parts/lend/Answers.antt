@@ -12,7 +12,7 @@ use Rattle.blocking_parts.specs.contracts.parts.Parts.{the_view}
 use Rattle.blocking_parts.proofs.moves.Steps.{lent, found_at}
 use Rattle.blocking_parts.proofs.moves.Found.{one_found}
 use Rattle.blocking_parts.proofs.parts.Parts.lend.Goals as goal
-use Rattle.blocking_parts.proofs.parts.Parts.lend.Goals.{in-Ok, in-Err}
+use Rattle.blocking_parts.proofs.parts.Parts.lend.Goals.{in-Ok-number, in-Err}
 
 pub returns-clause-ok : goal.returns-clause-ok
 returns-clause-ok g c =
@@ -25,16 +25,16 @@ returns-clause-ok g c =
     let begins : next_of old ≡ next.Begins =
     subst (λ o. IfSome o (λ (owner : Owner). next_of owner ≡ next.Begins)) found (subst (λ (p : Parts). IfSome (slice_get p.owners c.args.place) (λ (owner : Owner). next_of owner ≡ next.Begins)) (sym c.self.view_is) c.requires.begins) in
     let done : Moves may_answer (Own c.args.place) w c.add-added.result.event c.match-added.self = elim c.match-added.branch [
-      | in-Ok b ↦
+      | in-Ok-number b ↦
           subst (Moves may_answer (Own c.args.place) w c.add-added.result.event) (sym b.self-is)
           (lent may_answer w c.args.place old c.add-added.result.number b.put.new.rows.items (slice_set w.owners c.args.place b.begin.new.self) c.add-added.result.event c.add-added.new.self found begins c.add-added.ensures
-          (b.put.ensures ∙ ap (λ l. l ++ b.of_read.result ∷ []) c.reserve.ensures.items ∙ ap (λ row. w.rows ++ row ∷ []) b.of_read.ensures ∙ sym (ap (rows_after_add w.rows (λ number. read_row number c.args.place)) b.in-Ok.is))
-          (ap (slice_set w.owners c.args.place) (b.begin.ensures ∙ ap (λ pipe. owner_after_begin b.in-Ok.number pipe old) (c.in_ok-pipe.ensures ∙ ap (λ (o : Owner). empty_pipe (capacity_of o)) same))
-          ∙ sym (ap (λ a. slice_set w.owners c.args.place (owners_steps.owner_after (lent_step a) old)) b.in-Ok.is)))
+          (b.put.ensures ∙ ap (λ l. l ++ b.of_read.result ∷ []) c.reserve.ensures.items ∙ ap (λ row. w.rows ++ row ∷ []) b.of_read.ensures ∙ sym (ap (rows_after_add w.rows (λ number. read_row number c.args.place)) b.in-Ok-number.is))
+          (ap (slice_set w.owners c.args.place) (b.begin.ensures ∙ ap (λ pipe. owner_after_begin b.in-Ok-number.number pipe old) (c.in-Ok.ensures ∙ ap (λ (o : Owner). empty_pipe (capacity_of o)) same))
+          ∙ sym (ap (λ a. slice_set w.owners c.args.place (owners_steps.owner_after (lent_step a) old)) b.in-Ok-number.is)))
       | in-Err b ↦
           subst (Moves may_answer (Own c.args.place) w c.add-added.result.event) (sym b.self-is)
-          (lent may_answer w c.args.place old c.add-added.result.number c.reserve.new.self.items (slice_set w.owners c.args.place b.refuse.new.self) c.add-added.result.event c.add-added.new.self found begins c.add-added.ensures
+          (lent may_answer w c.args.place old c.add-added.result.number c.reserve.new.self.items (slice_set w.owners c.args.place b.refuse-in-Err.new.self) c.add-added.result.event c.add-added.new.self found begins c.add-added.ensures
           (c.reserve.ensures.items ∙ sym (ap (rows_after_add w.rows (λ number. read_row number c.args.place)) b.in-Err.is))
-          (ap (slice_set w.owners c.args.place) b.refuse.ensures ∙ sym (ap (λ a. slice_set w.owners c.args.place (owners_steps.owner_after (lent_step a) old)) b.in-Err.is)))
+          (ap (slice_set w.owners c.args.place) b.refuse-in-Err.ensures ∙ sym (ap (λ a. slice_set w.owners c.args.place (owners_steps.owner_after (lent_step a) old)) b.in-Err.is)))
     ] in
     rw (sym c.self.view_is) done
