@@ -5,6 +5,7 @@ use crate::writer::{Page, Plan, PlannedWriter};
 use crate::writes::Sight::{Count, Done, Fails, WritesNone};
 use crate::writes::{ALL, Came, Sight, counted, done};
 use blocking::{AsyncWriteExt, Executor, Host, Runtime, Unblock, WriteJob};
+use blocking_core::pool::{Carries, Job};
 use futures::executor::block_on;
 use futures::task::Poll;
 use std::io;
@@ -109,13 +110,13 @@ type Writing<H> = WriteJob<PlannedWriter<H>, H>;
 
 // An owner, and what it shares with its writer.
 #[derive(Drop)]
-struct Scene<H: Runtime> {
+struct Scene<J: Job, H: Runtime> {
     rt: H,
-    owner: Unblock<PlannedWriter<H>, (), Writing<H>, H>,
+    owner: Unblock<PlannedWriter<H>, (), J, H>,
     page: Arc<Page>,
 }
 
-impl<H: Host> Scene<H> {
+impl<J: Job + Carries<WriteJob<PlannedWriter<H>, H>>, H: Host> Scene<J, H> {
     // Whether a step shows what it must.
     fn take(&mut self, step: Step) -> io::Result<bool> {
         let Scene { rt, owner, page } = self;
