@@ -113,6 +113,30 @@ fn texts_of_holders(rt: HostRuntime) -> Result<(), Fail> {
 }
 
 #[test]
+fn texts_of_writing(rt: HostRuntime) -> Result<(), Fail> {
+    let data = bytes(rt.alloc(), b"xyz")?;
+    let piece = bytes(rt.alloc(), &[0, 255])?;
+    let rows = [
+        (Act::Asked(HandleCall::Write(data)), "asked"),
+        (Act::Asked(HandleCall::Flush), "asked"),
+        (Act::Asked(HandleCall::Close), "asked"),
+        (Act::Filled(2, None), "put 2"),
+        (Act::Filled(2, Some(7)), "put 2 wake 7"),
+        (Act::FillShut, "put shut"),
+        (Act::Replied(Reply::Okay), "replied ok"),
+        (Act::Peeked(piece), "peeked 2"),
+        (Act::Drained, "drained"),
+        (Act::Answered(Answer::Fine), "answered ok"),
+        (Act::Taken(1, HolderWaker::Absent), "taken 1"),
+        (Act::Taken(1, HolderWaker::Taken), "taken 1 wake owner"),
+    ];
+    for (act, text) in rows {
+        shows(rt.alloc(), act, text)?;
+    }
+    Ok(())
+}
+
+#[test]
 fn texts_of_workers(rt: HostRuntime) -> Result<(), Fail> {
     let rows = [
         (Act::Arrived(10), "arrived 10"),

@@ -20,5 +20,5 @@ nothing_there (x ∷ xs) shut e = absurd (cc)
 parks_so : (cut : List Event) → Works cut Peek JobParked → (inside cut ≡ []) × (is_shut (own cut) ≡ false)
 parks_so cut law = nothing_there (inside cut) (is_shut (own cut)) law
 
-pub returns-clause-beside_empty_pipe : goal.returns-clause-beside_empty_pipe
-returns-clause-beside_empty_pipe c = parks_so
+pub returns : goal.returns
+returns c = record { beside_empty_pipe = parks_so }
