@@ -22,7 +22,7 @@ use Rattle.blocking_laws.specs.Sessions.{capacity, jobs_of, last_session, sessio
 use Rattle.blocking_laws.specs.Turns.{turn}
 use Rattle.blocking_laws.specs.Wakes.{is_at_rest, is_waiting, was_woken}
 use Rattle.blocking_laws.specs.declared.event.Act.{Act}
-use Rattle.blocking_laws.specs.declared.event.Act.TheVariants.{Accepted, Got, OwnerClosed, Waits}
+use Rattle.blocking_laws.specs.declared.event.Act.TheVariants.{Accepted, Filled, Got, OwnerClosed, Waits}
 use Rattle.blocking_laws.specs.declared.event.Event.{Event}
 use Rattle.blocking_laws.specs.declared.event.Moment.{Moment}
 use Rattle.blocking_laws.specs.declared.event.Party.TheVariants.{Owner as ByOwner}
@@ -108,6 +108,7 @@ seated_full (Some held) bytes X s same t is =
 waking_by : (s : ℕ) (act : Act) (before : Bool) (n : ℕ) → note_in act ≡ Some n → is_this s (Some n) ≡ true → is_waking_by s act before ≡ true
 waking_by s (OwnerClosed told) before n is same = or_left (is_this s told) before (ap (is_this s) is ∙ same)
 waking_by s (Got bytes told) before n is same = or_left (is_this s told) before (ap (is_this s) is ∙ same)
+waking_by s (Filled k told) before n is same = or_left (is_this s told) before (ap (is_this s) is ∙ same)
 waking_by s _ before n is same = absurd cc
 
 noted_waking : (acts : List Act) (s n : ℕ) → newest_note acts ≡ Some n → is_this s (Some n) ≡ true → is_waking s acts ≡ true
