@@ -3,6 +3,8 @@ pub mod Calls
 pub mod Ties
 pub mod Steps
 pub mod Reads
+pub mod Writes
+pub mod SessionJobs
 pub mod Sessions
 pub mod Owners
 pub mod OwnerSteps

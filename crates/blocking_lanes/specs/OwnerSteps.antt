@@ -2,10 +2,11 @@
 -- job acts.
 use Rattle.std.specs.Prelude.{◌≡◌, ℕ, Bool, true, false, List, slice_get, slice_set, Option, Some, None}
 use Rattle.blocking_core.specs.Pipes.{empty_pipe}
-use Rattle.blocking_laws.specs.JobTable.{Reading, WakeHolder, next_of_job, next_but_wake, is_answer, is_over}
+use Rattle.blocking_laws.specs.JobTable.{Kind, WakeHolder, next_of_job, next_but_wake, is_answer, is_over}
 use Rattle.blocking_laws.specs.Jobs.{accepts, holder}
-use Rattle.blocking_laws.specs.Seen.{events, acts_of, is_in_cut, is_of_job}
-use Rattle.blocking_laws.specs.Steps.{is_known, is_making}
+use Rattle.blocking_laws.specs.Seen.{events, acts_of, cut, own, is_in_cut, is_of_job}
+use Rattle.blocking_laws.specs.Sessions.{kind_of_job}
+use Rattle.blocking_laws.specs.Steps.{is_making}
 use Rattle.blocking_laws.specs.declared.event.Act.{Act}
 use Rattle.blocking_laws.specs.declared.event.Act.TheVariants.{Made, Asked, Accepted, Refused, JobWoken, HolderDropped, Answered, HolderWoken}
 use Rattle.blocking_laws.specs.declared.event.Event.{Event}
@@ -13,8 +14,9 @@ use Rattle.blocking_laws.specs.declared.event.Moment.{Moment}
 use Rattle.blocking_laws.specs.declared.event.Party.TheVariants.{Owner as ByOwner, Task as ByTask, Worker}
 use Rattle.blocking_laws.specs.declared.step.Answer.{Answer}
 use Rattle.blocking_laws.specs.declared.step.HandleCall.{HandleCall}
-use Rattle.blocking_lanes.specs.Owners.{Owner, Did, Worked, capacity_of, rests, is_gone, note_at, next_of, did, worked, owner_after_ask, owner_after_begin, owner_after_refusal, owner_after_delivery, owner_after_drop, give_up_act, owner_after_give_up}
-use Rattle.blocking_lanes.specs.Reads.{Progress, ReadAs, action_of}
+use Rattle.blocking_lanes.specs.Owners.{Owner, Did, Worked, capacity_of, rests, may_ask, is_gone, note_at, next_of, did, worked, owner_after_ask, owner_after_begin, owner_after_refusal, owner_after_delivery, owner_after_drop, give_up_act, owner_after_give_up}
+use Rattle.blocking_lanes.specs.SessionJobs.{JobAs, kind_of, action_of}
+use Rattle.blocking_lanes.specs.declared.job.SessionJob.{SessionJob}
 use Rattle.blocking_lanes.specs.declared.owner.OwnerNext.TheVariants as next
 use Rattle.blocking_pool.specs.Growth.{Growth}
 use Rattle.blocking_pool.specs.Jobs.{JobNumber}
@@ -35,9 +37,9 @@ pub data OwnerStep : Type 0 where
   -- it is dropped
   IsDropped : OwnerStep
   -- a job of it, which is so far, takes its next action, which is its own
-  Works : Progress → OwnerStep
-  -- the reader of a job of it, which is so far, answers so
-  IsAnswered : Progress → Answer → OwnerStep
+  Works : SessionJob → OwnerStep
+  -- the handle of a job of it, which is so far, answers so
+  IsAnswered : SessionJob → Answer → OwnerStep
   -- its job gives up
   GivesUp : OwnerStep
   -- a job that gave up calls the waker that it took
@@ -61,7 +63,7 @@ abbrev pub owner_after_work : Option Worked → Owner → Owner
 owner_after_work None owner = owner
 owner_after_work (Some done) owner = done.owner
 
-abbrev pub job_after_work : Option Worked → Progress → Progress
+abbrev pub job_after_work : Option Worked → SessionJob → SessionJob
 job_after_work None job = job
 job_after_work (Some done) job = done.job
 
@@ -96,18 +98,18 @@ owner_after (IsAnswered job answer) owner = owner
 owner_after GivesUp owner = owner_after_give_up owner
 owner_after CallsWaker owner = owner
 
--- Whether there may be such a step of an owner, where its job has done this so far.
-abbrev pub MayTake : OwnerStep → Owner → List Act → Type 0
-MayTake (IsAsked call) owner acts = (is_known call ≡ true) × (rests owner ≡ true)
-MayTake Acts owner acts = Unit {0}
-MayTake (Begins number) owner acts = next_of owner ≡ next.Begins
-MayTake (IsRefused why) owner acts = next_of owner ≡ next.Begins
-MayTake (Delivers woke) owner acts = Unit {0}
-MayTake IsDropped owner acts = rests owner ≡ true
-MayTake (Works job) owner acts = ReadAs job acts
-MayTake (IsAnswered job answer) owner acts = ReadAs job acts × (is_answer (action_of job) answer ≡ true)
-MayTake GivesUp owner acts = (is_gone owner.stage ≡ true) × (is_over (next_but_wake Reading acts) ≡ false)
-MayTake CallsWaker owner acts = next_of_job Reading acts ≡ WakeHolder
+-- Whether there may be such a step of an owner, where its job is of this kind and has done this so far.
+abbrev pub MayTake : OwnerStep → Owner → Kind → List Act → Type 0
+MayTake (IsAsked call) owner kind acts = may_ask owner call ≡ true
+MayTake Acts owner kind acts = Unit {0}
+MayTake (Begins number) owner kind acts = next_of owner ≡ next.Begins
+MayTake (IsRefused why) owner kind acts = next_of owner ≡ next.Begins
+MayTake (Delivers woke) owner kind acts = Unit {0}
+MayTake IsDropped owner kind acts = rests owner ≡ true
+MayTake (Works job) owner kind acts = (kind ≡ kind_of job) × JobAs job acts
+MayTake (IsAnswered job answer) owner kind acts = (kind ≡ kind_of job) × JobAs job acts × (is_answer (action_of job) answer ≡ true)
+MayTake GivesUp owner kind acts = (is_gone owner.stage ≡ true) × (is_over (next_but_wake kind acts) ≡ false)
+MayTake CallsWaker owner kind acts = next_of_job kind acts ≡ WakeHolder
 
 -- ---- events
 
@@ -191,7 +193,7 @@ pub record TakesStep (past : List Moment) (old : List Owner) (e : Event) (new : 
   pub there : slice_get old place ≡ Some owner
   pub held : IsHeld (is_of_its_job step) past place job
   pub fresh : IsFresh step past
-  pub may : MayTake step owner (acts_of job (events past))
+  pub may : MayTake step owner (kind_of_job job (own (cut place (events past)))) (acts_of job (events past))
   pub act_is : act_of step owner ≡ Some act
   pub event_is : e ≡ event_by step place worker job act first growth
   pub after_is : new ≡ slice_set old place (owner_after step owner)

@@ -1,5 +1,5 @@
 -- How owners hang together with what was seen: each with its cut.
-use Rattle.std.specs.Prelude.{◌≡◌, ◌<◌, ◌≤◌, ◌+◌, ◌⊎◌, ◌||◌, ℕ, zero, suc, not, Bool, true, false, List, [], ◌∷◌, ◌++◌, length, slice_get, Option, Some, None, is_some, is_none}
+use Rattle.std.specs.Prelude.{◌≡◌, ◌<◌, ◌≤◌, ◌+◌, ◌⊎◌, ◌||◌, ℕ, zero, suc, not, Bool, true, false, List, [], ◌∷◌, ◌++◌, length, take, slice_get, Option, Some, None, is_some, is_none}
 use Rattle.blocking_core.specs.OwnerCalls.{OwnerMachine}
 use Rattle.blocking_core.specs.Pipes.{room}
 use Rattle.blocking_core.specs.Slots.{Content, Empty, Full, GivenUp, Abandoned}
@@ -7,20 +7,18 @@ use Rattle.blocking_core.specs.declared.io.Fault.{Fault}
 use Rattle.blocking_core.specs.declared.unblock.OwnerAction.{OwnerAction}
 use Rattle.blocking_core.specs.declared.unblock.OwnerAction.TheVariants as action
 use Rattle.blocking_core.specs.declared.unblock.OwnerEnd.TheVariants.{Open, Shut}
-use Rattle.blocking_core.specs.declared.unblock.PollCall.{PollCall}
-use Rattle.blocking_core.specs.declared.unblock.PollCall.TheVariants as poll_call
 use Rattle.blocking_core.specs.declared.unblock.Reply.{Reply}
 use Rattle.blocking_core.specs.declared.unblock.Reply.TheVariants as reply
 use Rattle.blocking_core.specs.declared.unblock.State.{State}
 use Rattle.blocking_core.specs.declared.unblock.State.TheVariants as state
-use Rattle.blocking_laws.specs.Ends.{handle_answers, has_failure, last_is_end, came_back, IsReadBack}
-use Rattle.blocking_laws.specs.JobTable.{Reading, JobAction, FindRoom, AskBytes, PutPiece, CloseEnd, Finish, Over, next_but_wake, is_over, fault, has_closed, has_finished, has_given_up}
+use Rattle.blocking_laws.specs.Ends.{handle_answers, has_failure, has_failed_write, has_flush, last_is_end, came_back, IsReadBack, IsFlushedBack}
+use Rattle.blocking_laws.specs.JobTable.{Kind, Calling, Reading, Writing, JobAction, FindRoom, AskBytes, PutPiece, Peek, OfferBytes, Consume, AskFlush, CloseEnd, Finish, Over, next_but_wake, is_over, fault, has_closed, has_finished, has_given_up}
 use Rattle.blocking_laws.specs.Jobs.{holder}
 use Rattle.blocking_laws.specs.OwnerLaws.{OwnerLaws}
 use Rattle.blocking_laws.specs.OwnerSeats.{is_job_seated, pipe_seat, slot_seat}
 use Rattle.blocking_laws.specs.OwnerTable.{owner_next_but_wake, note_in, is_at_end}
 use Rattle.blocking_laws.specs.OwnerTable as law
-use Rattle.blocking_laws.specs.Passed.{gave, got, answered, was_put, taken as written_by, is_serial}
+use Rattle.blocking_laws.specs.Passed.{gave, got, answered, was_put, data_of, accepted, peeked, taken as taken_by, removed, kind_in, is_serial}
 use Rattle.blocking_laws.specs.Seen.{IsBeginning, events, acts_of, own, cut}
 use Rattle.blocking_laws.specs.Sessions.{call, under_way, is_made, is_dropped, last_session, is_shut, jobs_of, kind_of_job, capacity}
 use Rattle.blocking_laws.specs.Sessions as sessions
@@ -31,9 +29,10 @@ use Rattle.blocking_laws.specs.declared.event.Event.{Event}
 use Rattle.blocking_laws.specs.declared.event.Moment.{Moment}
 use Rattle.blocking_laws.specs.declared.event.Party.TheVariants.{Owner as ByOwner}
 use Rattle.blocking_laws.specs.declared.event.Reply.{Reply as Told}
+use Rattle.blocking_laws.specs.declared.event.Reply.TheVariants as told
 use Rattle.blocking_laws.specs.declared.step.HandleCall.{HandleCall}
 use Rattle.blocking_laws.specs.declared.step.HandleCall.TheVariants as handle_call
-use Rattle.blocking_lanes.specs.Owners.{Owner, capacity_of, number_of, note_at, is_gone, reply_as}
+use Rattle.blocking_lanes.specs.Owners.{Owner, capacity_of, number_of, note_at, is_gone, poll_call_of, reply_as}
 use Rattle.blocking_lanes.specs.Sessions.{Session}
 use Rattle.blocking_lanes.specs.declared.owner.OwnerStage.{OwnerStage}
 use Rattle.blocking_lanes.specs.declared.owner.OwnerStage.TheVariants as stage
@@ -42,81 +41,96 @@ use Rattle.blocking_pool.specs.Lists.{is_in}
 
 -- ---- its polls
 
--- a call of the machine, in the words of the laws, which know no other call yet
-abbrev pub call_as : PollCall → Option HandleCall
-call_as (poll_call.Read most) = Some (handle_call.Read most)
-call_as poll_call.GetMut = Some handle_call.GetMut
-call_as _ = None
-
 -- the call that is being polled
-abbrev pub called_at : OwnerStage → Option HandleCall
-called_at (stage.Polls poll) = call_as poll.call
-called_at (stage.Wakes poll note) = call_as poll.call
-called_at _ = None
+abbrev pub called_at : OwnerStage → Option HandleCall → Option HandleCall
+called_at (stage.Polls poll) asked = asked
+called_at (stage.Wakes poll note) asked = asked
+called_at _ asked = None
 
--- where the handle is, in the words of the laws, which know no other state yet
-abbrev pub state_as : State → Option sessions.State
-state_as state.Idle = Some sessions.Idle
-state_as (state.Reading Open) = Some (sessions.In Reading true)
-state_as (state.Reading Shut) = Some (sessions.In Reading false)
-state_as _ = None
+-- where the handle is, in the words of the laws
+abbrev pub state_as : State → sessions.State
+state_as state.Idle = sessions.Idle
+state_as (state.Reading Open) = sessions.In Reading true
+state_as (state.Reading Shut) = sessions.In Reading false
+state_as (state.Writing Open) = sessions.In Writing true
+state_as (state.Writing Shut) = sessions.In Writing false
+state_as state.Closed = sessions.Closed
 
 -- what a poll does that is over with this reply
 abbrev pub say : Option Told → law.OwnerAction
 say None = law.Rest
 say (Some told) = law.Say told
 
--- what the machine does next, in the words of the laws; where it would deliver or wait the law has no such thing, and it knows no other
--- action yet
-abbrev pub action_as : OwnerAction ℕ → law.OwnerAction
-action_as action.Begin = law.Begin
-action_as action.Close = law.CloseOwn
-action_as (action.Drain most) = law.Drain most
-action_as action.PollSlot = law.PollSlot
-action_as (action.Reply reply) = say (reply_as reply)
-action_as _ = law.Rest
+-- What the machine does next that was asked for this, in the words of the laws. To drop its handle is to reply that all is done. Where it
+-- would deliver or wait the law has no such thing.
+abbrev pub action_as : HandleCall → OwnerAction ℕ → law.OwnerAction
+action_as call action.Begin = law.Begin
+action_as call action.Close = law.CloseOwn
+action_as call (action.Drain most) = law.Drain most
+action_as call (action.Fill most) = law.Fill (data_of (Some call))
+action_as call action.PollSlot = law.PollSlot
+action_as call action.DropHandle = law.Say told.Okay
+action_as call (action.Reply reply) = say (reply_as reply)
+action_as call _ = law.Rest
 
 -- the job whose note the newest of these acts took
 abbrev pub newest_note : List Act → Option ℕ
 newest_note [] = None
 newest_note (act ∷ past) = note_in act
 
--- a reply that tells the end comes after the handle came back from a session that was read whole
-abbrev pub EndAs : PollCall → Reply ℕ → Option (List Event) → Type 0
-EndAs (poll_call.Read (suc n)) (reply.Count zero) back = IsReadBack back
+-- a reply that tells the end of the reader, or that all is done, comes after the handle came back so
+abbrev pub EndAs : HandleCall → Reply ℕ → Option (List Event) → Type 0
+EndAs (handle_call.Read (suc n)) (reply.Count zero) back = IsReadBack back
+EndAs handle_call.Flush reply.Done back = IsFlushedBack back
+EndAs handle_call.Close reply.Done back = IsFlushedBack back
 EndAs _ _ back = Unit {0}
 
 -- who looks for the handle has closed the own end of the pipe; or reads, and saw the other end closed
-abbrev pub LooksFrom : PollCall → State → Bool → Type 0
+abbrev pub LooksFrom : HandleCall → State → Bool → Type 0
 LooksFrom call (state.Reading Shut) false = Unit {0}
-LooksFrom (poll_call.Read most) (state.Reading Open) true = Unit {0}
+LooksFrom call (state.Writing Shut) false = Unit {0}
+LooksFrom (handle_call.Read most) (state.Reading Open) true = Unit {0}
 LooksFrom _ _ _ = ⊥
 
--- What is next fits the call, where the handle is, whether the end of the pipe was just seen, and what came back in the poll. The laws know
--- no other action yet, and no other reply.
-abbrev pub FitsNext : OwnerMachine ℕ → OwnerAction ℕ → Bool → Option (List Event) → Type 0
-FitsNext poll action.Begin ended back =
-    (n : ℕ) × (poll.call ≡ poll_call.Read (suc n)) × (poll.state ≡ state.Idle) × (poll.is_at_end ≡ false)
-FitsNext poll action.Close ended back = (poll.state ≡ state.Reading Open) × (poll.is_at_end ≡ false)
-FitsNext poll (action.Drain most) ended back =
-    (poll.call ≡ poll_call.Read most) × (0 < most) × (poll.state ≡ state.Reading Open) × (poll.is_at_end ≡ false)
-FitsNext poll action.PollSlot ended back = LooksFrom poll.call poll.state poll.is_at_end × (poll.is_at_end ≡ ended)
-FitsNext poll (action.Reply reply) ended back = (is_some (reply_as reply) ≡ true) × EndAs poll.call reply back
-FitsNext poll _ ended back = ⊥
+-- a call that begins a session reads some bytes, or writes some
+abbrev pub BeginsBy : HandleCall → Type 0
+BeginsBy (handle_call.Read (suc n)) = Unit {0}
+BeginsBy (handle_call.Write (byte ∷ bytes)) = Unit {0}
+BeginsBy _ = ⊥
+
+-- the handle is with a job, and the own end of the pipe is open
+abbrev pub IsLentOpen : State → Type 0
+IsLentOpen (state.Reading Open) = Unit {0}
+IsLentOpen (state.Writing Open) = Unit {0}
+IsLentOpen _ = ⊥
+
+-- What is next fits the call, where the handle is, whether the end of the pipe was just seen, and what came back in the poll.
+abbrev pub FitsNext : HandleCall → OwnerMachine ℕ → OwnerAction ℕ → Bool → Option (List Event) → Type 0
+FitsNext call poll action.Begin ended back = BeginsBy call × (poll.state ≡ state.Idle) × (poll.is_at_end ≡ false)
+FitsNext call poll action.Close ended back = IsLentOpen poll.state × (poll.is_at_end ≡ false)
+FitsNext call poll (action.Drain most) ended back =
+    (call ≡ handle_call.Read most) × (0 < most) × (poll.state ≡ state.Reading Open) × (poll.is_at_end ≡ false)
+FitsNext call poll (action.Fill most) ended back =
+    (bytes : List ℕ) × (call ≡ handle_call.Write bytes) × (most ≡ length bytes) × (0 < most) × (poll.state ≡ state.Writing Open) × (poll.is_at_end ≡ false)
+FitsNext call poll action.PollSlot ended back = LooksFrom call poll.state poll.is_at_end × (poll.is_at_end ≡ ended)
+FitsNext call poll action.DropHandle ended back = (call ≡ handle_call.Close) × (poll.state ≡ state.Idle) × IsFlushedBack back
+FitsNext call poll (action.Reply reply) ended back = (is_some (reply_as reply) ≡ true) × EndAs call reply back
+FitsNext call poll _ ended back = ⊥
 
 -- A poll that is under way, by the call that was asked last, where the handle is, what is next, whether the end of the pipe was just
--- seen, and what came back in the poll. Its call is one that the laws know.
+-- seen, and what came back in the poll.
 pub record PollAs (poll : OwnerMachine ℕ) (asked : Option HandleCall) (at : sessions.State) (next : law.OwnerAction) (ended : Bool)
     (back : Option (List Event)) : Type 0 where
-  pub known : is_some (call_as poll.call) ≡ true
-  pub asked_is : asked ≡ call_as poll.call
-  pub at_is : Some at ≡ state_as poll.state
-  pub next_is : next ≡ action_as poll.next
-  pub fits : FitsNext poll poll.next ended back
+  pub call : HandleCall
+  pub asked_is : asked ≡ Some call
+  pub call_is : poll.call ≡ poll_call_of call
+  pub at_is : at ≡ state_as poll.state
+  pub next_is : next ≡ action_as call poll.next
+  pub fits : FitsNext call poll poll.next ended back
 
 -- where an owner is in its polls, by the same, and by the note that it has to deliver
 abbrev pub StageBy : OwnerStage → Option HandleCall → sessions.State → law.OwnerAction → Bool → Option (List Event) → Option ℕ → Type 0
-StageBy (stage.Rests here) asked at next ended back note = (Some at ≡ state_as here) × (next ≡ law.Rest) × (note ≡ None)
+StageBy (stage.Rests here) asked at next ended back note = (at ≡ state_as here) × (next ≡ law.Rest) × (note ≡ None)
 StageBy (stage.Polls poll) asked at next ended back note = PollAs poll asked at next ended back × (poll.is_waking ≡ false) × (note ≡ None)
 StageBy (stage.Wakes poll number) asked at next ended back note =
     PollAs poll asked at next ended back × (poll.is_waking ≡ true) × (note ≡ Some number.serial)
@@ -129,8 +143,8 @@ StageAs here cut =
 
 -- ---- what passes between it and its job
 
--- What a job was given and what it put, by its acts: all the bytes of its reader, those that are or were in the pipe, those of the last
--- answer, whether its reader failed, and whether it ended; and what it wrote.
+-- What a job that reads was given and what it put, by its acts: all the bytes of its reader, those that are or were in the pipe, those of
+-- the last answer, whether its reader failed, and whether it ended; and what it wrote.
 pub record Passed : Type 0 where
   pub given : List ℕ
   pub put : List ℕ
@@ -146,7 +160,7 @@ passed_by acts = record {
   held = answered acts;
   failed = has_failure (handle_answers acts);
   ended = last_is_end (handle_answers acts);
-  written = written_by acts;
+  written = taken_by acts;
 }
 
 -- All that a job was given is in the pipe but these bytes, and nothing failed.
@@ -171,14 +185,14 @@ PassedAs Over room lasts stopped passed = GaveAll stopped passed
 PassedAs _ room lasts stopped passed = ⊥
 
 -- Which session it is, and that its pipe holds no more than it may.
-pub record LentAs (s : Session) (capacity : ℕ) (last : Option sessions.Session) (shut : Bool) : Type 0 where
-  pub begun : last ≡ Some (record { serial = s.number.serial; kind = Reading })
+pub record LentAs (s : Session) (kind : Kind) (capacity : ℕ) (last : Option sessions.Session) (shut : Bool) : Type 0 where
+  pub begun : last ≡ Some (record { serial = s.number.serial; kind = kind })
   pub some : 0 < capacity
   pub holds : s.pipe.capacity ≡ capacity
   pub within : length s.pipe.items ≤ capacity
   pub shut_is : shut ≡ not s.pipe.is_owner_open
 
--- What went through the pipe: what the job put is what its owner took and what is inside, and a beginning of what the job was given, which
+-- What went through the pipe of a session that reads: what the job put is what its owner took and what is inside, and a beginning of what the job was given, which
 -- is no more than what its owner took and what the pipe holds.
 pub record FlowAs (s : Session) (shut : Bool) (taken : List ℕ) (next : JobAction) (closed given_up : Bool) (passed : Passed) : Type 0 where
   pub closed_is : closed ≡ not s.pipe.is_job_open
@@ -191,6 +205,71 @@ pub record FlowAs (s : Session) (shut : Bool) (taken : List ℕ) (next : JobActi
   -- a job that is over has closed its end, unless it gave up
   pub unclosed : is_over next ≡ true → s.pipe.is_job_open ≡ true → given_up ≡ true
 
+-- What a job that writes did, by its acts: what its writer took, how many bytes left the pipe, the piece that it found last, whether a
+-- write failed, whether the writer was flushed, and its fault; and what it was given.
+pub record Wrote : Type 0 where
+  pub taken : List ℕ
+  pub removed : ℕ
+  pub found : List ℕ
+  pub failed : Bool
+  pub flushed : Bool
+  pub fault : Option (Fault ℕ)
+  pub given : List ℕ
+
+abbrev pub wrote_by : List Act → Wrote
+wrote_by acts = record {
+  taken = taken_by acts;
+  removed = removed acts;
+  found = peeked acts;
+  failed = has_failed_write (handle_answers acts);
+  flushed = has_flush (handle_answers acts);
+  fault = fault Writing acts;
+  given = gave acts;
+}
+
+-- Of a job that met no fault nothing is left inside, and its owner's end is closed, so that nothing will be.
+abbrev pub IsDrained : List ℕ → Bool → Option (Fault ℕ) → Type 0
+IsDrained items shut why = why ≡ None → (items ≡ []) × (shut ≡ true)
+
+-- And its writer was flushed.
+abbrev pub IsDone : List ℕ → Bool → Wrote → Type 0
+IsDone items shut wrote = IsDrained items shut wrote.fault × (wrote.fault ≡ None → wrote.flushed ≡ true)
+
+-- What the writer of a job took, by the job's next action: what left the pipe, before these bytes, and where they are about to leave it, what is
+-- at its front; what it is offered is at the front. Before the job closes its end it is drained or has a fault, and flushed.
+abbrev pub WrittenAs : JobAction → List ℕ → List ℕ → Bool → Bool → Bool → Wrote → Type 0
+WrittenAs Peek out items lasts shut given_up wrote = (lasts ≡ true) × (wrote.taken ≡ out)
+WrittenAs (OfferBytes piece) out items lasts shut given_up wrote =
+    (lasts ≡ true) × (wrote.taken ≡ out) × IsBeginning piece items × (wrote.found ≡ piece)
+WrittenAs (Consume n) out items lasts shut given_up wrote = (lasts ≡ true) × (wrote.taken ≡ out ++ take n items) × (n ≤ length items)
+WrittenAs AskFlush out items lasts shut given_up wrote = (lasts ≡ true) × (wrote.taken ≡ out) × IsDrained items shut wrote.fault
+WrittenAs CloseEnd out items lasts shut given_up wrote = (lasts ≡ true) × (wrote.taken ≡ out) × IsDone items shut wrote
+WrittenAs Finish out items lasts shut given_up wrote = (lasts ≡ false) × (wrote.taken ≡ out) × IsDone items shut wrote
+WrittenAs Over out items lasts shut given_up wrote = given_up ≡ false → (wrote.taken ≡ out) × IsDone items shut wrote
+WrittenAs _ out items lasts shut given_up wrote = ⊥
+
+-- What went through the pipe of a session that writes: what its owner's writes brought in is what left it and what is inside, and the writer
+-- took a beginning of that. Its owner got nothing, and its job was given nothing.
+pub record WriteFlowAs (s : Session) (shut : Bool) (got accepted : List ℕ) (next : JobAction) (closed given_up : Bool) (wrote : Wrote) : Type 0 where
+  pub closed_is : closed ≡ not s.pipe.is_job_open
+  pub out : List ℕ
+  pub inside : accepted ≡ out ++ s.pipe.items
+  pub removed : wrote.removed ≡ length out
+  pub begun : IsBeginning wrote.taken accepted
+  pub written_is : WrittenAs next out s.pipe.items s.pipe.is_job_open shut given_up wrote
+  -- a write that failed is a fault
+  pub sound : wrote.fault ≡ None → wrote.failed ≡ false
+  pub ungot : got ≡ []
+  pub ungiven : wrote.given ≡ []
+  -- a job that is over has closed its end, unless it gave up
+  pub unclosed : is_over next ≡ true → s.pipe.is_job_open ≡ true → given_up ≡ true
+
+-- what went through the pipe of a session of this kind
+abbrev pub Flows : Kind → Session → Bool → List ℕ → List ℕ → JobAction → List Act → Type 0
+Flows Reading s shut got accepted next acts = FlowAs s shut got next (has_closed acts) (has_given_up acts) (passed_by acts)
+Flows Writing s shut got accepted next acts = WriteFlowAs s shut got accepted next (has_closed acts) (has_given_up acts) (wrote_by acts)
+Flows Calling s shut got accepted next acts = ⊥
+
 -- what stands in the slot, by whether the job finished or gave up, whether the handle is back, and the job's fault
 abbrev pub SlotAs : Content (Option (Fault ℕ)) → Bool → Bool → Bool → Option (Fault ℕ) → Type 0
 SlotAs Empty finished given_up back why = (finished ≡ back) × (given_up ≡ false)
@@ -198,10 +277,21 @@ SlotAs (Full found) finished given_up back why = (finished ≡ true) × (given_u
 SlotAs GivenUp finished given_up back why = (finished ≡ false) × (given_up ≡ true) × (back ≡ false)
 SlotAs (Abandoned over) finished given_up back why = ⊥
 
--- whether a job looks for room, by its next action
+-- whether a job looks for room, or for bytes, by its next action
 abbrev pub is_finding : JobAction → Bool
 is_finding FindRoom = true
+is_finding Peek = true
 is_finding _ = false
+
+-- a job that reads can't go on at a full pipe, and one that writes not at an empty one
+abbrev pub IsStuckIn : Kind → Session → Type 0
+IsStuckIn Writing s = s.pipe.items ≡ []
+IsStuckIn kind s = room s.pipe ≡ 0
+
+-- and its owner, the other way round
+abbrev pub IsOwnerStuckIn : Kind → Session → Type 0
+IsOwnerStuckIn Writing s = room s.pipe ≡ 0
+IsOwnerStuckIn kind s = s.pipe.items ≡ []
 
 -- What came of the job: it is over once it finished or gave up, and gave up only where its owner was dropped.
 pub record ResultAs (content : Content (Option (Fault ℕ))) (finished given_up over back dropped : Bool) (why : Option (Fault ℕ)) : Type 0 where
@@ -209,11 +299,12 @@ pub record ResultAs (content : Content (Option (Fault ℕ))) (finished given_up 
   pub over_is : finished || given_up ≡ over
   pub let_go : given_up ≡ true → dropped ≡ true
 
--- Who is seated has reason to be: a job that looks for room, or gave up, at a full pipe whose owner's end is open; an owner at an empty
--- pipe whose job's end is open; an owner at the slot of a job that isn't over, once an end of the pipe was closed.
-pub record HaveReason (s : Session) (waits : Bool) : Type 0 where
-  pub job : is_some s.pipe.job_seat ≡ true → (waits ≡ true) × (room s.pipe ≡ 0) × (s.pipe.is_owner_open ≡ true)
-  pub owner : is_some s.pipe.owner_seat ≡ true → (s.pipe.items ≡ []) × (s.pipe.is_job_open ≡ true)
+-- Who is seated has reason to be: a job that looks for room or for bytes, or gave up, where it can't go on and its owner's end is open; an
+-- owner at a pipe where it can't go on and the job's end is open; an owner at the slot of a job that isn't over, once an end of the pipe was
+-- closed.
+pub record HaveReason (s : Session) (kind : Kind) (waits : Bool) : Type 0 where
+  pub job : is_some s.pipe.job_seat ≡ true → (waits ≡ true) × IsStuckIn kind s × (s.pipe.is_owner_open ≡ true)
+  pub owner : is_some s.pipe.owner_seat ≡ true → IsOwnerStuckIn kind s × (s.pipe.is_job_open ≡ true)
   pub slot : is_some s.slot.seat ≡ true → (s.slot.content ≡ Empty) × ((s.pipe.is_owner_open ≡ false) ⊎ (s.pipe.is_job_open ≡ false))
 
 -- the job's seat, by whether it is seated
@@ -222,31 +313,31 @@ seat_of true number = Some number
 seat_of false number = None
 
 -- Who is seated: the job in the pipe, the owner there, and the owner in the slot.
-pub record SeatsAs (s : Session) (waits job_seated pipe_seated slot_seated : Bool) : Type 0 where
+pub record SeatsAs (s : Session) (kind : Kind) (waits job_seated pipe_seated slot_seated : Bool) : Type 0 where
   pub job : s.pipe.job_seat ≡ seat_of job_seated s.number
   pub owner : pipe_seated ≡ is_some s.pipe.owner_seat
   pub slot : slot_seated ≡ is_some s.slot.seat
-  pub reason : HaveReason s waits
+  pub reason : HaveReason s kind waits
 
--- The last session, by what its owner's acts tell: which it is, whether the owner's end is closed, whether the handle is back, whether the
--- owner was dropped, and what it took; by the acts of its job; and by who is seated.
-pub record SessionAs (s : Session) (capacity : ℕ) (last : Option sessions.Session) (shut back dropped : Bool) (taken : List ℕ)
+-- The last session, by what its owner's acts tell: of which kind it is, which it is, whether the owner's end is closed, whether the handle is
+-- back, whether the owner was dropped, what it got, and what was accepted of its writes; by the acts of its job; and by who is seated.
+pub record SessionAs (s : Session) (kind : Kind) (capacity : ℕ) (last : Option sessions.Session) (shut back dropped : Bool) (got accepted : List ℕ)
     (acts : List Act) (job_seated pipe_seated slot_seated : Bool) : Type 0 where
-  pub lent : LentAs s capacity last shut
-  pub flow : FlowAs s shut taken (next_but_wake Reading acts) (has_closed acts) (has_given_up acts) (passed_by acts)
-  pub result : ResultAs s.slot.content (has_finished acts) (has_given_up acts) (is_over (next_but_wake Reading acts)) back dropped (fault Reading acts)
-  pub seats : SeatsAs s (is_finding (next_but_wake Reading acts) || has_given_up acts) job_seated pipe_seated slot_seated
+  pub lent : LentAs s kind capacity last shut
+  pub flow : Flows kind s shut got accepted (next_but_wake kind acts) acts
+  pub result : ResultAs s.slot.content (has_finished acts) (has_given_up acts) (is_over (next_but_wake kind acts)) back dropped (fault kind acts)
+  pub seats : SeatsAs s kind (is_finding (next_but_wake kind acts) || has_given_up acts) job_seated pipe_seated slot_seated
 
 -- the last session, if there was one, by the same of each job
-abbrev pub LastBy : Option Session → ℕ → Option sessions.Session → Bool → Bool → Bool → List ℕ → (ℕ → List Act) → Bool → Bool → Bool → Type 0
-LastBy None capacity last shut back dropped taken acts job_seated pipe_seated slot_seated = (last ≡ None) × (taken ≡ [])
-LastBy (Some s) capacity last shut back dropped taken acts job_seated pipe_seated slot_seated =
-    SessionAs s capacity last shut back dropped taken (acts s.number.serial) job_seated pipe_seated slot_seated
+abbrev pub LastBy : Option Session → ℕ → Option sessions.Session → Bool → Bool → Bool → List ℕ → List ℕ → (ℕ → List Act) → Bool → Bool → Bool → Type 0
+LastBy None capacity last shut back dropped got accepted acts job_seated pipe_seated slot_seated = (last ≡ None) × (got ≡ []) × (accepted ≡ [])
+LastBy (Some s) capacity last shut back dropped got accepted acts job_seated pipe_seated slot_seated =
+    SessionAs s (kind_in last) capacity last shut back dropped got accepted (acts s.number.serial) job_seated pipe_seated slot_seated
 
 abbrev pub LastAs : Option Session → ℕ → List Event → Type 0
 LastAs held capacity cut =
     LastBy held capacity (last_session (own cut)) (is_shut (own cut)) (is_none (sessions.session (own cut))) (is_dropped (own cut))
-    (got (own cut)) (λ s. acts_of s cut) (is_job_seated cut) (pipe_seat cut) (slot_seat cut)
+    (got (own cut)) (accepted (own cut)) (λ s. acts_of s cut) (is_job_seated cut) (pipe_seat cut) (slot_seat cut)
 
 -- a poll that saw the end of the pipe, and looks for the handle, found it empty, with the job's end closed and its own open
 abbrev pub IsAtEnd : Session → Type 0
@@ -267,7 +358,8 @@ is_seated (Some s) = is_some s.pipe.owner_seat || is_some s.slot.seat
 pub record OwnerAs (owner : Owner) (cut : List Event) : Type 0 where
   pub made : is_made (own cut) ≡ true
   pub gone : is_dropped (own cut) ≡ is_gone owner.stage
-  pub polled : under_way (own cut) ≡ called_at owner.stage
+  pub asked : call (own cut) ≡ owner.asked
+  pub polled : under_way (own cut) ≡ called_at owner.stage owner.asked
   pub bytes : capacity (own cut) ≡ capacity_of owner
   pub stage : StageAs owner.stage cut
   pub last : LastAs owner.session (capacity_of owner) cut
@@ -275,8 +367,7 @@ pub record OwnerAs (owner : Owner) (cut : List Event) : Type 0 where
   -- a job of an earlier session is over but for the waker that it has to call
   pub earlier :
       (s : ℕ) → is_in s (jobs_of (own cut)) ≡ true → is_serial (last_session (own cut)) (Some s) ≡ false
-      → next_but_wake Reading (acts_of s cut) ≡ Over
-  pub kinds : (s : ℕ) → is_in s (jobs_of (own cut)) ≡ true → kind_of_job s (own cut) ≡ Reading
+      → next_but_wake (kind_of_job s (own cut)) (acts_of s cut) ≡ Over
   -- the note that it has to deliver is of the last session's job
   pub noted : (number : JobNumber) → note_at owner.stage ≡ Some number → number_of owner ≡ Some number
   -- an owner that waits is there, and was woken, or sits in a seat

@@ -1,14 +1,18 @@
--- The machine of an owner who reads, as contracts see it, and what each call of the owner and each act of its job does to it.
-use Rattle.std.specs.Prelude.{◌≡◌, ℕ, ◌==◌, if◌then◌else◌, Bool, true, false, List, length, Option, Some, None, is_some}
+-- The machine of an owner, as contracts see it, and what each call of the owner and each act of its job does to it.
+use Rattle.std.specs.Prelude.{◌≡◌, ℕ, ◌==◌, if◌then◌else◌, Bool, true, false, List, [], ◌∷◌, length, Option, Some, None, is_some}
 use Rattle.blocking_core.specs.OwnerCalls.{OwnerMachine, new_poll, owner_next, owner_after}
 use Rattle.blocking_core.specs.Pipes.{Pipe}
 use Rattle.blocking_core.specs.Places.{Met, Served, Waiting, Closed}
 use Rattle.blocking_core.specs.Reading.{read_next}
+use Rattle.blocking_core.specs.Writing.{write_next}
 use Rattle.blocking_core.specs.Slots.{Content, Empty, Full, GivenUp, Abandoned, empty_slot}
 use Rattle.blocking_core.specs.declared.io.Fault.{Fault}
 use Rattle.blocking_core.specs.declared.job.read.ReadAction.{ReadAction}
 use Rattle.blocking_core.specs.declared.job.read.ReadAction.TheVariants as read
 use Rattle.blocking_core.specs.declared.job.read.ReadAnswer.TheVariants as job_by
+use Rattle.blocking_core.specs.declared.job.write.WriteAction.{WriteAction}
+use Rattle.blocking_core.specs.declared.job.write.WriteAction.TheVariants as write
+use Rattle.blocking_core.specs.declared.job.write.WriteAnswer.TheVariants as wrote
 use Rattle.blocking_core.specs.declared.unblock.OwnerAction.{OwnerAction}
 use Rattle.blocking_core.specs.declared.unblock.OwnerAction.TheVariants as action
 use Rattle.blocking_core.specs.declared.unblock.OwnerAnswer.TheVariants as by
@@ -16,21 +20,28 @@ use Rattle.blocking_core.specs.declared.unblock.PollCall.{PollCall}
 use Rattle.blocking_core.specs.declared.unblock.PollCall.TheVariants as poll_call
 use Rattle.blocking_core.specs.declared.unblock.Reply.{Reply}
 use Rattle.blocking_core.specs.declared.unblock.Reply.TheVariants as reply
+use Rattle.blocking_core.specs.declared.unblock.State.{State}
 use Rattle.blocking_core.specs.declared.unblock.State.TheVariants as state
-use Rattle.blocking_laws.specs.Sessions.{default_capacity}
+use Rattle.blocking_laws.specs.Sessions.{default_capacity, kind_of, is_for_closed}
 use Rattle.blocking_laws.specs.Seats.{waker_in}
 use Rattle.blocking_laws.specs.declared.event.Act.{Act}
-use Rattle.blocking_laws.specs.declared.event.Act.TheVariants.{OwnerClosed, Got, GotEnd, Waits, Back, Replied, GaveUp, HolderWoken}
+use Rattle.blocking_laws.specs.declared.event.Act.TheVariants.{OwnerClosed, Got, GotEnd, Filled, FillShut, Waits, Back, Replied, GaveUp, HolderWoken}
 use Rattle.blocking_laws.specs.declared.event.Reply.{Reply as Told}
 use Rattle.blocking_laws.specs.declared.event.Reply.TheVariants as told
 use Rattle.blocking_laws.specs.declared.step.HandleCall.{HandleCall}
 use Rattle.blocking_laws.specs.declared.step.HandleCall.TheVariants as handle_call
-use Rattle.blocking_lanes.specs.Reads.{Progress, progress_with}
-use Rattle.blocking_lanes.specs.Sessions.{Session, Work, serial_of, drained, reach, session_after_close, session_after_drain, session_after_look, session_after_give_up, give_up_wakes, work_by}
+use Rattle.blocking_lanes.specs.Reads as reads
+use Rattle.blocking_lanes.specs.SessionJobs.{new_job}
+use Rattle.blocking_lanes.specs.Sessions.{Session, Work, serial_of, drained, filled, reach, session_after_close, session_after_drain, session_after_fill, session_after_look, session_after_give_up, give_up_wakes, work_by, writer_works}
+use Rattle.blocking_lanes.specs.Writes as writes
+use Rattle.blocking_lanes.specs.declared.job.SessionJob.{SessionJob}
+use Rattle.blocking_lanes.specs.declared.job.SessionJob.TheVariants as of_job
 use Rattle.blocking_lanes.specs.declared.owner.OwnerNext.{OwnerNext}
 use Rattle.blocking_lanes.specs.declared.owner.OwnerNext.TheVariants.{Rests, Begins, Delivers, Acts}
 use Rattle.blocking_lanes.specs.declared.owner.OwnerStage.{OwnerStage}
 use Rattle.blocking_lanes.specs.declared.owner.OwnerStage.TheVariants as stage
+use Rattle.blocking_lanes.specs.declared.session.Entered.{Entered}
+use Rattle.blocking_lanes.specs.declared.session.Entered.TheVariants as entered
 use Rattle.blocking_lanes.specs.declared.session.Found.{Found}
 use Rattle.blocking_lanes.specs.declared.session.Found.TheVariants as found
 use Rattle.blocking_lanes.specs.declared.session.Looked.{Looked}
@@ -38,15 +49,17 @@ use Rattle.blocking_lanes.specs.declared.session.Looked.TheVariants as looked
 use Rattle.blocking_pool.specs.Jobs.{JobNumber}
 use Rattle.blocking_pool.specs.declared.pool.answer.Refusal.{Refusal}
 
--- An owner: the number of bytes that it was made with, where it is in its polls, and its last session, if any.
+-- An owner: the number of bytes that it was made with, the call that it was asked last, where it is in its polls, and its last session,
+-- if any.
 pub record Owner : Type 0 where
   pub capacity : ℕ
+  pub asked : Option HandleCall
   pub stage : OwnerStage
   pub session : Option Session
 
 -- an owner that was made with this number of bytes
 abbrev pub new_owner : ℕ → Owner
-new_owner capacity = record { capacity = capacity; stage = stage.Rests state.Idle; session = None }
+new_owner capacity = record { capacity = capacity; asked = None; stage = stage.Rests state.Idle; session = None }
 
 -- how many bytes the pipe of a session holds
 abbrev pub capacity_of : Owner → ℕ
@@ -70,12 +83,13 @@ poll_call_of handle_call.Flush = poll_call.Flush
 poll_call_of handle_call.Close = poll_call.Close
 poll_call_of handle_call.GetMut = poll_call.GetMut
 
--- a reply, in the words of the laws, which know no other reply yet
+-- a reply, in the words of the laws; they have none for a call that isn't asked once the handle is gone
 abbrev pub reply_as : Reply ℕ → Option Told
 reply_as (reply.Count count) = Some (told.Count count)
 reply_as reply.Handle = Some told.Handle
 reply_as (reply.Failed why) = Some (told.Failed why)
-reply_as _ = None
+reply_as reply.Done = Some told.Okay
+reply_as reply.Closed = None
 
 -- whether it is there and no poll of it is under way
 abbrev pub is_resting : OwnerStage → Bool
@@ -84,6 +98,18 @@ is_resting _ = false
 
 abbrev pub rests : Owner → Bool
 rests owner = is_resting owner.stage
+
+-- whether it may be asked for this where the handle is there
+abbrev pub may_call_at : State → HandleCall → Bool
+may_call_at state.Closed call = is_for_closed call
+may_call_at at call = true
+
+abbrev pub may_ask_at : OwnerStage → HandleCall → Bool
+may_ask_at (stage.Rests at) call = may_call_at at call
+may_ask_at _ call = false
+
+abbrev pub may_ask : Owner → HandleCall → Bool
+may_ask owner call = may_ask_at owner.stage call
 
 -- whether it was dropped
 abbrev pub is_gone : OwnerStage → Bool
@@ -110,12 +136,14 @@ abbrev pub next_to_say : Option Told → OwnerNext
 next_to_say None = Rests
 next_to_say (Some told) = Acts 0
 
--- what a poll does whose machine does this next; what the laws know no word of yet it doesn't do
+-- what a poll does whose machine does this next
 abbrev pub next_by : OwnerAction ℕ → Option Session → OwnerNext
 next_by action.Begin session = Begins
 next_by (action.Drain most) session = Acts (reach_in most session)
 next_by action.Close session = Acts 0
+next_by (action.Fill most) session = Acts 0
 next_by action.PollSlot session = Acts 0
+next_by action.DropHandle session = Acts 0
 next_by (action.Reply reply) session = next_to_say (reply_as reply)
 next_by _ session = Rests
 
@@ -134,12 +162,12 @@ bytes_in (Acts count) = count
 bytes_in _ = 0
 
 -- the owner after a poll of it began
-abbrev pub stage_after_ask : HandleCall → OwnerStage → OwnerStage
-stage_after_ask call (stage.Rests at) = stage.Polls (new_poll (poll_call_of call) at)
-stage_after_ask call at = at
+abbrev pub after_ask : HandleCall → OwnerStage → Owner → Owner
+after_ask call (stage.Rests at) owner = record owner { asked = Some call; stage = stage.Polls (new_poll (poll_call_of call) at) }
+after_ask call at owner = owner
 
 abbrev pub owner_after_ask : HandleCall → Owner → Owner
-owner_after_ask call owner = record owner { stage = stage_after_ask call owner.stage }
+owner_after_ask call owner = after_ask call owner.stage owner
 
 -- ---- an act that asks no pool
 
@@ -148,11 +176,16 @@ pub record Did : Type 0 where
   pub act : Act
   pub owner : Owner
 
--- what a drain finds, and a look into the slot
+-- what a drain finds, a fill, and a look into the slot
 abbrev pub found_as : Met (List ℕ × Option JobNumber) → Found
 found_as (Served got) = found.Bytes got.0 got.1
 found_as Waiting = found.Nothing
 found_as Closed = found.End
+
+abbrev pub entered_as : Met (ℕ × Option JobNumber) → Entered
+entered_as (Served went) = entered.Bytes went.0 went.1
+entered_as Waiting = entered.Nothing
+entered_as Closed = entered.Shut
 
 abbrev pub looked_as : Content (Option (Fault ℕ)) → Looked
 looked_as Empty = looked.Nothing
@@ -189,6 +222,34 @@ drain_did Closed poll session owner = record {
   owner = record owner { stage = stage.Polls (owner_after poll by.Ended) };
 }
 
+-- it fills the pipe with these bytes, and finds this: a poll that waits is over
+abbrev pub fill_did : List ℕ → Met (ℕ × Option JobNumber) → OwnerMachine ℕ → Session → Owner → Did
+fill_did bytes (Served went) poll session owner = record {
+  act = Filled went.0 (serial_of went.1);
+  owner = record owner {
+    stage = goes_on (owner_after poll (by.Took went.0 (is_some went.1))) went.1;
+    session = Some (session_after_fill bytes (Served went) session);
+  };
+}
+fill_did bytes Waiting poll session owner = record {
+  act = Waits;
+  owner = record owner { stage = stage.Rests poll.state; session = Some (session_after_fill bytes Waiting session) };
+}
+fill_did bytes Closed poll session owner = record {
+  act = FillShut;
+  owner = record owner { stage = stage.Polls (owner_after poll by.Shut) };
+}
+
+-- the same, where it was asked to write something and has a session
+abbrev pub fill_did_in : OwnerMachine ℕ → Option HandleCall → Option Session → Owner → Option Did
+fill_did_in poll (Some (handle_call.Write (byte ∷ bytes))) (Some session) owner =
+    Some (fill_did (byte ∷ bytes) (filled (length (byte ∷ bytes)) session) poll session owner)
+fill_did_in poll asked session owner = None
+
+-- it drops the handle, and its poll is over
+abbrev pub drop_did : OwnerMachine ℕ → Owner → Did
+drop_did poll owner = record { act = Replied told.Okay; owner = record owner { stage = stage.Rests (owner_after poll by.Dropped).state } }
+
 -- it looks into the slot, and finds this; where the job gave up there is nothing to be found, and nothing is done
 abbrev pub look_did : Looked → OwnerMachine ℕ → Session → Owner → Option Did
 look_did (looked.Handle why) poll session owner =
@@ -197,7 +258,7 @@ look_did looked.Nothing poll session owner =
     Some (record { act = Waits; owner = record owner { stage = stage.Rests poll.state; session = Some session } })
 look_did looked.Gone poll session owner = None
 
--- it replies, and its poll is over; a reply that the laws know no word of yet is not told, and nothing is done
+-- it replies, and its poll is over; a reply that the laws have no word for is not told, and nothing is done
 abbrev pub reply_did : Option Told → OwnerMachine ℕ → Owner → Option Did
 reply_did (Some told) poll owner = Some (record { act = Replied told; owner = record owner { stage = stage.Rests poll.state } })
 reply_did None poll owner = None
@@ -212,6 +273,8 @@ did_at _ poll session owner = None
 
 abbrev pub did_in : OwnerAction ℕ → OwnerMachine ℕ → Option Session → Owner → Option Did
 did_in (action.Reply reply) poll session owner = reply_did (reply_as reply) poll owner
+did_in (action.Fill most) poll session owner = fill_did_in poll owner.asked session owner
+did_in action.DropHandle poll session owner = Some (drop_did poll owner)
 did_in action poll None owner = None
 did_in action poll (Some session) owner = did_at action poll session owner
 
@@ -229,6 +292,10 @@ IsDid None owner seen new = (seen ≡ None) × (new ≡ owner)
 IsDid (Some done) owner seen new = (seen ≡ Some done.act) × (new ≡ done.owner)
 
 -- ---- what the pool answers
+
+-- the job of the session that its poll begins
+abbrev pub new_job_of : Owner → SessionJob
+new_job_of owner = new_job (kind_of owner.asked)
 
 -- the owner after a session began, with this job and this pipe
 abbrev pub after_begin : JobNumber → Pipe ℕ (Unit {0}) → OwnerStage → Owner → Owner
@@ -271,29 +338,44 @@ owner_after_drop owner = record owner { stage = stage_after_drop owner.stage }
 -- What an act of the job is, and what it leaves of the job and of its owner.
 pub record Worked : Type 0 where
   pub act : Act
-  pub job : Progress
+  pub job : SessionJob
   pub owner : Owner
 
--- an act of the job at its session
-abbrev pub worked_by : Option Work → Owner → Option Worked
-worked_by None owner = None
-worked_by (Some work) owner = Some (record { act = work.act; job = work.job; owner = record owner { session = Some work.session } })
+-- an act of a job at its session
+abbrev pub worked_by : {J : Type 0} → (J → SessionJob) → Option (Work J) → Owner → Option Worked
+worked_by job_of None owner = None
+worked_by job_of (Some work) owner = Some (record { act = work.act; job = job_of work.job; owner = record owner { session = Some work.session } })
 
-abbrev pub worked_in : ReadAction → Option Session → Progress → Owner → Option Worked
-worked_in next None job owner = None
-worked_in next (Some session) job owner = worked_by (work_by next job session) owner
+-- a job calls the waker that it took
+abbrev pub calls_waker : SessionJob → Owner → Option Worked
+calls_waker job owner = Some (record { act = HolderWoken; job = job; owner = owner })
 
--- what a job does next: it calls the waker that it took, or meets its owner
-abbrev pub worked_as : ReadAction → Progress → Owner → Option Worked
-worked_as read.Deliver job owner = Some (record { act = HolderWoken; job = progress_with job job_by.Delivered; owner = owner })
-worked_as next job owner = worked_in next owner.session job owner
+-- what a job that reads does next at its session
+abbrev pub read_in : ReadAction → Option Session → reads.Progress → Owner → Option Worked
+read_in next None job owner = None
+read_in next (Some session) job owner = worked_by of_job.Read (work_by next job session) owner
+
+-- what it does next: it calls the waker that it took, or meets its owner
+abbrev pub read_as : ReadAction → reads.Progress → Owner → Option Worked
+read_as read.Deliver job owner = calls_waker (of_job.Read (reads.progress_with job job_by.Delivered)) owner
+read_as next job owner = read_in next owner.session job owner
+
+-- the same of a job that writes
+abbrev pub write_in : WriteAction → Option Session → writes.Progress → Owner → Option Worked
+write_in next None job owner = None
+write_in next (Some session) job owner = worked_by of_job.Write (writer_works next job session) owner
+
+abbrev pub write_as : WriteAction → writes.Progress → Owner → Option Worked
+write_as write.Deliver job owner = calls_waker (of_job.Write (writes.progress_with job wrote.Delivered)) owner
+write_as next job owner = write_in next owner.session job owner
 
 -- What its job does next, where that is the job's own.
-abbrev pub worked : Progress → Owner → Option Worked
-worked job owner = worked_as (read_next job.core) job owner
+abbrev pub worked : SessionJob → Owner → Option Worked
+worked (of_job.Read job) owner = read_as (read_next job.core) job owner
+worked (of_job.Write job) owner = write_as (write_next job.core) job owner
 
 -- the answer of a call by which the job may act, and what it leaves: where it has no such act nothing changes
-abbrev pub IsWorked : Option Worked → Progress → Owner → Option Act → Progress → Owner → Type 0
+abbrev pub IsWorked : Option Worked → SessionJob → Owner → Option Act → SessionJob → Owner → Type 0
 IsWorked None job owner seen new_job new_owner = (seen ≡ None) × (new_job ≡ job) × (new_owner ≡ owner)
 IsWorked (Some done) job owner seen new_job new_owner = (seen ≡ Some done.act) × (new_job ≡ done.job) × (new_owner ≡ done.owner)
 

@@ -1,18 +1,23 @@
--- The session of an owner who reads: where it meets its job, and what each act of the job does there.
-use Rattle.std.specs.Prelude.{◌≡◌, ℕ, nat_le, min, max, if◌then◌else◌, Bool, true, false, List, ◌++◌, length, drop, Option, Some, None, is_some}
+-- A session: where an owner meets the job that was lent its handle, and what each act of the owner and of the job does there.
+use Rattle.std.specs.Prelude.{◌≡◌, ℕ, nat_le, min, max, if◌then◌else◌, Bool, true, false, List, ◌++◌, length, take, drop, Option, Some, None, is_some}
 use Rattle.blocking_core.specs.Pipes.{Pipe, empty_pipe, room}
-use Rattle.blocking_core.specs.Places.{Met, Served, Waiting, Closed, drain, find_room, hand_in}
+use Rattle.blocking_core.specs.Places.{Met, Served, Waiting, Closed, drain, fill, find_room, hand_in, peek}
 use Rattle.blocking_core.specs.Slots.{Slot, Content, Empty, Full, GivenUp, Abandoned, empty_slot, after_put, put_in, after_give_up, waker_of_give_up}
 use Rattle.blocking_core.specs.declared.io.Fault.{Fault}
 use Rattle.blocking_core.specs.declared.job.read.ReadAction.{ReadAction}
 use Rattle.blocking_core.specs.declared.job.read.ReadAction.TheVariants as read
 use Rattle.blocking_core.specs.declared.job.read.ReadAnswer.{ReadAnswer}
 use Rattle.blocking_core.specs.declared.job.read.ReadAnswer.TheVariants as by
-use Rattle.blocking_laws.specs.Places.{seen_room, seen_put}
+use Rattle.blocking_core.specs.declared.job.write.WriteAction.{WriteAction}
+use Rattle.blocking_core.specs.declared.job.write.WriteAction.TheVariants as write
+use Rattle.blocking_core.specs.declared.job.write.WriteAnswer.TheVariants as wrote
+use Rattle.blocking_laws.specs.JobTable.{piece as largest_piece}
+use Rattle.blocking_laws.specs.Places.{seen_room, seen_put, seen_peek}
 use Rattle.blocking_laws.specs.Seats.{waker_in}
 use Rattle.blocking_laws.specs.declared.event.Act.{Act}
-use Rattle.blocking_laws.specs.declared.event.Act.TheVariants.{JobClosed, Finished}
+use Rattle.blocking_laws.specs.declared.event.Act.TheVariants.{Taken, JobClosed, Finished}
 use Rattle.blocking_lanes.specs.Reads.{Progress, progress_with}
+use Rattle.blocking_lanes.specs.Writes as writes
 use Rattle.blocking_pool.specs.Jobs.{JobNumber}
 
 -- A session: the number of its job, the pipe of bytes, and the slot in which the handle comes back with the fault of the job. Wakers are
@@ -59,6 +64,17 @@ session_after_look (Full why) session = record session { slot = record session.s
 session_after_look GivenUp session = session
 session_after_look (Abandoned true) session = session
 session_after_look (Abandoned false) session = record session { slot = record session.slot { seat = Some tt } }
+
+-- what the owner finds that fills the pipe with so many bytes
+abbrev pub filled : ℕ → Session → Met (ℕ × Option JobNumber)
+filled count session = fill count (room session.pipe) session.pipe.is_job_open session.pipe.job_seat
+
+-- the session after it filled the pipe with these
+abbrev pub session_after_fill : List ℕ → Met (ℕ × Option JobNumber) → Session → Session
+session_after_fill bytes (Served went) session =
+    record session { pipe = record session.pipe { items = session.pipe.items ++ take went.0 bytes; job_seat = None } }
+session_after_fill bytes Waiting session = record session { pipe = record session.pipe { owner_seat = Some tt } }
+session_after_fill bytes Closed session = session
 
 -- ---- its job acts
 
@@ -113,19 +129,35 @@ give_up_wakes session = is_some (waker_of_give_up session.slot)
 abbrev pub session_after_give_up : Session → Session
 session_after_give_up session = record session { slot = after_give_up session.slot }
 
--- ---- the next action of its job, where that is its own
+-- what the job finds at the front of the pipe
+abbrev pub found_piece : Session → Met (List ℕ)
+found_piece session = peek largest_piece session.pipe.items session.pipe.is_owner_open
 
--- What an act of the job is, and what it leaves of the job and of the session.
-pub record Work : Type 0 where
+abbrev pub session_after_peek : Met (List ℕ) → Session → Session
+session_after_peek Waiting session = record session { pipe = record session.pipe { job_seat = Some session.number } }
+session_after_peek _ session = session
+
+-- whether so many bytes are inside
+abbrev pub holds : ℕ → Session → Bool
+holds count session = nat_le count (length session.pipe.items)
+
+-- the session after so many bytes left its pipe
+abbrev pub session_after_consume : ℕ → Session → Session
+session_after_consume count session = record session { pipe = record session.pipe { items = drop count session.pipe.items; owner_seat = None } }
+
+-- ---- the next action of a job that reads, where that is its own
+
+-- What an act of a job is, and what it leaves of the job and of the session.
+pub record Work (J : Type 0) : Type 0 where
   pub act : Act
-  pub job : Progress
+  pub job : J
   pub session : Session
 
 -- what becomes of a job and of its session, by what the job found
-abbrev pub work_at_room : Met ℕ → Progress → Session → Work
+abbrev pub work_at_room : Met ℕ → Progress → Session → Work Progress
 work_at_room met job session = record { act = seen_room met; job = progress_with job (room_answer met); session = session_after_room met session }
 
-abbrev pub work_at_put : Met (Option (Unit {0})) → Progress → Session → Work
+abbrev pub work_at_put : Met (Option (Unit {0})) → Progress → Session → Work Progress
 work_at_put met job session = record {
   act = seen_put (length job.piece) met;
   job = progress_with job (put_answer met);
@@ -133,7 +165,7 @@ work_at_put met job session = record {
 }
 
 -- the job closes its end of the pipe
-abbrev pub work_of_close : Progress → Session → Work
+abbrev pub work_of_close : Progress → Session → Work Progress
 work_of_close job session = record {
   act = JobClosed (waker_in (closing_wakes session));
   job = progress_with job (by.Closed (closing_wakes session));
@@ -141,22 +173,65 @@ work_of_close job session = record {
 }
 
 -- the job puts its result
-abbrev pub work_of_finish : Progress → Session → Work
+abbrev pub work_of_finish : Progress → Session → Work Progress
 work_of_finish job session = record {
   act = Finished (waker_in (finish_wakes job.fault session));
   job = progress_with job (by.Finished (finish_wakes job.fault session));
   session = session_after_finish job.fault session;
 }
 
--- What the job does next at its session, where that is its own to do: a put has to fit.
-abbrev pub work_by : ReadAction → Progress → Session → Option Work
+-- What it does next at its session, where that is its own to do: a put has to fit.
+abbrev pub work_by : ReadAction → Progress → Session → Option (Work Progress)
 work_by read.FindRoom job session = Some (work_at_room (found_room session) job session)
 work_by (read.Put count) job session = if fits_in job.piece session then Some (work_at_put (found_put job.piece session) job session) else None
 work_by read.Close job session = Some (work_of_close job session)
 work_by read.Finish job session = Some (work_of_finish job session)
 work_by _ job session = None
 
--- the answer of a call by which the job may act, and what it leaves: where it has no such act nothing changes
-abbrev pub IsWork : Option Work → Progress → Session → Option Act → Progress → Session → Type 0
+-- ---- the same of a job that writes
+
+-- the job looks at the front of the pipe: what becomes of it, by what it found
+abbrev pub job_after_peek : Met (List ℕ) → writes.Progress → writes.Progress
+job_after_peek (Served found) job = writes.progress_after_piece job found
+job_after_peek Waiting job = writes.progress_with job wrote.Parked
+job_after_peek Closed job = writes.progress_with job wrote.Drained
+
+abbrev pub work_at_peek : Met (List ℕ) → writes.Progress → Session → Work writes.Progress
+work_at_peek met job session = record { act = seen_peek met; job = job_after_peek met job; session = session_after_peek met session }
+
+-- so many bytes, which its writer took, leave the pipe
+abbrev pub work_of_consume : ℕ → writes.Progress → Session → Work writes.Progress
+work_of_consume count job session = record {
+  act = Taken count (waker_in (closing_wakes session));
+  job = writes.progress_with job (wrote.Consumed (closing_wakes session));
+  session = session_after_consume count session;
+}
+
+-- it closes its end of the pipe
+abbrev pub writer_closes : writes.Progress → Session → Work writes.Progress
+writer_closes job session = record {
+  act = JobClosed (waker_in (closing_wakes session));
+  job = writes.progress_with job (wrote.Closed (closing_wakes session));
+  session = session_after_job_close session;
+}
+
+-- it puts its result
+abbrev pub writer_finishes : writes.Progress → Session → Work writes.Progress
+writer_finishes job session = record {
+  act = Finished (waker_in (finish_wakes (writes.fault_of job.core) session));
+  job = writes.progress_with job (wrote.Finished (finish_wakes (writes.fault_of job.core) session));
+  session = session_after_finish (writes.fault_of job.core) session;
+}
+
+-- What it does next at its session, where that is its own to do: what it takes out has to be inside.
+abbrev pub writer_works : WriteAction → writes.Progress → Session → Option (Work writes.Progress)
+writer_works write.Peek job session = Some (work_at_peek (found_piece session) job session)
+writer_works (write.Consume count) job session = if holds count session then Some (work_of_consume count job session) else None
+writer_works write.Close job session = Some (writer_closes job session)
+writer_works write.Finish job session = Some (writer_finishes job session)
+writer_works _ job session = None
+
+-- the answer of a call by which a job may act, and what it leaves: where it has no such act nothing changes
+abbrev pub IsWork : {J : Type 0} → Option (Work J) → J → Session → Option Act → J → Session → Type 0
 IsWork None job session seen new_job new_session = (seen ≡ None) × (new_job ≡ job) × (new_session ≡ session)
 IsWork (Some work) job session seen new_job new_session = (seen ≡ Some work.act) × (new_job ≡ work.job) × (new_session ≡ work.session)

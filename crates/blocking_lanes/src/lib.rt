@@ -1,18 +1,22 @@
 //! The lanes of a world: each task with the slot in which it meets the job of its call, each owner with the pipe and the slot in which it
-//! meets the job that reads for it, and how far those jobs are.
+//! meets the job that reads or writes for it, and how far those jobs are.
 //!
 //! A lane knows no pool, no worker and no other lane. What was seen of it is its cut, and by its cut alone it keeps its laws:
 //! [`Task`] and [`Owner`] say what each act does, and [`kept`] that their laws hold after it.
 #![tactic(auto)]
 
 mod call;
+mod job;
 pub mod kept;
 mod owner;
 mod read;
 mod session;
 mod task;
+mod write;
 
 pub use call::CallProgress;
+pub use job::SessionJob;
 pub use owner::{Owner, OwnerNext};
 pub use read::ReadProgress;
 pub use task::{Task, TaskStage};
+pub use write::WriteProgress;

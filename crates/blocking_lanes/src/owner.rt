@@ -1,12 +1,14 @@
-//! The machine of an owner who lends its handle to a job that reads ahead.
+//! The machine of an owner who lends its handle to jobs that read ahead of it, or write behind it.
 ghost use Rattle.std.specs.Prelude.{◌≡◌, None};
 ghost use Rattle.blocking_core.specs.declared.unblock.OwnerAction.TheVariants as action;
 ghost use Rattle.blocking_lanes.specs.Sessions.{serial_of};
 ghost use Rattle.blocking_lanes.specs.Owners.{poll_call_of, reply_as};
 
+use crate::job::SessionJob;
 use crate::read::ReadProgress;
-use crate::session::{Found, Looked, Session};
-use blocking_core::job::ReadAction;
+use crate::session::{Entered, Found, Looked, Session};
+use crate::write::WriteProgress;
+use blocking_core::job::{ReadAction, WriteAction};
 use blocking_core::pipe::{BytePipe, DEFAULT_BYTES, Pipe};
 use blocking_core::pool::{JobNo, Refusal, WakeNote};
 use blocking_core::unblock::{OwnerAction, OwnerAnswer, OwnerCall, PollCall, Reply, State};
@@ -41,13 +43,14 @@ pub enum OwnerNext {
     Acts(usize),
 }
 
-/// An owner: how many bytes the pipes of its sessions hold, where it is in its polls, and its last session. The wakers in its seats are
-/// told as units.
+/// An owner: how many bytes the pipes of its sessions hold, the call that it was asked last, where it is in its polls, and its last
+/// session. The wakers in its seats are told as units.
 ///
 /// It may hold the note of a job that has to be woken, so it can't be let go: [`Owner::into_note`] takes it apart.
 pub struct Owner {
     // (0 stands for the default)
     capacity: usize,
+    asked: Option<HandleCall>,
     stage: OwnerStage,
     session: Option<Session>,
 }
@@ -57,7 +60,7 @@ impl Model for Owner {
 
     ghost Value = { Lane };
 
-    ghost view = { λ o. record { capacity = o.capacity; stage = o.stage; session = o.session } };
+    ghost view = { λ o. record { capacity = o.capacity; asked = o.asked; stage = o.stage; session = o.session } };
 }
 
 // The serial of the job that this note wakes.
@@ -83,7 +86,7 @@ fn poll_call(call: &HandleCall) -> PollCall
     }
 }
 
-// A reply, as it is told. None where the laws know no such reply yet.
+// A reply, as it is told. None for the one to a call that isn't asked of an owner whose handle is gone.
 fn told(reply: Reply<u64>) -> Option<Told>
     ensures { result ≡ reply_as reply }
 {
@@ -91,17 +94,19 @@ fn told(reply: Reply<u64>) -> Option<Told>
         Reply::Count(count) => Some(Told::Count(count as u64)),
         Reply::Handle => Some(Told::Handle),
         Reply::Failed(why) => Some(Told::Failed(why)),
-        Reply::Done | Reply::Closed => None,
+        Reply::Done => Some(Told::Okay),
+        Reply::Closed => None,
     }
 }
 
 impl Owner {
-    ghost use Rattle.std.specs.Prelude.{vec_len, IfOk};
+    ghost use Rattle.std.specs.Prelude.{vec_len, IfOk, OnErr, Some};
     ghost use Rattle.blocking_core.specs.Pipes.{empty_pipe};
     ghost use Rattle.blocking_lanes.specs.Owners.{new_owner, capacity_of, is_resting, is_gone, note_at, next_of, number_of, bytes_in, rests};
     ghost use Rattle.blocking_lanes.specs.Owners.{owner_after_ask, did, did_in, reply_did, IsDid, goes_on, reach_in};
     ghost use Rattle.blocking_lanes.specs.Owners.{owner_after_begin, owner_after_refusal, owner_after_delivery, owner_after_drop};
-    ghost use Rattle.blocking_lanes.specs.Owners.{worked, IsWorked, give_up_act, owner_after_give_up};
+    ghost use Rattle.blocking_lanes.specs.Owners.{may_ask, fill_did_in, drop_did, new_job_of, worked, IsWorked, give_up_act, owner_after_give_up};
+    ghost use Rattle.blocking_lanes.specs.declared.job.SessionJob.TheVariants as of_job;
 
     /// An owner, with an idle handle. The pipes of its sessions hold so many bytes; 0 stands for 8,388,608.
     pub fn new(capacity: usize) -> Owner
@@ -109,6 +114,7 @@ impl Owner {
     {
         Owner {
             capacity,
+            asked: None,
             stage: OwnerStage::Rests(State::Idle),
             session: None,
         }
@@ -126,11 +132,24 @@ impl Owner {
         Pipe::new(alloc, capacity)
     }
 
-    /// Whether it may be asked and dropped: it is there, and no poll of it is under way.
+    /// Whether it may be dropped: it is there, and no poll of it is under way.
     pub fn rests(&self) -> bool
         ensures { result ≡ rests self.now }
     {
         matches!(self.stage, OwnerStage::Rests(_))
+    }
+
+    /// Whether it may be asked for this: it is there, no poll of it is under way, and once its handle is gone it is only flushed and closed.
+    pub fn may_ask(&self, call: &HandleCall) -> bool
+        ensures { result ≡ may_ask self.now call.now }
+    {
+        match self.stage {
+            OwnerStage::Rests(State::Closed) => {
+                matches!(call, HandleCall::Flush | HandleCall::Close)
+            }
+            OwnerStage::Rests(_) => true,
+            _ => false,
+        }
     }
 
     /// Whether it was dropped.
@@ -160,16 +179,15 @@ impl Owner {
             OwnerStage::Polls(poll) => match poll.next() {
                 OwnerAction::Begin => OwnerNext::Begins,
                 OwnerAction::Drain(most) => OwnerNext::Acts(self.reach(most)),
-                OwnerAction::Close | OwnerAction::PollSlot => OwnerNext::Acts(0),
+                OwnerAction::Close
+                | OwnerAction::Fill(_)
+                | OwnerAction::PollSlot
+                | OwnerAction::DropHandle => OwnerNext::Acts(0),
                 OwnerAction::Reply(reply) => match told(reply) {
                     Some(_) => OwnerNext::Acts(0),
                     None => OwnerNext::Rests,
                 },
-                // (an owner who reads never fills a pipe nor drops its handle)
-                OwnerAction::Fill(_)
-                | OwnerAction::DropHandle
-                | OwnerAction::Deliver
-                | OwnerAction::Pending => OwnerNext::Rests,
+                OwnerAction::Deliver | OwnerAction::Pending => OwnerNext::Rests,
             },
         }
     }
@@ -185,11 +203,12 @@ impl Owner {
     }
 
     /// A poll of it begins, and asks for this. Nothing is done where it doesn't rest.
-    pub fn ask(&mut self, call: &HandleCall)
-        ensures { self.new ≡ owner_after_ask call.now self.old }
+    pub fn ask(&mut self, call: HandleCall)
+        ensures { self.new ≡ owner_after_ask call self.old }
     {
         if let OwnerStage::Rests(state) = &self.stage {
-            let poll = OwnerCall::new(poll_call(call), *state);
+            let poll = OwnerCall::new(poll_call(&call), *state);
+            self.asked = Some(call);
             self.turn(OwnerStage::Polls(poll));
         }
     }
@@ -229,13 +248,11 @@ impl Owner {
         match poll.next() {
             OwnerAction::Close => self.close(poll),
             OwnerAction::Drain(_) => self.drain(poll, room),
+            OwnerAction::Fill(_) => self.fill(poll),
             OwnerAction::PollSlot => self.look(poll),
+            OwnerAction::DropHandle => self.drop_handle(poll),
             OwnerAction::Reply(reply) => self.reply(poll, told(reply)),
-            OwnerAction::Begin
-            | OwnerAction::Fill(_)
-            | OwnerAction::DropHandle
-            | OwnerAction::Deliver
-            | OwnerAction::Pending => None,
+            OwnerAction::Begin | OwnerAction::Deliver | OwnerAction::Pending => None,
         }
     }
 
@@ -300,6 +317,54 @@ impl Owner {
         }
     }
 
+    // It fills the pipe with the bytes that it was asked to write.
+    fn fill(&mut self, poll: OwnerCall<u64>) -> Option<Act>
+        requires { note_at self.old.stage ≡ None }
+        ensures { IsDid (fill_did_in poll self.old.asked self.old.session self.old) self.old result self.new }
+    {
+        let Some(HandleCall::Write(bytes)) = &self.asked else {
+            return None;
+        };
+        let Some(session) = &mut self.session else {
+            return None;
+        };
+        if bytes.as_slice().is_empty() {
+            return None;
+        }
+        let mut poll = poll;
+        match session.fill(bytes.as_slice()) {
+            Entered::Bytes(count, note) => {
+                let serial = serial_of(&note);
+                poll.answer(OwnerAnswer::Took {
+                    count,
+                    has_note: serial.is_some(),
+                });
+                self.go_on(poll, note);
+                Some(Act::Filled(count, serial))
+            }
+            Entered::Shut => {
+                poll.answer(OwnerAnswer::Shut);
+                self.turn(OwnerStage::Polls(poll));
+                Some(Act::FillShut)
+            }
+            Entered::Nothing => {
+                self.turn(OwnerStage::Rests(poll.state()));
+                Some(Act::Waits)
+            }
+        }
+    }
+
+    // It drops the handle, which is with it, and replies that all is done.
+    fn drop_handle(&mut self, poll: OwnerCall<u64>) -> Option<Act>
+        requires { note_at self.old.stage ≡ None }
+        ensures { IsDid (Some (drop_did poll self.old)) self.old result self.new }
+    {
+        let mut poll = poll;
+        poll.answer(OwnerAnswer::Dropped);
+        self.turn(OwnerStage::Rests(poll.state()));
+        Some(Act::Replied(Told::Okay))
+    }
+
     // It looks for the handle in the slot of its job.
     fn look(&mut self, poll: OwnerCall<u64>) -> Option<Act>
         requires { note_at self.old.stage ≡ None }
@@ -320,6 +385,16 @@ impl Owner {
                 Some(Act::Waits)
             }
             Looked::Gone => None,
+        }
+    }
+
+    /// The job of the session that its poll begins: it reads or writes, as was asked. Takes no memory.
+    pub fn new_job(&self, alloc: Global) -> SessionJob
+        ensures { result ≡ new_job_of self.now }
+    {
+        match &self.asked {
+            Some(HandleCall::Write(_)) => SessionJob::Write(WriteProgress::new(alloc)),
+            _ => SessionJob::Read(ReadProgress::new(alloc)),
         }
     }
 
@@ -381,6 +456,7 @@ impl Owner {
     {
         let Owner {
             capacity: _,
+            asked: _asked,
             stage,
             session: _session,
         } = self;
@@ -391,9 +467,20 @@ impl Owner {
     }
 
     /// The job of its session takes its next action, where that is its own: what is seen of it. None, and no change, where the job
-    /// asks its reader or is over.
-    pub fn work(&mut self, job: &mut ReadProgress) -> Option<Act>
-        ensures { IsWorked (worked job.old self.old) job.old self.old result job.new self.new }
+    /// asks its handle or is over. Err, and no change, where there is no memory for the bytes that it finds.
+    pub fn work(&mut self, alloc: Global, job: &mut SessionJob) -> Result<Option<Act>, AllocError>
+        ensures ok { IfOk result (λ seen. IsWorked (worked job.old self.old) job.old self.old seen job.new self.new) }
+        ensures err { OnErr result ((job.new ≡ job.old) × (self.new ≡ self.old)) }
+    {
+        match job {
+            SessionJob::Read(read) => Ok(self.read(read)),
+            SessionJob::Write(write) => self.write(alloc, write),
+        }
+    }
+
+    // A job that reads takes its next action.
+    fn read(&mut self, job: &mut ReadProgress) -> Option<Act>
+        ensures { IsWorked (worked (of_job.Read job.old) self.old) (of_job.Read job.old) self.old result (of_job.Read job.new) self.new }
     {
         if let ReadAction::Deliver = job.next() {
             job.wake();
@@ -402,7 +489,23 @@ impl Owner {
         let Some(session) = &mut self.session else {
             return None;
         };
-        session.work(job)
+        session.read(job)
+    }
+
+    // A job that writes takes its next action.
+    fn write(&mut self, alloc: Global, job: &mut WriteProgress) -> Result<Option<Act>, AllocError>
+        ensures ok { IfOk result (λ seen. IsWorked (worked (of_job.Write job.old) self.old) (of_job.Write job.old) self.old seen
+            (of_job.Write job.new) self.new) }
+        ensures err { OnErr result ((job.new ≡ job.old) × (self.new ≡ self.old)) }
+    {
+        if let WriteAction::Deliver = job.next() {
+            job.wake();
+            return Ok(Some(Act::HolderWoken));
+        }
+        let Some(session) = &mut self.session else {
+            return Ok(None);
+        };
+        session.write(alloc, job)
     }
 
     /// The job of its session gives up: the handle won't come back. What is seen of that.

@@ -1,17 +1,19 @@
-//! Where an owner who reads meets the job of its session.
+//! Where an owner meets the job of its session.
 ghost use Rattle.std.specs.Prelude.{◌≡◌, ◌<◌, ◌≤◌, true, length, []};
 
 use crate::read::ReadProgress;
+use crate::write::WriteProgress;
 use blocking_core::io::Fault;
-use blocking_core::job::{ReadAction, ReadAnswer};
-use blocking_core::pipe::{Answered, BytePipe, Drained, Put, Room};
+use blocking_core::job::{PIECE, ReadAction, ReadAnswer, WriteAction, WriteAnswer};
+use blocking_core::pipe::{Answered, BytePipe, Drained, Filled, Peeked, Put, Room};
 use blocking_core::pool::{JobNo, WakeNote};
 use blocking_core::task::{Slot, Slotted};
 use blocking_laws::bytes::Bytes;
 use blocking_laws::event::{Act, HolderWaker};
+use std::alloc::{AllocError, Global};
 use std::marker::Model;
 
-/// A session of an owner who reads: the number of its job, the pipe between the two, and the slot in which the handle comes back.
+/// A session of an owner: the number of its job, the pipe between the two, and the slot in which the handle comes back.
 #[derive(Drop)]
 pub(crate) struct Session {
     number: JobNo,
@@ -27,6 +29,16 @@ pub(crate) enum Found {
     Nothing,
     /// Nothing, and no more will come.
     End,
+}
+
+/// What an owner finds that fills the pipe.
+pub(crate) enum Entered {
+    /// So many bytes went in, one at least, and this is the note of a job that waited.
+    Bytes(usize, Option<WakeNote>),
+    /// No room yet: the owner is seated.
+    Nothing,
+    /// The job's end is closed, and no byte went in.
+    Shut,
 }
 
 /// What an owner finds in the slot.
@@ -48,13 +60,16 @@ impl Model for Session {
 }
 
 impl Session {
-    ghost use Rattle.std.specs.Prelude.{vec_len};
+    ghost use Rattle.std.specs.Prelude.{vec_len, IfOk, OnErr};
     ghost use Rattle.blocking_core.specs.Reading.{read_next};
     ghost use Rattle.blocking_core.specs.Slots.{empty_slot};
+    ghost use Rattle.blocking_core.specs.Writing.{write_next};
+    ghost use Rattle.blocking_lanes.specs.Sessions.{filled, session_after_fill, found_piece, holds, work_at_peek, work_of_consume};
+    ghost use Rattle.blocking_lanes.specs.Sessions.{writer_closes, writer_finishes, writer_works};
     ghost use Rattle.blocking_lanes.specs.Sessions.{reach, drained, session_after_close, session_after_drain, session_after_look};
     ghost use Rattle.blocking_lanes.specs.Sessions.{work_by, work_at_room, work_at_put, work_of_close, work_of_finish, found_room, found_put, fits_in};
     ghost use Rattle.blocking_lanes.specs.Sessions.{give_up_wakes, session_after_give_up, IsWork};
-    ghost use Rattle.blocking_lanes.specs.Owners.{found_as, looked_as};
+    ghost use Rattle.blocking_lanes.specs.Owners.{found_as, entered_as, looked_as};
 
     /// A session that begins, with this job and this empty pipe.
     pub(crate) fn new(number: JobNo, pipe: BytePipe<()>) -> Session
@@ -131,6 +146,23 @@ impl Session {
         }
     }
 
+    /// The owner fills the pipe with the first of these bytes, as many as there is room for.
+    pub(crate) fn fill(&mut self, bytes: &[u8]) -> Entered
+        requires { 0 < length bytes.now }
+        ensures found { result ≡ entered_as (filled (length bytes.now) self.old) }
+        ensures session { self.new ≡ session_after_fill bytes.now (filled (length bytes.now) self.old) self.old }
+    {
+        let Answered {
+            answer,
+            spare: _spare,
+        } = self.pipe.fill_or_seat((), bytes);
+        match answer {
+            Filled::Took(count, note) => Entered::Bytes(count, note),
+            Filled::Shut => Entered::Shut,
+            Filled::Waits(_at_the_pipe) => Entered::Nothing,
+        }
+    }
+
     /// The owner looks for the handle, and is seated where it may still come.
     pub(crate) fn look(&mut self) -> Looked
         ensures looked { result ≡ looked_as self.old.slot.content }
@@ -143,7 +175,7 @@ impl Session {
         }
     }
 
-    // ---- its job acts
+    // ---- a job that reads
 
     // The job looks for room, and is seated where there is none.
     fn find_room(&mut self, job: &mut ReadProgress) -> Act
@@ -206,8 +238,8 @@ impl Session {
         Act::Finished(HolderWaker::in_seat(woke))
     }
 
-    /// The job takes its next action, where it takes it at its session: what is seen of it.
-    pub(crate) fn work(&mut self, job: &mut ReadProgress) -> Option<Act>
+    /// A job that reads takes its next action, where it takes it at its session: what is seen of it.
+    pub(crate) fn read(&mut self, job: &mut ReadProgress) -> Option<Act>
         ensures { IsWork (work_by (read_next job.old.core) job.old self.old) job.old self.old result job.new self.new }
     {
         match job.next() {
@@ -220,6 +252,106 @@ impl Session {
             }
         }
     }
+
+    // ---- a job that writes
+
+    // The job looks at the front of the pipe. The memory for what it finds there is had before it does.
+    fn find_piece(&mut self, alloc: Global, job: &mut WriteProgress) -> Result<Act, AllocError>
+        ensures ok { IfOk result (λ act. work_at_peek (found_piece self.old) job.old self.old
+            ≡ record { act = act; job = job.new; session = self.new }) }
+        ensures err { OnErr result ((job.new ≡ job.old) × (self.new ≡ self.old)) }
+    {
+        if self.pipe.len() == 0 {
+            return Ok(self.find_no_piece(job));
+        }
+        let mut room = vec![in alloc; 0u8; self.pipe.len().min(PIECE)]?;
+        match self.pipe.peek_or_seat(self.number, room.as_mut_slice()) {
+            Peeked::Some(_all_of_it) => {}
+            Peeked::Parked | Peeked::Drained => unreachable!(),
+        }
+        let piece = Bytes::new(room);
+        let told = piece.try_clone()?;
+        job.find(piece);
+        Ok(Act::Peeked(told))
+    }
+
+    // The job looks at the front of the pipe, in which nothing is inside: it is seated, or the pipe is drained for good.
+    fn find_no_piece(&mut self, job: &mut WriteProgress) -> Act
+        requires { self.old.pipe.items ≡ [] }
+        ensures { work_at_peek (found_piece self.old) job.old self.old
+            ≡ record { act = result; job = job.new; session = self.new } }
+    {
+        let mut one = [0u8; 1];
+        match self.pipe.peek_or_seat(self.number, &mut one) {
+            Peeked::Some(_) => unreachable!(),
+            Peeked::Parked => {
+                job.meet(WriteAnswer::Parked);
+                Act::JobParked
+            }
+            Peeked::Drained => {
+                job.meet(WriteAnswer::Drained);
+                Act::Drained
+            }
+        }
+    }
+
+    // So many bytes, which the writer took, leave the pipe.
+    fn consume(&mut self, job: &mut WriteProgress, count: usize) -> Act
+        requires { holds count self.old ≡ true }
+        ensures { work_of_consume count job.old self.old
+            ≡ record { act = result; job = job.new; session = self.new } }
+    {
+        let woke = self.pipe.consume(count).is_some();
+        job.meet(WriteAnswer::Consumed { woke });
+        Act::Taken(count, HolderWaker::in_seat(woke))
+    }
+
+    // The job closes its end of the pipe.
+    fn close_writer(&mut self, job: &mut WriteProgress) -> Act
+        ensures { writer_closes job.old self.old
+            ≡ record { act = result; job = job.new; session = self.new } }
+    {
+        let woke = self.pipe.close_job().is_some();
+        job.meet(WriteAnswer::Closed { woke });
+        Act::JobClosed(HolderWaker::in_seat(woke))
+    }
+
+    // The job puts its result into the slot.
+    fn finish_writer(&mut self, job: &mut WriteProgress) -> Act
+        ensures { writer_finishes job.old self.old
+            ≡ record { act = result; job = job.new; session = self.new } }
+    {
+        let woke = self.slot.put(job.fault()).wake.is_some();
+        job.meet(WriteAnswer::Finished { woke });
+        Act::Finished(HolderWaker::in_seat(woke))
+    }
+
+    /// A job that writes takes its next action, where it takes it at its session: what is seen of it. Where there is no memory for the
+    /// bytes that it finds nothing is done.
+    pub(crate) fn write(
+        &mut self,
+        alloc: Global,
+        job: &mut WriteProgress,
+    ) -> Result<Option<Act>, AllocError>
+        ensures ok { IfOk result (λ seen. IsWork (writer_works (write_next job.old.core) job.old self.old) job.old self.old seen job.new self.new) }
+        ensures err { OnErr result ((job.new ≡ job.old) × (self.new ≡ self.old)) }
+    {
+        Ok(match job.next() {
+            WriteAction::Peek => Some(self.find_piece(alloc, job)?),
+            WriteAction::Consume(count) if count <= self.pipe.len() => {
+                Some(self.consume(job, count))
+            }
+            WriteAction::Close => Some(self.close_writer(job)),
+            WriteAction::Finish => Some(self.finish_writer(job)),
+            WriteAction::Consume(_)
+            | WriteAction::Write(_)
+            | WriteAction::Flush
+            | WriteAction::Deliver
+            | WriteAction::Done => None,
+        })
+    }
+
+    // ---- either
 
     /// The job gives up: the handle won't come back. Whether it took the waker of an owner who waited.
     pub(crate) fn give_up(&mut self) -> bool

@@ -16,8 +16,6 @@ use Rattle.blocking_laws.specs.declared.event.Party.TheVariants.{Owner, Task, Wo
 use Rattle.blocking_laws.specs.declared.event.WaitEnd.{WaitEnd}
 use Rattle.blocking_laws.specs.declared.event.WaitEnd.TheVariants.{Woken, TimedOut}
 use Rattle.blocking_laws.specs.declared.step.Answer.{Answer}
-use Rattle.blocking_laws.specs.declared.step.HandleCall.{HandleCall}
-use Rattle.blocking_laws.specs.declared.step.HandleCall.TheVariants.{Read, GetMut}
 use Rattle.blocking_laws.specs.declared.step.Step.{Step}
 use Rattle.blocking_laws.specs.declared.step.Step.TheVariants.{New, Ask, Own, DropOwner, Spawn, OfTask, Arrive, Take, Job, Io, End, Wait, Late, SetLimit, Sweep, Stray, Strike}
 use Rattle.blocking_laws.specs.declared.step.TaskCall.{TaskCall}
@@ -113,19 +111,13 @@ may_cancel (Some (Owner h)) past = is_dropped (acts_of_owner h (events past))
 may_cancel (Some (Task k)) past = is_let_go (acts_of_task k (events past))
 may_cancel _ past = false
 
--- whether owners are asked for this yet: for a read and for the handle they are, for a write, a flush and a close they aren't
-abbrev pub is_known : HandleCall → Bool
-is_known (Read n) = true
-is_known GetMut = true
-is_known _ = false
-
 -- ---- steps
 
--- Whether a step names a party that is there and has an action of that kind. An owner may always be made; it is asked where it may be,
--- though not yet for a write, a flush or a close; it is dropped where it rests; and its poll goes on while it is under way.
+-- Whether a step names a party that is there and has an action of that kind. An owner may always be made; it is asked where it may be, and
+-- dropped where it rests; and its poll goes on while it is under way.
 abbrev pub has_action : List Moment → Step → Bool
 has_action past (New capacity) = true
-has_action past (Ask h call) = is_known call && may_ask (acts_of_owner h (events past)) call
+has_action past (Ask h call) = may_ask (acts_of_owner h (events past)) call
 has_action past (Own h) = not (is_poll_over (under_way (acts_of_owner h (events past))))
 has_action past (DropOwner h) = rests (acts_of_owner h (events past))
 has_action past Spawn = true

@@ -91,15 +91,6 @@ pub enum HandleCall {
 impl HandleCall {
     ghost use Rattle.std.specs.Prelude.{IsOk, true};
     ghost use Rattle.blocking_laws.specs.Bare.{is_bare_call};
-    ghost use Rattle.blocking_laws.specs.Steps.{is_known};
-
-    /// Whether owners are asked for this yet: for a read and for the handle they are, for a write, a flush and a close they aren't.
-    pub fn is_known(&self) -> bool
-        ensures { result ≡ is_known self.now }
-    {
-        matches!(self, HandleCall::Read(_) | HandleCall::GetMut)
-    }
-
     /// The same call once more. Err where there is no memory for its bytes: a call without bytes is always had.
     pub fn try_clone(&self) -> Result<HandleCall, AllocError>
         ensures same { IfOk result (λ call. call ≡ self.now) }

@@ -171,10 +171,9 @@ pub fn jobs_of_owners()
 
 /// What a poll of an owner that writes does next, and what a flush tells.
 pub fn writers()
-    // made 0 / asked (to flush): no owner is asked for it yet
-    ensures refuses_unknown_call { Refuses StepLaw writer_made (asks Flush 1) }
     // .. / replied ok / asked (to close) / replied ok / asked (for the handle)
     ensures refuses_call_of_closed { Refuses FirstOwnerLaw writer_closed (asks GetMut 2) }
+    ensures refuses_step_to_closed { Refuses StepLaw writer_closed (asks GetMut 2) }
     // .. / ended 1 parked / asked (to flush) / replied ok
     ensures refuses_early_flush { Refuses FirstOwnerLaw flush_asked (polls (Replied Okay) 2) }
     // .. / put 2 / replied ok 3
