@@ -32,7 +32,7 @@ use Rattle.blocking_laws.specs.declared.step.HandleCall.{HandleCall}
 use Rattle.blocking_laws.specs.declared.step.HandleCall.TheVariants as handle_call
 use Rattle.blocking_lanes.specs.Reads as reads
 use Rattle.blocking_lanes.specs.SessionJobs.{new_job}
-use Rattle.blocking_lanes.specs.Sessions.{Session, Work, serial_of, drained, filled, reach, session_after_close, session_after_drain, session_after_fill, session_after_look, session_after_give_up, give_up_wakes, work_by, writer_works}
+use Rattle.blocking_lanes.specs.Sessions.{Session, Work, serial_of, drained, filled, reach, front, session_after_close, session_after_drain, session_after_fill, session_after_look, session_after_give_up, give_up_wakes, work_by, writer_works}
 use Rattle.blocking_lanes.specs.Writes as writes
 use Rattle.blocking_lanes.specs.declared.job.SessionJob.{SessionJob}
 use Rattle.blocking_lanes.specs.declared.job.SessionJob.TheVariants as of_job
@@ -130,6 +130,11 @@ goes_on poll (Some note) = stage.Wakes poll note
 abbrev pub reach_in : ℕ → Option Session → ℕ
 reach_in most None = 0
 reach_in most (Some session) = reach most session
+
+-- how many bytes the job of this session finds at the front of its pipe
+abbrev pub front_in : Option Session → ℕ
+front_in None = 0
+front_in (Some session) = front session
 
 -- what a poll does that is over with this reply
 abbrev pub next_to_say : Option Told → OwnerNext

@@ -129,7 +129,11 @@ give_up_wakes session = is_some (waker_of_give_up session.slot)
 abbrev pub session_after_give_up : Session → Session
 session_after_give_up session = record session { slot = after_give_up session.slot }
 
--- what the job finds at the front of the pipe
+-- how many bytes a job finds at the front of the pipe: no more than a piece has
+abbrev pub front : Session → ℕ
+front session = min (length session.pipe.items) largest_piece
+
+-- what it finds there
 abbrev pub found_piece : Session → Met (List ℕ)
 found_piece session = peek largest_piece session.pipe.items session.pipe.is_owner_open
 

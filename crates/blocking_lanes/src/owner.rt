@@ -105,7 +105,7 @@ impl Owner {
     ghost use Rattle.blocking_lanes.specs.Owners.{new_owner, capacity_of, is_resting, is_gone, note_at, next_of, number_of, bytes_in, rests};
     ghost use Rattle.blocking_lanes.specs.Owners.{owner_after_ask, did, did_in, reply_did, IsDid, goes_on, reach_in};
     ghost use Rattle.blocking_lanes.specs.Owners.{owner_after_begin, owner_after_refusal, owner_after_delivery, owner_after_drop};
-    ghost use Rattle.blocking_lanes.specs.Owners.{may_ask, fill_did_in, drop_did, new_job_of, worked, IsWorked, give_up_act, owner_after_give_up};
+    ghost use Rattle.blocking_lanes.specs.Owners.{may_ask, front_in, fill_did_in, drop_did, new_job_of, worked, IsWorked, give_up_act, owner_after_give_up};
     ghost use Rattle.blocking_lanes.specs.declared.job.SessionJob.TheVariants as of_job;
 
     /// An owner, with an idle handle. The pipes of its sessions hold so many bytes; 0 stands for 8,388,608.
@@ -395,6 +395,16 @@ impl Owner {
         match &self.asked {
             Some(HandleCall::Write(_)) => SessionJob::Write(WriteProgress::new(alloc)),
             _ => SessionJob::Read(ReadProgress::new(alloc)),
+        }
+    }
+
+    /// How many bytes a job of its session finds that looks at the front of the pipe.
+    pub fn front(&self) -> usize
+        ensures { result ≡ front_in self.now.session }
+    {
+        match &self.session {
+            Some(session) => session.front(),
+            None => 0,
         }
     }
 

@@ -64,7 +64,7 @@ impl Session {
     ghost use Rattle.blocking_core.specs.Reading.{read_next};
     ghost use Rattle.blocking_core.specs.Slots.{empty_slot};
     ghost use Rattle.blocking_core.specs.Writing.{write_next};
-    ghost use Rattle.blocking_lanes.specs.Sessions.{filled, session_after_fill, found_piece, holds, work_at_peek, work_of_consume};
+    ghost use Rattle.blocking_lanes.specs.Sessions.{filled, session_after_fill, front, found_piece, holds, work_at_peek, work_of_consume};
     ghost use Rattle.blocking_lanes.specs.Sessions.{writer_closes, writer_finishes, writer_works};
     ghost use Rattle.blocking_lanes.specs.Sessions.{reach, drained, session_after_close, session_after_drain, session_after_look};
     ghost use Rattle.blocking_lanes.specs.Sessions.{work_by, work_at_room, work_at_put, work_of_close, work_of_finish, found_room, found_put, fits_in};
@@ -255,6 +255,13 @@ impl Session {
 
     // ---- a job that writes
 
+    /// How many bytes a job finds at the front of the pipe.
+    pub(crate) fn front(&self) -> usize
+        ensures { result ≡ front self.now }
+    {
+        self.pipe.len().min(PIECE)
+    }
+
     // The job looks at the front of the pipe. The memory for what it finds there is had before it does.
     fn find_piece(&mut self, alloc: Global, job: &mut WriteProgress) -> Result<Act, AllocError>
         ensures ok { IfOk result (λ act. work_at_peek (found_piece self.old) job.old self.old
@@ -264,7 +271,7 @@ impl Session {
         if self.pipe.len() == 0 {
             return Ok(self.find_no_piece(job));
         }
-        let mut room = vec![in alloc; 0u8; self.pipe.len().min(PIECE)]?;
+        let mut room = vec![in alloc; 0u8; self.front()]?;
         match self.pipe.peek_or_seat(self.number, room.as_mut_slice()) {
             Peeked::Some(_all_of_it) => {}
             Peeked::Parked | Peeked::Drained => unreachable!(),
