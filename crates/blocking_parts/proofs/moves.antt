@@ -1,4 +1,5 @@
 pub mod Found
+pub mod SessionActs
 pub mod Asides
 pub mod Steps
 pub mod Jobs

@@ -34,7 +34,7 @@ use Rattle.blocking_laws.specs.declared.event.Act.{Act}
 use Rattle.blocking_laws.specs.declared.event.Moment.{Moment}
 use Rattle.blocking_pool.specs.declared.pool.standing.Standing.TheVariants.{Running}
 use Rattle.blocking_parts.specs.Parts.{Parts, InHand, row_of, job_at, job_in, next_at, next_in, done_by, done_in}
-use Rattle.blocking_parts.specs.Rows.{call_action, action_of, call_done, call_step, call_step_by, done, is_at_first, kind_of, next_of, party_of, read_done, read_seen, read_step}
+use Rattle.blocking_parts.specs.Rows.{call_action, action_of, call_done, call_step, call_step_by, done, is_at_first, kind_of, next_of, party_of, session_done, session_seen, session_step}
 use Rattle.blocking_parts.specs.Ties.{Tied, CoreAs, PlaceAs, GaveAs}
 use Rattle.blocking_parts.specs.declared.row.Core.{Core}
 use Rattle.blocking_parts.specs.declared.row.Core.TheVariants as core
@@ -56,7 +56,7 @@ call_next action.Done n acts ran = by ran
 
 job_next : (c : Core) (acts : List Act) → CoreAs c acts → has_given_up acts ≡ false → next_of_job (kind_of c) acts ≡ action_of c
 job_next (core.Call k call) acts tie stays = call_next call.next call.number acts (tie stays)
-job_next (core.Read h job) acts tie stays = sym (action_is job acts (tie stays))
+job_next (core.Session h job) acts tie stays = sym (action_is job acts (tie stays))
 
 -- and so its worker, by where the job is in its turn
 stage_next : (at : Stage) (c : Core) (acts : List Act) → CoreAs c acts → PlaceAs (Some Running) (turn_of at) (is_at_first c) acts → GaveAs at acts
@@ -90,11 +90,11 @@ call_some at k call all row task = by (call_step at call) ∙ call_own at k call
     by (Some step) = refl
 
 -- a job that asks its reader, or is over, does nothing at its session
-none_worked : (a : ReadAction) (last : Option Session) (p : reads.Progress) (owner : Owner) → ((s : Session) → work_by a p s ≡ None) → is_some (worked_in a last p owner) ≡ false
+none_worked : (a : ReadAction) (last : Option Session) (p : SessionJob) (owner : Owner) → ((s : Session) → work_by a p s ≡ None) → is_some (worked_in a last p owner) ≡ false
 none_worked a None p owner none = refl
 none_worked a (Some s) p owner none = ap (λ o. is_some (worked_by o owner)) (none s)
 
-worked_own : (p : reads.Progress) (owner : Owner) → (is_asking (reads.action_of p) ≡ false → is_over (reads.action_of p) ≡ false → is_some (worked p owner) ≡ true)
+worked_own : (p : SessionJob) (owner : Owner) → (is_asking (reads.action_of p) ≡ false → is_over (reads.action_of p) ≡ false → is_some (worked p owner) ≡ true)
     → is_some (worked p owner) ≡ is_job_action (next_in_turn GoesOn (reads.action_of p))
 worked_own p owner some = by (read_next p.core) refl
   where
@@ -113,11 +113,11 @@ worked_own p owner some = by (read_next p.core) refl
         at (read.Read most) is = ap (λ a. is_some (worked_as a p owner)) is ∙ none_worked (read.Read most) owner.session p owner (λ s. refl)
         at read.Done is = ap (λ a. is_some (worked_as a p owner)) is ∙ none_worked read.Done owner.session p owner (λ s. refl)
 
-read_some : (at : Stage) (h : ℕ) (p : reads.Progress) (all : List Task) (row : List Owner) (owner : Owner) → (at ≡ stage.Runs → is_some (worked p owner) ≡ is_job_action (next_in_turn GoesOn (reads.action_of p)))
-    → is_some (read_done h p all row (Some owner) (read_step at p)) ≡ is_job_action (next_of at (core.Read h p))
+read_some : (at : Stage) (h : ℕ) (p : SessionJob) (all : List Task) (row : List Owner) (owner : Owner) → (at ≡ stage.Runs → is_some (worked p owner) ≡ is_job_action (next_in_turn GoesOn (reads.action_of p)))
+    → is_some (session_done h p all row (Some owner) (session_step at p)) ≡ is_job_action (next_of at (core.Session h p))
 read_some stage.Runs h p all row owner works = by (worked p owner) ∙ works refl
   where
-    by : (o : Option Worked) → is_some (read_seen h p all row owner (owners.Works p) (act_of_work o)) ≡ is_some o
+    by : (o : Option Worked) → is_some (session_seen h p all row owner (owners.Works p) (act_of_work o)) ≡ is_some o
     by None = refl
     by (Some did) = refl
 read_some stage.Waits h p all row owner works = refl
@@ -144,7 +144,7 @@ module _ (setting : ℕ) (plan : List Bool) (w : Parts) (past : List Moment) (t 
     where
       by : (c : Core) → holder past s ≡ Some (party_of c) → kind_by (Some (party_of c)) past s ≡ kind_of c
       by (core.Call k call) held = refl
-      by (core.Read h job) held =
+      by (core.Session h job) held =
           let owner = owner_there setting plan w past t h s held in
           (t.owned.each h owner.0 owner.1).kinds s (t.owned.begun h s held)
 
@@ -179,16 +179,16 @@ module _ (setting : ℕ) (plan : List Bool) (w : Parts) (past : List Moment) (t 
       by (core.Call k call) is =
           let task = task_there setting plan w past t k s ((t.rowed.each s job.row here.has_row).held_by ∙ ap (λ c. Some (party_of c)) is) in
           ap (λ o. is_some (call_done k call job.held.stage w.tasks w.owners o (call_step job.held.stage call))) task.1 ∙ call_some job.held.stage k call w.tasks w.owners task.0
-      by (core.Read h p) is =
+      by (core.Session h p) is =
           let held = (t.rowed.each s job.row here.has_row).held_by ∙ ap (λ c. Some (party_of c)) is in
           let owner = owner_there setting plan w past t h s held in
-          ap (λ o. is_some (read_done h p w.tasks w.owners o (read_step job.held.stage p))) owner.1
+          ap (λ o. is_some (session_done h p w.tasks w.owners o (session_step job.held.stage p))) owner.1
           ∙ read_some job.held.stage h p w.tasks w.owners owner.0
           (λ runs.
           let stays : has_given_up acts ≡ false = subst (λ at. PlaceAs (Some Running) (turn_of at) (is_at_first job.row.core) acts) runs (job_place setting plan w past t v job here) in
-          let tie : CoreAs (core.Read h p) acts = subst (λ c. CoreAs c acts) is (t.rowed.each s job.row here.has_row).core in
+          let tie : CoreAs (core.Session h p) acts = subst (λ c. CoreAs c acts) is (t.rowed.each s job.row here.has_row).core in
           worked_own p owner.0
-          (works_some owner.0 (cut h (events past)) s p (t.owned.each h owner.0 owner.1) (subst (reads.ReadAs p) (sym (t.owned.acts h s held)) (tie stays)) (t.owned.begun h s held)))
+          (works_some owner.0 (cut h (events past)) s p (t.owned.each h owner.0 owner.1) (subst (reads.JobAs p) (sym (t.owned.acts h s held)) (tie stays)) (t.owned.begun h s held)))
 
   -- And a job does something exactly where that is its own to do.
   pub own_is : (v : ℕ) → is_some (done_in w (job_at w v)) ≡ is_job_action (next_at w v)

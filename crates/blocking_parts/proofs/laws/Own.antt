@@ -20,7 +20,7 @@ use Rattle.blocking_laws.specs.Places.{seen_room, seen_put}
 use Rattle.blocking_laws.specs.Seen.{is_of_pool, is_nothing}
 use Rattle.blocking_laws.specs.Steps.{is_answered}
 use Rattle.blocking_laws.specs.declared.event.Act.{Act}
-use Rattle.blocking_parts.specs.Rows.{Done, call_done, call_step, call_step_by, done, owner_in, read_done, read_seen, read_step}
+use Rattle.blocking_parts.specs.Rows.{Done, call_done, call_step, call_step_by, done, owner_in, session_done, session_seen, session_step}
 use Rattle.blocking_parts.specs.declared.row.Core.{Core}
 use Rattle.blocking_parts.specs.declared.row.Core.TheVariants as core
 
@@ -53,7 +53,7 @@ puts n (Served seat) = refl
 puts n Waiting = refl
 puts n Closed = refl
 
-at_session : (a : ReadAction) (p : reads.Progress) (s : Session) → is_own_work (work_by a p s) ≡ true
+at_session : (a : ReadAction) (p : SessionJob) (s : Session) → is_own_work (work_by a p s) ≡ true
 at_session read.FindRoom p s = finds (found_room s)
 at_session (read.Put count) p s = by (fits_in p.piece s)
   where
@@ -66,7 +66,7 @@ at_session (read.Read most) p s = refl
 at_session read.Deliver p s = refl
 at_session read.Done p s = refl
 
-in_session : (a : ReadAction) (last : Option Session) (p : reads.Progress) (owner : Owner) → is_own_if (act_of_work (worked_in a last p owner)) ≡ true
+in_session : (a : ReadAction) (last : Option Session) (p : SessionJob) (owner : Owner) → is_own_if (act_of_work (worked_in a last p owner)) ≡ true
 in_session a None p owner = refl
 in_session a (Some s) p owner = by (work_by a p s) (at_session a p s)
   where
@@ -74,7 +74,7 @@ in_session a (Some s) p owner = by (work_by a p s) (at_session a p s)
     by None is = refl
     by (Some work) is = is
 
-works : (a : ReadAction) (p : reads.Progress) (owner : Owner) → is_own_if (act_of_work (worked_as a p owner)) ≡ true
+works : (a : ReadAction) (p : SessionJob) (owner : Owner) → is_own_if (act_of_work (worked_as a p owner)) ≡ true
 works read.Deliver p owner = refl
 works read.FindRoom p owner = in_session read.FindRoom owner.session p owner
 works (read.Put count) p owner = in_session (read.Put count) owner.session p owner
@@ -99,13 +99,13 @@ does at (core.Call k call) all row = by at (slice_get all k)
     by stage.MustGiveUp (Some task) = refl
     by stage.MustWake (Some task) = refl
     by stage.GaveUp (Some task) = refl
-does at (core.Read h p) all row = by at (slice_get row h)
+does at (core.Session h p) all row = by at (slice_get row h)
   where
-    seen : (owner : Owner) (act : Option Act) → is_own_if act ≡ true → is_own_done (read_seen h p all row owner (owners.Works p) act) ≡ true
+    seen : (owner : Owner) (act : Option Act) → is_own_if act ≡ true → is_own_done (session_seen h p all row owner (owners.Works p) act) ≡ true
     seen owner None is = refl
     seen owner (Some act) is = is
 
-    by : (at : Stage) (o : Option Owner) → is_own_done (read_done h p all row o (read_step at p)) ≡ true
+    by : (at : Stage) (o : Option Owner) → is_own_done (session_done h p all row o (session_step at p)) ≡ true
     by at None = refl
     by stage.Runs (Some owner) = seen owner (act_of_work (worked p owner)) (works (read_next p.core) p owner)
     by stage.Waits (Some owner) = refl
@@ -144,13 +144,13 @@ stays at (core.Call k call) all row = by (slice_get all k) (call_step at call)
     by None step = refl
     by (Some task) None = refl
     by (Some task) (Some step) = refl
-stays at (core.Read h p) all row = by (slice_get row h) (read_step at p)
+stays at (core.Session h p) all row = by (slice_get row h) (session_step at p)
   where
-    seen : (owner : Owner) (step : OwnerStep) (act : Option Act) → owner_left (core.Read h p) (read_seen h p all row owner step act) ≡ Some h
+    seen : (owner : Owner) (step : OwnerStep) (act : Option Act) → owner_left (core.Session h p) (session_seen h p all row owner step act) ≡ Some h
     seen owner step None = refl
     seen owner step (Some act) = refl
 
-    by : (o : Option Owner) (step : Option OwnerStep) → owner_left (core.Read h p) (read_done h p all row o step) ≡ Some h
+    by : (o : Option Owner) (step : Option OwnerStep) → owner_left (core.Session h p) (session_done h p all row o step) ≡ Some h
     by None step = refl
     by (Some owner) None = refl
     by (Some owner) (Some step) = seen owner step (owners.act_of step owner)

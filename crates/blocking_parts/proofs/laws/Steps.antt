@@ -130,11 +130,11 @@ noted_next owner_stage.Dropped last number is = absurd cc
 -- by its core it is of the owner that holds it, and an answer leaves that
 owner_holds : (c : Core) → owner_in c ≡ as_owner (Some (party_of c))
 owner_holds (core.Call k call) = refl
-owner_holds (core.Read h job) = refl
+owner_holds (core.Session h job) = refl
 
 answer_stays : (answer : Answer) (c : Core) → owner_in (core_after_answer answer c) ≡ owner_in c
 answer_stays answer (core.Call k call) = refl
-answer_stays answer (core.Read h job) = refl
+answer_stays answer (core.Session h job) = refl
 
 -- a row that was set for one of the same owner leaves each job its owner
 set_stays : (rows : List Row) (t : ℕ) (old new : Row) → row_of rows t ≡ Some old → owner_in new.core ≡ owner_in old.core → (job : Option ℕ) → owner_of (slice_set rows (t - 1) new) job ≡ owner_of rows job

@@ -20,7 +20,7 @@ use Rattle.blocking_lanes.specs.Calls.{RanAs}
 use Rattle.blocking_lanes.specs.OwnerSteps as owners
 use Rattle.blocking_lanes.specs.Owners.{Owner, Worked, number_of, worked}
 use Rattle.blocking_lanes.specs.Reads as reads
-use Rattle.blocking_lanes.specs.Reads.{ReadAs}
+use Rattle.blocking_lanes.specs.Reads.{JobAs}
 use Rattle.blocking_lanes.specs.Steps as tasks
 use Rattle.blocking_lanes.specs.Steps.{TaskStep}
 use Rattle.blocking_lanes.specs.Tasks.{Task, finish_wakes}
@@ -44,7 +44,7 @@ use Rattle.blocking_laws.specs.declared.step.Answer.TheVariants.{Number, Gave, F
 use Rattle.blocking_pool.specs.declared.pool.standing.Standing.{Standing}
 use Rattle.blocking_pool.specs.declared.pool.standing.Standing.TheVariants.{Queued, Running}
 use Rattle.blocking_parts.specs.Parts.{Parts}
-use Rattle.blocking_parts.specs.Rows.{Done, done, call_done, call_step, read_done, read_seen, read_step, call_action, core_after_answer, is_first, is_at_first, action_of, party_of}
+use Rattle.blocking_parts.specs.Rows.{Done, done, call_done, call_step, session_done, session_seen, session_step, call_action, core_after_answer, is_first, is_at_first, action_of, party_of}
 use Rattle.blocking_parts.specs.Ties.{Tied, CoreAs, PlaceAs, GaveAs}
 use Rattle.blocking_parts.specs.declared.row.Core.{Core}
 use Rattle.blocking_parts.specs.declared.row.Core.TheVariants as core
@@ -160,29 +160,29 @@ call_leaves stage.Waits k next n all row (Some task) did acts ran place is = abs
 call_leaves stage.GaveUp k next n all row (Some task) did acts ran place is = absurd cc
 
 -- the job of a reader, where what it works goes on by its table
-module _ (h : ℕ) (job : reads.Progress) (owner : Owner) (did : Done) (acts : List Act) (goes : ReadAs job acts → (done : Worked) → worked job owner ≡ Some done → ReadAs done.job (done.act ∷ acts)) where
+module _ (h : ℕ) (job : SessionJob) (owner : Owner) (did : Done) (acts : List Act) (goes : JobAs job acts → (done : Worked) → worked job owner ≡ Some done → JobAs done.job (done.act ∷ acts)) where
   -- one that parks looked for room
-  parked_first : ReadAs job acts → (done : Worked) → worked job owner ≡ Some done → done.act ≡ JobParked → is_first (reads.action_of done.job) ≡ true
+  parked_first : JobAs job acts → (done : Worked) → worked job owner ≡ Some done → done.act ≡ JobParked → is_first (reads.action_of done.job) ≡ true
   parked_first read_as done is parks =
       let looks = (works_so job owner done is).parks parks in
       ap is_first
       (action_is done.job (done.act ∷ acts) (goes read_as done is) ∙ ap (λ (act : Act). next_of_job Reading (act ∷ acts)) parks
       ∙ sym read_as.next ∙ ap (reads.action_as job.piece) (awake job read.FindRoom looks (λ same. cc)).next_is)
 
-  read_leaves : (at : Stage) (all : List Task) (row : List Owner) → (has_given_up acts ≡ false → ReadAs job acts) → PlaceAs (Some Running) (turn_of at) (is_first (reads.action_of job)) acts
-      → read_done h job all row (Some owner) (read_step at job) ≡ Some did → LeavesSo (core.Read h job) acts did
+  read_leaves : (at : Stage) (all : List Task) (row : List Owner) → (has_given_up acts ≡ false → JobAs job acts) → PlaceAs (Some Running) (turn_of at) (is_first (reads.action_of job)) acts
+      → session_done h job all row (Some owner) (session_step at job) ≡ Some did → LeavesSo (core.Session h job) acts did
   read_leaves stage.Runs all row ran place is = by (worked job owner) refl is
     where
-      by : (o : Option Worked) → worked job owner ≡ o → read_seen h job all row owner (owners.Works job) (owners.act_of_work o) ≡ Some did → LeavesSo (core.Read h job) acts did
+      by : (o : Option Worked) → worked job owner ≡ o → session_seen h job all row owner (owners.Works job) (owners.act_of_work o) ≡ Some did → LeavesSo (core.Session h job) acts did
       by None found is = absurd cc
       by (Some done) found is =
-          subst (LeavesSo (core.Read h job) acts) (ap (value_of did) is)
-          (subst (λ o. Leaves (core.Read h job) (core.Read h (owners.job_after_work o job)) done.act acts) (sym found)
+          subst (LeavesSo (core.Session h job) acts) (ap (value_of did) is)
+          (subst (λ o. Leaves (core.Session h job) (core.Session h (owners.job_after_work o job)) done.act acts) (sym found)
           (record { party = refl; core = λ going. goes (ran place) done found; parks = parked_first (ran place) done found }))
   read_leaves stage.MustGiveUp all row ran place is =
-      subst (LeavesSo (core.Read h job) acts) (ap (value_of did) is) (record { party = refl; core = λ going. absurd cc; parks = λ parks. absurd cc })
+      subst (LeavesSo (core.Session h job) acts) (ap (value_of did) is) (record { party = refl; core = λ going. absurd cc; parks = λ parks. absurd cc })
   read_leaves stage.MustWake all row ran place is =
-      subst (LeavesSo (core.Read h job) acts) (ap (value_of did) is)
+      subst (LeavesSo (core.Session h job) acts) (ap (value_of did) is)
       (record { party = refl; core = λ going. let over : has_given_up acts ≡ true = place in absurd cc; parks = λ parks. absurd cc })
   read_leaves stage.Waits all row ran place is = absurd cc
   read_leaves stage.GaveUp all row ran place is = absurd cc
@@ -191,19 +191,19 @@ module _ (h : ℕ) (job : reads.Progress) (owner : Owner) (did : Done) (acts : L
 pub done_leaves : (setting : ℕ) (plan : List Bool) (w : Parts) (past : List Moment) (t : Tied setting plan w past) (at : Stage) (s : ℕ) (c : Core) (did : Done) → CoreAs c (acts_of s (events past))
     → PlaceAs (Some Running) (turn_of at) (is_at_first c) (acts_of s (events past)) → holder past s ≡ Some (party_of c) → done at c w.tasks w.owners ≡ Some did → Leaves c did.core did.act (acts_of s (events past))
 done_leaves setting plan w past t at s (core.Call k call) did ran place held is = call_leaves at k call.next call.number w.tasks w.owners (slice_get w.tasks k) did (acts_of s (events past)) ran place is
-done_leaves setting plan w past t at s (core.Read h job) did ran place held is = by (slice_get w.owners h) refl is
+done_leaves setting plan w past t at s (core.Session h job) did ran place held is = by (slice_get w.owners h) refl is
   where
-    by : (o : Option Owner) → slice_get w.owners h ≡ o → read_done h job w.tasks w.owners o (read_step at job) ≡ Some did → LeavesSo (core.Read h job) (acts_of s (events past)) did
+    by : (o : Option Owner) → slice_get w.owners h ≡ o → session_done h job w.tasks w.owners o (session_step at job) ≡ Some did → LeavesSo (core.Session h job) (acts_of s (events past)) did
     by None found is = absurd cc
     by (Some owner) found is = read_leaves h job owner did (acts_of s (events past)) goes at w.tasks w.owners ran place is
       where
         its : acts_of s (cut h (events past)) ≡ acts_of s (events past)
         its = t.owned.acts h s held
 
-        goes : ReadAs job (acts_of s (events past)) → (done : Worked) → worked job owner ≡ Some done → ReadAs done.job (done.act ∷ acts_of s (events past))
+        goes : JobAs job (acts_of s (events past)) → (done : Worked) → worked job owner ≡ Some done → JobAs done.job (done.act ∷ acts_of s (events past))
         goes read_as done works =
-            subst (λ (l : List Act). ReadAs done.job (done.act ∷ l)) its
-            (works_goes owner.capacity owner.stage h 0 0 no_growth (cut h (events past)) owner.session s (t.owned.each h owner found) job (subst (ReadAs job) (sym its) read_as) (t.owned.begun h s held)
+            subst (λ (l : List Act). JobAs done.job (done.act ∷ l)) its
+            (works_goes owner.capacity owner.stage h 0 0 no_growth (cut h (events past)) owner.session s (t.owned.each h owner found) job (subst (JobAs job) (sym its) read_as) (t.owned.begun h s held)
             (read_next job.core) refl done works).read
 
 -- a job that is answered
@@ -234,7 +234,7 @@ call_answered k action.Done n answer acts ran going is = absurd cc
 pub answer_leaves : (c : Core) (answer : Answer) (acts : List Act) → CoreAs c acts → has_given_up acts ≡ false → is_answered_action (next_in_turn GoesOn (action_of c)) answer ≡ true
     → Leaves c (core_after_answer answer c) (Answered answer) acts
 answer_leaves (core.Call k call) answer acts ran going is = call_answered k call.next call.number answer acts ran going (asked (call_action call.next) answer is)
-answer_leaves (core.Read h job) answer acts ran going is = record { party = refl; core = λ on. answers job acts answer (ran going) (asked (reads.action_of job) answer is); parks = λ parks. absurd cc }
+answer_leaves (core.Session h job) answer acts ran going is = record { party = refl; core = λ on. answers job acts answer (ran going) (asked (reads.action_of job) answer is); parks = λ parks. absurd cc }
 
 -- ---- the tasks and the owners
 
@@ -278,17 +278,17 @@ call_numbers k call at all row (Some task) (Some step) did found is =
     subst (KeepSo all row) (ap (value_of did) is)
     (record { of_task = kept_in (λ (x : Task). x.number) all k task (tasks.task_after step task) found (step_number step task); of_owner = λ h owner found. (owner, found, refl) })
 
-read_numbers : (h : ℕ) (job : reads.Progress) (all : List Task) (row : List Owner) (owner : Owner) (step : owners.OwnerStep) (seen : Option Act) (did : Done) → slice_get row h ≡ Some owner
-    → number_of owner ≡ number_of (owners.owner_after step owner) → read_seen h job all row owner step seen ≡ Some did → KeepSo all row did
+read_numbers : (h : ℕ) (job : SessionJob) (all : List Task) (row : List Owner) (owner : Owner) (step : owners.OwnerStep) (seen : Option Act) (did : Done) → slice_get row h ≡ Some owner
+    → number_of owner ≡ number_of (owners.owner_after step owner) → session_seen h job all row owner step seen ≡ Some did → KeepSo all row did
 read_numbers h job all row owner step None did found same is = absurd cc
 read_numbers h job all row owner step (Some act) did found same is =
     subst (KeepSo all row) (ap (value_of did) is) (record { of_task = λ k task found. (task, found, refl); of_owner = kept_in number_of row h owner (owners.owner_after step owner) found same })
 
 pub done_numbers : (at : Stage) (c : Core) (all : List Task) (row : List Owner) (did : Done) → done at c all row ≡ Some did → KeepNumbers all row did.tasks did.owners
 done_numbers at (core.Call k call) all row did is = call_numbers k call at all row (slice_get all k) (call_step at call) did refl is
-done_numbers at (core.Read h job) all row did is = by at (slice_get row h) refl is
+done_numbers at (core.Session h job) all row did is = by at (slice_get row h) refl is
   where
-    by : (at : Stage) (o : Option Owner) → slice_get row h ≡ o → read_done h job all row o (read_step at job) ≡ Some did → KeepSo all row did
+    by : (at : Stage) (o : Option Owner) → slice_get row h ≡ o → session_done h job all row o (session_step at job) ≡ Some did → KeepSo all row did
     by at None found is = absurd cc
     by stage.Runs (Some owner) found is = read_numbers h job all row owner (owners.Works job) (owners.act_of (owners.Works job) owner) did found (sym (number_after_work job owner)) is
     by stage.MustGiveUp (Some owner) found is = read_numbers h job all row owner owners.GivesUp (owners.act_of owners.GivesUp owner) did found (sym (number_after_give_up owner)) is

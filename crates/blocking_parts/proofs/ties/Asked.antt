@@ -56,7 +56,7 @@ not_first false is = cc
 
 not_over : (h : ℕ) (c : Core) (acts : List Act) → party_of c ≡ ByOwner h → is_at_first c ≡ true → has_given_up acts ≡ false → CoreAs c acts → next_but_wake Reading acts ≡ Over → ⊥
 not_over h (core.Call k call) acts party first stays so over = cc
-not_over h (core.Read g read) acts party first stays so over =
+not_over h (core.Session g read) acts party first stays so over =
     not_first (reads.has_waker acts) (sym (ap is_first (action_is read acts (so stays) ∙ next_by acts ∙ ap (wake_first (reads.has_waker acts)) over)) ∙ first)
 
 -- the last session's job

@@ -29,7 +29,7 @@ use Rattle.blocking_pool.specs.Jobs.{JobNumber}
 use Rattle.blocking_pool.specs.declared.pool.standing.Standing.TheVariants.{Queued}
 use Rattle.blocking_parts.specs.Moves.{Begins, Lends, May, CrewMoves, step_of, rows_after, tasks_after, owners_after}
 use Rattle.blocking_parts.specs.Parts.{Parts, row_of}
-use Rattle.blocking_parts.specs.Rows.{call_row, read_row, is_at_first, party_of}
+use Rattle.blocking_parts.specs.Rows.{call_row, session_row, is_at_first, party_of}
 use Rattle.blocking_parts.specs.Ties.{Tied, Rowed, RowAs, HasRow, CoreAs, PlaceAs, GaveAs, moment}
 use Rattle.blocking_parts.specs.declared.row.Core.{Core}
 use Rattle.blocking_parts.specs.declared.row.Row.{Row}
@@ -176,7 +176,7 @@ module _ (setting : ℕ) (plan : List Bool) (w : Parts) (past : List Moment) (t 
   rows_lent h owner may does rows tasks theirs later =
       let said = told (IsPlanned plan) (crew.Add (ByOwner h) (Ok number)) w.crew new.crew e does in
       let added = added_of plan (ByOwner h) w.crew new.crew e number does in
-      rows_born setting plan w past t new (moment new (step_of (Lends h owner (Ok number))) e) (read_row number h)
+      rows_born setting plan w past t new (moment new (step_of (Lends h owner (Ok number))) e) (session_row number h)
       (record {
         accepted = said.act_is;
         by_none = ap is_some_worker said.party;

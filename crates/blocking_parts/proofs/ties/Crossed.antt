@@ -16,7 +16,7 @@ use Rattle.blocking_lanes.specs.OwnerSteps.{OwnerStep}
 use Rattle.blocking_lanes.specs.OwnerTies.{OwnerAs, LastAs, ResultAs, state_as}
 use Rattle.blocking_lanes.specs.Owners.{Owner, Worked, capacity_of, next_at, next_of, new_owner, note_at, number_in, number_of, worked}
 use Rattle.blocking_lanes.specs.Reads as reads
-use Rattle.blocking_lanes.specs.Reads.{ReadAs}
+use Rattle.blocking_lanes.specs.Reads.{JobAs}
 use Rattle.blocking_lanes.specs.Sessions.{Session}
 use Rattle.blocking_lanes.specs.declared.owner.OwnerNext.TheVariants as next
 use Rattle.blocking_lanes.specs.declared.owner.OwnerStage.{OwnerStage}
@@ -44,14 +44,14 @@ use Rattle.blocking_laws.proofs.Beginnings.{keeps}
 use Rattle.blocking_pool.specs.declared.pool.standing.Standing.TheVariants.{Running}
 use Rattle.blocking_parts.specs.Moves.{Move, Idles, Makes, Asks, Owns, Lends, Delivers, IsDropped, Begins, Calls, Works, IsAnswered, Parks, Passes, IsWoken, IsStruck, May, CrewMoves, step_of, owners_after}
 use Rattle.blocking_parts.specs.Parts.{Parts, InHand, done_by}
-use Rattle.blocking_parts.specs.Rows.{Done, done, is_at_first, is_first, party_of, read_step}
+use Rattle.blocking_parts.specs.Rows.{Done, done, is_at_first, is_first, party_of, session_step}
 use Rattle.blocking_parts.specs.Ties.{Crossed, CoreAs, IsMet, PlaceAs, Tied, is_left, is_number, moment, seated_in}
 use Rattle.blocking_parts.specs.declared.row.Core.{Core}
 use Rattle.blocking_parts.specs.declared.row.Core.TheVariants as core
 use Rattle.blocking_parts.proofs.moves.Found.{in_set, one_found}
 use Rattle.blocking_parts.proofs.moves.Seats.{SeatAs, asked_met, delivered_met, did_met, dropped_met, gave_up_met, refused_met, worked_met, worked_parks}
 use Rattle.blocking_parts.proofs.past.Left.{left_before, left_place, left_stands, left_unwoken}
-use Rattle.blocking_parts.proofs.ties.Acted.{call_acts, read_acts}
+use Rattle.blocking_parts.proofs.ties.Acted.{call_acts, session_acts}
 use Rattle.blocking_parts.proofs.ties.Jobs.{IsHere, held_row, holder_stands, job_here, job_place}
 use Rattle.blocking_parts.proofs.ties.LetGo.{owner_there}
 use Rattle.blocking_parts.proofs.ties.Owners.{first_goes}
@@ -94,10 +94,10 @@ begins_idle bytes owner_stage.Dropped last X t begins = absurd cc
 -- the job of an owner at its first action isn't over
 first_stays : (h : ℕ) (c : Core) (acts : List Act) → party_of c ≡ ByOwner h → is_at_first c ≡ true → has_given_up acts ≡ false → CoreAs c acts → is_over (next_but_wake Reading acts) ≡ false
 first_stays h (core.Call k call) acts party first going so = absurd cc
-first_stays h (core.Read g job) acts party first going so = first_goes job acts (so going) first
+first_stays h (core.Session g job) acts party first going so = first_goes job acts (so going) first
 
 -- what its job does leaves a job with its owner
-step_met : (at : Stage) (job : reads.Progress) (step : OwnerStep) (owner : Owner) (s : ℕ) (seated : Bool) → read_step at job ≡ Some step → SeatAs seated owner.session → IsMet owner s → IsMet (owners.owner_after step owner) s
+step_met : (at : Stage) (job : SessionJob) (step : OwnerStep) (owner : Owner) (s : ℕ) (seated : Bool) → session_step at job ≡ Some step → SeatAs seated owner.session → IsMet owner s → IsMet (owners.owner_after step owner) s
 step_met stage.Runs job step owner s seated is seat met =
     subst (λ (x : OwnerStep). IsMet (owners.owner_after x owner) s) (ap (value_of step) is) (by (worked job owner) refl)
   where
@@ -110,12 +110,12 @@ step_met stage.Waits job step owner s seated is seat met = absurd cc
 step_met stage.GaveUp job step owner s seated is seat met = absurd cc
 
 -- A job parks while its turn goes on, where it looked for room, and is seated.
-record ParksSo (at : Stage) (job : reads.Progress) (step : OwnerStep) (owner : Owner) : Type 0 where
+record ParksSo (at : Stage) (job : SessionJob) (step : OwnerStep) (owner : Owner) : Type 0 where
   runs : at ≡ stage.Runs
   looks : read_next job.core ≡ read_action.FindRoom
   seat : seated_in (owners.owner_after step owner).session ≡ number_of owner
 
-parks_so : (at : Stage) (job : reads.Progress) (step : OwnerStep) (owner : Owner) (act : Act) → read_step at job ≡ Some step → owners.act_of step owner ≡ Some act → act ≡ JobParked → ParksSo at job step owner
+parks_so : (at : Stage) (job : SessionJob) (step : OwnerStep) (owner : Owner) (act : Act) → session_step at job ≡ Some step → owners.act_of step owner ≡ Some act → act ≡ JobParked → ParksSo at job step owner
 parks_so stage.Runs job step owner act is does parks =
     let same = ap (value_of step) is in
     subst (λ (x : OwnerStep). ParksSo stage.Runs job x owner) same (by (worked job owner) refl (ap (λ (x : OwnerStep). owners.act_of x owner) same ∙ does))
@@ -201,8 +201,8 @@ module _ (setting : ℕ) (plan : List Bool) (w : Parts) (past : List Moment) (t 
         by (core.Call k call) is =
             let a = call_acts w job.held.stage k call did (ap (λ c. done job.held.stage c w.tasks w.owners) (sym is) ∙ does) in
             subst MetIn (sym a.owners_are) still
-        by (core.Read g read) is =
-            let a = read_acts w job.held.stage g read did (ap (λ c. done job.held.stage c w.tasks w.owners) (sym is) ∙ does) in
+        by (core.Session g read) is =
+            let a = session_acts w job.held.stage g read did (ap (λ c. done job.held.stage c w.tasks w.owners) (sym is) ∙ does) in
             let seat = seat_as a.owner.session (capacity_of a.owner) (cut g (events past)) (t.owned.each g a.owner a.there).last in
             subst MetIn (sym a.owners_are)
             (set_met g a.owner (owners.owner_after a.step a.owner) a.there (λ same met. step_met job.held.stage read a.step a.owner s (is_job_seated (cut g (events past))) a.next seat met))
@@ -243,16 +243,16 @@ module _ (setting : ℕ) (plan : List Bool) (w : Parts) (past : List Moment) (t 
     where
       by : (c : Core) → job.row.core ≡ c → party_of c ≡ ByOwner h → IsMet owner job.held.turn.serial
       by (core.Call k call) is its = absurd cc
-      by (core.Read g read) is its =
+      by (core.Session g read) is its =
           let s = job.held.turn.serial in
           let same : g ≡ h = cc in
           let acts = acts_of s (events past) in
           let as_row = t.rowed.each s job.row here.has_row in
           let held : holder past s ≡ Some (ByOwner g) = as_row.held_by ∙ ap (λ c. Some (party_of c)) is in
-          let a = read_acts w job.held.stage g read did (ap (λ c. done job.held.stage c w.tasks w.owners) (sym is) ∙ does) in
+          let a = session_acts w job.held.stage g read did (ap (λ c. done job.held.stage c w.tasks w.owners) (sym is) ∙ does) in
           let p = parks_so job.held.stage read a.step a.owner did.act a.next a.act_is parks in
           let going : has_given_up acts ≡ false = subst (λ at. PlaceAs (Some Running) (turn_of at) (is_at_first job.row.core) acts) p.runs (job_place setting plan w past t v job here) in
-          let read_so : ReadAs read acts = subst (λ c. CoreAs c acts) is as_row.core going in
+          let read_so : JobAs read acts = subst (λ c. CoreAs c acts) is as_row.core going in
           let goes = first_goes read acts read_so (ap (λ a. is_first (reads.action_as read.piece a)) p.looks) in
           let l = is_its_last g s a.owner a.there held (ap (λ l. is_over (next_but_wake Reading l)) (t.owned.acts g s held) ∙ goes) in
           let seat : seated_in (owners.owner_after a.step a.owner).session ≡ Some l.session.number = p.seat ∙ ap number_in l.here in

@@ -16,7 +16,7 @@ use Rattle.blocking_lanes.specs.OwnerSteps.{OwnerStep, IsAside, IsHeld, IsFresh,
 use Rattle.blocking_lanes.specs.OwnerSteps as lanes
 use Rattle.blocking_lanes.specs.OwnerTies.{OwnersHold}
 use Rattle.blocking_lanes.specs.Owners.{Owner, is_gone}
-use Rattle.blocking_lanes.specs.Reads.{Progress, ReadAs, action_as, action_of}
+use Rattle.blocking_lanes.specs.Reads.{Progress, JobAs, action_as, action_of}
 use Rattle.blocking_lanes.specs.Tasks.{Task, task_act}
 use Rattle.blocking_pool.proofs.Places.{set_same}
 use Rattle.blocking_lanes.proofs.acts.Calls.{by_call}
@@ -48,11 +48,11 @@ use Rattle.blocking_pool.specs.declared.pool.standing.Standing.TheVariants.{Runn
 use Rattle.blocking_parts.specs.Moves.{Move, Idles, Makes, Asks, Owns, Lends, Delivers, IsDropped, Begins, Calls, Works, IsAnswered, Parks, Passes, IsWoken, IsStruck, May, CrewMoves, step_of, rows_after, owners_after}
 use Rattle.blocking_parts.specs.Parts.{Parts, InHand, done_by, owner_of, next_at}
 use Rattle.blocking_parts.specs.Rows as row
-use Rattle.blocking_parts.specs.Rows.{Done, done, read_step, core_after_answer, is_at_first, is_first, party_of}
+use Rattle.blocking_parts.specs.Rows.{Done, done, session_step, core_after_answer, is_at_first, is_first, party_of}
 use Rattle.blocking_parts.specs.Ties.{CoreAs, GaveAs, PlaceAs, Tied, moment}
 use Rattle.blocking_parts.specs.declared.row.Core.{Core}
 use Rattle.blocking_parts.specs.declared.row.Core.TheVariants as core
-use Rattle.blocking_parts.proofs.ties.Acted.{call_acts, read_acts, may_plain, seen_in, seen_is, its_owner, let_go_here, asks_here}
+use Rattle.blocking_parts.proofs.ties.Acted.{call_acts, session_acts, may_plain, seen_in, seen_is, its_owner, let_go_here, asks_here}
 use Rattle.blocking_parts.proofs.ties.Jobs.{IsHere, job_here, job_place, next_free}
 use Rattle.blocking_parts.proofs.ties.Said.{SaidBy, done_fits, said}
 use Rattle.blocking_parts.proofs.ties.LetGo.{owner_there}
@@ -61,7 +61,7 @@ use Rattle.blocking_parts.proofs.ties.Told.{Told, added_of, by_no_worker, by_wor
 -- ---- what the job of a reader may do
 
 -- a job at its first action isn't over
-pub first_goes : (job : Progress) (acts : List Act) → ReadAs job acts → is_first (action_of job) ≡ true → is_over (next_but_wake Reading acts) ≡ false
+pub first_goes : (job : Progress) (acts : List Act) → JobAs job acts → is_first (action_of job) ≡ true → is_over (next_but_wake Reading acts) ≡ false
 first_goes job acts r first = by (read_next job.core) refl first
   where
     by : (a : ReadAction) → read_next job.core ≡ a → is_first (action_as job.piece a) ≡ true → is_over (next_but_wake Reading acts) ≡ false
@@ -69,8 +69,8 @@ first_goes job acts r first = by (read_next job.core) refl first
     by _ is first = absurd cc
 
 -- where it is in its turn, its next step is one that its owner may take
-read_may : (at : Stage) (job : Progress) (step : OwnerStep) (owner : Owner) (acts : List Act) → read_step at job ≡ Some step → (at ≡ stage.MustGiveUp → is_gone owner.stage ≡ true)
-    → (has_given_up acts ≡ false → ReadAs job acts) → PlaceAs (Some Running) (turn_of at) (is_first (action_of job)) acts → GaveAs at acts → MayTake step owner acts
+read_may : (at : Stage) (job : Progress) (step : OwnerStep) (owner : Owner) (acts : List Act) → session_step at job ≡ Some step → (at ≡ stage.MustGiveUp → is_gone owner.stage ≡ true)
+    → (has_given_up acts ≡ false → JobAs job acts) → PlaceAs (Some Running) (turn_of at) (is_first (action_of job)) acts → GaveAs at acts → MayTake step owner acts
 read_may stage.Runs job step owner acts is gone reads place gave = subst (λ s. MayTake s owner acts) (ap (value_of step) is) (reads place)
 read_may stage.MustGiveUp job step owner acts is gone reads place gave = subst (λ s. MayTake s owner acts) (ap (value_of step) is) (gone refl, first_goes job acts (reads place.1) place.0)
 read_may stage.MustWake job step owner acts is gone reads place gave = subst (λ s. MayTake s owner acts) (ap (value_of step) is) (gave Reading).0
@@ -78,7 +78,7 @@ read_may stage.Waits job step owner acts is gone reads place gave = absurd cc
 read_may stage.GaveUp job step owner acts is gone reads place gave = absurd cc
 
 -- that is an act of the owner's job
-its_act : (at : Stage) (job : Progress) (step : OwnerStep) → read_step at job ≡ Some step → is_of_its_job step ≡ true
+its_act : (at : Stage) (job : Progress) (step : OwnerStep) → session_step at job ≡ Some step → is_of_its_job step ≡ true
 its_act stage.Runs job step is = ap is_of_its_job (sym (ap (value_of step) is))
 its_act stage.MustGiveUp job step is = ap is_of_its_job (sym (ap (value_of step) is))
 its_act stage.MustWake job step is = ap is_of_its_job (sym (ap (value_of step) is))
@@ -245,10 +245,10 @@ module _ (setting : ℕ) (plan : List Bool) (w : Parts) (past : List Moment) (t 
           (job_aside past new e v job.held.turn.serial k did.act told (may_plain job.held.stage did.act (done_fits did job.held.stage job.row.core w.tasks w.owners does))
           (its_owner w v job did.core new.rows here rows ∙ ap row.owner_in a.core_is) (its_holder v job here ∙ ap (λ c. Some (party_of c)) is))
           (is_now ∙ a.owners_are)
-      by (core.Read h read) is =
+      by (core.Session h read) is =
           let s = job.held.turn.serial in
           let acts = acts_of s (events past) in
-          let a = read_acts w job.held.stage h read did (ap (λ c. done job.held.stage c w.tasks w.owners) (sym is) ∙ does) in
+          let a = session_acts w job.held.stage h read did (ap (λ c. done job.held.stage c w.tasks w.owners) (sym is) ∙ does) in
           let held = its_holder v job here ∙ ap (λ c. Some (party_of c)) is in
           goes v job h a.step a.owner did.act here held a.there (its_act job.held.stage read a.step a.next)
           (read_may job.held.stage read a.step a.owner acts a.next (gone_owner v job h a.owner here held a.there) (subst (λ c. CoreAs c acts) is (t.rowed.each s job.row here.has_row).core)
@@ -272,7 +272,7 @@ module _ (setting : ℕ) (plan : List Bool) (w : Parts) (past : List Moment) (t 
           stay
           (job_aside past new e v job.held.turn.serial k (Answered answer) told (record { pool = refl; nothing = refl; made = refl; new = refl }) (whose _ is)
           (its_holder v job here ∙ ap (λ c. Some (party_of c)) is)) same
-      by (core.Read h read) is =
+      by (core.Session h read) is =
           let s = job.held.turn.serial in
           let held = its_holder v job here ∙ ap (λ c. Some (party_of c)) is in
           let owner = owner_found h s held in

@@ -37,7 +37,7 @@ use Rattle.blocking_pool.specs.declared.pool.answer.Woke.{Woke}
 use Rattle.blocking_parts.specs.Carried.{bytes_of}
 use Rattle.blocking_parts.specs.Moves.{Move, Idles, Makes, Asks, Owns, Lends, Delivers, IsDropped, Begins, Calls, Works, IsAnswered, Parks, Passes, IsWoken, IsStruck, May, CrewMoves, task_call}
 use Rattle.blocking_parts.specs.Parts.{Parts}
-use Rattle.blocking_parts.specs.Rows.{Done, done, call_done, call_step, call_step_by, read_done, read_seen, read_step, next_of}
+use Rattle.blocking_parts.specs.Rows.{Done, done, call_done, call_step, call_step_by, session_done, session_seen, session_step, next_of}
 use Rattle.blocking_parts.specs.declared.row.Core.{Core}
 use Rattle.blocking_parts.specs.declared.row.Core.TheVariants as core
 use Rattle.blocking_parts.proofs.ties.Jobs.{job_here, next_here}
@@ -67,7 +67,7 @@ runs_at_put n (Served seat) = record { may = refl; bare = refl }
 runs_at_put n Waiting = record { may = refl; bare = refl }
 runs_at_put n Closed = record { may = refl; bare = refl }
 
-runs_work : (a : ReadAction) (p : reads.Progress) (s : Session) (work : Work) → work_by a p s ≡ Some work → RunsSo work.act
+runs_work : (a : ReadAction) (p : SessionJob) (s : Session) (work : Work) → work_by a p s ≡ Some work → RunsSo work.act
 runs_work read.FindRoom p s work e = moved (λ (w : Work). RunsSo w.act) _ work e (runs_at_room (found_room s))
 runs_work (read.Put count) p s work e = at (fits_in p.piece s) e
   where
@@ -80,7 +80,7 @@ runs_work (read.Read most) p s work e = absurd cc
 runs_work read.Deliver p s work e = absurd cc
 runs_work read.Done p s work e = absurd cc
 
-runs_in_session : (a : ReadAction) (last : Option Session) (p : reads.Progress) (owner : Owner) (did : Worked) → worked_in a last p owner ≡ Some did → RunsSo did.act
+runs_in_session : (a : ReadAction) (last : Option Session) (p : SessionJob) (owner : Owner) (did : Worked) → worked_in a last p owner ≡ Some did → RunsSo did.act
 runs_in_session a None p owner did e = absurd cc
 runs_in_session a (Some s) p owner did e = at (work_by a p s) refl e
   where
@@ -88,7 +88,7 @@ runs_in_session a (Some s) p owner did e = at (work_by a p s) refl e
     at None is e = absurd cc
     at (Some work) is e = moved (λ (d : Worked). RunsSo d.act) _ did e (runs_work a p s work is)
 
-runs_worked : (a : ReadAction) (p : reads.Progress) (owner : Owner) (did : Worked) → worked_as a p owner ≡ Some did → RunsSo did.act
+runs_worked : (a : ReadAction) (p : SessionJob) (owner : Owner) (did : Worked) → worked_as a p owner ≡ Some did → RunsSo did.act
 runs_worked read.Deliver p owner did e = moved (λ (d : Worked). RunsSo d.act) _ did e (record { may = refl; bare = refl })
 runs_worked read.FindRoom p owner did e = runs_in_session read.FindRoom owner.session p owner did e
 runs_worked (read.Put count) p owner did e = runs_in_session (read.Put count) owner.session p owner did e
@@ -114,11 +114,11 @@ module _ (d : Done) where
   call_so stage.GaveUp k call all row (Some task) e = absurd cc
 
   -- the job of a reader
-  read_so : (at : Stage) (h : ℕ) (job : reads.Progress) (all : List Task) (row : List Owner) (owner : Option Owner) → read_done h job all row owner (read_step at job) ≡ Some d → DoesSo at d.act
+  read_so : (at : Stage) (h : ℕ) (job : SessionJob) (all : List Task) (row : List Owner) (owner : Option Owner) → session_done h job all row owner (session_step at job) ≡ Some d → DoesSo at d.act
   read_so at h job all row None e = absurd cc
   read_so stage.Runs h job all row (Some owner) e = by (worked job owner) refl e
     where
-      by : (o : Option Worked) → worked job owner ≡ o → read_seen h job all row owner (owners.Works job) (owners.act_of_work o) ≡ Some d → RunsSo d.act
+      by : (o : Option Worked) → worked job owner ≡ o → session_seen h job all row owner (owners.Works job) (owners.act_of_work o) ≡ Some d → RunsSo d.act
       by None is e = absurd cc
       by (Some did) is e = moved (λ (x : Done). RunsSo x.act) _ d e (runs_worked (read_next job.core) job owner did is)
   read_so stage.MustGiveUp h job all row (Some owner) e = moved (λ (x : Done). DoesSo stage.MustGiveUp x.act) _ d e (record { may = refl; bare = refl })
@@ -128,7 +128,7 @@ module _ (d : Done) where
 
   pub done_so : (at : Stage) (c : Core) (all : List Task) (row : List Owner) → done at c all row ≡ Some d → DoesSo at d.act
   done_so at (core.Call k call) all row e = call_so at k call all row (slice_get all k) e
-  done_so at (core.Read h job) all row e = read_so at h job all row (slice_get row h) e
+  done_so at (core.Session h job) all row e = read_so at h job all row (slice_get row h) e
 
   pub done_fits : (at : Stage) (c : Core) (all : List Task) (row : List Owner) → done at c all row ≡ Some d → may_act at d.act ≡ true
   done_fits at c all row e = (done_so at c all row e).may
