@@ -16,12 +16,12 @@ use Rattle.blocking_crew.specs.Crews.{may_act}
 use Rattle.blocking_crew.specs.declared.hand.Stage.TheVariants as stage
 use Rattle.blocking_lanes.specs.Owners.{Owner, Worked, number_of, read_as, read_in, worked, worked_by, write_as, write_in}
 use Rattle.blocking_lanes.specs.Reads as reads
-use Rattle.blocking_lanes.specs.SessionJobs.{action_of}
+use Rattle.blocking_lanes.specs.SessionJobs.{action_of, kind_of}
 use Rattle.blocking_lanes.specs.Sessions.{Session, Work, closing_wakes, finish_wakes, fits_in, found_piece, found_put, found_room, front, holds, session_after_consume, session_after_finish, session_after_job_close, session_after_peek, session_after_put, session_after_room, work_at_put, work_by, work_of_consume, writer_works}
 use Rattle.blocking_lanes.specs.Writes as writes
 use Rattle.blocking_lanes.specs.declared.job.SessionJob.{SessionJob}
 use Rattle.blocking_lanes.specs.declared.job.SessionJob.TheVariants as job_of
-use Rattle.blocking_laws.specs.JobTable.{FindRoom, Peek}
+use Rattle.blocking_laws.specs.JobTable.{Reading, Writing, FindRoom, Peek}
 use Rattle.blocking_laws.specs.Places.{seen_peek, seen_put, seen_room}
 use Rattle.blocking_laws.specs.Seats.{waker_in}
 use Rattle.blocking_laws.specs.Seen.{is_nothing, is_of_pool}
@@ -214,6 +214,46 @@ number_worked job owner done does = by (worked_so job owner done does)
     by : DoesSo job owner done → number_of done.owner ≡ number_of owner
     by (inl wakes) = ap number_of wakes.1
     by (inr at) = ap number_of at.owner_is ∙ ap Some (same_number at.act at.session) ∙ sym (ap (λ last. number_of (record owner { session = last })) at.here)
+
+-- and it stays of its kind
+pub same_kind : (job : SessionJob) (owner : Owner) (done : Worked) → worked job owner ≡ Some done → kind_of done.job ≡ kind_of job
+same_kind (job_of.Read p) owner done does = by (read_next p.core) does
+  where
+    works : (o : Option (Work reads.Progress)) → worked_by job_of.Read o owner ≡ Some done → kind_of done.job ≡ Reading
+    works None does = absurd cc
+    works (Some work) does = moved (λ (d : Worked). kind_of d.job ≡ Reading) _ done does refl
+
+    there : (a : ReadAction) (last : Option Session) → read_in a last p owner ≡ Some done → kind_of done.job ≡ Reading
+    there a None does = absurd cc
+    there a (Some s) does = works (work_by a p s) does
+
+    by : (a : ReadAction) → read_as a p owner ≡ Some done → kind_of done.job ≡ Reading
+    by read.Deliver does = moved (λ (d : Worked). kind_of d.job ≡ Reading) _ done does refl
+    by read.FindRoom does = there read.FindRoom owner.session does
+    by (read.Put count) does = there (read.Put count) owner.session does
+    by read.Close does = there read.Close owner.session does
+    by read.Finish does = there read.Finish owner.session does
+    by (read.Read most) does = there (read.Read most) owner.session does
+    by read.Done does = there read.Done owner.session does
+same_kind (job_of.Write p) owner done does = by (write_next p.core) does
+  where
+    works : (o : Option (Work writes.Progress)) → worked_by job_of.Write o owner ≡ Some done → kind_of done.job ≡ Writing
+    works None does = absurd cc
+    works (Some work) does = moved (λ (d : Worked). kind_of d.job ≡ Writing) _ done does refl
+
+    there : (a : WriteAction) (last : Option Session) → write_in a last p owner ≡ Some done → kind_of done.job ≡ Writing
+    there a None does = absurd cc
+    there a (Some s) does = works (writer_works a p s) does
+
+    by : (a : WriteAction) → write_as a p owner ≡ Some done → kind_of done.job ≡ Writing
+    by write.Deliver does = moved (λ (d : Worked). kind_of d.job ≡ Writing) _ done does refl
+    by write.Peek does = there write.Peek owner.session does
+    by (write.Write count) does = there (write.Write count) owner.session does
+    by (write.Consume count) does = there (write.Consume count) owner.session does
+    by write.Flush does = there write.Flush owner.session does
+    by write.Close does = there write.Close owner.session does
+    by write.Finish does = there write.Finish owner.session does
+    by write.Done does = there write.Done owner.session does
 
 -- it is done while the job's turn goes on
 pub fits_turn : (act : SessionAct) → may_act stage.Runs (seen act) ≡ true

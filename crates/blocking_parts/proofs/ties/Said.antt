@@ -74,7 +74,7 @@ module _ (d : Done) where
   session_so stage.Waits h job all row (Some owner) e = absurd cc
   session_so stage.GaveUp h job all row (Some owner) e = absurd cc
 
-  pub done_so : (at : Stage) (c : Core) (all : List Task) (row : List Owner) → done at c all row ≡ Some d → MaySo at d.act
+  pub done_fits : (at : Stage) (c : Core) (all : List Task) (row : List Owner) → done at c all row ≡ Some d → may_act at d.act ≡ true
   done_fits at (core.Call k call) all row e = call_so at k call all row (slice_get all k) e
   done_fits at (core.Session h job) all row e = session_so at h job all row (slice_get row h) e
 
