@@ -151,7 +151,7 @@ of_none (e ∷ seen) = no_more (is_of_session None e) e (filter (is_of_session N
 -- what passed is what the tie says
 pub passes : (last : Option Session) (bytes : ℕ) (cut : List Event) → capacity (own cut) ≡ bytes → LastAs last bytes cut → PassesOn cut
 passes None bytes cut same t = record {
-  read = (gave (last_job cut), ap (λ l. gave (last_job cut)) t.0 ∙ ap (λ l. l ++ gave (last_job cut)) (sym t.1.0));
+  read = (gave (last_job cut), ap (λ l. gave (last_job cut)) t.0 ∙ ap (λ l. l ++ gave (last_job cut)) (sym t.1));
   written = (accepted (own cut), ap (λ l. l ++ accepted (own cut)) (sym (ap (λ r. taken (map (λ e. e.act) (filter (is_of_session r) cut))) t.0 ∙ ap (λ l. taken (map (λ e. e.act) l)) (of_none cut))));
   within = subst (λ l. length l ≤ capacity (own cut)) (sym (ap (λ l. inside_by (kind_in l) (own cut) (last_job cut)) t.0)) (omega arith);
   bounded = subst (λ l. length (gave l) ≤ length (got (own cut)) + capacity (own cut))

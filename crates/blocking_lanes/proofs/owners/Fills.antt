@@ -3,7 +3,7 @@ use Rattle.std.proofs.Common.{◌≡◌, ℕ, ◌<◌, ◌≤◌, ◌==◌, List
 use Rattle.std.specs.Prelude.{◌-◌, min, take}
 use Rattle.std.proofs.lemmas.Bool.{eqb-true}
 use Rattle.std.proofs.lemmas.Bool.Decides.{nat_tests}
-use Rattle.std.proofs.lemmas.List.{length-take}
+use Rattle.std.proofs.lemmas.List.{length-take, take-append-le}
 use Rattle.blocking_core.specs.Pipes.{room}
 use Rattle.blocking_core.specs.Places.{Met, Served, Waiting, Closed, fill}
 use Rattle.blocking_laws.specs.JobTable.{Writing, JobAction, Peek, OfferBytes, Consume, AskFlush, CloseEnd, Finish, Over, next_but_wake, has_given_up}
@@ -25,11 +25,15 @@ pub record Enters (n free : ℕ) (lasts : Bool) (seat : Option JobNumber) (went 
   pub lasts_is : lasts ≡ true
   pub room : 0 < free
 
+-- by whether there is no room
+abbrev entry : Bool → ℕ → Option JobNumber → Met (ℕ × Option JobNumber)
+entry full count seat = if full then Waiting else Served (count, seat)
+
 pub enters : (n free : ℕ) (lasts : Bool) (seat : Option JobNumber) (went : ℕ × Option JobNumber) → fill n free lasts seat ≡ Served went → Enters n free lasts seat went
 enters n free false seat went e = absurd (cc)
 enters n free true seat went e = at (free == 0) refl e
   where
-    at : (b : Bool) → (free == 0) ≡ b → (if b then Waiting else Served (min n free, seat)) ≡ Served went → Enters n free true seat went
+    at : (b : Bool) → (free == 0) ≡ b → entry b (min n free) seat ≡ Served went → Enters n free true seat went
     at true t e = absurd (cc)
     at false t e =
         let same : went ≡ (min n free, seat) = cc in
@@ -49,7 +53,7 @@ pub no_room : (n free : ℕ) (lasts : Bool) (seat : Option JobNumber) → fill n
 no_room n free false seat e = absurd (cc)
 no_room n free true seat e = at (free == 0) refl e
   where
-    at : (b : Bool) → (free == 0) ≡ b → (if b then Waiting else Served (min n free, seat)) ≡ Waiting → (free ≡ 0) × (true ≡ true)
+    at : (b : Bool) → (free == 0) ≡ b → entry b (min n free) seat ≡ Waiting → (free ≡ 0) × (true ≡ true)
     at true t e = (eqb-true free 0 t, refl)
     at false t e = absurd (cc)
 
@@ -58,7 +62,7 @@ pub shut_out : (n free : ℕ) (lasts : Bool) (seat : Option JobNumber) → fill 
 shut_out n free false seat e = refl
 shut_out n free true seat e = at (free == 0) e
   where
-    at : (b : Bool) → (if b then Waiting else Served (min n free, seat)) ≡ Closed → true ≡ false
+    at : (b : Bool) → entry b (min n free) seat ≡ Closed → true ≡ false
     at true e = absurd (cc)
     at false e = absurd (cc)
 
@@ -89,7 +93,7 @@ pub fill_seen : (n free : ℕ) (lasts : Bool) (seat : Option JobNumber) → fill
 fill_seen n free false seat = refl
 fill_seen n free true seat = at (free == 0)
   where
-    at : (b : Bool) → fill_act (if b then Waiting else Served (min n free, seat)) ≡ seen_fill (if b then Waiting else Served (min n free, serial_of seat))
+    at : (b : Bool) → fill_act (entry b (min n free) seat) ≡ seen_fill (if b then Waiting else Served (min n free, serial_of seat))
     at true = refl
     at false = refl
 
@@ -99,21 +103,17 @@ fill_seen n free true seat = at (free == 0)
 longer : (piece items more : List ℕ) → IsBeginning piece items → IsBeginning piece (items ++ more)
 longer piece items more found = (found.0 ++ more, ap (λ l. l ++ more) found.1 ∙ append_assoc piece found.0 more)
 
--- the first of these are the first of more
-same_front : (n : ℕ) (items more : List ℕ) → n ≤ length items → take n (items ++ more) ≡ take n items
-same_front n items more fits = ?
-
 -- where the owner's end is open, nothing was drained
 goes_in : (next : JobAction) (out items more : List ℕ) (lasts given_up : Bool) (w : Wrote) → WrittenAs next out items lasts false given_up w → WrittenAs next out (items ++ more) lasts false given_up w
 goes_in Peek out items more lasts given_up w p = p
 goes_in (OfferBytes piece) out items more lasts given_up w p = (p.0, p.1, longer piece items more p.2, p.3)
 goes_in (Consume n) out items more lasts given_up w p =
     let fits = p.2 in
-    (p.0, p.1 ∙ ap (λ l. out ++ l) (sym (same_front n items more fits)), rw length-append (omega (arith, fits)))
-goes_in AskFlush out items more lasts given_up w p = (p.0, p.1, λ none. absurd (let open = (p.2 none).1 in cc))
-goes_in CloseEnd out items more lasts given_up w p = (p.0, p.1, λ none. absurd (let open = (p.2.0 none).1 in cc), p.2.1)
-goes_in Finish out items more lasts given_up w p = (p.0, p.1, λ none. absurd (let open = (p.2.0 none).1 in cc), p.2.1)
-goes_in Over out items more lasts given_up w p = λ stays. ((p stays).0, λ none. absurd (let open = ((p stays).1.0 none).1 in cc), (p stays).1.1)
+    (p.0, p.1 ∙ ap (λ l. out ++ l) (sym (take-append-le n items more fits)), rw length-append (omega (arith, fits)))
+goes_in AskFlush out items more lasts given_up w p = (p.0, p.1, λ none. absurd (let still = (p.2 none).1 in cc))
+goes_in CloseEnd out items more lasts given_up w p = (p.0, p.1, (λ none. absurd (let still = (p.2.0 none).1 in cc), p.2.1))
+goes_in Finish out items more lasts given_up w p = (p.0, p.1, (λ none. absurd (let still = (p.2.0 none).1 in cc), p.2.1))
+goes_in Over out items more lasts given_up w p = λ stays. ((p stays).0, (λ none. absurd (let still = ((p stays).1.0 none).1 in cc), (p stays).1.1))
 goes_in _ out items more lasts given_up w p = absurd p
 
 -- ---- each fill
@@ -123,7 +123,7 @@ module _ (s : Session) (capacity : ℕ) (last : Option sessions.Session) (shut b
   pub fills : (bytes : List ℕ) (went : ℕ × Option JobNumber) → filled (length bytes) s ≡ Served went → shut ≡ false
       → SessionAs s Writing capacity last shut back dropped took accepted acts js ps ss
       → SessionAs (session_after_fill bytes (Served went) s) Writing capacity last shut back dropped took (accepted ++ take went.0 bytes) acts false ps ss
-  fills bytes went found open t =
+  fills bytes went found unshut t =
       let f = enters (length bytes) (room s.pipe) s.pipe.is_job_open s.pipe.job_seat went found in
       let many = f.many in
       let any = f.room in
@@ -131,7 +131,7 @@ module _ (s : Session) (capacity : ℕ) (last : Option sessions.Session) (shut b
       let within = t.lent.within in
       let holds = t.lent.holds in
       let entered : length more ≤ room s.pipe = simp length-take (omega (arith, many)) in
-      let written = subst (λ b. WrittenAs (next_but_wake Writing acts) t.flow.out s.pipe.items s.pipe.is_job_open b (has_given_up acts) (wrote_by acts)) open t.flow.written_is in
+      let written = subst (λ b. WrittenAs (next_but_wake Writing acts) t.flow.out s.pipe.items s.pipe.is_job_open b (has_given_up acts) (wrote_by acts)) unshut t.flow.written_is in
       record {
         lent = record {
           begun = t.lent.begun;
@@ -146,7 +146,7 @@ module _ (s : Session) (capacity : ℕ) (last : Option sessions.Session) (shut b
           inside = ap (λ l. l ++ more) t.flow.inside ∙ append_assoc t.flow.out s.pipe.items more;
           removed = t.flow.removed;
           begun = longer (wrote_by acts).taken accepted more t.flow.begun;
-          written_is = subst (λ b. WrittenAs (next_but_wake Writing acts) t.flow.out (s.pipe.items ++ more) s.pipe.is_job_open b (has_given_up acts) (wrote_by acts)) (sym open)
+          written_is = subst (λ b. WrittenAs (next_but_wake Writing acts) t.flow.out (s.pipe.items ++ more) s.pipe.is_job_open b (has_given_up acts) (wrote_by acts)) (sym unshut)
               (goes_in (next_but_wake Writing acts) t.flow.out s.pipe.items more s.pipe.is_job_open (has_given_up acts) (wrote_by acts) written);
           sound = t.flow.sound;
           ungot = t.flow.ungot;
