@@ -158,7 +158,7 @@ noted_so q (Some note) true seated e number is = sym e ∙ is
 noted_so q (Some note) false seated e number is = absurd (cc)
 
 -- a reply that isn't that all is done leaves the handle where it is
-failed_fits : (c : HandleCall) (p : OwnerMachine ℕ) (why : Fault ℕ) (ended : Bool) (back : Option (List Event)) → FitsNext c p (action.Reply (reply.Failed why)) ended back
+pub failed_fits : (c : HandleCall) (p : OwnerMachine ℕ) (why : Fault ℕ) (ended : Bool) (back : Option (List Event)) → FitsNext c p (action.Reply (reply.Failed why)) ended back
 failed_fits (handle_call.Read zero) p why ended back = (refl, tt, tt)
 failed_fits (handle_call.Read (suc n)) p why ended back = (refl, tt, tt)
 failed_fits _ p why ended back = (refl, tt, tt)
