@@ -25,6 +25,7 @@ use Rattle.blocking_laws.specs.declared.event.Event.{Event}
 use Rattle.blocking_lanes.specs.Owners.{Owner, capacity_of}
 use Rattle.blocking_lanes.specs.OwnerTies.{OwnerAs, LastAs, SlotAs, Flows, IsStuckIn, IsOwnerStuckIn, is_finding, seat_of, is_seated}
 use Rattle.blocking_lanes.specs.Sessions.{Session}
+use Rattle.blocking_lanes.proofs.owners.Cuts.{inside_is}
 
 -- the session that isn't over is the last one
 pub session_is_last : (acts : List Act) (r : sessions.Session) → session acts ≡ Some r → last_session acts ≡ Some r
@@ -103,6 +104,23 @@ module _ (s : Session) (capacity : ℕ) (cut : List Event) (t : LastAs (Some s) 
           not_both s kind (omega (arith, holds, some)) (t.seats.reason.job there).1 (t.seats.reason.owner seat).0
       at false seat sits =
           ⊎_elim (λ shut. (let open_is = (t.seats.reason.job there).2 in cc)) (λ closed. (let open_is = lasts in cc)) (t.seats.reason.slot sits).1
+
+-- A job that sits in the pipe can't go on, and its owner's end is open.
+pub seated_reason : (s : Session) (bytes : ℕ) (cut : List Event) → sessions.capacity (own cut) ≡ bytes → LastAs (Some s) bytes cut → is_some s.pipe.job_seat ≡ true → HasReason cut
+seated_reason s bytes cut same t seated =
+    let reason = t.seats.reason.job seated in
+    (t.lent.shut_is ∙ ap not reason.2, by_kind (kind_in (last_session (own cut))) reason.1)
+  where
+    by_kind : (kind : Kind) → IsStuckIn kind s → IsStuck kind cut
+    by_kind Writing none = inside_is s bytes cut t ∙ none
+    by_kind Reading full =
+        let within = t.lent.within in
+        let holds = t.lent.holds in
+        ap (λ (l : List ℕ). length l) (inside_is s bytes cut t) ∙ omega (arith, full, within, holds, same)
+    by_kind Calling full =
+        let within = t.lent.within in
+        let holds = t.lent.holds in
+        ap (λ (l : List ℕ). length l) (inside_is s bytes cut t) ∙ omega (arith, full, within, holds, same)
 
 -- An owner that waits in a session whose job is over, or sits in its own seat, was woken.
 pub not_lost : (owner : Owner) (cut : List Event) → OwnerAs owner cut → (s : ℕ) → IsSessionOf (session (own cut)) s → is_waiting (own cut) ≡ true
