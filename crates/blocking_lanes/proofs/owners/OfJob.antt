@@ -1,5 +1,5 @@
 -- An act of its job keeps the law of an owner, and the tie of the owner to its cut.
-use Rattle.std.proofs.Common.{◌≡◌, ◌≤◌, ℕ, suc, zero, ◌==◌, List, [], ◌∷◌, length, Bool, true, false, refl, sym, ap, ◌∙◌, subst, arith, Option, Some, None, if◌then◌else◌, ⊎_elim, inl, inr}
+use Rattle.std.proofs.Common.{◌≡◌, ◌<◌, ◌≤◌, ℕ, suc, zero, ◌==◌, List, [], ◌∷◌, length, Bool, true, false, refl, sym, ap, ◌∙◌, subst, arith, Option, Some, None, if◌then◌else◌, ⊎_elim, inl, inr}
 use Rattle.std.specs.Prelude.{◌||◌, ◌⊎◌, ◌++◌, not, nat_le, min, take, drop, is_some, is_none}
 use Rattle.std.proofs.lemmas.Bool.{or_left, or_right, eq-eqb}
 use Rattle.std.proofs.lemmas.Bool.Decides.{nat_tests}
@@ -77,9 +77,10 @@ no_wait n free false seat fits e = cc
 no_wait n free true seat fits e = let served = ap (λ b. if b then Served seat else Waiting) fits in cc
 
 -- of something some first bytes are something, and no more than that
-nothing_taken : (n : ℕ) (items : List ℕ) → take (suc n) items ≡ [] → items ≡ []
-nothing_taken n [] e = refl
-nothing_taken n (x ∷ xs) e = absurd (cc)
+nothing_taken : (n : ℕ) (items : List ℕ) → 0 < n → take n items ≡ [] → items ≡ []
+nothing_taken n [] some e = refl
+nothing_taken zero (x ∷ xs) some e = absurd (omega arith)
+nothing_taken (suc n) (x ∷ xs) some e = absurd (cc)
 
 first_of_piece : (n : ℕ) (items : List ℕ) → length (take n items) ≤ n
 first_of_piece n items = let many = length-take n items in omega (arith, many)
@@ -89,12 +90,12 @@ asking_goes : (action : JobAction) (answer : Answer) → is_answer action answer
 asking_goes Over answer is = absurd (cc)
 asking_goes _ answer is = refl
 
-answers_it : {cut : List Event} (action : JobAction) (answer : Answer) → is_answer action answer ≡ true → Works cut action (Answered answer)
-answers_it AskCall answer is = is
-answers_it (AskBytes n) answer is = is
-answers_it (OfferBytes bytes) answer is = is
-answers_it AskFlush answer is = is
-answers_it _ answer is = absurd (cc)
+answers_it : (cut : List Event) (action : JobAction) (answer : Answer) → is_answer action answer ≡ true → Works cut action (Answered answer)
+answers_it cut AskCall answer is = is
+answers_it cut (AskBytes n) answer is = is
+answers_it cut (OfferBytes bytes) answer is = is
+answers_it cut AskFlush answer is = is
+answers_it cut _ answer is = absurd (cc)
 
 module _ (bytes : ℕ) (asked : Option HandleCall) (here : OwnerStage) (s : Session) (h v first : ℕ) (growth : Growth) (cut : List Event) (t : OwnerAs (owner_by_parts bytes asked here (Some s)) cut) where
   -- what the tie of the session is about
@@ -427,50 +428,50 @@ module _ (bytes : ℕ) (asked : Option HandleCall) (here : OwnerStage) (s : Sess
         ∙ ap (λ b. peek piece (inside cut) b) (sym (open_is s (bound bytes) cut t.last))
 
     pub peek_works : write_next p.core ≡ write.Peek → (met : Met (List ℕ)) → found_piece s ≡ met → Writes (work_at_peek met p s)
-    peek_works is (Served found) finds =
+    peek_works is (Served found) shows =
         let a = of_writer.awake p write.Peek is (λ e. cc) in
-        let some = some_piece piece s.pipe.items s.pipe.is_owner_open found finds in
+        let some = some_piece piece s.pipe.items s.pipe.is_owner_open found shows in
         record {
           goes = keeps_goes Writing writing (Peeked found) s.pipe s.slot among (record {
             pool = refl;
             nothing = refl;
-            lawful = writer_lawful p Peek (Peeked found) r (ap (writes.action_as p.piece) is) (ap seen_peek (sym finds ∙ piece_found));
+            lawful = writer_lawful p Peek (Peeked found) r (ap (writes.action_as p.piece) is) (ap seen_peek (sym shows ∙ piece_found));
             ends = tt;
             back = λ here before. refl;
             faults = λ is kind. refl;
-            session = peeks s (bound bytes) began shut over gone took written acts js ps ss found finds (writer_tied Peek (writer_table write.Peek a));
+            session = peeks s (bound bytes) began shut over gone took written acts js ps ss found shows (writer_tied Peek (writer_table write.Peek a));
             ended = λ e. e;
             told = λ e. inr e;
           });
-          job = of_writer.meets_piece p acts found r a (λ none. some.1 (nothing_taken piece s.pipe.items (sym some.0 ∙ none))) (subst (λ l. length l ≤ piece) (sym some.0) (first_of_piece piece s.pipe.items));
+          job = of_writer.meets_piece p acts found r a (λ none. some.1 (nothing_taken piece s.pipe.items (omega arith) (sym some.0 ∙ none))) (subst (λ l. length l ≤ piece) (sym some.0) (first_of_piece piece s.pipe.items));
         }
-    peek_works is Waiting finds =
+    peek_works is Waiting shows =
         let a = of_writer.awake p write.Peek is (λ e. cc) in
         record {
           goes = keeps_goes Writing writing JobParked (record s.pipe { job_seat = Some s.number }) s.slot among (record {
             pool = refl;
             nothing = refl;
-            lawful = writer_lawful p Peek JobParked r (ap (writes.action_as p.piece) is) (ap seen_peek (sym finds ∙ piece_found));
+            lawful = writer_lawful p Peek JobParked r (ap (writes.action_as p.piece) is) (ap seen_peek (sym shows ∙ piece_found));
             ends = tt;
             back = λ here before. refl;
             faults = λ is kind. refl;
-            session = peek_parks s (bound bytes) began shut over gone took written acts js ps ss finds (writer_table write.Peek a) writer_last;
+            session = peek_parks s (bound bytes) began shut over gone took written acts js ps ss shows (writer_table write.Peek a) writer_last;
             ended = λ e. e;
             told = λ e. inr e;
           });
           job = of_writer.meets p acts write.Peek write.Peek false wrote.Parked JobParked r a refl refl (sym (writer_table write.Peek a)) tt refl refl;
         }
-    peek_works is Closed finds =
+    peek_works is Closed shows =
         let a = of_writer.awake p write.Peek is (λ e. cc) in
         record {
           goes = keeps_goes Writing writing Drained s.pipe s.slot among (record {
             pool = refl;
             nothing = refl;
-            lawful = writer_lawful p Peek Drained r (ap (writes.action_as p.piece) is) (ap seen_peek (sym finds ∙ piece_found));
+            lawful = writer_lawful p Peek Drained r (ap (writes.action_as p.piece) is) (ap seen_peek (sym shows ∙ piece_found));
             ends = tt;
             back = λ here before. refl;
             faults = λ is kind. refl;
-            session = drains s (bound bytes) began shut over gone took written acts js ps ss finds (writer_tied Peek (writer_table write.Peek a));
+            session = drains s (bound bytes) began shut over gone took written acts js ps ss shows (writer_tied Peek (writer_table write.Peek a));
             ended = λ e. e;
             told = λ e. inr e;
           });
@@ -558,7 +559,7 @@ module _ (bytes : ℕ) (asked : Option HandleCall) (here : OwnerStage) (s : Sess
         keeps_goes Writing writing (Answered answer) s.pipe s.slot among (record {
           pool = refl;
           nothing = refl;
-          lawful = subst (λ a. Works cut a (Answered answer)) (sym next) (answers_it (writes.action_as p.piece q.now) answer q.fits);
+          lawful = subst (λ a. Works cut a (Answered answer)) (sym next) (answers_it cut (writes.action_as p.piece q.now) answer q.fits);
           ends = tt;
           back = λ here before. refl;
           faults = λ is. absurd (let lent = going_on.lent in cc);
