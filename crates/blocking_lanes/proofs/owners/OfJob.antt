@@ -86,7 +86,7 @@ first_of_piece : (n : ℕ) (items : List ℕ) → length (take n items) ≤ n
 first_of_piece n items = let many = length-take n items in omega (arith, many)
 
 -- what is answered asks, and isn't over
-asking_goes : (action : JobAction) (answer : Answer) → is_answer action answer ≡ true → is_over action ≡ false
+pub asking_goes : (action : JobAction) (answer : Answer) → is_answer action answer ≡ true → is_over action ≡ false
 asking_goes Over answer is = absurd (cc)
 asking_goes _ answer is = refl
 

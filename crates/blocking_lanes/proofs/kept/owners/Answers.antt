@@ -1,4 +1,4 @@
-use Rattle.blocking_lanes.proofs.owners.OfJob as of_job
+use Rattle.blocking_lanes.proofs.owners.Steps as of_job
 use Rattle.blocking_lanes.proofs.kept.owners.Goals as goal
 
 pub returns-clause-aside : goal.returns-clause-aside
