@@ -1,6 +1,9 @@
 pub mod Reads
+pub mod Writes
 pub mod Sessions
+pub mod Writers
 pub mod Takes
+pub mod Fills
 pub mod Cuts
 pub mod Own
 pub mod Pooled
