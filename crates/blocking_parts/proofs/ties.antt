@@ -1,4 +1,5 @@
 pub mod Jobs
+pub mod SessionJobs
 pub mod Told
 pub mod Said
 pub mod Hands

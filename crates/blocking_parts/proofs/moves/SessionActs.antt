@@ -1,7 +1,7 @@
 -- What the job of a session does that is its own to do: it calls the waker that it took, or acts at the session. The other files go by these few
 -- acts, whatever kind of job it is.
 use Rattle.std.proofs.Common.{◌≡◌, ◌⊎◌, inl, inr, ◌≤◌, ℕ, List, [], ◌∷◌, length, Bool, true, false, refl, sym, ap, ◌∙◌, subst, arith, Option, Some, None, if◌then◌else◌}
-use Rattle.std.specs.Prelude.{nat_le, min, ◌&&◌, not}
+use Rattle.std.specs.Prelude.{nat_le, min, take, ◌&&◌, not}
 use Rattle.std.proofs.lemmas.List.{length-take}
 use Rattle.blocking_core.specs.Pipes.{room}
 use Rattle.blocking_core.specs.Places.{Met, Served, Waiting, Closed, hand_in, peek}
@@ -293,7 +293,7 @@ front_found : (items : List ℕ) (is_open : Bool) (found : List ℕ) → peek 65
 front_found [] true found is = absurd cc
 front_found [] false found is = absurd cc
 front_found (x ∷ xs) is_open found is =
-    let same : found ≡ _ = let e = sym is in cc in
+    let same : found ≡ take 65536 (x ∷ xs) = cc in
     let count = ap length same ∙ length-take 65536 (x ∷ xs) in
     omega (arith, count)
 

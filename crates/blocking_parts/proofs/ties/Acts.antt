@@ -17,7 +17,6 @@ use Rattle.blocking_lanes.specs.Calls as calls
 use Rattle.blocking_lanes.specs.Calls.{RanAs}
 use Rattle.blocking_lanes.specs.OwnerSteps as owners
 use Rattle.blocking_lanes.specs.Owners.{Owner, Worked, number_of, worked}
-use Rattle.blocking_lanes.specs.Reads.{has_waker}
 use Rattle.blocking_lanes.specs.SessionJobs as jobs
 use Rattle.blocking_lanes.specs.SessionJobs.{JobAs, kind_of}
 use Rattle.blocking_lanes.specs.declared.job.SessionJob.{SessionJob}
@@ -47,6 +46,7 @@ use Rattle.blocking_parts.specs.Ties.{Tied, CoreAs, PlaceAs, GaveAs}
 use Rattle.blocking_parts.specs.declared.row.Core.{Core}
 use Rattle.blocking_parts.specs.declared.row.Core.TheVariants as core
 use Rattle.blocking_parts.proofs.moves.SessionActs.{first_where_parked, same_kind}
+use Rattle.blocking_parts.proofs.ties.SessionJobs.{first_of_table, job_action_is, job_answers}
 use Rattle.blocking_parts.proofs.ties.Readers.{number_after_work, number_after_give_up}
 
 -- ---- its turn
@@ -171,8 +171,7 @@ module _ (h : ℕ) (job : SessionJob) (owner : Owner) (did : Done) (acts : List 
   parked_first tied done is parks kind =
       ap is_first
       (job_action_is done.job (done.act ∷ acts) (goes tied done is) ∙ ap (λ (act : Act). next_of_job (kind_of done.job) (act ∷ acts)) parks ∙ ap (λ k. next_but_wake k acts) kind)
-      ∙ first_but_wake (has_waker acts) (next_but_wake (kind_of job) acts)
-      (sym (ap is_first (job_action_is job acts tied ∙ next_by (kind_of job) acts)) ∙ first_where_parked job owner done is parks)
+      ∙ first_of_table job acts tied (first_where_parked job owner done is parks)
 
   session_leaves : (at : Stage) (all : List Task) (row : List Owner) → (has_given_up acts ≡ false → JobAs job acts) → PlaceAs (Some Running) (turn_of at) (is_first (jobs.action_of job)) acts
       → session_done h job all row (Some owner) (session_step at job) ≡ Some did → LeavesSo (core.Session h job) acts did

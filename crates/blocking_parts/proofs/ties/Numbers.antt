@@ -1,5 +1,5 @@
 -- The number of an owner's last session: only a session that begins changes it.
-use Rattle.std.proofs.Common.{◌≡◌, ℕ, List, [], refl, sym, ap, ◌∙◌, Option, Some, None}
+use Rattle.std.proofs.Common.{◌≡◌, ℕ, List, [], true, false, refl, sym, ap, ◌∙◌, Option, Some, None}
 use Rattle.blocking_core.specs.OwnerCalls.{OwnerMachine, owner_next}
 use Rattle.blocking_core.specs.Places.{Met, Served, Waiting, Closed}
 use Rattle.blocking_core.specs.Slots.{Content, Empty, Full, GivenUp, Abandoned}
