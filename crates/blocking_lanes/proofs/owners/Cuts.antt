@@ -1,5 +1,5 @@
 -- What the cut of an owner says, by the tie of the owner to it.
-use Rattle.std.proofs.Common.{◌≡◌, ℕ, ◌≤◌, ◌==◌, ◌&&◌, cond, List, [], ◌∷◌, ◌++◌, length, append_assoc, Bool, true, false, refl, sym, ap, ◌∙◌, subst, arith, Option, Some, None, if◌then◌else◌}
+use Rattle.std.proofs.Common.{◌≡◌, ℕ, ◌≤◌, ◌&&◌, cond, List, [], ◌∷◌, ◌++◌, length, append_assoc, Bool, true, false, refl, sym, ap, ◌∙◌, subst, arith, Option, Some, None, if◌then◌else◌}
 use Rattle.std.specs.Prelude.{◌+◌, ◌-◌, not, drop, map, filter, is_none}
 use Rattle.std.proofs.lemmas.Bool.{eq-eqb}
 use Rattle.std.proofs.Math.Seq.{drop-append_seam}

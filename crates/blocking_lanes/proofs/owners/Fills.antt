@@ -1,6 +1,6 @@
 -- The session of an owner who writes after it fills the pipe.
-use Rattle.std.proofs.Common.{◌≡◌, ℕ, ◌<◌, ◌≤◌, ◌==◌, List, [], ◌∷◌, ◌++◌, length, length-append, append_assoc, Bool, true, false, refl, sym, ap, ◌∙◌, subst, arith, Option, Some, None, if◌then◌else◌}
-use Rattle.std.specs.Prelude.{◌-◌, min, take}
+use Rattle.std.proofs.Common.{◌≡◌, ℕ, ◌<◌, ◌≤◌, ◌==◌, List, ◌++◌, length, length-append, append_assoc, Bool, true, false, refl, sym, ap, ◌∙◌, subst, arith, Option, if◌then◌else◌}
+use Rattle.std.specs.Prelude.{min, take}
 use Rattle.std.proofs.lemmas.Bool.{eqb-true}
 use Rattle.std.proofs.lemmas.Bool.Decides.{nat_tests}
 use Rattle.std.proofs.lemmas.List.{length-take, take-append-le}
@@ -12,7 +12,7 @@ use Rattle.blocking_laws.specs.Seen.{IsBeginning}
 use Rattle.blocking_laws.specs.Sessions as sessions
 use Rattle.blocking_laws.specs.declared.event.Act.{Act}
 use Rattle.blocking_laws.specs.declared.event.Act.TheVariants.{Filled, FillShut, Waits}
-use Rattle.blocking_lanes.specs.OwnerTies.{SessionAs, Wrote, wrote_by, WrittenAs, IsDrained}
+use Rattle.blocking_lanes.specs.OwnerTies.{SessionAs, Wrote, wrote_by, WrittenAs}
 use Rattle.blocking_lanes.specs.Sessions.{Session, filled, session_after_fill, serial_of}
 use Rattle.blocking_pool.specs.Jobs.{JobNumber}
 

@@ -6,10 +6,10 @@ use Rattle.blocking_core.specs.Pipes.{room}
 use Rattle.blocking_core.specs.Places.{Served, Waiting, Closed, drain}
 use Rattle.blocking_core.specs.Slots.{Slot, Empty, Full}
 use Rattle.blocking_core.specs.declared.io.Fault.{Fault}
-use Rattle.blocking_laws.specs.JobTable.{Kind, Calling, Reading, Writing, JobAction, FindRoom, AskBytes, PutPiece, Peek, OfferBytes, Consume, AskFlush, CloseEnd, Finish, Over, next_but_wake, is_over, fault, has_finished, has_given_up}
+use Rattle.blocking_laws.specs.JobTable.{Kind, Calling, Reading, Writing, JobAction, FindRoom, AskBytes, PutPiece, Peek, OfferBytes, Consume, AskFlush, CloseEnd, Finish, Over, next_but_wake, fault, has_finished, has_given_up}
 use Rattle.blocking_laws.specs.Sessions as sessions
 use Rattle.blocking_laws.specs.declared.event.Act.{Act}
-use Rattle.blocking_lanes.specs.OwnerTies.{SessionAs, SlotAs, Flows, IsStuckIn, IsOwnerStuckIn, HaveReason, Passed, passed_by, PassedAs, Wrote, wrote_by, WrittenAs, IsDrained, IsDone}
+use Rattle.blocking_lanes.specs.OwnerTies.{SessionAs, SlotAs, Flows, IsStuckIn, IsOwnerStuckIn, Passed, passed_by, PassedAs, Wrote, wrote_by, WrittenAs, IsDrained, IsDone}
 use Rattle.blocking_lanes.specs.Sessions.{Session, new_session, session_after_close, session_after_drain, session_after_look}
 use Rattle.blocking_pool.specs.Jobs.{JobNumber}
 

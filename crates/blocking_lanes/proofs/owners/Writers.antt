@@ -1,6 +1,6 @@
 -- The session of an owner who writes after each act of its job.
 use Rattle.std.proofs.Common.{◌≡◌, ℕ, zero, suc, ◌≤◌, List, [], ◌∷◌, ◌++◌, length, length-append, append_assoc, Bool, true, false, refl, sym, ap, ◌∙◌, subst, arith, Option, Some, None}
-use Rattle.std.specs.Prelude.{◌||◌, ◌+◌, ◌-◌, not, nat_le, min, take, drop}
+use Rattle.std.specs.Prelude.{◌||◌, ◌+◌, not, take, drop}
 use Rattle.std.proofs.lemmas.Bool.{or_left}
 use Rattle.std.proofs.lemmas.Bool.Decides.{nat_tests}
 use Rattle.std.proofs.lemmas.List.{append-nil, take-append-drop, take-append-le, length-drop, length-take}
@@ -17,7 +17,7 @@ use Rattle.blocking_laws.specs.declared.event.Act.TheVariants.{JobParked, Answer
 use Rattle.blocking_laws.specs.declared.event.HolderWaker.{HolderWaker}
 use Rattle.blocking_laws.specs.declared.step.Answer.{Answer}
 use Rattle.blocking_laws.specs.declared.step.Answer.TheVariants.{Number, Gave, Fine, Failed}
-use Rattle.blocking_lanes.specs.OwnerTies.{SessionAs, ResultAs, WrittenAs, IsDrained, wrote_by, is_finding}
+use Rattle.blocking_lanes.specs.OwnerTies.{SessionAs, ResultAs, WrittenAs, wrote_by, is_finding}
 use Rattle.blocking_lanes.specs.Sessions.{Session, found_piece, session_after_peek, session_after_consume}
 use Rattle.blocking_lanes.proofs.owners.Sessions.{At, at, tied_at, unseated, going, still}
 
