@@ -37,7 +37,7 @@ taken_is true = refl
 taken_is false = refl
 
 -- what fits needn't wait
-no_wait : {W : Type 0} (n free : ℕ) (lasts : Bool) (seat : Option W) → nat_le n free ≡ true → hand_in n free lasts seat ≡ Waiting → ⊥
+pub no_wait : {W : Type 0} (n free : ℕ) (lasts : Bool) (seat : Option W) → nat_le n free ≡ true → hand_in n free lasts seat ≡ Waiting → ⊥
 no_wait n free false seat fits e = cc
 no_wait n free true seat fits e = let served = ap (λ b. if b then Served seat else Waiting) fits in cc
 
