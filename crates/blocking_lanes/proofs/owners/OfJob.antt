@@ -1,9 +1,8 @@
 -- An act of its job keeps the law of an owner, and the tie of the owner to its cut.
-use Rattle.std.proofs.Common.{◌≡◌, ◌<◌, ◌≤◌, ℕ, suc, zero, ◌==◌, List, [], ◌∷◌, length, Bool, true, false, refl, sym, ap, ◌∙◌, subst, arith, Option, Some, None, if◌then◌else◌, ⊎_elim, inl, inr}
-use Rattle.std.specs.Prelude.{◌||◌, ◌⊎◌, ◌++◌, not, nat_le, min, take, drop, is_some, is_none}
+use Rattle.std.proofs.Common.{◌≡◌, ℕ, suc, zero, ◌==◌, List, ◌∷◌, length, Bool, true, false, refl, sym, ap, ◌∙◌, subst, arith, Option, Some, None, ⊎_elim, inl, inr}
+use Rattle.std.specs.Prelude.{◌||◌, ◌⊎◌, ◌++◌, not, drop, is_some, is_none}
 use Rattle.std.proofs.lemmas.Bool.{or_left, or_right, eq-eqb}
 use Rattle.std.proofs.lemmas.Bool.Decides.{nat_tests}
-use Rattle.std.proofs.lemmas.List.{length-take}
 use Rattle.blocking_core.specs.Pipes.{Pipe, room}
 use Rattle.blocking_core.specs.Places.{Met, Served, Waiting, Closed, find_room, hand_in, peek}
 use Rattle.blocking_core.specs.Reading.{read_next}
@@ -12,10 +11,8 @@ use Rattle.blocking_core.specs.Slots.{Slot, slot_after, slot_without_job, answer
 use Rattle.blocking_core.specs.declared.io.Fault.{Fault}
 use Rattle.blocking_core.specs.declared.job.read.ReadAction.{ReadAction}
 use Rattle.blocking_core.specs.declared.job.read.ReadAction.TheVariants as read
-use Rattle.blocking_core.specs.declared.job.read.ReadAnswer.TheVariants as by
 use Rattle.blocking_core.specs.declared.job.write.WriteAction.{WriteAction}
 use Rattle.blocking_core.specs.declared.job.write.WriteAction.TheVariants as write
-use Rattle.blocking_core.specs.declared.job.write.WriteAnswer.TheVariants as wrote
 use Rattle.blocking_laws.specs.Ends.{EndsTruly, back_by, came_back}
 use Rattle.blocking_laws.specs.JobTable.{Kind, Reading, Writing, JobAction, AskCall, FindRoom, AskBytes, PutPiece, Peek, OfferBytes, Consume, AskFlush, piece, CloseEnd, Finish, WakeHolder, Over, next_but_wake, next_of_job, is_over, is_answer, takes_waker, is_taken, fault, has_finished, has_given_up}
 use Rattle.blocking_laws.specs.JobTable as job
@@ -47,10 +44,10 @@ use Rattle.blocking_lanes.specs.declared.owner.OwnerStage.{OwnerStage}
 use Rattle.blocking_lanes.proofs.owners.Jobs.{no_wait}
 use Rattle.blocking_lanes.proofs.owners.Cuts.{its_kind, kind_is, inside_is, next_stays, room_is, open_is}
 use Rattle.blocking_lanes.proofs.owners.Own.{Goes, owner_by_parts, bound}
-use Rattle.blocking_lanes.proofs.owners.Reads.{next_by, action_is, Awake, awake, meets, asks}
+use Rattle.blocking_lanes.proofs.owners.Reads.{next_by, action_is, Awake, awake, asks}
 use Rattle.blocking_lanes.proofs.owners.Sessions.{At, at, finds, finds_shut, parks, calls, puts, loses, closes, finishes, gives_up, going, some_room, put_is}
 use Rattle.blocking_lanes.proofs.owners.Sessions as Sessions
-use Rattle.blocking_lanes.proofs.owners.Writers.{some_piece, peeks, peek_parks, drains, consumes, writer_answers}
+use Rattle.blocking_lanes.proofs.owners.Writers.{peeks, peek_parks, drains, consumes, writer_answers}
 use Rattle.blocking_lanes.proofs.owners.Writes as of_writer
 
 -- ---- seats that acts empty
