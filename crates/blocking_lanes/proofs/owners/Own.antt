@@ -1,6 +1,6 @@
 -- An act of an owner itself, which asks no pool, keeps the law of the owner and its tie.
 use Rattle.std.proofs.Common.{◌≡◌, ℕ, suc, zero, ◌<◌, List, [], ◌∷◌, ◌++◌, length, Bool, true, false, refl, sym, ap, ◌∙◌, subst, arith, Option, Some, None, inl, inr}
-use Rattle.std.specs.Prelude.{◌≤◌, ◌||◌, ◌⊎◌, ◌==◌, not, nat_le, min, max, take, is_some, is_none, if◌then◌else◌}
+use Rattle.std.specs.Prelude.{◌≤◌, ◌||◌, ◌⊎◌, not, nat_le, max, take, is_some, is_none, if◌then◌else◌}
 use Rattle.std.proofs.lemmas.Bool.{or_from, or_left, or_right}
 use Rattle.std.proofs.lemmas.Bool.Decides.{nat_tests}
 use Rattle.std.proofs.lemmas.List.{append-nil, length-take}
@@ -16,8 +16,6 @@ use Rattle.blocking_core.specs.declared.unblock.OwnerAction.TheVariants as actio
 use Rattle.blocking_core.specs.declared.unblock.OwnerAnswer.{OwnerAnswer}
 use Rattle.blocking_core.specs.declared.unblock.OwnerAnswer.TheVariants as by
 use Rattle.blocking_core.specs.declared.unblock.OwnerEnd.TheVariants.{Open, Shut}
-use Rattle.blocking_core.specs.declared.unblock.PollCall.{PollCall}
-use Rattle.blocking_core.specs.declared.unblock.PollCall.TheVariants as poll_call
 use Rattle.blocking_core.specs.declared.unblock.Reply.{Reply}
 use Rattle.blocking_core.specs.declared.unblock.Reply.TheVariants as reply
 use Rattle.blocking_core.specs.declared.unblock.State.{State}
@@ -28,7 +26,7 @@ use Rattle.blocking_laws.specs.OwnerLaws.{OwnerMayAct, Polls}
 use Rattle.blocking_laws.specs.OwnerTable.{next_of_owner, deliver_first, owner_next_but_wake}
 use Rattle.blocking_laws.specs.OwnerTable as law
 use Rattle.blocking_laws.specs.OwnerSeats.{noted, place_of, is_job_seated, pipe_seat, pipe_seated_by, slot_seat, slot_seated_by}
-use Rattle.blocking_laws.specs.Passed.{gave, got, accepted, data_of, taken as taken_by, inside, room_in, last_job, last_kind, kind_in}
+use Rattle.blocking_laws.specs.Passed.{gave, got, accepted, data_of, taken as taken_by, inside, room_in, last_job, kind_in}
 use Rattle.blocking_laws.specs.Places.{seen_drain, seen_fill, poll_slot}
 use Rattle.blocking_laws.specs.Seen.{own, acts_of, is_some_worker}
 use Rattle.blocking_laws.specs.Sessions as sessions
@@ -45,7 +43,7 @@ use Rattle.blocking_pool.specs.Growth.{Growth}
 use Rattle.blocking_pool.specs.Jobs.{JobNumber}
 use Rattle.blocking_lanes.specs.Owners.{Owner, Did, capacity_of, note_at, goes_on, close_did, drain_did, fill_did, fill_did_in, drop_did, look_did, looked_as, poll_call_of, reply_as, reply_did, did_in, did_by, did, is_gone}
 use Rattle.blocking_lanes.specs.OwnerSteps.{by_owner}
-use Rattle.blocking_lanes.specs.OwnerTies.{OwnerAs, SlotAs, Passed, passed_by, PassedAs, GaveAll, WrittenAs, wrote_by, PollAs, FitsNext, IsGoneBy, IsLentOpen, LooksFrom, EndAs, StageBy, LastAs, SessionAs, IsAtEnd, called_at, state_as, say, action_as, seat_of}
+use Rattle.blocking_lanes.specs.OwnerTies.{OwnerAs, SlotAs, Passed, passed_by, PassedAs, GaveAll, WrittenAs, wrote_by, PollAs, FitsNext, IsGoneBy, IsLentOpen, LooksFrom, EndAs, StageBy, SessionAs, IsAtEnd, called_at, state_as, say, action_as, seat_of}
 use Rattle.blocking_lanes.specs.Sessions.{Session, serial_of, reach, drained, filled, session_after_close, session_after_drain, session_after_fill, session_after_look}
 use Rattle.blocking_lanes.specs.declared.owner.OwnerStage.{OwnerStage}
 use Rattle.blocking_lanes.specs.declared.owner.OwnerStage.TheVariants as stage

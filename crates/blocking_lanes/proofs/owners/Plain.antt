@@ -21,7 +21,7 @@ use Rattle.blocking_laws.specs.declared.event.Reply.{Reply as Told}
 use Rattle.blocking_laws.specs.declared.step.HandleCall.{HandleCall}
 use Rattle.blocking_laws.specs.declared.step.HandleCall.TheVariants as handle_call
 use Rattle.blocking_pool.specs.Jobs.{JobNumber}
-use Rattle.blocking_lanes.specs.Owners.{Owner, Did, Worked, note_at, drain_did, fill_did, fill_did_in, drop_did, look_did, looked_as, reply_as, reply_did, did_in, did_by, did, worked_by, calls_waker, read_in, read_as, write_in, write_as, worked}
+use Rattle.blocking_lanes.specs.Owners.{Owner, Did, Worked, note_at, drain_did, fill_did, fill_did_in, look_did, looked_as, reply_as, reply_did, did_in, did_by, did, worked_by, read_in, read_as, write_in, write_as, worked}
 use Rattle.blocking_lanes.specs.OwnerSteps.{OwnerStep, IsAsked, Acts, Begins, IsRefused, Delivers, IsDropped, Works, IsAnswered, GivesUp, CallsWaker, act_of, act_in, act_of_work, delivered}
 use Rattle.blocking_lanes.specs.Reads as reads
 use Rattle.blocking_lanes.specs.Writes as writes

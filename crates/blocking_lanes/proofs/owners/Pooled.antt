@@ -1,7 +1,7 @@
 -- An owner is asked and dropped, and the pool answers it: each keeps its law and its tie.
 use Rattle.std.proofs.Common.{◌≡◌, ℕ, suc, zero, ◌<◌, ◌==◌, List, [], ◌∷◌, Bool, true, false, refl, sym, ap, ◌∙◌, subst, arith, Option, Some, None, if◌then◌else◌}
-use Rattle.std.specs.Prelude.{◌||◌, ◌&&◌, not, length, is_none, is_some}
-use Rattle.std.proofs.lemmas.Bool.{or_left, or_right}
+use Rattle.std.specs.Prelude.{◌||◌, ◌&&◌, not, is_none}
+use Rattle.std.proofs.lemmas.Bool.{or_left}
 use Rattle.std.proofs.lemmas.Bool.Decides.{nat_tests}
 use Rattle.blocking_core.specs.OwnerCalls.{OwnerMachine, owner_next, owner_after, owner_by, owner_in, new_poll}
 use Rattle.blocking_core.specs.OwnerCalls as machine
@@ -16,7 +16,7 @@ use Rattle.blocking_core.specs.declared.unblock.Reply.TheVariants as reply
 use Rattle.blocking_core.specs.declared.unblock.State.{State}
 use Rattle.blocking_core.specs.declared.unblock.State.TheVariants as state
 use Rattle.blocking_laws.specs.Ends.{came_back}
-use Rattle.blocking_laws.specs.JobTable.{Kind, Calling, Reading, Writing, Over, next_but_wake, fault, has_finished, has_given_up}
+use Rattle.blocking_laws.specs.JobTable.{Kind, Over, next_but_wake, fault, has_finished, has_given_up}
 use Rattle.blocking_laws.specs.OwnerLaws.{Polls}
 use Rattle.blocking_laws.specs.OwnerTable.{owner_next_but_wake, deliver_first}
 use Rattle.blocking_laws.specs.OwnerTable as law
