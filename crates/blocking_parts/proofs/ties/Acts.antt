@@ -10,7 +10,6 @@ use Rattle.blocking_core.specs.declared.job.Action.TheVariants as action
 use Rattle.blocking_core.specs.declared.job.Answer.TheVariants as answer
 use Rattle.blocking_crew.specs.Crews.{may_act, stage_after}
 use Rattle.blocking_crew.specs.Ties.{turn_of}
-use Rattle.blocking_crew.specs.Tickets.{no_growth}
 use Rattle.blocking_crew.specs.declared.hand.Stage.{Stage}
 use Rattle.blocking_crew.specs.declared.hand.Stage.TheVariants as stage
 use Rattle.blocking_lanes.specs.Calls as calls
@@ -29,7 +28,7 @@ use Rattle.blocking_lanes.proofs.owners.Own.{value_of}
 use Rattle.blocking_laws.specs.JobTable.{JobAction, AskCall, AskBytes, FindRoom, PutPiece, Peek, OfferBytes, Consume, AskFlush, CloseEnd, Finish, WakeHolder, Over, next_but_wake, next_of_job, is_answer, has_given_up}
 use Rattle.blocking_laws.specs.Jobs.{accepted_by, ends_for_good, holder, sweeps, stands_by, is_parked}
 use Rattle.blocking_laws.specs.Seats.{waker_in}
-use Rattle.blocking_laws.specs.Seen.{events, acts_of, cut, is_of_pool, is_nothing}
+use Rattle.blocking_laws.specs.Seen.{events, acts_of, is_of_pool, is_nothing}
 use Rattle.blocking_laws.specs.Steps.{is_answered_action, next_in_turn}
 use Rattle.blocking_laws.specs.Turns.{GoesOn, turn_by}
 use Rattle.blocking_laws.specs.declared.event.Act.{Act}
@@ -202,7 +201,7 @@ done_leaves setting plan w past t at s (core.Session h job) did ran place held i
     by : (o : Option Owner) → slice_get w.owners h ≡ o → session_done h job w.tasks w.owners o (session_step at job) ≡ Some did → LeavesSo (core.Session h job) (acts_of s (events past)) did
     by None found is = absurd cc
     by (Some owner) found is =
-        session_leaves h job owner did (acts_of s (events past)) (λ tied done works. worked_on job owner done (acts_of s (events past)) tied works) at w.tasks w.owners ran place is
+        session_leaves h job owner did (acts_of s (events past)) (λ tied done works. worked_on job (acts_of s (events past)) owner done tied works) at w.tasks w.owners ran place is
 
 -- a job that is answered
 asked : (next : JobAction) (answer : Answer) → is_answered_action (next_in_turn GoesOn next) answer ≡ true → is_answer next answer ≡ true

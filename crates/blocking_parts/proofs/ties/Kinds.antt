@@ -1,8 +1,7 @@
 -- What kind of job it is: only its acceptance tells, so an event that doesn't accept it leaves that.
-use Rattle.std.proofs.Common.{◌≡◌, ℕ, ◌==◌, List, ◌∷◌, Bool, true, false, refl, sym, ap, ◌∙◌, Option, Some, None, if◌then◌else◌}
+use Rattle.std.proofs.Common.{◌≡◌, ℕ, List, ◌∷◌, Bool, true, false, refl, ap, Option, Some, None, if◌then◌else◌}
 use Rattle.std.specs.Prelude.{cond}
-use Rattle.blocking_laws.specs.JobTable.{Kind}
-use Rattle.blocking_laws.specs.Jobs.{accepts, holder}
+use Rattle.blocking_laws.specs.Jobs.{accepts}
 use Rattle.blocking_laws.specs.Seen.{events, own, cut, acts_of_owner, is_in_cut, is_some_worker}
 use Rattle.blocking_laws.specs.Sessions.{call, kind_of, kind_of_job}
 use Rattle.blocking_laws.specs.Steps.{kind_by}

@@ -14,7 +14,7 @@ use Rattle.blocking_lanes.proofs.cuts.Acts.{acts_more}
 use Rattle.blocking_lanes.proofs.ties.Holders.{holder_stays}
 use Rattle.blocking_laws.specs.Growth.{IsPlanned}
 use Rattle.blocking_laws.specs.JobTable.{has_given_up}
-use Rattle.blocking_laws.specs.Jobs.{accepted_by, accepted_jobs, ends_for_good, standing, stands_by, sweeps, is_parked, is_marked}
+use Rattle.blocking_laws.specs.Jobs.{accepted_by, accepted_jobs, ends_for_good, standing, stands_by, sweeps, is_parked, is_marked, holder}
 use Rattle.blocking_laws.specs.Seen.{events, acts_of, is_of_job, joined}
 use Rattle.blocking_laws.specs.Steps.{is_answered_action}
 use Rattle.blocking_laws.specs.Turns.{turn, turn_by}
