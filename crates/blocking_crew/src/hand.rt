@@ -54,6 +54,9 @@ impl Stage {
             | Act::JobParked
             | Act::Put(_, _)
             | Act::Lost(_)
+            | Act::Peeked(_)
+            | Act::Drained
+            | Act::Taken(_, _)
             | Act::JobClosed(_)
             | Act::Finished(_) => matches!(self, Stage::Runs),
             Act::GaveUp(_) => matches!(self, Stage::MustGiveUp),

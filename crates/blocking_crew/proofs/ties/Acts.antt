@@ -13,7 +13,7 @@ use Rattle.blocking_laws.specs.Seen.{is_nothing, is_of_pool}
 use Rattle.blocking_laws.specs.Steps.{is_there}
 use Rattle.blocking_laws.specs.Turns.{FitsTurn, HoldsOne, turn, hand}
 use Rattle.blocking_laws.specs.declared.event.Act.{Act}
-use Rattle.blocking_laws.specs.declared.event.Act.TheVariants.{Made, Asked, OwnerClosed, Got, GotEnd, Back, Replied, Accepted, Refused, JobWoken, JobCancelled, LimitSet, Swept, Waits, HolderDropped, TaskGot, TaskGotNone, TaskCancelled, TaskDetached, Arrived, Took, TookDropped, TookNone, Stays, Stopped, Ended, HandedOut, Answered, RoomFree, RoomShut, JobParked, Put, Lost, JobClosed, Finished, GaveUp, HolderWoken, NoAction}
+use Rattle.blocking_laws.specs.declared.event.Act.TheVariants.{Made, Asked, OwnerClosed, Got, GotEnd, Filled, FillShut, Back, Replied, Accepted, Refused, JobWoken, JobCancelled, LimitSet, Swept, Waits, HolderDropped, TaskGot, TaskGotNone, TaskCancelled, TaskDetached, Arrived, Took, TookDropped, TookNone, Stays, Stopped, Ended, HandedOut, Answered, RoomFree, RoomShut, JobParked, Put, Lost, Peeked, Drained, Taken as TakenOut, JobClosed, Finished, GaveUp, HolderWoken, NoAction}
 use Rattle.blocking_laws.specs.declared.event.HolderWaker.{HolderWaker}
 use Rattle.blocking_laws.specs.declared.event.Moment.{Moment}
 use Rattle.blocking_laws.specs.declared.event.Party.{Party}
@@ -143,6 +143,8 @@ aside_plain (Asked call) is = refl
 aside_plain (OwnerClosed told) is = refl
 aside_plain (Got bytes told) is = refl
 aside_plain GotEnd is = refl
+aside_plain (Filled n told) is = refl
+aside_plain FillShut is = refl
 aside_plain Back is = refl
 aside_plain (Replied reply) is = refl
 aside_plain Waits is = refl
@@ -164,6 +166,9 @@ by_work P goes_on parks gives_up stage.Runs RoomShut may = goes_on stage.Runs Ro
 by_work P goes_on parks gives_up stage.Runs JobParked may = parks
 by_work P goes_on parks gives_up stage.Runs (Put n waker) may = goes_on stage.Runs (Put n waker) refl refl refl
 by_work P goes_on parks gives_up stage.Runs (Lost n) may = goes_on stage.Runs (Lost n) refl refl refl
+by_work P goes_on parks gives_up stage.Runs (Peeked bytes) may = goes_on stage.Runs (Peeked bytes) refl refl refl
+by_work P goes_on parks gives_up stage.Runs Drained may = goes_on stage.Runs Drained refl refl refl
+by_work P goes_on parks gives_up stage.Runs (TakenOut n waker) may = goes_on stage.Runs (TakenOut n waker) refl refl refl
 by_work P goes_on parks gives_up stage.Runs (JobClosed waker) may = goes_on stage.Runs (JobClosed waker) refl refl refl
 by_work P goes_on parks gives_up stage.Runs (Finished waker) may = goes_on stage.Runs (Finished waker) refl refl refl
 by_work P goes_on parks gives_up stage.Runs HolderWoken may = goes_on stage.Runs HolderWoken refl refl refl
