@@ -1,9 +1,13 @@
 pub mod Reads
+pub mod Writes
 pub mod Sessions
+pub mod Writers
 pub mod Takes
+pub mod Fills
 pub mod Cuts
 pub mod Own
 pub mod Pooled
+pub mod Jobs
 pub mod OfJob
 pub mod Steps
 pub mod Plain

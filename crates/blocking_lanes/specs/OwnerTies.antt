@@ -85,6 +85,11 @@ EndAs handle_call.Flush reply.Done back = IsFlushedBack back
 EndAs handle_call.Close reply.Done back = IsFlushedBack back
 EndAs _ _ back = Unit {0}
 
+-- a close that is all done has left no handle
+abbrev pub IsGoneBy : Reply ℕ → HandleCall → State → Type 0
+IsGoneBy reply.Done handle_call.Close at = at ≡ state.Closed
+IsGoneBy _ _ at = Unit {0}
+
 -- who looks for the handle has closed the own end of the pipe; or reads, and saw the other end closed
 abbrev pub LooksFrom : HandleCall → State → Bool → Type 0
 LooksFrom call (state.Reading Shut) false = Unit {0}
@@ -114,7 +119,7 @@ FitsNext call poll (action.Fill most) ended back =
     (bytes : List ℕ) × (call ≡ handle_call.Write bytes) × (most ≡ length bytes) × (0 < most) × (poll.state ≡ state.Writing Open) × (poll.is_at_end ≡ false)
 FitsNext call poll action.PollSlot ended back = LooksFrom call poll.state poll.is_at_end × (poll.is_at_end ≡ ended)
 FitsNext call poll action.DropHandle ended back = (call ≡ handle_call.Close) × (poll.state ≡ state.Idle) × IsFlushedBack back
-FitsNext call poll (action.Reply reply) ended back = (is_some (reply_as reply) ≡ true) × EndAs call reply back
+FitsNext call poll (action.Reply reply) ended back = (is_some (reply_as reply) ≡ true) × EndAs call reply back × IsGoneBy reply call poll.state
 FitsNext call poll _ ended back = ⊥
 
 -- A poll that is under way, by the call that was asked last, where the handle is, what is next, whether the end of the pipe was just

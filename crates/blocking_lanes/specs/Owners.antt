@@ -1,5 +1,5 @@
 -- The machine of an owner, as contracts see it, and what each call of the owner and each act of its job does to it.
-use Rattle.std.specs.Prelude.{◌≡◌, ℕ, ◌==◌, if◌then◌else◌, Bool, true, false, List, [], ◌∷◌, length, Option, Some, None, is_some}
+use Rattle.std.specs.Prelude.{◌≡◌, ℕ, ◌==◌, if◌then◌else◌, Bool, true, false, List, ◌∷◌, length, Option, Some, None, is_some}
 use Rattle.blocking_core.specs.OwnerCalls.{OwnerMachine, new_poll, owner_next, owner_after}
 use Rattle.blocking_core.specs.Pipes.{Pipe}
 use Rattle.blocking_core.specs.Places.{Met, Served, Waiting, Closed}

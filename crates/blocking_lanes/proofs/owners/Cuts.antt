@@ -1,45 +1,48 @@
 -- What the cut of an owner says, by the tie of the owner to it.
-use Rattle.std.proofs.Common.{◌≡◌, ℕ, ◌≤◌, ◌&&◌, cond, List, [], ◌∷◌, ◌++◌, length, append_assoc, Bool, true, false, refl, sym, ap, ◌∙◌, subst, arith, Option, Some, None}
+use Rattle.std.proofs.Common.{◌≡◌, ℕ, ◌≤◌, ◌&&◌, cond, List, [], ◌∷◌, ◌++◌, length, append_assoc, Bool, true, false, refl, sym, ap, ◌∙◌, subst, arith, Option, Some, None, if◌then◌else◌}
 use Rattle.std.specs.Prelude.{◌+◌, ◌-◌, not, drop, map, filter, is_none}
+use Rattle.std.proofs.lemmas.Bool.{eq-eqb}
 use Rattle.std.proofs.Math.Seq.{drop-append_seam}
 use Rattle.blocking_core.specs.Places.{Met, Served, Waiting, Closed, drain}
 use Rattle.blocking_core.specs.Pipes.{room}
 use Rattle.blocking_core.specs.declared.unblock.OwnerEnd.TheVariants.{Open, Shut}
 use Rattle.blocking_core.specs.declared.unblock.State.{State}
 use Rattle.blocking_core.specs.declared.unblock.State.TheVariants as state
-use Rattle.blocking_laws.specs.JobTable.{Kind, Reading, fault, has_closed}
+use Rattle.blocking_laws.specs.JobTable.{Kind, Calling, Reading, Writing, JobAction, next_but_wake, fault, has_closed}
 use Rattle.blocking_laws.specs.OwnerSeats.{note_of, noted, is_job_seated}
 use Rattle.blocking_laws.specs.OwnerTable.{owner_next_but_wake, next_of_owner, next_of_owner_by, deliver_first, at_back, after_back, is_at_end}
-use Rattle.blocking_laws.specs.Passed.{inside, inside_by, last_job, kind_in, room_in, was_put, gave, got, accepted, taken, is_of_session, PassesOn}
+use Rattle.blocking_laws.specs.Passed.{inside, inside_by, last_job, kind_in, room_in, gave, got, accepted, taken, is_of_session, PassesOn}
 use Rattle.blocking_laws.specs.Places.{seen_drain}
-use Rattle.blocking_laws.specs.Seen.{own, acts_of, is_of_pool, is_nothing, is_some_worker}
-use Rattle.blocking_laws.specs.Sessions.{call, last_session, is_shut, capacity}
+use Rattle.blocking_laws.specs.Seen.{IsBeginning, own, acts_of, is_of_pool, is_nothing, is_some_worker}
+use Rattle.blocking_laws.specs.Sessions.{call, last_session, is_shut, capacity, kind_of_job}
 use Rattle.blocking_laws.specs.Sessions as sessions
 use Rattle.blocking_laws.specs.declared.event.Act.{Act}
-use Rattle.blocking_laws.specs.declared.event.Act.TheVariants.{Got, GotEnd, Waits, JobWoken, Back}
+use Rattle.blocking_laws.specs.declared.event.Act.TheVariants.{Accepted, Got, GotEnd, Waits, JobWoken, Back}
 use Rattle.blocking_laws.specs.declared.event.Event.{Event}
 use Rattle.blocking_laws.specs.declared.step.HandleCall.{HandleCall}
-use Rattle.blocking_lanes.specs.OwnerTies.{LastAs, newest_note, seat_of, state_as}
+use Rattle.blocking_lanes.specs.OwnerTies.{LastAs, Flows, newest_note, seat_of, state_as}
 use Rattle.blocking_lanes.specs.Sessions.{Session, serial_of}
 use Rattle.blocking_pool.specs.Jobs.{JobNumber}
 
 -- ---- where the handle is
 
-open_by : (b : Bool) (r : Option sessions.Session) (shut : Bool) (st : State) → Some (sessions.state_by b r shut) ≡ state_as st → b ≡ false
-open_by false r shut st e = refl
-open_by true r shut state.Idle e = absurd (cc)
-open_by true r shut (state.Reading Open) e = absurd (cc)
-open_by true r shut (state.Reading Shut) e = absurd (cc)
-open_by true r shut (state.Writing end) e = absurd (cc)
-open_by true r shut state.Closed e = absurd (cc)
+open_by : (b : Bool) (r : Option sessions.Session) (shut : Bool) (st : State) → sessions.state_by b r shut ≡ state_as st → (st ≡ state.Closed → ⊥) → b ≡ false
+open_by false r shut st e other = refl
+open_by true r shut state.Idle e other = absurd (cc)
+open_by true r shut (state.Reading Open) e other = absurd (cc)
+open_by true r shut (state.Reading Shut) e other = absurd (cc)
+open_by true r shut (state.Writing Open) e other = absurd (cc)
+open_by true r shut (state.Writing Shut) e other = absurd (cc)
+open_by true r shut state.Closed e other = absurd (other refl)
 
--- the handle wasn't closed, where the owner's machine says where it is
-pub is_open : (acts : List Act) (st : State) → Some (sessions.state acts) ≡ state_as st → sessions.is_closed acts ≡ false
-is_open acts st e = open_by (sessions.is_closed acts) (sessions.session acts) (is_shut acts) st e
+-- the handle wasn't closed, where the owner's machine says where it is and doesn't say that it is gone
+pub is_open : (acts : List Act) (st : State) → sessions.state acts ≡ state_as st → (st ≡ state.Closed → ⊥) → sessions.is_closed acts ≡ false
+is_open acts st e other = open_by (sessions.is_closed acts) (sessions.session acts) (is_shut acts) st e other
 
 -- so it is with its owner, or with a job
-pub state_is : (acts : List Act) (st : State) → Some (sessions.state acts) ≡ state_as st → sessions.state acts ≡ sessions.state_in (sessions.session acts) (is_shut acts)
-state_is acts st e = ap (λ b. sessions.state_by b (sessions.session acts) (is_shut acts)) (is_open acts st e)
+pub state_is : (acts : List Act) (st : State) → sessions.state acts ≡ state_as st → (st ≡ state.Closed → ⊥)
+    → sessions.state acts ≡ sessions.state_in (sessions.session acts) (is_shut acts)
+state_is acts st e other = ap (λ b. sessions.state_by b (sessions.session acts) (is_shut acts)) (is_open acts st e other)
 
 -- ---- the last session
 
@@ -47,37 +50,88 @@ state_is acts st e = ap (λ b. sessions.state_by b (sessions.session acts) (is_s
 pub last_job_is : (cut : List Event) (r : sessions.Session) → last_session (own cut) ≡ Some r → last_job cut ≡ acts_of r.serial cut
 last_job_is cut r e = ap (λ l. map (λ e. e.act) (filter (is_of_session l) cut)) e
 
+-- its job is of its kind
+pub kind_of_last : (acts : List Act) (r : sessions.Session) → last_session acts ≡ Some r → kind_of_job r.serial acts ≡ r.kind
+kind_of_last [] r e = absurd (cc)
+kind_of_last (Accepted n ∷ past) r e =
+    let same : record { serial = n; kind = sessions.kind_of (call past) } ≡ r = cc in
+    subst (λ q. kind_of_job q.serial (Accepted n ∷ past) ≡ q.kind) same
+    (ap (λ b. if b then sessions.kind_of (call past) else kind_of_job n past) (eq-eqb n n refl))
+kind_of_last (_ ∷ past) r e = kind_of_last past r e
+
 pub not_not : (a b : Bool) → a ≡ not b → not a ≡ b
 not_not a true e = ap not e
 not_not a false e = ap not e
 
+-- ---- what went through its pipe, by its kind
+
+module _ (s : Session) (shut : Bool) (next : JobAction) (owner acts : List Act) where
+  inside_at : (kind : Kind) → Flows kind s shut (got owner) (accepted owner) next acts → inside_by kind owner acts ≡ s.pipe.items
+  inside_at Reading t = ap (λ l. drop (length (got owner)) l) t.inside ∙ drop-append_seam (got owner) s.pipe.items
+  inside_at Writing t = ap (λ n. drop n (accepted owner)) t.removed ∙ ap (λ l. drop (length t.out) l) t.inside ∙ drop-append_seam t.out s.pipe.items
+  inside_at Calling t = absurd t
+
+  closed_at : (kind : Kind) → Flows kind s shut (got owner) (accepted owner) next acts → has_closed acts ≡ not s.pipe.is_job_open
+  closed_at Reading t = t.closed_is
+  closed_at Writing t = t.closed_is
+  closed_at Calling t = absurd t
+
+  read_at : (kind : Kind) → Flows kind s shut (got owner) (accepted owner) next acts → IsBeginning (got owner) (gave acts)
+  read_at Reading t = (s.pipe.items ++ t.put.0, t.put.1 ∙ ap (λ l. l ++ t.put.0) t.inside ∙ append_assoc (got owner) s.pipe.items t.put.0)
+  read_at Writing t = (gave acts, ap (λ l. l ++ gave acts) (sym t.ungot))
+  read_at Calling t = absurd t
+
+  written_at : (kind : Kind) → Flows kind s shut (got owner) (accepted owner) next acts → IsBeginning (taken acts) (accepted owner)
+  written_at Reading t = (accepted owner, ap (λ l. l ++ accepted owner) (sym t.unwritten))
+  written_at Writing t = t.begun
+  written_at Calling t = absurd t
+
+  bounded_at : (kind : Kind) → Flows kind s shut (got owner) (accepted owner) next acts → length (gave acts) ≤ length (got owner) + s.pipe.capacity
+  bounded_at Reading t = t.bounded
+  bounded_at Writing t = subst (λ l. length l ≤ length (got owner) + s.pipe.capacity) (sym t.ungiven) (omega arith)
+  bounded_at Calling t = absurd t
+
 module _ (s : Session) (bytes : ℕ) (cut : List Event) (t : LastAs (Some s) bytes cut) where
+  -- the kind of the session
+  abbrev pub its_kind : Kind
+  its_kind = kind_in (last_session (own cut))
+
+  pub kind_is : kind_of_job s.number.serial (own cut) ≡ its_kind
+  kind_is = kind_of_last (own cut) (record { serial = s.number.serial; kind = its_kind }) t.lent.begun
+
   pub its_job : last_job cut ≡ acts_of s.number.serial cut
-  its_job = last_job_is cut (record { serial = s.number.serial; kind = Reading }) t.lent.begun
+  its_job = last_job_is cut (record { serial = s.number.serial; kind = its_kind }) t.lent.begun
+
+  abbrev acts : List Act
+  acts = acts_of s.number.serial cut
+
+  abbrev next : JobAction
+  next = next_but_wake its_kind acts
 
   -- what is inside its pipe
   pub inside_is : inside cut ≡ s.pipe.items
-  inside_is =
-      ap (λ l. inside_by (kind_in l) (own cut) (last_job cut)) t.lent.begun ∙ ap (λ l. drop (length (got (own cut))) (was_put l)) its_job
-      ∙ ap (λ l. drop (length (got (own cut))) l) t.flow.inside ∙ drop-append_seam (got (own cut)) s.pipe.items
+  inside_is = ap (λ l. inside_by its_kind (own cut) l) its_job ∙ inside_at s (is_shut (own cut)) next (own cut) acts its_kind t.flow
 
   pub room_is : capacity (own cut) ≡ bytes → room_in cut ≡ room s.pipe
   room_is same = ap (λ (l : List ℕ). capacity (own cut) - length l) inside_is ∙ ap (λ n. n - length s.pipe.items) (same ∙ sym t.lent.holds)
 
   -- which ends are open
+  pub closed_is : has_closed acts ≡ not s.pipe.is_job_open
+  closed_is = closed_at s (is_shut (own cut)) next (own cut) acts its_kind t.flow
+
   pub lasts_is : not (has_closed (last_job cut)) ≡ s.pipe.is_job_open
-  lasts_is = ap (λ l. not (has_closed l)) its_job ∙ not_not (has_closed (acts_of s.number.serial cut)) s.pipe.is_job_open t.flow.closed_is
+  lasts_is = ap (λ l. not (has_closed l)) its_job ∙ not_not (has_closed acts) s.pipe.is_job_open closed_is
 
   pub open_is : not (is_shut (own cut)) ≡ s.pipe.is_owner_open
   open_is = not_not (is_shut (own cut)) s.pipe.is_owner_open t.lent.shut_is
 
   -- the note of the job that is seated
   pub noted_is : serial_of s.pipe.job_seat ≡ noted cut
-  noted_is = ap serial_of t.seats.job ∙ seat_note (is_job_seated cut) ∙ ap (λ l. note_of l (is_job_seated cut)) (sym t.lent.begun)
+  noted_is = ap serial_of t.seats.job ∙ seat_note its_kind (is_job_seated cut) ∙ ap (λ l. note_of l (is_job_seated cut)) (sym t.lent.begun)
     where
-      seat_note : (b : Bool) → serial_of (seat_of b s.number) ≡ note_of (Some (record { serial = s.number.serial; kind = Reading })) b
-      seat_note true = refl
-      seat_note false = refl
+      seat_note : (kind : Kind) (b : Bool) → serial_of (seat_of b s.number) ≡ note_of (Some (record { serial = s.number.serial; kind = kind })) b
+      seat_note kind true = refl
+      seat_note kind false = refl
 
 no_more : (b : Bool) (e : Event) (seen : List Event) → b ≡ false → seen ≡ [] → cond b (e ∷ seen) seen ≡ []
 no_more true e seen out none = absurd (cc)
@@ -106,15 +160,17 @@ passes None bytes cut same t = record {
 passes (Some s) bytes cut same t =
     let within = t.lent.within in
     let holds = t.lent.holds in
-    let bounded = t.flow.bounded in
+    let kind = kind_in (last_session (own cut)) in
+    let acts = acts_of s.number.serial cut in
+    let shut = is_shut (own cut) in
+    let next = next_but_wake kind acts in
+    let job = its_job s bytes cut t in
+    let bounded = bounded_at s shut next (own cut) acts kind t.flow in
     record {
-      read = (
-        s.pipe.items ++ t.flow.put.0,
-        ap gave (its_job s bytes cut t) ∙ t.flow.put.1 ∙ ap (λ l. l ++ t.flow.put.0) t.flow.inside ∙ append_assoc (got (own cut)) s.pipe.items t.flow.put.0,
-      );
-      written = (accepted (own cut), ap (λ l. l ++ accepted (own cut)) (sym (ap taken (its_job s bytes cut t) ∙ t.flow.unwritten)));
+      read = subst (λ l. IsBeginning (got (own cut)) (gave l)) (sym job) (read_at s shut next (own cut) acts kind t.flow);
+      written = subst (λ l. IsBeginning (taken l) (accepted (own cut))) (sym job) (written_at s shut next (own cut) acts kind t.flow);
       within = subst (λ l. length l ≤ capacity (own cut)) (sym (inside_is s bytes cut t)) (omega (arith, within, same));
-      bounded = subst (λ l. length (gave l) ≤ length (got (own cut)) + capacity (own cut)) (sym (its_job s bytes cut t)) (omega (arith, bounded, holds, same));
+      bounded = subst (λ l. length (gave l) ≤ length (got (own cut)) + capacity (own cut)) (sym job) (omega (arith, bounded, holds, same));
     }
 
 -- ---- what comes next

@@ -6,10 +6,11 @@ use Rattle.std.proofs.lemmas.Bool.Decides.{nat_tests}
 use Rattle.std.proofs.lemmas.Option.{slice_get_within}
 use Rattle.std.proofs.Math.ListN.{length-set}
 use Rattle.blocking_pool.specs.Lists.{is_in}
+use Rattle.blocking_laws.specs.JobTable.{Kind}
 use Rattle.blocking_laws.specs.Jobs.{accepted_by, accepts, holder, newcomer}
 use Rattle.blocking_laws.specs.OwnerLaws.{OwnerLaws}
 use Rattle.blocking_laws.specs.Seen.{events, own, cut, acts_of, is_in_cut, is_of_job, is_some_worker}
-use Rattle.blocking_laws.specs.Sessions.{jobs_of}
+use Rattle.blocking_laws.specs.Sessions.{jobs_of, kind_of_job}
 use Rattle.blocking_laws.specs.Steps.{owners, is_making}
 use Rattle.blocking_laws.specs.declared.event.Act.{Act}
 use Rattle.blocking_laws.specs.declared.event.Act.TheVariants.{Accepted, Made}
@@ -18,16 +19,17 @@ use Rattle.blocking_laws.specs.declared.event.Moment.{Moment}
 use Rattle.blocking_laws.specs.declared.event.Party.{Party}
 use Rattle.blocking_laws.specs.declared.event.Party.TheVariants.{Owner as ByOwner, Task as ByTask, Worker, Pool}
 use Rattle.blocking_pool.specs.Growth.{Growth}
-use Rattle.blocking_core.specs.Reading.{read_next}
 use Rattle.blocking_lanes.specs.Owners.{Owner, Worked, worked, new_owner, capacity_of}
 use Rattle.blocking_lanes.specs.OwnerSteps.{OwnerStep, IsAsked, Acts, Begins, IsRefused, Delivers, IsDropped, Works, IsAnswered, GivesUp, CallsWaker, IsAside, MakesOwner, TakesStep, MayTake, IsFresh, IsHeld, is_of_its_job, event_for, by_owner, by_its_job, owner_after}
 use Rattle.blocking_lanes.specs.OwnerTies.{OwnerAs, OwnersHold}
-use Rattle.blocking_lanes.specs.Reads.{Progress, ReadAs}
+use Rattle.blocking_lanes.specs.SessionJobs.{JobAs}
+use Rattle.blocking_lanes.specs.declared.job.SessionJob.{SessionJob}
 use Rattle.blocking_pool.proofs.Places.{got_same, got_other, in_pushed}
 use Rattle.blocking_lanes.proofs.owners.Cuts.{passes}
+use Rattle.blocking_lanes.proofs.owners.Jobs.{worked_on}
 use Rattle.blocking_lanes.proofs.owners.Own.{Goes}
 use Rattle.blocking_lanes.proofs.owners.Plain.{IsPlain, brought, plain_of}
-use Rattle.blocking_lanes.proofs.owners.Steps.{IsNewTo, step_goes, works_goes, law_of}
+use Rattle.blocking_lanes.proofs.owners.Steps.{IsNewTo, step_goes, law_of}
 
 -- ---- one more event
 
@@ -136,13 +138,13 @@ new_tied : (h capacity first : ℕ) (growth : Growth) → OwnerAs (new_owner cap
 new_tied h capacity first growth = record {
   made = refl;
   gone = refl;
+  asked = refl;
   polled = refl;
   bytes = refl;
   stage = (refl, refl, refl);
-  last = (refl, refl);
+  last = (refl, refl, refl);
   ended = λ is_end. absurd (cc);
   earlier = λ s among other. absurd (cc);
-  kinds = λ s among. absurd (cc);
   noted = λ number is. absurd (cc);
   told = λ waits. absurd (cc);
 }
@@ -207,23 +209,23 @@ born row past now capacity makes h =
     law g true test =
         let same : length row ≡ g = grind (arith, nat_tests) in
         subst OwnerLaws (sym (alone g same))
-        (record { acts = refl; ends = tt; passed = passes None (capacity_of (new_owner capacity)) (made ∷ []) refl (refl, refl) }, tt)
+        (record { acts = refl; ends = tt; passed = passes None (capacity_of (new_owner capacity)) (made ∷ []) refl (refl, refl, refl) }, tt)
     law g false test = subst OwnerLaws (sym (cut_same g now.event (events past) (in_is g ∙ test))) (h.laws g)
 
 -- ---- a step of one owner
 
 -- what a step looks at is the same in its owner's cut
-may_moved : (step : OwnerStep) (owner : Owner) (acts same : List Act) → (is_of_its_job step ≡ true → same ≡ acts) → MayTake step owner acts → MayTake step owner same
-may_moved (IsAsked call) owner acts same is may = may
-may_moved Acts owner acts same is may = may
-may_moved (Begins number) owner acts same is may = may
-may_moved (IsRefused why) owner acts same is may = may
-may_moved (Delivers woke) owner acts same is may = may
-may_moved IsDropped owner acts same is may = may
-may_moved (Works p) owner acts same is may = subst (MayTake (Works p) owner) (sym (is refl)) may
-may_moved (IsAnswered p answer) owner acts same is may = subst (MayTake (IsAnswered p answer) owner) (sym (is refl)) may
-may_moved GivesUp owner acts same is may = subst (MayTake GivesUp owner) (sym (is refl)) may
-may_moved CallsWaker owner acts same is may = subst (MayTake CallsWaker owner) (sym (is refl)) may
+may_moved : (step : OwnerStep) (owner : Owner) (kind : Kind) (acts same : List Act) → (is_of_its_job step ≡ true → same ≡ acts) → MayTake step owner kind acts → MayTake step owner kind same
+may_moved (IsAsked call) owner kind acts same is may = may
+may_moved Acts owner kind acts same is may = may
+may_moved (Begins number) owner kind acts same is may = may
+may_moved (IsRefused why) owner kind acts same is may = may
+may_moved (Delivers woke) owner kind acts same is may = may
+may_moved IsDropped owner kind acts same is may = may
+may_moved (Works p) owner kind acts same is may = subst (MayTake (Works p) owner kind) (sym (is refl)) may
+may_moved (IsAnswered p answer) owner kind acts same is may = subst (MayTake (IsAnswered p answer) owner kind) (sym (is refl)) may
+may_moved GivesUp owner kind acts same is may = subst (MayTake GivesUp owner kind) (sym (is refl)) may
+may_moved CallsWaker owner kind acts same is may = subst (MayTake CallsWaker owner kind) (sym (is refl)) may
 
 held_of : (b : Bool) (past : List Moment) (g s : ℕ) → b ≡ true → IsHeld b past g s → holder past s ≡ Some (ByOwner g)
 held_of true past g s is held = held
@@ -298,7 +300,7 @@ module _ (old new : List Owner) (past : List Moment) (now : Moment) (q : TakesSt
       subst (Goes (owner_after q.step q.owner) (cut q.place X)) (sym q.event_is)
       (step_goes q.step q.owner q.place q.worker q.job q.first q.growth (cut q.place X) q.act tie
       (record {
-        may = may_moved q.step q.owner (acts_of q.job X) (acts_of q.job (cut q.place X)) (λ is. h.tied.acts q.place q.job (its_holder is)) q.may;
+        may = may_moved q.step q.owner (kind_of_job q.job (own (cut q.place X))) (acts_of q.job X) (acts_of q.job (cut q.place X)) (λ is. h.tied.acts q.place q.job (its_holder is)) q.may;
         among = λ is. h.tied.begun q.place q.job (its_holder is);
         fresh = fresh_in q.step q.fresh;
       }) q.act_is)
@@ -446,11 +448,7 @@ module _ (old new : List Owner) (past : List Moment) (now : Moment) (q : TakesSt
         laws = λ g. law g (q.place == g) refl;
       }
 
--- how far a job that reads is after an act of its own, by all that it has done
-pub read_after : (row : List Owner) (past : List Moment) → OwnersHold row past → (g s : ℕ) (owner : Owner) → slice_get row g ≡ Some owner → holder past s ≡ Some (ByOwner g)
-    → (p : Progress) → ReadAs p (acts_of s (events past)) → (done : Worked) → worked p owner ≡ Some done → ReadAs done.job (done.act ∷ acts_of s (events past))
-read_after row past h g s owner found held p r done does =
-    let whole = h.tied.acts g s held in
-    subst (λ l. ReadAs done.job (done.act ∷ l)) whole
-    (works_goes owner.capacity owner.stage g 0 0 (record { started = 0; refused = false }) (cut g (events past)) owner.session s (h.tied.each g owner found) p
-    (subst (ReadAs p) (sym whole) r) (h.tied.begun g s held) (read_next p.core) refl done does).read
+-- how far a job is after an act of its own, by all that it has done
+pub job_after : (row : List Owner) (past : List Moment) → OwnersHold row past → (g s : ℕ) (owner : Owner) → slice_get row g ≡ Some owner → holder past s ≡ Some (ByOwner g)
+    → (p : SessionJob) → JobAs p (acts_of s (events past)) → (done : Worked) → worked p owner ≡ Some done → JobAs done.job (done.act ∷ acts_of s (events past))
+job_after row past h g s owner found held p r done does = worked_on p (acts_of s (events past)) owner done r does

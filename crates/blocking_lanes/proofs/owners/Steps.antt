@@ -4,20 +4,23 @@ use Rattle.std.specs.Prelude.{if◌then◌else◌}
 use Rattle.std.proofs.lemmas.Bool.Decides.{nat_tests}
 use Rattle.blocking_core.specs.OwnerCalls.{OwnerMachine}
 use Rattle.blocking_core.specs.Reading.{read_next}
+use Rattle.blocking_core.specs.Writing.{write_next}
 use Rattle.blocking_core.specs.declared.job.read.ReadAction.{ReadAction}
 use Rattle.blocking_core.specs.declared.job.read.ReadAction.TheVariants as read
+use Rattle.blocking_core.specs.declared.job.write.WriteAction.{WriteAction}
+use Rattle.blocking_core.specs.declared.job.write.WriteAction.TheVariants as write
 use Rattle.blocking_core.specs.declared.unblock.OwnerAction.{OwnerAction}
 use Rattle.blocking_core.specs.declared.unblock.OwnerAction.TheVariants as action
 use Rattle.blocking_laws.specs.Ends.{came_back}
-use Rattle.blocking_laws.specs.JobTable.{Reading, WakeHolder, next_but_wake, next_of_job, is_answer, is_over, fault}
-use Rattle.blocking_laws.specs.OwnerLaws.{OwnerLaw, JobActs, Works}
+use Rattle.blocking_laws.specs.JobTable.{Kind, Reading, Writing, JobAction, WakeHolder, next_but_wake, next_of_job, is_answer, is_over, fault}
+use Rattle.blocking_laws.specs.OwnerLaws.{OwnerLaw, Works}
 use Rattle.blocking_laws.specs.OwnerSeats.{is_job_seated, pipe_seat, slot_seat}
 use Rattle.blocking_laws.specs.OwnerTable.{owner_next_but_wake}
 use Rattle.blocking_laws.specs.OwnerTable as law
-use Rattle.blocking_laws.specs.Passed.{got, is_serial}
+use Rattle.blocking_laws.specs.Passed.{got, accepted, kind_in, is_serial}
 use Rattle.blocking_laws.specs.Seats.{waker_in}
 use Rattle.blocking_laws.specs.Seen.{own, acts_of}
-use Rattle.blocking_laws.specs.Sessions.{jobs_of}
+use Rattle.blocking_laws.specs.Sessions.{jobs_of, kind_of_job}
 use Rattle.blocking_laws.specs.Sessions as sessions
 use Rattle.std.specs.Prelude.{is_none}
 use Rattle.blocking_laws.specs.declared.event.Act.{Act}
@@ -25,26 +28,34 @@ use Rattle.blocking_laws.specs.declared.event.Act.TheVariants.{Answered, GaveUp,
 use Rattle.blocking_laws.specs.declared.event.Event.{Event}
 use Rattle.blocking_laws.specs.declared.event.Reply.{Reply as Told}
 use Rattle.blocking_laws.specs.declared.step.Answer.{Answer}
+use Rattle.blocking_laws.specs.declared.step.HandleCall.{HandleCall}
 use Rattle.blocking_pool.specs.Growth.{Growth}
 use Rattle.blocking_pool.specs.Lists.{is_in}
-use Rattle.blocking_lanes.specs.Owners.{Owner, Did, Worked, capacity_of, is_gone, next_at, next_by, next_to_say, reply_as, did, worked, worked_as, worked_by, worked_in, giving_up_wakes, without_job}
+use Rattle.blocking_lanes.specs.Owners.{Owner, Did, Worked, capacity_of, is_gone, next_at, next_by, next_to_say, reply_as, did, read_as, read_in, write_as, write_in, worked, worked_by, giving_up_wakes, without_job}
 use Rattle.blocking_lanes.specs.OwnerSteps.{OwnerStep, IsAsked, Acts, Begins, IsRefused, Delivers, IsDropped, Works as DoesWork, IsAnswered, GivesUp, CallsWaker, MayTake, act_in, act_of, act_of_work, owner_in, owner_after, owner_after_work, event_by, by_owner, by_its_job, is_of_its_job}
 use Rattle.blocking_lanes.specs.OwnerTies.{OwnerAs, StageBy, LastAs, SessionAs, newest_note}
-use Rattle.blocking_lanes.specs.Reads.{Progress, ReadAs, action_as, action_of}
-use Rattle.blocking_lanes.specs.Sessions.{Session, Work, work_by, work_at_put, found_room, found_put, fits_in}
+use Rattle.blocking_lanes.specs.Reads as reads
+use Rattle.blocking_lanes.specs.Reads.{ReadAs}
+use Rattle.blocking_lanes.specs.SessionJobs.{JobAs, action_of, kind_of}
+use Rattle.blocking_lanes.specs.Sessions.{Session, Work, work_by, work_at_put, found_room, found_put, fits_in, writer_works, found_piece, holds, work_of_consume}
+use Rattle.blocking_lanes.specs.Writes as writes
+use Rattle.blocking_lanes.specs.Writes.{WriteAs}
+use Rattle.blocking_lanes.specs.declared.job.SessionJob.{SessionJob}
+use Rattle.blocking_lanes.specs.declared.job.SessionJob.TheVariants as of_job
 use Rattle.blocking_lanes.specs.declared.owner.OwnerNext.TheVariants as next
 use Rattle.blocking_lanes.specs.declared.owner.OwnerStage.{OwnerStage}
 use Rattle.blocking_lanes.specs.declared.owner.OwnerStage.TheVariants as stage
-use Rattle.blocking_lanes.proofs.owners.Cuts.{next_stays, passes}
-use Rattle.blocking_lanes.proofs.owners.OfJob.{WorksOn, room_works, put_works, close_works, finish_works, answer_goes, give_up_goes}
+use Rattle.blocking_lanes.proofs.owners.Cuts.{its_kind, kind_is, next_stays, passes}
+use Rattle.blocking_lanes.proofs.owners.OfJob.{WorksOn, room_works, put_works, close_works, finish_works, answer_goes, give_up_goes, peek_works, consume_works, writer_close_works, writer_finish_works, writer_answer_goes, asking_goes}
 use Rattle.blocking_lanes.proofs.owners.Own.{Goes, owner_by_parts, bound, value_of, doing, own_goes}
 use Rattle.blocking_lanes.proofs.owners.Pooled.{ask_goes, drop_goes, refuse_goes, deliver_goes, begin_goes}
-use Rattle.blocking_lanes.proofs.owners.Reads.{action_is, awake, wakes, asks}
+use Rattle.blocking_lanes.proofs.owners.Reads as of_reader
+use Rattle.blocking_lanes.proofs.owners.Writes as of_writer
 use Rattle.blocking_lanes.proofs.owners.Sessions.{calls}
 
 -- ---- a waker is called
 
-module _ (bytes : ℕ) (here : OwnerStage) (last : Option Session) (h v n first : ℕ) (growth : Growth) (cut : List Event) (t : OwnerAs (owner_by_parts bytes here last) cut) where
+module _ (bytes : ℕ) (asked : Option HandleCall) (here : OwnerStage) (last : Option Session) (h v n first : ℕ) (growth : Growth) (cut : List Event) (t : OwnerAs (owner_by_parts bytes asked here last) cut) where
   abbrev woken : Event
   woken = by_its_job h v n HolderWoken first growth
 
@@ -62,29 +73,29 @@ module _ (bytes : ℕ) (here : OwnerStage) (last : Option Session) (h v n first 
     where
       Tied : List Act → Type 0
       Tied l =
-          SessionAs s (bound bytes) (sessions.last_session (own cut)) (sessions.is_shut (own cut)) (is_none (sessions.session (own cut))) (sessions.is_dropped (own cut)) (got (own cut))
-          l (is_job_seated cut) (pipe_seat cut) (slot_seat cut)
+          SessionAs s (kind_in (sessions.last_session (own cut))) (bound bytes) (sessions.last_session (own cut)) (sessions.is_shut (own cut)) (is_none (sessions.session (own cut))) (sessions.is_dropped (own cut))
+          (got (own cut)) (accepted (own cut)) l (is_job_seated cut) (pipe_seat cut) (slot_seat cut)
 
       at : (b : Bool) → (n == s.number.serial) ≡ b → Tied (acts_of s.number.serial (woken ∷ cut))
-      at true test = rw test (calls s (bound bytes) (sessions.last_session (own cut)) (sessions.is_shut (own cut)) (is_none (sessions.session (own cut))) (sessions.is_dropped (own cut)) (got (own cut))
-          (acts_of s.number.serial cut) (is_job_seated cut) (pipe_seat cut) (slot_seat cut) t)
+      at true test = rw test (calls s (kind_in (sessions.last_session (own cut))) (bound bytes) (sessions.last_session (own cut)) (sessions.is_shut (own cut)) (is_none (sessions.session (own cut))) (sessions.is_dropped (own cut))
+          (got (own cut)) (accepted (own cut)) (acts_of s.number.serial cut) (is_job_seated cut) (pipe_seat cut) (slot_seat cut) t)
       at false test = rw test t
 
-  wake_goes : is_in n (jobs_of (own cut)) ≡ true → next_of_job Reading (acts_of n cut) ≡ WakeHolder → Goes (owner_by_parts bytes here last) cut woken
+  wake_goes : is_in n (jobs_of (own cut)) ≡ true → next_of_job (kind_of_job n (own cut)) (acts_of n cut) ≡ WakeHolder → Goes (owner_by_parts bytes asked here last) cut woken
   wake_goes among wakes = record {
-    acts = (among, subst (λ kind. JobActs cut n kind HolderWoken) (sym (t.kinds n among)) (subst (λ a. Works cut a HolderWoken) (sym wakes) refl));
+    acts = (among, subst (λ a. Works cut a HolderWoken) (sym wakes) refl);
     ends = tt;
     tie = record {
       made = t.made;
       gone = t.gone;
+      asked = t.asked;
       polled = t.polled;
       bytes = t.bytes;
       stage = subst (λ next. StageBy here (sessions.call (own cut)) (sessions.state (own cut)) next (law.is_at_end (own cut)) (came_back cut) (newest_note (own cut)))
           (sym (next_stays (woken ∷ cut) cut (own cut) (λ back k m. same_of (fault k) (λ l. refl) m))) t.stage;
       last = woken_last last t.last;
       ended = t.ended;
-      earlier = λ m of other. same_of (next_but_wake Reading) (λ l. refl) m ∙ t.earlier m of other;
-      kinds = t.kinds;
+      earlier = λ m of other. same_of (next_but_wake (kind_of_job m (own cut))) (λ l. refl) m ∙ t.earlier m of other;
       noted = t.noted;
       told = t.told;
     };
@@ -99,9 +110,9 @@ pub record IsLast (last : Option Session) (n : ℕ) : Type 0 where
   pub same : n ≡ session.number.serial
 
 -- a job that isn't over is that of the last session
-pub its_last : (bytes : ℕ) (here : OwnerStage) (last : Option Session) (n : ℕ) (cut : List Event) → OwnerAs (owner_by_parts bytes here last) cut
-    → is_in n (jobs_of (own cut)) ≡ true → is_over (next_but_wake Reading (acts_of n cut)) ≡ false → IsLast last n
-its_last bytes here last n cut t among goes = at (is_serial (sessions.last_session (own cut)) (Some n)) refl
+pub its_last : (bytes : ℕ) (asked : Option HandleCall) (here : OwnerStage) (last : Option Session) (n : ℕ) (cut : List Event) → OwnerAs (owner_by_parts bytes asked here last) cut
+    → is_in n (jobs_of (own cut)) ≡ true → is_over (next_but_wake (kind_of_job n (own cut)) (acts_of n cut)) ≡ false → IsLast last n
+its_last bytes asked here last n cut t among goes = at (is_serial (sessions.last_session (own cut)) (Some n)) refl
   where
     found : (last : Option Session) → LastAs last (bound bytes) cut → is_serial (sessions.last_session (own cut)) (Some n) ≡ true → IsLast last n
     found None t is = absurd (let none = ap (λ r. is_serial r (Some n)) (sym t.0) ∙ is in cc)
@@ -115,72 +126,141 @@ its_last bytes here last n cut t among goes = at (is_serial (sessions.last_sessi
 
 -- ---- its job works
 
-module _ (bytes : ℕ) (here : OwnerStage) (h v first : ℕ) (growth : Growth) (cut : List Event) where
-  -- The law and the tie after an act of job n, and how far the job is then.
-  pub record WorkGoes (n : ℕ) (done : Worked) : Type 0 where
-    pub goes : Goes done.owner cut (by_its_job h v n done.act first growth)
-    pub read : ReadAs done.job (done.act ∷ acts_of n cut)
+module _ (bytes : ℕ) (asked : Option HandleCall) (here : OwnerStage) (h v first : ℕ) (growth : Growth) (cut : List Event) where
+  -- the law and the tie after an act of job n
+  abbrev pub WorkGoes : ℕ → Worked → Type 0
+  WorkGoes n done = Goes done.owner cut (by_its_job h v n done.act first growth)
 
-  last_works : (s : Session) (t : OwnerAs (owner_by_parts bytes here (Some s)) cut) (p : Progress) (r : ReadAs p (acts_of s.number.serial cut)) → is_in s.number.serial (jobs_of (own cut)) ≡ true
-      → (a : ReadAction) → read_next p.core ≡ a → (work : Work) → work_by a p s ≡ Some work → WorksOn bytes here s h v first growth cut t work
-  last_works s t p r among read.FindRoom is work does =
-      subst (WorksOn bytes here s h v first growth cut t) (ap (value_of work) does) (room_works bytes here s h v first growth cut t p r among is (found_room s) refl)
-  last_works s t p r among (read.Put count) is work does = by_fit (fits_in p.piece s) refl does
+  -- a job of this kind, whose next action is this, is that of the last session
+  at_last : (last : Option Session) (n : ℕ) (of : Kind) (next : JobAction) → OwnerAs (owner_by_parts bytes asked here last) cut → is_in n (jobs_of (own cut)) ≡ true → kind_of_job n (own cut) ≡ of
+      → next_but_wake of (acts_of n cut) ≡ next → is_over next ≡ false → IsLast last n
+  at_last last n of next t among is table goes =
+      its_last bytes asked here last n cut t among (ap (λ k. is_over (next_but_wake k (acts_of n cut))) is ∙ ap is_over table ∙ goes)
+
+  -- that session is then of the job's kind
+  kind_at : (s : Session) (t : OwnerAs (owner_by_parts bytes asked here (Some s)) cut) (of : Kind) → kind_of_job s.number.serial (own cut) ≡ of → its_kind s (bound bytes) cut t.last ≡ of
+  kind_at s t of is = sym (kind_is s (bound bytes) cut t.last) ∙ is
+
+  -- what is done at the session is what is seen of it
+  does_so : (J : Type 0) (job_of : J → SessionJob) (s : Session) (t : OwnerAs (owner_by_parts bytes asked here (Some s)) cut) (o : Option (Work J))
+      → ((work : Work J) → o ≡ Some work → WorksOn bytes asked here s h v first growth cut t J work) → (done : Worked) → worked_by job_of o (owner_by_parts bytes asked here (Some s)) ≡ Some done
+      → WorkGoes s.number.serial done
+  does_so J job_of s t None works done does = absurd (cc)
+  does_so J job_of s t (Some work) works done does = subst (WorkGoes s.number.serial) (ap (value_of done) does) (works work refl)
+
+  -- a job that reads, at the session
+  reader_at : (s : Session) (t : OwnerAs (owner_by_parts bytes asked here (Some s)) cut) (p : reads.Progress) (r : ReadAs p (acts_of s.number.serial cut)) → its_kind s (bound bytes) cut t.last ≡ Reading
+      → is_in s.number.serial (jobs_of (own cut)) ≡ true → (a : ReadAction) → read_next p.core ≡ a → (work : Work reads.Progress) → work_by a p s ≡ Some work
+      → WorksOn bytes asked here s h v first growth cut t reads.Progress work
+  reader_at s t p r of among read.FindRoom is work does =
+      subst (WorksOn bytes asked here s h v first growth cut t reads.Progress) (ap (value_of work) does) (room_works bytes asked here s h v first growth cut t p r of among is (found_room s) refl)
+  reader_at s t p r of among (read.Put count) is work does = by_fit (fits_in p.piece s) refl does
     where
-      by_fit : (b : Bool) → fits_in p.piece s ≡ b → (if b then Some (work_at_put (found_put p.piece s) p s) else None) ≡ Some work → WorksOn bytes here s h v first growth cut t work
+      by_fit : (b : Bool) → fits_in p.piece s ≡ b → (if b then Some (work_at_put (found_put p.piece s) p s) else None) ≡ Some work → WorksOn bytes asked here s h v first growth cut t reads.Progress work
       by_fit true fits does =
-          subst (WorksOn bytes here s h v first growth cut t) (ap (value_of work) does) (put_works bytes here s h v first growth cut t p r among count is fits (found_put p.piece s) refl)
+          subst (WorksOn bytes asked here s h v first growth cut t reads.Progress) (ap (value_of work) does) (put_works bytes asked here s h v first growth cut t p r of among count is fits (found_put p.piece s) refl)
       by_fit false fits does = absurd (cc)
-  last_works s t p r among read.Close is work does =
-      subst (WorksOn bytes here s h v first growth cut t) (ap (value_of work) does) (close_works bytes here s h v first growth cut t p r among is)
-  last_works s t p r among read.Finish is work does =
-      subst (WorksOn bytes here s h v first growth cut t) (ap (value_of work) does) (finish_works bytes here s h v first growth cut t p r among is)
-  last_works s t p r among (read.Read most) is work does = absurd (cc)
-  last_works s t p r among read.Deliver is work does = absurd (cc)
-  last_works s t p r among read.Done is work does = absurd (cc)
+  reader_at s t p r of among read.Close is work does =
+      subst (WorksOn bytes asked here s h v first growth cut t reads.Progress) (ap (value_of work) does) (close_works bytes asked here s h v first growth cut t p r of among is)
+  reader_at s t p r of among read.Finish is work does =
+      subst (WorksOn bytes asked here s h v first growth cut t reads.Progress) (ap (value_of work) does) (finish_works bytes asked here s h v first growth cut t p r of among is)
+  reader_at s t p r of among (read.Read most) is work does = absurd (cc)
+  reader_at s t p r of among read.Deliver is work does = absurd (cc)
+  reader_at s t p r of among read.Done is work does = absurd (cc)
 
-  -- at the session, where the job does something else than calling a waker
-  session_works : (last : Option Session) (n : ℕ) → OwnerAs (owner_by_parts bytes here last) cut → (p : Progress) → ReadAs p (acts_of n cut) → is_in n (jobs_of (own cut)) ≡ true
-      → (a : ReadAction) → read_next p.core ≡ a → IsLast last n → (done : Worked) → worked_in a last p (owner_by_parts bytes here last) ≡ Some done → WorkGoes n done
-  session_works last n t p r among a is l done does =
-      subst (λ m. WorkGoes m done) (sym l.same)
-      (by_work l.session (subst (λ o. OwnerAs (owner_by_parts bytes here o) cut) l.here t) (subst (λ m. ReadAs p (acts_of m cut)) l.same r)
-      (subst (λ m. is_in m (jobs_of (own cut)) ≡ true) l.same among) (subst (λ o. worked_in a o p (owner_by_parts bytes here o) ≡ Some done) l.here does))
+  -- a job that writes, at the session
+  writer_at : (s : Session) (t : OwnerAs (owner_by_parts bytes asked here (Some s)) cut) (p : writes.Progress) (r : WriteAs p (acts_of s.number.serial cut)) → its_kind s (bound bytes) cut t.last ≡ Writing
+      → is_in s.number.serial (jobs_of (own cut)) ≡ true → (a : WriteAction) → write_next p.core ≡ a → (work : Work writes.Progress) → writer_works a p s ≡ Some work
+      → WorksOn bytes asked here s h v first growth cut t writes.Progress work
+  writer_at s t p r of among write.Peek is work does =
+      subst (WorksOn bytes asked here s h v first growth cut t writes.Progress) (ap (value_of work) does) (peek_works bytes asked here s h v first growth cut t p r of among is (found_piece s) refl)
+  writer_at s t p r of among (write.Consume count) is work does = by_fit (holds count s) does
     where
-      by_work : (s : Session) → OwnerAs (owner_by_parts bytes here (Some s)) cut → ReadAs p (acts_of s.number.serial cut) → is_in s.number.serial (jobs_of (own cut)) ≡ true
-          → worked_by (work_by a p s) (owner_by_parts bytes here (Some s)) ≡ Some done → WorkGoes s.number.serial done
-      by_work s t r among does = at (work_by a p s) refl does
-        where
-          at : (o : Option Work) → work_by a p s ≡ o → worked_by o (owner_by_parts bytes here (Some s)) ≡ Some done → WorkGoes s.number.serial done
-          at None e does = absurd (cc)
-          at (Some work) e does =
-              let w = last_works s t p r among a is work e in
-              subst (WorkGoes s.number.serial) (ap (value_of done) does) (record { goes = w.goes; read = w.read })
+      by_fit : (b : Bool) → (if b then Some (work_of_consume count p s) else None) ≡ Some work → WorksOn bytes asked here s h v first growth cut t writes.Progress work
+      by_fit true does =
+          subst (WorksOn bytes asked here s h v first growth cut t writes.Progress) (ap (value_of work) does) (consume_works bytes asked here s h v first growth cut t p r of among count is)
+      by_fit false does = absurd (cc)
+  writer_at s t p r of among write.Close is work does =
+      subst (WorksOn bytes asked here s h v first growth cut t writes.Progress) (ap (value_of work) does) (writer_close_works bytes asked here s h v first growth cut t p r of among is)
+  writer_at s t p r of among write.Finish is work does =
+      subst (WorksOn bytes asked here s h v first growth cut t writes.Progress) (ap (value_of work) does) (writer_finish_works bytes asked here s h v first growth cut t p r of among is)
+  writer_at s t p r of among (write.Write count) is work does = absurd (cc)
+  writer_at s t p r of among write.Flush is work does = absurd (cc)
+  writer_at s t p r of among write.Deliver is work does = absurd (cc)
+  writer_at s t p r of among write.Done is work does = absurd (cc)
+
+  -- any act of a job that reads
+  read_goes : (last : Option Session) (n : ℕ) → OwnerAs (owner_by_parts bytes asked here last) cut → (p : reads.Progress) → ReadAs p (acts_of n cut) → kind_of_job n (own cut) ≡ Reading
+      → is_in n (jobs_of (own cut)) ≡ true → (a : ReadAction) → read_next p.core ≡ a → (done : Worked) → read_as a p (owner_by_parts bytes asked here last) ≡ Some done → WorkGoes n done
+  read_goes last n t p r of among a is done does = by a is does
+    where
+      there : (a : ReadAction) → read_next p.core ≡ a → (a ≡ read.Deliver → ⊥) → is_over (reads.action_as p.piece a) ≡ false → read_in a last p (owner_by_parts bytes asked here last) ≡ Some done → WorkGoes n done
+      there a is other goes does =
+          let table = sym r.next ∙ ap (reads.action_as p.piece) (of_reader.awake p a is other).next_is in
+          let l = at_last last n Reading (reads.action_as p.piece a) t among of table goes in
+          let s = l.session in
+          let tied = subst (λ o. OwnerAs (owner_by_parts bytes asked here o) cut) l.here t in
+          subst (λ m. WorkGoes m done) (sym l.same)
+          (does_so reads.Progress of_job.Read s tied (work_by a p s)
+          (λ work works.
+          reader_at s tied p (subst (λ m. ReadAs p (acts_of m cut)) l.same r) (kind_at s tied Reading (subst (λ m. kind_of_job m (own cut) ≡ Reading) l.same of))
+          (subst (λ m. is_in m (jobs_of (own cut)) ≡ true) l.same among) a is work works) done (subst (λ o. read_in a o p (owner_by_parts bytes asked here o) ≡ Some done) l.here does))
+
+      none_at : (a : ReadAction) (last : Option Session) → ((s : Session) → work_by a p s ≡ None) → read_in a last p (owner_by_parts bytes asked here last) ≡ Some done → WorkGoes n done
+      none_at a None none does = absurd (cc)
+      none_at a (Some s) none does = absurd (let never = ap (λ o. worked_by of_job.Read o (owner_by_parts bytes asked here (Some s))) (sym (none s)) ∙ does in cc)
+
+      by : (a : ReadAction) → read_next p.core ≡ a → read_as a p (owner_by_parts bytes asked here last) ≡ Some done → WorkGoes n done
+      by read.FindRoom is does = there read.FindRoom is (λ e. cc) refl does
+      by (read.Put count) is does = there (read.Put count) is (λ e. cc) refl does
+      by read.Close is does = there read.Close is (λ e. cc) refl does
+      by read.Finish is does = there read.Finish is (λ e. cc) refl does
+      by (read.Read most) is does = none_at (read.Read most) last (λ s. refl) does
+      by read.Done is does = none_at read.Done last (λ s. refl) does
+      by read.Deliver is does =
+          subst (WorkGoes n) (ap (value_of done) does)
+          (wake_goes bytes asked here last h v n first growth cut t among
+          (ap (λ k. next_of_job k (acts_of n cut)) of ∙ sym (of_reader.action_is p (acts_of n cut) r) ∙ ap (reads.action_as p.piece) is))
+
+  -- any act of a job that writes
+  write_goes : (last : Option Session) (n : ℕ) → OwnerAs (owner_by_parts bytes asked here last) cut → (p : writes.Progress) → WriteAs p (acts_of n cut) → kind_of_job n (own cut) ≡ Writing
+      → is_in n (jobs_of (own cut)) ≡ true → (a : WriteAction) → write_next p.core ≡ a → (done : Worked) → write_as a p (owner_by_parts bytes asked here last) ≡ Some done → WorkGoes n done
+  write_goes last n t p r of among a is done does = by a is does
+    where
+      there : (a : WriteAction) → write_next p.core ≡ a → (a ≡ write.Deliver → ⊥) → is_over (writes.action_as p.piece a) ≡ false → write_in a last p (owner_by_parts bytes asked here last) ≡ Some done → WorkGoes n done
+      there a is other goes does =
+          let table = sym r.next ∙ ap (writes.action_as p.piece) (of_writer.awake p a is other).next_is in
+          let l = at_last last n Writing (writes.action_as p.piece a) t among of table goes in
+          let s = l.session in
+          let tied = subst (λ o. OwnerAs (owner_by_parts bytes asked here o) cut) l.here t in
+          subst (λ m. WorkGoes m done) (sym l.same)
+          (does_so writes.Progress of_job.Write s tied (writer_works a p s)
+          (λ work works.
+          writer_at s tied p (subst (λ m. WriteAs p (acts_of m cut)) l.same r) (kind_at s tied Writing (subst (λ m. kind_of_job m (own cut) ≡ Writing) l.same of))
+          (subst (λ m. is_in m (jobs_of (own cut)) ≡ true) l.same among) a is work works) done (subst (λ o. write_in a o p (owner_by_parts bytes asked here o) ≡ Some done) l.here does))
+
+      none_at : (a : WriteAction) (last : Option Session) → ((s : Session) → writer_works a p s ≡ None) → write_in a last p (owner_by_parts bytes asked here last) ≡ Some done → WorkGoes n done
+      none_at a None none does = absurd (cc)
+      none_at a (Some s) none does = absurd (let never = ap (λ o. worked_by of_job.Write o (owner_by_parts bytes asked here (Some s))) (sym (none s)) ∙ does in cc)
+
+      by : (a : WriteAction) → write_next p.core ≡ a → write_as a p (owner_by_parts bytes asked here last) ≡ Some done → WorkGoes n done
+      by write.Peek is does = there write.Peek is (λ e. cc) refl does
+      by (write.Consume count) is does = there (write.Consume count) is (λ e. cc) refl does
+      by write.Close is does = there write.Close is (λ e. cc) refl does
+      by write.Finish is does = there write.Finish is (λ e. cc) refl does
+      by (write.Write count) is does = none_at (write.Write count) last (λ s. refl) does
+      by write.Flush is does = none_at write.Flush last (λ s. refl) does
+      by write.Done is does = none_at write.Done last (λ s. refl) does
+      by write.Deliver is does =
+          subst (WorkGoes n) (ap (value_of done) does)
+          (wake_goes bytes asked here last h v n first growth cut t among
+          (ap (λ k. next_of_job k (acts_of n cut)) of ∙ sym (of_writer.action_is p (acts_of n cut) r) ∙ ap (writes.action_as p.piece) is))
 
   -- any act of its own
-  pub works_goes : (last : Option Session) (n : ℕ) → OwnerAs (owner_by_parts bytes here last) cut → (p : Progress) → ReadAs p (acts_of n cut) → is_in n (jobs_of (own cut)) ≡ true
-      → (a : ReadAction) → read_next p.core ≡ a → (done : Worked) → worked_as a p (owner_by_parts bytes here last) ≡ Some done → WorkGoes n done
-  works_goes last n t p r among a is done does = at_session a is does
-    where
-      goes_on : (a : ReadAction) → read_next p.core ≡ a → (a ≡ read.Deliver → ⊥) → is_over (action_as p.piece a) ≡ false → worked_in a last p (owner_by_parts bytes here last) ≡ Some done → WorkGoes n done
-      goes_on a is other goes does =
-          let table = sym r.next ∙ ap (action_as p.piece) (awake p a is other).next_is in
-          session_works last n t p r among a is (its_last bytes here last n cut t among (ap is_over table ∙ goes)) done does
-
-      none_at : (a : ReadAction) (last : Option Session) → ((s : Session) → work_by a p s ≡ None) → worked_in a last p (owner_by_parts bytes here last) ≡ Some done → WorkGoes n done
-      none_at a None none does = absurd (cc)
-      none_at a (Some s) none does = absurd (let never = ap (λ o. worked_by o (owner_by_parts bytes here (Some s))) (sym (none s)) ∙ does in cc)
-
-      at_session : (a : ReadAction) → read_next p.core ≡ a → worked_as a p (owner_by_parts bytes here last) ≡ Some done → WorkGoes n done
-      at_session read.FindRoom is does = goes_on read.FindRoom is (λ e. cc) refl does
-      at_session (read.Put count) is does = goes_on (read.Put count) is (λ e. cc) refl does
-      at_session read.Close is does = goes_on read.Close is (λ e. cc) refl does
-      at_session read.Finish is does = goes_on read.Finish is (λ e. cc) refl does
-      at_session (read.Read most) is does = none_at (read.Read most) last (λ s. refl) does
-      at_session read.Done is does = none_at read.Done last (λ s. refl) does
-      at_session read.Deliver is does =
-          subst (WorkGoes n) (ap (value_of done) does)
-          (record { goes = wake_goes bytes here last h v n first growth cut t among (sym (action_is p (acts_of n cut) r) ∙ ap (action_as p.piece) is); read = wakes p (acts_of n cut) r is })
+  pub works_goes : (last : Option Session) (n : ℕ) → OwnerAs (owner_by_parts bytes asked here last) cut → (job : SessionJob) → JobAs job (acts_of n cut) → kind_of_job n (own cut) ≡ kind_of job
+      → is_in n (jobs_of (own cut)) ≡ true → (done : Worked) → worked job (owner_by_parts bytes asked here last) ≡ Some done → WorkGoes n done
+  works_goes last n t (of_job.Read p) r of among done does = read_goes last n t p r of among (read_next p.core) refl done does
+  works_goes last n t (of_job.Write p) r of among done does = write_goes last n t p r of among (write_next p.core) refl done does
 
 -- ---- each step
 
@@ -191,7 +271,7 @@ IsNewTo _ cut = Unit {0}
 
 -- what a step asks of the owner's cut
 pub record IsAllowed (step : OwnerStep) (owner : Owner) (n : ℕ) (cut : List Event) : Type 0 where
-  pub may : MayTake step owner (acts_of n cut)
+  pub may : MayTake step owner (kind_of_job n (own cut)) (acts_of n cut)
   pub among : is_of_its_job step ≡ true → is_in n (jobs_of (own cut)) ≡ true
   pub fresh : IsNewTo step cut
 
@@ -210,89 +290,100 @@ begins_by action.Pending last e = absurd (cc)
 begins_by (action.Fill most) last e = absurd (cc)
 begins_by action.DropHandle last e = absurd (cc)
 
-pub begins_at : (bytes : ℕ) (p : OwnerMachine ℕ) (last : Option Session) (cut : List Event) → OwnerAs (owner_by_parts bytes (stage.Polls p) last) cut
+pub begins_at : (bytes : ℕ) (asked : Option HandleCall) (p : OwnerMachine ℕ) (last : Option Session) (cut : List Event) → OwnerAs (owner_by_parts bytes asked (stage.Polls p) last) cut
     → next_at (stage.Polls p) last ≡ next.Begins → p.next ≡ action.Begin
-begins_at bytes p last cut t e = begins_by p.next last (ap (λ a. next_by a last) (sym (doing p t.stage.1)) ∙ e)
+begins_at bytes asked p last cut t e = begins_by p.next last (ap (λ a. next_by a last) (sym (doing p t.stage.1)) ∙ e)
 
-given_up : (bytes : ℕ) (here : OwnerStage) (last : Option Session) (h v n first : ℕ) (growth : Growth) (cut : List Event) → OwnerAs (owner_by_parts bytes here last) cut
-    → is_in n (jobs_of (own cut)) ≡ true → is_gone here ≡ true → is_over (next_but_wake Reading (acts_of n cut)) ≡ false
-    → Goes (owner_by_parts bytes here (without_job last)) cut (by_its_job h v n (GaveUp (waker_in (giving_up_wakes last))) first growth)
-given_up bytes here last h v n first growth cut t among gone goes =
-    let l = its_last bytes here last n cut t among goes in
-    subst (λ m. Goes (owner_by_parts bytes here (without_job last)) cut (by_its_job h v m (GaveUp (waker_in (giving_up_wakes last))) first growth)) (sym l.same)
-    (subst (λ o. Goes (owner_by_parts bytes here (without_job o)) cut (by_its_job h v l.session.number.serial (GaveUp (waker_in (giving_up_wakes o))) first growth)) (sym l.here)
-    (give_up_goes bytes here l.session h v first growth cut (subst (λ o. OwnerAs (owner_by_parts bytes here o) cut) l.here t)
-    (subst (λ m. is_in m (jobs_of (own cut)) ≡ true) l.same among) (subst (λ m. is_over (next_but_wake Reading (acts_of m cut)) ≡ false) l.same goes) (t.gone ∙ gone)))
+given_up : (bytes : ℕ) (asked : Option HandleCall) (here : OwnerStage) (last : Option Session) (h v n first : ℕ) (growth : Growth) (cut : List Event) → OwnerAs (owner_by_parts bytes asked here last) cut
+    → is_in n (jobs_of (own cut)) ≡ true → is_gone here ≡ true → is_over (next_but_wake (kind_of_job n (own cut)) (acts_of n cut)) ≡ false
+    → Goes (owner_by_parts bytes asked here (without_job last)) cut (by_its_job h v n (GaveUp (waker_in (giving_up_wakes last))) first growth)
+given_up bytes asked here last h v n first growth cut t among gone goes =
+    let l = its_last bytes asked here last n cut t among goes in
+    let tied = subst (λ o. OwnerAs (owner_by_parts bytes asked here o) cut) l.here t in
+    let goes_on = subst (λ m. is_over (next_but_wake (kind_of_job m (own cut)) (acts_of m cut)) ≡ false) l.same goes in
+    subst (λ m. Goes (owner_by_parts bytes asked here (without_job last)) cut (by_its_job h v m (GaveUp (waker_in (giving_up_wakes last))) first growth)) (sym l.same)
+    (subst (λ o. Goes (owner_by_parts bytes asked here (without_job o)) cut (by_its_job h v l.session.number.serial (GaveUp (waker_in (giving_up_wakes o))) first growth)) (sym l.here)
+    (give_up_goes bytes asked here l.session h v first growth cut tied (subst (λ m. is_in m (jobs_of (own cut)) ≡ true) l.same among)
+    (subst (λ k. is_over (next_but_wake k (acts_of l.session.number.serial cut)) ≡ false) (kind_is l.session (bound bytes) cut tied.last) goes_on) (t.gone ∙ gone)))
 
-answered : (bytes : ℕ) (here : OwnerStage) (last : Option Session) (h v n first : ℕ) (growth : Growth) (cut : List Event) → OwnerAs (owner_by_parts bytes here last) cut
-    → (p : Progress) (answer : Answer) → ReadAs p (acts_of n cut) → is_answer (action_of p) answer ≡ true → is_in n (jobs_of (own cut)) ≡ true
-    → Goes (owner_by_parts bytes here last) cut (by_its_job h v n (Answered answer) first growth)
-answered bytes here last h v n first growth cut t p answer r is among =
-    let q = asks p (acts_of n cut) answer r is in
-    let l = its_last bytes here last n cut t among (ap is_over q.table) in
-    subst (λ m. Goes (owner_by_parts bytes here last) cut (by_its_job h v m (Answered answer) first growth)) (sym l.same)
-    (subst (λ o. Goes (owner_by_parts bytes here o) cut (by_its_job h v l.session.number.serial (Answered answer) first growth)) (sym l.here)
-    (answer_goes bytes here l.session h v first growth cut (subst (λ o. OwnerAs (owner_by_parts bytes here o) cut) l.here t) p (subst (λ m. ReadAs p (acts_of m cut)) l.same r)
-    (subst (λ m. is_in m (jobs_of (own cut)) ≡ true) l.same among) answer is))
+answered : (bytes : ℕ) (asked : Option HandleCall) (here : OwnerStage) (last : Option Session) (h v n first : ℕ) (growth : Growth) (cut : List Event) → OwnerAs (owner_by_parts bytes asked here last) cut
+    → (job : SessionJob) (answer : Answer) → kind_of_job n (own cut) ≡ kind_of job → JobAs job (acts_of n cut) → is_answer (action_of job) answer ≡ true → is_in n (jobs_of (own cut)) ≡ true
+    → Goes (owner_by_parts bytes asked here last) cut (by_its_job h v n (Answered answer) first growth)
+answered bytes asked here last h v n first growth cut t (of_job.Read p) answer of r is among =
+    let q = of_reader.asks p (acts_of n cut) answer r is in
+    let l = its_last bytes asked here last n cut t among (ap (λ k. is_over (next_but_wake k (acts_of n cut))) of ∙ ap is_over q.table) in
+    let tied = subst (λ o. OwnerAs (owner_by_parts bytes asked here o) cut) l.here t in
+    subst (λ m. Goes (owner_by_parts bytes asked here last) cut (by_its_job h v m (Answered answer) first growth)) (sym l.same)
+    (subst (λ o. Goes (owner_by_parts bytes asked here o) cut (by_its_job h v l.session.number.serial (Answered answer) first growth)) (sym l.here)
+    (answer_goes bytes asked here l.session h v first growth cut tied p (subst (λ m. ReadAs p (acts_of m cut)) l.same r)
+    (kind_at bytes asked here h v first growth cut l.session tied Reading (subst (λ m. kind_of_job m (own cut) ≡ Reading) l.same of)) (subst (λ m. is_in m (jobs_of (own cut)) ≡ true) l.same among) answer is))
+answered bytes asked here last h v n first growth cut t (of_job.Write p) answer of r is among =
+    let q = of_writer.asks p (acts_of n cut) answer r is in
+    let l = its_last bytes asked here last n cut t among (ap (λ k. is_over (next_but_wake k (acts_of n cut))) of ∙ ap is_over q.table ∙ asking_goes (writes.action_as p.piece q.now) answer q.fits) in
+    let tied = subst (λ o. OwnerAs (owner_by_parts bytes asked here o) cut) l.here t in
+    subst (λ m. Goes (owner_by_parts bytes asked here last) cut (by_its_job h v m (Answered answer) first growth)) (sym l.same)
+    (subst (λ o. Goes (owner_by_parts bytes asked here o) cut (by_its_job h v l.session.number.serial (Answered answer) first growth)) (sym l.here)
+    (writer_answer_goes bytes asked here l.session h v first growth cut tied p (subst (λ m. WriteAs p (acts_of m cut)) l.same r)
+    (kind_at bytes asked here h v first growth cut l.session tied Writing (subst (λ m. kind_of_job m (own cut) ≡ Writing) l.same of)) (subst (λ m. is_in m (jobs_of (own cut)) ≡ true) l.same among) answer is))
 
-module _ (bytes : ℕ) (last : Option Session) (h v n first : ℕ) (growth : Growth) (cut : List Event) (act : Act) where
-  step_by : (step : OwnerStep) (here : OwnerStage) → OwnerAs (owner_by_parts bytes here last) cut → IsAllowed step (owner_by_parts bytes here last) n cut
-      → act_of step (owner_by_parts bytes here last) ≡ Some act → Goes (owner_after step (owner_by_parts bytes here last)) cut (event_by step h v n act first growth)
+module _ (bytes : ℕ) (asked : Option HandleCall) (last : Option Session) (h v n first : ℕ) (growth : Growth) (cut : List Event) (act : Act) where
+  step_by : (step : OwnerStep) (here : OwnerStage) → OwnerAs (owner_by_parts bytes asked here last) cut → IsAllowed step (owner_by_parts bytes asked here last) n cut
+      → act_of step (owner_by_parts bytes asked here last) ≡ Some act → Goes (owner_after step (owner_by_parts bytes asked here last)) cut (event_by step h v n act first growth)
   step_by (IsAsked call) (stage.Rests st) t w seen =
-      subst (λ a. Goes (owner_after (IsAsked call) (owner_by_parts bytes (stage.Rests st) last)) cut (by_owner h a first growth)) (ap (value_of act) seen) (ask_goes bytes st last h first growth cut call w.may.0 t)
-  step_by (IsAsked call) (stage.Polls p) t w seen = absurd (let no = w.may.1 in cc)
-  step_by (IsAsked call) (stage.Wakes p note) t w seen = absurd (let no = w.may.1 in cc)
-  step_by (IsAsked call) stage.Dropped t w seen = absurd (let no = w.may.1 in cc)
-  step_by Acts here t w seen = by_did (did (owner_by_parts bytes here last)) refl seen
+      subst (λ a. Goes (owner_after (IsAsked call) (owner_by_parts bytes asked (stage.Rests st) last)) cut (by_owner h a first growth)) (ap (value_of act) seen) (ask_goes bytes asked st last h first growth cut call w.may t)
+  step_by (IsAsked call) (stage.Polls p) t w seen = absurd (let no = w.may in cc)
+  step_by (IsAsked call) (stage.Wakes p note) t w seen = absurd (let no = w.may in cc)
+  step_by (IsAsked call) stage.Dropped t w seen = absurd (let no = w.may in cc)
+  step_by Acts here t w seen = by_did (did (owner_by_parts bytes asked here last)) refl seen
     where
-      by_did : (o : Option Did) → did (owner_by_parts bytes here last) ≡ o → act_in o ≡ Some act → Goes (owner_in o (owner_by_parts bytes here last)) cut (by_owner h act first growth)
+      by_did : (o : Option Did) → did (owner_by_parts bytes asked here last) ≡ o → act_in o ≡ Some act → Goes (owner_in o (owner_by_parts bytes asked here last)) cut (by_owner h act first growth)
       by_did None e seen = absurd (cc)
       by_did (Some done) e seen =
-          subst (λ a. Goes done.owner cut (by_owner h a first growth)) (ap (value_of act) seen) (own_goes (owner_by_parts bytes here last) h first growth cut done e t)
+          subst (λ a. Goes done.owner cut (by_owner h a first growth)) (ap (value_of act) seen) (own_goes (owner_by_parts bytes asked here last) h first growth cut done e t)
   step_by (Begins number) (stage.Polls p) t w seen =
-      subst (λ a. Goes (owner_after (Begins number) (owner_by_parts bytes (stage.Polls p) last)) cut (by_owner h a first growth)) (ap (value_of act) seen)
-      (begin_goes bytes p last h first growth cut number (begins_at bytes p last cut t w.may) w.fresh.0 w.fresh.1 t)
+      subst (λ a. Goes (owner_after (Begins number) (owner_by_parts bytes asked (stage.Polls p) last)) cut (by_owner h a first growth)) (ap (value_of act) seen)
+      (begin_goes bytes asked p last h first growth cut number (begins_at bytes asked p last cut t w.may) w.fresh.0 w.fresh.1 t)
   step_by (Begins number) (stage.Rests st) t w seen = absurd (let no = w.may in cc)
   step_by (Begins number) (stage.Wakes p note) t w seen = absurd (let no = w.may in cc)
   step_by (Begins number) stage.Dropped t w seen = absurd (let no = w.may in cc)
   step_by (IsRefused why) (stage.Polls p) t w seen =
-      subst (λ a. Goes (owner_after (IsRefused why) (owner_by_parts bytes (stage.Polls p) last)) cut (by_owner h a first growth)) (ap (value_of act) seen)
-      (refuse_goes bytes p last h first growth cut why (begins_at bytes p last cut t w.may) t)
+      subst (λ a. Goes (owner_after (IsRefused why) (owner_by_parts bytes asked (stage.Polls p) last)) cut (by_owner h a first growth)) (ap (value_of act) seen)
+      (refuse_goes bytes asked p last h first growth cut why (begins_at bytes asked p last cut t w.may) t)
   step_by (IsRefused why) (stage.Rests st) t w seen = absurd (let no = w.may in cc)
   step_by (IsRefused why) (stage.Wakes p note) t w seen = absurd (let no = w.may in cc)
   step_by (IsRefused why) stage.Dropped t w seen = absurd (let no = w.may in cc)
   step_by (Delivers woke) (stage.Wakes p note) t w seen =
-      subst (λ a. Goes (owner_after (Delivers woke) (owner_by_parts bytes (stage.Wakes p note) last)) cut (by_owner h a first growth)) (ap (value_of act) seen) (deliver_goes bytes p note last h first growth cut woke t)
+      subst (λ a. Goes (owner_after (Delivers woke) (owner_by_parts bytes asked (stage.Wakes p note) last)) cut (by_owner h a first growth)) (ap (value_of act) seen) (deliver_goes bytes asked p note last h first growth cut woke t)
   step_by (Delivers woke) (stage.Rests st) t w seen = absurd (cc)
   step_by (Delivers woke) (stage.Polls p) t w seen = absurd (cc)
   step_by (Delivers woke) stage.Dropped t w seen = absurd (cc)
   step_by IsDropped (stage.Rests st) t w seen =
-      subst (λ a. Goes (owner_after IsDropped (owner_by_parts bytes (stage.Rests st) last)) cut (by_owner h a first growth)) (ap (value_of act) seen) (drop_goes bytes st last h first growth cut t)
+      subst (λ a. Goes (owner_after IsDropped (owner_by_parts bytes asked (stage.Rests st) last)) cut (by_owner h a first growth)) (ap (value_of act) seen) (drop_goes bytes asked st last h first growth cut t)
   step_by IsDropped (stage.Polls p) t w seen = absurd (let no = w.may in cc)
   step_by IsDropped (stage.Wakes p note) t w seen = absurd (let no = w.may in cc)
   step_by IsDropped stage.Dropped t w seen = absurd (let no = w.may in cc)
-  step_by (DoesWork p) here t w seen = by_work (worked p (owner_by_parts bytes here last)) refl seen
+  step_by (DoesWork p) here t w seen = by_work (worked p (owner_by_parts bytes asked here last)) refl seen
     where
-      by_work : (o : Option Worked) → worked p (owner_by_parts bytes here last) ≡ o → act_of_work o ≡ Some act
-          → Goes (owner_after_work o (owner_by_parts bytes here last)) cut (by_its_job h v n act first growth)
+      by_work : (o : Option Worked) → worked p (owner_by_parts bytes asked here last) ≡ o → act_of_work o ≡ Some act
+          → Goes (owner_after_work o (owner_by_parts bytes asked here last)) cut (by_its_job h v n act first growth)
       by_work None e seen = absurd (cc)
       by_work (Some done) e seen =
           subst (λ a. Goes done.owner cut (by_its_job h v n a first growth)) (ap (value_of act) seen)
-          (works_goes bytes here h v first growth cut last n t p w.may (w.among refl) (read_next p.core) refl done e).goes
+          (works_goes bytes asked here h v first growth cut last n t p w.may.1 w.may.0 (w.among refl) done e)
   step_by (IsAnswered p answer) here t w seen =
-      subst (λ a. Goes (owner_by_parts bytes here last) cut (by_its_job h v n a first growth)) (ap (value_of act) seen)
-      (answered bytes here last h v n first growth cut t p answer w.may.0 w.may.1 (w.among refl))
+      subst (λ a. Goes (owner_by_parts bytes asked here last) cut (by_its_job h v n a first growth)) (ap (value_of act) seen)
+      (answered bytes asked here last h v n first growth cut t p answer w.may.0 w.may.1 w.may.2 (w.among refl))
   step_by GivesUp here t w seen =
-      subst (λ a. Goes (owner_by_parts bytes here (without_job last)) cut (by_its_job h v n a first growth)) (ap (value_of act) seen)
-      (given_up bytes here last h v n first growth cut t (w.among refl) w.may.0 w.may.1)
+      subst (λ a. Goes (owner_by_parts bytes asked here (without_job last)) cut (by_its_job h v n a first growth)) (ap (value_of act) seen)
+      (given_up bytes asked here last h v n first growth cut t (w.among refl) w.may.0 w.may.1)
   step_by CallsWaker here t w seen =
-      subst (λ a. Goes (owner_by_parts bytes here last) cut (by_its_job h v n a first growth)) (ap (value_of act) seen)
-      (wake_goes bytes here last h v n first growth cut t (w.among refl) w.may)
+      subst (λ a. Goes (owner_by_parts bytes asked here last) cut (by_its_job h v n a first growth)) (ap (value_of act) seen)
+      (wake_goes bytes asked here last h v n first growth cut t (w.among refl) w.may)
 
 -- each step that there may be
 pub step_goes : (step : OwnerStep) (owner : Owner) (h v n first : ℕ) (growth : Growth) (cut : List Event) (act : Act) → OwnerAs owner cut → IsAllowed step owner n cut
     → act_of step owner ≡ Some act → Goes (owner_after step owner) cut (event_by step h v n act first growth)
-step_goes step owner h v n first growth cut act t w seen = step_by owner.capacity owner.session h v n first growth cut act step owner.stage t w seen
+step_goes step owner h v n first growth cut act t w seen = step_by owner.capacity owner.asked owner.session h v n first growth cut act step owner.stage t w seen
 
 -- and so the whole law of the owner is kept
 pub law_of : (new : Owner) (cut : List Event) (e : Event) → Goes new cut e → OwnerLaw cut e

@@ -1,20 +1,19 @@
 -- An owner that waits for a job at rest was woken, or wakes the job.
-use Rattle.std.proofs.Common.{◌≡◌, ℕ, ◌==◌, if◌then◌else◌, List, [], ◌∷◌, length, Bool, true, false, refl, sym, ap, ◌∙◌, subst, arith, Option, Some, None, ⊎_elim, inl, inr}
+use Rattle.std.proofs.Common.{◌≡◌, ℕ, ◌==◌, ◌<◌, if◌then◌else◌, List, [], ◌∷◌, length, Bool, true, false, refl, sym, ap, ◌∙◌, subst, arith, Option, Some, None, ⊎_elim, inl, inr}
 use Rattle.std.specs.Prelude.{◌||◌, ◌⊎◌, min, is_some, is_none}
 use Rattle.std.proofs.lemmas.Bool.{or_left, or_right, eq-eqb}
-use Rattle.blocking_core.specs.Places.{Met, Served, Waiting, drain, fill}
-use Rattle.blocking_core.specs.Pipes.{room}
+use Rattle.blocking_core.specs.Places.{Served, Waiting, drain, fill}
 use Rattle.blocking_core.specs.Slots.{Content, Empty, Full, GivenUp, Abandoned}
 use Rattle.blocking_core.specs.declared.io.Fault.{Fault}
-use Rattle.blocking_laws.specs.JobTable.{Reading, JobAction, FindRoom, next_but_wake, fault, has_finished, has_given_up, has_closed}
+use Rattle.blocking_laws.specs.JobTable.{Kind, Calling, Reading, Writing, JobAction, FindRoom, Peek, next_but_wake, is_over, fault, has_finished, has_given_up, has_closed}
 use Rattle.std.specs.Prelude.{not}
 use Rattle.blocking_laws.specs.OwnerLaws.{OwnerActs, Polls}
 use Rattle.blocking_laws.specs.OwnerSeats.{is_job_seated, job_seated_by, note_of, noted}
 use Rattle.blocking_laws.specs.OwnerTable.{OwnerAction, CloseOwn, Drain, Fill, PollSlot, Say, next_of_owner}
-use Rattle.blocking_laws.specs.Passed.{inside, room_in, last_job}
+use Rattle.blocking_laws.specs.Passed.{inside, room_in, last_job, kind_in, got, accepted}
 use Rattle.blocking_laws.specs.Places.{seen_drain, seen_fill, poll_slot}
 use Rattle.blocking_pool.specs.declared.pool.answer.Woke.{Woke}
-use Rattle.blocking_laws.specs.OwnerWakes.{IsSessionOf, is_waking, is_waking_by}
+use Rattle.blocking_laws.specs.OwnerWakes.{IsSessionOf, HasReason, IsStuck, is_waking, is_waking_by}
 use Rattle.blocking_laws.specs.Seen.{own, acts_of, is_this}
 use Rattle.blocking_laws.specs.Sessions.{last_session, session, is_dropped}
 use Rattle.blocking_laws.specs.Sessions as sessions
@@ -23,8 +22,9 @@ use Rattle.blocking_laws.specs.declared.event.Act.{Act}
 use Rattle.blocking_laws.specs.declared.event.Act.TheVariants.{Accepted, JobWoken, OwnerClosed, Got, Filled, FillShut, Waits, Back, JobParked}
 use Rattle.blocking_laws.specs.declared.event.Event.{Event}
 use Rattle.blocking_lanes.specs.Owners.{Owner, capacity_of}
-use Rattle.blocking_lanes.specs.OwnerTies.{OwnerAs, LastAs, SlotAs, PassedAs, passed_by, is_finding, seat_of, is_seated}
+use Rattle.blocking_lanes.specs.OwnerTies.{OwnerAs, LastAs, SlotAs, Flows, IsStuckIn, IsOwnerStuckIn, is_finding, seat_of, is_seated}
 use Rattle.blocking_lanes.specs.Sessions.{Session}
+use Rattle.blocking_lanes.proofs.owners.Cuts.{inside_is}
 
 -- the session that isn't over is the last one
 pub session_is_last : (acts : List Act) (r : sessions.Session) → session acts ≡ Some r → last_session acts ≡ Some r
@@ -33,13 +33,36 @@ session_is_last (Back ∷ past) r e = absurd (cc)
 session_is_last (Accepted s ∷ past) r e = e
 session_is_last (_ ∷ past) r e = session_is_last past r e
 
-finds_room : (a : JobAction) → is_finding a ≡ true → a ≡ FindRoom
-finds_room FindRoom e = refl
-finds_room _ e = absurd (cc)
+-- ---- what a job and its owner find, by the kind of the session
+
+module _ (s : Session) (shut : Bool) (took written : List ℕ) (acts : List Act) where
+  -- a job that looks for room, or for bytes, has its end of the pipe open
+  finding_lasts : (kind : Kind) (a : JobAction) → is_finding a ≡ true → Flows kind s shut took written a acts → s.pipe.is_job_open ≡ true
+  finding_lasts Calling a finding flow = absurd flow
+  finding_lasts Reading FindRoom finding flow = flow.passed_is.0
+  finding_lasts Reading Peek finding flow = absurd flow.passed_is
+  finding_lasts Writing Peek finding flow = flow.written_is.0
+  finding_lasts Writing FindRoom finding flow = absurd flow.written_is
+  finding_lasts kind _ finding flow = absurd (cc)
+
+  -- a job that is over has closed its end, unless it gave up
+  over_closed : (kind : Kind) (a : JobAction) → Flows kind s shut took written a acts → is_over a ≡ true → s.pipe.is_job_open ≡ true → has_given_up acts ≡ true
+  over_closed Calling a flow over lasts = absurd flow
+  over_closed Reading a flow over lasts = flow.unclosed over lasts
+  over_closed Writing a flow over lasts = flow.unclosed over lasts
+
+-- not both can't go on at a pipe that holds something
+not_both : (s : Session) (kind : Kind) → 0 < s.pipe.capacity → IsStuckIn kind s → IsOwnerStuckIn kind s → ⊥
+not_both s Reading some full none = let empty = ap (λ (l : List ℕ). length l) none in absurd (omega (arith, full, empty, some))
+not_both s Calling some full none = let empty = ap (λ (l : List ℕ). length l) none in absurd (omega (arith, full, empty, some))
+not_both s Writing some none full = let empty = ap (λ (l : List ℕ). length l) none in absurd (omega (arith, full, empty, some))
 
 module _ (s : Session) (capacity : ℕ) (cut : List Event) (t : LastAs (Some s) capacity cut) where
   abbrev works : List Act
   works = acts_of s.number.serial cut
+
+  abbrev kind : Kind
+  kind = kind_in (last_session (own cut))
 
   -- a job that finished has closed its end of the pipe, and left the handle in the slot
   full_slot : (content : Content (Option (Fault ℕ))) (finished given_up back : Bool) (why : Option (Fault ℕ)) → SlotAs content finished given_up back why → finished ≡ true → back ≡ false → content ≡ Empty → ⊥
@@ -53,9 +76,10 @@ module _ (s : Session) (capacity : ℕ) (cut : List Event) (t : LastAs (Some s) 
   not_finished lent stays done sits = at (is_some s.pipe.owner_seat) refl sits
     where
       at : (b : Bool) → is_some s.pipe.owner_seat ≡ b → b || is_some s.slot.seat ≡ true → ⊥
-      at true seat sits = (let given_up = t.flow.unclosed (sym t.result.over_is ∙ or_left (has_finished works) (has_given_up works) done) (t.seats.reason.owner seat).1 in cc)
+      at true seat sits = (let given_up = over_closed s (sessions.is_shut (own cut)) (got (own cut)) (accepted (own cut)) works kind (next_but_wake kind works) t.flow
+          (sym t.result.over_is ∙ or_left (has_finished works) (has_given_up works) done) (t.seats.reason.owner seat).1 in cc)
       at false seat sits =
-          full_slot s.slot.content (has_finished works) (has_given_up works) (is_none (session (own cut))) (fault Reading works) t.result.slot done lent (t.seats.reason.slot sits).0
+          full_slot s.slot.content (has_finished works) (has_given_up works) (is_none (session (own cut))) (fault kind works) t.result.slot done lent (t.seats.reason.slot sits).0
 
   -- Who sits in a seat doesn't wait for a job that sits in its own.
   not_seated : has_given_up works ≡ false → is_job_seated cut ≡ true → is_seated (Some s) ≡ true → ⊥
@@ -65,9 +89,8 @@ module _ (s : Session) (capacity : ℕ) (cut : List Event) (t : LastAs (Some s) 
       there = ap is_some (t.seats.job ∙ ap (λ b. seat_of b s.number) job)
 
       lasts : s.pipe.is_job_open ≡ true
-      lasts =
-          let finding : is_finding (next_but_wake Reading works) ≡ true = without (is_finding (next_but_wake Reading works)) (has_given_up works) stays (t.seats.reason.job there).0 in
-          (subst (λ a. PassedAs a (room s.pipe) s.pipe.is_job_open (sessions.is_shut (own cut) || has_given_up works) (passed_by works)) (finds_room (next_but_wake Reading works) finding) t.flow.passed_is).0
+      lasts = finding_lasts s (sessions.is_shut (own cut)) (got (own cut)) (accepted (own cut)) works kind (next_but_wake kind works)
+          (without (is_finding (next_but_wake kind works)) (has_given_up works) stays (t.seats.reason.job there).0) t.flow
         where
           without : (a b : Bool) → b ≡ false → a || b ≡ true → a ≡ true
           without true b none e = refl
@@ -75,13 +98,28 @@ module _ (s : Session) (capacity : ℕ) (cut : List Event) (t : LastAs (Some s) 
 
       at : (b : Bool) → is_some s.pipe.owner_seat ≡ b → b || is_some s.slot.seat ≡ true → ⊥
       at true seat sits =
-          let full = (t.seats.reason.job there).1 in
-          let empty = ap (λ (l : List ℕ). length l) (t.seats.reason.owner seat).0 in
           let holds = t.lent.holds in
           let some = t.lent.some in
-          absurd (omega (arith, full, empty, holds, some))
+          not_both s kind (omega (arith, holds, some)) (t.seats.reason.job there).1 (t.seats.reason.owner seat).0
       at false seat sits =
           ⊎_elim (λ shut. (let open_is = (t.seats.reason.job there).2 in cc)) (λ closed. (let open_is = lasts in cc)) (t.seats.reason.slot sits).1
+
+-- A job that sits in the pipe can't go on, and its owner's end is open.
+pub seated_reason : (s : Session) (bytes : ℕ) (cut : List Event) → sessions.capacity (own cut) ≡ bytes → LastAs (Some s) bytes cut → is_some s.pipe.job_seat ≡ true → HasReason cut
+seated_reason s bytes cut same t seated =
+    let reason = t.seats.reason.job seated in
+    (t.lent.shut_is ∙ ap not reason.2, by_kind (kind_in (last_session (own cut))) reason.1)
+  where
+    by_kind : (kind : Kind) → IsStuckIn kind s → IsStuck kind cut
+    by_kind Writing none = inside_is s bytes cut t ∙ none
+    by_kind Reading full =
+        let within = t.lent.within in
+        let holds = t.lent.holds in
+        ap (λ (l : List ℕ). length l) (inside_is s bytes cut t) ∙ omega (arith, full, within, holds, same)
+    by_kind Calling full =
+        let within = t.lent.within in
+        let holds = t.lent.holds in
+        ap (λ (l : List ℕ). length l) (inside_is s bytes cut t) ∙ omega (arith, full, within, holds, same)
 
 -- An owner that waits in a session whose job is over, or sits in its own seat, was woken.
 pub not_lost : (owner : Owner) (cut : List Event) → OwnerAs owner cut → (s : ℕ) → IsSessionOf (session (own cut)) s → is_waiting (own cut) ≡ true
@@ -104,7 +142,7 @@ not_lost owner cut t s of waits rests =
     lost None l r is of sits = cc
     lost (Some held) l None is of sits = of
     lost (Some held) l (Some r) is of sits =
-        let begun : Some r ≡ Some (record { serial = held.number.serial; kind = Reading }) = sym (session_is_last (own cut) r is) ∙ l.lent.begun in
+        let begun : Some r ≡ Some (record { serial = held.number.serial; kind = kind_in (last_session (own cut)) }) = sym (session_is_last (own cut) r is) ∙ l.lent.begun in
         let same : held.number.serial ≡ s = sym (ap (serial_in s) begun) ∙ of in
         let works = acts_of held.number.serial cut in
         let goes = stays works l.result.let_go (has_given_up works) refl in
