@@ -3,9 +3,9 @@ use Rattle.std.specs.Prelude.{ℕ, ◌==◌, Bool, List, [], ◌∷◌, codes, b
 use Rattle.std.specs.List.{slice_split}
 use Rattle.std.specs.Option.{option_and_then}
 use Rattle.blocking_laws.specs.declared.step.Answer.{Answer}
-use Rattle.blocking_laws.specs.declared.step.Answer.TheVariants.{Number, Gave, Failed}
+use Rattle.blocking_laws.specs.declared.step.Answer.TheVariants.{Number, Gave, Fine, Failed}
 use Rattle.blocking_laws.specs.declared.step.HandleCall.{HandleCall}
-use Rattle.blocking_laws.specs.declared.step.HandleCall.TheVariants.{Read, GetMut}
+use Rattle.blocking_laws.specs.declared.step.HandleCall.TheVariants.{Read, Write, Flush, Close, GetMut}
 use Rattle.blocking_laws.specs.declared.step.Step.{Step}
 use Rattle.blocking_laws.specs.declared.step.Step.TheVariants.{New, Ask, Own, DropOwner, Spawn, OfTask, Arrive, Take, Job, Io, End, Wait, Late, SetLimit, Sweep, Stray, Strike}
 use Rattle.blocking_laws.specs.declared.step.TaskCall.{TaskCall}
@@ -68,25 +68,37 @@ task_call name =
 
 -- the call of an owner that one word asks for
 abbrev pub plain_call : List ℕ → Option HandleCall
-plain_call name = if bytes_eq name (codes "mut") then Some GetMut else None
+plain_call name =
+    if bytes_eq name (codes "mut") then Some GetMut
+    else (if bytes_eq name (codes "flush") then Some Flush
+    else (if bytes_eq name (codes "close") then Some Close
+    else None))
 
--- a call of the task or of the owner that the number names
-abbrev pub call_of : List ℕ → List ℕ → List ℕ → Option Step
-call_of name word what =
+-- the answer that one word says
+abbrev pub plain_answer : List ℕ → Option Answer
+plain_answer kind = if bytes_eq kind (codes "ok") then Some Fine else None
+
+-- what three words ask for: a call of the task or of the owner that the number names, or an answer to its worker's job
+abbrev pub worded_step : List ℕ → List ℕ → List ℕ → Option Step
+worded_step name word what =
     if bytes_eq name (codes "task") then option_and_then (λ k. option_map (OfTask k) (task_call what)) (number_of 64 word)
     else (if bytes_eq name (codes "ask") then option_and_then (λ h. option_map (Ask h) (plain_call what)) (number_of 64 word)
-    else None)
+    else (if bytes_eq name (codes "io") then option_and_then (λ w. option_map (Io w) (plain_answer what)) (number_of 64 word)
+    else None))
 
--- the instruction that three words are: all the actions of an actor, or a call of a task or of an owner
+-- the instruction that three words are: all the actions of an actor, or what the words ask for
 abbrev pub longer_instruction : List ℕ → List ℕ → List ℕ → Option Instruction
 longer_instruction name word what =
-    if bytes_eq what (codes "*") then option_map AllOf (actor_named name word) else option_map One (call_of name word what)
+    if bytes_eq what (codes "*") then option_map AllOf (actor_named name word) else option_map One (worded_step name word what)
 
 -- ---- four words
 
 -- the call of an owner that two words ask for
 abbrev pub longer_call : List ℕ → List ℕ → Option HandleCall
-longer_call name word = if bytes_eq name (codes "read") then option_map Read (number_of 64 word) else None
+longer_call name word =
+    if bytes_eq name (codes "read") then option_map Read (number_of 64 word)
+    else (if bytes_eq name (codes "write") then option_map Write (bytes_of word)
+    else None)
 
 -- the answer that a word of its kind and its value say
 abbrev pub answer_of : List ℕ → List ℕ → Option Answer

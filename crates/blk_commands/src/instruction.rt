@@ -1,6 +1,6 @@
 //! The instructions that words are.
 ghost use Rattle.std.specs.Prelude.{◌≡◌, IfOk, map};
-ghost use Rattle.blk_commands.specs.Instructions.{actor_named, answer_of, call_of, instruction_of, longer_call, longer_instruction, longer_step, numbered_step, plain_call, plain_step, task_call, words_of};
+ghost use Rattle.blk_commands.specs.Instructions.{actor_named, answer_of, instruction_of, longer_call, longer_instruction, longer_step, numbered_step, plain_answer, plain_call, plain_step, task_call, worded_step, words_of};
 
 use crate::bytes::bytes_of;
 use crate::number::{count, number};
@@ -83,14 +83,14 @@ fn numbered_step(name: &str, word: &str) -> Option<Step>
     }
 }
 
-// The instruction that three words are: all the actions of an actor, or a call of a task or of an owner.
+// The instruction that three words are: all the actions of an actor, or what the words ask for.
 fn longer_instruction(name: &str, word: &str, what: &str) -> Option<Instruction>
     ensures { result ≡ longer_instruction name.now word.now what.now }
 {
     if what == "*" {
         return actor_named(name, word).map(Instruction::AllOf);
     }
-    call_of(name, word, what).map(Instruction::One)
+    worded_step(name, word, what).map(Instruction::One)
 }
 
 // The actor that a word and a number name.
@@ -104,13 +104,14 @@ fn actor_named(name: &str, word: &str) -> Option<Actor>
     }
 }
 
-// The call of the task or the owner of this number that three words ask for.
-fn call_of(name: &str, word: &str, what: &str) -> Option<Step>
-    ensures { result ≡ call_of name.now word.now what.now }
+// The step that three words ask for: a call of the task or the owner of this number, or an answer to this worker's job.
+fn worded_step(name: &str, word: &str, what: &str) -> Option<Step>
+    ensures { result ≡ worded_step name.now word.now what.now }
 {
     match name {
         "task" => Some(Step::OfTask(count(word)?, task_call(what)?)),
         "ask" => Some(Step::Ask(count(word)?, plain_call(what)?)),
+        "io" => Some(Step::Io(count(word)?, plain_answer(what)?)),
         _ => None,
     }
 }
@@ -134,6 +135,18 @@ fn plain_call(name: &str) -> Option<HandleCall>
 {
     match name {
         "mut" => Some(HandleCall::GetMut),
+        "flush" => Some(HandleCall::Flush),
+        "close" => Some(HandleCall::Close),
+        _ => None,
+    }
+}
+
+// The answer that one word says.
+fn plain_answer(kind: &str) -> Option<Answer>
+    ensures { result ≡ plain_answer kind.now }
+{
+    match kind {
+        "ok" => Some(Answer::Fine),
         _ => None,
     }
 }
@@ -152,7 +165,10 @@ fn longer_step(
         return Ok(None);
     };
     match name {
-        "ask" => Ok(longer_call(what, value).map(|call| Step::Ask(party, call))),
+        "ask" => {
+            let call = longer_call(alloc, what, value)?;
+            Ok(call.map(|call| Step::Ask(party, call)))
+        }
         "io" => {
             let answer = answer_of(alloc, what, value)?;
             Ok(answer.map(|answer| Step::Io(party, answer)))
@@ -162,12 +178,13 @@ fn longer_step(
 }
 
 // The call of an owner that two words ask for.
-fn longer_call(name: &str, word: &str) -> Option<HandleCall>
-    ensures { result ≡ longer_call name.now word.now }
+fn longer_call(alloc: Global, name: &str, word: &str) -> Result<Option<HandleCall>, AllocError>
+    ensures { IfOk result (λ call. call ≡ longer_call name.now word.now) }
 {
     match name {
-        "read" => number(word).map(HandleCall::Read),
-        _ => None,
+        "read" => Ok(number(word).map(HandleCall::Read)),
+        "write" => Ok(bytes_of(alloc, word)?.map(HandleCall::Write)),
+        _ => Ok(None),
     }
 }
 

@@ -18,4 +18,8 @@ mod row;
 #[cfg(test)]
 mod texts;
 #[cfg(test)]
+mod turns;
+#[cfg(test)]
 mod worlds;
+#[cfg(test)]
+mod writing;

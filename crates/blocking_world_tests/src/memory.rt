@@ -1,7 +1,7 @@
 //! Worlds whose memory is refused. `rt try --test --fail-alloc N` refuses the Nth piece that a test asks for: the tests here
 //! end as without, whichever it is, and say what came of it.
 use crate::row::PlainStep::{
-    Arrive, AskRead, End, Gives, Io, Job, Late, New, OfTask, Own, Spawn, Take,
+    Arrive, AskRead, AskWrite, End, Flushed, Gives, Io, Job, Late, New, OfTask, Own, Spawn, Take,
 };
 use crate::row::{Place, PlainStep, agree, counts};
 use blocking_core::pool::Refusal;
@@ -22,29 +22,46 @@ fn sees(alloc: Global, world: &mut World, step: PlainStep, text: &str) -> Result
     agree(place(0), format!(in alloc; "{event}")?.as_str(), text)
 }
 
-// An owner whose session was refused is told so, rests, and asks again.
-fn asks_again(alloc: Global, world: &mut World, owner: usize) -> Result<(), Fail> {
+// An owner whose session was refused is told so, rests, and asks again for what it asked.
+fn asks_again(
+    alloc: Global,
+    world: &mut World,
+    owner: usize,
+    asked: PlainStep,
+) -> Result<(), Fail> {
     sees(alloc, world, Own(owner), "replied fault refused memory")?;
     if world.poll_under_way(owner) {
         return Err(Fail::new("an owner polls that was told"));
     }
-    sees(alloc, world, AskRead(owner, 2), "asked")
+    sees(alloc, world, asked, "asked")
 }
 
-// Takes a step until there is room for it, twice at most: until then the world is as it was, but for an owner who was told.
+// How the world stands, as far as it can be asked: its counts, and whether its first owner polls and its first worker's job has a next
+// action of its own.
+fn standing(world: &World) -> ((usize, usize, usize, Option<usize>), bool, bool) {
+    (
+        counts(world),
+        world.poll_under_way(0),
+        world.has_job_action(1),
+    )
+}
+
+// Takes a step until there is room for it, twice at most: until then the world is as it was, but for an owner who was told, and who asks
+// again then.
 fn insists(
     rt: &impl Print,
     alloc: Global,
     world: &mut World,
     step: PlainStep,
+    asked: PlainStep,
 ) -> Result<Event, Fail> {
     for _ in 0..2 {
-        let Ok(asked) = step.step(alloc) else {
+        let Ok(taken) = step.step(alloc) else {
             println!(rt; "refused: {step:?}: the test's own step")?;
             continue;
         };
-        let before = counts(world);
-        let outcome = run(alloc, world, &[asked]);
+        let before = standing(world);
+        let outcome = run(alloc, world, &[taken]);
         if let Ok(mut events) = outcome {
             let Some(event) = events.pop() else {
                 return Err(Fail::new("no event"));
@@ -54,13 +71,13 @@ fn insists(
             }
             println!(rt; "refused: {step:?}: refused memory")?;
             if let Own(owner) = step {
-                asks_again(alloc, world, owner)?;
+                asks_again(alloc, world, owner, asked)?;
             }
         } else {
             println!(rt; "refused: {step:?}: an error")?;
         }
-        if counts(world) != before {
-            return Err(Fail::new(format_args!("{step:?} was refused and changed the counts")));
+        if standing(world) != before {
+            return Err(Fail::new(format_args!("{step:?} was refused and changed the world")));
         }
     }
     Err(Fail::new(format_args!("{step:?} found no room twice")))
@@ -172,6 +189,52 @@ const READS: [(PlainStep, &str); 39] = [
     (Take(1), "took 2"),
 ];
 
+// Four bytes through a pipe of four, to a writer that takes two of the first piece; then the same handle is read.
+const WRITES: [(PlainStep, &str); 42] = [
+    (New(4), "made 0"),
+    (AskWrite(0, "abc"), "asked"),
+    (Own(0), "accepted 1 +1"),
+    (Own(0), "put 3"),
+    (Own(0), "replied ok 3"),
+    (Arrive, "arrived 1"),
+    (Take(1), "took 1"),
+    (Job(1), "peeked 3"),
+    (Io(1, 2), "answered 2"),
+    (Job(1), "taken 2"),
+    (Job(1), "peeked 1"),
+    (Io(1, 1), "answered 1"),
+    (Job(1), "taken 1"),
+    (Job(1), "parked"),
+    (End(1), "ended 1 parked"),
+    (AskWrite(0, "d"), "asked"),
+    (Own(0), "put 1 wake 1"),
+    (Own(0), "delivered 1 entered"),
+    (Own(0), "replied ok 1"),
+    (AskRead(0, 2), "asked"),
+    (Own(0), "closed"),
+    (Own(0), "waits"),
+    (Take(1), "took 1"),
+    (Job(1), "peeked 1"),
+    (Io(1, 1), "answered 1"),
+    (Job(1), "taken 1"),
+    (Job(1), "drained"),
+    (Flushed(1), "answered ok"),
+    (Job(1), "closed"),
+    (Job(1), "finished wake owner"),
+    (Job(1), "delivered owner"),
+    (End(1), "ended 1 done"),
+    (AskRead(0, 2), "asked"),
+    (Own(0), "back"),
+    (Own(0), "accepted 2"),
+    (Own(0), "waits"),
+    (Take(1), "took 2"),
+    (Job(1), "room 4"),
+    (Gives(1, "ef"), "answered 6566"),
+    (Job(1), "put 2 wake owner"),
+    (AskRead(0, 2), "asked"),
+    (Own(0), "got 6566"),
+];
+
 // Takes these steps, of which each has an event of its text.
 fn takes_all(
     rt: &impl Print,
@@ -180,8 +243,12 @@ fn takes_all(
     steps: &[(PlainStep, &str)],
 ) -> Result<(), Fail> {
     let mut seen = room(rt, alloc)?;
+    let mut asked = AskRead(0, 2);
     for (lines, (step, text)) in steps.iter().enumerate() {
-        let event = insists(rt, alloc, world, *step)?;
+        if let AskRead(_, _) | AskWrite(_, _) = step {
+            asked = *step;
+        }
+        let event = insists(rt, alloc, world, *step, asked)?;
         seen.clear();
         write!(seen, "{event}")?;
         agree(place(lines), seen.as_str(), text)?;
@@ -213,6 +280,14 @@ fn each_piece_refused(rt: HostRuntime) -> Result<(), Fail> {
 fn each_piece_of_a_reader_refused(rt: HostRuntime) -> Result<(), Fail> {
     let mut world = World::new(rt.alloc(), Some("4"), Vec::new(rt.alloc()));
     let outcome = takes_all(&rt, rt.alloc(), &mut world, &READS);
+    world.close();
+    outcome
+}
+
+#[test]
+fn each_piece_of_a_writer_refused(rt: HostRuntime) -> Result<(), Fail> {
+    let mut world = World::new(rt.alloc(), Some("4"), Vec::new(rt.alloc()));
+    let outcome = takes_all(&rt, rt.alloc(), &mut world, &WRITES);
     world.close();
     outcome
 }

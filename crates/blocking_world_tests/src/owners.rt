@@ -1,8 +1,8 @@
 //! Owners beside others: two who read at once, one beside a task, those who are dropped, and steps of theirs that have no action.
 use crate::row::Line::{Counts, Futile, HasAction, IsPolled, Sees};
 use crate::row::PlainStep::{
-    Arrive, AskMut, AskRead, DropOwner, End, Gives, Io, Job, Late, New, OfTask, Own, Spawn, Strike,
-    Sweep, Take,
+    Arrive, AskClose, AskFlush, AskMut, AskRead, AskWrite, DropOwner, End, Flushed, Gives, Io, Job,
+    Late, New, OfTask, Own, Spawn, Strike, Sweep, Take,
 };
 use crate::row::{NO_SETTING, PlainStep, Row, play_all};
 use blocking_laws::step::TaskCall::Poll;
@@ -17,13 +17,25 @@ const AT_LIMIT_1: Row = Row {
 const ABSENT_OWNER: &[PlainStep] = &[
     AskRead(0, 0),
     AskRead(0, 2),
+    AskWrite(0, ""),
+    AskWrite(0, "a"),
+    AskFlush(0),
+    AskClose(0),
     AskMut(0),
     Own(0),
     DropOwner(0),
 ];
 
 // What it can't do as long as its poll is under way.
-const POLLED: &[PlainStep] = &[AskRead(0, 0), AskRead(0, 2), AskMut(0), DropOwner(0)];
+const POLLED: &[PlainStep] = &[
+    AskRead(0, 0),
+    AskRead(0, 2),
+    AskWrite(0, "a"),
+    AskFlush(0),
+    AskClose(0),
+    AskMut(0),
+    DropOwner(0),
+];
 
 // Owners and tasks beside each other.
 const MANY: &[Row] = &[
@@ -116,13 +128,13 @@ const MANY: &[Row] = &[
             Sees(Own(0), "waits"),
             Sees(Arrive, "arrived 1"),
             Sees(Take(1), "took 1"),
-            Futile(&[Gives(1, "xy"), Gives(1, "")]),
+            Futile(&[Gives(1, "xy"), Gives(1, ""), Flushed(1)]),
             Sees(Io(1, 7), "answered 7"),
             Sees(Job(1), "finished"),
             Sees(End(1), "ended 1 done"),
             Sees(Take(1), "took 2"),
             Sees(Job(1), "room 2"),
-            Futile(&[Io(1, 7)]),
+            Futile(&[Io(1, 7), Flushed(1)]),
             Sees(Gives(1, "xy"), "answered 7879"),
             Sees(Job(1), "put 2 wake owner"),
             Sees(OfTask(0, Poll), "got 7"),

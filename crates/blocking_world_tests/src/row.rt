@@ -5,11 +5,15 @@ use blocking_world::{World, run};
 use std::alloc::{AllocError, Global};
 use std::test::Fail;
 
-// A step as plain data. What a job asks for is answered by a number (`Io`), by the bytes of a text (`Gives`), or by a fault (`IoFails`).
+// A step as plain data. An owner is asked to write the bytes of a text. What a job asks for is answered by a number (`Io`), by the bytes
+// of a text (`Gives`), by a flush that is done (`Flushed`), or by a fault (`IoFails`).
 #[derive(Clone, Copy, Debug)]
 pub(crate) enum PlainStep {
     New(usize),
     AskRead(usize, u64),
+    AskWrite(usize, &'static str),
+    AskFlush(usize),
+    AskClose(usize),
     AskMut(usize),
     Own(usize),
     DropOwner(usize),
@@ -20,6 +24,7 @@ pub(crate) enum PlainStep {
     Job(usize),
     Io(usize, u64),
     Gives(usize, &'static str),
+    Flushed(usize),
     IoFails(usize, u64),
     End(usize),
     Wait(usize),
@@ -30,12 +35,22 @@ pub(crate) enum PlainStep {
     Strike(u64),
 }
 
+// The bytes of a text.
+fn bytes_of(alloc: Global, text: &str) -> Result<Bytes, AllocError> {
+    Ok(Bytes::new(text.as_bytes().to_vec(alloc)?))
+}
+
 impl PlainStep {
     // The step itself.
     pub(crate) fn step(self, alloc: Global) -> Result<Step, AllocError> {
         Ok(match self {
             PlainStep::New(capacity) => Step::New(capacity),
             PlainStep::AskRead(owner, most) => Step::Ask(owner, HandleCall::Read(most)),
+            PlainStep::AskWrite(owner, text) => {
+                Step::Ask(owner, HandleCall::Write(bytes_of(alloc, text)?))
+            }
+            PlainStep::AskFlush(owner) => Step::Ask(owner, HandleCall::Flush),
+            PlainStep::AskClose(owner) => Step::Ask(owner, HandleCall::Close),
             PlainStep::AskMut(owner) => Step::Ask(owner, HandleCall::GetMut),
             PlainStep::Own(owner) => Step::Own(owner),
             PlainStep::DropOwner(owner) => Step::DropOwner(owner),
@@ -46,11 +61,9 @@ impl PlainStep {
             PlainStep::Job(worker) => Step::Job(worker),
             PlainStep::Io(worker, number) => Step::Io(worker, Answer::Number(number)),
             PlainStep::Gives(worker, text) => {
-                Step::Io(
-                    worker,
-                    Answer::Gave(Bytes::new(text.as_bytes().to_vec(alloc)?)),
-                )
+                Step::Io(worker, Answer::Gave(bytes_of(alloc, text)?))
             }
+            PlainStep::Flushed(worker) => Step::Io(worker, Answer::Fine),
             PlainStep::IoFails(worker, error) => Step::Io(worker, Answer::Failed(error)),
             PlainStep::End(worker) => Step::End(worker),
             PlainStep::Wait(worker) => Step::Wait(worker),
