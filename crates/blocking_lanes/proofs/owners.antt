@@ -7,6 +7,7 @@ pub mod Fills
 pub mod Cuts
 pub mod Own
 pub mod Pooled
+pub mod Jobs
 pub mod OfJob
 pub mod Steps
 pub mod Plain

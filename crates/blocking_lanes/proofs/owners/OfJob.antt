@@ -1,9 +1,8 @@
 -- An act of its job keeps the law of an owner, and the tie of the owner to its cut.
-use Rattle.std.proofs.Common.{◌≡◌, ◌<◌, ◌≤◌, ℕ, suc, zero, ◌==◌, List, [], ◌∷◌, length, Bool, true, false, refl, sym, ap, ◌∙◌, subst, arith, Option, Some, None, if◌then◌else◌, ⊎_elim, inl, inr}
-use Rattle.std.specs.Prelude.{◌||◌, ◌⊎◌, ◌++◌, not, nat_le, min, take, drop, is_some, is_none}
+use Rattle.std.proofs.Common.{◌≡◌, ℕ, suc, zero, ◌==◌, List, ◌∷◌, length, Bool, true, false, refl, sym, ap, ◌∙◌, subst, arith, Option, Some, None, ⊎_elim, inl, inr}
+use Rattle.std.specs.Prelude.{◌||◌, ◌⊎◌, ◌++◌, not, drop, is_some, is_none}
 use Rattle.std.proofs.lemmas.Bool.{or_left, or_right, eq-eqb}
 use Rattle.std.proofs.lemmas.Bool.Decides.{nat_tests}
-use Rattle.std.proofs.lemmas.List.{length-take}
 use Rattle.blocking_core.specs.Pipes.{Pipe, room}
 use Rattle.blocking_core.specs.Places.{Met, Served, Waiting, Closed, find_room, hand_in, peek}
 use Rattle.blocking_core.specs.Reading.{read_next}
@@ -12,10 +11,8 @@ use Rattle.blocking_core.specs.Slots.{Slot, slot_after, slot_without_job, answer
 use Rattle.blocking_core.specs.declared.io.Fault.{Fault}
 use Rattle.blocking_core.specs.declared.job.read.ReadAction.{ReadAction}
 use Rattle.blocking_core.specs.declared.job.read.ReadAction.TheVariants as read
-use Rattle.blocking_core.specs.declared.job.read.ReadAnswer.TheVariants as by
 use Rattle.blocking_core.specs.declared.job.write.WriteAction.{WriteAction}
 use Rattle.blocking_core.specs.declared.job.write.WriteAction.TheVariants as write
-use Rattle.blocking_core.specs.declared.job.write.WriteAnswer.TheVariants as wrote
 use Rattle.blocking_laws.specs.Ends.{EndsTruly, back_by, came_back}
 use Rattle.blocking_laws.specs.JobTable.{Kind, Reading, Writing, JobAction, AskCall, FindRoom, AskBytes, PutPiece, Peek, OfferBytes, Consume, AskFlush, piece, CloseEnd, Finish, WakeHolder, Over, next_but_wake, next_of_job, is_over, is_answer, takes_waker, is_taken, fault, has_finished, has_given_up}
 use Rattle.blocking_laws.specs.JobTable as job
@@ -44,12 +41,13 @@ use Rattle.blocking_lanes.specs.Sessions.{Session, Work, found_piece, work_at_pe
 use Rattle.blocking_lanes.specs.Writes as writes
 use Rattle.blocking_lanes.specs.Writes.{WriteAs}
 use Rattle.blocking_lanes.specs.declared.owner.OwnerStage.{OwnerStage}
+use Rattle.blocking_lanes.proofs.owners.Jobs.{no_wait}
 use Rattle.blocking_lanes.proofs.owners.Cuts.{its_kind, kind_is, inside_is, next_stays, room_is, open_is}
 use Rattle.blocking_lanes.proofs.owners.Own.{Goes, owner_by_parts, bound}
-use Rattle.blocking_lanes.proofs.owners.Reads.{next_by, action_is, Awake, awake, meets, asks}
+use Rattle.blocking_lanes.proofs.owners.Reads.{next_by, action_is, Awake, awake, asks}
 use Rattle.blocking_lanes.proofs.owners.Sessions.{At, at, finds, finds_shut, parks, calls, puts, loses, closes, finishes, gives_up, going, some_room, put_is}
 use Rattle.blocking_lanes.proofs.owners.Sessions as Sessions
-use Rattle.blocking_lanes.proofs.owners.Writers.{some_piece, peeks, peek_parks, drains, consumes, writer_answers}
+use Rattle.blocking_lanes.proofs.owners.Writers.{peeks, peek_parks, drains, consumes, writer_answers}
 use Rattle.blocking_lanes.proofs.owners.Writes as of_writer
 
 -- ---- seats that acts empty
@@ -57,10 +55,6 @@ use Rattle.blocking_lanes.proofs.owners.Writes as of_writer
 pub seated_is : (o : Option (Unit {0})) → o ≡ seated (is_some o)
 seated_is None = refl
 seated_is (Some tt) = refl
-
-pub taken_is : (b : Bool) → b ≡ is_taken (waker_in b)
-taken_is true = refl
-taken_is false = refl
 
 -- an owner that was seated is taken out of the first of two seats, or still sits in the other
 pub taken_first : (a b : Bool) → a || b ≡ true → (is_taken (waker_in a) ≡ true) ⊎ (b ≡ true)
@@ -70,20 +64,6 @@ taken_first false b e = inr e
 pub taken_last : (a b woke after : Bool) → woke ≡ b → a || b ≡ true → (is_taken (waker_in woke) ≡ true) ⊎ (a || after ≡ true)
 taken_last true b woke after same e = inr refl
 taken_last false b woke after same e = inl (ap (λ c. is_taken (waker_in c)) (same ∙ e))
-
--- what fits needn't wait
-no_wait : {W : Type 0} (n free : ℕ) (lasts : Bool) (seat : Option W) → nat_le n free ≡ true → hand_in n free lasts seat ≡ Waiting → ⊥
-no_wait n free false seat fits e = cc
-no_wait n free true seat fits e = let served = ap (λ b. if b then Served seat else Waiting) fits in cc
-
--- of something some first bytes are something, and no more than that
-nothing_taken : (n : ℕ) (items : List ℕ) → 0 < n → take n items ≡ [] → items ≡ []
-nothing_taken n [] some e = refl
-nothing_taken zero (x ∷ xs) some e = absurd (omega arith)
-nothing_taken (suc n) (x ∷ xs) some e = absurd (cc)
-
-first_of_piece : (n : ℕ) (items : List ℕ) → length (take n items) ≤ n
-first_of_piece n items = let many = length-take n items in omega (arith, many)
 
 -- what is answered asks, and isn't over
 pub asking_goes : (action : JobAction) (answer : Answer) → is_answer action answer ≡ true → is_over action ≡ false
@@ -213,13 +193,12 @@ module _ (bytes : ℕ) (asked : Option HandleCall) (here : OwnerStage) (s : Sess
 
   -- ---- the acts of a job that reads, at the session
 
-  -- The law and the tie after an act of the job, and how far the job is then.
-  pub record WorksOn {J : Type 0} (is_as : J → List Act → Type 0) (work : Work J) : Type 0 where
-    pub goes : Goes (owner_by_parts bytes asked here (Some work.session)) cut (event work.act)
-    pub job : is_as work.job (work.act ∷ acts)
+  -- the law and the tie after an act of the job
+  abbrev pub WorksOn : (J : Type 0) → Work J → Type 0
+  WorksOn J work = Goes (owner_by_parts bytes asked here (Some work.session)) cut (event work.act)
 
   abbrev Reads : Work Progress → Type 0
-  Reads work = WorksOn ReadAs work
+  Reads work = WorksOn Progress work
 
   -- what the law says of a job that does this next
   lawful_at : (p : Progress) (next : JobAction) (act : Act) → ReadAs p acts → action_of p ≡ next → Works cut next act → Works cut (next_of_job Reading acts) act
@@ -245,52 +224,43 @@ module _ (bytes : ℕ) (asked : Option HandleCall) (here : OwnerStage) (s : Sess
     room_works is (Served zero) found = absurd (let some = (some_room (room s.pipe) 0 s.pipe.is_owner_open found).1 in omega arith)
     room_works is (Served (suc n)) found =
         let a = awake p read.FindRoom is (λ e. cc) in
-        record {
-          goes = keeps_goes Reading reads (RoomFree (suc n)) s.pipe s.slot among (record {
-            pool = refl;
-            nothing = refl;
-            lawful = lawful_at p FindRoom (RoomFree (suc n)) r (ap (action_as p.piece) is) (ap seen_room (sym found ∙ room_found));
-            ends = tt;
-            back = λ here before. refl;
-            faults = λ is kind. refl;
-            session = finds s (bound bytes) began shut over gone took written acts js ps ss (suc n) found (tied FindRoom (table read.FindRoom a));
-            ended = λ e. e;
-            told = λ e. inr e;
-          });
-          job = meets p acts read.FindRoom (read.Read (min (suc n) 65536)) false (by.Free (suc n)) (RoomFree (suc n)) r a refl refl refl refl;
-        }
+        keeps_goes Reading reads (RoomFree (suc n)) s.pipe s.slot among (record {
+          pool = refl;
+          nothing = refl;
+          lawful = lawful_at p FindRoom (RoomFree (suc n)) r (ap (action_as p.piece) is) (ap seen_room (sym found ∙ room_found));
+          ends = tt;
+          back = λ here before. refl;
+          faults = λ is kind. refl;
+          session = finds s (bound bytes) began shut over gone took written acts js ps ss (suc n) found (tied FindRoom (table read.FindRoom a));
+          ended = λ e. e;
+          told = λ e. inr e;
+        })
     room_works is Waiting found =
         let a = awake p read.FindRoom is (λ e. cc) in
-        record {
-          goes = keeps_goes Reading reads JobParked (record s.pipe { job_seat = Some s.number }) s.slot among (record {
-            pool = refl;
-            nothing = refl;
-            lawful = lawful_at p FindRoom JobParked r (ap (action_as p.piece) is) (ap seen_room (sym found ∙ room_found));
-            ends = tt;
-            back = λ here before. refl;
-            faults = λ is kind. refl;
-            session = parks s (bound bytes) began shut over gone took written acts js ps ss found (table read.FindRoom a) last;
-            ended = λ e. e;
-            told = λ e. inr e;
-          });
-          job = meets p acts read.FindRoom read.FindRoom false by.Parked JobParked r a refl (sym (table read.FindRoom a)) refl refl;
-        }
+        keeps_goes Reading reads JobParked (record s.pipe { job_seat = Some s.number }) s.slot among (record {
+          pool = refl;
+          nothing = refl;
+          lawful = lawful_at p FindRoom JobParked r (ap (action_as p.piece) is) (ap seen_room (sym found ∙ room_found));
+          ends = tt;
+          back = λ here before. refl;
+          faults = λ is kind. refl;
+          session = parks s (bound bytes) began shut over gone took written acts js ps ss found (table read.FindRoom a) last;
+          ended = λ e. e;
+          told = λ e. inr e;
+        })
     room_works is Closed found =
         let a = awake p read.FindRoom is (λ e. cc) in
-        record {
-          goes = keeps_goes Reading reads RoomShut s.pipe s.slot among (record {
-            pool = refl;
-            nothing = refl;
-            lawful = lawful_at p FindRoom RoomShut r (ap (action_as p.piece) is) (ap seen_room (sym found ∙ room_found));
-            ends = tt;
-            back = λ here before. refl;
-            faults = λ is kind. refl;
-            session = finds_shut s (bound bytes) began shut over gone took written acts js ps ss found (tied FindRoom (table read.FindRoom a));
-            ended = λ e. e;
-            told = λ e. inr e;
-          });
-          job = meets p acts read.FindRoom read.Close false by.Shut RoomShut r a refl refl refl refl;
-        }
+        keeps_goes Reading reads RoomShut s.pipe s.slot among (record {
+          pool = refl;
+          nothing = refl;
+          lawful = lawful_at p FindRoom RoomShut r (ap (action_as p.piece) is) (ap seen_room (sym found ∙ room_found));
+          ends = tt;
+          back = λ here before. refl;
+          faults = λ is kind. refl;
+          session = finds_shut s (bound bytes) began shut over gone took written acts js ps ss found (tied FindRoom (table read.FindRoom a));
+          ended = λ e. e;
+          told = λ e. inr e;
+        })
 
     -- it puts bytes, which fit
     put_found : found_put p.piece s ≡ hand_in (length p.piece) (room_in cut) (not shut) (seated ps)
@@ -306,37 +276,31 @@ module _ (bytes : ℕ) (asked : Option HandleCall) (here : OwnerStage) (s : Sess
         let here = tied (PutPiece p.piece) (table (read.Put count) a) in
         let took_it = (put_is (length p.piece) (room s.pipe) s.pipe.is_owner_open s.pipe.owner_seat seat found).0 in
         let act = Put (length p.piece) (waker_in (is_some seat)) in
-        record {
-          goes = keeps_goes Reading reads act (record s.pipe { items = s.pipe.items ++ p.piece; owner_seat = None }) s.slot among (record {
-            pool = refl;
-            nothing = refl;
-            lawful = lawful_at p (PutPiece p.piece) act r (ap (action_as p.piece) is) (ap (seen_put (length p.piece)) (sym found ∙ put_found));
-            ends = tt;
-            back = λ here before. refl;
-            faults = λ is kind. refl;
-            session = puts s (bound bytes) began shut over gone took written acts js ps ss p.piece (waker_in (is_some seat)) seat found here;
-            ended = λ e. absurd (let closed = e.1 in let lasts = here.flow.passed_is.0 in cc);
-            told = λ e. subst (λ o. (is_taken (waker_in (is_some o)) ≡ true) ⊎ (is_some s.slot.seat ≡ true)) (sym took_it) (taken_first (is_some s.pipe.owner_seat) (is_some s.slot.seat) e);
-          });
-          job = meets p acts (read.Put count) read.FindRoom (is_some seat) (by.Put (is_some seat)) act r a refl refl (taken_is (is_some seat)) refl;
-        }
+        keeps_goes Reading reads act (record s.pipe { items = s.pipe.items ++ p.piece; owner_seat = None }) s.slot among (record {
+          pool = refl;
+          nothing = refl;
+          lawful = lawful_at p (PutPiece p.piece) act r (ap (action_as p.piece) is) (ap (seen_put (length p.piece)) (sym found ∙ put_found));
+          ends = tt;
+          back = λ here before. refl;
+          faults = λ is kind. refl;
+          session = puts s (bound bytes) began shut over gone took written acts js ps ss p.piece (waker_in (is_some seat)) seat found here;
+          ended = λ e. absurd (let closed = e.1 in let lasts = here.flow.passed_is.0 in cc);
+          told = λ e. subst (λ o. (is_taken (waker_in (is_some o)) ≡ true) ⊎ (is_some s.slot.seat ≡ true)) (sym took_it) (taken_first (is_some s.pipe.owner_seat) (is_some s.slot.seat) e);
+        })
     put_works count is fits Closed found =
         let a = awake p (read.Put count) is (λ e. cc) in
         let act = Lost (length p.piece) in
-        record {
-          goes = keeps_goes Reading reads act s.pipe s.slot among (record {
-            pool = refl;
-            nothing = refl;
-            lawful = lawful_at p (PutPiece p.piece) act r (ap (action_as p.piece) is) (ap (seen_put (length p.piece)) (sym found ∙ put_found));
-            ends = tt;
-            back = λ here before. refl;
-            faults = λ is kind. refl;
-            session = loses s (bound bytes) began shut over gone took written acts js ps ss p.piece found (tied (PutPiece p.piece) (table (read.Put count) a));
-            ended = λ e. e;
-            told = λ e. inr e;
-          });
-          job = meets p acts (read.Put count) read.Close false by.Lost act r a refl refl refl refl;
-        }
+        keeps_goes Reading reads act s.pipe s.slot among (record {
+          pool = refl;
+          nothing = refl;
+          lawful = lawful_at p (PutPiece p.piece) act r (ap (action_as p.piece) is) (ap (seen_put (length p.piece)) (sym found ∙ put_found));
+          ends = tt;
+          back = λ here before. refl;
+          faults = λ is kind. refl;
+          session = loses s (bound bytes) began shut over gone took written acts js ps ss p.piece found (tied (PutPiece p.piece) (table (read.Put count) a));
+          ended = λ e. e;
+          told = λ e. inr e;
+        })
 
     -- it closes its end of the pipe
     pub close_works : read_next p.core ≡ read.Close → Reads (work_of_close p s)
@@ -345,20 +309,17 @@ module _ (bytes : ℕ) (asked : Option HandleCall) (here : OwnerStage) (s : Sess
         let here = tied CloseEnd (table read.Close a) in
         let woke = is_some s.pipe.owner_seat in
         let act = JobClosed (waker_in woke) in
-        record {
-          goes = keeps_goes Reading reads act (record s.pipe { is_job_open = false; owner_seat = None }) s.slot among (record {
-            pool = refl;
-            nothing = refl;
-            lawful = lawful_at p CloseEnd act r (ap (action_as p.piece) is) (ap (λ b. JobClosed (waker_in b)) (sym t.last.seats.owner));
-            ends = tt;
-            back = λ here before. refl;
-            faults = λ is kind. refl;
-            session = closes s Reading (bound bytes) began shut over gone took written acts js ps ss (waker_in woke) here;
-            ended = λ e. absurd (let closed = e.1 in let lasts = here.flow.passed_is.0 in cc);
-            told = λ e. taken_first (is_some s.pipe.owner_seat) (is_some s.slot.seat) e;
-          });
-          job = meets p acts read.Close read.Finish woke (by.Closed woke) act r a refl refl (taken_is woke) refl;
-        }
+        keeps_goes Reading reads act (record s.pipe { is_job_open = false; owner_seat = None }) s.slot among (record {
+          pool = refl;
+          nothing = refl;
+          lawful = lawful_at p CloseEnd act r (ap (action_as p.piece) is) (ap (λ b. JobClosed (waker_in b)) (sym t.last.seats.owner));
+          ends = tt;
+          back = λ here before. refl;
+          faults = λ is kind. refl;
+          session = closes s Reading (bound bytes) began shut over gone took written acts js ps ss (waker_in woke) here;
+          ended = λ e. absurd (let closed = e.1 in let lasts = here.flow.passed_is.0 in cc);
+          told = λ e. taken_first (is_some s.pipe.owner_seat) (is_some s.slot.seat) e;
+        })
 
     -- it puts its result
     pub finish_works : read_next p.core ≡ read.Finish → Reads (work_of_finish p s)
@@ -369,20 +330,17 @@ module _ (bytes : ℕ) (asked : Option HandleCall) (here : OwnerStage) (s : Sess
         let woke = finish_wakes p.fault s in
         let sits : woke ≡ is_some s.slot.seat = ap (λ c. is_some (answer_of c s.slot.seat p.fault).wake) empty in
         let act = Finished (waker_in woke) in
-        record {
-          goes = keeps_goes Reading reads act s.pipe (slot_after s.slot.content s.slot.seat p.fault) among (record {
-            pool = refl;
-            nothing = refl;
-            lawful = lawful_at p Finish act r (ap (action_as p.piece) is) (ap (λ b. Finished (waker_in b)) (sits ∙ sym t.last.seats.slot));
-            ends = tt;
-            back = λ here before. refl;
-            faults = λ is kind. refl;
-            session = finishes s Reading (bound bytes) began shut over gone took written acts js ps ss (waker_in woke) p.fault r.fault_is here;
-            ended = λ e. e;
-            told = λ e. taken_last (is_some s.pipe.owner_seat) (is_some s.slot.seat) woke _ sits e;
-          });
-          job = meets p acts read.Finish read.Done woke (by.Finished woke) act r a refl refl (taken_is woke) refl;
-        }
+        keeps_goes Reading reads act s.pipe (slot_after s.slot.content s.slot.seat p.fault) among (record {
+          pool = refl;
+          nothing = refl;
+          lawful = lawful_at p Finish act r (ap (action_as p.piece) is) (ap (λ b. Finished (waker_in b)) (sits ∙ sym t.last.seats.slot));
+          ends = tt;
+          back = λ here before. refl;
+          faults = λ is kind. refl;
+          session = finishes s Reading (bound bytes) began shut over gone took written acts js ps ss (waker_in woke) p.fault r.fault_is here;
+          ended = λ e. e;
+          told = λ e. taken_last (is_some s.pipe.owner_seat) (is_some s.slot.seat) woke _ sits e;
+        })
 
     -- its reader answers
     pub answer_goes : (answer : Answer) → is_answer (action_of p) answer ≡ true → Goes (owner_by_parts bytes asked here (Some s)) cut (event (Answered answer))
@@ -406,7 +364,7 @@ module _ (bytes : ℕ) (asked : Option HandleCall) (here : OwnerStage) (s : Sess
   -- ---- the acts of a job that writes, at the session
 
   abbrev Writes : Work writes.Progress → Type 0
-  Writes work = WorksOn WriteAs work
+  Writes work = WorksOn writes.Progress work
 
   writer_lawful : (p : writes.Progress) (next : JobAction) (act : Act) → WriteAs p acts → writes.action_of p ≡ next → Works cut next act → Works cut (next_of_job Writing acts) act
   writer_lawful p next act r is law = subst (λ a. Works cut a act) (sym is ∙ of_writer.action_is p acts r) law
@@ -430,53 +388,43 @@ module _ (bytes : ℕ) (asked : Option HandleCall) (here : OwnerStage) (s : Sess
     pub peek_works : write_next p.core ≡ write.Peek → (met : Met (List ℕ)) → found_piece s ≡ met → Writes (work_at_peek met p s)
     peek_works is (Served found) shows =
         let a = of_writer.awake p write.Peek is (λ e. cc) in
-        let some = some_piece piece s.pipe.items s.pipe.is_owner_open found shows in
-        record {
-          goes = keeps_goes Writing writing (Peeked found) s.pipe s.slot among (record {
-            pool = refl;
-            nothing = refl;
-            lawful = writer_lawful p Peek (Peeked found) r (ap (writes.action_as p.piece) is) (ap seen_peek (sym shows ∙ piece_found));
-            ends = tt;
-            back = λ here before. refl;
-            faults = λ is kind. refl;
-            session = peeks s (bound bytes) began shut over gone took written acts js ps ss found shows (writer_tied Peek (writer_table write.Peek a));
-            ended = λ e. e;
-            told = λ e. inr e;
-          });
-          job = of_writer.meets_piece p acts found r a (λ none. some.1 (nothing_taken piece s.pipe.items (omega arith) (sym some.0 ∙ none))) (subst (λ l. length l ≤ piece) (sym some.0) (first_of_piece piece s.pipe.items));
-        }
+        keeps_goes Writing writing (Peeked found) s.pipe s.slot among (record {
+          pool = refl;
+          nothing = refl;
+          lawful = writer_lawful p Peek (Peeked found) r (ap (writes.action_as p.piece) is) (ap seen_peek (sym shows ∙ piece_found));
+          ends = tt;
+          back = λ here before. refl;
+          faults = λ is kind. refl;
+          session = peeks s (bound bytes) began shut over gone took written acts js ps ss found shows (writer_tied Peek (writer_table write.Peek a));
+          ended = λ e. e;
+          told = λ e. inr e;
+        })
     peek_works is Waiting shows =
         let a = of_writer.awake p write.Peek is (λ e. cc) in
-        record {
-          goes = keeps_goes Writing writing JobParked (record s.pipe { job_seat = Some s.number }) s.slot among (record {
-            pool = refl;
-            nothing = refl;
-            lawful = writer_lawful p Peek JobParked r (ap (writes.action_as p.piece) is) (ap seen_peek (sym shows ∙ piece_found));
-            ends = tt;
-            back = λ here before. refl;
-            faults = λ is kind. refl;
-            session = peek_parks s (bound bytes) began shut over gone took written acts js ps ss shows (writer_table write.Peek a) writer_last;
-            ended = λ e. e;
-            told = λ e. inr e;
-          });
-          job = of_writer.meets p acts write.Peek write.Peek false wrote.Parked JobParked r a refl refl (sym (writer_table write.Peek a)) tt refl refl;
-        }
+        keeps_goes Writing writing JobParked (record s.pipe { job_seat = Some s.number }) s.slot among (record {
+          pool = refl;
+          nothing = refl;
+          lawful = writer_lawful p Peek JobParked r (ap (writes.action_as p.piece) is) (ap seen_peek (sym shows ∙ piece_found));
+          ends = tt;
+          back = λ here before. refl;
+          faults = λ is kind. refl;
+          session = peek_parks s (bound bytes) began shut over gone took written acts js ps ss shows (writer_table write.Peek a) writer_last;
+          ended = λ e. e;
+          told = λ e. inr e;
+        })
     peek_works is Closed shows =
         let a = of_writer.awake p write.Peek is (λ e. cc) in
-        record {
-          goes = keeps_goes Writing writing Drained s.pipe s.slot among (record {
-            pool = refl;
-            nothing = refl;
-            lawful = writer_lawful p Peek Drained r (ap (writes.action_as p.piece) is) (ap seen_peek (sym shows ∙ piece_found));
-            ends = tt;
-            back = λ here before. refl;
-            faults = λ is kind. refl;
-            session = drains s (bound bytes) began shut over gone took written acts js ps ss shows (writer_tied Peek (writer_table write.Peek a));
-            ended = λ e. e;
-            told = λ e. inr e;
-          });
-          job = of_writer.meets p acts write.Peek write.Flush false wrote.Drained Drained r a refl refl refl tt refl refl;
-        }
+        keeps_goes Writing writing Drained s.pipe s.slot among (record {
+          pool = refl;
+          nothing = refl;
+          lawful = writer_lawful p Peek Drained r (ap (writes.action_as p.piece) is) (ap seen_peek (sym shows ∙ piece_found));
+          ends = tt;
+          back = λ here before. refl;
+          faults = λ is kind. refl;
+          session = drains s (bound bytes) began shut over gone took written acts js ps ss shows (writer_tied Peek (writer_table write.Peek a));
+          ended = λ e. e;
+          told = λ e. inr e;
+        })
 
     -- what its writer took leaves the pipe
     pub consume_works : (n : ℕ) → write_next p.core ≡ write.Consume n → Writes (work_of_consume n p s)
@@ -485,20 +433,17 @@ module _ (bytes : ℕ) (asked : Option HandleCall) (here : OwnerStage) (s : Sess
         let here = writer_tied (Consume n) (writer_table (write.Consume n) a) in
         let woke = is_some s.pipe.owner_seat in
         let act = TakenOut n (waker_in woke) in
-        record {
-          goes = keeps_goes Writing writing act (record s.pipe { items = drop n s.pipe.items; owner_seat = None }) s.slot among (record {
-            pool = refl;
-            nothing = refl;
-            lawful = writer_lawful p (Consume n) act r (ap (writes.action_as p.piece) is) (ap (λ b. TakenOut n (waker_in b)) (sym t.last.seats.owner));
-            ends = tt;
-            back = λ here before. refl;
-            faults = λ is kind. refl;
-            session = consumes s (bound bytes) began shut over gone took written acts js ps ss n (waker_in woke) here;
-            ended = λ e. absurd (let closed = e.1 in let lasts = here.flow.written_is.0 in cc);
-            told = λ e. taken_first (is_some s.pipe.owner_seat) (is_some s.slot.seat) e;
-          });
-          job = of_writer.meets p acts (write.Consume n) write.Peek woke (wrote.Consumed woke) act r a refl refl refl tt (taken_is woke) refl;
-        }
+        keeps_goes Writing writing act (record s.pipe { items = drop n s.pipe.items; owner_seat = None }) s.slot among (record {
+          pool = refl;
+          nothing = refl;
+          lawful = writer_lawful p (Consume n) act r (ap (writes.action_as p.piece) is) (ap (λ b. TakenOut n (waker_in b)) (sym t.last.seats.owner));
+          ends = tt;
+          back = λ here before. refl;
+          faults = λ is kind. refl;
+          session = consumes s (bound bytes) began shut over gone took written acts js ps ss n (waker_in woke) here;
+          ended = λ e. absurd (let closed = e.1 in let lasts = here.flow.written_is.0 in cc);
+          told = λ e. taken_first (is_some s.pipe.owner_seat) (is_some s.slot.seat) e;
+        })
 
     -- it closes its end of the pipe
     pub writer_close_works : write_next p.core ≡ write.Close → Writes (writer_closes p s)
@@ -507,20 +452,17 @@ module _ (bytes : ℕ) (asked : Option HandleCall) (here : OwnerStage) (s : Sess
         let here = writer_tied CloseEnd (writer_table write.Close a) in
         let woke = is_some s.pipe.owner_seat in
         let act = JobClosed (waker_in woke) in
-        record {
-          goes = keeps_goes Writing writing act (record s.pipe { is_job_open = false; owner_seat = None }) s.slot among (record {
-            pool = refl;
-            nothing = refl;
-            lawful = writer_lawful p CloseEnd act r (ap (writes.action_as p.piece) is) (ap (λ b. JobClosed (waker_in b)) (sym t.last.seats.owner));
-            ends = tt;
-            back = λ here before. refl;
-            faults = λ is kind. refl;
-            session = closes s Writing (bound bytes) began shut over gone took written acts js ps ss (waker_in woke) here;
-            ended = λ e. absurd (let closed = e.1 in let lasts = here.flow.written_is.0 in cc);
-            told = λ e. taken_first (is_some s.pipe.owner_seat) (is_some s.slot.seat) e;
-          });
-          job = of_writer.meets p acts write.Close write.Finish woke (wrote.Closed woke) act r a refl refl refl tt (taken_is woke) refl;
-        }
+        keeps_goes Writing writing act (record s.pipe { is_job_open = false; owner_seat = None }) s.slot among (record {
+          pool = refl;
+          nothing = refl;
+          lawful = writer_lawful p CloseEnd act r (ap (writes.action_as p.piece) is) (ap (λ b. JobClosed (waker_in b)) (sym t.last.seats.owner));
+          ends = tt;
+          back = λ here before. refl;
+          faults = λ is kind. refl;
+          session = closes s Writing (bound bytes) began shut over gone took written acts js ps ss (waker_in woke) here;
+          ended = λ e. absurd (let closed = e.1 in let lasts = here.flow.written_is.0 in cc);
+          told = λ e. taken_first (is_some s.pipe.owner_seat) (is_some s.slot.seat) e;
+        })
 
     -- it puts its result
     pub writer_finish_works : write_next p.core ≡ write.Finish → Writes (writer_finishes p s)
@@ -532,20 +474,17 @@ module _ (bytes : ℕ) (asked : Option HandleCall) (here : OwnerStage) (s : Sess
         let woke = finish_wakes why s in
         let sits : woke ≡ is_some s.slot.seat = ap (λ c. is_some (answer_of c s.slot.seat why).wake) empty in
         let act = Finished (waker_in woke) in
-        record {
-          goes = keeps_goes Writing writing act s.pipe (slot_after s.slot.content s.slot.seat why) among (record {
-            pool = refl;
-            nothing = refl;
-            lawful = writer_lawful p Finish act r (ap (writes.action_as p.piece) is) (ap (λ b. Finished (waker_in b)) (sits ∙ sym t.last.seats.slot));
-            ends = tt;
-            back = λ here before. refl;
-            faults = λ is kind. refl;
-            session = finishes s Writing (bound bytes) began shut over gone took written acts js ps ss (waker_in woke) why r.fault_is here;
-            ended = λ e. e;
-            told = λ e. taken_last (is_some s.pipe.owner_seat) (is_some s.slot.seat) woke _ sits e;
-          });
-          job = of_writer.meets p acts write.Finish write.Done woke (wrote.Finished woke) act r a refl refl refl tt (taken_is woke) refl;
-        }
+        keeps_goes Writing writing act s.pipe (slot_after s.slot.content s.slot.seat why) among (record {
+          pool = refl;
+          nothing = refl;
+          lawful = writer_lawful p Finish act r (ap (writes.action_as p.piece) is) (ap (λ b. Finished (waker_in b)) (sits ∙ sym t.last.seats.slot));
+          ends = tt;
+          back = λ here before. refl;
+          faults = λ is kind. refl;
+          session = finishes s Writing (bound bytes) began shut over gone took written acts js ps ss (waker_in woke) why r.fault_is here;
+          ended = λ e. e;
+          told = λ e. taken_last (is_some s.pipe.owner_seat) (is_some s.slot.seat) woke _ sits e;
+        })
 
     -- its writer answers
     pub writer_answer_goes : (answer : Answer) → is_answer (writes.action_of p) answer ≡ true → Goes (owner_by_parts bytes asked here (Some s)) cut (event (Answered answer))

@@ -6,6 +6,7 @@ use Rattle.std.proofs.lemmas.Bool.Decides.{nat_tests}
 use Rattle.std.proofs.lemmas.Option.{slice_get_within}
 use Rattle.std.proofs.Math.ListN.{length-set}
 use Rattle.blocking_pool.specs.Lists.{is_in}
+use Rattle.blocking_laws.specs.JobTable.{Kind}
 use Rattle.blocking_laws.specs.Jobs.{accepted_by, accepts, holder, newcomer}
 use Rattle.blocking_laws.specs.OwnerLaws.{OwnerLaws}
 use Rattle.blocking_laws.specs.Seen.{events, own, cut, acts_of, is_in_cut, is_of_job, is_some_worker}
@@ -21,14 +22,14 @@ use Rattle.blocking_pool.specs.Growth.{Growth}
 use Rattle.blocking_lanes.specs.Owners.{Owner, Worked, worked, new_owner, capacity_of}
 use Rattle.blocking_lanes.specs.OwnerSteps.{OwnerStep, IsAsked, Acts, Begins, IsRefused, Delivers, IsDropped, Works, IsAnswered, GivesUp, CallsWaker, IsAside, MakesOwner, TakesStep, MayTake, IsFresh, IsHeld, is_of_its_job, event_for, by_owner, by_its_job, owner_after}
 use Rattle.blocking_lanes.specs.OwnerTies.{OwnerAs, OwnersHold}
-use Rattle.blocking_lanes.specs.SessionJobs.{JobAs, kind_of}
+use Rattle.blocking_lanes.specs.SessionJobs.{JobAs}
 use Rattle.blocking_lanes.specs.declared.job.SessionJob.{SessionJob}
-use Rattle.blocking_laws.specs.JobTable.{Kind}
 use Rattle.blocking_pool.proofs.Places.{got_same, got_other, in_pushed}
 use Rattle.blocking_lanes.proofs.owners.Cuts.{passes}
+use Rattle.blocking_lanes.proofs.owners.Jobs.{worked_on}
 use Rattle.blocking_lanes.proofs.owners.Own.{Goes}
 use Rattle.blocking_lanes.proofs.owners.Plain.{IsPlain, brought, plain_of}
-use Rattle.blocking_lanes.proofs.owners.Steps.{IsNewTo, step_goes, works_goes, law_of}
+use Rattle.blocking_lanes.proofs.owners.Steps.{IsNewTo, step_goes, law_of}
 
 -- ---- one more event
 
@@ -449,10 +450,5 @@ module _ (old new : List Owner) (past : List Moment) (now : Moment) (q : TakesSt
 
 -- how far a job is after an act of its own, by all that it has done
 pub job_after : (row : List Owner) (past : List Moment) → OwnersHold row past → (g s : ℕ) (owner : Owner) → slice_get row g ≡ Some owner → holder past s ≡ Some (ByOwner g)
-    → (job : SessionJob) → kind_of_job s (own (cut g (events past))) ≡ kind_of job → JobAs job (acts_of s (events past)) → (done : Worked) → worked job owner ≡ Some done
-    → JobAs done.job (done.act ∷ acts_of s (events past))
-job_after row past h g s owner found held job of so done does =
-    let whole = h.tied.acts g s held in
-    subst (λ l. JobAs done.job (done.act ∷ l)) whole
-    (works_goes owner.capacity owner.asked owner.stage g 0 0 (record { started = 0; refused = false }) (cut g (events past)) owner.session s (h.tied.each g owner found) job
-    (subst (JobAs job) (sym whole) so) of (h.tied.begun g s held) done does).job
+    → (p : SessionJob) → JobAs p (acts_of s (events past)) → (done : Worked) → worked p owner ≡ Some done → JobAs done.job (done.act ∷ acts_of s (events past))
+job_after row past h g s owner found held p r done does = worked_on p (acts_of s (events past)) owner done r does

@@ -127,10 +127,9 @@ its_last bytes asked here last n cut t among goes = at (is_serial (sessions.last
 -- ---- its job works
 
 module _ (bytes : ℕ) (asked : Option HandleCall) (here : OwnerStage) (h v first : ℕ) (growth : Growth) (cut : List Event) where
-  -- The law and the tie after an act of job n, and how far the job is then.
-  pub record WorkGoes (n : ℕ) (done : Worked) : Type 0 where
-    pub goes : Goes done.owner cut (by_its_job h v n done.act first growth)
-    pub job : JobAs done.job (done.act ∷ acts_of n cut)
+  -- the law and the tie after an act of job n
+  abbrev pub WorkGoes : ℕ → Worked → Type 0
+  WorkGoes n done = Goes done.owner cut (by_its_job h v n done.act first growth)
 
   -- a job of this kind, whose next action is this, is that of the last session
   at_last : (last : Option Session) (n : ℕ) (of : Kind) (next : JobAction) → OwnerAs (owner_by_parts bytes asked here last) cut → is_in n (jobs_of (own cut)) ≡ true → kind_of_job n (own cut) ≡ of
@@ -143,31 +142,28 @@ module _ (bytes : ℕ) (asked : Option HandleCall) (here : OwnerStage) (h v firs
   kind_at s t of is = sym (kind_is s (bound bytes) cut t.last) ∙ is
 
   -- what is done at the session is what is seen of it
-  does_so : {J : Type 0} (n : ℕ) (job_of : J → SessionJob) (is_as : J → List Act → Type 0) (s : Session) (t : OwnerAs (owner_by_parts bytes asked here (Some s)) cut)
-      → ((job : J) (acts : List Act) → is_as job acts → JobAs (job_of job) acts) → (o : Option (Work J))
-      → ((work : Work J) → o ≡ Some work → WorksOn bytes asked here s h v first growth cut t is_as work) → (done : Worked) → worked_by job_of o (owner_by_parts bytes asked here (Some s)) ≡ Some done
+  does_so : (J : Type 0) (job_of : J → SessionJob) (s : Session) (t : OwnerAs (owner_by_parts bytes asked here (Some s)) cut) (o : Option (Work J))
+      → ((work : Work J) → o ≡ Some work → WorksOn bytes asked here s h v first growth cut t J work) → (done : Worked) → worked_by job_of o (owner_by_parts bytes asked here (Some s)) ≡ Some done
       → WorkGoes s.number.serial done
-  does_so n job_of is_as s t so None works done does = absurd (cc)
-  does_so n job_of is_as s t so (Some work) works done does =
-      let w = works work refl in
-      subst (WorkGoes s.number.serial) (ap (value_of done) does) (record { goes = w.goes; job = so work.job (work.act ∷ acts_of s.number.serial cut) w.job })
+  does_so J job_of s t None works done does = absurd (cc)
+  does_so J job_of s t (Some work) works done does = subst (WorkGoes s.number.serial) (ap (value_of done) does) (works work refl)
 
   -- a job that reads, at the session
   reader_at : (s : Session) (t : OwnerAs (owner_by_parts bytes asked here (Some s)) cut) (p : reads.Progress) (r : ReadAs p (acts_of s.number.serial cut)) → its_kind s (bound bytes) cut t.last ≡ Reading
       → is_in s.number.serial (jobs_of (own cut)) ≡ true → (a : ReadAction) → read_next p.core ≡ a → (work : Work reads.Progress) → work_by a p s ≡ Some work
-      → WorksOn bytes asked here s h v first growth cut t ReadAs work
+      → WorksOn bytes asked here s h v first growth cut t reads.Progress work
   reader_at s t p r of among read.FindRoom is work does =
-      subst (WorksOn bytes asked here s h v first growth cut t ReadAs) (ap (value_of work) does) (room_works bytes asked here s h v first growth cut t p r of among is (found_room s) refl)
+      subst (WorksOn bytes asked here s h v first growth cut t reads.Progress) (ap (value_of work) does) (room_works bytes asked here s h v first growth cut t p r of among is (found_room s) refl)
   reader_at s t p r of among (read.Put count) is work does = by_fit (fits_in p.piece s) refl does
     where
-      by_fit : (b : Bool) → fits_in p.piece s ≡ b → (if b then Some (work_at_put (found_put p.piece s) p s) else None) ≡ Some work → WorksOn bytes asked here s h v first growth cut t ReadAs work
+      by_fit : (b : Bool) → fits_in p.piece s ≡ b → (if b then Some (work_at_put (found_put p.piece s) p s) else None) ≡ Some work → WorksOn bytes asked here s h v first growth cut t reads.Progress work
       by_fit true fits does =
-          subst (WorksOn bytes asked here s h v first growth cut t ReadAs) (ap (value_of work) does) (put_works bytes asked here s h v first growth cut t p r of among count is fits (found_put p.piece s) refl)
+          subst (WorksOn bytes asked here s h v first growth cut t reads.Progress) (ap (value_of work) does) (put_works bytes asked here s h v first growth cut t p r of among count is fits (found_put p.piece s) refl)
       by_fit false fits does = absurd (cc)
   reader_at s t p r of among read.Close is work does =
-      subst (WorksOn bytes asked here s h v first growth cut t ReadAs) (ap (value_of work) does) (close_works bytes asked here s h v first growth cut t p r of among is)
+      subst (WorksOn bytes asked here s h v first growth cut t reads.Progress) (ap (value_of work) does) (close_works bytes asked here s h v first growth cut t p r of among is)
   reader_at s t p r of among read.Finish is work does =
-      subst (WorksOn bytes asked here s h v first growth cut t ReadAs) (ap (value_of work) does) (finish_works bytes asked here s h v first growth cut t p r of among is)
+      subst (WorksOn bytes asked here s h v first growth cut t reads.Progress) (ap (value_of work) does) (finish_works bytes asked here s h v first growth cut t p r of among is)
   reader_at s t p r of among (read.Read most) is work does = absurd (cc)
   reader_at s t p r of among read.Deliver is work does = absurd (cc)
   reader_at s t p r of among read.Done is work does = absurd (cc)
@@ -175,19 +171,19 @@ module _ (bytes : ℕ) (asked : Option HandleCall) (here : OwnerStage) (h v firs
   -- a job that writes, at the session
   writer_at : (s : Session) (t : OwnerAs (owner_by_parts bytes asked here (Some s)) cut) (p : writes.Progress) (r : WriteAs p (acts_of s.number.serial cut)) → its_kind s (bound bytes) cut t.last ≡ Writing
       → is_in s.number.serial (jobs_of (own cut)) ≡ true → (a : WriteAction) → write_next p.core ≡ a → (work : Work writes.Progress) → writer_works a p s ≡ Some work
-      → WorksOn bytes asked here s h v first growth cut t WriteAs work
+      → WorksOn bytes asked here s h v first growth cut t writes.Progress work
   writer_at s t p r of among write.Peek is work does =
-      subst (WorksOn bytes asked here s h v first growth cut t WriteAs) (ap (value_of work) does) (peek_works bytes asked here s h v first growth cut t p r of among is (found_piece s) refl)
+      subst (WorksOn bytes asked here s h v first growth cut t writes.Progress) (ap (value_of work) does) (peek_works bytes asked here s h v first growth cut t p r of among is (found_piece s) refl)
   writer_at s t p r of among (write.Consume count) is work does = by_fit (holds count s) does
     where
-      by_fit : (b : Bool) → (if b then Some (work_of_consume count p s) else None) ≡ Some work → WorksOn bytes asked here s h v first growth cut t WriteAs work
+      by_fit : (b : Bool) → (if b then Some (work_of_consume count p s) else None) ≡ Some work → WorksOn bytes asked here s h v first growth cut t writes.Progress work
       by_fit true does =
-          subst (WorksOn bytes asked here s h v first growth cut t WriteAs) (ap (value_of work) does) (consume_works bytes asked here s h v first growth cut t p r of among count is)
+          subst (WorksOn bytes asked here s h v first growth cut t writes.Progress) (ap (value_of work) does) (consume_works bytes asked here s h v first growth cut t p r of among count is)
       by_fit false does = absurd (cc)
   writer_at s t p r of among write.Close is work does =
-      subst (WorksOn bytes asked here s h v first growth cut t WriteAs) (ap (value_of work) does) (writer_close_works bytes asked here s h v first growth cut t p r of among is)
+      subst (WorksOn bytes asked here s h v first growth cut t writes.Progress) (ap (value_of work) does) (writer_close_works bytes asked here s h v first growth cut t p r of among is)
   writer_at s t p r of among write.Finish is work does =
-      subst (WorksOn bytes asked here s h v first growth cut t WriteAs) (ap (value_of work) does) (writer_finish_works bytes asked here s h v first growth cut t p r of among is)
+      subst (WorksOn bytes asked here s h v first growth cut t writes.Progress) (ap (value_of work) does) (writer_finish_works bytes asked here s h v first growth cut t p r of among is)
   writer_at s t p r of among (write.Write count) is work does = absurd (cc)
   writer_at s t p r of among write.Flush is work does = absurd (cc)
   writer_at s t p r of among write.Deliver is work does = absurd (cc)
@@ -205,7 +201,7 @@ module _ (bytes : ℕ) (asked : Option HandleCall) (here : OwnerStage) (h v firs
           let s = l.session in
           let tied = subst (λ o. OwnerAs (owner_by_parts bytes asked here o) cut) l.here t in
           subst (λ m. WorkGoes m done) (sym l.same)
-          (does_so n of_job.Read ReadAs s tied (λ job acts so. so) (work_by a p s)
+          (does_so reads.Progress of_job.Read s tied (work_by a p s)
           (λ work works.
           reader_at s tied p (subst (λ m. ReadAs p (acts_of m cut)) l.same r) (kind_at s tied Reading (subst (λ m. kind_of_job m (own cut) ≡ Reading) l.same of))
           (subst (λ m. is_in m (jobs_of (own cut)) ≡ true) l.same among) a is work works) done (subst (λ o. read_in a o p (owner_by_parts bytes asked here o) ≡ Some done) l.here does))
@@ -223,11 +219,8 @@ module _ (bytes : ℕ) (asked : Option HandleCall) (here : OwnerStage) (h v firs
       by read.Done is does = none_at read.Done last (λ s. refl) does
       by read.Deliver is does =
           subst (WorkGoes n) (ap (value_of done) does)
-          (record {
-            goes = wake_goes bytes asked here last h v n first growth cut t among
-                (ap (λ k. next_of_job k (acts_of n cut)) of ∙ sym (of_reader.action_is p (acts_of n cut) r) ∙ ap (reads.action_as p.piece) is);
-            job = of_reader.wakes p (acts_of n cut) r is;
-          })
+          (wake_goes bytes asked here last h v n first growth cut t among
+          (ap (λ k. next_of_job k (acts_of n cut)) of ∙ sym (of_reader.action_is p (acts_of n cut) r) ∙ ap (reads.action_as p.piece) is))
 
   -- any act of a job that writes
   write_goes : (last : Option Session) (n : ℕ) → OwnerAs (owner_by_parts bytes asked here last) cut → (p : writes.Progress) → WriteAs p (acts_of n cut) → kind_of_job n (own cut) ≡ Writing
@@ -241,7 +234,7 @@ module _ (bytes : ℕ) (asked : Option HandleCall) (here : OwnerStage) (h v firs
           let s = l.session in
           let tied = subst (λ o. OwnerAs (owner_by_parts bytes asked here o) cut) l.here t in
           subst (λ m. WorkGoes m done) (sym l.same)
-          (does_so n of_job.Write WriteAs s tied (λ job acts so. so) (writer_works a p s)
+          (does_so writes.Progress of_job.Write s tied (writer_works a p s)
           (λ work works.
           writer_at s tied p (subst (λ m. WriteAs p (acts_of m cut)) l.same r) (kind_at s tied Writing (subst (λ m. kind_of_job m (own cut) ≡ Writing) l.same of))
           (subst (λ m. is_in m (jobs_of (own cut)) ≡ true) l.same among) a is work works) done (subst (λ o. write_in a o p (owner_by_parts bytes asked here o) ≡ Some done) l.here does))
@@ -260,11 +253,8 @@ module _ (bytes : ℕ) (asked : Option HandleCall) (here : OwnerStage) (h v firs
       by write.Done is does = none_at write.Done last (λ s. refl) does
       by write.Deliver is does =
           subst (WorkGoes n) (ap (value_of done) does)
-          (record {
-            goes = wake_goes bytes asked here last h v n first growth cut t among
-                (ap (λ k. next_of_job k (acts_of n cut)) of ∙ sym (of_writer.action_is p (acts_of n cut) r) ∙ ap (writes.action_as p.piece) is);
-            job = of_writer.wakes p (acts_of n cut) r is;
-          })
+          (wake_goes bytes asked here last h v n first growth cut t among
+          (ap (λ k. next_of_job k (acts_of n cut)) of ∙ sym (of_writer.action_is p (acts_of n cut) r) ∙ ap (writes.action_as p.piece) is))
 
   -- any act of its own
   pub works_goes : (last : Option Session) (n : ℕ) → OwnerAs (owner_by_parts bytes asked here last) cut → (job : SessionJob) → JobAs job (acts_of n cut) → kind_of_job n (own cut) ≡ kind_of job
@@ -379,7 +369,7 @@ module _ (bytes : ℕ) (asked : Option HandleCall) (last : Option Session) (h v 
       by_work None e seen = absurd (cc)
       by_work (Some done) e seen =
           subst (λ a. Goes done.owner cut (by_its_job h v n a first growth)) (ap (value_of act) seen)
-          (works_goes bytes asked here h v first growth cut last n t p w.may.1 w.may.0 (w.among refl) done e).goes
+          (works_goes bytes asked here h v first growth cut last n t p w.may.1 w.may.0 (w.among refl) done e)
   step_by (IsAnswered p answer) here t w seen =
       subst (λ a. Goes (owner_by_parts bytes asked here last) cut (by_its_job h v n a first growth)) (ap (value_of act) seen)
       (answered bytes asked here last h v n first growth cut t p answer w.may.0 w.may.1 w.may.2 (w.among refl))
