@@ -4,6 +4,7 @@ pub mod Told
 pub mod Said
 pub mod Hands
 pub mod Places
+pub mod Kinds
 pub mod Kept
 pub mod Numbers
 pub mod Ends

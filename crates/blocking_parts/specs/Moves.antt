@@ -1,6 +1,6 @@
 -- The moves of a world: each step is one of them, which has at most one call of the crew and says what becomes of a row, a task and an
 -- owner.
-use Rattle.std.specs.Prelude.{◌≡◌, ℕ, ◌&&◌, Bool, true, false, ◌-◌, List, [], ◌∷◌, ◌++◌, length, slice_get, slice_set, Option, Some, None, is_some, Result, Ok, Err}
+use Rattle.std.specs.Prelude.{◌≡◌, ℕ, Bool, true, false, ◌-◌, List, [], ◌∷◌, ◌++◌, length, slice_get, slice_set, Option, Some, None, is_some, Result, Ok, Err}
 use Rattle.blocking_crew.specs.Moves as crew
 use Rattle.blocking_crew.specs.Moves.{next_start, nothing}
 use Rattle.blocking_crew.specs.declared.hand.Stage.TheVariants as stage

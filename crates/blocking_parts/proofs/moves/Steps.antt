@@ -7,7 +7,7 @@ use Rattle.blocking_crew.specs.Moves as crew
 use Rattle.blocking_crew.specs.Moves.{NeverAsked, next_start, nothing}
 use Rattle.blocking_crew.proofs.ties.Starts.{may_more}
 use Rattle.blocking_lanes.specs.OwnerSteps as owners_steps
-use Rattle.blocking_lanes.specs.Owners.{Owner, Did, IsDid, did, may_ask, new_job_of, new_owner, next_of, note_at, number_of, owner_after_ask, owner_after_delivery, owner_after_drop}
+use Rattle.blocking_lanes.specs.Owners.{Owner, Did, IsDid, did, new_job_of, new_owner, next_of, note_at, number_of, owner_after_ask, owner_after_delivery, owner_after_drop}
 use Rattle.blocking_lanes.specs.declared.owner.OwnerNext.TheVariants as next
 use Rattle.blocking_lanes.specs.Tasks.{Task, task_act, task_after_call}
 use Rattle.blocking_pool.proofs.Places.{set_same}

@@ -10,7 +10,6 @@ use Rattle.blocking_core.specs.declared.job.Action.TheVariants as action
 use Rattle.blocking_core.specs.declared.job.Answer.TheVariants as answer
 use Rattle.blocking_crew.specs.Crews.{may_act, stage_after}
 use Rattle.blocking_crew.specs.Ties.{turn_of}
-use Rattle.blocking_crew.specs.Tickets.{no_growth}
 use Rattle.blocking_crew.specs.declared.hand.Stage.{Stage}
 use Rattle.blocking_crew.specs.declared.hand.Stage.TheVariants as stage
 use Rattle.blocking_lanes.specs.Calls as calls
@@ -29,7 +28,7 @@ use Rattle.blocking_lanes.proofs.owners.Own.{value_of}
 use Rattle.blocking_laws.specs.JobTable.{JobAction, AskCall, AskBytes, FindRoom, PutPiece, Peek, OfferBytes, Consume, AskFlush, CloseEnd, Finish, WakeHolder, Over, next_but_wake, next_of_job, is_answer, has_given_up}
 use Rattle.blocking_laws.specs.Jobs.{accepted_by, ends_for_good, holder, sweeps, stands_by, is_parked}
 use Rattle.blocking_laws.specs.Seats.{waker_in}
-use Rattle.blocking_laws.specs.Seen.{events, acts_of, cut, is_of_pool, is_nothing}
+use Rattle.blocking_laws.specs.Seen.{events, acts_of, is_of_pool, is_nothing}
 use Rattle.blocking_laws.specs.Steps.{is_answered_action, next_in_turn}
 use Rattle.blocking_laws.specs.Turns.{GoesOn, turn_by}
 use Rattle.blocking_laws.specs.declared.event.Act.{Act}
@@ -41,12 +40,13 @@ use Rattle.blocking_laws.specs.declared.step.Answer.TheVariants.{Number, Gave, F
 use Rattle.blocking_pool.specs.declared.pool.standing.Standing.{Standing}
 use Rattle.blocking_pool.specs.declared.pool.standing.Standing.TheVariants.{Queued, Running}
 use Rattle.blocking_parts.specs.Parts.{Parts}
-use Rattle.blocking_parts.specs.Rows.{Done, done, call_done, call_step, session_done, session_seen, session_step, call_action, core_after_answer, is_first, is_at_first, action_of, party_of}
+use Rattle.blocking_parts.specs.Rows.{kind_of as kind_in_row, Done, done, call_done, call_step, session_done, session_seen, session_step, call_action, core_after_answer, is_first, is_at_first, action_of, party_of}
 use Rattle.blocking_parts.specs.Ties.{Tied, CoreAs, PlaceAs, GaveAs}
 use Rattle.blocking_parts.specs.declared.row.Core.{Core}
 use Rattle.blocking_parts.specs.declared.row.Core.TheVariants as core
 use Rattle.blocking_parts.proofs.moves.SessionActs.{first_where_parked, same_kind}
-use Rattle.blocking_parts.proofs.ties.SessionJobs.{first_of_table, job_action_is, job_answers}
+use Rattle.blocking_lanes.proofs.owners.Jobs.{worked_on}
+use Rattle.blocking_parts.proofs.ties.SessionJobs.{first_of_table, job_action_is, job_answers, kind_answered}
 use Rattle.blocking_parts.proofs.ties.Readers.{number_after_work, number_after_give_up}
 
 -- ---- its turn
@@ -131,6 +131,7 @@ gave_acted stage.GaveUp act acts fits gave = absurd cc
 -- An act leaves a job with the same holder, as far as its core says; and one that parks is at its first action again.
 pub record Leaves (old new : Core) (act : Act) (acts : List Act) : Type 0 where
   pub party : party_of new ≡ party_of old
+  pub kind : kind_in_row new ≡ kind_in_row old
   pub core : CoreAs new (act ∷ acts)
   pub parks : act ≡ JobParked → is_at_first new ≡ true
 
@@ -150,17 +151,17 @@ call_leaves : (at : Stage) (k : ℕ) (next : Action) (n : ℕ) (all : List Task)
     → LeavesSo (core.Call k (call_by_parts next n)) acts did
 call_leaves at k next n all row None did acts ran place is = absurd cc
 call_leaves stage.Runs k action.Finish n all row (Some task) did acts ran place is =
-    subst (LeavesSo (core.Call k (call_by_parts action.Finish n)) acts) (ap (value_of did) is) (record { party = refl; core = λ going. finished_as (finish_wakes task n) n acts (ran place); parks = λ parks. absurd cc })
+    subst (LeavesSo (core.Call k (call_by_parts action.Finish n)) acts) (ap (value_of did) is) (record { party = refl; kind = refl; core = λ going. finished_as (finish_wakes task n) n acts (ran place); parks = λ parks. absurd cc })
 call_leaves stage.Runs k action.Deliver n all row (Some task) did acts ran place is =
     subst (LeavesSo (core.Call k (call_by_parts action.Deliver n)) acts) (ap (value_of did) is)
-    (record { party = refl; core = λ going. inr (ap (λ (l : List Act). HolderWoken ∷ l) (ran place)); parks = λ parks. absurd cc })
+    (record { party = refl; kind = refl; core = λ going. inr (ap (λ (l : List Act). HolderWoken ∷ l) (ran place)); parks = λ parks. absurd cc })
 call_leaves stage.Runs k action.Call n all row (Some task) did acts ran place is = absurd cc
 call_leaves stage.Runs k action.Done n all row (Some task) did acts ran place is = absurd cc
 call_leaves stage.MustGiveUp k next n all row (Some task) did acts ran place is =
-    subst (LeavesSo (core.Call k (call_by_parts next n)) acts) (ap (value_of did) is) (record { party = refl; core = λ going. absurd cc; parks = λ parks. absurd cc })
+    subst (LeavesSo (core.Call k (call_by_parts next n)) acts) (ap (value_of did) is) (record { party = refl; kind = refl; core = λ going. absurd cc; parks = λ parks. absurd cc })
 call_leaves stage.MustWake k next n all row (Some task) did acts ran place is =
     subst (LeavesSo (core.Call k (call_by_parts next n)) acts) (ap (value_of did) is)
-    (record { party = refl; core = λ going. let over : has_given_up acts ≡ true = place in absurd cc; parks = λ parks. absurd cc })
+    (record { party = refl; kind = refl; core = λ going. let over : has_given_up acts ≡ true = place in absurd cc; parks = λ parks. absurd cc })
 call_leaves stage.Waits k next n all row (Some task) did acts ran place is = absurd cc
 call_leaves stage.GaveUp k next n all row (Some task) did acts ran place is = absurd cc
 
@@ -182,12 +183,12 @@ module _ (h : ℕ) (job : SessionJob) (owner : Owner) (did : Done) (acts : List 
       by (Some done) found is =
           subst (LeavesSo (core.Session h job) acts) (ap (value_of did) is)
           (subst (λ o. Leaves (core.Session h job) (core.Session h (owners.job_after_work o job)) done.act acts) (sym found)
-          (record { party = refl; core = λ going. goes (ran place) done found; parks = λ parks. parked_first (ran place) done found parks (same_kind job owner done found) }))
+          (record { party = refl; kind = same_kind job owner done found; core = λ going. goes (ran place) done found; parks = λ parks. parked_first (ran place) done found parks (same_kind job owner done found) }))
   session_leaves stage.MustGiveUp all row ran place is =
-      subst (LeavesSo (core.Session h job) acts) (ap (value_of did) is) (record { party = refl; core = λ going. absurd cc; parks = λ parks. absurd cc })
+      subst (LeavesSo (core.Session h job) acts) (ap (value_of did) is) (record { party = refl; kind = refl; core = λ going. absurd cc; parks = λ parks. absurd cc })
   session_leaves stage.MustWake all row ran place is =
       subst (LeavesSo (core.Session h job) acts) (ap (value_of did) is)
-      (record { party = refl; core = λ going. let over : has_given_up acts ≡ true = place in absurd cc; parks = λ parks. absurd cc })
+      (record { party = refl; kind = refl; core = λ going. let over : has_given_up acts ≡ true = place in absurd cc; parks = λ parks. absurd cc })
   session_leaves stage.Waits all row ran place is = absurd cc
   session_leaves stage.GaveUp all row ran place is = absurd cc
 
@@ -199,14 +200,8 @@ done_leaves setting plan w past t at s (core.Session h job) did ran place held i
   where
     by : (o : Option Owner) → slice_get w.owners h ≡ o → session_done h job w.tasks w.owners o (session_step at job) ≡ Some did → LeavesSo (core.Session h job) (acts_of s (events past)) did
     by None found is = absurd cc
-    by (Some owner) found is = session_leaves h job owner did (acts_of s (events past)) goes at w.tasks w.owners ran place is
-      where
-        its : acts_of s (cut h (events past)) ≡ acts_of s (events past)
-        its = t.owned.acts h s held
-
-        goes : JobAs job (acts_of s (events past)) → (done : Worked) → worked job owner ≡ Some done → JobAs done.job (done.act ∷ acts_of s (events past))
-        goes tied done works =
-            job_after w.owners past (record { tied = t.owned; laws = t.laws }) h s owner found held job tied done works
+    by (Some owner) found is =
+        session_leaves h job owner did (acts_of s (events past)) (λ tied done works. worked_on job (acts_of s (events past)) owner done tied works) at w.tasks w.owners ran place is
 
 -- a job that is answered
 asked : (next : JobAction) (answer : Answer) → is_answered_action (next_in_turn GoesOn next) answer ≡ true → is_answer next answer ≡ true
@@ -225,7 +220,7 @@ asked Over answer is = absurd cc
 
 call_answered : (k : ℕ) (next : Action) (n : ℕ) (answer : Answer) (acts : List Act) → (has_given_up acts ≡ false → RanAs next n acts) → has_given_up acts ≡ false → is_answer (call_action next) answer ≡ true
     → Leaves (core.Call k (call_by_parts next n)) (core_after_answer answer (core.Call k (call_by_parts next n))) (Answered answer) acts
-call_answered k action.Call n (Number m) acts ran going is = record { party = refl; core = λ on. ap (λ (l : List Act). Answered (Number m) ∷ l) (ran going); parks = λ parks. absurd cc }
+call_answered k action.Call n (Number m) acts ran going is = record { party = refl; kind = refl; core = λ on. ap (λ (l : List Act). Answered (Number m) ∷ l) (ran going); parks = λ parks. absurd cc }
 call_answered k action.Call n (Gave bytes) acts ran going is = absurd cc
 call_answered k action.Call n Fine acts ran going is = absurd cc
 call_answered k action.Call n (Failed error) acts ran going is = absurd cc
@@ -236,7 +231,7 @@ call_answered k action.Done n answer acts ran going is = absurd cc
 pub answer_leaves : (c : Core) (answer : Answer) (acts : List Act) → CoreAs c acts → has_given_up acts ≡ false → is_answered_action (next_in_turn GoesOn (action_of c)) answer ≡ true
     → Leaves c (core_after_answer answer c) (Answered answer) acts
 answer_leaves (core.Call k call) answer acts ran going is = call_answered k call.next call.number answer acts ran going (asked (call_action call.next) answer is)
-answer_leaves (core.Session h job) answer acts ran going is = record { party = refl; core = λ on. job_answers job acts answer (ran going) (asked (jobs.action_of job) answer is); parks = λ parks. absurd cc }
+answer_leaves (core.Session h job) answer acts ran going is = record { party = refl; kind = kind_answered job answer; core = λ on. job_answers job acts answer (ran going) (asked (jobs.action_of job) answer is); parks = λ parks. absurd cc }
 
 -- ---- the tasks and the owners
 

@@ -22,6 +22,11 @@ pub job_answers : (job : SessionJob) (acts : List Act) (answer : Answer) → Job
 job_answers (job_of.Read p) acts answer r is = reads.answers p acts answer r is
 job_answers (job_of.Write p) acts answer r is = writes.answers p acts answer r is
 
+-- and of what kind it stays
+pub kind_answered : (job : SessionJob) (answer : Answer) → kind_of (job_after_answer job answer) ≡ kind_of job
+kind_answered (job_of.Read p) answer = refl
+kind_answered (job_of.Write p) answer = refl
+
 -- a job is at its first action only where no waker has to be called
 pub first_but_wake : (waking : Bool) (action : JobAction) → is_first (wake_first waking action) ≡ true → is_first action ≡ true
 first_but_wake true action is = absurd cc
