@@ -139,11 +139,13 @@ write_own write.Done p owner some = none owner.session
     none None = refl
     none (Some s) = refl
 
+-- so it is of a job of either kind
 worked_own : (job : SessionJob) (owner : Owner) → (is_asking (jobs.action_of job) ≡ false → is_over (jobs.action_of job) ≡ false → is_some (worked job owner) ≡ true)
     → is_some (worked job owner) ≡ is_job_action (next_in_turn GoesOn (jobs.action_of job))
 worked_own (job_of.Read p) owner some = read_own (read_next p.core) p owner some
 worked_own (job_of.Write p) owner some = write_own (write_next p.core) p owner some
 
+-- and so by where the job is in its turn
 session_some : (at : Stage) (h : ℕ) (p : SessionJob) (all : List Task) (row : List Owner) (owner : Owner) → (at ≡ stage.Runs → is_some (worked p owner) ≡ is_job_action (next_in_turn GoesOn (jobs.action_of p)))
     → is_some (session_done h p all row (Some owner) (session_step at p)) ≡ is_job_action (next_of at (core.Session h p))
 session_some stage.Runs h p all row owner works = by (worked p owner) ∙ works refl
