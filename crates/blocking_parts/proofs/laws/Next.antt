@@ -21,14 +21,14 @@ use Rattle.blocking_lanes.specs.Calls as calls
 use Rattle.blocking_lanes.specs.Calls.{RanAs}
 use Rattle.blocking_lanes.specs.OwnerSteps as owners
 use Rattle.blocking_lanes.specs.OwnerSteps.{act_of_work}
-use Rattle.blocking_lanes.specs.Owners.{Owner, Worked, read_as, read_in, worked, write_as, write_in}
+use Rattle.blocking_lanes.specs.Owners.{Owner, Worked, read_as, read_in, worked, worked_by, write_as, write_in}
 use Rattle.blocking_lanes.specs.Reads as reads
 use Rattle.blocking_lanes.specs.SessionJobs as jobs
 use Rattle.blocking_lanes.specs.SessionJobs.{JobAs}
 use Rattle.blocking_lanes.specs.Writes as writes
 use Rattle.blocking_lanes.specs.declared.job.SessionJob.{SessionJob}
 use Rattle.blocking_lanes.specs.declared.job.SessionJob.TheVariants as job_of
-use Rattle.blocking_lanes.specs.Sessions.{Session}
+use Rattle.blocking_lanes.specs.Sessions.{Session, work_by, writer_works}
 use Rattle.blocking_lanes.specs.Steps.{TaskStep}
 use Rattle.blocking_lanes.specs.Tasks.{Task}
 use Rattle.blocking_lanes.proofs.owners.Actions.{works_some}
@@ -97,6 +97,15 @@ call_some at k call all row task = by (call_step at call) ∙ call_own at k call
     by None = refl
     by (Some step) = refl
 
+-- what has no act at a session does nothing there
+read_none : (a : ReadAction) (last : Option Session) (p : reads.Progress) (owner : Owner) → ((s : Session) → work_by a p s ≡ None) → is_some (read_in a last p owner) ≡ false
+read_none a None p owner none = refl
+read_none a (Some s) p owner none = ap (λ o. is_some (worked_by job_of.Read o owner)) (none s)
+
+write_none : (a : WriteAction) (last : Option Session) (p : writes.Progress) (owner : Owner) → ((s : Session) → writer_works a p s ≡ None) → is_some (write_in a last p owner) ≡ false
+write_none a None p owner none = refl
+write_none a (Some s) p owner none = ap (λ o. is_some (worked_by job_of.Write o owner)) (none s)
+
 -- a job of a session does something exactly where that is its own to do: what asks its handle, or is over, doesn't
 read_own : (a : ReadAction) (p : reads.Progress) (owner : Owner) → (is_asking (reads.action_as p.piece a) ≡ false → is_over (reads.action_as p.piece a) ≡ false → is_some (read_as a p owner) ≡ true)
     → is_some (read_as a p owner) ≡ is_job_action (next_in_turn GoesOn (reads.action_as p.piece a))
@@ -105,16 +114,8 @@ read_own (read.Put count) p owner some = some refl refl
 read_own read.Close p owner some = some refl refl
 read_own read.Finish p owner some = some refl refl
 read_own read.Deliver p owner some = some refl refl
-read_own (read.Read most) p owner some = none owner.session
-  where
-    none : (last : Option Session) → is_some (read_in (read.Read most) last p owner) ≡ false
-    none None = refl
-    none (Some s) = refl
-read_own read.Done p owner some = none owner.session
-  where
-    none : (last : Option Session) → is_some (read_in read.Done last p owner) ≡ false
-    none None = refl
-    none (Some s) = refl
+read_own (read.Read most) p owner some = read_none (read.Read most) owner.session p owner (λ s. refl)
+read_own read.Done p owner some = read_none read.Done owner.session p owner (λ s. refl)
 
 write_own : (a : WriteAction) (p : writes.Progress) (owner : Owner) → (is_asking (writes.action_as p.piece a) ≡ false → is_over (writes.action_as p.piece a) ≡ false → is_some (write_as a p owner) ≡ true)
     → is_some (write_as a p owner) ≡ is_job_action (next_in_turn GoesOn (writes.action_as p.piece a))
@@ -123,27 +124,17 @@ write_own (write.Consume count) p owner some = some refl refl
 write_own write.Close p owner some = some refl refl
 write_own write.Finish p owner some = some refl refl
 write_own write.Deliver p owner some = some refl refl
-write_own (write.Write count) p owner some = none owner.session
-  where
-    none : (last : Option Session) → is_some (write_in (write.Write count) last p owner) ≡ false
-    none None = refl
-    none (Some s) = refl
-write_own write.Flush p owner some = none owner.session
-  where
-    none : (last : Option Session) → is_some (write_in write.Flush last p owner) ≡ false
-    none None = refl
-    none (Some s) = refl
-write_own write.Done p owner some = none owner.session
-  where
-    none : (last : Option Session) → is_some (write_in write.Done last p owner) ≡ false
-    none None = refl
-    none (Some s) = refl
+write_own (write.Write count) p owner some = write_none (write.Write count) owner.session p owner (λ s. refl)
+write_own write.Flush p owner some = write_none write.Flush owner.session p owner (λ s. refl)
+write_own write.Done p owner some = write_none write.Done owner.session p owner (λ s. refl)
 
+-- so it is of a job of either kind
 worked_own : (job : SessionJob) (owner : Owner) → (is_asking (jobs.action_of job) ≡ false → is_over (jobs.action_of job) ≡ false → is_some (worked job owner) ≡ true)
     → is_some (worked job owner) ≡ is_job_action (next_in_turn GoesOn (jobs.action_of job))
 worked_own (job_of.Read p) owner some = read_own (read_next p.core) p owner some
 worked_own (job_of.Write p) owner some = write_own (write_next p.core) p owner some
 
+-- and so by where the job is in its turn
 session_some : (at : Stage) (h : ℕ) (p : SessionJob) (all : List Task) (row : List Owner) (owner : Owner) → (at ≡ stage.Runs → is_some (worked p owner) ≡ is_job_action (next_in_turn GoesOn (jobs.action_of p)))
     → is_some (session_done h p all row (Some owner) (session_step at p)) ≡ is_job_action (next_of at (core.Session h p))
 session_some stage.Runs h p all row owner works = by (worked p owner) ∙ works refl

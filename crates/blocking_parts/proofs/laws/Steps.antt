@@ -29,7 +29,7 @@ use Rattle.blocking_laws.specs.Counts.{arrivals}
 use Rattle.blocking_laws.specs.Growth.{IsPlanned}
 use Rattle.blocking_laws.specs.Jobs.{holder, as_owner}
 use Rattle.blocking_laws.specs.Seen.{is_nothing, is_of_pool}
-use Rattle.blocking_laws.specs.Steps.{StepLaw, has_action, is_there, is_answered_action, is_turn_end, Happens, Fits, IsBegun, IsEndOf, IsOfTask, job_of, named, owners, party}
+use Rattle.blocking_laws.specs.Steps.{StepLaw, has_action, is_there, is_turn_end, Happens, Fits, IsBegun, IsEndOf, IsOfTask, job_of, named, owners, party}
 use Rattle.blocking_laws.specs.Steps as law
 use Rattle.blocking_laws.specs.Turns.{hand}
 use Rattle.blocking_laws.specs.declared.event.Act.{Act}

@@ -15,7 +15,6 @@ use Rattle.blocking_lanes.specs.Calls.{RanAs}
 use Rattle.blocking_lanes.specs.Reads.{has_waker}
 use Rattle.blocking_lanes.specs.SessionJobs.{JobAs, action_of, kind_of}
 use Rattle.blocking_lanes.specs.declared.job.SessionJob.{SessionJob}
-use Rattle.blocking_parts.proofs.ties.SessionJobs.{job_action_is, next_by}
 use Rattle.blocking_lanes.proofs.owners.Own.{last_is}
 use Rattle.blocking_laws.specs.Growth.{IsPlanned}
 use Rattle.blocking_laws.specs.JobTable.{Kind, Calling, Reading, Writing, JobAction, AskBytes, OfferBytes, AskFlush, Over, next_but_wake, next_after_answer, wake_first, is_over, has_finished, has_given_up}
@@ -40,6 +39,7 @@ use Rattle.blocking_parts.specs.declared.row.Core.{Core}
 use Rattle.blocking_parts.specs.declared.row.Core.TheVariants as core
 use Rattle.blocking_parts.proofs.ties.Jobs.{hand_job, job_place, next_here}
 use Rattle.blocking_parts.proofs.ties.Places.{IsOver}
+use Rattle.blocking_parts.proofs.ties.SessionJobs.{job_action_is, next_by}
 
 -- ---- a job that has nothing left to do
 
@@ -89,6 +89,7 @@ none_to_wake : (waker : Bool) (next : JobAction) → is_over (wake_first waker n
 none_to_wake true next is = absurd cc
 none_to_wake false next is = last_is next is
 
+-- the job of a session whose turn ends while it goes on is over
 session_over : (job : SessionJob) (acts : List Act) → is_turn_end (next_in_turn GoesOn (action_of job)) ≡ true → JobAs job acts → IsOver acts
 session_over job acts ends so =
     let next = job_action_is job acts so ∙ next_by (kind_of job) acts in

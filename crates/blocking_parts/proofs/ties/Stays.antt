@@ -9,7 +9,7 @@ use Rattle.blocking_crew.specs.declared.hand.Held.{Held}
 use Rattle.blocking_crew.specs.declared.tickets.Parking.{Parking}
 use Rattle.blocking_crew.specs.declared.tickets.Parking.TheVariants as parking
 use Rattle.blocking_lanes.specs.OwnerSteps as step
-use Rattle.blocking_lanes.specs.OwnerSteps.{OwnerStep, owner_after, owner_in, act_in}
+use Rattle.blocking_lanes.specs.OwnerSteps.{owner_in, act_in}
 use Rattle.blocking_lanes.specs.Owners.{Owner, number_of}
 use Rattle.blocking_lanes.specs.Tasks.{Task, task_after_call}
 use Rattle.blocking_pool.proofs.Places.{in_pushed}
