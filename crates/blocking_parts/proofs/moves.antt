@@ -1,4 +1,6 @@
 pub mod Found
+pub mod SessionActs
+pub mod Fills
 pub mod Asides
 pub mod Steps
 pub mod Jobs

@@ -1,8 +1,10 @@
 pub mod Jobs
+pub mod SessionJobs
 pub mod Told
 pub mod Said
 pub mod Hands
 pub mod Places
+pub mod Kinds
 pub mod Kept
 pub mod Numbers
 pub mod Ends

@@ -1,16 +1,16 @@
 -- The moves of a world: each step is one of them, which has at most one call of the crew and says what becomes of a row, a task and an
 -- owner.
-use Rattle.std.specs.Prelude.{◌≡◌, ℕ, ◌&&◌, Bool, true, false, ◌-◌, List, [], ◌∷◌, ◌++◌, length, slice_get, slice_set, Option, Some, None, is_some, Result, Ok, Err}
+use Rattle.std.specs.Prelude.{◌≡◌, ℕ, Bool, true, false, ◌-◌, List, [], ◌∷◌, ◌++◌, length, slice_get, slice_set, Option, Some, None, is_some, Result, Ok, Err}
 use Rattle.blocking_crew.specs.Moves as crew
 use Rattle.blocking_crew.specs.Moves.{next_start, nothing}
 use Rattle.blocking_crew.specs.declared.hand.Stage.TheVariants as stage
 use Rattle.blocking_lanes.specs.OwnerSteps as owners
-use Rattle.blocking_lanes.specs.Owners.{Owner, Did, did, new_owner, next_of, note_at, number_of, owner_after_delivery, rests}
+use Rattle.blocking_lanes.specs.Owners.{Owner, Did, did, may_ask, new_job_of, new_owner, next_of, note_at, number_of, owner_after_delivery, rests}
 use Rattle.blocking_lanes.specs.declared.owner.OwnerNext.{OwnerNext}
 use Rattle.blocking_lanes.specs.declared.owner.OwnerNext.TheVariants as next
 use Rattle.blocking_lanes.specs.Steps as tasks
 use Rattle.blocking_lanes.specs.Tasks.{Task, new_task, may_be, task_act}
-use Rattle.blocking_laws.specs.Steps.{named, is_known, is_answered_action, is_turn_end}
+use Rattle.blocking_laws.specs.Steps.{named, is_answered_action, is_turn_end}
 use Rattle.blocking_laws.specs.declared.event.Act.TheVariants.{Made, Asked, HolderDropped, Answered}
 use Rattle.blocking_laws.specs.declared.event.Event.{Event}
 use Rattle.blocking_laws.specs.declared.event.Party.TheVariants.{Owner as ByOwner, Task as ByTask, Pool}
@@ -24,7 +24,7 @@ use Rattle.blocking_laws.specs.declared.step.TaskCall.{TaskCall}
 use Rattle.blocking_laws.specs.declared.step.TaskCall.TheVariants.{Poll, Cancel, Detach, Drop}
 use Rattle.blocking_pool.specs.Jobs.{JobNumber}
 use Rattle.blocking_pool.specs.declared.pool.answer.Refusal.{Refusal}
-use Rattle.blocking_parts.specs.Rows.{Done, call_row, read_row, core_after_answer}
+use Rattle.blocking_parts.specs.Rows.{Done, call_row, session_row, core_after_answer}
 use Rattle.blocking_parts.specs.Parts.{Parts, InHand, row_of, owner_of, job_at, next_at, done_by, done_in, let_go_of, let_go_by}
 use Rattle.blocking_parts.specs.declared.row.Row.{Row}
 
@@ -141,7 +141,7 @@ lent_step (Err why) = owners.IsRefused why
 
 -- the rows after a move
 abbrev pub rows_after : Parts → Move → List Row
-rows_after w (Lends h owner added) = rows_after_add w.rows (λ number. read_row number h) added
+rows_after w (Lends h owner added) = rows_after_add w.rows (λ number. session_row number h (new_job_of owner)) added
 rows_after w (Begins added) = rows_after_add w.rows (λ number. call_row number (length w.tasks)) added
 rows_after w (Works v job done) = slice_set w.rows (job.held.turn.serial - 1) (record job.row { core = done.core })
 rows_after w (IsAnswered v job answer) = slice_set w.rows (job.held.turn.serial - 1) (record job.row { core = core_after_answer answer job.row.core })
@@ -177,6 +177,11 @@ abbrev pub rests_in : Option Owner → Bool
 rests_in None = false
 rests_in (Some owner) = rests owner
 
+-- whether an owner is there and may be asked for this
+abbrev pub may_ask_in : Option Owner → HandleCall → Bool
+may_ask_in None call = false
+may_ask_in (Some owner) call = may_ask owner call
+
 -- whether a poll of an owner has something to do; one that looks for a handle that its job gave up finds nothing, ever
 abbrev pub may_own : OwnerNext → Option Did → Bool
 may_own next.Begins finds = true
@@ -192,7 +197,7 @@ may_own_in (Some owner) = may_own (next_of owner) (did owner)
 -- Whether a step has an action.
 abbrev pub has_action_in : Parts → Step → Bool
 has_action_in w (New capacity) = true
-has_action_in w (Ask h call) = is_known call && rests_in (slice_get w.owners h)
+has_action_in w (Ask h call) = may_ask_in (slice_get w.owners h) call
 has_action_in w (Own h) = may_own_in (slice_get w.owners h)
 has_action_in w (DropOwner h) = rests_in (slice_get w.owners h)
 has_action_in w Spawn = true
@@ -234,7 +239,7 @@ IsThere w h owner = slice_get w.owners h ≡ Some owner
 abbrev pub May : Parts → Move → Type 0
 May w (Idles step) = has_action_in w step ≡ false
 May w (Makes capacity) = Unit {0}
-May w (Asks h call owner) = IsThere w h owner × (rests owner ≡ true) × (is_known call ≡ true)
+May w (Asks h call owner) = IsThere w h owner × (may_ask owner call ≡ true)
 May w (Owns h owner done) = IsThere w h owner × (did owner ≡ Some done)
 May w (Lends h owner added) = IsThere w h owner × (next_of owner ≡ next.Begins)
 May w (Delivers h owner number) = IsThere w h owner × (note_at owner.stage ≡ Some number)

@@ -101,7 +101,7 @@ owner_let_go (Some owner) = is_gone owner.stage
 -- whether the task or the owner of a job is there, and has let go of it
 abbrev pub let_go_of : Parts → Core → Bool
 let_go_of w (core.Call k call) = task_let_go (slice_get w.tasks k)
-let_go_of w (core.Read h read) = owner_let_go (slice_get w.owners h)
+let_go_of w (core.Session h job) = owner_let_go (slice_get w.owners h)
 
 -- the same, where there is such a job
 abbrev pub let_go_by : Parts → Option Row → Bool

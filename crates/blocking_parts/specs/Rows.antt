@@ -8,11 +8,12 @@ use Rattle.blocking_lanes.specs.Calls as calls
 use Rattle.blocking_lanes.specs.OwnerSteps as owners
 use Rattle.blocking_lanes.specs.OwnerSteps.{OwnerStep}
 use Rattle.blocking_lanes.specs.Owners.{Owner, worked}
-use Rattle.blocking_lanes.specs.Reads as reads
+use Rattle.blocking_lanes.specs.SessionJobs as jobs
+use Rattle.blocking_lanes.specs.declared.job.SessionJob.{SessionJob}
 use Rattle.blocking_lanes.specs.Steps as tasks
 use Rattle.blocking_lanes.specs.Steps.{TaskStep}
 use Rattle.blocking_lanes.specs.Tasks.{Task, finish_wakes}
-use Rattle.blocking_laws.specs.JobTable.{JobAction, Kind, Calling, Reading, AskCall, Finish, FindRoom, WakeHolder, Over}
+use Rattle.blocking_laws.specs.JobTable.{JobAction, Kind, Calling, AskCall, Finish, FindRoom, Peek, WakeHolder, Over}
 use Rattle.blocking_laws.specs.Steps.{WorkerAction, Does, GivesUp, EndsTurn, next_in_turn}
 use Rattle.blocking_laws.specs.Turns.{GoesOn}
 use Rattle.blocking_laws.specs.declared.event.Act.{Act}
@@ -30,25 +31,25 @@ use Rattle.blocking_parts.specs.declared.row.Row.{Row}
 -- the holder, in the words of the laws
 abbrev pub party_of : Core → Party
 party_of (core.Call k call) = ByTask k
-party_of (core.Read h read) = ByOwner h
+party_of (core.Session h job) = ByOwner h
 
 -- the owner whose job it is: a call's is of none
 abbrev pub owner_in : Core → Option ℕ
 owner_in (core.Call k call) = None
-owner_in (core.Read h read) = Some h
+owner_in (core.Session h job) = Some h
 
 -- the kind of a job
 abbrev pub kind_of : Core → Kind
 kind_of (core.Call k call) = Calling
-kind_of (core.Read h read) = Reading
+kind_of (core.Session h job) = jobs.kind_of job
 
 -- the row of the job of a new call, and of a session that begins
 abbrev pub call_row : JobNumber → ℕ → Row
 call_row number k = record { number = number; core = core.Call k calls.not_begun }
 
--- (of a session of owner h)
-abbrev pub read_row : JobNumber → ℕ → Row
-read_row number h = record { number = number; core = core.Read h reads.not_begun }
+-- (of a session of owner h, with this job)
+abbrev pub session_row : JobNumber → ℕ → SessionJob → Row
+session_row number h job = record { number = number; core = core.Session h job }
 
 -- ---- what comes next
 
@@ -62,7 +63,7 @@ call_action action.Done = Over
 -- the next action of a job
 abbrev pub action_of : Core → JobAction
 action_of (core.Call k call) = call_action call.next
-action_of (core.Read h read) = reads.action_of read
+action_of (core.Session h job) = jobs.action_of job
 
 -- the next action of a worker, by where its job is in its turn
 abbrev pub next_of : Stage → Core → WorkerAction
@@ -76,6 +77,7 @@ next_of stage.GaveUp core = EndsTurn
 abbrev pub is_first : JobAction → Bool
 is_first AskCall = true
 is_first FindRoom = true
+is_first Peek = true
 is_first _ = false
 
 -- whether a core hasn't begun: its next action is the first of its kind
@@ -110,20 +112,20 @@ call_after (tasks.Finishes n) at task call = calls.progress_after_finish call (f
 call_after tasks.GivesUp at task call = call
 call_after tasks.CallsWaker at task call = call_after_wake at call
 
--- ---- the job of a reader acts
+-- ---- the job of a session acts
 
 -- the step of its owner that its next action is, where that is the job's own
-abbrev pub read_step : Stage → reads.Progress → Option OwnerStep
-read_step stage.Runs read = Some (owners.Works read)
-read_step stage.MustGiveUp read = Some owners.GivesUp
-read_step stage.MustWake read = Some owners.CallsWaker
-read_step _ read = None
+abbrev pub session_step : Stage → SessionJob → Option OwnerStep
+session_step stage.Runs job = Some (owners.Works job)
+session_step stage.MustGiveUp job = Some owners.GivesUp
+session_step stage.MustWake job = Some owners.CallsWaker
+session_step _ job = None
 
 -- how far the job is after a step of its owner
-abbrev pub read_after : OwnerStep → Owner → reads.Progress → reads.Progress
-read_after (owners.Works job) owner read = owners.job_after_work (worked job owner) read
-read_after (owners.IsAnswered job answer) owner read = reads.progress_after_answer read answer
-read_after step owner read = read
+abbrev pub job_after : OwnerStep → Owner → SessionJob → SessionJob
+job_after (owners.Works it) owner job = owners.job_after_work (worked it owner) job
+job_after (owners.IsAnswered it answer) owner job = jobs.job_after_answer job answer
+job_after step owner job = job
 
 -- ---- what that leaves
 
@@ -144,25 +146,25 @@ call_done k call at all rows (Some task) (Some step) = Some (record {
 })
 call_done k call at all rows _ _ = None
 
--- the act of a reader's job, where its owner is there, and has that to be seen
-abbrev pub read_seen : ℕ → reads.Progress → List Task → List Owner → Owner → OwnerStep → Option Act → Option Done
-read_seen h read all rows owner step None = None
-read_seen h read all rows owner step (Some act) = Some (record {
+-- the act of a session's job, where its owner is there, and has that to be seen
+abbrev pub session_seen : ℕ → SessionJob → List Task → List Owner → Owner → OwnerStep → Option Act → Option Done
+session_seen h job all rows owner step None = None
+session_seen h job all rows owner step (Some act) = Some (record {
   act = act;
-  core = core.Read h (read_after step owner read);
+  core = core.Session h (job_after step owner job);
   tasks = all;
   owners = slice_set rows h (owners.owner_after step owner);
 })
 
 -- what the job of owner h does, where that owner is there and its next action is one of its session
-abbrev pub read_done : ℕ → reads.Progress → List Task → List Owner → Option Owner → Option OwnerStep → Option Done
-read_done h read all rows (Some owner) (Some step) = read_seen h read all rows owner step (owners.act_of step owner)
-read_done h read all rows _ _ = None
+abbrev pub session_done : ℕ → SessionJob → List Task → List Owner → Option Owner → Option OwnerStep → Option Done
+session_done h job all rows (Some owner) (Some step) = session_seen h job all rows owner step (owners.act_of step owner)
+session_done h job all rows _ _ = None
 
 -- What a job does next that is its own to do.
 abbrev pub done : Stage → Core → List Task → List Owner → Option Done
 done at (core.Call k call) all rows = call_done k call at all rows (slice_get all k) (call_step at call)
-done at (core.Read h read) all rows = read_done h read all rows (slice_get rows h) (read_step at read)
+done at (core.Session h job) all rows = session_done h job all rows (slice_get rows h) (session_step at job)
 
 -- the answer of a call by which a job may act, and what it leaves: where it has no such act nothing changes
 abbrev pub IsDone : Option Done → Core → List Task → List Owner → Option Act → Core → List Task → List Owner → Type 0
@@ -178,7 +180,7 @@ call_answered _ call = call
 -- (of any kind)
 abbrev pub core_after_answer : Answer → Core → Core
 core_after_answer answer (core.Call k call) = core.Call k (call_answered answer call)
-core_after_answer answer (core.Read h read) = core.Read h (reads.progress_after_answer read answer)
+core_after_answer answer (core.Session h job) = core.Session h (jobs.job_after_answer job answer)
 
 -- ---- one act, at its task or its owner alone
 
@@ -188,8 +190,8 @@ IsActed None at call task seen new_call new_task = (seen ≡ None) × (new_call 
 IsActed (Some step) at call task seen new_call new_task =
     (seen ≡ Some (tasks.act_of step task)) × (new_call ≡ call_after step at task call) × (new_task ≡ tasks.task_after step task)
 
--- the same of a reader's job and its owner
-abbrev pub IsRead : Option OwnerStep → reads.Progress → Owner → Option Act → reads.Progress → Owner → Type 0
-IsRead None read owner seen new_read new_owner = (seen ≡ None) × (new_read ≡ read) × (new_owner ≡ owner)
-IsRead (Some step) read owner seen new_read new_owner =
-    (seen ≡ owners.act_of step owner) × (new_read ≡ read_after step owner read) × (new_owner ≡ owners.owner_after step owner)
+-- the same of a session's job and its owner
+abbrev pub IsActedFor : Option OwnerStep → SessionJob → Owner → Option Act → SessionJob → Owner → Type 0
+IsActedFor None job owner seen new_job new_owner = (seen ≡ None) × (new_job ≡ job) × (new_owner ≡ owner)
+IsActedFor (Some step) job owner seen new_job new_owner =
+    (seen ≡ owners.act_of step owner) × (new_job ≡ job_after step owner job) × (new_owner ≡ owners.owner_after step owner)

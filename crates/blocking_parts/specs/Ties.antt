@@ -9,7 +9,7 @@ use Rattle.blocking_crew.specs.declared.hand.Stage.TheVariants as stage
 use Rattle.blocking_lanes.specs.Calls.{RanAs}
 use Rattle.blocking_lanes.specs.OwnerTies.{Owned}
 use Rattle.blocking_lanes.specs.Owners.{Owner, note_at, number_of}
-use Rattle.blocking_lanes.specs.Reads.{ReadAs}
+use Rattle.blocking_lanes.specs.SessionJobs.{JobAs}
 use Rattle.blocking_lanes.specs.Sessions.{Session}
 use Rattle.blocking_lanes.specs.Tasks.{Task}
 use Rattle.blocking_lanes.specs.Ties.{Tasked}
@@ -17,7 +17,7 @@ use Rattle.blocking_laws.specs.JobTable.{Kind, WakeHolder, Over, next_of_job, ne
 use Rattle.blocking_laws.specs.Jobs.{accepted_jobs, holder, standing, is_parked, is_running, is_woken, is_to_drop, is_marked, has_ended}
 use Rattle.blocking_laws.specs.Legal.{Legal}
 use Rattle.blocking_laws.specs.Seen.{events, acts_of, is_this}
-use Rattle.blocking_laws.specs.Steps.{may_cancel}
+use Rattle.blocking_laws.specs.Steps.{may_cancel, kind_by}
 use Rattle.blocking_laws.specs.Turns.{Turn, GoesOn, IsWaiting, MustGiveUp, HasGivenUp, turn}
 use Rattle.blocking_laws.specs.declared.event.Act.{Act}
 use Rattle.blocking_laws.specs.declared.event.Event.{Event}
@@ -27,7 +27,7 @@ use Rattle.blocking_laws.specs.declared.step.Step.{Step}
 use Rattle.blocking_pool.specs.Jobs.{JobNumber}
 use Rattle.blocking_pool.specs.declared.pool.standing.Standing.{Standing}
 use Rattle.blocking_pool.specs.declared.pool.standing.Standing.TheVariants.{Queued, Running, Parked, Done, Dropped}
-use Rattle.blocking_parts.specs.Rows.{party_of, is_at_first}
+use Rattle.blocking_parts.specs.Rows.{kind_of, party_of, is_at_first}
 use Rattle.blocking_parts.specs.Parts.{Parts, row_of, owner_of}
 use Rattle.blocking_parts.specs.declared.row.Core.{Core}
 use Rattle.blocking_parts.specs.declared.row.Core.TheVariants as core
@@ -38,7 +38,7 @@ use Rattle.blocking_parts.specs.declared.row.Row.{Row}
 -- A job that hasn't given up is as far as its core says.
 abbrev pub CoreAs : Core → List Act → Type 0
 CoreAs (core.Call k call) acts = has_given_up acts ≡ false → RanAs call.next call.number acts
-CoreAs (core.Read h read) acts = has_given_up acts ≡ false → ReadAs read acts
+CoreAs (core.Session h job) acts = has_given_up acts ≡ false → JobAs job acts
 
 -- What a job has done, by how it stands and where it is in its turn: one that is queued or parked, that waits, or that has to give up, is at
 -- its first action and hasn't given up; one whose turn goes on hasn't given up; and one that is over has put its result or given up.
@@ -58,6 +58,7 @@ pub record RowAs (w : Parts) (past : List Moment) (s : ℕ) (row : Row) : Type 0
   pub serial : row.number.serial ≡ s
   pub number : IsNumberOf w.crew.pool row.number
   pub held_by : holder past s ≡ Some (party_of row.core)
+  pub kind_is : kind_by (holder past s) past s ≡ kind_of row.core
   pub core : CoreAs row.core (acts_of s (events past))
   pub place : PlaceAs (standing past s) (turn past s) (is_at_first row.core) (acts_of s (events past))
 

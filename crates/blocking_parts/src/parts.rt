@@ -46,10 +46,10 @@ impl Parts {
     ghost use Rattle.blocking_crew.specs.Moves.{NeverAsked};
     ghost use Rattle.blocking_lanes.specs.Owners.{next_of};
     ghost use Rattle.blocking_parts.specs.Parts.{row_of, owner_of, job_at, places_of, next_at, let_go_of};
-    ghost use Rattle.blocking_parts.specs.Carried.{bytes_to_come, polls_in};
-    ghost use Rattle.blocking_parts.specs.Moves.{Moves, Steps, may_call_in, rests_in, wait_step};
+    ghost use Rattle.blocking_parts.specs.Carried.{bytes_to_come, front_for, polls_in};
+    ghost use Rattle.blocking_parts.specs.Moves.{Moves, Steps, may_ask_in, may_call_in, rests_in, wait_step};
     ghost use Rattle.blocking_lanes.specs.declared.owner.OwnerNext.TheVariants as next;
-    ghost use Rattle.blocking_laws.specs.Steps.{is_job_action, is_known};
+    ghost use Rattle.blocking_laws.specs.Steps.{is_job_action};
     ghost use Rattle.blocking_laws.specs.declared.step.Step.TheVariants as step;
 
     /// The parts of a new world. Takes no memory.
@@ -90,14 +90,14 @@ impl Parts {
     {
         match step {
             Step::New(capacity) => self.make(capacity),
-            Step::Ask(owner, call) => Ok(self.ask(owner, call)),
+            Step::Ask(owner, call) => self.ask(owner, call),
             Step::Own(owner) => self.own(owner, starter),
             Step::DropOwner(owner) => Ok(self.drop_owner(owner)),
             Step::Spawn => self.spawn(starter),
             Step::OfTask(number, call) => Ok(self.of_task(number, call)),
             Step::Arrive => self.arrive(),
             Step::Take(worker) => Ok(self.take(worker, starter)),
-            Step::Job(worker) => Ok(self.job(worker)),
+            Step::Job(worker) => self.job(worker),
             Step::Io(worker, answer) => self.io(worker, answer),
             Step::End(worker) => Ok(self.end(worker)),
             Step::Wait(worker) => Ok(self.wait(worker, WaitEnd::Woken, starter)),
@@ -146,23 +146,28 @@ impl Parts {
         }
     }
 
-    // Whether this owner may be asked for this: it is there and rests, and owners are asked for that.
+    // Whether this owner is there and may be asked for this.
     fn may_ask(&self, place: usize, call: &HandleCall) -> bool
-        ensures { result ≡ (is_known call.now && rests_in (slice_get self.now.owners place)) }
+        ensures { result ≡ may_ask_in (slice_get self.now.owners place) call.now }
     {
-        call.is_known() && self.rests(place)
+        match self.owners.get(place) {
+            Some(owner) => owner.may_ask(call),
+            None => false,
+        }
     }
 
-    // A poll of this owner begins, and asks for this.
-    fn ask(&mut self, place: usize, call: HandleCall) -> Event
-        ensures { Moves NeverAsked (step.Ask place call) self.old result self.new }
+    // A poll of this owner begins, and asks for this. The event bears a copy of the call, whose memory is had first.
+    fn ask(&mut self, place: usize, call: HandleCall) -> Result<Event, AllocError>
+        ensures ok { IfOk result (λ e. Moves NeverAsked (step.Ask place call) self.old e self.new) }
+        ensures err { OnErr result (self.new ≡ self.old) }
     {
         let party = Party::Owner(place);
         if !self.may_ask(place, &call) {
-            return self.crew.nothing(party);
+            return Ok(self.crew.nothing(party));
         }
-        self.owners[place].ask(&call);
-        self.crew.tell(party, Act::Asked(call))
+        let told = call.try_clone()?;
+        self.owners[place].ask(call);
+        Ok(self.crew.tell(party, Act::Asked(told)))
     }
 
     // The poll of this owner takes its next action.
@@ -198,8 +203,9 @@ impl Parts {
         let owner = &mut self.owners[place];
         match added.number {
             Ok(number) => {
+                let job = owner.new_job(self.alloc);
                 owner.begin(number, pipe);
-                put(&mut self.rows, Row::of_read(self.alloc, number, place));
+                put(&mut self.rows, Row::of_session(number, place, job));
             }
             Err(why) => owner.refuse(why),
         }
@@ -343,19 +349,20 @@ impl Parts {
         })
     }
 
-    // The job of a worker takes its next action, where that is its own to take.
-    fn job(&mut self, worker: usize) -> Event
-        ensures { Moves NeverAsked (step.Job worker) self.old result self.new }
+    // The job of a worker takes its next action, where that is its own to take. The memory for the bytes that it finds is had first.
+    fn job(&mut self, worker: usize) -> Result<Event, AllocError>
+        ensures ok { IfOk result (λ e. Moves NeverAsked (step.Job worker) self.old e self.new) }
+        ensures err { OnErr result (self.new ≡ self.old) }
     {
         let party = Party::Worker(worker);
         let Some(job) = self.job_at(worker) else {
-            return self.crew.nothing(party);
+            return Ok(self.crew.nothing(party));
         };
         let core = &mut self.rows[job.row].core;
-        let Some(act) = core.act(&mut self.tasks, &mut self.owners, job.stage) else {
-            return self.crew.nothing(party);
-        };
-        self.crew.work(worker, act)
+        match core.act(self.alloc, &mut self.tasks, &mut self.owners, job.stage)? {
+            Some(act) => Ok(self.crew.work(worker, act)),
+            None => Ok(self.crew.nothing(party)),
+        }
     }
 
     // What the job of a worker asked for is answered. The event bears a copy of the answer, whose memory is had first.
@@ -436,7 +443,7 @@ impl Parts {
                 Some(task) => task.has_let_go(),
                 None => false,
             },
-            Core::Read(owner, _) => match self.owners.get(*owner) {
+            Core::Session(owner, _) => match self.owners.get(*owner) {
                 Some(owner) => owner.is_dropped(),
                 None => false,
             },
@@ -464,13 +471,31 @@ impl Parts {
         &self.crew
     }
 
+    // How many bytes a job finds at the front of its pipe at most.
+    fn front_for(&self, core: &Core) -> usize
+        ensures { result ≡ front_for self.now core.now }
+    {
+        let Some(place) = core.owner() else {
+            return 0;
+        };
+        match self.owners.get(place) {
+            Some(owner) => owner.front(),
+            None => 0,
+        }
+    }
+
     /// How many bytes the event of this step carries at most.
     pub fn bytes_to_come(&self, step: &Step) -> usize
         ensures { result ≡ bytes_to_come self.now step.now }
     {
         match step {
+            Step::Ask(_, HandleCall::Write(bytes)) => bytes.as_slice().len(),
             Step::Own(place) => match self.owners.get(*place) {
                 Some(owner) => bytes_in(owner.next()),
+                None => 0,
+            },
+            Step::Job(worker) => match self.job_at(*worker) {
+                Some(job) => self.front_for(&self.rows[job.row].core),
                 None => 0,
             },
             Step::Io(_, Answer::Gave(bytes)) => bytes.as_slice().len(),

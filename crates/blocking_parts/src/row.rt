@@ -1,23 +1,23 @@
 //! What the jobs of a world are for.
-ghost use Rattle.std.specs.Prelude.{◌≡◌};
-ghost use Rattle.blocking_parts.specs.Rows.{IsActed, IsRead, call_step, read_step};
+ghost use Rattle.std.specs.Prelude.{◌≡◌, IfOk, OnErr};
+ghost use Rattle.blocking_parts.specs.Rows.{IsActed, IsActedFor, call_step, session_step};
 
-use blocking_core::job::{Action, ReadAction};
+use blocking_core::job::Action;
 use blocking_core::pool::JobNo;
 use blocking_crew::Stage;
-use blocking_lanes::{CallProgress, Owner, ReadProgress, Task};
+use blocking_lanes::{CallProgress, Owner, SessionJob, Task};
 use blocking_laws::Act;
 use blocking_laws::event::HolderWaker;
 use blocking_laws::step::Answer;
-use std::alloc::Global;
+use std::alloc::{AllocError, Global};
 
 /// Whom a job is for, and how far it is.
 #[derive(Drop)]
 pub(crate) enum Core {
     /// It makes the call of the task of this number.
     Call(usize, CallProgress),
-    /// It reads ahead for the owner of this number.
-    Read(usize, ReadProgress),
+    /// It works for the owner of this number, in a session.
+    Session(usize, SessionJob),
 }
 
 /// What a job is for.
@@ -31,7 +31,7 @@ pub(crate) struct Row {
 
 impl Row {
     ghost use Rattle.blocking_laws.specs.Steps.{is_job_action, is_answered_action, is_turn_end};
-    ghost use Rattle.blocking_parts.specs.Rows.{call_row, read_row, next_of};
+    ghost use Rattle.blocking_parts.specs.Rows.{call_row, session_row, next_of};
 
     /// The row of the job of a new call, which this task holds.
     pub(crate) fn of_call(number: JobNo, task: usize) -> Row
@@ -43,13 +43,13 @@ impl Row {
         }
     }
 
-    /// The row of the job of a session, which this owner began. Takes no memory.
-    pub(crate) fn of_read(alloc: Global, number: JobNo, owner: usize) -> Row
-        ensures { result ≡ read_row number owner }
+    /// The row of the job of a session, which this owner began.
+    pub(crate) fn of_session(number: JobNo, owner: usize, job: SessionJob) -> Row
+        ensures { result ≡ session_row number owner job }
     {
         Row {
             number,
-            core: Core::Read(owner, ReadProgress::new(alloc)),
+            core: Core::Session(owner, job),
         }
     }
 
@@ -62,9 +62,7 @@ impl Row {
             Stage::GaveUp | Stage::Waits => false,
             Stage::Runs => match &self.core {
                 Core::Call(_, call) => matches!(call.next(), Action::Finish | Action::Deliver),
-                Core::Read(_, read) => {
-                    !matches!(read.next(), ReadAction::Read(_) | ReadAction::Done)
-                }
+                Core::Session(_, job) => !job.is_asking() && !job.is_over(),
             },
         }
     }
@@ -80,7 +78,7 @@ impl Row {
             Core::Call(_, call) => {
                 matches!(call.next(), Action::Call) && matches!(answer, Answer::Number(_))
             }
-            Core::Read(_, read) => read.may_be_answered(answer),
+            Core::Session(_, job) => job.may_be_answered(answer),
         }
     }
 
@@ -93,7 +91,7 @@ impl Row {
             Stage::GaveUp | Stage::Waits => true,
             Stage::Runs => match &self.core {
                 Core::Call(_, call) => matches!(call.next(), Action::Done),
-                Core::Read(_, read) => matches!(read.next(), ReadAction::Done),
+                Core::Session(_, job) => job.is_over(),
             },
         }
     }
@@ -108,32 +106,35 @@ impl Core {
     {
         match self {
             Core::Call(_, _) => None,
-            Core::Read(owner, _) => Some(*owner),
+            Core::Session(owner, _) => Some(*owner),
         }
     }
 
     /// The job takes its next action, where that is its own to take: what is seen of it. None, and no change, where it isn't, or where
-    /// the task or the owner isn't there.
+    /// the task or the owner isn't there. Err, and no change, where there is no memory for the bytes that it finds.
     pub(crate) fn act(
         &mut self,
+        alloc: Global,
         tasks: &mut [Task],
         owners: &mut [Owner],
         stage: Stage,
-    ) -> Option<Act>
-        ensures { IsDone (done stage self.old tasks.old owners.old) self.old tasks.old owners.old result self.new tasks.new owners.new }
+    ) -> Result<Option<Act>, AllocError>
+        ensures ok { IfOk result
+            (λ seen. IsDone (done stage self.old tasks.old owners.old) self.old tasks.old owners.old seen self.new tasks.new owners.new) }
+        ensures err { OnErr result ((self.new ≡ self.old) × (tasks.new ≡ tasks.old) × (owners.new ≡ owners.old)) }
     {
         match self {
             Core::Call(place, call) => {
                 if *place >= tasks.len() {
-                    return None;
+                    return Ok(None);
                 }
-                act_for_task(call, &mut tasks[*place], stage)
+                Ok(act_for_task(call, &mut tasks[*place], stage))
             }
-            Core::Read(place, read) => {
+            Core::Session(place, job) => {
                 if *place >= owners.len() {
-                    return None;
+                    return Ok(None);
                 }
-                act_for_owner(read, &mut owners[*place], stage)
+                act_for_owner(alloc, job, &mut owners[*place], stage)
             }
         }
     }
@@ -148,7 +149,7 @@ impl Core {
                     call.answer(number);
                 }
             }
-            Core::Read(_, read) => read.answer(answer),
+            Core::Session(_, job) => job.answer(answer),
         }
     }
 }
@@ -176,14 +177,20 @@ fn act_for_task(call: &mut CallProgress, task: &mut Task, stage: Stage) -> Optio
     }
 }
 
-// The job of a reader takes its next action at its owner.
-fn act_for_owner(read: &mut ReadProgress, owner: &mut Owner, stage: Stage) -> Option<Act>
-    ensures { IsRead (read_step stage read.old) read.old owner.old result read.new owner.new }
+// The job of a session takes its next action at its owner.
+fn act_for_owner(
+    alloc: Global,
+    job: &mut SessionJob,
+    owner: &mut Owner,
+    stage: Stage,
+) -> Result<Option<Act>, AllocError>
+    ensures ok { IfOk result (λ seen. IsActedFor (session_step stage job.old) job.old owner.old seen job.new owner.new) }
+    ensures err { OnErr result ((job.new ≡ job.old) × (owner.new ≡ owner.old)) }
 {
     match stage {
-        Stage::Waits | Stage::GaveUp => None,
-        Stage::MustGiveUp => Some(owner.give_up()),
-        Stage::MustWake => Some(Act::HolderWoken),
-        Stage::Runs => owner.work(read),
+        Stage::Waits | Stage::GaveUp => Ok(None),
+        Stage::MustGiveUp => Ok(Some(owner.give_up())),
+        Stage::MustWake => Ok(Some(Act::HolderWoken)),
+        Stage::Runs => owner.work(alloc, job),
     }
 }

@@ -23,7 +23,7 @@ use Rattle.blocking_laws.specs.Jobs.{tasks, holder, standing}
 use Rattle.blocking_laws.specs.Seen.{events, acts_of_owner, acts_of_task, own, cut, task_cut}
 use Rattle.blocking_laws.specs.Sessions.{is_poll_over, under_way}
 use Rattle.blocking_laws.specs.Sessions as sessions
-use Rattle.blocking_laws.specs.Steps.{has_action, is_known, is_there, is_answered_action, is_job_action, is_for_cancelled, is_turn_end, may_call, may_cancel}
+use Rattle.blocking_laws.specs.Steps.{has_action, is_there, is_answered_action, is_job_action, is_for_cancelled, is_turn_end, may_call, may_cancel}
 use Rattle.blocking_laws.specs.TaskLaws.{is_gone, was_cancelled}
 use Rattle.blocking_laws.specs.Turns.{hand}
 use Rattle.blocking_laws.specs.declared.event.Event.{Event}
@@ -34,7 +34,7 @@ use Rattle.blocking_laws.specs.declared.step.Step.{Step}
 use Rattle.blocking_laws.specs.declared.step.Step.TheVariants.{New, Ask, Own, DropOwner, Spawn, OfTask, Arrive, Take, Job, Io, End, Wait, Late, SetLimit, Sweep, Stray, Strike}
 use Rattle.blocking_laws.specs.declared.step.TaskCall.{TaskCall}
 use Rattle.blocking_laws.specs.declared.step.TaskCall.TheVariants.{Poll, Cancel, Detach, Drop}
-use Rattle.blocking_parts.specs.Moves.{has_action_in, may_call_in, may_own, may_own_in, rests_in}
+use Rattle.blocking_parts.specs.Moves.{has_action_in, may_ask_in, may_call_in, may_own, may_own_in, rests_in}
 use Rattle.blocking_parts.specs.Parts.{Parts, row_of, let_go_by}
 use Rattle.blocking_parts.specs.Ties.{Tied}
 use Rattle.blocking_parts.specs.declared.row.Row.{Row}
@@ -100,7 +100,7 @@ module _ (setting : ℕ) (plan : List Bool) (w : Parts) (past : List Moment) (t 
   asks_by h None found = sym (ap (λ l. sessions.rests (own l)) (unseen setting plan w past t h found))
   asks_by h (Some owner) found = sym (rests_is owner (cut h (events past)) (owner_tie setting plan w past t h owner found))
 
-  asked_by : (h : ℕ) (call : HandleCall) (found : Option Owner) → slice_get w.owners h ≡ found → rests_in found ≡ sessions.may_ask (acts_of_owner h (events past)) call
+  asked_by : (h : ℕ) (call : HandleCall) (found : Option Owner) → slice_get w.owners h ≡ found → may_ask_in found call ≡ sessions.may_ask (acts_of_owner h (events past)) call
   asked_by h call None found = sym (ap (λ l. sessions.may_ask (own l) call) (unseen setting plan w past t h found))
   asked_by h call (Some owner) found = sym (may_ask_is owner (cut h (events past)) call (owner_tie setting plan w past t h owner found))
 
@@ -139,7 +139,7 @@ module _ (setting : ℕ) (plan : List Bool) (w : Parts) (past : List Moment) (t 
   -- A step has an action in the parts exactly where it has one by what was seen.
   pub has_is : (step : Step) → has_action_in w step ≡ has_action past step
   has_is (New capacity) = refl
-  has_is (Ask h call) = ap (λ b. is_known call && b) (asked_by h call (slice_get w.owners h) refl)
+  has_is (Ask h call) = asked_by h call (slice_get w.owners h) refl
   has_is (Own h) = owns_by h (slice_get w.owners h) refl
   has_is (DropOwner h) = asks_by h (slice_get w.owners h) refl
   has_is Spawn = refl

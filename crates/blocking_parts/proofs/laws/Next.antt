@@ -7,6 +7,9 @@ use Rattle.blocking_core.specs.declared.job.Action.{Action}
 use Rattle.blocking_core.specs.declared.job.Action.TheVariants as action
 use Rattle.blocking_core.specs.declared.job.read.ReadAction.{ReadAction}
 use Rattle.blocking_core.specs.declared.job.read.ReadAction.TheVariants as read
+use Rattle.blocking_core.specs.declared.job.write.WriteAction.{WriteAction}
+use Rattle.blocking_core.specs.declared.job.write.WriteAction.TheVariants as write
+use Rattle.blocking_core.specs.Writing.{write_next}
 use Rattle.blocking_crew.specs.Crews.{hand_at}
 use Rattle.blocking_crew.specs.Ties.{HandAs, turn_of}
 use Rattle.blocking_crew.specs.declared.hand.Hand.{Hand}
@@ -18,13 +21,18 @@ use Rattle.blocking_lanes.specs.Calls as calls
 use Rattle.blocking_lanes.specs.Calls.{RanAs}
 use Rattle.blocking_lanes.specs.OwnerSteps as owners
 use Rattle.blocking_lanes.specs.OwnerSteps.{act_of_work}
-use Rattle.blocking_lanes.specs.Owners.{Owner, Worked, worked, worked_as, worked_by, worked_in}
+use Rattle.blocking_lanes.specs.Owners.{Owner, Worked, read_as, read_in, worked, write_as, write_in}
 use Rattle.blocking_lanes.specs.Reads as reads
-use Rattle.blocking_lanes.specs.Sessions.{Session, work_by}
+use Rattle.blocking_lanes.specs.SessionJobs as jobs
+use Rattle.blocking_lanes.specs.SessionJobs.{JobAs}
+use Rattle.blocking_lanes.specs.Writes as writes
+use Rattle.blocking_lanes.specs.declared.job.SessionJob.{SessionJob}
+use Rattle.blocking_lanes.specs.declared.job.SessionJob.TheVariants as job_of
+use Rattle.blocking_lanes.specs.Sessions.{Session}
 use Rattle.blocking_lanes.specs.Steps.{TaskStep}
 use Rattle.blocking_lanes.specs.Tasks.{Task}
 use Rattle.blocking_lanes.proofs.owners.Actions.{works_some}
-use Rattle.blocking_lanes.proofs.owners.Reads.{action_is}
+use Rattle.blocking_parts.proofs.ties.SessionJobs.{job_action_is}
 use Rattle.blocking_laws.specs.JobTable.{Calling, is_asking, is_over, next_of_job, has_given_up}
 use Rattle.blocking_laws.specs.Jobs.{holder}
 use Rattle.blocking_laws.specs.Seen.{events, acts_of, cut}
@@ -34,7 +42,7 @@ use Rattle.blocking_laws.specs.declared.event.Act.{Act}
 use Rattle.blocking_laws.specs.declared.event.Moment.{Moment}
 use Rattle.blocking_pool.specs.declared.pool.standing.Standing.TheVariants.{Running}
 use Rattle.blocking_parts.specs.Parts.{Parts, InHand, row_of, job_at, job_in, next_at, next_in, done_by, done_in}
-use Rattle.blocking_parts.specs.Rows.{call_action, action_of, call_done, call_step, call_step_by, done, is_at_first, kind_of, next_of, party_of, read_done, read_seen, read_step}
+use Rattle.blocking_parts.specs.Rows.{call_action, action_of, call_done, call_step, call_step_by, done, is_at_first, kind_of, next_of, party_of, session_done, session_seen, session_step}
 use Rattle.blocking_parts.specs.Ties.{Tied, CoreAs, PlaceAs, GaveAs}
 use Rattle.blocking_parts.specs.declared.row.Core.{Core}
 use Rattle.blocking_parts.specs.declared.row.Core.TheVariants as core
@@ -56,7 +64,7 @@ call_next action.Done n acts ran = by ran
 
 job_next : (c : Core) (acts : List Act) → CoreAs c acts → has_given_up acts ≡ false → next_of_job (kind_of c) acts ≡ action_of c
 job_next (core.Call k call) acts tie stays = call_next call.next call.number acts (tie stays)
-job_next (core.Read h job) acts tie stays = sym (action_is job acts (tie stays))
+job_next (core.Session h job) acts tie stays = sym (job_action_is job acts (tie stays))
 
 -- and so its worker, by where the job is in its turn
 stage_next : (at : Stage) (c : Core) (acts : List Act) → CoreAs c acts → PlaceAs (Some Running) (turn_of at) (is_at_first c) acts → GaveAs at acts
@@ -89,41 +97,64 @@ call_some at k call all row task = by (call_step at call) ∙ call_own at k call
     by None = refl
     by (Some step) = refl
 
--- a job that asks its reader, or is over, does nothing at its session
-none_worked : (a : ReadAction) (last : Option Session) (p : reads.Progress) (owner : Owner) → ((s : Session) → work_by a p s ≡ None) → is_some (worked_in a last p owner) ≡ false
-none_worked a None p owner none = refl
-none_worked a (Some s) p owner none = ap (λ o. is_some (worked_by o owner)) (none s)
-
-worked_own : (p : reads.Progress) (owner : Owner) → (is_asking (reads.action_of p) ≡ false → is_over (reads.action_of p) ≡ false → is_some (worked p owner) ≡ true)
-    → is_some (worked p owner) ≡ is_job_action (next_in_turn GoesOn (reads.action_of p))
-worked_own p owner some = by (read_next p.core) refl
+-- a job of a session does something exactly where that is its own to do: what asks its handle, or is over, doesn't
+read_own : (a : ReadAction) (p : reads.Progress) (owner : Owner) → (is_asking (reads.action_as p.piece a) ≡ false → is_over (reads.action_as p.piece a) ≡ false → is_some (read_as a p owner) ≡ true)
+    → is_some (read_as a p owner) ≡ is_job_action (next_in_turn GoesOn (reads.action_as p.piece a))
+read_own read.FindRoom p owner some = some refl refl
+read_own (read.Put count) p owner some = some refl refl
+read_own read.Close p owner some = some refl refl
+read_own read.Finish p owner some = some refl refl
+read_own read.Deliver p owner some = some refl refl
+read_own (read.Read most) p owner some = none owner.session
   where
-    acts : (a : ReadAction) → read_next p.core ≡ a → is_asking (reads.action_as p.piece a) ≡ false → is_over (reads.action_as p.piece a) ≡ false → is_some (worked p owner) ≡ true
-    acts a is asks over = some (ap (λ a. is_asking (reads.action_as p.piece a)) is ∙ asks) (ap (λ a. is_over (reads.action_as p.piece a)) is ∙ over)
-
-    by : (a : ReadAction) → read_next p.core ≡ a → is_some (worked p owner) ≡ is_job_action (next_in_turn GoesOn (reads.action_of p))
-    by a is = at a is ∙ sym (ap (λ a. is_job_action (next_in_turn GoesOn (reads.action_as p.piece a))) is)
-      where
-        at : (a : ReadAction) → read_next p.core ≡ a → is_some (worked p owner) ≡ is_job_action (next_in_turn GoesOn (reads.action_as p.piece a))
-        at read.FindRoom is = acts read.FindRoom is refl refl
-        at (read.Put count) is = acts (read.Put count) is refl refl
-        at read.Close is = acts read.Close is refl refl
-        at read.Finish is = acts read.Finish is refl refl
-        at read.Deliver is = acts read.Deliver is refl refl
-        at (read.Read most) is = ap (λ a. is_some (worked_as a p owner)) is ∙ none_worked (read.Read most) owner.session p owner (λ s. refl)
-        at read.Done is = ap (λ a. is_some (worked_as a p owner)) is ∙ none_worked read.Done owner.session p owner (λ s. refl)
-
-read_some : (at : Stage) (h : ℕ) (p : reads.Progress) (all : List Task) (row : List Owner) (owner : Owner) → (at ≡ stage.Runs → is_some (worked p owner) ≡ is_job_action (next_in_turn GoesOn (reads.action_of p)))
-    → is_some (read_done h p all row (Some owner) (read_step at p)) ≡ is_job_action (next_of at (core.Read h p))
-read_some stage.Runs h p all row owner works = by (worked p owner) ∙ works refl
+    none : (last : Option Session) → is_some (read_in (read.Read most) last p owner) ≡ false
+    none None = refl
+    none (Some s) = refl
+read_own read.Done p owner some = none owner.session
   where
-    by : (o : Option Worked) → is_some (read_seen h p all row owner (owners.Works p) (act_of_work o)) ≡ is_some o
+    none : (last : Option Session) → is_some (read_in read.Done last p owner) ≡ false
+    none None = refl
+    none (Some s) = refl
+
+write_own : (a : WriteAction) (p : writes.Progress) (owner : Owner) → (is_asking (writes.action_as p.piece a) ≡ false → is_over (writes.action_as p.piece a) ≡ false → is_some (write_as a p owner) ≡ true)
+    → is_some (write_as a p owner) ≡ is_job_action (next_in_turn GoesOn (writes.action_as p.piece a))
+write_own write.Peek p owner some = some refl refl
+write_own (write.Consume count) p owner some = some refl refl
+write_own write.Close p owner some = some refl refl
+write_own write.Finish p owner some = some refl refl
+write_own write.Deliver p owner some = some refl refl
+write_own (write.Write count) p owner some = none owner.session
+  where
+    none : (last : Option Session) → is_some (write_in (write.Write count) last p owner) ≡ false
+    none None = refl
+    none (Some s) = refl
+write_own write.Flush p owner some = none owner.session
+  where
+    none : (last : Option Session) → is_some (write_in write.Flush last p owner) ≡ false
+    none None = refl
+    none (Some s) = refl
+write_own write.Done p owner some = none owner.session
+  where
+    none : (last : Option Session) → is_some (write_in write.Done last p owner) ≡ false
+    none None = refl
+    none (Some s) = refl
+
+worked_own : (job : SessionJob) (owner : Owner) → (is_asking (jobs.action_of job) ≡ false → is_over (jobs.action_of job) ≡ false → is_some (worked job owner) ≡ true)
+    → is_some (worked job owner) ≡ is_job_action (next_in_turn GoesOn (jobs.action_of job))
+worked_own (job_of.Read p) owner some = read_own (read_next p.core) p owner some
+worked_own (job_of.Write p) owner some = write_own (write_next p.core) p owner some
+
+session_some : (at : Stage) (h : ℕ) (p : SessionJob) (all : List Task) (row : List Owner) (owner : Owner) → (at ≡ stage.Runs → is_some (worked p owner) ≡ is_job_action (next_in_turn GoesOn (jobs.action_of p)))
+    → is_some (session_done h p all row (Some owner) (session_step at p)) ≡ is_job_action (next_of at (core.Session h p))
+session_some stage.Runs h p all row owner works = by (worked p owner) ∙ works refl
+  where
+    by : (o : Option Worked) → is_some (session_seen h p all row owner (owners.Works p) (act_of_work o)) ≡ is_some o
     by None = refl
     by (Some did) = refl
-read_some stage.Waits h p all row owner works = refl
-read_some stage.MustGiveUp h p all row owner works = refl
-read_some stage.MustWake h p all row owner works = refl
-read_some stage.GaveUp h p all row owner works = refl
+session_some stage.Waits h p all row owner works = refl
+session_some stage.MustGiveUp h p all row owner works = refl
+session_some stage.MustWake h p all row owner works = refl
+session_some stage.GaveUp h p all row owner works = refl
 
 -- ---- in the parts
 
@@ -138,15 +169,7 @@ module _ (setting : ℕ) (plan : List Bool) (w : Parts) (past : List Moment) (t 
 
   -- the kind of a job is that of its row
   kind_is : (s : ℕ) (row : Row) → row_of w.rows s ≡ Some row → kind_by (holder past s) past s ≡ kind_of row.core
-  kind_is s row found =
-      let held = (t.rowed.each s row found).held_by in
-      ap (λ o. kind_by o past s) held ∙ by row.core held
-    where
-      by : (c : Core) → holder past s ≡ Some (party_of c) → kind_by (Some (party_of c)) past s ≡ kind_of c
-      by (core.Call k call) held = refl
-      by (core.Read h job) held =
-          let owner = owner_there setting plan w past t h s held in
-          (t.owned.each h owner.0 owner.1).kinds s (t.owned.begun h s held)
+  kind_is s row found = (t.rowed.each s row found).kind_is
 
   next_by_hand : (v : ℕ) (h : Hand) → hand_at w.crew.hands v ≡ h → HandAs h (is_there past v) (hand past v) → next_of_worker past v ≡ next_at w v
   next_by_hand v Out at tie = ap (λ j. next_with j past) tie.1 ∙ sym (ap (λ h. next_in (job_in w.rows h)) at)
@@ -179,16 +202,18 @@ module _ (setting : ℕ) (plan : List Bool) (w : Parts) (past : List Moment) (t 
       by (core.Call k call) is =
           let task = task_there setting plan w past t k s ((t.rowed.each s job.row here.has_row).held_by ∙ ap (λ c. Some (party_of c)) is) in
           ap (λ o. is_some (call_done k call job.held.stage w.tasks w.owners o (call_step job.held.stage call))) task.1 ∙ call_some job.held.stage k call w.tasks w.owners task.0
-      by (core.Read h p) is =
+      by (core.Session h p) is =
           let held = (t.rowed.each s job.row here.has_row).held_by ∙ ap (λ c. Some (party_of c)) is in
           let owner = owner_there setting plan w past t h s held in
-          ap (λ o. is_some (read_done h p w.tasks w.owners o (read_step job.held.stage p))) owner.1
-          ∙ read_some job.held.stage h p w.tasks w.owners owner.0
+          ap (λ o. is_some (session_done h p w.tasks w.owners o (session_step job.held.stage p))) owner.1
+          ∙ session_some job.held.stage h p w.tasks w.owners owner.0
           (λ runs.
           let stays : has_given_up acts ≡ false = subst (λ at. PlaceAs (Some Running) (turn_of at) (is_at_first job.row.core) acts) runs (job_place setting plan w past t v job here) in
-          let tie : CoreAs (core.Read h p) acts = subst (λ c. CoreAs c acts) is (t.rowed.each s job.row here.has_row).core in
+          let tie : CoreAs (core.Session h p) acts = subst (λ c. CoreAs c acts) is (t.rowed.each s job.row here.has_row).core in
           worked_own p owner.0
-          (works_some owner.0 (cut h (events past)) s p (t.owned.each h owner.0 owner.1) (subst (reads.ReadAs p) (sym (t.owned.acts h s held)) (tie stays)) (t.owned.begun h s held)))
+          (works_some owner.0 (cut h (events past)) s p (t.owned.each h owner.0 owner.1)
+          (ap (λ who. kind_by who past s) (sym held) ∙ (t.rowed.each s job.row here.has_row).kind_is ∙ ap kind_of is)
+          (subst (JobAs p) (sym (t.owned.acts h s held)) (tie stays)) (t.owned.begun h s held)))
 
   -- And a job does something exactly where that is its own to do.
   pub own_is : (v : ℕ) → is_some (done_in w (job_at w v)) ≡ is_job_action (next_at w v)

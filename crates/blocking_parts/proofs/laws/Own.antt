@@ -1,87 +1,41 @@
 -- What a job does that is its own to do: what is seen of it, and that it stays the job of its owner.
-use Rattle.std.proofs.Common.{◌≡◌, ℕ, List, Bool, true, false, refl, sym, ap, ◌∙◌, Option, Some, None}
-use Rattle.std.specs.Prelude.{◌&&◌, not, if◌then◌else◌, slice_get}
-use Rattle.blocking_core.specs.Places.{Met, Served, Waiting, Closed}
-use Rattle.blocking_core.specs.Reading.{read_next}
+use Rattle.std.proofs.Common.{◌≡◌, ⊎_elim, ℕ, List, Bool, true, false, refl, sym, ap, ◌∙◌, Option, Some, None}
+use Rattle.std.specs.Prelude.{◌&&◌, not, slice_get}
 use Rattle.blocking_core.specs.declared.job.Action.{Action}
 use Rattle.blocking_core.specs.declared.job.Action.TheVariants as action
-use Rattle.blocking_core.specs.declared.job.read.ReadAction.{ReadAction}
-use Rattle.blocking_core.specs.declared.job.read.ReadAction.TheVariants as read
 use Rattle.blocking_crew.specs.declared.hand.Stage.{Stage}
 use Rattle.blocking_crew.specs.declared.hand.Stage.TheVariants as stage
 use Rattle.blocking_lanes.specs.OwnerSteps as owners
 use Rattle.blocking_lanes.specs.OwnerSteps.{OwnerStep, act_of_work}
-use Rattle.blocking_lanes.specs.Owners.{Owner, worked, worked_as, worked_by, worked_in}
-use Rattle.blocking_lanes.specs.Reads as reads
-use Rattle.blocking_lanes.specs.Sessions.{Session, Work, work_by, work_at_put, fits_in, found_room, found_put}
+use Rattle.blocking_lanes.specs.Owners.{Owner, Worked, worked}
+use Rattle.blocking_lanes.specs.declared.job.SessionJob.{SessionJob}
 use Rattle.blocking_lanes.specs.Steps.{TaskStep}
 use Rattle.blocking_lanes.specs.Tasks.{Task}
-use Rattle.blocking_laws.specs.Places.{seen_room, seen_put}
 use Rattle.blocking_laws.specs.Seen.{is_of_pool, is_nothing}
 use Rattle.blocking_laws.specs.Steps.{is_answered}
 use Rattle.blocking_laws.specs.declared.event.Act.{Act}
-use Rattle.blocking_parts.specs.Rows.{Done, call_done, call_step, call_step_by, done, owner_in, read_done, read_seen, read_step}
+use Rattle.blocking_parts.specs.Rows.{Done, call_done, call_step, call_step_by, done, owner_in, session_done, session_seen, session_step}
 use Rattle.blocking_parts.specs.declared.row.Core.{Core}
 use Rattle.blocking_parts.specs.declared.row.Core.TheVariants as core
+use Rattle.blocking_parts.proofs.moves.SessionActs.{is_own, own_at, worked_so}
 
 -- ---- what is seen of it
 
--- whether something was done that neither the pool decides nor anyone answers from outside
-abbrev is_own : Act → Bool
-is_own act = not (is_of_pool act) && not (is_nothing act) && not (is_answered act)
-
--- the same, of an act if there is one, of an act at a session, and of what a job does next
+-- whether that is so of an act if there is one, and of what a job does next
 abbrev is_own_if : Option Act → Bool
 is_own_if None = true
 is_own_if (Some act) = is_own act
-
-abbrev is_own_work : Option Work → Bool
-is_own_work None = true
-is_own_work (Some work) = is_own work.act
 
 abbrev is_own_done : Option Done → Bool
 is_own_done None = true
 is_own_done (Some did) = is_own did.act
 
-finds : (met : Met ℕ) → is_own (seen_room met) ≡ true
-finds (Served n) = refl
-finds Waiting = refl
-finds Closed = refl
-
-puts : (n : ℕ) (met : Met (Option (Unit {0}))) → is_own (seen_put n met) ≡ true
-puts n (Served seat) = refl
-puts n Waiting = refl
-puts n Closed = refl
-
-at_session : (a : ReadAction) (p : reads.Progress) (s : Session) → is_own_work (work_by a p s) ≡ true
-at_session read.FindRoom p s = finds (found_room s)
-at_session (read.Put count) p s = by (fits_in p.piece s)
+works : (job : SessionJob) (owner : Owner) → is_own_if (act_of_work (worked job owner)) ≡ true
+works job owner = by (worked job owner) refl
   where
-    by : (b : Bool) → is_own_work (if b then Some (work_at_put (found_put p.piece s) p s) else None) ≡ true
-    by true = puts _ (found_put p.piece s)
-    by false = refl
-at_session read.Close p s = refl
-at_session read.Finish p s = refl
-at_session (read.Read most) p s = refl
-at_session read.Deliver p s = refl
-at_session read.Done p s = refl
-
-in_session : (a : ReadAction) (last : Option Session) (p : reads.Progress) (owner : Owner) → is_own_if (act_of_work (worked_in a last p owner)) ≡ true
-in_session a None p owner = refl
-in_session a (Some s) p owner = by (work_by a p s) (at_session a p s)
-  where
-    by : (o : Option Work) → is_own_work o ≡ true → is_own_if (act_of_work (worked_by o owner)) ≡ true
+    by : (o : Option Worked) → worked job owner ≡ o → is_own_if (act_of_work o) ≡ true
     by None is = refl
-    by (Some work) is = is
-
-works : (a : ReadAction) (p : reads.Progress) (owner : Owner) → is_own_if (act_of_work (worked_as a p owner)) ≡ true
-works read.Deliver p owner = refl
-works read.FindRoom p owner = in_session read.FindRoom owner.session p owner
-works (read.Put count) p owner = in_session (read.Put count) owner.session p owner
-works read.Close p owner = in_session read.Close owner.session p owner
-works read.Finish p owner = in_session read.Finish owner.session p owner
-works (read.Read most) p owner = in_session (read.Read most) owner.session p owner
-works read.Done p owner = in_session read.Done owner.session p owner
+    by (Some done) is = ⊎_elim (λ wakes. ap is_own wakes.0) (λ at. ap is_own at.act_is ∙ own_at at.act) (worked_so job owner done is)
 
 does : (at : Stage) (c : Core) (all : List Task) (row : List Owner) → is_own_done (done at c all row) ≡ true
 does at (core.Call k call) all row = by at (slice_get all k)
@@ -99,15 +53,15 @@ does at (core.Call k call) all row = by at (slice_get all k)
     by stage.MustGiveUp (Some task) = refl
     by stage.MustWake (Some task) = refl
     by stage.GaveUp (Some task) = refl
-does at (core.Read h p) all row = by at (slice_get row h)
+does at (core.Session h p) all row = by at (slice_get row h)
   where
-    seen : (owner : Owner) (act : Option Act) → is_own_if act ≡ true → is_own_done (read_seen h p all row owner (owners.Works p) act) ≡ true
+    seen : (owner : Owner) (act : Option Act) → is_own_if act ≡ true → is_own_done (session_seen h p all row owner (owners.Works p) act) ≡ true
     seen owner None is = refl
     seen owner (Some act) is = is
 
-    by : (at : Stage) (o : Option Owner) → is_own_done (read_done h p all row o (read_step at p)) ≡ true
+    by : (at : Stage) (o : Option Owner) → is_own_done (session_done h p all row o (session_step at p)) ≡ true
     by at None = refl
-    by stage.Runs (Some owner) = seen owner (act_of_work (worked p owner)) (works (read_next p.core) p owner)
+    by stage.Runs (Some owner) = seen owner (act_of_work (worked p owner)) (works p owner)
     by stage.Waits (Some owner) = refl
     by stage.MustGiveUp (Some owner) = refl
     by stage.MustWake (Some owner) = refl
@@ -144,13 +98,13 @@ stays at (core.Call k call) all row = by (slice_get all k) (call_step at call)
     by None step = refl
     by (Some task) None = refl
     by (Some task) (Some step) = refl
-stays at (core.Read h p) all row = by (slice_get row h) (read_step at p)
+stays at (core.Session h p) all row = by (slice_get row h) (session_step at p)
   where
-    seen : (owner : Owner) (step : OwnerStep) (act : Option Act) → owner_left (core.Read h p) (read_seen h p all row owner step act) ≡ Some h
+    seen : (owner : Owner) (step : OwnerStep) (act : Option Act) → owner_left (core.Session h p) (session_seen h p all row owner step act) ≡ Some h
     seen owner step None = refl
     seen owner step (Some act) = refl
 
-    by : (o : Option Owner) (step : Option OwnerStep) → owner_left (core.Read h p) (read_done h p all row o step) ≡ Some h
+    by : (o : Option Owner) (step : Option OwnerStep) → owner_left (core.Session h p) (session_done h p all row o step) ≡ Some h
     by None step = refl
     by (Some owner) None = refl
     by (Some owner) (Some step) = seen owner step (owners.act_of step owner)

@@ -1,5 +1,5 @@
 -- No wake between an owner and its job is lost: an owner that waits for a job at rest was woken.
-use Rattle.std.proofs.Common.{◌≡◌, ◌⊎◌, inl, inr, ℕ, ◌==◌, List, [], ◌∷◌, length, Bool, true, false, refl, sym, ap, ◌∙◌, subst, arith, Option, Some, None}
+use Rattle.std.proofs.Common.{◌≡◌, ◌⊎◌, inl, inr, ℕ, ◌==◌, List, [], ◌∷◌, Bool, true, false, refl, sym, ap, ◌∙◌, subst, Option, Some, None}
 use Rattle.std.specs.Prelude.{◌&&◌, ◌||◌, not, slice_get, is_some}
 use Rattle.std.specs.FinMap.{get}
 use Rattle.std.proofs.lemmas.Bool.{eq-eqb, or_left}
@@ -8,14 +8,12 @@ use Rattle.blocking_lanes.specs.Owners.{Owner, capacity_of, note_at}
 use Rattle.blocking_lanes.specs.Sessions.{Session}
 use Rattle.blocking_lanes.specs.declared.owner.OwnerStage.{OwnerStage}
 use Rattle.blocking_lanes.specs.declared.owner.OwnerStage.TheVariants as stage
-use Rattle.blocking_lanes.proofs.owners.Cuts.{inside_is}
-use Rattle.blocking_lanes.proofs.owners.Wakes.{not_lost, session_is_last}
+use Rattle.blocking_lanes.proofs.owners.Wakes.{not_lost, session_is_last, seated_reason}
 use Rattle.blocking_laws.specs.JobTable.{has_finished, has_given_up}
 use Rattle.blocking_laws.specs.Jobs.{holder, standing, is_parked, is_running, is_woken}
 use Rattle.blocking_laws.specs.OwnerSeats.{is_job_seated}
 use Rattle.blocking_laws.specs.OwnerTable.{note_in}
-use Rattle.blocking_laws.specs.OwnerWakes.{HasReason, IsStuck, IsSessionOf, NoLostOwnerWake, ParksRightly, is_waking, is_waking_by}
-use Rattle.blocking_laws.specs.Passed.{inside, kind_in}
+use Rattle.blocking_laws.specs.OwnerWakes.{HasReason, IsSessionOf, NoLostOwnerWake, ParksRightly, is_waking, is_waking_by}
 use Rattle.blocking_laws.specs.Seen.{events, acts_of, cut, is_this, own}
 use Rattle.blocking_laws.specs.Sessions as sessions
 use Rattle.blocking_laws.specs.Sessions.{capacity, jobs_of, last_session, session}
@@ -89,16 +87,10 @@ waits_met owner X s t waits (inr noted) = absurd (none_noted owner.stage X s t.s
 
 -- ---- why a job waits
 
--- a job that sits in the pipe finds it full, and its owner's end open
-seated_full : (last : Option Session) (bytes : ℕ) (X : List Event) (s : ℕ) → capacity (own X) ≡ bytes → LastAs last bytes X → is_number (seated_in last) s ≡ true → HasReason X
-seated_full None bytes X s same t is = absurd cc
-seated_full (Some held) bytes X s same t is =
-    let reason = t.seats.reason.job (some_seat held.pipe.job_seat is) in
-    let full = reason.1 in
-    let within = t.lent.within in
-    let holds = t.lent.holds in
-    let all : length (inside X) ≡ capacity (own X) = ap (λ (l : List ℕ). length l) (inside_is held bytes X t) ∙ omega (arith, full, within, holds, same) in
-    (t.lent.shut_is ∙ ap not reason.2, subst (λ kind. IsStuck kind X) (sym (ap kind_in t.lent.begun)) all)
+-- a job that sits in the pipe has reason to
+seated_so : (last : Option Session) (bytes : ℕ) (X : List Event) (s : ℕ) → capacity (own X) ≡ bytes → LastAs last bytes X → is_number (seated_in last) s ≡ true → HasReason X
+seated_so None bytes X s same t is = absurd cc
+seated_so (Some held) bytes X s same t is = seated_reason held bytes X same t (some_seat held.pipe.job_seat is)
   where
     some_seat : (seat : Option JobNumber) → is_number seat s ≡ true → is_some seat ≡ true
     some_seat None is = absurd cc
@@ -123,7 +115,7 @@ noted_under_way stage.Dropped X s t noted = absurd cc
 
 -- so a job that is left to its owner has reason to wait, or a wake of it is under way
 parks_met : (owner : Owner) (X : List Event) (s : ℕ) → OwnerAs owner X → is_waking s (own X) ≡ false → IsMet owner s → HasReason X
-parks_met owner X s t still (inl seat) = seated_full owner.session (capacity_of owner) X s t.bytes t.last seat
+parks_met owner X s t still (inl seat) = seated_so owner.session (capacity_of owner) X s t.bytes t.last seat
 parks_met owner X s t still (inr noted) = absurd (never _ still (noted_under_way owner.stage X s t.stage noted))
 
 -- ---- all of them

@@ -2,7 +2,7 @@
 use Rattle.std.proofs.Common.{◌≡◌, ℕ, ◌+◌, ◌-◌, List, length, Bool, true, false, refl, sym, ap, ◌∙◌, subst, arith, Option, Some, None, if◌then◌else◌}
 use Rattle.std.proofs.lemmas.Bool.{eqb-true}
 use Rattle.std.proofs.lemmas.Bool.Decides.{nat_tests}
-use Rattle.std.specs.Prelude.{◌&&◌, nat_lt, slice_get, not, ◌==◌, slice_set, is_some, Result, Ok, Err}
+use Rattle.std.specs.Prelude.{nat_lt, not, ◌==◌, slice_set, is_some, Result, Ok, Err}
 use Rattle.blocking_core.specs.OwnerCalls.{OwnerMachine, owner_next}
 use Rattle.blocking_core.specs.declared.unblock.OwnerAction.{OwnerAction}
 use Rattle.blocking_core.specs.declared.unblock.OwnerAction.TheVariants as action
@@ -49,7 +49,7 @@ use Rattle.blocking_pool.specs.Growth.{Growth}
 use Rattle.blocking_pool.specs.Jobs.{JobNumber}
 use Rattle.blocking_pool.specs.declared.pool.answer.Refusal.{Refusal}
 use Rattle.blocking_pool.specs.declared.pool.answer.Waited.TheVariants.{Stay, Stop}
-use Rattle.blocking_parts.specs.Moves.{Move, Idles, Makes, Asks, Owns, Lends, Delivers, IsDropped, Begins, Calls, Works, IsAnswered, Parks, Passes, IsWoken, IsStruck, May, CrewMoves, has_action_in, is_pass, IsDue, may_call_in, may_own, may_own_in, rests_in, rows_after, step_by, step_of}
+use Rattle.blocking_parts.specs.Moves.{Move, Idles, Makes, Asks, Owns, Lends, Delivers, IsDropped, Begins, Calls, Works, IsAnswered, Parks, Passes, IsWoken, IsStruck, May, CrewMoves, has_action_in, is_pass, IsDue, may_ask_in, may_call_in, may_own, may_own_in, rests_in, rows_after, step_by, step_of}
 use Rattle.blocking_parts.specs.Parts.{Parts, row_of, owner_by, owner_of, done_in, let_go_by}
 use Rattle.blocking_parts.specs.Rows.{core_after_answer, next_of as next_of_core, owner_in, party_of}
 use Rattle.blocking_parts.specs.Ties.{Tied, moment}
@@ -96,7 +96,9 @@ acts_next : (a : OwnerAction ℕ) (poll : OwnerMachine ℕ) (last : Option Sessi
 acts_next action.Begin poll last owner some = refl
 acts_next action.Close poll last owner some = refl
 acts_next (action.Drain most) poll last owner some = refl
+acts_next (action.Fill most) poll last owner some = refl
 acts_next action.PollSlot poll last owner some = refl
+acts_next action.DropHandle poll last owner some = refl
 acts_next (action.Reply reply) poll last owner some = says (reply_as reply) poll owner some
 acts_next _ poll None owner some = absurd cc
 acts_next _ poll (Some session) owner some = absurd cc
@@ -130,11 +132,11 @@ noted_next owner_stage.Dropped last number is = absurd cc
 -- by its core it is of the owner that holds it, and an answer leaves that
 owner_holds : (c : Core) → owner_in c ≡ as_owner (Some (party_of c))
 owner_holds (core.Call k call) = refl
-owner_holds (core.Read h job) = refl
+owner_holds (core.Session h job) = refl
 
 answer_stays : (answer : Answer) (c : Core) → owner_in (core_after_answer answer c) ≡ owner_in c
 answer_stays answer (core.Call k call) = refl
-answer_stays answer (core.Read h job) = refl
+answer_stays answer (core.Session h job) = refl
 
 -- a row that was set for one of the same owner leaves each job its owner
 set_stays : (rows : List Row) (t : ℕ) (old new : Row) → row_of rows t ≡ Some old → owner_in new.core ≡ owner_in old.core → (job : Option ℕ) → owner_of (slice_set rows (t - 1) new) job ≡ owner_of rows job
@@ -243,7 +245,7 @@ module _ (setting : ℕ) (plan : List Bool) (w : Parts) (past : List Moment) (t 
   step_so : (move : Move) (e : Event) (new : Parts) → May w move → CrewMoves (IsPlanned plan) move w e new → SaidBy w move e → IsOfStep past (step_of move) e
   step_so (Idles step) e new may does told = idle_so past step e told (rests step may)
   step_so (Makes capacity) e new may does told = done_so _ _ _ _ e told refl refl (ap (λ h. Made h capacity) t.owned.count) (ap ByOwner t.owned.count) refl
-  step_so (Asks h call owner) e new may does told = done_so _ _ _ _ e told (ap (λ b. b && rests_in (slice_get w.owners h)) may.2 ∙ ap rests_in may.0 ∙ may.1) refl refl refl refl
+  step_so (Asks h call owner) e new may does told = done_so _ _ _ _ e told (ap (λ o. may_ask_in o call) may.0 ∙ may.1) refl refl refl refl
   step_so (Owns h owner done) e new may does told =
       let plain = plain_of Acts owner done.act (ap act_in may.1) in
       done_so _ _ _ _ e told (ap may_own_in may.0 ∙ owner_acts owner done may.1) plain.nothing plain.pool refl refl

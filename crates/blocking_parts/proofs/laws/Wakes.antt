@@ -38,7 +38,7 @@ ran_none action.Done n acts first ran = absurd cc
 
 acts_none : (k : ℕ) (c : Core) (acts : List Act) → party_of c ≡ ByTask k → CoreAs c acts → (is_at_first c ≡ true) × (has_given_up acts ≡ false) → acts ≡ []
 acts_none k (core.Call j call) acts party so place = ran_none call.next call.number acts place.0 (so place.1)
-acts_none k (core.Read h read) acts party so place = absurd cc
+acts_none k (core.Session h read) acts party so place = absurd cc
 
 -- a job at rest that isn't parked is over, by what was seen of it and what the pool has of it
 pub rests_over : (found : Option (Entry Ticket)) (stand : Option Standing) (wake cancel mark ended : Bool) (at : Turn) (first : Bool) (acts : List Act) → FiledAs found stand wake cancel mark ended

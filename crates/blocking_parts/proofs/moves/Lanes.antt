@@ -8,13 +8,13 @@ use Rattle.blocking_lanes.specs.Calls as calls
 use Rattle.blocking_lanes.specs.Owners.{Owner, Worked, worked}
 use Rattle.blocking_lanes.specs.OwnerSteps as owner_steps
 use Rattle.blocking_lanes.specs.OwnerSteps.{OwnerStep, act_of_work, owner_after_work, job_after_work}
-use Rattle.blocking_lanes.specs.Reads as reads
+use Rattle.blocking_lanes.specs.declared.job.SessionJob.{SessionJob}
 use Rattle.blocking_lanes.specs.Steps.{TaskStep}
 use Rattle.blocking_lanes.specs.Tasks.{Task}
 use Rattle.blocking_pool.proofs.Places.{set_same}
 use Rattle.blocking_laws.specs.declared.event.Act.{Act}
 use Rattle.blocking_parts.specs.declared.row.Core.{Core}
-use Rattle.blocking_parts.specs.Rows.{Done, IsActed, IsRead, IsDone, done, call_step, call_done, read_step, read_done, read_seen}
+use Rattle.blocking_parts.specs.Rows.{Done, IsActed, IsActedFor, IsDone, done, call_step, call_done, session_step, session_done, session_seen}
 use Rattle.blocking_parts.specs.declared.row.Core.TheVariants as core
 
 -- the job of a call
@@ -27,30 +27,30 @@ call_acts tasks owners k call new_call at task new_task seen found acts =
     by None is = (is.0, ap (core.Call k) is.1, ap (slice_set tasks k) is.2 ∙ set_same tasks k task found, refl)
     by (Some step) is = (is.0, ap (core.Call k) is.1, ap (slice_set tasks k) is.2, refl)
 
--- the job of a reader
-pub read_acts : (tasks : List Task) (owners : List Owner) (h : ℕ) (read new_read : reads.Progress) (at : Stage) (owner new_owner : Owner) (seen : Option Act) → slice_get owners h ≡ Some owner
-    → IsRead (read_step at read) read owner seen new_read new_owner → IsDone (done at (core.Read h read) tasks owners) (core.Read h read) tasks owners seen (core.Read h new_read) tasks (slice_set owners h new_owner)
-read_acts tasks owners h read new_read at owner new_owner seen found acts =
-    subst (λ o. IsDone (read_done h read tasks owners o (read_step at read)) (core.Read h read) tasks owners seen (core.Read h new_read) tasks (slice_set owners h new_owner)) (sym found) (by at acts)
+-- the job of a session
+pub session_acts : (tasks : List Task) (owners : List Owner) (h : ℕ) (read new_read : SessionJob) (at : Stage) (owner new_owner : Owner) (seen : Option Act) → slice_get owners h ≡ Some owner
+    → IsActedFor (session_step at read) read owner seen new_read new_owner → IsDone (done at (core.Session h read) tasks owners) (core.Session h read) tasks owners seen (core.Session h new_read) tasks (slice_set owners h new_owner)
+session_acts tasks owners h read new_read at owner new_owner seen found acts =
+    subst (λ o. IsDone (session_done h read tasks owners o (session_step at read)) (core.Session h read) tasks owners seen (core.Session h new_read) tasks (slice_set owners h new_owner)) (sym found) (by at acts)
   where
-    same : seen ≡ None → new_read ≡ read → new_owner ≡ owner → IsDone None (core.Read h read) tasks owners seen (core.Read h new_read) tasks (slice_set owners h new_owner)
-    same none job lane = (none, ap (core.Read h) job, refl, ap (slice_set owners h) lane ∙ set_same owners h owner found)
+    same : seen ≡ None → new_read ≡ read → new_owner ≡ owner → IsDone None (core.Session h read) tasks owners seen (core.Session h new_read) tasks (slice_set owners h new_owner)
+    same none job lane = (none, ap (core.Session h) job, refl, ap (slice_set owners h) lane ∙ set_same owners h owner found)
 
-    by : (at : Stage) → IsRead (read_step at read) read owner seen new_read new_owner
-        → IsDone (read_done h read tasks owners (Some owner) (read_step at read)) (core.Read h read) tasks owners seen (core.Read h new_read) tasks (slice_set owners h new_owner)
+    by : (at : Stage) → IsActedFor (session_step at read) read owner seen new_read new_owner
+        → IsDone (session_done h read tasks owners (Some owner) (session_step at read)) (core.Session h read) tasks owners seen (core.Session h new_read) tasks (slice_set owners h new_owner)
     by stage.Waits is = same is.0 is.1 is.2
     by stage.GaveUp is = same is.0 is.1 is.2
-    by stage.MustGiveUp is = (is.0, ap (core.Read h) is.1, refl, ap (slice_set owners h) is.2)
-    by stage.MustWake is = (is.0, ap (core.Read h) is.1, refl, ap (slice_set owners h) is.2)
+    by stage.MustGiveUp is = (is.0, ap (core.Session h) is.1, refl, ap (slice_set owners h) is.2)
+    by stage.MustWake is = (is.0, ap (core.Session h) is.1, refl, ap (slice_set owners h) is.2)
     by stage.Runs is = works (worked read owner) refl is
       where
         works : (o : Option Worked) → worked read owner ≡ o → (seen ≡ act_of_work (worked read owner)) × (new_read ≡ job_after_work (worked read owner) read) × (new_owner ≡ owner_after_work (worked read owner) owner)
-            → IsDone (read_done h read tasks owners (Some owner) (read_step stage.Runs read)) (core.Read h read) tasks owners seen (core.Read h new_read) tasks (slice_set owners h new_owner)
+            → IsDone (session_done h read tasks owners (Some owner) (session_step stage.Runs read)) (core.Session h read) tasks owners seen (core.Session h new_read) tasks (slice_set owners h new_owner)
         works None none is =
-            subst (λ a. IsDone (read_seen h read tasks owners owner (owner_steps.Works read) a) (core.Read h read) tasks owners seen (core.Read h new_read) tasks (slice_set owners h new_owner)) (sym (ap act_of_work none))
+            subst (λ a. IsDone (session_seen h read tasks owners owner (owner_steps.Works read) a) (core.Session h read) tasks owners seen (core.Session h new_read) tasks (slice_set owners h new_owner)) (sym (ap act_of_work none))
             (same (is.0 ∙ ap act_of_work none) (is.1 ∙ ap (λ o. job_after_work o read) none) (is.2 ∙ ap (λ o. owner_after_work o owner) none))
         works (Some did) some is =
-            subst (λ a. IsDone (read_seen h read tasks owners owner (owner_steps.Works read) a) (core.Read h read) tasks owners seen (core.Read h new_read) tasks (slice_set owners h new_owner)) (sym (ap act_of_work some)) (is.0 ∙ ap act_of_work some, ap (core.Read h) is.1, refl, ap (slice_set owners h) is.2)
+            subst (λ a. IsDone (session_seen h read tasks owners owner (owner_steps.Works read) a) (core.Session h read) tasks owners seen (core.Session h new_read) tasks (slice_set owners h new_owner)) (sym (ap act_of_work some)) (is.0 ∙ ap act_of_work some, ap (core.Session h) is.1, refl, ap (slice_set owners h) is.2)
 
 -- ---- how many there are
 
@@ -72,7 +72,7 @@ done_lengths at (core.Call k call) tasks owners did is = by (slice_get tasks k) 
         owners_in None = owners
     by None step is = absurd cc
     by (Some task) None is = absurd cc
-done_lengths at (core.Read h read) tasks owners did is = by (slice_get owners h) (read_step at read) is
+done_lengths at (core.Session h read) tasks owners did is = by (slice_get owners h) (session_step at read) is
   where
     tasks_in : Option Done → List Task
     tasks_in (Some d) = d.tasks
@@ -82,11 +82,11 @@ done_lengths at (core.Read h read) tasks owners did is = by (slice_get owners h)
     owners_in (Some d) = d.owners
     owners_in None = owners
 
-    seen : (owner : Owner) (step : OwnerStep) (a : Option Act) → read_seen h read tasks owners owner step a ≡ Some did → (length did.tasks ≡ length tasks) × (length did.owners ≡ length owners)
+    seen : (owner : Owner) (step : OwnerStep) (a : Option Act) → session_seen h read tasks owners owner step a ≡ Some did → (length did.tasks ≡ length tasks) × (length did.owners ≡ length owners)
     seen owner step None is = absurd cc
     seen owner step (Some act) is = (sym (ap length (ap tasks_in is)), sym (ap length (ap owners_in is)) ∙ length-set owners h _)
 
-    by : (o : Option Owner) (step : Option OwnerStep) → read_done h read tasks owners o step ≡ Some did → (length did.tasks ≡ length tasks) × (length did.owners ≡ length owners)
+    by : (o : Option Owner) (step : Option OwnerStep) → session_done h read tasks owners o step ≡ Some did → (length did.tasks ≡ length tasks) × (length did.owners ≡ length owners)
     by (Some owner) (Some step) is = seen owner step (owner_steps.act_of step owner) is
     by None step is = absurd cc
     by (Some owner) None is = absurd cc

@@ -7,12 +7,12 @@ use Rattle.blocking_crew.specs.Moves as crew
 use Rattle.blocking_crew.specs.Moves.{NeverAsked, next_start, nothing}
 use Rattle.blocking_crew.proofs.ties.Starts.{may_more}
 use Rattle.blocking_lanes.specs.OwnerSteps as owners_steps
-use Rattle.blocking_lanes.specs.Owners.{Owner, Did, IsDid, did, new_owner, next_of, note_at, number_of, owner_after_ask, owner_after_delivery, owner_after_drop}
+use Rattle.blocking_lanes.specs.Owners.{Owner, Did, IsDid, did, new_job_of, new_owner, next_of, note_at, number_of, owner_after_ask, owner_after_delivery, owner_after_drop}
 use Rattle.blocking_lanes.specs.declared.owner.OwnerNext.TheVariants as next
 use Rattle.blocking_lanes.specs.Tasks.{Task, task_act, task_after_call}
 use Rattle.blocking_pool.proofs.Places.{set_same}
 use Rattle.blocking_lanes.proofs.acts.Calls.{call_number}
-use Rattle.blocking_laws.specs.Steps.{is_known, named}
+use Rattle.blocking_laws.specs.Steps.{named}
 use Rattle.blocking_laws.specs.declared.event.Act.{Act}
 use Rattle.blocking_laws.specs.declared.event.Act.TheVariants.{Made, Asked, HolderDropped}
 use Rattle.blocking_laws.specs.declared.event.Event.{Event}
@@ -25,8 +25,8 @@ use Rattle.blocking_laws.specs.declared.step.TaskCall.TheVariants.{Poll, Cancel,
 use Rattle.blocking_pool.specs.Growth.{Narrows}
 use Rattle.blocking_pool.specs.Jobs.{JobNumber}
 use Rattle.blocking_pool.specs.declared.pool.answer.Refusal.{Refusal}
-use Rattle.blocking_parts.specs.Moves.{Move, Idles, Makes, Asks, Owns, Lends, Delivers, IsDropped, Begins, Calls, Works, IsAnswered, Parks, Passes, IsWoken, IsStruck, Moves, CrewMoves, rests_in, may_own, may_own_in, lent_step, has_action_in, is_pass, IsDue, may_call_in, rows_after_add, tasks_after_add, step_by, task_call}
-use Rattle.blocking_parts.specs.Rows.{call_row, read_row}
+use Rattle.blocking_parts.specs.Moves.{Move, Idles, Makes, Asks, Owns, Lends, Delivers, IsDropped, Begins, Calls, Works, IsAnswered, Parks, Passes, IsWoken, IsStruck, Moves, CrewMoves, may_ask_in, rests_in, may_own, may_own_in, lent_step, has_action_in, is_pass, IsDue, may_call_in, rows_after_add, tasks_after_add, step_by, task_call}
+use Rattle.blocking_parts.specs.Rows.{call_row, session_row}
 use Rattle.blocking_parts.specs.Parts.{Parts, row_of, let_go_of}
 use Rattle.blocking_parts.specs.declared.row.Row.{Row}
 
@@ -140,15 +140,23 @@ resting (Some owner) is = (owner, refl)
 pub resting_within : (owners : List Owner) (h : ℕ) → rests_in (slice_get owners h) ≡ true → h < length owners
 resting_within owners h is = let owner = resting (slice_get owners h) is in slice_get_within owners h owner.0 owner.1
 
+-- so is one that may be asked there
+pub asked_within : (owners : List Owner) (h : ℕ) (call : HandleCall) → may_ask_in (slice_get owners h) call ≡ true → h < length owners
+asked_within owners h call may = by (slice_get owners h) refl may
+  where
+    by : (o : Option Owner) → slice_get owners h ≡ o → may_ask_in o call ≡ true → h < length owners
+    by None found may = absurd cc
+    by (Some owner) found may = slice_get_within owners h owner found
+
 pub made : (w : Parts) (capacity : ℕ) (owners : List Owner) (e : Event) → owners ≡ w.owners ++ new_owner capacity ∷ []
     → crew.Moves NeverAsked (crew.Tell (ByOwner (length w.owners)) (Made (length w.owners) capacity)) w.crew e w.crew → Moves NeverAsked (New capacity) w e (record w { owners = owners })
 made w capacity owners e is does = record { move = Makes capacity; step_is = refl; may = tt; crew = does; rows_are = refl; tasks_are = refl; owners_are = is }
 
-pub asked : (w : Parts) (h : ℕ) (call : HandleCall) (old left : Owner) (e : Event) → is_known call ≡ true → rests_in (slice_get w.owners h) ≡ true → old ≡ slice_index_or w.owners h old → left ≡ owner_after_ask call old
+pub asked : (w : Parts) (h : ℕ) (call : HandleCall) (old left : Owner) (e : Event) → may_ask_in (slice_get w.owners h) call ≡ true → old ≡ slice_index_or w.owners h old → left ≡ owner_after_ask call old
     → crew.Moves NeverAsked (crew.Tell (ByOwner h) (Asked call)) w.crew e w.crew → Moves NeverAsked (Ask h call) w e (record w { owners = slice_set w.owners h left })
-asked w h call old left e known rests value left_is does =
-    let found = found_at w.owners h old (resting_within w.owners h rests) value in
-    record { move = Asks h call old; step_is = refl; may = (found, sym (ap rests_in found) ∙ rests, known); crew = does; rows_are = refl; tasks_are = refl; owners_are = ap (slice_set w.owners h) left_is }
+asked w h call old left e may value left_is does =
+    let found = found_at w.owners h old (asked_within w.owners h call may) value in
+    record { move = Asks h call old; step_is = refl; may = (found, sym (ap (λ o. may_ask_in o call) found) ∙ may); crew = does; rows_are = refl; tasks_are = refl; owners_are = ap (slice_set w.owners h) left_is }
 
 pub dropped : (w : Parts) (h : ℕ) (old left : Owner) (number : Option JobNumber) (e : Event) (new : Crew) → rests_in (slice_get w.owners h) ≡ true → old ≡ slice_index_or w.owners h old → left ≡ owner_after_drop old
     → number ≡ number_of old → crew.Moves NeverAsked (crew.LetGo (ByOwner h) HolderDropped number) w.crew e new → Moves NeverAsked (DropOwner h) w e (record w { crew = new; owners = slice_set w.owners h left })
@@ -205,7 +213,7 @@ rested w h count old left e within value acts is event = by (did old) refl is
         }
 
 pub lent : (may_answer : ℕ → Bool → Type 0) (w : Parts) (h : ℕ) (old : Owner) (added : Result JobNumber Refusal) (rows : List Row) (owners : List Owner) (e : Event) (new : Crew) → slice_get w.owners h ≡ Some old → next_of old ≡ next.Begins
-    → crew.Moves may_answer (crew.Add (ByOwner h) added) w.crew e new → rows ≡ rows_after_add w.rows (λ number. read_row number h) added → owners ≡ slice_set w.owners h (owners_steps.owner_after (lent_step added) old)
+    → crew.Moves may_answer (crew.Add (ByOwner h) added) w.crew e new → rows ≡ rows_after_add w.rows (λ number. session_row number h (new_job_of old)) added → owners ≡ slice_set w.owners h (owners_steps.owner_after (lent_step added) old)
     → Moves may_answer (Own h) w e (record w { crew = new; rows = rows; owners = owners })
 lent may_answer w h old added rows owners e new found begins does rows_are owners_are =
     record { move = Lends h old added; step_is = refl; may = (found, begins); crew = does; rows_are = rows_are; tasks_are = refl; owners_are = owners_are }

@@ -10,7 +10,7 @@ use Rattle.blocking_lanes.specs.Calls as calls
 use Rattle.blocking_lanes.specs.OwnerSteps as owners
 use Rattle.blocking_lanes.specs.OwnerSteps.{OwnerStep}
 use Rattle.blocking_lanes.specs.Owners.{Owner}
-use Rattle.blocking_lanes.specs.Reads as reads
+use Rattle.blocking_lanes.specs.declared.job.SessionJob.{SessionJob}
 use Rattle.blocking_lanes.specs.Steps as tasks
 use Rattle.blocking_lanes.specs.Steps.{TaskStep}
 use Rattle.blocking_lanes.specs.Tasks.{Task}
@@ -22,14 +22,14 @@ use Rattle.blocking_laws.specs.Seen.{events, acts_of}
 use Rattle.blocking_laws.specs.Steps.{may_cancel, is_answered_action, next_in_turn}
 use Rattle.blocking_laws.specs.Turns.{GoesOn}
 use Rattle.blocking_laws.specs.declared.event.Act.{Act}
-use Rattle.blocking_laws.specs.declared.event.Act.TheVariants.{Answered, RoomFree, RoomShut, JobParked, Put, Lost, JobClosed, Finished, GaveUp, HolderWoken}
+use Rattle.blocking_laws.specs.declared.event.Act.TheVariants.{Answered, RoomFree, RoomShut, JobParked, Put, Lost, Peeked, Drained, Taken as TakenOut, JobClosed, Finished, GaveUp, HolderWoken}
 use Rattle.blocking_laws.specs.declared.event.Event.{Event}
 use Rattle.blocking_laws.specs.declared.event.Moment.{Moment}
 use Rattle.blocking_laws.specs.declared.event.Party.{Party}
 use Rattle.blocking_laws.specs.declared.step.Answer.{Answer}
 use Rattle.blocking_pool.specs.declared.pool.standing.Standing.TheVariants.{Running}
 use Rattle.blocking_parts.specs.Parts.{Parts, InHand, next_at, owner_by, owner_of, row_of}
-use Rattle.blocking_parts.specs.Rows.{Done, action_of, done, is_at_first, next_of, owner_in, call_done, call_step, call_after, read_done, read_seen, read_step, read_after}
+use Rattle.blocking_parts.specs.Rows.{Done, action_of, done, is_at_first, next_of, owner_in, call_done, call_step, call_after, session_done, session_seen, session_step, job_after}
 use Rattle.blocking_parts.specs.Ties.{PlaceAs, Tied}
 use Rattle.blocking_parts.specs.declared.row.Core.{Core}
 use Rattle.blocking_parts.specs.declared.row.Core.TheVariants as core
@@ -53,14 +53,14 @@ pub record CallActs (w : Parts) (at : Stage) (k : ℕ) (call : calls.Progress) (
   pub tasks_are : did.tasks ≡ slice_set w.tasks k (tasks.task_after step task)
   pub owners_are : did.owners ≡ w.owners
 
--- The job of a reader took this step of its owner, and left the tasks as they were.
-pub record ReadActs (w : Parts) (at : Stage) (h : ℕ) (read : reads.Progress) (did : Done) : Type 0 where
+-- The job of a session took this step of its owner, and left the tasks as they were.
+pub record SessionActs (w : Parts) (at : Stage) (h : ℕ) (read : SessionJob) (did : Done) : Type 0 where
   pub step : OwnerStep
   pub owner : Owner
-  pub next : read_step at read ≡ Some step
+  pub next : session_step at read ≡ Some step
   pub there : slice_get w.owners h ≡ Some owner
   pub act_is : owners.act_of step owner ≡ Some did.act
-  pub core_is : did.core ≡ core.Read h (read_after step owner read)
+  pub core_is : did.core ≡ core.Session h (job_after step owner read)
   pub tasks_are : did.tasks ≡ w.tasks
   pub owners_are : did.owners ≡ slice_set w.owners h (owners.owner_after step owner)
 
@@ -74,17 +74,17 @@ call_acts w at k call did does = by (slice_get w.tasks k) (call_step at call) re
     by (Some task) None found next does = absurd cc
     by None step found next does = absurd cc
 
-pub read_acts : (w : Parts) (at : Stage) (h : ℕ) (read : reads.Progress) (did : Done) → done at (core.Read h read) w.tasks w.owners ≡ Some did → ReadActs w at h read did
-read_acts w at h read did does = by (slice_get w.owners h) (read_step at read) refl refl does
+pub session_acts : (w : Parts) (at : Stage) (h : ℕ) (read : SessionJob) (did : Done) → done at (core.Session h read) w.tasks w.owners ≡ Some did → SessionActs w at h read did
+session_acts w at h read did does = by (slice_get w.owners h) (session_step at read) refl refl does
   where
-    seen : (owner : Owner) (step : OwnerStep) (act : Option Act) → slice_get w.owners h ≡ Some owner → read_step at read ≡ Some step → owners.act_of step owner ≡ act
-        → read_seen h read w.tasks w.owners owner step act ≡ Some did → ReadActs w at h read did
+    seen : (owner : Owner) (step : OwnerStep) (act : Option Act) → slice_get w.owners h ≡ Some owner → session_step at read ≡ Some step → owners.act_of step owner ≡ act
+        → session_seen h read w.tasks w.owners owner step act ≡ Some did → SessionActs w at h read did
     seen owner step (Some act) found next is does =
-        subst (ReadActs w at h read) (ap (value_of did) does)
+        subst (SessionActs w at h read) (ap (value_of did) does)
         (record { step = step; owner = owner; next = next; there = found; act_is = is; core_is = refl; tasks_are = refl; owners_are = refl })
     seen owner step None found next is does = absurd cc
 
-    by : (found : Option Owner) (step : Option OwnerStep) → slice_get w.owners h ≡ found → read_step at read ≡ step → read_done h read w.tasks w.owners found step ≡ Some did → ReadActs w at h read did
+    by : (found : Option Owner) (step : Option OwnerStep) → slice_get w.owners h ≡ found → session_step at read ≡ step → session_done h read w.tasks w.owners found step ≡ Some did → SessionActs w at h read did
     by (Some owner) (Some step) found next does = seen owner step (owners.act_of step owner) found next refl does
     by (Some owner) None found next does = absurd cc
     by None step found next does = absurd cc
@@ -99,6 +99,9 @@ may_plain stage.Runs RoomShut may = record { pool = refl; nothing = refl; made =
 may_plain stage.Runs JobParked may = record { pool = refl; nothing = refl; made = refl; new = refl }
 may_plain stage.Runs (Put n waker) may = record { pool = refl; nothing = refl; made = refl; new = refl }
 may_plain stage.Runs (Lost n) may = record { pool = refl; nothing = refl; made = refl; new = refl }
+may_plain stage.Runs (Peeked bytes) may = record { pool = refl; nothing = refl; made = refl; new = refl }
+may_plain stage.Runs Drained may = record { pool = refl; nothing = refl; made = refl; new = refl }
+may_plain stage.Runs (TakenOut n waker) may = record { pool = refl; nothing = refl; made = refl; new = refl }
 may_plain stage.Runs (JobClosed waker) may = record { pool = refl; nothing = refl; made = refl; new = refl }
 may_plain stage.Runs (Finished waker) may = record { pool = refl; nothing = refl; made = refl; new = refl }
 may_plain stage.Runs HolderWoken may = record { pool = refl; nothing = refl; made = refl; new = refl }

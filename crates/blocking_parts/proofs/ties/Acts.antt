@@ -5,38 +5,34 @@ use Rattle.std.proofs.lemmas.Bool.{eqb-true}
 use Rattle.std.proofs.lemmas.Bool.Decides.{nat_tests}
 use Rattle.std.proofs.lemmas.Option.{slice_get_within}
 use Rattle.blocking_core.specs.Cores.{call_after}
-use Rattle.blocking_core.specs.Reading.{read_next}
 use Rattle.blocking_core.specs.declared.job.Action.{Action}
 use Rattle.blocking_core.specs.declared.job.Action.TheVariants as action
 use Rattle.blocking_core.specs.declared.job.Answer.TheVariants as answer
-use Rattle.blocking_core.specs.declared.job.read.ReadAction.TheVariants as read
 use Rattle.blocking_crew.specs.Crews.{may_act, stage_after}
 use Rattle.blocking_crew.specs.Ties.{turn_of}
-use Rattle.blocking_crew.specs.Tickets.{no_growth}
 use Rattle.blocking_crew.specs.declared.hand.Stage.{Stage}
 use Rattle.blocking_crew.specs.declared.hand.Stage.TheVariants as stage
 use Rattle.blocking_lanes.specs.Calls as calls
 use Rattle.blocking_lanes.specs.Calls.{RanAs}
 use Rattle.blocking_lanes.specs.OwnerSteps as owners
 use Rattle.blocking_lanes.specs.Owners.{Owner, Worked, number_of, worked}
-use Rattle.blocking_lanes.specs.Reads as reads
-use Rattle.blocking_lanes.specs.Reads.{ReadAs}
+use Rattle.blocking_lanes.specs.SessionJobs as jobs
+use Rattle.blocking_lanes.specs.SessionJobs.{JobAs, kind_of}
+use Rattle.blocking_lanes.specs.declared.job.SessionJob.{SessionJob}
 use Rattle.blocking_lanes.specs.Steps as tasks
 use Rattle.blocking_lanes.specs.Steps.{TaskStep}
 use Rattle.blocking_lanes.specs.Tasks.{Task, finish_wakes}
 use Rattle.blocking_pool.proofs.Places.{got_same, got_other}
 use Rattle.blocking_lanes.proofs.acts.Calls.{call_number}
 use Rattle.blocking_lanes.proofs.owners.Own.{value_of}
-use Rattle.blocking_lanes.proofs.owners.Reads.{action_is, answers, awake}
-use Rattle.blocking_lanes.proofs.owners.Steps.{works_goes}
-use Rattle.blocking_laws.specs.JobTable.{JobAction, Reading, AskCall, AskBytes, FindRoom, PutPiece, Peek, OfferBytes, Consume, AskFlush, CloseEnd, Finish, WakeHolder, Over, next_of_job, is_answer, has_given_up}
+use Rattle.blocking_laws.specs.JobTable.{JobAction, AskCall, AskBytes, FindRoom, PutPiece, Peek, OfferBytes, Consume, AskFlush, CloseEnd, Finish, WakeHolder, Over, next_but_wake, next_of_job, is_answer, has_given_up}
 use Rattle.blocking_laws.specs.Jobs.{accepted_by, ends_for_good, holder, sweeps, stands_by, is_parked}
 use Rattle.blocking_laws.specs.Seats.{waker_in}
-use Rattle.blocking_laws.specs.Seen.{events, acts_of, cut, is_of_pool, is_nothing}
+use Rattle.blocking_laws.specs.Seen.{events, acts_of, is_of_pool, is_nothing}
 use Rattle.blocking_laws.specs.Steps.{is_answered_action, next_in_turn}
 use Rattle.blocking_laws.specs.Turns.{GoesOn, turn_by}
 use Rattle.blocking_laws.specs.declared.event.Act.{Act}
-use Rattle.blocking_laws.specs.declared.event.Act.TheVariants.{Answered, Finished, GaveUp, HolderWoken, JobParked, RoomFree, RoomShut, Put, Lost, JobClosed}
+use Rattle.blocking_laws.specs.declared.event.Act.TheVariants.{Answered, Finished, GaveUp, HolderWoken, JobParked, RoomFree, RoomShut, Put, Lost, Peeked, Drained, Taken as TakenOut, JobClosed}
 use Rattle.blocking_laws.specs.declared.event.HolderWaker.TheVariants.{Taken, Absent}
 use Rattle.blocking_laws.specs.declared.event.Moment.{Moment}
 use Rattle.blocking_laws.specs.declared.step.Answer.{Answer}
@@ -44,11 +40,14 @@ use Rattle.blocking_laws.specs.declared.step.Answer.TheVariants.{Number, Gave, F
 use Rattle.blocking_pool.specs.declared.pool.standing.Standing.{Standing}
 use Rattle.blocking_pool.specs.declared.pool.standing.Standing.TheVariants.{Queued, Running}
 use Rattle.blocking_parts.specs.Parts.{Parts}
-use Rattle.blocking_parts.specs.Rows.{Done, done, call_done, call_step, read_done, read_seen, read_step, call_action, core_after_answer, is_first, is_at_first, action_of, party_of}
+use Rattle.blocking_parts.specs.Rows.{kind_of as kind_in_row, Done, done, call_done, call_step, session_done, session_seen, session_step, call_action, core_after_answer, is_first, is_at_first, action_of, party_of}
 use Rattle.blocking_parts.specs.Ties.{Tied, CoreAs, PlaceAs, GaveAs}
 use Rattle.blocking_parts.specs.declared.row.Core.{Core}
 use Rattle.blocking_parts.specs.declared.row.Core.TheVariants as core
-use Rattle.blocking_parts.proofs.ties.Readers.{works_so, number_after_work, number_after_give_up}
+use Rattle.blocking_parts.proofs.moves.SessionActs.{first_where_parked, same_kind}
+use Rattle.blocking_lanes.proofs.owners.Jobs.{worked_on}
+use Rattle.blocking_parts.proofs.ties.SessionJobs.{first_of_table, job_action_is, job_answers, kind_answered}
+use Rattle.blocking_parts.proofs.ties.Readers.{number_after_work, number_after_give_up}
 
 -- ---- its turn
 
@@ -67,6 +66,9 @@ own_in_turn RoomShut fits = record { pool = refl; something = refl; accepted = r
 own_in_turn JobParked fits = record { pool = refl; something = refl; accepted = refl; ended = λ s. refl; stays = λ s stand mark. refl }
 own_in_turn (Put n waker) fits = record { pool = refl; something = refl; accepted = refl; ended = λ s. refl; stays = λ s stand mark. refl }
 own_in_turn (Lost n) fits = record { pool = refl; something = refl; accepted = refl; ended = λ s. refl; stays = λ s stand mark. refl }
+own_in_turn (Peeked bytes) fits = record { pool = refl; something = refl; accepted = refl; ended = λ s. refl; stays = λ s stand mark. refl }
+own_in_turn Drained fits = record { pool = refl; something = refl; accepted = refl; ended = λ s. refl; stays = λ s stand mark. refl }
+own_in_turn (TakenOut n waker) fits = record { pool = refl; something = refl; accepted = refl; ended = λ s. refl; stays = λ s stand mark. refl }
 own_in_turn (JobClosed waker) fits = record { pool = refl; something = refl; accepted = refl; ended = λ s. refl; stays = λ s stand mark. refl }
 own_in_turn (Finished waker) fits = record { pool = refl; something = refl; accepted = refl; ended = λ s. refl; stays = λ s stand mark. refl }
 own_in_turn HolderWoken fits = record { pool = refl; something = refl; accepted = refl; ended = λ s. refl; stays = λ s stand mark. refl }
@@ -90,6 +92,9 @@ turn_goes (RoomFree n) s first acts fits parks going = going
 turn_goes RoomShut s first acts fits parks going = going
 turn_goes (Put n waker) s first acts fits parks going = going
 turn_goes (Lost n) s first acts fits parks going = going
+turn_goes (Peeked bytes) s first acts fits parks going = going
+turn_goes Drained s first acts fits parks going = going
+turn_goes (TakenOut n waker) s first acts fits parks going = going
 turn_goes (JobClosed waker) s first acts fits parks going = going
 turn_goes (Finished waker) s first acts fits parks going = going
 turn_goes HolderWoken s first acts fits parks going = going
@@ -126,6 +131,7 @@ gave_acted stage.GaveUp act acts fits gave = absurd cc
 -- An act leaves a job with the same holder, as far as its core says; and one that parks is at its first action again.
 pub record Leaves (old new : Core) (act : Act) (acts : List Act) : Type 0 where
   pub party : party_of new ≡ party_of old
+  pub kind : kind_in_row new ≡ kind_in_row old
   pub core : CoreAs new (act ∷ acts)
   pub parks : act ≡ JobParked → is_at_first new ≡ true
 
@@ -145,66 +151,57 @@ call_leaves : (at : Stage) (k : ℕ) (next : Action) (n : ℕ) (all : List Task)
     → LeavesSo (core.Call k (call_by_parts next n)) acts did
 call_leaves at k next n all row None did acts ran place is = absurd cc
 call_leaves stage.Runs k action.Finish n all row (Some task) did acts ran place is =
-    subst (LeavesSo (core.Call k (call_by_parts action.Finish n)) acts) (ap (value_of did) is) (record { party = refl; core = λ going. finished_as (finish_wakes task n) n acts (ran place); parks = λ parks. absurd cc })
+    subst (LeavesSo (core.Call k (call_by_parts action.Finish n)) acts) (ap (value_of did) is) (record { party = refl; kind = refl; core = λ going. finished_as (finish_wakes task n) n acts (ran place); parks = λ parks. absurd cc })
 call_leaves stage.Runs k action.Deliver n all row (Some task) did acts ran place is =
     subst (LeavesSo (core.Call k (call_by_parts action.Deliver n)) acts) (ap (value_of did) is)
-    (record { party = refl; core = λ going. inr (ap (λ (l : List Act). HolderWoken ∷ l) (ran place)); parks = λ parks. absurd cc })
+    (record { party = refl; kind = refl; core = λ going. inr (ap (λ (l : List Act). HolderWoken ∷ l) (ran place)); parks = λ parks. absurd cc })
 call_leaves stage.Runs k action.Call n all row (Some task) did acts ran place is = absurd cc
 call_leaves stage.Runs k action.Done n all row (Some task) did acts ran place is = absurd cc
 call_leaves stage.MustGiveUp k next n all row (Some task) did acts ran place is =
-    subst (LeavesSo (core.Call k (call_by_parts next n)) acts) (ap (value_of did) is) (record { party = refl; core = λ going. absurd cc; parks = λ parks. absurd cc })
+    subst (LeavesSo (core.Call k (call_by_parts next n)) acts) (ap (value_of did) is) (record { party = refl; kind = refl; core = λ going. absurd cc; parks = λ parks. absurd cc })
 call_leaves stage.MustWake k next n all row (Some task) did acts ran place is =
     subst (LeavesSo (core.Call k (call_by_parts next n)) acts) (ap (value_of did) is)
-    (record { party = refl; core = λ going. let over : has_given_up acts ≡ true = place in absurd cc; parks = λ parks. absurd cc })
+    (record { party = refl; kind = refl; core = λ going. let over : has_given_up acts ≡ true = place in absurd cc; parks = λ parks. absurd cc })
 call_leaves stage.Waits k next n all row (Some task) did acts ran place is = absurd cc
 call_leaves stage.GaveUp k next n all row (Some task) did acts ran place is = absurd cc
 
--- the job of a reader, where what it works goes on by its table
-module _ (h : ℕ) (job : reads.Progress) (owner : Owner) (did : Done) (acts : List Act) (goes : ReadAs job acts → (done : Worked) → worked job owner ≡ Some done → ReadAs done.job (done.act ∷ acts)) where
-  -- one that parks looked for room
-  parked_first : ReadAs job acts → (done : Worked) → worked job owner ≡ Some done → done.act ≡ JobParked → is_first (reads.action_of done.job) ≡ true
-  parked_first read_as done is parks =
-      let looks = (works_so job owner done is).parks parks in
+-- the job of a session, where what it works goes on by its table
+module _ (h : ℕ) (job : SessionJob) (owner : Owner) (did : Done) (acts : List Act) (goes : JobAs job acts → (done : Worked) → worked job owner ≡ Some done → JobAs done.job (done.act ∷ acts)) where
+  -- one that parks was at its first action, and is there again
+  parked_first : JobAs job acts → (done : Worked) → worked job owner ≡ Some done → done.act ≡ JobParked → kind_of done.job ≡ kind_of job → is_first (jobs.action_of done.job) ≡ true
+  parked_first tied done is parks kind =
       ap is_first
-      (action_is done.job (done.act ∷ acts) (goes read_as done is) ∙ ap (λ (act : Act). next_of_job Reading (act ∷ acts)) parks
-      ∙ sym read_as.next ∙ ap (reads.action_as job.piece) (awake job read.FindRoom looks (λ same. cc)).next_is)
+      (job_action_is done.job (done.act ∷ acts) (goes tied done is) ∙ ap (λ (act : Act). next_of_job (kind_of done.job) (act ∷ acts)) parks ∙ ap (λ k. next_but_wake k acts) kind)
+      ∙ first_of_table job acts tied (first_where_parked job owner done is parks)
 
-  read_leaves : (at : Stage) (all : List Task) (row : List Owner) → (has_given_up acts ≡ false → ReadAs job acts) → PlaceAs (Some Running) (turn_of at) (is_first (reads.action_of job)) acts
-      → read_done h job all row (Some owner) (read_step at job) ≡ Some did → LeavesSo (core.Read h job) acts did
-  read_leaves stage.Runs all row ran place is = by (worked job owner) refl is
+  session_leaves : (at : Stage) (all : List Task) (row : List Owner) → (has_given_up acts ≡ false → JobAs job acts) → PlaceAs (Some Running) (turn_of at) (is_first (jobs.action_of job)) acts
+      → session_done h job all row (Some owner) (session_step at job) ≡ Some did → LeavesSo (core.Session h job) acts did
+  session_leaves stage.Runs all row ran place is = by (worked job owner) refl is
     where
-      by : (o : Option Worked) → worked job owner ≡ o → read_seen h job all row owner (owners.Works job) (owners.act_of_work o) ≡ Some did → LeavesSo (core.Read h job) acts did
+      by : (o : Option Worked) → worked job owner ≡ o → session_seen h job all row owner (owners.Works job) (owners.act_of_work o) ≡ Some did → LeavesSo (core.Session h job) acts did
       by None found is = absurd cc
       by (Some done) found is =
-          subst (LeavesSo (core.Read h job) acts) (ap (value_of did) is)
-          (subst (λ o. Leaves (core.Read h job) (core.Read h (owners.job_after_work o job)) done.act acts) (sym found)
-          (record { party = refl; core = λ going. goes (ran place) done found; parks = parked_first (ran place) done found }))
-  read_leaves stage.MustGiveUp all row ran place is =
-      subst (LeavesSo (core.Read h job) acts) (ap (value_of did) is) (record { party = refl; core = λ going. absurd cc; parks = λ parks. absurd cc })
-  read_leaves stage.MustWake all row ran place is =
-      subst (LeavesSo (core.Read h job) acts) (ap (value_of did) is)
-      (record { party = refl; core = λ going. let over : has_given_up acts ≡ true = place in absurd cc; parks = λ parks. absurd cc })
-  read_leaves stage.Waits all row ran place is = absurd cc
-  read_leaves stage.GaveUp all row ran place is = absurd cc
+          subst (LeavesSo (core.Session h job) acts) (ap (value_of did) is)
+          (subst (λ o. Leaves (core.Session h job) (core.Session h (owners.job_after_work o job)) done.act acts) (sym found)
+          (record { party = refl; kind = same_kind job owner done found; core = λ going. goes (ran place) done found; parks = λ parks. parked_first (ran place) done found parks (same_kind job owner done found) }))
+  session_leaves stage.MustGiveUp all row ran place is =
+      subst (LeavesSo (core.Session h job) acts) (ap (value_of did) is) (record { party = refl; kind = refl; core = λ going. absurd cc; parks = λ parks. absurd cc })
+  session_leaves stage.MustWake all row ran place is =
+      subst (LeavesSo (core.Session h job) acts) (ap (value_of did) is)
+      (record { party = refl; kind = refl; core = λ going. let over : has_given_up acts ≡ true = place in absurd cc; parks = λ parks. absurd cc })
+  session_leaves stage.Waits all row ran place is = absurd cc
+  session_leaves stage.GaveUp all row ran place is = absurd cc
 
 -- a job that acts by itself
 pub done_leaves : (setting : ℕ) (plan : List Bool) (w : Parts) (past : List Moment) (t : Tied setting plan w past) (at : Stage) (s : ℕ) (c : Core) (did : Done) → CoreAs c (acts_of s (events past))
     → PlaceAs (Some Running) (turn_of at) (is_at_first c) (acts_of s (events past)) → holder past s ≡ Some (party_of c) → done at c w.tasks w.owners ≡ Some did → Leaves c did.core did.act (acts_of s (events past))
 done_leaves setting plan w past t at s (core.Call k call) did ran place held is = call_leaves at k call.next call.number w.tasks w.owners (slice_get w.tasks k) did (acts_of s (events past)) ran place is
-done_leaves setting plan w past t at s (core.Read h job) did ran place held is = by (slice_get w.owners h) refl is
+done_leaves setting plan w past t at s (core.Session h job) did ran place held is = by (slice_get w.owners h) refl is
   where
-    by : (o : Option Owner) → slice_get w.owners h ≡ o → read_done h job w.tasks w.owners o (read_step at job) ≡ Some did → LeavesSo (core.Read h job) (acts_of s (events past)) did
+    by : (o : Option Owner) → slice_get w.owners h ≡ o → session_done h job w.tasks w.owners o (session_step at job) ≡ Some did → LeavesSo (core.Session h job) (acts_of s (events past)) did
     by None found is = absurd cc
-    by (Some owner) found is = read_leaves h job owner did (acts_of s (events past)) goes at w.tasks w.owners ran place is
-      where
-        its : acts_of s (cut h (events past)) ≡ acts_of s (events past)
-        its = t.owned.acts h s held
-
-        goes : ReadAs job (acts_of s (events past)) → (done : Worked) → worked job owner ≡ Some done → ReadAs done.job (done.act ∷ acts_of s (events past))
-        goes read_as done works =
-            subst (λ (l : List Act). ReadAs done.job (done.act ∷ l)) its
-            (works_goes owner.capacity owner.stage h 0 0 no_growth (cut h (events past)) owner.session s (t.owned.each h owner found) job (subst (ReadAs job) (sym its) read_as) (t.owned.begun h s held)
-            (read_next job.core) refl done works).read
+    by (Some owner) found is =
+        session_leaves h job owner did (acts_of s (events past)) (λ tied done works. worked_on job (acts_of s (events past)) owner done tied works) at w.tasks w.owners ran place is
 
 -- a job that is answered
 asked : (next : JobAction) (answer : Answer) → is_answered_action (next_in_turn GoesOn next) answer ≡ true → is_answer next answer ≡ true
@@ -223,7 +220,7 @@ asked Over answer is = absurd cc
 
 call_answered : (k : ℕ) (next : Action) (n : ℕ) (answer : Answer) (acts : List Act) → (has_given_up acts ≡ false → RanAs next n acts) → has_given_up acts ≡ false → is_answer (call_action next) answer ≡ true
     → Leaves (core.Call k (call_by_parts next n)) (core_after_answer answer (core.Call k (call_by_parts next n))) (Answered answer) acts
-call_answered k action.Call n (Number m) acts ran going is = record { party = refl; core = λ on. ap (λ (l : List Act). Answered (Number m) ∷ l) (ran going); parks = λ parks. absurd cc }
+call_answered k action.Call n (Number m) acts ran going is = record { party = refl; kind = refl; core = λ on. ap (λ (l : List Act). Answered (Number m) ∷ l) (ran going); parks = λ parks. absurd cc }
 call_answered k action.Call n (Gave bytes) acts ran going is = absurd cc
 call_answered k action.Call n Fine acts ran going is = absurd cc
 call_answered k action.Call n (Failed error) acts ran going is = absurd cc
@@ -234,7 +231,7 @@ call_answered k action.Done n answer acts ran going is = absurd cc
 pub answer_leaves : (c : Core) (answer : Answer) (acts : List Act) → CoreAs c acts → has_given_up acts ≡ false → is_answered_action (next_in_turn GoesOn (action_of c)) answer ≡ true
     → Leaves c (core_after_answer answer c) (Answered answer) acts
 answer_leaves (core.Call k call) answer acts ran going is = call_answered k call.next call.number answer acts ran going (asked (call_action call.next) answer is)
-answer_leaves (core.Read h job) answer acts ran going is = record { party = refl; core = λ on. answers job acts answer (ran going) (asked (reads.action_of job) answer is); parks = λ parks. absurd cc }
+answer_leaves (core.Session h job) answer acts ran going is = record { party = refl; kind = kind_answered job answer; core = λ on. job_answers job acts answer (ran going) (asked (jobs.action_of job) answer is); parks = λ parks. absurd cc }
 
 -- ---- the tasks and the owners
 
@@ -278,20 +275,20 @@ call_numbers k call at all row (Some task) (Some step) did found is =
     subst (KeepSo all row) (ap (value_of did) is)
     (record { of_task = kept_in (λ (x : Task). x.number) all k task (tasks.task_after step task) found (step_number step task); of_owner = λ h owner found. (owner, found, refl) })
 
-read_numbers : (h : ℕ) (job : reads.Progress) (all : List Task) (row : List Owner) (owner : Owner) (step : owners.OwnerStep) (seen : Option Act) (did : Done) → slice_get row h ≡ Some owner
-    → number_of owner ≡ number_of (owners.owner_after step owner) → read_seen h job all row owner step seen ≡ Some did → KeepSo all row did
-read_numbers h job all row owner step None did found same is = absurd cc
-read_numbers h job all row owner step (Some act) did found same is =
+session_numbers : (h : ℕ) (job : SessionJob) (all : List Task) (row : List Owner) (owner : Owner) (step : owners.OwnerStep) (seen : Option Act) (did : Done) → slice_get row h ≡ Some owner
+    → number_of owner ≡ number_of (owners.owner_after step owner) → session_seen h job all row owner step seen ≡ Some did → KeepSo all row did
+session_numbers h job all row owner step None did found same is = absurd cc
+session_numbers h job all row owner step (Some act) did found same is =
     subst (KeepSo all row) (ap (value_of did) is) (record { of_task = λ k task found. (task, found, refl); of_owner = kept_in number_of row h owner (owners.owner_after step owner) found same })
 
 pub done_numbers : (at : Stage) (c : Core) (all : List Task) (row : List Owner) (did : Done) → done at c all row ≡ Some did → KeepNumbers all row did.tasks did.owners
 done_numbers at (core.Call k call) all row did is = call_numbers k call at all row (slice_get all k) (call_step at call) did refl is
-done_numbers at (core.Read h job) all row did is = by at (slice_get row h) refl is
+done_numbers at (core.Session h job) all row did is = by at (slice_get row h) refl is
   where
-    by : (at : Stage) (o : Option Owner) → slice_get row h ≡ o → read_done h job all row o (read_step at job) ≡ Some did → KeepSo all row did
+    by : (at : Stage) (o : Option Owner) → slice_get row h ≡ o → session_done h job all row o (session_step at job) ≡ Some did → KeepSo all row did
     by at None found is = absurd cc
-    by stage.Runs (Some owner) found is = read_numbers h job all row owner (owners.Works job) (owners.act_of (owners.Works job) owner) did found (sym (number_after_work job owner)) is
-    by stage.MustGiveUp (Some owner) found is = read_numbers h job all row owner owners.GivesUp (owners.act_of owners.GivesUp owner) did found (sym (number_after_give_up owner)) is
-    by stage.MustWake (Some owner) found is = read_numbers h job all row owner owners.CallsWaker (owners.act_of owners.CallsWaker owner) did found refl is
+    by stage.Runs (Some owner) found is = session_numbers h job all row owner (owners.Works job) (owners.act_of (owners.Works job) owner) did found (sym (number_after_work job owner)) is
+    by stage.MustGiveUp (Some owner) found is = session_numbers h job all row owner owners.GivesUp (owners.act_of owners.GivesUp owner) did found (sym (number_after_give_up owner)) is
+    by stage.MustWake (Some owner) found is = session_numbers h job all row owner owners.CallsWaker (owners.act_of owners.CallsWaker owner) did found refl is
     by stage.Waits (Some owner) found is = absurd cc
     by stage.GaveUp (Some owner) found is = absurd cc

@@ -8,15 +8,15 @@ use Rattle.blocking_crew.specs.declared.hand.Hand.TheVariants.{Holds}
 use Rattle.blocking_crew.specs.declared.hand.Held.{Held}
 use Rattle.blocking_lanes.specs.OwnerTies.{OwnerAs, LastAs}
 use Rattle.blocking_lanes.specs.Owners.{Owner, capacity_of, number_in, number_of}
-use Rattle.blocking_lanes.specs.Reads as reads
 use Rattle.blocking_lanes.specs.Sessions.{Session}
 use Rattle.blocking_lanes.specs.Tasks.{Task}
-use Rattle.blocking_lanes.proofs.owners.Reads.{action_is, next_by}
-use Rattle.blocking_laws.specs.JobTable.{Reading, Over, next_but_wake, wake_first, has_given_up}
+use Rattle.blocking_parts.proofs.ties.SessionJobs.{first_of_table}
+use Rattle.blocking_laws.specs.JobTable.{Over, next_but_wake, has_given_up}
 use Rattle.blocking_laws.specs.Jobs.{holder, is_holder, standing, is_marked}
 use Rattle.blocking_laws.specs.Passed.{is_serial}
 use Rattle.blocking_laws.specs.Seen.{events, acts_of, own, cut}
-use Rattle.blocking_laws.specs.Sessions.{last_session}
+use Rattle.blocking_laws.specs.Sessions.{kind_of_job, last_session}
+use Rattle.blocking_laws.specs.Steps.{kind_by}
 use Rattle.blocking_laws.specs.Turns.{Turn, turn}
 use Rattle.blocking_laws.specs.declared.event.Act.{Act}
 use Rattle.blocking_laws.specs.declared.event.Event.{Event}
@@ -30,7 +30,7 @@ use Rattle.blocking_pool.specs.declared.pool.standing.Standing.{Standing}
 use Rattle.blocking_pool.specs.declared.pool.standing.Standing.TheVariants.{Queued, Running, Parked, Done, Dropped}
 use Rattle.blocking_parts.specs.Moves.{Move, Idles, Makes, Asks, Owns, Lends, Delivers, IsDropped, Begins, Calls, Works, IsAnswered, Parks, Passes, IsWoken, IsStruck, May, is_pass, task_call, call_of}
 use Rattle.blocking_parts.specs.Parts.{Parts}
-use Rattle.blocking_parts.specs.Rows.{party_of, is_first, is_at_first}
+use Rattle.blocking_parts.specs.Rows.{kind_of, party_of, is_first, is_at_first}
 use Rattle.blocking_parts.specs.Ties.{Tied, CoreAs, PlaceAs}
 use Rattle.blocking_parts.specs.declared.row.Core.{Core}
 use Rattle.blocking_parts.specs.declared.row.Core.TheVariants as core
@@ -49,15 +49,10 @@ at_rest (Some Done) at first acts rests place = absurd cc
 at_rest (Some Dropped) at first acts rests place = absurd cc
 at_rest None at first acts rests place = absurd cc
 
--- so the job of a reader that rests isn't over
-not_first : (waking : Bool) → is_first (wake_first waking Over) ≡ true → ⊥
-not_first true is = cc
-not_first false is = cc
-
-not_over : (h : ℕ) (c : Core) (acts : List Act) → party_of c ≡ ByOwner h → is_at_first c ≡ true → has_given_up acts ≡ false → CoreAs c acts → next_but_wake Reading acts ≡ Over → ⊥
+-- so the job of a session that rests isn't over
+not_over : (h : ℕ) (c : Core) (acts : List Act) → party_of c ≡ ByOwner h → is_at_first c ≡ true → has_given_up acts ≡ false → CoreAs c acts → next_but_wake (kind_of c) acts ≡ Over → ⊥
 not_over h (core.Call k call) acts party first stays so over = cc
-not_over h (core.Read g read) acts party first stays so over =
-    not_first (reads.has_waker acts) (sym (ap is_first (action_is read acts (so stays) ∙ next_by acts ∙ ap (wake_first (reads.has_waker acts)) over)) ∙ first)
+not_over h (core.Session g job) acts party first stays so over = let begins = sym (ap is_first over) ∙ first_of_table job acts (so stays) first in cc
 
 -- the last session's job
 number_is : (last : Option Session) (bytes : ℕ) (cut : List Event) (s : ℕ) → LastAs last bytes cut → is_serial (last_session (own cut)) (Some s) ≡ true → is_serial_of (number_in last) s ≡ true
@@ -119,7 +114,9 @@ module _ (setting : ℕ) (plan : List Bool) (w : Parts) (past : List Moment) (t 
               let row = held_row setting plan w past t s (ByOwner h) held in
               let r = t.rowed.each s row.0 row.1 in
               let rest = at_rest (standing past s) (turn past s) (is_at_first row.0.core) (acts_of s (events past)) rests r.place in
-              let over : next_but_wake Reading (acts_of s (events past)) ≡ Over = ap (next_but_wake Reading) (sym (t.owned.acts h s held)) ∙ tie.earlier s (t.owned.begun h s held) is in
+              let kind : kind_of_job s (own (cut h (events past))) ≡ kind_of row.0.core = ap (λ who. kind_by who past s) (sym held) ∙ r.kind_is in
+              let over : next_but_wake (kind_of row.0.core) (acts_of s (events past)) ≡ Over =
+              ap (λ k. next_but_wake k (acts_of s (events past))) (sym kind) ∙ ap (next_but_wake (kind_of_job s (own (cut h (events past))))) (sym (t.owned.acts h s held)) ∙ tie.earlier s (t.owned.begun h s held) is in
               absurd (not_over h row.0.core (acts_of s (events past)) row.2 rest.0 rest.1 r.core over)
 
   owner_number_if : (h : ℕ) (owner : Owner) → slice_get w.owners h ≡ Some owner → IfSome (number_of owner) (IsNumberOf w.crew.pool)

@@ -1,5 +1,5 @@
 -- A new job keeps the rows: where it is accepted, it gets the next one.
-use Rattle.std.proofs.Common.{◌≡◌, ◌⊎◌, inl, inr, ⊎_elim, ℕ, ◌+◌, ◌==◌, ◌++◌, List, [], ◌∷◌, length, length-append, Bool, true, false, refl, sym, ap, ◌∙◌, subst, Some, if◌then◌else◌}
+use Rattle.std.proofs.Common.{◌≡◌, ◌⊎◌, inl, inr, ⊎_elim, ℕ, ◌+◌, ◌==◌, ◌++◌, List, [], ◌∷◌, length, length-append, Bool, true, false, refl, sym, ap, ◌∙◌, subst, Some, if◌then◌else◌, suc, zero, Option, None}
 use Rattle.std.specs.Prelude.{slice_get, slice_set, Ok}
 use Rattle.std.proofs.lemmas.Bool.{eqb-true, eq-eqb}
 use Rattle.std.proofs.lemmas.Option.{slice_get_within}
@@ -10,7 +10,20 @@ use Rattle.blocking_crew.specs.Ties.{CrewHolds, IsNumberOf}
 use Rattle.blocking_crew.specs.declared.hand.Hand.TheVariants.{Holds}
 use Rattle.blocking_crew.specs.declared.hand.Held.{Held}
 use Rattle.blocking_lanes.specs.OwnerSteps as owners
-use Rattle.blocking_lanes.specs.Owners.{Owner, after_begin, capacity_of, next_at, number_of}
+use Rattle.blocking_core.specs.declared.unblock.OwnerAction.TheVariants as action
+use Rattle.blocking_lanes.specs.OwnerTies.{OwnerAs, BeginsBy}
+use Rattle.blocking_lanes.specs.Owners.{Owner, after_begin, capacity_of, new_job_of, next_at, number_of}
+use Rattle.blocking_lanes.specs.SessionJobs as jobs
+use Rattle.blocking_lanes.specs.SessionJobs.{JobAs, new_job}
+use Rattle.blocking_lanes.specs.Sessions.{Session}
+use Rattle.blocking_lanes.proofs.owners.Own.{owner_by_parts, fits_at}
+use Rattle.blocking_lanes.proofs.owners.Steps.{begins_at}
+use Rattle.blocking_laws.specs.JobTable.{Kind, Calling, Reading, Writing}
+use Rattle.blocking_laws.specs.Sessions as sessions
+use Rattle.blocking_laws.specs.Sessions.{kind_of_job}
+use Rattle.blocking_laws.specs.Steps.{kind_by}
+use Rattle.blocking_laws.specs.declared.step.HandleCall.{HandleCall}
+use Rattle.blocking_laws.specs.declared.step.HandleCall.TheVariants as handle_call
 use Rattle.blocking_lanes.specs.Tasks.{Task, new_task}
 use Rattle.blocking_lanes.specs.declared.owner.OwnerNext.TheVariants as next
 use Rattle.blocking_lanes.specs.declared.owner.OwnerStage.{OwnerStage}
@@ -19,7 +32,7 @@ use Rattle.blocking_pool.proofs.Places.{got_before, got_other, got_same, in_push
 use Rattle.blocking_lanes.proofs.cuts.Acts.{acts_more}
 use Rattle.blocking_laws.specs.Growth.{IsPlanned}
 use Rattle.blocking_laws.specs.Jobs.{accepted_by, accepted_jobs, accepts, ends_for_good, holder, newcomer, standing}
-use Rattle.blocking_laws.specs.Seen.{events, acts_of, is_some_worker, joined}
+use Rattle.blocking_laws.specs.Seen.{events, acts_of, acts_of_owner, own, cut, is_some_worker, joined}
 use Rattle.blocking_laws.specs.Turns.{turn}
 use Rattle.blocking_laws.specs.declared.event.Act.TheVariants.{Accepted}
 use Rattle.blocking_laws.specs.declared.event.Event.{Event}
@@ -29,7 +42,7 @@ use Rattle.blocking_pool.specs.Jobs.{JobNumber}
 use Rattle.blocking_pool.specs.declared.pool.standing.Standing.TheVariants.{Queued}
 use Rattle.blocking_parts.specs.Moves.{Begins, Lends, May, CrewMoves, step_of, rows_after, tasks_after, owners_after}
 use Rattle.blocking_parts.specs.Parts.{Parts, row_of}
-use Rattle.blocking_parts.specs.Rows.{call_row, read_row, is_at_first, party_of}
+use Rattle.blocking_parts.specs.Rows.{call_row, session_row, is_at_first, is_first, kind_of, party_of}
 use Rattle.blocking_parts.specs.Ties.{Tied, Rowed, RowAs, HasRow, CoreAs, PlaceAs, GaveAs, moment}
 use Rattle.blocking_parts.specs.declared.row.Core.{Core}
 use Rattle.blocking_parts.specs.declared.row.Row.{Row}
@@ -37,6 +50,7 @@ use Rattle.blocking_parts.proofs.moves.Found.{row_found, row_at, row_pushed}
 use Rattle.blocking_parts.proofs.ties.Hands.{IsOldOrBegins, hands_moved}
 use Rattle.blocking_parts.proofs.ties.Jobs.{next_row, next_free}
 use Rattle.blocking_parts.proofs.ties.Kept.{row_kept}
+use Rattle.blocking_parts.proofs.ties.Acted.{seen_is}
 use Rattle.blocking_parts.proofs.ties.Told.{told, by_no_worker, added_of}
 
 -- an older row stays
@@ -55,6 +69,7 @@ record IsBorn (w new : Parts) (past : List Moment) (now : Moment) (row : Row) : 
   number_is : IsNumberOf new.crew.pool row.number
   first : is_at_first row.core ≡ true
   core : CoreAs row.core []
+  kind : (s : ℕ) → (row.number.serial == s) ≡ true → kind_by (Some (party_of row.core)) (now ∷ past) s ≡ kind_of row.core
   hands : (v : ℕ) (held : Held) → hand_at new.crew.hands v ≡ Holds held → IsOldOrBegins w.crew.hands v held
   rows : new.rows ≡ w.rows ++ row ∷ []
   tasks : (k : ℕ) (task : Task) → slice_get new.tasks k ≡ Some task → (slice_get w.tasks k ≡ Some task) ⊎ ((row.number ≡ task.number) × (party_of row.core ≡ ByTask k))
@@ -102,6 +117,7 @@ module _ (setting : ℕ) (plan : List Bool) (w : Parts) (past : List Moment) (t 
         serial = same;
         number = b.number_is;
         held_by = held_by s true here;
+        kind_is = ap (λ who. kind_by who (now ∷ past) s) (held_by s true here) ∙ b.kind s here;
         core = subst (CoreAs row.core) (sym acts) b.core;
         place = subst (λ o. PlaceAs o (turn (now ∷ past) s) (is_at_first row.core) (acts_of s (events (now ∷ past)))) (sym queued)
             (subst (λ l. PlaceAs (Some Queued) (turn (now ∷ past) s) (is_at_first row.core) l) (sym acts) (b.first, refl));
@@ -138,6 +154,43 @@ module _ (setting : ℕ) (plan : List Bool) (w : Parts) (past : List Moment) (t 
 
 -- ---- the moves
 
+-- its job has done nothing yet, and is at its first action
+new_so : (kind : Kind) → JobAs (new_job kind) []
+new_so Writing = record { next = refl; offered = tt; waking = refl; fault_is = refl }
+new_so Reading = record { next = refl; waking = refl; fault_is = refl }
+new_so Calling = record { next = refl; waking = refl; fault_is = refl }
+
+new_first : (kind : Kind) → is_first (jobs.action_of (new_job kind)) ≡ true
+new_first Writing = refl
+new_first Reading = refl
+new_first Calling = refl
+
+-- it is of the kind that the call asks for which begins the session
+kind_begun : (c : HandleCall) → BeginsBy c → sessions.kind_of (Some c) ≡ jobs.kind_of (new_job (sessions.kind_of (Some c)))
+kind_begun (handle_call.Read zero) begins = absurd begins
+kind_begun (handle_call.Read (suc n)) begins = refl
+kind_begun (handle_call.Write []) begins = absurd begins
+kind_begun (handle_call.Write (byte ∷ bytes)) begins = refl
+kind_begun handle_call.Flush begins = absurd begins
+kind_begun handle_call.Close begins = absurd begins
+kind_begun handle_call.GetMut begins = absurd begins
+
+begins_kind : (bytes : ℕ) (asked : Option HandleCall) (here : OwnerStage) (last : Option Session) (cut : List Event) → OwnerAs (owner_by_parts bytes asked here last) cut → next_at here last ≡ next.Begins
+    → sessions.kind_of (sessions.call (own cut)) ≡ jobs.kind_of (new_job (sessions.kind_of asked))
+begins_kind bytes asked (stage.Polls poll) last cut t begins =
+    let c = t.stage.0.call in
+    let fits = fits_at bytes asked poll cut last action.Begin t (begins_at bytes asked poll last cut t begins) in
+    ap sessions.kind_of t.stage.0.asked_is ∙ kind_begun c fits.0 ∙ ap (λ o. jobs.kind_of (new_job (sessions.kind_of o))) (sym t.stage.0.asked_is ∙ t.asked)
+begins_kind bytes asked (stage.Rests at) last cut t begins = absurd cc
+begins_kind bytes asked (stage.Wakes poll note) last cut t begins = absurd cc
+begins_kind bytes asked stage.Dropped last cut t begins = absurd cc
+
+-- and that its acceptance tells
+accepted_kind : (h s n first started : ℕ) (refused : Bool) (seen : List Event) → (n == s) ≡ true
+    → kind_of_job s (acts_of_owner h (record { party = ByOwner h; owner = None; job = None; act = Accepted n; first = first; started = started; start_refused = refused } ∷ seen))
+    ≡ sessions.kind_of (sessions.call (acts_of_owner h seen))
+accepted_kind h s n first started refused seen is = rw (eq-eqb h h refl, is) refl
+
 -- where a session begins, it is that of the new job
 begins_with : (number : JobNumber) (pipe : Pipe ℕ (Unit {0})) (here : OwnerStage) (owner : Owner) → next_at here owner.session ≡ next.Begins → number_of (after_begin number pipe here owner) ≡ Some number
 begins_with number pipe (stage.Polls poll) owner is = refl
@@ -162,6 +215,7 @@ module _ (setting : ℕ) (plan : List Bool) (w : Parts) (past : List Moment) (t 
         number_is = added.1;
         first = refl;
         core = λ going. refl;
+        kind = λ s here. refl;
         hands = hands_moved (IsPlanned plan) (crew.Add Pool (Ok number)) w.crew new.crew e refl does;
         rows = rows;
         tasks = λ k task found.
@@ -176,15 +230,19 @@ module _ (setting : ℕ) (plan : List Bool) (w : Parts) (past : List Moment) (t 
   rows_lent h owner may does rows tasks theirs later =
       let said = told (IsPlanned plan) (crew.Add (ByOwner h) (Ok number)) w.crew new.crew e does in
       let added = added_of plan (ByOwner h) w.crew new.crew e number does in
-      rows_born setting plan w past t new (moment new (step_of (Lends h owner (Ok number))) e) (read_row number h)
+      rows_born setting plan w past t new (moment new (step_of (Lends h owner (Ok number))) e) (session_row number h (new_job_of owner))
       (record {
         accepted = said.act_is;
         by_none = ap is_some_worker said.party;
         brings = ap (newcomer past) said.party;
         serial = added.0;
         number_is = added.1;
-        first = refl;
-        core = λ going. record { next = refl; waking = refl; fault_is = refl };
+        first = new_first (sessions.kind_of owner.asked);
+        core = λ going. new_so (sessions.kind_of owner.asked);
+        kind = λ s here.
+            subst (λ (x : Event). kind_of_job s (acts_of_owner h (x ∷ events past)) ≡ jobs.kind_of (new_job_of owner)) (sym (seen_is new (ByOwner h) None None (Accepted number.serial) e said refl))
+            (accepted_kind h s number.serial e.first e.started e.start_refused (events past) here
+            ∙ begins_kind owner.capacity owner.asked owner.stage owner.session (cut h (events past)) (t.owned.each h owner may.0) may.1);
         hands = hands_moved (IsPlanned plan) (crew.Add (ByOwner h) (Ok number)) w.crew new.crew e refl does;
         rows = rows;
         tasks = λ k task found. inl (ap (λ (l : List Task). slice_get l k) (sym tasks) ∙ found);

@@ -3,8 +3,7 @@ use Rattle.std.proofs.Common.{◌≡◌, ◌⊎◌, inl, inr, ℕ, ◌<◌, List
 use Rattle.std.specs.Prelude.{◌||◌, slice_get, slice_set, is_some, is_none, Ok, Err}
 use Rattle.std.proofs.lemmas.Bool.{eqb-true, eq-eqb}
 use Rattle.std.proofs.lemmas.Option.{slice_get_within}
-use Rattle.blocking_core.specs.Reading.{read_next}
-use Rattle.blocking_core.specs.declared.job.read.ReadAction.TheVariants as read_action
+use Rattle.blocking_core.specs.declared.unblock.OwnerAction.TheVariants as action
 use Rattle.blocking_crew.specs.Moves.{parked_act}
 use Rattle.blocking_crew.specs.Ties.{CrewHolds, turn_of}
 use Rattle.blocking_crew.specs.declared.hand.Stage.{Stage}
@@ -15,25 +14,29 @@ use Rattle.blocking_lanes.specs.OwnerSteps as owners
 use Rattle.blocking_lanes.specs.OwnerSteps.{OwnerStep}
 use Rattle.blocking_lanes.specs.OwnerTies.{OwnerAs, LastAs, ResultAs, state_as}
 use Rattle.blocking_lanes.specs.Owners.{Owner, Worked, capacity_of, next_at, next_of, new_owner, note_at, number_in, number_of, worked}
-use Rattle.blocking_lanes.specs.Reads as reads
-use Rattle.blocking_lanes.specs.Reads.{ReadAs}
+use Rattle.blocking_lanes.specs.SessionJobs as jobs
+use Rattle.blocking_lanes.specs.SessionJobs.{JobAs}
 use Rattle.blocking_lanes.specs.Sessions.{Session}
+use Rattle.blocking_lanes.specs.declared.job.SessionJob.{SessionJob}
 use Rattle.blocking_lanes.specs.declared.owner.OwnerNext.TheVariants as next
 use Rattle.blocking_lanes.specs.declared.owner.OwnerStage.{OwnerStage}
 use Rattle.blocking_lanes.specs.declared.owner.OwnerStage.TheVariants as owner_stage
 use Rattle.blocking_pool.proofs.Places.{got_same, in_pushed}
-use Rattle.blocking_lanes.proofs.owners.Cuts.{state_is}
+use Rattle.blocking_lanes.proofs.owners.Cuts.{its_kind, kind_is, state_is}
 use Rattle.blocking_lanes.proofs.owners.Own.{fits_at, owner_by_parts, value_of}
 use Rattle.blocking_lanes.proofs.owners.Sessions.{going}
 use Rattle.blocking_lanes.proofs.owners.Steps.{IsLast, begins_at, its_last}
 use Rattle.blocking_laws.specs.Growth.{IsPlanned}
-use Rattle.blocking_laws.specs.JobTable.{Reading, next_but_wake, is_over, fault, has_finished, has_given_up}
+use Rattle.blocking_laws.specs.JobTable.{next_but_wake, is_over, fault, has_finished, has_given_up}
 use Rattle.blocking_laws.specs.Jobs.{holder, standing, is_woken}
 use Rattle.blocking_laws.specs.Legal.{PoolLaw}
 use Rattle.blocking_laws.specs.OwnerSeats.{is_job_seated}
 use Rattle.blocking_laws.specs.Seen.{EachMayFollow, events, acts_of, cut, own, is_by_task, is_nothing, is_of_job, is_of_pool, is_some_worker}
 use Rattle.blocking_laws.specs.Sessions as sessions
+use Rattle.blocking_laws.specs.Sessions.{kind_of_job}
+use Rattle.blocking_laws.specs.Steps.{kind_by}
 use Rattle.blocking_laws.specs.Turns.{turn}
+use Rattle.blocking_laws.specs.declared.step.HandleCall.{HandleCall}
 use Rattle.blocking_laws.specs.declared.event.Act.{Act}
 use Rattle.blocking_laws.specs.declared.event.Act.TheVariants.{JobParked, JobWoken}
 use Rattle.blocking_laws.specs.declared.event.Event.{Event}
@@ -44,14 +47,15 @@ use Rattle.blocking_laws.proofs.Beginnings.{keeps}
 use Rattle.blocking_pool.specs.declared.pool.standing.Standing.TheVariants.{Running}
 use Rattle.blocking_parts.specs.Moves.{Move, Idles, Makes, Asks, Owns, Lends, Delivers, IsDropped, Begins, Calls, Works, IsAnswered, Parks, Passes, IsWoken, IsStruck, May, CrewMoves, step_of, owners_after}
 use Rattle.blocking_parts.specs.Parts.{Parts, InHand, done_by}
-use Rattle.blocking_parts.specs.Rows.{Done, done, is_at_first, is_first, party_of, read_step}
+use Rattle.blocking_parts.specs.Rows.{Done, done, is_at_first, is_first, kind_of, party_of, session_step}
 use Rattle.blocking_parts.specs.Ties.{Crossed, CoreAs, IsMet, PlaceAs, Tied, is_left, is_number, moment, seated_in}
 use Rattle.blocking_parts.specs.declared.row.Core.{Core}
 use Rattle.blocking_parts.specs.declared.row.Core.TheVariants as core
 use Rattle.blocking_parts.proofs.moves.Found.{in_set, one_found}
 use Rattle.blocking_parts.proofs.moves.Seats.{SeatAs, asked_met, delivered_met, did_met, dropped_met, gave_up_met, refused_met, worked_met, worked_parks}
+use Rattle.blocking_parts.proofs.moves.SessionActs.{first_where_parked}
 use Rattle.blocking_parts.proofs.past.Left.{left_before, left_place, left_stands, left_unwoken}
-use Rattle.blocking_parts.proofs.ties.Acted.{call_acts, read_acts}
+use Rattle.blocking_parts.proofs.ties.Acted.{call_acts, session_acts}
 use Rattle.blocking_parts.proofs.ties.Jobs.{IsHere, held_row, holder_stands, job_here, job_place}
 use Rattle.blocking_parts.proofs.ties.LetGo.{owner_there}
 use Rattle.blocking_parts.proofs.ties.Owners.{first_goes}
@@ -66,13 +70,16 @@ seat_as None bytes X t = tt
 seat_as (Some session) bytes X t = t.seats.job
 
 -- while its job isn't over, the handle isn't back
-still_lent : (session : Session) (bytes : ℕ) (X : List Event) → LastAs (Some session) bytes X → is_over (next_but_wake Reading (acts_of session.number.serial X)) ≡ false → is_none (sessions.session (own X)) ≡ false
+still_lent : (session : Session) (bytes : ℕ) (X : List Event) → LastAs (Some session) bytes X → is_over (next_but_wake (kind_of_job session.number.serial (own X)) (acts_of session.number.serial X)) ≡ false
+    → is_none (sessions.session (own X)) ≡ false
 still_lent session bytes X t goes =
     let works = acts_of session.number.serial X in
+    let kind = its_kind session bytes X t in
     let back = is_none (sessions.session (own X)) in
     let dropped = sessions.is_dropped (own X) in
-    (going session.slot.content (has_finished works) (has_given_up works) back dropped (fault Reading works)
-    (subst (λ over. ResultAs session.slot.content (has_finished works) (has_given_up works) over back dropped (fault Reading works)) goes t.result)).lent
+    let on : is_over (next_but_wake kind works) ≡ false = ap (λ k. is_over (next_but_wake k works)) (sym (kind_is session bytes X t)) ∙ goes in
+    (going session.slot.content (has_finished works) (has_given_up works) back dropped (fault kind works)
+    (subst (λ over. ResultAs session.slot.content (has_finished works) (has_given_up works) over back dropped (fault kind works)) on t.result)).lent
 
 -- where the handle is with its owner, it is back
 idle_back : (last : Option sessions.Session) (shut : Bool) → sessions.state_in last shut ≡ sessions.Idle → is_none last ≡ true
@@ -80,24 +87,25 @@ idle_back None shut is = refl
 idle_back (Some session) shut is = absurd cc
 
 -- an owner whose session begins has its handle
-begins_idle : (bytes : ℕ) (here : OwnerStage) (last : Option Session) (X : List Event) → OwnerAs (owner_by_parts bytes here last) X → next_at here last ≡ next.Begins
+begins_idle : (bytes : ℕ) (asked : Option HandleCall) (here : OwnerStage) (last : Option Session) (X : List Event) → OwnerAs (owner_by_parts bytes asked here last) X → next_at here last ≡ next.Begins
     → sessions.state_in (sessions.session (own X)) (sessions.is_shut (own X)) ≡ sessions.Idle
-begins_idle bytes (owner_stage.Polls poll) last X t begins =
-    let fits = fits_at bytes poll X last _ t (begins_at bytes poll last X t begins) in
-    sym (state_is (own X) poll.state t.stage.0.at_is) ∙ ap (value_of sessions.Idle) (t.stage.0.at_is ∙ ap state_as fits.2)
-begins_idle bytes (owner_stage.Rests at) last X t begins = absurd cc
-begins_idle bytes (owner_stage.Wakes poll note) last X t begins = absurd cc
-begins_idle bytes owner_stage.Dropped last X t begins = absurd cc
+begins_idle bytes asked (owner_stage.Polls poll) last X t begins =
+    let fits = fits_at bytes asked poll X last action.Begin t (begins_at bytes asked poll last X t begins) in
+    let idle = fits.1 in
+    sym (state_is (own X) poll.state t.stage.0.at_is (λ closed. cc)) ∙ t.stage.0.at_is ∙ ap state_as idle
+begins_idle bytes asked (owner_stage.Rests at) last X t begins = absurd cc
+begins_idle bytes asked (owner_stage.Wakes poll note) last X t begins = absurd cc
+begins_idle bytes asked owner_stage.Dropped last X t begins = absurd cc
 
 -- ---- one act of a job
 
 -- the job of an owner at its first action isn't over
-first_stays : (h : ℕ) (c : Core) (acts : List Act) → party_of c ≡ ByOwner h → is_at_first c ≡ true → has_given_up acts ≡ false → CoreAs c acts → is_over (next_but_wake Reading acts) ≡ false
+first_stays : (h : ℕ) (c : Core) (acts : List Act) → party_of c ≡ ByOwner h → is_at_first c ≡ true → has_given_up acts ≡ false → CoreAs c acts → is_over (next_but_wake (kind_of c) acts) ≡ false
 first_stays h (core.Call k call) acts party first going so = absurd cc
-first_stays h (core.Read g job) acts party first going so = first_goes job acts (so going) first
+first_stays h (core.Session g job) acts party first going so = first_goes job acts (so going) first
 
 -- what its job does leaves a job with its owner
-step_met : (at : Stage) (job : reads.Progress) (step : OwnerStep) (owner : Owner) (s : ℕ) (seated : Bool) → read_step at job ≡ Some step → SeatAs seated owner.session → IsMet owner s → IsMet (owners.owner_after step owner) s
+step_met : (at : Stage) (job : SessionJob) (step : OwnerStep) (owner : Owner) (s : ℕ) (seated : Bool) → session_step at job ≡ Some step → SeatAs seated owner.session → IsMet owner s → IsMet (owners.owner_after step owner) s
 step_met stage.Runs job step owner s seated is seat met =
     subst (λ (x : OwnerStep). IsMet (owners.owner_after x owner) s) (ap (value_of step) is) (by (worked job owner) refl)
   where
@@ -109,13 +117,13 @@ step_met stage.MustWake job step owner s seated is seat met = subst (λ (x : Own
 step_met stage.Waits job step owner s seated is seat met = absurd cc
 step_met stage.GaveUp job step owner s seated is seat met = absurd cc
 
--- A job parks while its turn goes on, where it looked for room, and is seated.
-record ParksSo (at : Stage) (job : reads.Progress) (step : OwnerStep) (owner : Owner) : Type 0 where
+-- A job parks while its turn goes on, at its first action, and is seated.
+record ParksSo (at : Stage) (job : SessionJob) (step : OwnerStep) (owner : Owner) : Type 0 where
   runs : at ≡ stage.Runs
-  looks : read_next job.core ≡ read_action.FindRoom
+  first : is_first (jobs.action_of job) ≡ true
   seat : seated_in (owners.owner_after step owner).session ≡ number_of owner
 
-parks_so : (at : Stage) (job : reads.Progress) (step : OwnerStep) (owner : Owner) (act : Act) → read_step at job ≡ Some step → owners.act_of step owner ≡ Some act → act ≡ JobParked → ParksSo at job step owner
+parks_so : (at : Stage) (job : SessionJob) (step : OwnerStep) (owner : Owner) (act : Act) → session_step at job ≡ Some step → owners.act_of step owner ≡ Some act → act ≡ JobParked → ParksSo at job step owner
 parks_so stage.Runs job step owner act is does parks =
     let same = ap (value_of step) is in
     subst (λ (x : OwnerStep). ParksSo stage.Runs job x owner) same (by (worked job owner) refl (ap (λ (x : OwnerStep). owners.act_of x owner) same ∙ does))
@@ -123,8 +131,12 @@ parks_so stage.Runs job step owner act is does parks =
     by : (o : Option Worked) → worked job owner ≡ o → owners.act_of_work o ≡ Some act → ParksSo stage.Runs job (owners.Works job) owner
     by None found does = absurd cc
     by (Some did) found does =
-        let so = worked_parks job owner did found (ap (value_of act) does ∙ parks) in
-        record { runs = refl; looks = so.0; seat = ap (λ o. seated_in (owners.owner_after_work o owner).session) found ∙ so.1 }
+        let park : did.act ≡ JobParked = ap (value_of act) does ∙ parks in
+        record {
+          runs = refl;
+          first = first_where_parked job owner did found park;
+          seat = ap (λ o. seated_in (owners.owner_after_work o owner).session) found ∙ worked_parks job owner did found park;
+        }
 parks_so stage.MustGiveUp job step owner act is does parks =
     let same = ap (value_of step) is in
     let gave : Some (owners.act_of owners.GivesUp owner) ≡ Some (owners.act_of step owner) = ap (λ (x : OwnerStep). Some (owners.act_of x owner)) same in
@@ -140,16 +152,19 @@ parks_so stage.GaveUp job step owner act is does parks = absurd cc
 
 module _ (setting : ℕ) (plan : List Bool) (w : Parts) (past : List Moment) (t : Tied setting plan w past) where
   -- it isn't over
-  left_goes : (h s : ℕ) → holder past s ≡ Some (ByOwner h) → is_left past s ≡ true → is_over (next_but_wake Reading (acts_of s (cut h (events past)))) ≡ false
+  left_goes : (h s : ℕ) → holder past s ≡ Some (ByOwner h) → is_left past s ≡ true → is_over (next_but_wake (kind_of_job s (own (cut h (events past)))) (acts_of s (cut h (events past)))) ≡ false
   left_goes h s held left =
       let row = held_row setting plan w past t s (ByOwner h) held in
       let r = t.rowed.each s row.0 row.1 in
       let place = left_place (standing past s) (turn past s) (is_woken past s) (is_at_first row.0.core) (acts_of s (events past)) left r.place in
-      ap (λ l. is_over (next_but_wake Reading l)) (t.owned.acts h s held) ∙ first_stays h row.0.core (acts_of s (events past)) row.2 place.0 place.1 r.core
+      ap (λ l. is_over (next_but_wake (kind_of_job s (own (cut h (events past)))) l)) (t.owned.acts h s held)
+      ∙ ap (λ k. is_over (next_but_wake k (acts_of s (events past)))) (ap (λ who. kind_by who past s) (sym held) ∙ r.kind_is)
+      ∙ first_stays h row.0.core (acts_of s (events past)) row.2 place.0 place.1 r.core
 
   -- a job that isn't over is that of its owner's last session
-  is_its_last : (h s : ℕ) (owner : Owner) → slice_get w.owners h ≡ Some owner → holder past s ≡ Some (ByOwner h) → is_over (next_but_wake Reading (acts_of s (cut h (events past)))) ≡ false → IsLast owner.session s
-  is_its_last h s owner found held goes = its_last owner.capacity owner.stage owner.session s (cut h (events past)) (t.owned.each h owner found) (t.owned.begun h s held) goes
+  is_its_last : (h s : ℕ) (owner : Owner) → slice_get w.owners h ≡ Some owner → holder past s ≡ Some (ByOwner h) → is_over (next_but_wake (kind_of_job s (own (cut h (events past)))) (acts_of s (cut h (events past)))) ≡ false
+      → IsLast owner.session s
+  is_its_last h s owner found held goes = its_last owner.capacity owner.asked owner.stage owner.session s (cut h (events past)) (t.owned.each h owner found) (t.owned.begun h s held) goes
 
   -- so no session of its owner begins
   none_begins : (h s : ℕ) (owner : Owner) → slice_get w.owners h ≡ Some owner → holder past s ≡ Some (ByOwner h) → is_left past s ≡ true → next_of owner ≡ next.Begins → ⊥
@@ -158,8 +173,8 @@ module _ (setting : ℕ) (plan : List Bool) (w : Parts) (past : List Moment) (t 
       let tie = t.owned.each h owner found in
       let goes = left_goes h s held left in
       let l = is_its_last h s owner found held goes in
-      let lent = still_lent l.session (capacity_of owner) X (subst (λ o. LastAs o (capacity_of owner) X) l.here tie.last) (subst (λ n. is_over (next_but_wake Reading (acts_of n X)) ≡ false) l.same goes) in
-      let back = idle_back (sessions.session (own X)) (sessions.is_shut (own X)) (begins_idle owner.capacity owner.stage owner.session X tie begins) in
+      let lent = still_lent l.session (capacity_of owner) X (subst (λ o. LastAs o (capacity_of owner) X) l.here tie.last) (subst (λ n. is_over (next_but_wake (kind_of_job n (own X)) (acts_of n X)) ≡ false) l.same goes) in
+      let back = idle_back (sessions.session (own X)) (sessions.is_shut (own X)) (begins_idle owner.capacity owner.asked owner.stage owner.session X tie begins) in
       never (is_none (sessions.session (own X))) lent back
     where
       never : (b : Bool) → b ≡ false → b ≡ true → ⊥
@@ -201,8 +216,8 @@ module _ (setting : ℕ) (plan : List Bool) (w : Parts) (past : List Moment) (t 
         by (core.Call k call) is =
             let a = call_acts w job.held.stage k call did (ap (λ c. done job.held.stage c w.tasks w.owners) (sym is) ∙ does) in
             subst MetIn (sym a.owners_are) still
-        by (core.Read g read) is =
-            let a = read_acts w job.held.stage g read did (ap (λ c. done job.held.stage c w.tasks w.owners) (sym is) ∙ does) in
+        by (core.Session g read) is =
+            let a = session_acts w job.held.stage g read did (ap (λ c. done job.held.stage c w.tasks w.owners) (sym is) ∙ does) in
             let seat = seat_as a.owner.session (capacity_of a.owner) (cut g (events past)) (t.owned.each g a.owner a.there).last in
             subst MetIn (sym a.owners_are)
             (set_met g a.owner (owners.owner_after a.step a.owner) a.there (λ same met. step_met job.held.stage read a.step a.owner s (is_job_seated (cut g (events past))) a.next seat met))
@@ -243,18 +258,20 @@ module _ (setting : ℕ) (plan : List Bool) (w : Parts) (past : List Moment) (t 
     where
       by : (c : Core) → job.row.core ≡ c → party_of c ≡ ByOwner h → IsMet owner job.held.turn.serial
       by (core.Call k call) is its = absurd cc
-      by (core.Read g read) is its =
+      by (core.Session g read) is its =
           let s = job.held.turn.serial in
           let same : g ≡ h = cc in
           let acts = acts_of s (events past) in
           let as_row = t.rowed.each s job.row here.has_row in
           let held : holder past s ≡ Some (ByOwner g) = as_row.held_by ∙ ap (λ c. Some (party_of c)) is in
-          let a = read_acts w job.held.stage g read did (ap (λ c. done job.held.stage c w.tasks w.owners) (sym is) ∙ does) in
+          let a = session_acts w job.held.stage g read did (ap (λ c. done job.held.stage c w.tasks w.owners) (sym is) ∙ does) in
           let p = parks_so job.held.stage read a.step a.owner did.act a.next a.act_is parks in
           let going : has_given_up acts ≡ false = subst (λ at. PlaceAs (Some Running) (turn_of at) (is_at_first job.row.core) acts) p.runs (job_place setting plan w past t v job here) in
-          let read_so : ReadAs read acts = subst (λ c. CoreAs c acts) is as_row.core going in
-          let goes = first_goes read acts read_so (ap (λ a. is_first (reads.action_as read.piece a)) p.looks) in
-          let l = is_its_last g s a.owner a.there held (ap (λ l. is_over (next_but_wake Reading l)) (t.owned.acts g s held) ∙ goes) in
+          let read_so : JobAs read acts = subst (λ c. CoreAs c acts) is as_row.core going in
+          let kind : kind_of_job s (own (cut g (events past))) ≡ jobs.kind_of read = ap (λ who. kind_by who past s) (sym held) ∙ as_row.kind_is ∙ ap kind_of is in
+          let goes = first_goes read acts read_so p.first in
+          let l = is_its_last g s a.owner a.there held
+              (ap (λ l. is_over (next_but_wake (kind_of_job s (own (cut g (events past)))) l)) (t.owned.acts g s held) ∙ ap (λ k. is_over (next_but_wake k acts)) kind ∙ goes) in
           let seat : seated_in (owners.owner_after a.step a.owner).session ≡ Some l.session.number = p.seat ∙ ap number_in l.here in
           let now = got_same w.owners g (owners.owner_after a.step a.owner) (slice_get_within w.owners g a.owner a.there) in
           let there : slice_get (slice_set w.owners g (owners.owner_after a.step a.owner)) g ≡ Some owner = ap (λ l. slice_get l g) (sym a.owners_are) ∙ ap (slice_get did.owners) same ∙ found in

@@ -12,9 +12,11 @@ use Rattle.blocking_crew.specs.declared.hand.Held.{Held}
 use Rattle.blocking_crew.specs.declared.hand.Stage.{Stage}
 use Rattle.blocking_crew.specs.declared.hand.Stage.TheVariants as stage
 use Rattle.blocking_lanes.specs.Calls.{RanAs}
-use Rattle.blocking_lanes.specs.Reads.{Progress, ReadAs, action_of, has_waker}
+use Rattle.blocking_lanes.specs.Reads.{has_waker}
+use Rattle.blocking_lanes.specs.SessionJobs.{JobAs, action_of, kind_of}
+use Rattle.blocking_lanes.specs.declared.job.SessionJob.{SessionJob}
+use Rattle.blocking_parts.proofs.ties.SessionJobs.{job_action_is, next_by}
 use Rattle.blocking_lanes.proofs.owners.Own.{last_is}
-use Rattle.blocking_lanes.proofs.owners.Reads.{action_is, next_by}
 use Rattle.blocking_laws.specs.Growth.{IsPlanned}
 use Rattle.blocking_laws.specs.JobTable.{Kind, Calling, Reading, Writing, JobAction, AskBytes, OfferBytes, AskFlush, Over, next_but_wake, next_after_answer, wake_first, is_over, has_finished, has_given_up}
 use Rattle.blocking_laws.specs.Jobs.{ends_for_good}
@@ -87,15 +89,15 @@ none_to_wake : (waker : Bool) (next : JobAction) → is_over (wake_first waker n
 none_to_wake true next is = absurd cc
 none_to_wake false next is = last_is next is
 
-read_over : (job : Progress) (acts : List Act) → is_turn_end (next_in_turn GoesOn (action_of job)) ≡ true → ReadAs job acts → IsOver acts
-read_over job acts ends read =
-    let next = action_is job acts read ∙ next_by acts in
-    table_over Reading acts (none_to_wake (has_waker acts) (next_but_wake Reading acts) (sym (ap is_over next) ∙ end_over (action_of job) ends))
+session_over : (job : SessionJob) (acts : List Act) → is_turn_end (next_in_turn GoesOn (action_of job)) ≡ true → JobAs job acts → IsOver acts
+session_over job acts ends so =
+    let next = job_action_is job acts so ∙ next_by (kind_of job) acts in
+    table_over (kind_of job) acts (none_to_wake (has_waker acts) (next_but_wake (kind_of job) acts) (sym (ap is_over next) ∙ end_over (action_of job) ends))
 
 -- a job whose turn may end, with nothing left to do, is over
 over_here : (at : Stage) (c : Core) (acts : List Act) → may_end at ≡ true → is_turn_end (next_of at c) ≡ true → CoreAs c acts → PlaceAs (Some Running) (turn_of at) (is_at_first c) acts → IsOver acts
 over_here stage.Runs (core.Call k call) acts may ends far place = call_over call.next call.number acts ends (far place)
-over_here stage.Runs (core.Read h job) acts may ends far place = read_over job acts ends (far place)
+over_here stage.Runs (core.Session h job) acts may ends far place = session_over job acts ends (far place)
 over_here stage.GaveUp c acts may ends far place = or_right (has_finished acts) (has_given_up acts) place
 over_here stage.Waits c acts may ends far place = absurd cc
 over_here stage.MustGiveUp c acts may ends far place = absurd cc

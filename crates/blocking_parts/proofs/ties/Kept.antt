@@ -23,6 +23,8 @@ use Rattle.blocking_parts.specs.Ties.{Tied, Rowed, RowAs, HasRow, CoreAs, PlaceA
 use Rattle.blocking_parts.specs.declared.row.Core.{Core}
 use Rattle.blocking_parts.specs.declared.row.Row.{Row}
 use Rattle.blocking_parts.proofs.ties.Hands.{IsOldOrBegins}
+use Rattle.blocking_laws.specs.Steps.{kind_by}
+use Rattle.blocking_parts.proofs.ties.Kinds.{kind_stays}
 use Rattle.blocking_parts.proofs.ties.Places.{IsOver, place_after}
 
 pub none_accepted : (act : Act) (s : ℕ) → accepted_by act ≡ [] → accepts s act ≡ false
@@ -39,6 +41,7 @@ row_kept setting plan w new past now later s row r fresh out over held number =
       serial = r.serial;
       number = number;
       held_by = held ∙ r.held_by;
+      kind_is = ap (λ who. kind_by who (now ∷ past) s) held ∙ kind_stays (holder past s) past now s fresh ∙ r.kind_is;
       core = subst (CoreAs row.core) (sym acts) r.core;
       place = subst (PlaceAs (standing (now ∷ past) s) (turn (now ∷ past) s) (is_at_first row.core)) (sym acts)
           (place_after setting plan past later.laws.1 now later.laws.0 s (is_at_first row.core) (acts_of s (events past)) over r.place fresh out);

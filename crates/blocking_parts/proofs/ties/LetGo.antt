@@ -60,7 +60,7 @@ module _ (setting : ℕ) (plan : List Bool) (w : Parts) (past : List Moment) (t 
           let task = task_there k s held in
           let tie = t.tasked.each k s task.0 held task.1 in
           ap task_let_go task.1 ∙ sym tie.let_go ∙ ap is_let_go (own_cut k s (events past)) ∙ sym (ap (λ o. may_cancel o past) held)
-      by (core.Read h read) held =
+      by (core.Session h read) held =
           let owner = owner_there h s held in
           ap owner_let_go owner.1 ∙ sym (t.owned.each h owner.0 owner.1).gone ∙ sym (ap (λ o. may_cancel o past) held)
 

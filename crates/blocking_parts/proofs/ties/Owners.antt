@@ -2,9 +2,6 @@
 use Rattle.std.proofs.Common.{◌≡◌, ℕ, ◌==◌, ◌-◌, List, [], ◌∷◌, length, Bool, true, false, refl, sym, ap, ◌∙◌, subst, Option, Some, None}
 use Rattle.std.specs.Prelude.{◌&&◌, ◌||◌, not, slice_get, slice_set, Result, Ok, Err}
 use Rattle.std.proofs.lemmas.Bool.{eqb-true}
-use Rattle.blocking_core.specs.Reading.{read_next}
-use Rattle.blocking_core.specs.declared.job.read.ReadAction.{ReadAction}
-use Rattle.blocking_core.specs.declared.job.read.ReadAction.TheVariants as read
 use Rattle.blocking_crew.specs.Moves as crew
 use Rattle.blocking_crew.specs.Moves.{added_act, parked_act}
 use Rattle.blocking_crew.specs.Ties.{turn_of}
@@ -16,21 +13,24 @@ use Rattle.blocking_lanes.specs.OwnerSteps.{OwnerStep, IsAside, IsHeld, IsFresh,
 use Rattle.blocking_lanes.specs.OwnerSteps as lanes
 use Rattle.blocking_lanes.specs.OwnerTies.{OwnersHold}
 use Rattle.blocking_lanes.specs.Owners.{Owner, is_gone}
-use Rattle.blocking_lanes.specs.Reads.{Progress, ReadAs, action_as, action_of}
+use Rattle.blocking_lanes.specs.SessionJobs as jobs
+use Rattle.blocking_lanes.specs.SessionJobs.{JobAs}
+use Rattle.blocking_lanes.specs.declared.job.SessionJob.{SessionJob}
 use Rattle.blocking_lanes.specs.Tasks.{Task, task_act}
 use Rattle.blocking_pool.proofs.Places.{set_same}
 use Rattle.blocking_lanes.proofs.acts.Calls.{by_call}
 use Rattle.blocking_lanes.proofs.owners.Own.{value_of}
 use Rattle.blocking_lanes.proofs.owners.Owners.{aside, born, stepped}
 use Rattle.blocking_lanes.proofs.owners.Plain.{IsPlain}
-use Rattle.blocking_lanes.proofs.owners.Reads.{awake}
+use Rattle.blocking_parts.proofs.ties.SessionJobs.{first_of_table}
 use Rattle.blocking_lanes.proofs.ties.Holders.{accepts_no_job}
 use Rattle.blocking_laws.specs.Growth.{IsPlanned}
-use Rattle.blocking_laws.specs.JobTable.{Reading, JobAction, AskCall, AskBytes, OfferBytes, AskFlush, next_but_wake, is_answer, is_over, has_given_up}
+use Rattle.blocking_laws.specs.JobTable.{Kind, JobAction, Over, AskCall, AskBytes, OfferBytes, AskFlush, next_but_wake, is_answer, is_over, has_given_up}
 use Rattle.blocking_laws.specs.Jobs.{accepted_by, accepts, holder}
 use Rattle.blocking_laws.specs.OwnerLaws.{OwnerLaws}
-use Rattle.blocking_laws.specs.Seen.{events, acts_of, cut, is_in_cut, is_of_pool, is_nothing, is_some_worker, is_of_job, is_by_task}
-use Rattle.blocking_laws.specs.Steps.{may_cancel, is_answered_action, is_making, named, next_in_turn}
+use Rattle.blocking_laws.specs.Seen.{events, acts_of, own, cut, is_in_cut, is_of_pool, is_nothing, is_some_worker, is_of_job, is_by_task}
+use Rattle.blocking_laws.specs.Steps.{kind_by, may_cancel, is_answered_action, is_making, named, next_in_turn}
+use Rattle.blocking_laws.specs.Sessions.{kind_of_job}
 use Rattle.blocking_laws.specs.Turns.{GoesOn}
 use Rattle.blocking_laws.specs.declared.event.Act.{Act}
 use Rattle.blocking_laws.specs.declared.event.Act.TheVariants.{Made, Asked, Accepted, Refused, JobWoken, HolderDropped, Answered, NoAction}
@@ -48,37 +48,39 @@ use Rattle.blocking_pool.specs.declared.pool.standing.Standing.TheVariants.{Runn
 use Rattle.blocking_parts.specs.Moves.{Move, Idles, Makes, Asks, Owns, Lends, Delivers, IsDropped, Begins, Calls, Works, IsAnswered, Parks, Passes, IsWoken, IsStruck, May, CrewMoves, step_of, rows_after, owners_after}
 use Rattle.blocking_parts.specs.Parts.{Parts, InHand, done_by, owner_of, next_at}
 use Rattle.blocking_parts.specs.Rows as row
-use Rattle.blocking_parts.specs.Rows.{Done, done, read_step, core_after_answer, is_at_first, is_first, party_of}
+use Rattle.blocking_parts.specs.Rows.{Done, done, session_step, core_after_answer, is_at_first, is_first, party_of}
 use Rattle.blocking_parts.specs.Ties.{CoreAs, GaveAs, PlaceAs, Tied, moment}
 use Rattle.blocking_parts.specs.declared.row.Core.{Core}
 use Rattle.blocking_parts.specs.declared.row.Core.TheVariants as core
-use Rattle.blocking_parts.proofs.ties.Acted.{call_acts, read_acts, may_plain, seen_in, seen_is, its_owner, let_go_here, asks_here}
+use Rattle.blocking_parts.proofs.ties.Acted.{call_acts, session_acts, may_plain, seen_in, seen_is, its_owner, let_go_here, asks_here}
 use Rattle.blocking_parts.proofs.ties.Jobs.{IsHere, job_here, job_place, next_free}
 use Rattle.blocking_parts.proofs.ties.Said.{SaidBy, done_fits, said}
 use Rattle.blocking_parts.proofs.ties.LetGo.{owner_there}
 use Rattle.blocking_parts.proofs.ties.Told.{Told, added_of, by_no_worker, by_worker}
 
--- ---- what the job of a reader may do
+-- ---- what the job of a session may do
 
 -- a job at its first action isn't over
-pub first_goes : (job : Progress) (acts : List Act) → ReadAs job acts → is_first (action_of job) ≡ true → is_over (next_but_wake Reading acts) ≡ false
-first_goes job acts r first = by (read_next job.core) refl first
-  where
-    by : (a : ReadAction) → read_next job.core ≡ a → is_first (action_as job.piece a) ≡ true → is_over (next_but_wake Reading acts) ≡ false
-    by read.FindRoom is first = ap is_over (sym r.next ∙ ap (action_as job.piece) (awake job read.FindRoom is (λ e. cc)).next_is)
-    by _ is first = absurd cc
+first_open : (a : JobAction) → is_first a ≡ true → is_over a ≡ false
+first_open Over first = absurd cc
+first_open _ first = refl
+
+pub first_goes : (job : SessionJob) (acts : List Act) → JobAs job acts → is_first (jobs.action_of job) ≡ true → is_over (next_but_wake (jobs.kind_of job) acts) ≡ false
+first_goes job acts so first = first_open (next_but_wake (jobs.kind_of job) acts) (first_of_table job acts so first)
 
 -- where it is in its turn, its next step is one that its owner may take
-read_may : (at : Stage) (job : Progress) (step : OwnerStep) (owner : Owner) (acts : List Act) → read_step at job ≡ Some step → (at ≡ stage.MustGiveUp → is_gone owner.stage ≡ true)
-    → (has_given_up acts ≡ false → ReadAs job acts) → PlaceAs (Some Running) (turn_of at) (is_first (action_of job)) acts → GaveAs at acts → MayTake step owner acts
-read_may stage.Runs job step owner acts is gone reads place gave = subst (λ s. MayTake s owner acts) (ap (value_of step) is) (reads place)
-read_may stage.MustGiveUp job step owner acts is gone reads place gave = subst (λ s. MayTake s owner acts) (ap (value_of step) is) (gone refl, first_goes job acts (reads place.1) place.0)
-read_may stage.MustWake job step owner acts is gone reads place gave = subst (λ s. MayTake s owner acts) (ap (value_of step) is) (gave Reading).0
-read_may stage.Waits job step owner acts is gone reads place gave = absurd cc
-read_may stage.GaveUp job step owner acts is gone reads place gave = absurd cc
+session_may : (at : Stage) (job : SessionJob) (step : OwnerStep) (owner : Owner) (kind : Kind) (acts : List Act) → kind ≡ jobs.kind_of job → session_step at job ≡ Some step
+    → (at ≡ stage.MustGiveUp → is_gone owner.stage ≡ true) → (has_given_up acts ≡ false → JobAs job acts) → PlaceAs (Some Running) (turn_of at) (is_first (jobs.action_of job)) acts → GaveAs at acts
+    → MayTake step owner kind acts
+session_may stage.Runs job step owner kind acts of is gone so place gave = subst (λ s. MayTake s owner kind acts) (ap (value_of step) is) (of, so place)
+session_may stage.MustGiveUp job step owner kind acts of is gone so place gave =
+    subst (λ s. MayTake s owner kind acts) (ap (value_of step) is) (gone refl, ap (λ k. is_over (next_but_wake k acts)) of ∙ first_goes job acts (so place.1) place.0)
+session_may stage.MustWake job step owner kind acts of is gone so place gave = subst (λ s. MayTake s owner kind acts) (ap (value_of step) is) (gave kind).0
+session_may stage.Waits job step owner kind acts of is gone so place gave = absurd cc
+session_may stage.GaveUp job step owner kind acts of is gone so place gave = absurd cc
 
 -- that is an act of the owner's job
-its_act : (at : Stage) (job : Progress) (step : OwnerStep) → read_step at job ≡ Some step → is_of_its_job step ≡ true
+its_act : (at : Stage) (job : SessionJob) (step : OwnerStep) → session_step at job ≡ Some step → is_of_its_job step ≡ true
 its_act stage.Runs job step is = ap is_of_its_job (sym (ap (value_of step) is))
 its_act stage.MustGiveUp job step is = ap is_of_its_job (sym (ap (value_of step) is))
 its_act stage.MustWake job step is = ap is_of_its_job (sym (ap (value_of step) is))
@@ -168,7 +170,7 @@ module _ (setting : ℕ) (plan : List Bool) (w : Parts) (past : List Moment) (t 
   stay out same = subst (λ row. OwnersHold row (moment new at e ∷ past)) (sym same) (aside w.owners past (moment new at e) out hold)
 
   -- an owner takes a step
-  takes : (step : OwnerStep) (h s v : ℕ) (owner : Owner) (act : Act) → slice_get w.owners h ≡ Some owner → IsHeld (is_of_its_job step) past h s → IsFresh step past → MayTake step owner (acts_of s (events past))
+  takes : (step : OwnerStep) (h s v : ℕ) (owner : Owner) (act : Act) → slice_get w.owners h ≡ Some owner → IsHeld (is_of_its_job step) past h s → IsFresh step past → MayTake step owner (kind_of_job s (own (cut h (events past)))) (acts_of s (events past))
       → act_of step owner ≡ Some act → seen_in new e ≡ event_by step h v s act e.first growth → new.owners ≡ slice_set w.owners h (owner_after step owner) → OwnersHold new.owners (moment new at e ∷ past)
   takes step h s v owner act found held fresh may does event is =
       stepped w.owners new.owners past (moment new at e)
@@ -226,12 +228,18 @@ module _ (setting : ℕ) (plan : List Bool) (w : Parts) (past : List Moment) (t 
 
   -- the job of a reader in a hand takes a step of its owner
   goes : (v : ℕ) (job : InHand) (h : ℕ) (step : OwnerStep) (owner : Owner) (act : Act) → IsHere w v job → holder past job.held.turn.serial ≡ Some (ByOwner h) → slice_get w.owners h ≡ Some owner → is_of_its_job step ≡ true
-      → MayTake step owner (acts_of job.held.turn.serial (events past)) → act_of step owner ≡ Some act → Told (Worker v) (Some job.held.turn.serial) act e → owner_of new.rows (Some job.held.turn.serial) ≡ Some h
+      → MayTake step owner (kind_of_job job.held.turn.serial (own (cut h (events past)))) (acts_of job.held.turn.serial (events past)) → act_of step owner ≡ Some act → Told (Worker v) (Some job.held.turn.serial) act e → owner_of new.rows (Some job.held.turn.serial) ≡ Some h
       → new.owners ≡ slice_set w.owners h (owner_after step owner) → OwnersHold new.owners (moment new at e ∷ past)
   goes v job h step owner act here held found its may does told whose is =
       let s = job.held.turn.serial in
       takes step h s v owner act found (subst (λ b. IsHeld b past h s) (sym its) held) (its_fresh past step its) may does
       (seen_is new (Worker v) (Some s) (Some h) act e told whose ∙ sym (ap (λ b. lanes.event_for b h v s act e.first growth) its)) is
+
+  -- of what kind it is
+  its_kind : (v : ℕ) (job : InHand) (h : ℕ) (it : SessionJob) → IsHere w v job → job.row.core ≡ core.Session h it → kind_of_job job.held.turn.serial (own (cut h (events past))) ≡ jobs.kind_of it
+  its_kind v job h it here is =
+      let r = t.rowed.each job.held.turn.serial job.row here.has_row in
+      ap (λ who. kind_by who past job.held.turn.serial) (sym (its_holder v job here ∙ ap (λ c. Some (party_of c)) is)) ∙ r.kind_is ∙ ap row.kind_of is
 
   -- the job in a hand acts
   acted : (v : ℕ) (job : InHand) (did : Done) → IsHere w v job → done_by w job ≡ Some did → Told (Worker v) (Some job.held.turn.serial) did.act e
@@ -245,13 +253,13 @@ module _ (setting : ℕ) (plan : List Bool) (w : Parts) (past : List Moment) (t 
           (job_aside past new e v job.held.turn.serial k did.act told (may_plain job.held.stage did.act (done_fits did job.held.stage job.row.core w.tasks w.owners does))
           (its_owner w v job did.core new.rows here rows ∙ ap row.owner_in a.core_is) (its_holder v job here ∙ ap (λ c. Some (party_of c)) is))
           (is_now ∙ a.owners_are)
-      by (core.Read h read) is =
+      by (core.Session h read) is =
           let s = job.held.turn.serial in
           let acts = acts_of s (events past) in
-          let a = read_acts w job.held.stage h read did (ap (λ c. done job.held.stage c w.tasks w.owners) (sym is) ∙ does) in
+          let a = session_acts w job.held.stage h read did (ap (λ c. done job.held.stage c w.tasks w.owners) (sym is) ∙ does) in
           let held = its_holder v job here ∙ ap (λ c. Some (party_of c)) is in
           goes v job h a.step a.owner did.act here held a.there (its_act job.held.stage read a.step a.next)
-          (read_may job.held.stage read a.step a.owner acts a.next (gone_owner v job h a.owner here held a.there) (subst (λ c. CoreAs c acts) is (t.rowed.each s job.row here.has_row).core)
+          (session_may job.held.stage read a.step a.owner (kind_of_job s (own (cut h (events past)))) acts (its_kind v job h read here is) a.next (gone_owner v job h a.owner here held a.there) (subst (λ c. CoreAs c acts) is (t.rowed.each s job.row here.has_row).core)
           (subst (λ c. PlaceAs (Some Running) (turn_of job.held.stage) (is_at_first c) acts) is (job_place setting plan w past t v job here)) (t.rowed.in_hand v job.held here.holds))
           a.act_is told (its_owner w v job did.core new.rows here rows ∙ ap row.owner_in a.core_is) (is_now ∙ a.owners_are)
 
@@ -272,14 +280,15 @@ module _ (setting : ℕ) (plan : List Bool) (w : Parts) (past : List Moment) (t 
           stay
           (job_aside past new e v job.held.turn.serial k (Answered answer) told (record { pool = refl; nothing = refl; made = refl; new = refl }) (whose _ is)
           (its_holder v job here ∙ ap (λ c. Some (party_of c)) is)) same
-      by (core.Read h read) is =
+      by (core.Session h read) is =
           let s = job.held.turn.serial in
           let held = its_holder v job here ∙ ap (λ c. Some (party_of c)) is in
           let owner = owner_found h s held in
           let asks = asks_here setting plan w past t v job answer here may in
           goes v job h (lanes.IsAnswered read answer) owner.0 (Answered answer) here held owner.1 refl (
+            its_kind v job h read here is,
             subst (λ c. CoreAs c (acts_of s (events past))) is (t.rowed.each s job.row here.has_row).core asks.0,
-            answer_of (action_of read) answer (ap (λ c. is_answered_action (next_in_turn GoesOn (row.action_of c)) answer) (sym is) ∙ asks.1),
+            answer_of (jobs.action_of read) answer (ap (λ c. is_answered_action (next_in_turn GoesOn (row.action_of c)) answer) (sym is) ∙ asks.1),
           )
           refl told (whose _ is) (same ∙ sym (set_same w.owners h owner.0 owner.1))
 
@@ -296,7 +305,7 @@ owners_after_move setting plan w past t laws move e new may does rows owners = b
         (record { first = e.first; growth = record { started = e.started; refused = e.start_refused }; event_is = seen_is new (ByOwner (length w.owners)) None None (Made (length w.owners) capacity) e told refl })
         (record { tied = t.owned; laws = laws }))
     by (Asks h call owner) may does rows is told =
-        takes setting plan w past t laws new _ e (lanes.IsAsked call) h 0 0 owner (Asked call) may.0 tt tt (may.2, may.1) refl (seen_is new (ByOwner h) None None (Asked call) e told refl) is
+        takes setting plan w past t laws new _ e (lanes.IsAsked call) h 0 0 owner (Asked call) may.0 tt tt may.1 refl (seen_is new (ByOwner h) None None (Asked call) e told refl) is
     by (Owns h owner did) may does rows is told =
         takes setting plan w past t laws new _ e lanes.Acts h 0 0 owner did.act may.0 tt tt tt (ap act_in may.1) (seen_is new (ByOwner h) None None did.act e told refl)
         (is ∙ sym (ap (λ o. slice_set w.owners h (owner_in o owner)) may.1))

@@ -1,12 +1,8 @@
 -- What is seen of each move: whose it is, of which job, and what.
-use Rattle.std.proofs.Common.{◌≡◌, ℕ, List, [], length, Bool, true, false, refl, sym, ap, ◌∙◌, subst, Option, Some, None, if◌then◌else◌}
+use Rattle.std.proofs.Common.{◌≡◌, ⊎_elim, ℕ, List, length, Bool, true, false, refl, sym, ap, ◌∙◌, subst, Option, Some, None}
 use Rattle.std.specs.Prelude.{slice_get}
-use Rattle.blocking_core.specs.Places.{Met, Served, Waiting, Closed}
-use Rattle.blocking_core.specs.Reading.{read_next}
 use Rattle.blocking_core.specs.declared.job.Action.{Action}
 use Rattle.blocking_core.specs.declared.job.Action.TheVariants as action
-use Rattle.blocking_core.specs.declared.job.read.ReadAction.{ReadAction}
-use Rattle.blocking_core.specs.declared.job.read.ReadAction.TheVariants as read
 use Rattle.blocking_crew.specs.Crews.{Crew, hand_at, may_act}
 use Rattle.blocking_crew.specs.Moves as crew
 use Rattle.blocking_crew.specs.Moves.{added_act, parked_act, nothing, next_start}
@@ -19,12 +15,10 @@ use Rattle.blocking_crew.specs.declared.tickets.Parking.{Parking}
 use Rattle.blocking_lanes.specs.Calls as calls
 use Rattle.blocking_lanes.specs.OwnerSteps as owners
 use Rattle.blocking_lanes.specs.OwnerSteps.{OwnerStep}
-use Rattle.blocking_lanes.specs.Owners.{Owner, Worked, worked, worked_as, worked_by, worked_in}
-use Rattle.blocking_lanes.specs.Reads as reads
-use Rattle.blocking_lanes.specs.Sessions.{Session, Work, work_by, work_at_put, fits_in, found_room, found_put}
+use Rattle.blocking_lanes.specs.Owners.{Owner, Worked, worked}
+use Rattle.blocking_lanes.specs.declared.job.SessionJob.{SessionJob}
 use Rattle.blocking_lanes.specs.Tasks.{Task, task_act}
 use Rattle.blocking_laws.specs.Growth.{IsPlanned}
-use Rattle.blocking_laws.specs.Places.{seen_room, seen_put}
 use Rattle.blocking_laws.specs.Steps.{named, is_answered_action}
 use Rattle.blocking_laws.specs.declared.event.Act.{Act}
 use Rattle.blocking_laws.specs.declared.event.Act.TheVariants.{Made, Asked, JobWoken, JobCancelled, HolderDropped, Answered, NoAction}
@@ -34,104 +28,55 @@ use Rattle.blocking_laws.specs.declared.step.Answer.{Answer}
 use Rattle.blocking_laws.specs.declared.step.TaskCall.{TaskCall}
 use Rattle.blocking_laws.specs.declared.step.TaskCall.TheVariants.{Poll, Cancel, Detach, Drop}
 use Rattle.blocking_pool.specs.declared.pool.answer.Woke.{Woke}
-use Rattle.blocking_parts.specs.Carried.{bytes_of}
 use Rattle.blocking_parts.specs.Moves.{Move, Idles, Makes, Asks, Owns, Lends, Delivers, IsDropped, Begins, Calls, Works, IsAnswered, Parks, Passes, IsWoken, IsStruck, May, CrewMoves, task_call}
 use Rattle.blocking_parts.specs.Parts.{Parts}
-use Rattle.blocking_parts.specs.Rows.{Done, done, call_done, call_step, call_step_by, read_done, read_seen, read_step, next_of}
+use Rattle.blocking_parts.specs.Rows.{Done, done, call_done, call_step, call_step_by, session_done, session_seen, session_step, next_of}
 use Rattle.blocking_parts.specs.declared.row.Core.{Core}
 use Rattle.blocking_parts.specs.declared.row.Core.TheVariants as core
+use Rattle.blocking_parts.proofs.moves.SessionActs.{fits_turn, moved, worked_so}
 use Rattle.blocking_parts.proofs.ties.Jobs.{job_here, next_here}
 use Rattle.blocking_parts.proofs.ties.Told.{Told, ToldBy, IsPlain, told, worked as works_so, plain}
 
 -- ---- what a job does fits its turn
 
-moved : {A : Type 0} (P : A → Type 0) (x y : A) → Some x ≡ Some y → P x → P y
-moved P x y e holds = let same : x ≡ y = cc in subst P same holds
-
--- A job may do this where it is in its turn, and it carries no bytes.
-pub record DoesSo (at : Stage) (act : Act) : Type 0 where
-  pub may : may_act at act ≡ true
-  pub bare : bytes_of act ≡ []
-
--- what a reader's job does by itself, it does while its turn goes on
-abbrev RunsSo : Act → Type 0
-RunsSo act = DoesSo stage.Runs act
-
-runs_at_room : (met : Met ℕ) → RunsSo (seen_room met)
-runs_at_room (Served n) = record { may = refl; bare = refl }
-runs_at_room Waiting = record { may = refl; bare = refl }
-runs_at_room Closed = record { may = refl; bare = refl }
-
-runs_at_put : (n : ℕ) (met : Met (Option (Unit {0}))) → RunsSo (seen_put n met)
-runs_at_put n (Served seat) = record { may = refl; bare = refl }
-runs_at_put n Waiting = record { may = refl; bare = refl }
-runs_at_put n Closed = record { may = refl; bare = refl }
-
-runs_work : (a : ReadAction) (p : reads.Progress) (s : Session) (work : Work) → work_by a p s ≡ Some work → RunsSo work.act
-runs_work read.FindRoom p s work e = moved (λ (w : Work). RunsSo w.act) _ work e (runs_at_room (found_room s))
-runs_work (read.Put count) p s work e = at (fits_in p.piece s) e
-  where
-    at : (b : Bool) → (if b then Some (work_at_put (found_put p.piece s) p s) else None) ≡ Some work → RunsSo work.act
-    at true e = moved (λ (w : Work). RunsSo w.act) _ work e (runs_at_put _ (found_put p.piece s))
-    at false e = absurd cc
-runs_work read.Close p s work e = moved (λ (w : Work). RunsSo w.act) _ work e (record { may = refl; bare = refl })
-runs_work read.Finish p s work e = moved (λ (w : Work). RunsSo w.act) _ work e (record { may = refl; bare = refl })
-runs_work (read.Read most) p s work e = absurd cc
-runs_work read.Deliver p s work e = absurd cc
-runs_work read.Done p s work e = absurd cc
-
-runs_in_session : (a : ReadAction) (last : Option Session) (p : reads.Progress) (owner : Owner) (did : Worked) → worked_in a last p owner ≡ Some did → RunsSo did.act
-runs_in_session a None p owner did e = absurd cc
-runs_in_session a (Some s) p owner did e = at (work_by a p s) refl e
-  where
-    at : (o : Option Work) → work_by a p s ≡ o → worked_by o owner ≡ Some did → RunsSo did.act
-    at None is e = absurd cc
-    at (Some work) is e = moved (λ (d : Worked). RunsSo d.act) _ did e (runs_work a p s work is)
-
-runs_worked : (a : ReadAction) (p : reads.Progress) (owner : Owner) (did : Worked) → worked_as a p owner ≡ Some did → RunsSo did.act
-runs_worked read.Deliver p owner did e = moved (λ (d : Worked). RunsSo d.act) _ did e (record { may = refl; bare = refl })
-runs_worked read.FindRoom p owner did e = runs_in_session read.FindRoom owner.session p owner did e
-runs_worked (read.Put count) p owner did e = runs_in_session (read.Put count) owner.session p owner did e
-runs_worked read.Close p owner did e = runs_in_session read.Close owner.session p owner did e
-runs_worked read.Finish p owner did e = runs_in_session read.Finish owner.session p owner did e
-runs_worked (read.Read most) p owner did e = runs_in_session (read.Read most) owner.session p owner did e
-runs_worked read.Done p owner did e = runs_in_session read.Done owner.session p owner did e
+-- a job may do this where it is in its turn
+abbrev MaySo : Stage → Act → Type 0
+MaySo at act = may_act at act ≡ true
 
 module _ (d : Done) where
   -- the job of a call
-  call_so : (at : Stage) (k : ℕ) (call : calls.Progress) (all : List Task) (row : List Owner) (task : Option Task) → call_done k call at all row task (call_step at call) ≡ Some d → DoesSo at d.act
+  call_so : (at : Stage) (k : ℕ) (call : calls.Progress) (all : List Task) (row : List Owner) (task : Option Task) → call_done k call at all row task (call_step at call) ≡ Some d → MaySo at d.act
   call_so at k call all row None e = absurd cc
   call_so stage.Runs k call all row (Some task) e = by call.next e
     where
-      by : (next : Action) → call_done k call stage.Runs all row (Some task) (call_step_by next call.number) ≡ Some d → RunsSo d.act
-      by action.Finish e = moved (λ (x : Done). RunsSo x.act) _ d e (record { may = refl; bare = refl })
-      by action.Deliver e = moved (λ (x : Done). RunsSo x.act) _ d e (record { may = refl; bare = refl })
+      by : (next : Action) → call_done k call stage.Runs all row (Some task) (call_step_by next call.number) ≡ Some d → MaySo stage.Runs d.act
+      by action.Finish e = moved (λ (x : Done). MaySo stage.Runs x.act) _ d e refl
+      by action.Deliver e = moved (λ (x : Done). MaySo stage.Runs x.act) _ d e refl
       by action.Call e = absurd cc
       by action.Done e = absurd cc
-  call_so stage.MustGiveUp k call all row (Some task) e = moved (λ (x : Done). DoesSo stage.MustGiveUp x.act) _ d e (record { may = refl; bare = refl })
-  call_so stage.MustWake k call all row (Some task) e = moved (λ (x : Done). DoesSo stage.MustWake x.act) _ d e (record { may = refl; bare = refl })
+  call_so stage.MustGiveUp k call all row (Some task) e = moved (λ (x : Done). MaySo stage.MustGiveUp x.act) _ d e refl
+  call_so stage.MustWake k call all row (Some task) e = moved (λ (x : Done). MaySo stage.MustWake x.act) _ d e refl
   call_so stage.Waits k call all row (Some task) e = absurd cc
   call_so stage.GaveUp k call all row (Some task) e = absurd cc
 
-  -- the job of a reader
-  read_so : (at : Stage) (h : ℕ) (job : reads.Progress) (all : List Task) (row : List Owner) (owner : Option Owner) → read_done h job all row owner (read_step at job) ≡ Some d → DoesSo at d.act
-  read_so at h job all row None e = absurd cc
-  read_so stage.Runs h job all row (Some owner) e = by (worked job owner) refl e
+  -- the job of a session
+  session_so : (at : Stage) (h : ℕ) (job : SessionJob) (all : List Task) (row : List Owner) (owner : Option Owner) → session_done h job all row owner (session_step at job) ≡ Some d → MaySo at d.act
+  session_so at h job all row None e = absurd cc
+  session_so stage.Runs h job all row (Some owner) e = by (worked job owner) refl e
     where
-      by : (o : Option Worked) → worked job owner ≡ o → read_seen h job all row owner (owners.Works job) (owners.act_of_work o) ≡ Some d → RunsSo d.act
+      by : (o : Option Worked) → worked job owner ≡ o → session_seen h job all row owner (owners.Works job) (owners.act_of_work o) ≡ Some d → MaySo stage.Runs d.act
       by None is e = absurd cc
-      by (Some did) is e = moved (λ (x : Done). RunsSo x.act) _ d e (runs_worked (read_next job.core) job owner did is)
-  read_so stage.MustGiveUp h job all row (Some owner) e = moved (λ (x : Done). DoesSo stage.MustGiveUp x.act) _ d e (record { may = refl; bare = refl })
-  read_so stage.MustWake h job all row (Some owner) e = moved (λ (x : Done). DoesSo stage.MustWake x.act) _ d e (record { may = refl; bare = refl })
-  read_so stage.Waits h job all row (Some owner) e = absurd cc
-  read_so stage.GaveUp h job all row (Some owner) e = absurd cc
-
-  pub done_so : (at : Stage) (c : Core) (all : List Task) (row : List Owner) → done at c all row ≡ Some d → DoesSo at d.act
-  done_so at (core.Call k call) all row e = call_so at k call all row (slice_get all k) e
-  done_so at (core.Read h job) all row e = read_so at h job all row (slice_get row h) e
+      by (Some did) is e =
+          moved (λ (x : Done). MaySo stage.Runs x.act) _ d e
+          (⊎_elim (λ wakes. ap (may_act stage.Runs) wakes.0) (λ at. ap (may_act stage.Runs) at.act_is ∙ fits_turn at.act) (worked_so job owner did is))
+  session_so stage.MustGiveUp h job all row (Some owner) e = moved (λ (x : Done). MaySo stage.MustGiveUp x.act) _ d e refl
+  session_so stage.MustWake h job all row (Some owner) e = moved (λ (x : Done). MaySo stage.MustWake x.act) _ d e refl
+  session_so stage.Waits h job all row (Some owner) e = absurd cc
+  session_so stage.GaveUp h job all row (Some owner) e = absurd cc
 
   pub done_fits : (at : Stage) (c : Core) (all : List Task) (row : List Owner) → done at c all row ≡ Some d → may_act at d.act ≡ true
-  done_fits at c all row e = (done_so at c all row e).may
+  done_fits at (core.Call k call) all row e = call_so at k call all row (slice_get all k) e
+  done_fits at (core.Session h job) all row e = session_so at h job all row (slice_get row h) e
 
 -- a job is answered only while its turn goes on
 pub answer_fits : (at : Stage) (c : Core) (answer : Answer) → is_answered_action (next_of at c) answer ≡ true → at ≡ stage.Runs

@@ -155,7 +155,7 @@ owner_set w h old new there same j owner number found is =
 old_owner : (w : Parts) (move : Move) → May w move → changes_rows move ≡ false → (h : ℕ) (owner : Owner) (number : JobNumber) → slice_get (owners_after w move) h ≡ Some owner → number_of owner ≡ Some number → OldOwner w h number
 old_owner w (Makes capacity) may stay j owner number found is =
     ⊎_elim (λ before. (owner, before, is)) (λ new. let none : number_of owner ≡ None = ap number_of (sym new.1) in absurd cc) (in_pushed w.owners _ j owner found)
-old_owner w (Asks h call old) may stay j owner number found is = owner_set w h old _ may.0 refl j owner number found is
+old_owner w (Asks h call old) may stay j owner number found is = owner_set w h old _ may.0 (number_stays (step.IsAsked call) old refl) j owner number found is
 old_owner w (Owns h old done) may stay j owner number found is =
     owner_set w h old done.owner may.0 (ap (λ o. number_of (owner_in o old)) (sym may.1) ∙ number_stays step.Acts old refl) j owner number found is
 old_owner w (Lends h old (Ok new)) may stay j owner number found is = absurd cc

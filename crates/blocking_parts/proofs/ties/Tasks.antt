@@ -51,7 +51,7 @@ use Rattle.blocking_parts.specs.Ties.{CoreAs, GaveAs, PlaceAs, Tied, moment}
 use Rattle.blocking_parts.specs.declared.row.Core.{Core}
 use Rattle.blocking_parts.specs.declared.row.Core.TheVariants as core
 use Rattle.blocking_parts.proofs.moves.Found.{there}
-use Rattle.blocking_parts.proofs.ties.Acted.{call_acts, read_acts, may_plain, seen_in, seen_is, its_owner, let_go_here, asks_here}
+use Rattle.blocking_parts.proofs.ties.Acted.{call_acts, session_acts, may_plain, seen_in, seen_is, its_owner, let_go_here, asks_here}
 use Rattle.blocking_parts.proofs.ties.Jobs.{IsHere, job_here, job_place, next_free, task_holds}
 use Rattle.blocking_parts.proofs.ties.Said.{SaidBy, done_fits, said}
 use Rattle.blocking_parts.proofs.ties.Told.{Told, added_of, by_no_worker, by_worker}
@@ -231,9 +231,9 @@ module _ (setting : ℕ) (plan : List Bool) (w : Parts) (past : List Moment) (t 
           (call_may job.held.stage call a.step a.task acts a.next (let_go_task v job k a.task here held a.there) (subst (λ c. CoreAs c acts) is (t.rowed.each s job.row here.has_row).core)
           (subst (λ c. PlaceAs (Some Running) (turn_of job.held.stage) (is_at_first c) acts) is (job_place setting plan w past t v job here)) (t.rowed.in_hand v job.held here.holds))
           (subst (λ act. Told (Worker v) (Some s) act e) a.act_is told) (its_owner w v job did.core new.rows here rows ∙ ap owner_in a.core_is) (tasks ∙ a.tasks_are)
-      by (core.Read h read) is =
+      by (core.Session h read) is =
           let plain = may_plain job.held.stage did.act (done_fits did job.held.stage job.row.core w.tasks w.owners does) in
-          let a = read_acts w job.held.stage h read did (ap (λ c. done job.held.stage c w.tasks w.owners) (sym is) ∙ does) in
+          let a = session_acts w job.held.stage h read did (ap (λ c. done job.held.stage c w.tasks w.owners) (sym is) ∙ does) in
           stay (reader_beside past new e v job.held.turn.serial h did.act told plain (its_holder v job here ∙ ap (λ c. Some (party_of c)) is)) (tasks ∙ a.tasks_are)
 
   -- the job in a hand is answered
@@ -251,7 +251,7 @@ module _ (setting : ℕ) (plan : List Bool) (w : Parts) (past : List Moment) (t 
           let task = there w.tasks k (t.tasked.there k s (its_holder v job here ∙ ap (λ c. Some (party_of c)) is)) in
           goes v job k call (lanes.IsAnswered fits.1.0) task.0 here is task.1 refl (subst (λ next. RanAs next call.number acts) fits.0 ran) (subst (λ a. Told (Worker v) (Some s) (Answered a) e) fits.1.1 told)
           (its_owner w v job (core_after_answer answer job.row.core) new.rows here rows ∙ ap (λ c. owner_in (core_after_answer answer c)) is) (tasks ∙ sym (set_same w.tasks k task.0 task.1))
-      by (core.Read h read) is =
+      by (core.Session h read) is =
           stay (reader_beside past new e v job.held.turn.serial h (Answered answer) told (record { pool = refl; nothing = refl; made = refl; new = refl }) (its_holder v job here ∙ ap (λ c. Some (party_of c)) is)) tasks
 
 -- After each move the tasks hang together with what was seen, and have kept their laws.

@@ -14,7 +14,7 @@ use Rattle.blocking_lanes.proofs.cuts.Acts.{acts_more}
 use Rattle.blocking_lanes.proofs.ties.Holders.{holder_stays}
 use Rattle.blocking_laws.specs.Growth.{IsPlanned}
 use Rattle.blocking_laws.specs.JobTable.{has_given_up}
-use Rattle.blocking_laws.specs.Jobs.{accepted_by, accepted_jobs, ends_for_good, standing, stands_by, sweeps, is_parked, is_marked}
+use Rattle.blocking_laws.specs.Jobs.{accepted_by, accepted_jobs, ends_for_good, standing, stands_by, sweeps, is_parked, is_marked, holder}
 use Rattle.blocking_laws.specs.Seen.{events, acts_of, is_of_job, joined}
 use Rattle.blocking_laws.specs.Steps.{is_answered_action}
 use Rattle.blocking_laws.specs.Turns.{turn, turn_by}
@@ -37,6 +37,8 @@ use Rattle.blocking_parts.proofs.ties.Acts.{IsOwnAct, own_act, place_acted, gave
 use Rattle.blocking_parts.proofs.ties.Jobs.{IsHere, job_here, next_here, job_place}
 use Rattle.blocking_parts.proofs.ties.Kept.{none_accepted, row_kept}
 use Rattle.blocking_parts.proofs.ties.Said.{done_fits, answer_fits}
+use Rattle.blocking_laws.specs.Steps.{kind_by}
+use Rattle.blocking_parts.proofs.ties.Kinds.{kind_stays}
 use Rattle.blocking_parts.proofs.ties.Told.{worked}
 
 -- What an act of the job in the hand of worker v makes of the parts, where it leaves its row with this core.
@@ -91,6 +93,7 @@ module _ (setting : ℕ) (plan : List Bool) (w : Parts) (past : List Moment) (t 
         serial = as_row.serial;
         number = numbers s job.row k.here.has_row;
         held_by = holder_stays past now none_new s ∙ as_row.held_by ∙ ap Some (sym k.leaves.party);
+        kind_is = ap (λ who. kind_by who (now ∷ past) s) (holder_stays past now none_new s) ∙ kind_stays (holder past s) past now s (none_accepted now.event.act s none_new) ∙ as_row.kind_is ∙ sym k.leaves.kind;
         core = rw acts_mine k.leaves.core;
         place = rw (stand, at, acts_mine) (place_acted job.held.stage act s _ _ (acts_of s (events past)) k.fits k.leaves.parks (job_place setting plan w past t v job k.here));
       }

@@ -1,17 +1,18 @@
 use Rattle.std.proofs.Common.{◌≡◌, Option, Some, None}
 use Rattle.blocking_lanes.specs.OwnerSteps.{act_of_work, owner_after_work, job_after_work}
 use Rattle.blocking_lanes.specs.Owners.{Owner, Worked, IsWorked, worked}
-use Rattle.blocking_lanes.specs.Reads.{Progress}
+use Rattle.blocking_lanes.specs.declared.job.SessionJob.{SessionJob}
 use Rattle.blocking_laws.specs.declared.event.Act.{Act}
+use Rattle.blocking_parts.proofs.moves.Steps.{ok_map}
 use Rattle.blocking_parts.proofs.row.act_for_owner.Goals as goal
 
 -- what a job did at its owner is the step of that owner
-works : (done : Option Worked) (read new_read : Progress) (owner new_owner : Owner) (seen : Option Act) → IsWorked done read owner seen new_read new_owner
-    → (seen ≡ act_of_work done) × (new_read ≡ job_after_work done read) × (new_owner ≡ owner_after_work done owner)
-works None read new_read owner new_owner seen does = does
-works (Some done) read new_read owner new_owner seen does = does
+works : (done : Option Worked) (job new_job : SessionJob) (owner new_owner : Owner) (seen : Option Act) → IsWorked done job owner seen new_job new_owner
+    → (seen ≡ act_of_work done) × (new_job ≡ job_after_work done job) × (new_owner ≡ owner_after_work done owner)
+works None job new_job owner new_owner seen does = does
+works (Some done) job new_job owner new_owner seen does = does
 
-pub returns-in-Runs : goal.returns-in-Runs
-returns-in-Runs c =
+pub returns-in-Runs-clause-ok : goal.returns-in-Runs-clause-ok
+returns-in-Runs-clause-ok c =
     rw (c.in-Runs.is)
-    (works (worked c.args.read.now c.args.owner.now) c.args.read.now c.work.new.job c.args.owner.now c.work.new.self c.work.result c.work.ensures)
+    (ok_map c.work.result _ _ (λ seen does. works (worked c.args.job.now c.args.owner.now) c.args.job.now c.work.new.job c.args.owner.now c.work.new.self seen does) c.work.ensures.ok)

@@ -1,12 +1,12 @@
 use Rattle.std.proofs.Common.{◌≡◌, ◌++◌, ◌∷◌, ◌<◌, [], length, sym, ap, ◌∙◌, subst, Some, IfSome}
 use Rattle.std.specs.Prelude.{slice_get, slice_set}
 use Rattle.blocking_lanes.specs.OwnerSteps as owners_steps
-use Rattle.blocking_lanes.specs.Owners.{Owner, capacity_of, next_of, owner_after_begin}
+use Rattle.blocking_lanes.specs.Owners.{Owner, capacity_of, new_job_of, next_of, owner_after_begin}
 use Rattle.blocking_core.specs.Pipes.{empty_pipe}
 use Rattle.blocking_lanes.specs.declared.owner.OwnerNext.TheVariants as next
 use Rattle.blocking_laws.specs.declared.step.Step.TheVariants.{Own}
 use Rattle.blocking_parts.specs.Moves.{Moves, rows_after_add, lent_step}
-use Rattle.blocking_parts.specs.Rows.{read_row}
+use Rattle.blocking_parts.specs.Rows.{session_row}
 use Rattle.blocking_parts.specs.Parts.{Parts}
 use Rattle.blocking_parts.specs.contracts.parts.Parts.{the_view}
 use Rattle.blocking_parts.proofs.moves.Steps.{lent, found_at}
@@ -28,13 +28,14 @@ returns-clause-ok g c =
       | in-Ok-number b ↦
           subst (Moves may_answer (Own c.args.place) w c.add-added.result.event) (sym b.self-is)
           (lent may_answer w c.args.place old c.add-added.result.number b.put.new.rows.items (slice_set w.owners c.args.place b.begin.new.self) c.add-added.result.event c.add-added.new.self found begins c.add-added.ensures
-          (b.put.ensures ∙ ap (λ l. l ++ b.of_read.result ∷ []) c.reserve.ensures.items ∙ ap (λ row. w.rows ++ row ∷ []) b.of_read.ensures ∙ sym (ap (rows_after_add w.rows (λ number. read_row number c.args.place)) b.in-Ok-number.is))
+          (b.put.ensures ∙ ap (λ l. l ++ b.of_session.result ∷ []) c.reserve.ensures.items ∙ ap (λ row. w.rows ++ row ∷ []) (b.of_session.ensures ∙ ap (session_row b.in-Ok-number.number c.args.place) b.new_job-job.ensures)
+          ∙ sym (ap (rows_after_add w.rows (λ number. session_row number c.args.place (new_job_of old))) b.in-Ok-number.is))
           (ap (slice_set w.owners c.args.place) (b.begin.ensures ∙ ap (λ pipe. owner_after_begin b.in-Ok-number.number pipe old) (c.in-Ok.ensures ∙ ap (λ (o : Owner). empty_pipe (capacity_of o)) same))
           ∙ sym (ap (λ a. slice_set w.owners c.args.place (owners_steps.owner_after (lent_step a) old)) b.in-Ok-number.is)))
       | in-Err b ↦
           subst (Moves may_answer (Own c.args.place) w c.add-added.result.event) (sym b.self-is)
           (lent may_answer w c.args.place old c.add-added.result.number c.reserve.new.self.items (slice_set w.owners c.args.place b.refuse-in-Err.new.self) c.add-added.result.event c.add-added.new.self found begins c.add-added.ensures
-          (c.reserve.ensures.items ∙ sym (ap (rows_after_add w.rows (λ number. read_row number c.args.place)) b.in-Err.is))
+          (c.reserve.ensures.items ∙ sym (ap (rows_after_add w.rows (λ number. session_row number c.args.place (new_job_of old))) b.in-Err.is))
           (ap (slice_set w.owners c.args.place) b.refuse-in-Err.ensures ∙ sym (ap (λ a. slice_set w.owners c.args.place (owners_steps.owner_after (lent_step a) old)) b.in-Err.is)))
     ] in
     rw (sym c.self.view_is) done
