@@ -826,7 +826,7 @@ reply_goes bytes asked p last h first growth cut r said is same t =
         bytes = t.bytes;
         stage = (
           ap (λ c. sessions.state_by (sessions.ends_close said c || sessions.is_closed (own cut)) (sessions.session (own cut)) (sessions.is_shut (own cut))) t.stage.0.asked_is
-          ∙ after_reply c r said (sessions.is_closed (own cut)) (sessions.session (own cut)) (sessions.is_shut (own cut)) p.state same fits.2 t.stage.0.at_is,
+              ∙ after_reply c r said (sessions.is_closed (own cut)) (sessions.session (own cut)) (sessions.is_shut (own cut)) p.state same fits.2 t.stage.0.at_is,
           refl,
           refl,
         );

@@ -285,7 +285,7 @@ deliver_goes bytes asked p note last h first growth cut woke t =
         last = t.last;
         ended = λ is_end. absurd (cc);
         earlier = t.earlier;
-            noted = λ number is. absurd (cc);
+        noted = λ number is. absurd (cc);
         told = λ waits. absurd (cc);
       };
     })

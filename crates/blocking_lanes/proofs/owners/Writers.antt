@@ -266,11 +266,10 @@ module _ (s : Session) (capacity : ℕ) (last : Option sessions.Session) (shut b
       let whole : length items ≡ length piece + length p.2.0 = ap (λ (l : List ℕ). length l) p.2.1 ∙ length-append piece p.2.0 in
       let took_is : taken acts ++ take (suc k) (peeked acts) ≡ out ++ take (suc k) items =
       ap (λ l. l ++ take (suc k) (peeked acts)) p.1 ∙ ap (λ l. out ++ take (suc k) l) p.3 ∙ ap (λ l. out ++ l) (front_of (suc k) piece items p.2 many) in
-      left (OfferBytes piece) (Number (suc k)) (Consume (suc k)) refl refl refl refl refl e a
-      (
+      left (OfferBytes piece) (Number (suc k)) (Consume (suc k)) refl refl refl refl refl e a (
         drop (suc k) items,
         a.flow.inside ∙ ap (λ l. out ++ l) (sym (take-append-drop (suc k) items)) ∙ sym (append_assoc out (take (suc k) items) (drop (suc k) items))
-        ∙ ap (λ l. l ++ drop (suc k) items) (sym took_is),
+            ∙ ap (λ l. l ++ drop (suc k) items) (sym took_is),
       )
       (p.0, took_is, omega (arith, many, whole)) (λ none. a.flow.sound (goes_well (OfferBytes piece) (Number (suc k)) e refl none))
   writer_answers (OfferBytes piece) (Number zero) fits e t =

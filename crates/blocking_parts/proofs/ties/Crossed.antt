@@ -271,7 +271,7 @@ module _ (setting : ℕ) (plan : List Bool) (w : Parts) (past : List Moment) (t 
           let kind : kind_of_job s (own (cut g (events past))) ≡ jobs.kind_of read = ap (λ who. kind_by who past s) (sym held) ∙ as_row.kind_is ∙ ap kind_of is in
           let goes = first_goes read acts read_so p.first in
           let l = is_its_last g s a.owner a.there held
-              (ap (λ l. is_over (next_but_wake (kind_of_job s (own (cut g (events past)))) l)) (t.owned.acts g s held) ∙ ap (λ k. is_over (next_but_wake k acts)) kind ∙ goes) in
+          (ap (λ l. is_over (next_but_wake (kind_of_job s (own (cut g (events past)))) l)) (t.owned.acts g s held) ∙ ap (λ k. is_over (next_but_wake k acts)) kind ∙ goes) in
           let seat : seated_in (owners.owner_after a.step a.owner).session ≡ Some l.session.number = p.seat ∙ ap number_in l.here in
           let now = got_same w.owners g (owners.owner_after a.step a.owner) (slice_get_within w.owners g a.owner a.there) in
           let there : slice_get (slice_set w.owners g (owners.owner_after a.step a.owner)) g ≡ Some owner = ap (λ l. slice_get l g) (sym a.owners_are) ∙ ap (slice_get did.owners) same ∙ found in
