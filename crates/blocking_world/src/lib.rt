@@ -1,4 +1,4 @@
-//! A world: a pool with its workers, the tasks that own calls, and the owners who lend readers. It takes any list of steps, one at a time,
+//! A world: a pool with its workers, the tasks that own calls, and the owners who lend handles. It takes any list of steps, one at a time,
 //! and keeps what was seen.
 //!
 //! The parts of a world stand in `blocking_parts`, where each step is one move. That what was seen is legal, by the laws of

@@ -19,7 +19,7 @@ use std::alloc::{AllocError, Global};
 use std::marker::{Brand, Model};
 use std::sync::ledger::{Blank, Ledger};
 
-/// A pool with its workers, the tasks that own its calls, the owners who lend readers to its jobs, and what was seen of them.
+/// A pool with its workers, the tasks that own its calls, the owners who lend handles to its jobs, and what was seen of them.
 ///
 /// What was seen is legal at every moment: the type itself keeps it. A world has no `Drop`, since its workers
 /// and owners hold what has to be spent: it ends by [`World::close`].
