@@ -219,14 +219,20 @@ pub fn wakes()
     ensures refuses_untold_job { Refuses (Keeps NoLostOwnerWake) untold_write_job (polls Waits 2) }
 {}
 
-/// No owner is asked to write, to flush or to close yet: such a step does nothing.
+/// An owner that rests is asked to write, to flush and to close; once its handle is gone it is asked to write no more.
 pub fn steps()
-    // made 0 / nothing
-    ensures accepts_nothing_for_write { StepLaw writer_made (moment (Ask 0 (Write (97 ∷ []))) (Owner 0) None NoAction 1) }
-    ensures accepts_nothing_for_flush { StepLaw writer_made (moment (Ask 0 Flush) (Owner 0) None NoAction 1) }
-    ensures accepts_nothing_for_close { StepLaw writer_made (moment (Ask 0 Close) (Owner 0) None NoAction 1) }
     // made 0 / asked
-    ensures refuses_write { Refuses StepLaw writer_made (asks (Write (97 ∷ [])) 1) }
-    ensures refuses_flush { Refuses StepLaw writer_made (asks Flush 1) }
-    ensures refuses_close { Refuses StepLaw writer_made (asks Close 1) }
+    ensures accepts_write { StepLaw writer_made (asks (Write (97 ∷ [])) 1) }
+    ensures accepts_flush { StepLaw writer_made (asks Flush 1) }
+    ensures accepts_close { StepLaw writer_made (asks Close 1) }
+    // made 0 / nothing
+    ensures refuses_nothing_for_write { Refuses StepLaw writer_made
+        (moment (Ask 0 (Write (97 ∷ []))) (Owner 0) None NoAction 1) }
+    ensures refuses_nothing_for_flush { Refuses StepLaw writer_made (moment (Ask 0 Flush) (Owner 0) None NoAction 1) }
+    ensures refuses_nothing_for_close { Refuses StepLaw writer_made (moment (Ask 0 Close) (Owner 0) None NoAction 1) }
+    // .. / asked (to close) / replied ok / nothing
+    ensures accepts_nothing_for_closed { StepLaw writer_closed
+        (moment (Ask 0 (Write (97 ∷ []))) (Owner 0) None NoAction 2) }
+    // .. / asked (to close) / replied ok / asked (to write 61)
+    ensures refuses_write_of_closed { Refuses StepLaw writer_closed (asks (Write (97 ∷ [])) 2) }
 {}
