@@ -5,6 +5,7 @@ pub mod OwnerCalls
 pub mod PipeAnswers
 pub mod Pipes
 pub mod Places
+pub mod Positions
 pub mod Reading
 pub mod SlotAnswers
 pub mod Slots
