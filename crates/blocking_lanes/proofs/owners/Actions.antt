@@ -42,10 +42,10 @@ use Rattle.blocking_lanes.specs.declared.owner.OwnerNext.TheVariants.{Rests, Act
 use Rattle.blocking_lanes.specs.declared.owner.OwnerStage.{OwnerStage}
 use Rattle.blocking_lanes.specs.declared.owner.OwnerStage.TheVariants as stage
 use Rattle.blocking_lanes.proofs.owners.Cuts.{kind_is}
-use Rattle.blocking_lanes.proofs.owners.Own.{owner_by_parts, bound, doing, fits_at, gone_is, lent_at}
-use Rattle.blocking_lanes.proofs.owners.Pooled.{may_be_asked}
-use Rattle.blocking_lanes.proofs.owners.Reads as read_job
-use Rattle.blocking_lanes.proofs.owners.Writes as write_job
+use Rattle.blocking_lanes.proofs.owners.OwnerActs.{owner_by_parts, bound, doing, fits_at, gone_is, lent_at}
+use Rattle.blocking_lanes.proofs.owners.PoolAnswers.{may_be_asked}
+use Rattle.blocking_lanes.proofs.owners.ReadJobs as read_job
+use Rattle.blocking_lanes.proofs.owners.WriteJobs as write_job
 use Rattle.blocking_lanes.proofs.owners.Steps.{its_last}
 use Rattle.blocking_lanes.proofs.owners.Wakes.{session_is_last}
 

@@ -46,12 +46,12 @@ use Rattle.blocking_lanes.specs.declared.owner.OwnerNext.TheVariants as next
 use Rattle.blocking_lanes.specs.declared.owner.OwnerStage.{OwnerStage}
 use Rattle.blocking_lanes.specs.declared.owner.OwnerStage.TheVariants as stage
 use Rattle.blocking_lanes.proofs.owners.Cuts.{its_kind, kind_is, next_stays, passes}
-use Rattle.blocking_lanes.proofs.owners.OfJob.{WorksOn, room_works, put_works, close_works, finish_works, answer_goes, give_up_goes, peek_works, consume_works, writer_close_works, writer_finish_works, writer_answer_goes, asking_goes}
-use Rattle.blocking_lanes.proofs.owners.Own.{Goes, owner_by_parts, bound, value_of, doing, own_goes}
-use Rattle.blocking_lanes.proofs.owners.Pooled.{ask_goes, drop_goes, refuse_goes, deliver_goes, begin_goes}
-use Rattle.blocking_lanes.proofs.owners.Reads as of_reader
-use Rattle.blocking_lanes.proofs.owners.Writes as of_writer
-use Rattle.blocking_lanes.proofs.owners.Sessions.{calls}
+use Rattle.blocking_lanes.proofs.owners.JobActs.{WorksOn, room_works, put_works, close_works, finish_works, answer_goes, give_up_goes, peek_works, consume_works, writer_close_works, writer_finish_works, writer_answer_goes, asking_goes}
+use Rattle.blocking_lanes.proofs.owners.OwnerActs.{Goes, owner_by_parts, bound, value_of, doing, own_goes}
+use Rattle.blocking_lanes.proofs.owners.PoolAnswers.{ask_goes, drop_goes, refuse_goes, deliver_goes, begin_goes}
+use Rattle.blocking_lanes.proofs.owners.ReadJobs as of_reader
+use Rattle.blocking_lanes.proofs.owners.WriteJobs as of_writer
+use Rattle.blocking_lanes.proofs.owners.ReadSessions.{calls}
 
 -- ---- a waker is called
 

@@ -31,7 +31,7 @@ use Rattle.blocking_parts.specs.Rows.{is_at_first}
 use Rattle.blocking_parts.specs.Ties.{IsMet, Tied, is_left, is_number, is_waiting_in, seated_in}
 use Rattle.blocking_parts.proofs.laws.Wakes.{rests_over}
 use Rattle.blocking_parts.proofs.ties.Jobs.{held_row}
-use Rattle.blocking_parts.proofs.ties.LetGo.{owner_there}
+use Rattle.blocking_parts.proofs.ties.Releases.{owner_there}
 
 never : (b : Bool) → b ≡ false → b ≡ true → ⊥
 never b none some = cc

@@ -12,7 +12,7 @@ use Rattle.blocking_lanes.specs.Owners.{Owner, Did, Worked, after_ask, number_in
 use Rattle.blocking_lanes.specs.Sessions.{Session, session_after_look, drained, reach}
 use Rattle.blocking_lanes.specs.declared.owner.OwnerStage.{OwnerStage}
 use Rattle.blocking_lanes.specs.declared.owner.OwnerStage.TheVariants as stage
-use Rattle.blocking_lanes.proofs.owners.Plain.{brought}
+use Rattle.blocking_lanes.proofs.owners.Events.{brought}
 use Rattle.blocking_pool.specs.Jobs.{JobNumber}
 use Rattle.blocking_parts.proofs.moves.Fills.{by_fill}
 use Rattle.blocking_parts.proofs.moves.SessionActs.{moved, number_worked}

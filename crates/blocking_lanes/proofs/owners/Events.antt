@@ -30,7 +30,7 @@ use Rattle.blocking_lanes.specs.declared.job.SessionJob.{SessionJob}
 use Rattle.blocking_lanes.specs.declared.job.SessionJob.TheVariants as of_job
 use Rattle.blocking_lanes.specs.declared.owner.OwnerStage.{OwnerStage}
 use Rattle.blocking_lanes.specs.declared.owner.OwnerStage.TheVariants as stage
-use Rattle.blocking_lanes.proofs.owners.Own.{value_of}
+use Rattle.blocking_lanes.proofs.owners.OwnerActs.{value_of}
 
 -- Such an act is seen, and accepts these jobs.
 pub record IsPlain (jobs : List ℕ) (act : Act) : Type 0 where

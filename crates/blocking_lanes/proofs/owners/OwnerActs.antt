@@ -49,7 +49,7 @@ use Rattle.blocking_lanes.specs.declared.owner.OwnerStage.{OwnerStage}
 use Rattle.blocking_lanes.specs.declared.owner.OwnerStage.TheVariants as stage
 use Rattle.blocking_lanes.proofs.owners.Cuts.{not_not, next_with, inside_is, room_is, lasts_is, open_is, noted_is, its_job, drain_act, drain_seen}
 use Rattle.blocking_lanes.proofs.owners.Fills.{fills, fill_waits, filled_some, filled_note, fill_act, fill_seen}
-use Rattle.blocking_lanes.proofs.owners.Takes.{shuts, takes, waits, returns, waits_for_it, front, at_end, reached}
+use Rattle.blocking_lanes.proofs.owners.Drains.{shuts, takes, waits, returns, waits_for_it, front, at_end, reached}
 use Rattle.blocking_lanes.proofs.owners.Wakes.{session_is_last}
 
 -- an owner by its parts

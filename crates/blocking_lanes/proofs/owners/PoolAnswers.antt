@@ -40,8 +40,8 @@ use Rattle.blocking_lanes.specs.OwnerTies.{OwnerAs, FitsNext, BeginsBy, LastAs, 
 use Rattle.blocking_lanes.specs.Sessions.{Session, new_session}
 use Rattle.blocking_lanes.specs.declared.owner.OwnerStage.TheVariants as stage
 use Rattle.blocking_lanes.proofs.owners.Cuts.{next_with, next_stays, kind_of_last}
-use Rattle.blocking_lanes.proofs.owners.Own.{Goes, owner_by_parts, bound, turned, lawful, fits_at, failed_fits, gone_is, lent_by, is_away, last_is}
-use Rattle.blocking_lanes.proofs.owners.Takes.{IsLending, begins}
+use Rattle.blocking_lanes.proofs.owners.OwnerActs.{Goes, owner_by_parts, bound, turned, lawful, fits_at, failed_fits, gone_is, lent_by, is_away, last_is}
+use Rattle.blocking_lanes.proofs.owners.Drains.{IsLending, begins}
 
 -- ---- it is asked
 
