@@ -87,15 +87,8 @@ plain_did action.DropHandle p last owner done e = moved (λ (d : Did). IsPlain [
 plain_did action.Close p (Some s) owner done e = moved (λ (d : Did). IsPlain [] d.act) _ done e (record { pool = refl; nothing = refl; made = refl; new = refl })
 plain_did (action.Drain most) p (Some s) owner done e = moved (λ (d : Did). IsPlain [] d.act) _ done e (plain_drain (drained (reach most s) s) p s owner)
 plain_did action.PollSlot p (Some s) owner done e = plain_look s.slot.content p (session_after_look s.slot.content s) owner done e
-plain_did action.Close p None owner done e = absurd (cc)
-plain_did (action.Drain most) p None owner done e = absurd (cc)
-plain_did action.PollSlot p None owner done e = absurd (cc)
-plain_did action.Begin p None owner done e = absurd (cc)
-plain_did action.Begin p (Some s) owner done e = absurd (cc)
-plain_did action.Deliver p None owner done e = absurd (cc)
-plain_did action.Deliver p (Some s) owner done e = absurd (cc)
-plain_did action.Pending p None owner done e = absurd (cc)
-plain_did action.Pending p (Some s) owner done e = absurd (cc)
+plain_did _ p None owner done e = absurd (cc)
+plain_did _ p (Some s) owner done e = absurd (cc)
 
 plain_room : (met : Met ℕ) → IsPlain [] (seen_room met)
 plain_room (Served n) = record { pool = refl; nothing = refl; made = refl; new = refl }

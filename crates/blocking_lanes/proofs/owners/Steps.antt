@@ -277,18 +277,12 @@ pub record IsAllowed (step : OwnerStep) (owner : Owner) (n : ℕ) (cut : List Ev
 
 begins_by : (a : OwnerAction ℕ) (last : Option Session) → next_by a last ≡ next.Begins → a ≡ action.Begin
 begins_by action.Begin last e = refl
-begins_by action.Close last e = absurd (cc)
-begins_by (action.Drain most) last e = absurd (cc)
-begins_by action.PollSlot last e = absurd (cc)
-begins_by action.Deliver last e = absurd (cc)
 begins_by (action.Reply r) last e = absurd (never (reply_as r) e)
   where
     never : (told : Option Told) → next_to_say told ≡ next.Begins → ⊥
     never None e = cc
     never (Some told) e = cc
-begins_by action.Pending last e = absurd (cc)
-begins_by (action.Fill most) last e = absurd (cc)
-begins_by action.DropHandle last e = absurd (cc)
+begins_by _ last e = absurd (cc)
 
 pub begins_at : (bytes : ℕ) (asked : Option HandleCall) (p : OwnerMachine ℕ) (last : Option Session) (cut : List Event) → OwnerAs (owner_by_parts bytes asked (stage.Polls p) last) cut
     → next_at (stage.Polls p) last ≡ next.Begins → p.next ≡ action.Begin

@@ -25,13 +25,7 @@ use Rattle.blocking_lanes.specs.Owners.{Owner, capacity_of}
 use Rattle.blocking_lanes.specs.OwnerTies.{OwnerAs, LastAs, SlotAs, Flows, IsStuckIn, IsOwnerStuckIn, is_finding, seat_of, is_seated}
 use Rattle.blocking_lanes.specs.Sessions.{Session}
 use Rattle.blocking_lanes.proofs.owners.Cuts.{inside_is}
-
--- the session that isn't over is the last one
-pub session_is_last : (acts : List Act) (r : sessions.Session) → session acts ≡ Some r → last_session acts ≡ Some r
-session_is_last [] r e = absurd (cc)
-session_is_last (Back ∷ past) r e = absurd (cc)
-session_is_last (Accepted s ∷ past) r e = e
-session_is_last (_ ∷ past) r e = session_is_last past r e
+use Rattle.blocking_lanes.proofs.owners.States.{session_is_last}
 
 -- ---- what a job and its owner find, by the kind of the session
 

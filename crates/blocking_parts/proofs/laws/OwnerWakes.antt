@@ -8,7 +8,8 @@ use Rattle.blocking_lanes.specs.Owners.{Owner, capacity_of, note_at}
 use Rattle.blocking_lanes.specs.Sessions.{Session}
 use Rattle.blocking_lanes.specs.declared.owner.OwnerStage.{OwnerStage}
 use Rattle.blocking_lanes.specs.declared.owner.OwnerStage.TheVariants as stage
-use Rattle.blocking_lanes.proofs.owners.Wakes.{not_lost, session_is_last, seated_reason}
+use Rattle.blocking_lanes.proofs.owners.States.{session_is_last}
+use Rattle.blocking_lanes.proofs.owners.Wakes.{not_lost, seated_reason}
 use Rattle.blocking_laws.specs.JobTable.{has_finished, has_given_up}
 use Rattle.blocking_laws.specs.Jobs.{holder, standing, is_parked, is_running, is_woken}
 use Rattle.blocking_laws.specs.OwnerSeats.{is_job_seated}
