@@ -1,5 +1,5 @@
 -- Jobs that run on, and have their tickets, whatever becomes of others.
-use Rattle.std.proofs.Common.{◌≡◌, ℕ, zero, suc, ◌<◌, ◌≤◌, ◌==◌, ◌||◌, cond, Bool, true, false, refl, sym, ap, ◌∙◌, subst, if◌then◌else◌, List, [], ◌∷◌, Option, Some, None, inl, inr, arith}
+use Rattle.std.proofs.Common.{◌+◌, ◌≡◌, ℕ, zero, suc, ◌<◌, ◌≤◌, ◌==◌, ◌||◌, cond, Bool, true, false, refl, sym, ap, ◌∙◌, subst, if◌then◌else◌, List, [], ◌∷◌, Option, Some, None, inl, inr, arith}
 use Rattle.std.specs.Prelude.{option_map, is_some, filter}
 use Rattle.std.specs.FinMap.{get, insert, remove}
 use Rattle.std.proofs.Math.Bool.{or-true}
@@ -101,6 +101,17 @@ pub requeued_kept : (jobs : Jobs Ticket) (serials : List ℕ) → ((s : ℕ) →
 requeued_kept jobs serials parked s =
     subst (IsKept (get jobs s)) (sym (job_requeued serials jobs s))
     (kept_if (is_in s serials) (get jobs s) (option_map entry_after_requeue (get jobs s)) (λ found. parked_kept (get jobs s) (parked s found)))
+
+-- ---- pools
+
+-- What a change of the pool leaves: jobs run on and have their tickets, and as many idle workers have arrived as before.
+pub record PoolKept (old new : JobPool) : Type 0 where
+  pub jobs : AreKept old.jobs new.jobs
+  pub level : new.counts.idle + old.counts.arriving ≡ old.counts.idle + new.counts.arriving
+
+-- the same pool
+pub same_pool : (old new : JobPool) → new ≡ old → PoolKept old new
+same_pool old new same = rw same (record { jobs = all_kept old.jobs; level = refl })
 
 -- ---- sweeps
 

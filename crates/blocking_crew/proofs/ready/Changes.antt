@@ -12,13 +12,8 @@ use Rattle.blocking_crew.specs.Tickets.{JobPool, AreValued, is_valued}
 use Rattle.blocking_crew.specs.declared.hand.Hand.{Hand}
 use Rattle.blocking_crew.specs.declared.hand.Hand.TheVariants.{Out, Free, Holds}
 use Rattle.blocking_crew.specs.declared.hand.Held.{Held}
-use Rattle.blocking_crew.proofs.jobs.Kept.{AreKept, runs_on, stay_valued}
+use Rattle.blocking_crew.proofs.jobs.Kept.{PoolKept, runs_on, stay_valued}
 use Rattle.blocking_crew.proofs.hands.Rows.{IsAt, hand_set, hand_pushed, sum_set, sum_pushed}
-
--- What a change of the pool leaves: jobs run on and have their tickets, and as many idle workers have arrived as before.
-pub record PoolKept (old new : JobPool) : Type 0 where
-  pub jobs : AreKept old.jobs new.jobs
-  pub level : new.counts.idle + old.counts.arriving ≡ old.counts.idle + new.counts.arriving
 
 pub pool_ready : (crew : Crew) (pool : JobPool) → IsReady crew → PoolKept crew.pool pool → IsReady (record crew { pool = pool })
 pool_ready crew pool ready kept = record {

@@ -15,14 +15,8 @@ use Rattle.blocking_pool.specs.declared.pool.answer.Woke.TheVariants.{Entered, M
 use Rattle.blocking_pool.specs.declared.pool.standing.Standing.TheVariants.{Parked}
 use Rattle.blocking_crew.specs.Tickets.{JobPool, new_ticket, ticket_after_mark, pool_after_mark_of, pool_after_mark, pool_after_let_go, is_valued, AddsTo, Wakes, WakesTo, Cancels, CancelsTo, EntersAgain, SweepsTo, SweepsIf, to_sweep}
 use Rattle.blocking_crew.specs.declared.ticket.Ticket.{Ticket}
-use Rattle.blocking_crew.proofs.growth.Sweeps.{sweep_keeps, left_by, sweeps_if_keeps, sweeps_if_levels}
-use Rattle.blocking_crew.proofs.jobs.Kept.{changed_kept, with_ticket, all_kept, kept_then, amended_kept, inserted_kept, requeued_kept}
+use Rattle.blocking_crew.proofs.jobs.Kept.{PoolKept, same_pool, changed_kept, with_ticket, all_kept, kept_then, amended_kept, inserted_kept, requeued_kept}
 use Rattle.blocking_crew.proofs.jobs.Lookups.{job_changed, woken_is, cancelled_is, stands_at}
-use Rattle.blocking_crew.proofs.ready.Changes.{PoolKept}
-
--- the same pool
-pub same_pool : (old new : JobPool) → new ≡ old → PoolKept old new
-same_pool old new same = rw same (record { jobs = all_kept old.jobs; level = refl })
 
 -- ---- new jobs
 
@@ -94,14 +88,7 @@ cancel_keeps may_answer old new number Nothing growth answer effect = same_pool 
 pub cancels_keep : (may_answer : ℕ → Bool → Type 0) (old new : JobPool) (number : JobNumber) (woke : Woke) (growth : Growth) → Cancels may_answer old number woke growth new → PoolKept old new
 cancels_keep may_answer old new number woke growth cancels = cancel_keeps may_answer old new number woke growth cancels.answer cancels.effect
 
--- ---- sweeps and marks
-
-pub sweep_keeps_pool : (may_answer : ℕ → Bool → Type 0) (old new : JobPool) (growth : Growth) → SweepsTo may_answer old (to_sweep old) growth new → PoolKept old new
-sweep_keeps_pool may_answer old new growth sweeps = record { jobs = sweep_keeps may_answer old new growth sweeps; level = (left_by may_answer old new (to_sweep old) growth sweeps).level }
-
-pub sweep_if_keeps_pool : (timed_out : Bool) (may_answer : ℕ → Bool → Type 0) (old new : JobPool) (growth : Growth) → SweepsIf timed_out may_answer old growth new → PoolKept old new
-sweep_if_keeps_pool timed_out may_answer old new growth sweeps =
-    record { jobs = sweeps_if_keeps timed_out may_answer old new growth sweeps; level = sweeps_if_levels timed_out may_answer old new growth sweeps }
+-- ---- marks
 
 mark_of_keeps : (pool : JobPool) (number : JobNumber) (value : Option Ticket) → PoolKept pool (pool_after_mark_of pool number value)
 mark_of_keeps pool number None = same_pool pool pool refl

@@ -1,5 +1,5 @@
 -- What holds of each act that a job, a holder or a worker may be seen to do here holds of the one that was seen.
-use Rattle.std.proofs.Common.{◌≡◌, ℕ, ◌==◌, ◌||◌, not, Bool, true, false, List, [], ◌∷◌, length, refl, ap, Option}
+use Rattle.std.proofs.Common.{[], ◌≡◌, ℕ, ◌==◌, not, Bool, true, false, List, ◌∷◌, length, refl, Option}
 use Rattle.blocking_pool.specs.Growth.{Growth}
 use Rattle.blocking_pool.specs.Jobs.{Job as Entry, one_if}
 use Rattle.blocking_pool.specs.declared.pool.answer.Refusal.TheVariants.{NoWorker}
@@ -9,7 +9,7 @@ use Rattle.blocking_laws.specs.Counts.{is_arrival, is_stop, limit_by}
 use Rattle.blocking_laws.specs.Growth.{HasWorker, grows, is_limit_set, turned_away}
 use Rattle.blocking_laws.specs.Jobs.{accepted_jobs, lets_go}
 use Rattle.blocking_laws.specs.Queue.{entered_by, taken_by, ended_by}
-use Rattle.blocking_laws.specs.Seen.{is_nothing, is_of_pool}
+use Rattle.blocking_laws.specs.Seen.{is_of_pool}
 use Rattle.blocking_laws.specs.Steps.{is_there}
 use Rattle.blocking_laws.specs.Turns.{FitsTurn, HoldsOne, turn, hand}
 use Rattle.blocking_laws.specs.declared.event.Act.{Act}
@@ -136,8 +136,8 @@ module _ (setting : ℕ) (past : List Moment) (step : Step) (owner : Option ℕ)
     handed = λ crew h. record { each = h.each; turn_is = h.turn_is };
   }
 
--- an act that is nothing to the crew, or none at all, is plain
-pub aside_plain : (act : Act) → (is_aside act || is_nothing act) ≡ true → is_plain act ≡ true
+-- an act that is nothing to the crew is plain
+pub aside_plain : (act : Act) → is_aside act ≡ true → is_plain act ≡ true
 aside_plain (Made h capacity) is = refl
 aside_plain (Asked call) is = refl
 aside_plain (OwnerClosed told) is = refl
@@ -153,9 +153,6 @@ aside_plain TaskGotNone is = refl
 aside_plain TaskDetached is = refl
 aside_plain NoAction is = refl
 aside_plain _ is = absurd cc
-
-pub aside_or : (act : Act) → is_aside act ≡ true → (is_aside act || is_nothing act) ≡ true
-aside_or act is = ap (λ b. b || is_nothing act) is
 
 -- an act of a job: it goes on in its turn, or waits from then on, or gives up
 pub by_work : (P : Stage → Act → Type 0) → ((at : Stage) (act : Act) → is_plain act ≡ true → turn_of (stage_after act at) ≡ turn_of at → FitsTurn (turn_of at) act → P at act)

@@ -1,5 +1,5 @@
 -- Each move keeps the hands as they were seen.
-use Rattle.std.proofs.Common.{◌≡◌, ℕ, ◌+◌, ◌==◌, List, [], ◌∷◌, ◌++◌, Bool, true, false, length, refl, sym, ap, ◌∙◌, subst, if◌then◌else◌, Option, Some, None, ◌&&◌, ◌||◌, not}
+use Rattle.std.proofs.Common.{[], ◌≡◌, ℕ, ◌+◌, ◌==◌, List, ◌∷◌, ◌++◌, Bool, true, false, length, refl, sym, ap, ◌∙◌, subst, if◌then◌else◌, Option, Some, None, ◌&&◌, ◌||◌, not}
 use Rattle.std.specs.Prelude.{Ok, Err}
 use Rattle.std.proofs.lemmas.Bool.{eqb-true, eqb-false, eq-eqb, ne_eqb}
 use Rattle.blocking_pool.specs.Growth.{Growth}
@@ -10,7 +10,6 @@ use Rattle.blocking_pool.specs.declared.pool.standing.Standing.TheVariants.{Queu
 use Rattle.blocking_pool.specs.declared.pool.token.WorkerPass.{WorkerPass}
 use Rattle.blocking_laws.specs.Growth.{IsPlanned}
 use Rattle.blocking_laws.specs.Jobs.{standing}
-use Rattle.blocking_laws.specs.Seen.{is_nothing}
 use Rattle.blocking_laws.specs.Steps.{is_there}
 use Rattle.blocking_laws.specs.Turns.{Turn, GoesOn, IsWaiting, MustGiveUp, HasGivenUp, turn, hand}
 use Rattle.blocking_laws.specs.declared.event.Act.{Act}
@@ -22,7 +21,7 @@ use Rattle.blocking_laws.specs.declared.event.Party.{Party}
 use Rattle.blocking_laws.specs.declared.event.Party.TheVariants.{Worker}
 use Rattle.blocking_laws.specs.declared.step.Step.{Step}
 use Rattle.blocking_crew.specs.Crews.{Crew, hand_at, with_hand, may_act, stage_after, held_after_act, outcome_of, standing_after}
-use Rattle.blocking_crew.specs.Moves.{Move, Adds, Arrives, TakesJob, TakesNone, Works, EndsTurn, Parks, HasWaited, IsLetGo, Tells, May, after, next_start, first_stage, is_aside}
+use Rattle.blocking_crew.specs.Moves.{Move, Adds, Arrives, TakesJob, TakesNone, Works, EndsTurn, Parks, HasWaited, IsLetGo, Tells, May, after, next_start, first_stage}
 use Rattle.blocking_crew.specs.Tickets.{JobPool, no_growth}
 use Rattle.blocking_crew.specs.Ties.{HandAs, Handed, turn_of, CrewHolds, moment_of}
 use Rattle.blocking_crew.specs.declared.hand.Hand.{Hand}
@@ -32,7 +31,7 @@ use Rattle.blocking_crew.specs.declared.hand.Stage.{Stage}
 use Rattle.blocking_crew.specs.declared.hand.Stage.TheVariants as stage
 use Rattle.blocking_crew.specs.declared.tickets.Parking.TheVariants as parking
 use Rattle.blocking_crew.proofs.hands.Rows.{IsAt, at_held, at_free, hand_set, hand_pushed, hand_next}
-use Rattle.blocking_crew.proofs.ties.Acts.{now_with, plain, aside_plain, by_work, by_let_go, aside_or}
+use Rattle.blocking_crew.proofs.ties.Acts.{now_with, plain, aside_plain, by_work, by_let_go}
 use Rattle.blocking_crew.proofs.ties.Known.{held_runs, front_stands}
 
 -- ---- a row of hands in which one has changed
@@ -170,11 +169,6 @@ module _ (setting : ℕ) (plan : List Bool) (crew : Crew) (past : List Moment) (
 
   -- ---- every move
 
-  -- an event that is nothing to the crew keeps them
-  pub hands_aside : (who : Party) (act : Act) → (is_aside act || is_nothing act) ≡ true → Handed crew (now who None act no_growth ∷ past)
-  hands_aside who act is =
-      (plain setting past step owner who None (next_start crew) no_growth act (aside_plain act is)).handed crew h.tied.handed
-
   -- Each move keeps the hands as they were seen.
   pub hands_after : (move : Move) → May (IsPlanned plan) crew move → Handed (after crew move) (moment_of crew move step owner ∷ past)
   hands_after (Adds who (Ok number) growth pool) may = record { each = h.tied.handed.each; turn_is = h.tied.handed.turn_is }
@@ -198,5 +192,5 @@ module _ (setting : ℕ) (plan : List Bool) (crew : Crew) (past : List Moment) (
   hands_after (IsLetGo who act number) may =
       by_let_go (λ act. Handed (after crew (IsLetGo who act number)) (now who None act no_growth ∷ past)) (record { each = h.tied.handed.each; turn_is = h.tied.handed.turn_is })
       (record { each = h.tied.handed.each; turn_is = h.tied.handed.turn_is }) act may
-  hands_after (Tells who act) may = hands_aside who act (aside_or act may)
+  hands_after (Tells who act) may = (plain setting past step owner who None (next_start crew) no_growth act (aside_plain act may)).handed crew h.tied.handed
   hands_after move may = record { each = h.tied.handed.each; turn_is = h.tied.handed.turn_is }
