@@ -29,6 +29,7 @@ TONES = {
     "stopping": ("url(#stopping)", "#222", "lent, and the owner's end shut"),
     "closed": ("#616161", "#fff", "closed"),
     "there": ("#9cc4e4", "#222", "a task"),
+    "cancelled": ("#e8c9c2", "#222", "a task that was cancelled"),
     "queued": ("#f5c656", "#222", "queued"),
     "running": ("#6ab187", "#222", "running"),
     "parked": ("#b9a7dd", "#222", "parked"),
@@ -198,14 +199,15 @@ class Chart:
 
     def captions(self, lane):
         """What stands beside the tracks of a lane, and at which height."""
+        if lane.tracks and not any(bar.lane == lane.key for bar in self.story.bars):
+            yield "isn't there", lane.mark + (4 if lane.is_hanging else 18)
+            return
         if lane.key[0] == "owner":
             yield from ((track, lane.at[track] + 12.5) for track in lane.tracks)
         if lane.key[0] == "job":
             yield self.story.kinds[lane.key[1]], lane.at["standing"] + 12.5
         if lane.pipes:
             yield f"pipe of {lane.pipes[0].capacity:,}", lane.at["pipe"] + GAUGE / 2 + 4
-        if lane.tracks and not any(bar.lane == lane.key for bar in self.story.bars):
-            yield "isn't there", lane.mark + 4
 
     # ---- what stood how
 

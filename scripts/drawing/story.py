@@ -398,7 +398,7 @@ class Player:
         if act[0] == "waits":
             self.stand(lane, "task", "pending", "pending")
         elif act[0] == "cancelled":
-            self.stand(lane, "task", "stopping", "cancelled")
+            self.stand(lane, "task", "cancelled", "cancelled")
         else:
             self.stand(lane, "task")
 
@@ -429,7 +429,7 @@ class Player:
 
     def hand_out(self, worker, serial):
         """A job is handed out to be dropped."""
-        self.standing(serial, "dropping", "given up")
+        self.standing(serial, "dropping")
         self.hold(worker, serial, "dropping", f"drops job {serial}")
 
     def see_job(self, words, act):
