@@ -1,14 +1,17 @@
 -- How owners hang together with what was seen: each with its cut.
 use Rattle.std.specs.Prelude.{◌≡◌, ◌<◌, ◌≤◌, ◌+◌, ◌⊎◌, ◌||◌, ℕ, zero, suc, not, Bool, true, false, List, [], ◌∷◌, ◌++◌, length, take, slice_get, Option, Some, None, is_some, is_none}
-use Rattle.blocking_core.specs.OwnerCalls.{OwnerMachine}
+use Rattle.blocking_core.specs.OwnerCalls.{OwnerMachine, has_pipe}
 use Rattle.blocking_core.specs.Pipes.{room}
 use Rattle.blocking_core.specs.Slots.{Content, Empty, Full, GivenUp, Abandoned}
 use Rattle.blocking_core.specs.declared.io.Fault.{Fault}
 use Rattle.blocking_core.specs.declared.unblock.OwnerAction.{OwnerAction}
 use Rattle.blocking_core.specs.declared.unblock.OwnerAction.TheVariants as action
+use Rattle.blocking_core.specs.declared.unblock.OwnerEnd.{OwnerEnd}
 use Rattle.blocking_core.specs.declared.unblock.OwnerEnd.TheVariants.{Open, Shut}
 use Rattle.blocking_core.specs.declared.unblock.Reply.{Reply}
 use Rattle.blocking_core.specs.declared.unblock.Reply.TheVariants as reply
+use Rattle.blocking_core.specs.declared.unblock.SessionKind.{SessionKind}
+use Rattle.blocking_core.specs.declared.unblock.SessionKind.TheVariants as session_kind
 use Rattle.blocking_core.specs.declared.unblock.State.{State}
 use Rattle.blocking_core.specs.declared.unblock.State.TheVariants as state
 use Rattle.blocking_laws.specs.Ends.{handle_answers, has_failure, has_failed_write, has_flush, last_is_end, came_back, IsReadBack, IsFlushedBack}
@@ -47,13 +50,21 @@ called_at (stage.Polls poll) asked = asked
 called_at (stage.Wakes poll note) asked = asked
 called_at _ asked = None
 
+-- what the job of a session is for, in the words of the laws; they have none yet for items, seeks and operations
+abbrev pub kind_as : SessionKind → Kind
+kind_as session_kind.Reading = Reading
+kind_as session_kind.Writing = Writing
+kind_as kind = Calling
+
+-- whether the owner's end of the pipe is open
+abbrev pub is_end_open : OwnerEnd → Bool
+is_end_open Open = true
+is_end_open Shut = false
+
 -- where the handle is, in the words of the laws
 abbrev pub state_as : State → sessions.State
 state_as state.Idle = sessions.Idle
-state_as (state.Reading Open) = sessions.In Reading true
-state_as (state.Reading Shut) = sessions.In Reading false
-state_as (state.Writing Open) = sessions.In Writing true
-state_as (state.Writing Shut) = sessions.In Writing false
+state_as (state.Lent kind end) = sessions.In (kind_as kind) (is_end_open end)
 state_as state.Closed = sessions.Closed
 
 -- what a poll does that is over with this reply
@@ -90,11 +101,11 @@ abbrev pub IsGoneBy : Reply ℕ → HandleCall → State → Type 0
 IsGoneBy reply.Done handle_call.Close at = at ≡ state.Closed
 IsGoneBy _ _ at = Unit {0}
 
--- who looks for the handle has closed the own end of the pipe; or reads, and saw the other end closed
+-- who looks for the handle has closed the own end of the pipe, if there is one; or reads, and saw the other end closed
 abbrev pub LooksFrom : HandleCall → State → Bool → Type 0
-LooksFrom call (state.Reading Shut) false = Unit {0}
-LooksFrom call (state.Writing Shut) false = Unit {0}
-LooksFrom (handle_call.Read most) (state.Reading Open) true = Unit {0}
+LooksFrom call (state.Lent kind Shut) false = Unit {0}
+LooksFrom call (state.Lent kind Open) false = has_pipe kind ≡ false
+LooksFrom (handle_call.Read most) (state.Lent session_kind.Reading Open) true = Unit {0}
 LooksFrom _ _ _ = ⊥
 
 -- a call that begins a session reads some bytes, or writes some
@@ -103,10 +114,9 @@ BeginsBy (handle_call.Read (suc n)) = Unit {0}
 BeginsBy (handle_call.Write (byte ∷ bytes)) = Unit {0}
 BeginsBy _ = ⊥
 
--- the handle is with a job, and the own end of the pipe is open
+-- the handle is with a job, and there is a pipe, whose own end is open
 abbrev pub IsLentOpen : State → Type 0
-IsLentOpen (state.Reading Open) = Unit {0}
-IsLentOpen (state.Writing Open) = Unit {0}
+IsLentOpen (state.Lent kind Open) = has_pipe kind ≡ true
 IsLentOpen _ = ⊥
 
 -- What is next fits the call, where the handle is, whether the end of the pipe was just seen, and what came back in the poll.
@@ -114,9 +124,10 @@ abbrev pub FitsNext : HandleCall → OwnerMachine ℕ → OwnerAction ℕ → Bo
 FitsNext call poll action.Begin ended back = BeginsBy call × (poll.state ≡ state.Idle) × (poll.is_at_end ≡ false)
 FitsNext call poll action.Close ended back = IsLentOpen poll.state × (poll.is_at_end ≡ false)
 FitsNext call poll (action.Drain most) ended back =
-    (call ≡ handle_call.Read most) × (0 < most) × (poll.state ≡ state.Reading Open) × (poll.is_at_end ≡ false)
+    (call ≡ handle_call.Read most) × (0 < most) × (poll.state ≡ state.Lent session_kind.Reading Open) × (poll.is_at_end ≡ false)
 FitsNext call poll (action.Fill most) ended back =
-    (bytes : List ℕ) × (call ≡ handle_call.Write bytes) × (most ≡ length bytes) × (0 < most) × (poll.state ≡ state.Writing Open) × (poll.is_at_end ≡ false)
+    (bytes : List ℕ) × (call ≡ handle_call.Write bytes) × (most ≡ length bytes) × (0 < most)
+    × (poll.state ≡ state.Lent session_kind.Writing Open) × (poll.is_at_end ≡ false)
 FitsNext call poll action.PollSlot ended back = LooksFrom call poll.state poll.is_at_end × (poll.is_at_end ≡ ended)
 FitsNext call poll action.DropHandle ended back = (call ≡ handle_call.Close) × (poll.state ≡ state.Idle) × IsFlushedBack back
 FitsNext call poll (action.Reply reply) ended back = (is_some (reply_as reply) ≡ true) × EndAs call reply back × IsGoneBy reply call poll.state

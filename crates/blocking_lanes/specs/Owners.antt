@@ -83,13 +83,14 @@ poll_call_of handle_call.Flush = poll_call.Flush
 poll_call_of handle_call.Close = poll_call.Close
 poll_call_of handle_call.GetMut = poll_call.GetMut
 
--- a reply, in the words of the laws; they have none for a call that isn't asked once the handle is gone
+-- a reply, in the words of the laws; they have none for a call that isn't asked once the handle is gone, and none yet for positions, items,
+-- results, and calls whose session couldn't begin
 abbrev pub reply_as : Reply ℕ → Option Told
 reply_as (reply.Count count) = Some (told.Count count)
 reply_as reply.Handle = Some told.Handle
 reply_as (reply.Failed why) = Some (told.Failed why)
 reply_as reply.Done = Some told.Okay
-reply_as reply.Closed = None
+reply_as _ = None
 
 -- whether it is there and no poll of it is under way
 abbrev pub is_resting : OwnerStage → Bool

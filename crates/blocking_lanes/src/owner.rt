@@ -86,7 +86,8 @@ fn poll_call(call: &HandleCall) -> PollCall
     }
 }
 
-// A reply, as it is told. None for the one to a call that isn't asked of an owner whose handle is gone.
+// A reply, as it is told. None for the one to a call that isn't asked of an owner whose handle is gone, and for those to calls that owners
+// aren't asked yet.
 fn told(reply: Reply<u64>) -> Option<Told>
     ensures { result ≡ reply_as reply }
 {
@@ -95,7 +96,12 @@ fn told(reply: Reply<u64>) -> Option<Told>
         Reply::Handle => Some(Told::Handle),
         Reply::Failed(why) => Some(Told::Failed(why)),
         Reply::Done => Some(Told::Okay),
-        Reply::Closed => None,
+        Reply::Position(_)
+        | Reply::Item
+        | Reply::End
+        | Reply::Result
+        | Reply::NotBegun(_)
+        | Reply::Closed => None,
     }
 }
 
@@ -187,7 +193,10 @@ impl Owner {
                     Some(_) => OwnerNext::Acts(0),
                     None => OwnerNext::Rests,
                 },
-                OwnerAction::Deliver | OwnerAction::Pending => OwnerNext::Rests,
+                OwnerAction::Receive
+                | OwnerAction::PollResult
+                | OwnerAction::Deliver
+                | OwnerAction::Pending => OwnerNext::Rests,
             },
         }
     }
@@ -252,7 +261,11 @@ impl Owner {
             OwnerAction::PollSlot => self.look(poll),
             OwnerAction::DropHandle => self.drop_handle(poll),
             OwnerAction::Reply(reply) => self.reply(poll, told(reply)),
-            OwnerAction::Begin | OwnerAction::Deliver | OwnerAction::Pending => None,
+            OwnerAction::Begin
+            | OwnerAction::Receive
+            | OwnerAction::PollResult
+            | OwnerAction::Deliver
+            | OwnerAction::Pending => None,
         }
     }
 

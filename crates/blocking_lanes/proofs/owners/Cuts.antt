@@ -5,9 +5,6 @@ use Rattle.std.proofs.lemmas.Bool.{eq-eqb}
 use Rattle.std.proofs.Math.Seq.{drop-append_seam}
 use Rattle.blocking_core.specs.Places.{Met, Served, Waiting, Closed, drain}
 use Rattle.blocking_core.specs.Pipes.{room}
-use Rattle.blocking_core.specs.declared.unblock.OwnerEnd.TheVariants.{Open, Shut}
-use Rattle.blocking_core.specs.declared.unblock.State.{State}
-use Rattle.blocking_core.specs.declared.unblock.State.TheVariants as state
 use Rattle.blocking_laws.specs.JobTable.{Kind, Calling, Reading, Writing, JobAction, next_but_wake, fault, has_closed}
 use Rattle.blocking_laws.specs.OwnerSeats.{note_of, noted, is_job_seated}
 use Rattle.blocking_laws.specs.OwnerTable.{owner_next_but_wake, next_of_owner, next_of_owner_by, deliver_first, at_back, after_back, is_at_end}
@@ -20,29 +17,9 @@ use Rattle.blocking_laws.specs.declared.event.Act.{Act}
 use Rattle.blocking_laws.specs.declared.event.Act.TheVariants.{Accepted, Got, GotEnd, Waits, JobWoken, Back}
 use Rattle.blocking_laws.specs.declared.event.Event.{Event}
 use Rattle.blocking_laws.specs.declared.step.HandleCall.{HandleCall}
-use Rattle.blocking_lanes.specs.OwnerTies.{LastAs, Flows, newest_note, seat_of, state_as}
+use Rattle.blocking_lanes.specs.OwnerTies.{LastAs, Flows, newest_note, seat_of}
 use Rattle.blocking_lanes.specs.Sessions.{Session, serial_of}
 use Rattle.blocking_pool.specs.Jobs.{JobNumber}
-
--- ---- where the handle is
-
-open_by : (b : Bool) (r : Option sessions.Session) (shut : Bool) (st : State) → sessions.state_by b r shut ≡ state_as st → (st ≡ state.Closed → ⊥) → b ≡ false
-open_by false r shut st e other = refl
-open_by true r shut state.Idle e other = absurd (cc)
-open_by true r shut (state.Reading Open) e other = absurd (cc)
-open_by true r shut (state.Reading Shut) e other = absurd (cc)
-open_by true r shut (state.Writing Open) e other = absurd (cc)
-open_by true r shut (state.Writing Shut) e other = absurd (cc)
-open_by true r shut state.Closed e other = absurd (other refl)
-
--- the handle wasn't closed, where the owner's machine says where it is and doesn't say that it is gone
-pub is_open : (acts : List Act) (st : State) → sessions.state acts ≡ state_as st → (st ≡ state.Closed → ⊥) → sessions.is_closed acts ≡ false
-is_open acts st e other = open_by (sessions.is_closed acts) (sessions.session acts) (is_shut acts) st e other
-
--- so it is with its owner, or with a job
-pub state_is : (acts : List Act) (st : State) → sessions.state acts ≡ state_as st → (st ≡ state.Closed → ⊥)
-    → sessions.state acts ≡ sessions.state_in (sessions.session acts) (is_shut acts)
-state_is acts st e other = ap (λ b. sessions.state_by b (sessions.session acts) (is_shut acts)) (is_open acts st e other)
 
 -- ---- the last session
 

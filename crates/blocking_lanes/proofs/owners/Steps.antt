@@ -46,12 +46,12 @@ use Rattle.blocking_lanes.specs.declared.owner.OwnerNext.TheVariants as next
 use Rattle.blocking_lanes.specs.declared.owner.OwnerStage.{OwnerStage}
 use Rattle.blocking_lanes.specs.declared.owner.OwnerStage.TheVariants as stage
 use Rattle.blocking_lanes.proofs.owners.Cuts.{its_kind, kind_is, next_stays, passes}
-use Rattle.blocking_lanes.proofs.owners.OfJob.{WorksOn, room_works, put_works, close_works, finish_works, answer_goes, give_up_goes, peek_works, consume_works, writer_close_works, writer_finish_works, writer_answer_goes, asking_goes}
-use Rattle.blocking_lanes.proofs.owners.Own.{Goes, owner_by_parts, bound, value_of, doing, own_goes}
-use Rattle.blocking_lanes.proofs.owners.Pooled.{ask_goes, drop_goes, refuse_goes, deliver_goes, begin_goes}
-use Rattle.blocking_lanes.proofs.owners.Reads as of_reader
-use Rattle.blocking_lanes.proofs.owners.Writes as of_writer
-use Rattle.blocking_lanes.proofs.owners.Sessions.{calls}
+use Rattle.blocking_lanes.proofs.owners.JobActs.{WorksOn, room_works, put_works, close_works, finish_works, answer_goes, give_up_goes, peek_works, consume_works, writer_close_works, writer_finish_works, writer_answer_goes, asking_goes}
+use Rattle.blocking_lanes.proofs.owners.OwnerActs.{Goes, owner_by_parts, bound, value_of, doing, own_goes}
+use Rattle.blocking_lanes.proofs.owners.PoolAnswers.{ask_goes, drop_goes, refuse_goes, deliver_goes, begin_goes}
+use Rattle.blocking_lanes.proofs.owners.ReadJobs as of_reader
+use Rattle.blocking_lanes.proofs.owners.WriteJobs as of_writer
+use Rattle.blocking_lanes.proofs.owners.ReadSessions.{calls}
 
 -- ---- a waker is called
 
@@ -277,18 +277,12 @@ pub record IsAllowed (step : OwnerStep) (owner : Owner) (n : ℕ) (cut : List Ev
 
 begins_by : (a : OwnerAction ℕ) (last : Option Session) → next_by a last ≡ next.Begins → a ≡ action.Begin
 begins_by action.Begin last e = refl
-begins_by action.Close last e = absurd (cc)
-begins_by (action.Drain most) last e = absurd (cc)
-begins_by action.PollSlot last e = absurd (cc)
-begins_by action.Deliver last e = absurd (cc)
 begins_by (action.Reply r) last e = absurd (never (reply_as r) e)
   where
     never : (told : Option Told) → next_to_say told ≡ next.Begins → ⊥
     never None e = cc
     never (Some told) e = cc
-begins_by action.Pending last e = absurd (cc)
-begins_by (action.Fill most) last e = absurd (cc)
-begins_by action.DropHandle last e = absurd (cc)
+begins_by _ last e = absurd (cc)
 
 pub begins_at : (bytes : ℕ) (asked : Option HandleCall) (p : OwnerMachine ℕ) (last : Option Session) (cut : List Event) → OwnerAs (owner_by_parts bytes asked (stage.Polls p) last) cut
     → next_at (stage.Polls p) last ≡ next.Begins → p.next ≡ action.Begin

@@ -38,8 +38,8 @@ use Rattle.blocking_parts.specs.Moves.{has_action_in, may_ask_in, may_call_in, m
 use Rattle.blocking_parts.specs.Parts.{Parts, row_of, let_go_by}
 use Rattle.blocking_parts.specs.Ties.{Tied}
 use Rattle.blocking_parts.specs.declared.row.Row.{Row}
-use Rattle.blocking_parts.proofs.laws.Next.{missing, unseen, next_agrees, own_is}
-use Rattle.blocking_parts.proofs.ties.LetGo.{let_go_is}
+use Rattle.blocking_parts.proofs.laws.NextActions.{missing, unseen, next_agrees, own_is}
+use Rattle.blocking_parts.proofs.ties.Releases.{let_go_is}
 use Rattle.blocking_parts.proofs.ties.Jobs.{has_row, holder_stands, owner_tie, task_tie}
 
 -- ---- workers and limits

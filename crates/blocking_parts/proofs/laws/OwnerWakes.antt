@@ -8,7 +8,8 @@ use Rattle.blocking_lanes.specs.Owners.{Owner, capacity_of, note_at}
 use Rattle.blocking_lanes.specs.Sessions.{Session}
 use Rattle.blocking_lanes.specs.declared.owner.OwnerStage.{OwnerStage}
 use Rattle.blocking_lanes.specs.declared.owner.OwnerStage.TheVariants as stage
-use Rattle.blocking_lanes.proofs.owners.Wakes.{not_lost, session_is_last, seated_reason}
+use Rattle.blocking_lanes.proofs.owners.States.{session_is_last}
+use Rattle.blocking_lanes.proofs.owners.Wakes.{not_lost, seated_reason}
 use Rattle.blocking_laws.specs.JobTable.{has_finished, has_given_up}
 use Rattle.blocking_laws.specs.Jobs.{holder, standing, is_parked, is_running, is_woken}
 use Rattle.blocking_laws.specs.OwnerSeats.{is_job_seated}
@@ -31,7 +32,7 @@ use Rattle.blocking_parts.specs.Rows.{is_at_first}
 use Rattle.blocking_parts.specs.Ties.{IsMet, Tied, is_left, is_number, is_waiting_in, seated_in}
 use Rattle.blocking_parts.proofs.laws.Wakes.{rests_over}
 use Rattle.blocking_parts.proofs.ties.Jobs.{held_row}
-use Rattle.blocking_parts.proofs.ties.LetGo.{owner_there}
+use Rattle.blocking_parts.proofs.ties.Releases.{owner_there}
 
 never : (b : Bool) → b ≡ false → b ≡ true → ⊥
 never b none some = cc

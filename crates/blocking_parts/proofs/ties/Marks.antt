@@ -37,9 +37,9 @@ use Rattle.blocking_parts.specs.declared.row.Row.{Row}
 use Rattle.blocking_parts.proofs.moves.Asides.{told_aside}
 use Rattle.blocking_parts.proofs.past.Marks.{KeepsMarks, IsQuiet, quiet_keeps, plain_quiet, marks_kept}
 use Rattle.blocking_parts.proofs.ties.Jobs.{next_free}
-use Rattle.blocking_parts.proofs.ties.LetGo.{let_go_is}
-use Rattle.blocking_parts.proofs.ties.Said.{SaidBy, said, done_fits}
-use Rattle.blocking_parts.proofs.ties.Told.{IsPlain}
+use Rattle.blocking_parts.proofs.ties.Releases.{let_go_is}
+use Rattle.blocking_parts.proofs.ties.Events.{SaidBy, said, done_fits}
+use Rattle.blocking_parts.proofs.ties.CrewEvents.{IsPlain}
 
 -- ---- quiet acts
 

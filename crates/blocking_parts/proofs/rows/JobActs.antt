@@ -24,7 +24,7 @@ use Rattle.blocking_lanes.specs.Steps.{TaskStep}
 use Rattle.blocking_lanes.specs.Tasks.{Task, finish_wakes}
 use Rattle.blocking_pool.proofs.Places.{got_same, got_other}
 use Rattle.blocking_lanes.proofs.acts.Calls.{call_number}
-use Rattle.blocking_lanes.proofs.owners.Own.{value_of}
+use Rattle.blocking_lanes.proofs.owners.OwnerActs.{value_of}
 use Rattle.blocking_laws.specs.JobTable.{JobAction, AskCall, AskBytes, FindRoom, PutPiece, Peek, OfferBytes, Consume, AskFlush, CloseEnd, Finish, WakeHolder, Over, next_but_wake, next_of_job, is_answer, has_given_up}
 use Rattle.blocking_laws.specs.Jobs.{accepted_by, ends_for_good, holder, sweeps, stands_by, is_parked}
 use Rattle.blocking_laws.specs.Seats.{waker_in}
@@ -46,8 +46,8 @@ use Rattle.blocking_parts.specs.declared.row.Core.{Core}
 use Rattle.blocking_parts.specs.declared.row.Core.TheVariants as core
 use Rattle.blocking_parts.proofs.moves.SessionActs.{first_where_parked, same_kind}
 use Rattle.blocking_lanes.proofs.owners.Jobs.{worked_on}
-use Rattle.blocking_parts.proofs.ties.SessionJobs.{first_of_table, job_action_is, job_answers, kind_answered}
-use Rattle.blocking_parts.proofs.ties.Readers.{number_after_work, number_after_give_up}
+use Rattle.blocking_parts.proofs.rows.SessionJobs.{first_of_table, job_action_is, job_answers, kind_answered}
+use Rattle.blocking_parts.proofs.rows.Readers.{number_after_work, number_after_give_up}
 
 -- ---- its turn
 

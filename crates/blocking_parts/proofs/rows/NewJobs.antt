@@ -16,7 +16,7 @@ use Rattle.blocking_lanes.specs.Owners.{Owner, after_begin, capacity_of, new_job
 use Rattle.blocking_lanes.specs.SessionJobs as jobs
 use Rattle.blocking_lanes.specs.SessionJobs.{JobAs, new_job}
 use Rattle.blocking_lanes.specs.Sessions.{Session}
-use Rattle.blocking_lanes.proofs.owners.Own.{owner_by_parts, fits_at}
+use Rattle.blocking_lanes.proofs.owners.OwnerActs.{owner_by_parts, fits_at}
 use Rattle.blocking_lanes.proofs.owners.Steps.{begins_at}
 use Rattle.blocking_laws.specs.JobTable.{Kind, Calling, Reading, Writing}
 use Rattle.blocking_laws.specs.Sessions as sessions
@@ -46,12 +46,12 @@ use Rattle.blocking_parts.specs.Rows.{call_row, session_row, is_at_first, is_fir
 use Rattle.blocking_parts.specs.Ties.{Tied, Rowed, RowAs, HasRow, CoreAs, PlaceAs, GaveAs, moment}
 use Rattle.blocking_parts.specs.declared.row.Core.{Core}
 use Rattle.blocking_parts.specs.declared.row.Row.{Row}
-use Rattle.blocking_parts.proofs.moves.Found.{row_found, row_at, row_pushed}
+use Rattle.blocking_parts.proofs.moves.Lookups.{row_found, row_at, row_pushed}
 use Rattle.blocking_parts.proofs.ties.Hands.{IsOldOrBegins, hands_moved}
 use Rattle.blocking_parts.proofs.ties.Jobs.{next_row, next_free}
-use Rattle.blocking_parts.proofs.ties.Kept.{row_kept}
-use Rattle.blocking_parts.proofs.ties.Acted.{seen_is}
-use Rattle.blocking_parts.proofs.ties.Told.{told, by_no_worker, added_of}
+use Rattle.blocking_parts.proofs.rows.OtherEvents.{row_kept}
+use Rattle.blocking_parts.proofs.ties.JobSteps.{seen_is}
+use Rattle.blocking_parts.proofs.ties.CrewEvents.{told, by_no_worker, added_of}
 
 -- an older row stays
 row_stays : (rows : List Row) (new row : Row) (s : ℕ) → row_of rows s ≡ Some row → row_of (rows ++ new ∷ []) s ≡ Some row

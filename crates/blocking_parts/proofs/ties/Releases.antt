@@ -28,7 +28,7 @@ use Rattle.blocking_parts.specs.Ties.{Tied}
 use Rattle.blocking_parts.specs.declared.row.Core.{Core}
 use Rattle.blocking_parts.specs.declared.row.Core.TheVariants as core
 use Rattle.blocking_parts.specs.declared.row.Row.{Row}
-use Rattle.blocking_parts.proofs.moves.Found.{there}
+use Rattle.blocking_parts.proofs.moves.Lookups.{there}
 use Rattle.blocking_parts.proofs.ties.Jobs.{IsHere}
 
 -- a job that runs isn't over

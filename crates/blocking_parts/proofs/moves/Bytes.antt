@@ -47,7 +47,7 @@ use Rattle.blocking_parts.specs.declared.row.Core.{Core}
 use Rattle.blocking_parts.specs.declared.row.Core.TheVariants as core
 use Rattle.blocking_parts.proofs.moves.Fills.{by_fill}
 use Rattle.blocking_parts.proofs.moves.SessionActs.{DoesSo, carried_at, moved, seen as seen_at, worked_so}
-use Rattle.blocking_parts.proofs.ties.Said.{SaidBy, said}
+use Rattle.blocking_parts.proofs.ties.Events.{SaidBy, said}
 
 -- nothing carried is no more than anything
 none_more : (bytes : List ℕ) (n : ℕ) → bytes ≡ [] → length bytes ≤ n

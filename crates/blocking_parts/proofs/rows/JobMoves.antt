@@ -32,14 +32,14 @@ use Rattle.blocking_parts.specs.Rows.{Done, core_after_answer, party_of, next_of
 use Rattle.blocking_parts.specs.Ties.{Tied, Rowed, RowAs, HasRow, PlaceAs, GaveAs, moment}
 use Rattle.blocking_parts.specs.declared.row.Core.{Core}
 use Rattle.blocking_parts.specs.declared.row.Row.{Row}
-use Rattle.blocking_parts.proofs.moves.Found.{one_found, row_set}
-use Rattle.blocking_parts.proofs.ties.Acts.{IsOwnAct, own_act, place_acted, gave_acted, Leaves, done_leaves, answer_leaves, KeepNumbers, same_numbers, done_numbers}
+use Rattle.blocking_parts.proofs.moves.Lookups.{one_found, row_set}
+use Rattle.blocking_parts.proofs.rows.JobActs.{IsOwnAct, own_act, place_acted, gave_acted, Leaves, done_leaves, answer_leaves, KeepNumbers, same_numbers, done_numbers}
 use Rattle.blocking_parts.proofs.ties.Jobs.{IsHere, job_here, next_here, job_place}
-use Rattle.blocking_parts.proofs.ties.Kept.{none_accepted, row_kept}
-use Rattle.blocking_parts.proofs.ties.Said.{done_fits, answer_fits}
+use Rattle.blocking_parts.proofs.rows.OtherEvents.{none_accepted, row_kept}
+use Rattle.blocking_parts.proofs.ties.Events.{done_fits, answer_fits}
 use Rattle.blocking_laws.specs.Steps.{kind_by}
-use Rattle.blocking_parts.proofs.ties.Kinds.{kind_stays}
-use Rattle.blocking_parts.proofs.ties.Told.{worked}
+use Rattle.blocking_parts.proofs.rows.Kinds.{kind_stays}
+use Rattle.blocking_parts.proofs.ties.CrewEvents.{worked}
 
 -- What an act of the job in the hand of worker v makes of the parts, where it leaves its row with this core.
 record IsWork (w new : Parts) (past : List Moment) (now : Moment) (v : ℕ) (job : InHand) (act : Act) (core : Core) : Type 0 where

@@ -1,5 +1,5 @@
 -- An owner is asked and dropped, and the pool answers it: each keeps its law and its tie.
-use Rattle.std.proofs.Common.{◌≡◌, ℕ, suc, zero, ◌<◌, ◌==◌, List, [], ◌∷◌, Bool, true, false, refl, sym, ap, ◌∙◌, subst, arith, Option, Some, None, if◌then◌else◌}
+use Rattle.std.proofs.Common.{◌≡◌, ℕ, suc, zero, ◌<◌, ◌==◌, List, [], ◌∷◌, length, Bool, true, false, refl, sym, ap, ◌∙◌, subst, arith, Option, Some, None, if◌then◌else◌}
 use Rattle.std.specs.Prelude.{◌||◌, ◌&&◌, not, is_none}
 use Rattle.std.proofs.lemmas.Bool.{or_left}
 use Rattle.std.proofs.lemmas.Bool.Decides.{nat_tests}
@@ -11,8 +11,12 @@ use Rattle.blocking_core.specs.declared.io.Fault.TheVariants as why
 use Rattle.blocking_core.specs.declared.unblock.OwnerAction.{OwnerAction}
 use Rattle.blocking_core.specs.declared.unblock.OwnerAction.TheVariants as action
 use Rattle.blocking_core.specs.declared.unblock.OwnerAnswer.TheVariants as by
+use Rattle.blocking_core.specs.declared.unblock.OwnerEnd.{OwnerEnd}
 use Rattle.blocking_core.specs.declared.unblock.OwnerEnd.TheVariants.{Open, Shut}
+use Rattle.blocking_core.specs.declared.unblock.PollCall.TheVariants as poll_call
 use Rattle.blocking_core.specs.declared.unblock.Reply.TheVariants as reply
+use Rattle.blocking_core.specs.declared.unblock.SessionKind.{SessionKind}
+use Rattle.blocking_core.specs.declared.unblock.SessionKind.TheVariants as session_kind
 use Rattle.blocking_core.specs.declared.unblock.State.{State}
 use Rattle.blocking_core.specs.declared.unblock.State.TheVariants as state
 use Rattle.blocking_laws.specs.Ends.{came_back}
@@ -36,93 +40,100 @@ use Rattle.blocking_pool.specs.declared.pool.answer.Refusal.{Refusal}
 use Rattle.blocking_pool.specs.declared.pool.answer.Woke.{Woke}
 use Rattle.blocking_lanes.specs.Owners.{poll_call_of, may_call_at}
 use Rattle.blocking_lanes.specs.OwnerSteps.{by_owner}
-use Rattle.blocking_lanes.specs.OwnerTies.{OwnerAs, FitsNext, BeginsBy, LastAs, SessionAs, SlotAs, state_as, action_as, newest_note}
+use Rattle.blocking_lanes.specs.OwnerTies.{OwnerAs, FitsNext, BeginsBy, LastAs, SessionAs, SlotAs, kind_as, is_end_open, state_as, action_as, newest_note}
 use Rattle.blocking_lanes.specs.Sessions.{Session, new_session}
 use Rattle.blocking_lanes.specs.declared.owner.OwnerStage.TheVariants as stage
 use Rattle.blocking_lanes.proofs.owners.Cuts.{next_with, next_stays, kind_of_last}
-use Rattle.blocking_lanes.proofs.owners.Own.{Goes, owner_by_parts, bound, turned, lawful, fits_at, failed_fits, gone_is, lent_by, is_away, last_is}
-use Rattle.blocking_lanes.proofs.owners.Takes.{IsLending, begins}
+use Rattle.blocking_lanes.proofs.owners.OwnerActs.{Goes, owner_by_parts, bound, turned, lawful, fits_at, failed_fits, last_is}
+use Rattle.blocking_lanes.proofs.owners.States.{IsThere, is_away, gone_is, lent_by, may_be_asked, is_there, of_session}
+use Rattle.blocking_lanes.proofs.owners.Drains.{IsLending, begins}
 
 -- ---- it is asked
 
--- the machine's table is that of the laws, wherever the call may be asked
-table_at : (call : HandleCall) (at : State) → may_call_at at call ≡ true → law.table call (state_as at) ≡ action_as call (machine.table (poll_call_of call) at)
-table_at (handle_call.Read zero) at may = refl
-table_at (handle_call.Read (suc n)) state.Idle may = refl
-table_at (handle_call.Read (suc n)) (state.Reading Open) may = refl
-table_at (handle_call.Read (suc n)) (state.Reading Shut) may = refl
-table_at (handle_call.Read (suc n)) (state.Writing Open) may = refl
-table_at (handle_call.Read (suc n)) (state.Writing Shut) may = refl
-table_at (handle_call.Read (suc n)) state.Closed may = absurd (cc)
-table_at (handle_call.Write []) at may = refl
-table_at (handle_call.Write (byte ∷ more)) state.Idle may = refl
-table_at (handle_call.Write (byte ∷ more)) (state.Reading Open) may = refl
-table_at (handle_call.Write (byte ∷ more)) (state.Reading Shut) may = refl
-table_at (handle_call.Write (byte ∷ more)) (state.Writing Open) may = refl
-table_at (handle_call.Write (byte ∷ more)) (state.Writing Shut) may = refl
-table_at (handle_call.Write (byte ∷ more)) state.Closed may = absurd (cc)
-table_at handle_call.Flush state.Idle may = refl
-table_at handle_call.Flush (state.Reading Open) may = refl
-table_at handle_call.Flush (state.Reading Shut) may = refl
-table_at handle_call.Flush (state.Writing Open) may = refl
-table_at handle_call.Flush (state.Writing Shut) may = refl
-table_at handle_call.Flush state.Closed may = refl
-table_at handle_call.Close state.Idle may = refl
-table_at handle_call.Close (state.Reading Open) may = refl
-table_at handle_call.Close (state.Reading Shut) may = refl
-table_at handle_call.Close (state.Writing Open) may = refl
-table_at handle_call.Close (state.Writing Shut) may = refl
-table_at handle_call.Close state.Closed may = refl
-table_at handle_call.GetMut state.Idle may = refl
-table_at handle_call.GetMut (state.Reading Open) may = refl
-table_at handle_call.GetMut (state.Reading Shut) may = refl
-table_at handle_call.GetMut (state.Writing Open) may = refl
-table_at handle_call.GetMut (state.Writing Shut) may = refl
-table_at handle_call.GetMut state.Closed may = absurd (cc)
+-- in each session the machine does what the law says
+abbrev DoesSo : HandleCall → SessionKind → OwnerEnd → Type 0
+DoesSo call kind end =
+    law.table call (sessions.In (kind_as kind) (is_end_open end))
+    ≡ action_as call (machine.in_session (machine.goes_on_in kind (poll_call_of call)) (poll_call_of call) kind end)
 
-table_is : (call : HandleCall) (at : State) (here : sessions.State) → may_call_at at call ≡ true → here ≡ state_as at → law.table call here ≡ action_as call (machine.table (poll_call_of call) at)
-table_is call at here may e = ap (law.table call) e ∙ table_at call at may
+-- the machine's table is that of the laws, wherever the call may be asked
+table_at : (call : HandleCall) (at : State) → may_call_at at call ≡ true → IsThere at → law.table call (state_as at) ≡ action_as call (machine.table (poll_call_of call) at)
+table_at (handle_call.Read zero) at may there = refl
+table_at (handle_call.Write []) at may there = refl
+table_at (handle_call.Read (suc n)) (state.Lent kind end) may there = of_session (DoesSo (handle_call.Read (suc n))) refl refl refl refl kind end there
+table_at (handle_call.Write (byte ∷ more)) (state.Lent kind end) may there = of_session (DoesSo (handle_call.Write (byte ∷ more))) refl refl refl refl kind end there
+table_at handle_call.Flush (state.Lent kind end) may there = of_session (DoesSo handle_call.Flush) refl refl refl refl kind end there
+table_at handle_call.Close (state.Lent kind end) may there = of_session (DoesSo handle_call.Close) refl refl refl refl kind end there
+table_at handle_call.GetMut (state.Lent kind end) may there = of_session (DoesSo handle_call.GetMut) refl refl refl refl kind end there
+table_at (handle_call.Read (suc n)) state.Closed may there = absurd (cc)
+table_at (handle_call.Write (byte ∷ more)) state.Closed may there = absurd (cc)
+table_at handle_call.GetMut state.Closed may there = absurd (cc)
+table_at _ state.Closed may there = refl
+table_at _ state.Idle may there = refl
+
+table_is : (call : HandleCall) (at : State) (here : sessions.State) → may_call_at at call ≡ true → IsThere at → here ≡ state_as at → law.table call here ≡ action_as call (machine.table (poll_call_of call) at)
+table_is call at here may there e = ap (law.table call) e ∙ table_at call at may there
+
+-- who stops a session closes the own end of its pipe, or looks for the handle
+stop_fits : (call : HandleCall) (kind : SessionKind) (end : OwnerEnd) → FitsNext call (new_poll (poll_call_of call) (state.Lent kind end)) (machine.stop (machine.has_pipe kind) end) false None
+stop_fits call kind end = by (machine.has_pipe kind) end refl
+  where
+    by : (pipe : Bool) (end : OwnerEnd) → machine.has_pipe kind ≡ pipe → FitsNext call (new_poll (poll_call_of call) (state.Lent kind end)) (machine.stop pipe end) false None
+    by true Open is = (is, refl)
+    by true Shut is = (tt, refl)
+    by false Open is = (is, refl)
+    by false Shut is = (tt, refl)
+
+-- so what is done in a session fits, if what is done in a session of the call's own does
+session_fits : (call : HandleCall) (kind : SessionKind) (end : OwnerEnd) (own : Bool) → machine.goes_on_in kind (poll_call_of call) ≡ own
+    → (machine.goes_on_in kind (poll_call_of call) ≡ true → FitsNext call (new_poll (poll_call_of call) (state.Lent kind Open)) (machine.in_own (poll_call_of call)) false None)
+    → FitsNext call (new_poll (poll_call_of call) (state.Lent kind end)) (machine.in_session own (poll_call_of call) kind end) false None
+session_fits call kind Open true is fits = fits is
+session_fits call kind Shut true is fits = stop_fits call kind Shut
+session_fits call kind Open false is fits = stop_fits call kind Open
+session_fits call kind Shut false is fits = stop_fits call kind Shut
+
+-- a flush, a close and the call for the handle have no session of their own
+flush_stops : (kind : SessionKind) → machine.goes_on_in kind poll_call.Flush ≡ true → ⊥
+flush_stops session_kind.Reading own = cc
+flush_stops _ own = cc
+
+close_stops : (kind : SessionKind) → machine.goes_on_in kind poll_call.Close ≡ true → ⊥
+close_stops session_kind.Reading own = cc
+close_stops _ own = cc
+
+get_stops : (kind : SessionKind) → machine.goes_on_in kind poll_call.GetMut ≡ true → ⊥
+get_stops session_kind.Reading own = cc
+get_stops _ own = cc
 
 table_fits : (call : HandleCall) (at : State) → may_call_at at call ≡ true → FitsNext call (new_poll (poll_call_of call) at) (machine.table (poll_call_of call) at) false None
 table_fits (handle_call.Read zero) at may = (refl, tt, tt)
 table_fits (handle_call.Read (suc n)) state.Idle may = (tt, refl, refl)
-table_fits (handle_call.Read (suc n)) (state.Reading Open) may = (refl, omega arith, refl, refl)
-table_fits (handle_call.Read (suc n)) (state.Reading Shut) may = (tt, refl)
-table_fits (handle_call.Read (suc n)) (state.Writing Open) may = (tt, refl)
-table_fits (handle_call.Read (suc n)) (state.Writing Shut) may = (tt, refl)
+table_fits (handle_call.Read (suc n)) (state.Lent kind end) may = session_fits (handle_call.Read (suc n)) kind end (machine.goes_on_in kind (poll_call.Read (suc n))) refl (own kind)
+  where
+    own : (kind : SessionKind) → machine.goes_on_in kind (poll_call.Read (suc n)) ≡ true
+        → FitsNext (handle_call.Read (suc n)) (new_poll (poll_call.Read (suc n)) (state.Lent kind Open)) (action.Drain (suc n)) false None
+    own session_kind.Reading is = (refl, omega arith, refl, refl)
+    own _ is = absurd (cc)
 table_fits (handle_call.Read (suc n)) state.Closed may = absurd (cc)
 table_fits (handle_call.Write []) at may = (refl, tt, tt)
 table_fits (handle_call.Write (byte ∷ more)) state.Idle may = (tt, refl, refl)
-table_fits (handle_call.Write (byte ∷ more)) (state.Reading Open) may = (tt, refl)
-table_fits (handle_call.Write (byte ∷ more)) (state.Reading Shut) may = (tt, refl)
-table_fits (handle_call.Write (byte ∷ more)) (state.Writing Open) may = (byte ∷ more, refl, refl, omega arith, refl, refl)
-table_fits (handle_call.Write (byte ∷ more)) (state.Writing Shut) may = (tt, refl)
+table_fits (handle_call.Write (byte ∷ more)) (state.Lent kind end) may = session_fits (handle_call.Write (byte ∷ more)) kind end (machine.goes_on_in kind (poll_call.Write (length (byte ∷ more)))) refl (own kind)
+  where
+    own : (kind : SessionKind) → machine.goes_on_in kind (poll_call.Write (length (byte ∷ more))) ≡ true
+        → FitsNext (handle_call.Write (byte ∷ more)) (new_poll (poll_call.Write (length (byte ∷ more))) (state.Lent kind Open)) (action.Fill (length (byte ∷ more))) false None
+    own session_kind.Writing is = (byte ∷ more, refl, refl, omega arith, refl, refl)
+    own _ is = absurd (cc)
 table_fits (handle_call.Write (byte ∷ more)) state.Closed may = absurd (cc)
 table_fits handle_call.Flush state.Idle may = (refl, tt, tt)
-table_fits handle_call.Flush (state.Reading Open) may = (tt, refl)
-table_fits handle_call.Flush (state.Reading Shut) may = (tt, refl)
-table_fits handle_call.Flush (state.Writing Open) may = (tt, refl)
-table_fits handle_call.Flush (state.Writing Shut) may = (tt, refl)
+table_fits handle_call.Flush (state.Lent kind end) may = session_fits handle_call.Flush kind end (machine.goes_on_in kind poll_call.Flush) refl (λ own. absurd (flush_stops kind own))
 table_fits handle_call.Flush state.Closed may = (refl, tt, tt)
 table_fits handle_call.Close state.Idle may = (refl, refl, tt)
-table_fits handle_call.Close (state.Reading Open) may = (tt, refl)
-table_fits handle_call.Close (state.Reading Shut) may = (tt, refl)
-table_fits handle_call.Close (state.Writing Open) may = (tt, refl)
-table_fits handle_call.Close (state.Writing Shut) may = (tt, refl)
+table_fits handle_call.Close (state.Lent kind end) may = session_fits handle_call.Close kind end (machine.goes_on_in kind poll_call.Close) refl (λ own. absurd (close_stops kind own))
 table_fits handle_call.Close state.Closed may = (refl, tt, refl)
 table_fits handle_call.GetMut state.Idle may = (refl, tt, tt)
-table_fits handle_call.GetMut (state.Reading Open) may = (tt, refl)
-table_fits handle_call.GetMut (state.Reading Shut) may = (tt, refl)
-table_fits handle_call.GetMut (state.Writing Open) may = (tt, refl)
-table_fits handle_call.GetMut (state.Writing Shut) may = (tt, refl)
+table_fits handle_call.GetMut (state.Lent kind end) may = session_fits handle_call.GetMut kind end (machine.goes_on_in kind poll_call.GetMut) refl (λ own. absurd (get_stops kind own))
 table_fits handle_call.GetMut state.Closed may = absurd (cc)
-
--- what may be asked, by the law
-pub may_be_asked : (here : State) (call : HandleCall) → (not (is_away here) || is_for_closed call) ≡ may_call_at here call
-may_be_asked state.Closed call = refl
-may_be_asked state.Idle call = refl
-may_be_asked (state.Reading end) call = refl
-may_be_asked (state.Writing end) call = refl
 
 -- it rests, by the law
 rests_so : (bytes : ℕ) (asked : Option HandleCall) (here : State) (last : Option Session) (cut : List Event) → OwnerAs (owner_by_parts bytes asked (stage.Rests here) last) cut → sessions.rests (own cut) ≡ true
@@ -148,7 +159,7 @@ ask_goes bytes asked here last h first growth cut call may t =
             asked_is = refl;
             call_is = refl;
             at_is = t.stage.0;
-            next_is = table_is call here (sessions.state (own cut)) may t.stage.0;
+            next_is = table_is call here (sessions.state (own cut)) may (is_there last (bound bytes) cut here t.last t.stage.0) t.stage.0;
             fits = table_fits call here may;
           },
           refl,
@@ -195,13 +206,20 @@ drop_goes bytes asked here last h first growth cut t = record {
 
 -- ---- a session is refused
 
+-- a call tells by a fault that its session was refused
+refused : (call : HandleCall) (reason : Refusal) → machine.refusal {E = ℕ} (poll_call_of call) reason ≡ action.Reply (reply.Failed (why.Refused reason))
+refused (handle_call.Read n) reason = refl
+refused _ reason = refl
+
 pub refuse_goes : (bytes : ℕ) (asked : Option HandleCall) (p : OwnerMachine ℕ) (last : Option Session) (h first : ℕ) (growth : Growth) (cut : List Event) (reason : Refusal) → p.next ≡ action.Begin
     → OwnerAs (owner_by_parts bytes asked (stage.Polls p) last) cut
     → Goes (owner_by_parts bytes asked (stage.Polls (owner_after p (by.Refused reason))) last) cut (by_owner h (Refused reason) first growth)
 refuse_goes bytes asked p last h first growth cut reason is t =
     let c = t.stage.0.call in
     let q : OwnerMachine ℕ = record p { next = action.Reply (reply.Failed (why.Refused reason)) } in
-    let same : owner_after p (by.Refused reason) ≡ q = turned p action.Begin (by.Refused reason) t.stage.1 is in
+    let same : owner_after p (by.Refused reason) ≡ q =
+    turned p action.Begin (by.Refused reason) t.stage.1 is ∙ ap (λ k. record p { next = machine.refusal k reason }) t.stage.0.call_is
+    ∙ ap (λ (n : OwnerAction ℕ). record p { next = n }) (refused c reason) in
     subst (λ (m : OwnerMachine ℕ). Goes (owner_by_parts bytes asked (stage.Polls m) last) cut (by_owner h (Refused reason) first growth)) (sym same)
     (record {
       acts = subst (λ n. Polls cut n (Refused reason)) (sym (lawful bytes asked p cut last action.Begin t is)) tt;
@@ -243,8 +261,7 @@ fits_then c p (action.Fill most) ended back e f = f
 fits_then c p action.PollSlot ended back e f = (f.0, f.1 ∙ e)
 fits_then c p action.DropHandle ended back e f = f
 fits_then c p (action.Reply r) ended back e f = f
-fits_then c p action.Deliver ended back e f = absurd f
-fits_then c p action.Pending ended back e f = absurd f
+fits_then c p _ ended back e f = absurd f
 
 -- an act that took a note didn't see the end
 noted_goes_on : (acts : List Act) (n : ℕ) → newest_note acts ≡ Some n → law.is_at_end acts ≡ false
@@ -332,9 +349,9 @@ last_over (Some s) bytes cut l idle t is =
 record Began (c : HandleCall) (p : OwnerMachine ℕ) (back : Option (List Event)) : Type 0 where
   pub lending : IsLending (kind_of (Some c))
   pub at_is : sessions.In (kind_of (Some c)) true ≡ state_as (machine.begun_by (poll_call_of c))
-  pub next_is : law.table c (sessions.In (kind_of (Some c)) true) ≡ action_as c (machine.table (poll_call_of c) (machine.begun_by (poll_call_of c)))
-  pub fits : FitsNext c (record p { state = machine.begun_by (poll_call_of c); next = machine.table (poll_call_of c) (machine.begun_by (poll_call_of c)) })
-      (machine.table (poll_call_of c) (machine.begun_by (poll_call_of c))) false back
+  pub next_is : law.table c (sessions.In (kind_of (Some c)) true) ≡ action_as c (machine.in_own (poll_call_of c))
+  pub fits : FitsNext c (record p { state = machine.begun_by (poll_call_of c); next = machine.in_own (poll_call_of c) })
+      (machine.in_own (poll_call_of c)) false back
 
 begins_by : (c : HandleCall) (p : OwnerMachine ℕ) (back : Option (List Event)) → BeginsBy c → p.is_at_end ≡ false → Began c p back
 begins_by (handle_call.Read (suc n)) p back begins end = record { lending = tt; at_is = refl; next_is = refl; fits = (refl, omega arith, refl, end) }
@@ -349,9 +366,9 @@ begin_goes bytes asked p last h first growth cut number is fresh quiet t =
     let fits = fits_at bytes asked p cut last action.Begin t is in
     let e = by_owner h (Accepted number.serial) first growth in
     let b = begins_by c p (came_back cut) fits.0 fits.2 in
-    let q : OwnerMachine ℕ = record p { state = machine.begun_by (poll_call_of c); next = machine.table (poll_call_of c) (machine.begun_by (poll_call_of c)) } in
-    let turn : owner_after p by.Begun ≡ record p { state = machine.begun_by p.call; next = machine.table p.call (machine.begun_by p.call) } = turned p action.Begin by.Begun t.stage.1 is in
-    let same : owner_after p by.Begun ≡ q = turn ∙ ap (λ k. record p { state = machine.begun_by k; next = machine.table k (machine.begun_by k) }) t.stage.0.call_is in
+    let q : OwnerMachine ℕ = record p { state = machine.begun_by (poll_call_of c); next = machine.in_own (poll_call_of c) } in
+    let turn : owner_after p by.Begun ≡ record p { state = machine.begun_by p.call; next = machine.in_own p.call } = turned p action.Begin by.Begun t.stage.1 is in
+    let same : owner_after p by.Begun ≡ q = turn ∙ ap (λ k. record p { state = machine.begun_by k; next = machine.in_own k }) t.stage.0.call_is in
     let there : is_away p.state ≡ false = ap is_away fits.1 in
     let kind : kind_of (sessions.call (own cut)) ≡ kind_of (Some c) = ap kind_of t.stage.0.asked_is in
     let began : Option sessions.Session = Some (record { serial = number.serial; kind = kind_of (sessions.call (own cut)) }) in

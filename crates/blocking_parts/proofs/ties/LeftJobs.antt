@@ -22,9 +22,10 @@ use Rattle.blocking_lanes.specs.declared.owner.OwnerNext.TheVariants as next
 use Rattle.blocking_lanes.specs.declared.owner.OwnerStage.{OwnerStage}
 use Rattle.blocking_lanes.specs.declared.owner.OwnerStage.TheVariants as owner_stage
 use Rattle.blocking_pool.proofs.Places.{got_same, in_pushed}
-use Rattle.blocking_lanes.proofs.owners.Cuts.{its_kind, kind_is, state_is}
-use Rattle.blocking_lanes.proofs.owners.Own.{fits_at, owner_by_parts, value_of}
-use Rattle.blocking_lanes.proofs.owners.Sessions.{going}
+use Rattle.blocking_lanes.proofs.owners.Cuts.{its_kind, kind_is}
+use Rattle.blocking_lanes.proofs.owners.States.{is_away, lent_by}
+use Rattle.blocking_lanes.proofs.owners.OwnerActs.{fits_at, owner_by_parts, value_of}
+use Rattle.blocking_lanes.proofs.owners.ReadSessions.{going}
 use Rattle.blocking_lanes.proofs.owners.Steps.{IsLast, begins_at, its_last}
 use Rattle.blocking_laws.specs.Growth.{IsPlanned}
 use Rattle.blocking_laws.specs.JobTable.{next_but_wake, is_over, fault, has_finished, has_given_up}
@@ -51,16 +52,16 @@ use Rattle.blocking_parts.specs.Rows.{Done, done, is_at_first, is_first, kind_of
 use Rattle.blocking_parts.specs.Ties.{Crossed, CoreAs, IsMet, PlaceAs, Tied, is_left, is_number, moment, seated_in}
 use Rattle.blocking_parts.specs.declared.row.Core.{Core}
 use Rattle.blocking_parts.specs.declared.row.Core.TheVariants as core
-use Rattle.blocking_parts.proofs.moves.Found.{in_set, one_found}
+use Rattle.blocking_parts.proofs.moves.Lookups.{in_set, one_found}
 use Rattle.blocking_parts.proofs.moves.Seats.{SeatAs, asked_met, delivered_met, did_met, dropped_met, gave_up_met, refused_met, worked_met, worked_parks}
 use Rattle.blocking_parts.proofs.moves.SessionActs.{first_where_parked}
-use Rattle.blocking_parts.proofs.past.Left.{left_before, left_place, left_stands, left_unwoken}
-use Rattle.blocking_parts.proofs.ties.Acted.{call_acts, session_acts}
+use Rattle.blocking_parts.proofs.past.LeftJobs.{left_before, left_place, left_stands, left_unwoken}
+use Rattle.blocking_parts.proofs.ties.JobSteps.{call_acts, session_acts}
 use Rattle.blocking_parts.proofs.ties.Jobs.{IsHere, held_row, holder_stands, job_here, job_place}
-use Rattle.blocking_parts.proofs.ties.LetGo.{owner_there}
+use Rattle.blocking_parts.proofs.ties.Releases.{owner_there}
 use Rattle.blocking_parts.proofs.ties.Owners.{first_goes}
-use Rattle.blocking_parts.proofs.ties.Said.{SaidBy, said}
-use Rattle.blocking_parts.proofs.ties.Told.{by_no_worker, by_worker}
+use Rattle.blocking_parts.proofs.ties.Events.{SaidBy, said}
+use Rattle.blocking_parts.proofs.ties.CrewEvents.{by_no_worker, by_worker}
 
 -- ---- the last session
 
@@ -92,7 +93,7 @@ begins_idle : (bytes : ℕ) (asked : Option HandleCall) (here : OwnerStage) (las
 begins_idle bytes asked (owner_stage.Polls poll) last X t begins =
     let fits = fits_at bytes asked poll X last action.Begin t (begins_at bytes asked poll last X t begins) in
     let idle = fits.1 in
-    sym (state_is (own X) poll.state t.stage.0.at_is (λ closed. cc)) ∙ t.stage.0.at_is ∙ ap state_as idle
+    lent_by (own X) poll.state (ap is_away idle) t.stage.0.at_is ∙ ap state_as idle
 begins_idle bytes asked (owner_stage.Rests at) last X t begins = absurd cc
 begins_idle bytes asked (owner_stage.Wakes poll note) last X t begins = absurd cc
 begins_idle bytes asked owner_stage.Dropped last X t begins = absurd cc

@@ -43,12 +43,12 @@ use Rattle.blocking_lanes.specs.Writes.{WriteAs}
 use Rattle.blocking_lanes.specs.declared.owner.OwnerStage.{OwnerStage}
 use Rattle.blocking_lanes.proofs.owners.Jobs.{no_wait}
 use Rattle.blocking_lanes.proofs.owners.Cuts.{its_kind, kind_is, inside_is, next_stays, room_is, open_is}
-use Rattle.blocking_lanes.proofs.owners.Own.{Goes, owner_by_parts, bound}
-use Rattle.blocking_lanes.proofs.owners.Reads.{next_by, action_is, Awake, awake, asks}
-use Rattle.blocking_lanes.proofs.owners.Sessions.{At, at, finds, finds_shut, parks, calls, puts, loses, closes, finishes, gives_up, going, some_room, put_is}
-use Rattle.blocking_lanes.proofs.owners.Sessions as Sessions
-use Rattle.blocking_lanes.proofs.owners.Writers.{peeks, peek_parks, drains, consumes, writer_answers}
-use Rattle.blocking_lanes.proofs.owners.Writes as of_writer
+use Rattle.blocking_lanes.proofs.owners.OwnerActs.{Goes, owner_by_parts, bound}
+use Rattle.blocking_lanes.proofs.owners.ReadJobs.{next_by, action_is, Awake, awake, asks}
+use Rattle.blocking_lanes.proofs.owners.ReadSessions.{At, at, finds, finds_shut, parks, calls, puts, loses, closes, finishes, gives_up, going, some_room, put_is}
+use Rattle.blocking_lanes.proofs.owners.ReadSessions as Sessions
+use Rattle.blocking_lanes.proofs.owners.WriteSessions.{peeks, peek_parks, drains, consumes, writer_answers}
+use Rattle.blocking_lanes.proofs.owners.WriteJobs as of_writer
 
 -- ---- seats that acts empty
 

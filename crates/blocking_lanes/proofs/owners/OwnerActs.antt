@@ -18,6 +18,8 @@ use Rattle.blocking_core.specs.declared.unblock.OwnerAnswer.TheVariants as by
 use Rattle.blocking_core.specs.declared.unblock.OwnerEnd.TheVariants.{Open, Shut}
 use Rattle.blocking_core.specs.declared.unblock.Reply.{Reply}
 use Rattle.blocking_core.specs.declared.unblock.Reply.TheVariants as reply
+use Rattle.blocking_core.specs.declared.unblock.SessionKind.{SessionKind}
+use Rattle.blocking_core.specs.declared.unblock.SessionKind.TheVariants as session_kind
 use Rattle.blocking_core.specs.declared.unblock.State.{State}
 use Rattle.blocking_core.specs.declared.unblock.State.TheVariants as state
 use Rattle.blocking_laws.specs.Ends.{EndsTruly, IsTrueEnd, came_back, IsReadBack, IsReadWhole, IsFlushed, IsFlushedIf, IsFlushedBack, handle_answers, has_failure, has_failed_write, has_flush, is_failure, last_is_end}
@@ -43,14 +45,14 @@ use Rattle.blocking_pool.specs.Growth.{Growth}
 use Rattle.blocking_pool.specs.Jobs.{JobNumber}
 use Rattle.blocking_lanes.specs.Owners.{Owner, Did, capacity_of, note_at, goes_on, close_did, drain_did, fill_did, fill_did_in, drop_did, look_did, looked_as, poll_call_of, reply_as, reply_did, did_in, did_by, did, is_gone}
 use Rattle.blocking_lanes.specs.OwnerSteps.{by_owner}
-use Rattle.blocking_lanes.specs.OwnerTies.{OwnerAs, SlotAs, Passed, passed_by, PassedAs, GaveAll, WrittenAs, wrote_by, PollAs, FitsNext, IsGoneBy, IsLentOpen, LooksFrom, EndAs, StageBy, SessionAs, IsAtEnd, called_at, state_as, say, action_as, seat_of}
+use Rattle.blocking_lanes.specs.OwnerTies.{OwnerAs, SlotAs, Passed, passed_by, PassedAs, GaveAll, WrittenAs, wrote_by, PollAs, FitsNext, IsGoneBy, IsLentOpen, LooksFrom, EndAs, StageBy, SessionAs, IsAtEnd, called_at, kind_as, state_as, say, action_as, seat_of}
 use Rattle.blocking_lanes.specs.Sessions.{Session, serial_of, reach, drained, filled, session_after_close, session_after_drain, session_after_fill, session_after_look}
 use Rattle.blocking_lanes.specs.declared.owner.OwnerStage.{OwnerStage}
 use Rattle.blocking_lanes.specs.declared.owner.OwnerStage.TheVariants as stage
 use Rattle.blocking_lanes.proofs.owners.Cuts.{not_not, next_with, inside_is, room_is, lasts_is, open_is, noted_is, its_job, drain_act, drain_seen}
 use Rattle.blocking_lanes.proofs.owners.Fills.{fills, fill_waits, filled_some, filled_note, fill_act, fill_seen}
-use Rattle.blocking_lanes.proofs.owners.Takes.{shuts, takes, waits, returns, waits_for_it, front, at_end, reached}
-use Rattle.blocking_lanes.proofs.owners.Wakes.{session_is_last}
+use Rattle.blocking_lanes.proofs.owners.Drains.{shuts, takes, waits, returns, waits_for_it, front, at_end, reached}
+use Rattle.blocking_lanes.proofs.owners.States.{IsThere, is_away, gone_is, lent_at, lent_by, is_there, piped}
 
 -- an owner by its parts
 abbrev pub owner_by_parts : ℕ → Option HandleCall → OwnerStage → Option Session → Owner
@@ -70,49 +72,6 @@ pub record Goes (new : Owner) (cut : List Event) (e : Event) : Type 0 where
 abbrev pub value_of : {A : Type 0} → A → Option A → A
 value_of other None = other
 value_of other (Some value) = value
-
--- ---- where the handle is
-
--- whether the handle is gone
-abbrev pub is_away : State → Bool
-is_away state.Closed = true
-is_away _ = false
-
--- what the law tells of it, where the machine knows where it is
-pub away_is : (closed : Bool) (r : Option sessions.Session) (shut : Bool) (st : State) → sessions.state_by closed r shut ≡ state_as st → closed ≡ is_away st
-away_is true r shut state.Closed e = refl
-away_is true r shut state.Idle e = absurd (cc)
-away_is true r shut (state.Reading Open) e = absurd (cc)
-away_is true r shut (state.Reading Shut) e = absurd (cc)
-away_is true r shut (state.Writing Open) e = absurd (cc)
-away_is true r shut (state.Writing Shut) e = absurd (cc)
-away_is false None shut state.Closed e = absurd (cc)
-away_is false (Some r) shut state.Closed e = absurd (cc)
-away_is false r shut state.Idle e = refl
-away_is false r shut (state.Reading end) e = refl
-away_is false r shut (state.Writing end) e = refl
-
--- whether the handle was dropped by a close
-pub gone_is : (acts : List Act) (st : State) → sessions.state acts ≡ state_as st → sessions.is_closed acts ≡ is_away st
-gone_is acts st e = away_is (sessions.is_closed acts) (sessions.session acts) (sessions.is_shut acts) st e
-
--- where it isn't gone it is with its owner, or with a job
-pub lent_by : (acts : List Act) (st : State) → is_away st ≡ false → sessions.state acts ≡ state_as st → sessions.state_in (sessions.session acts) (sessions.is_shut acts) ≡ state_as st
-lent_by acts st there e = ap (λ b. sessions.state_by b (sessions.session acts) (sessions.is_shut acts)) (sym (gone_is acts st e ∙ there)) ∙ e
-
--- of a handle that is lent the last session has the kind, and tells whether the own end of its pipe is open
-pub lent_at : (acts : List Act) (k : Kind) (opened : Bool) → sessions.state acts ≡ sessions.In k opened
-    → (kind_in (sessions.last_session acts) ≡ k) × (not (sessions.is_shut acts) ≡ opened) × (is_none (sessions.session acts) ≡ false)
-lent_at acts k opened e = by (sessions.is_closed acts) (sessions.session acts) refl e
-  where
-    by : (closed : Bool) (r : Option sessions.Session) → sessions.session acts ≡ r → sessions.state_by closed r (sessions.is_shut acts) ≡ sessions.In k opened
-        → (kind_in (sessions.last_session acts) ≡ k) × (not (sessions.is_shut acts) ≡ opened) × (is_none (sessions.session acts) ≡ false)
-    by true r is e = absurd (cc)
-    by false None is e = absurd (cc)
-    by false (Some r) is e =
-        let same : r.kind ≡ k = cc in
-        let ends : not (sessions.is_shut acts) ≡ opened = cc in
-        (ap kind_in (session_is_last acts r is) ∙ same, ends, ap is_none is)
 
 -- ---- the machine of a poll
 
@@ -254,17 +213,13 @@ module _ (bytes : ℕ) (asked : Option HandleCall) (p : OwnerMachine ℕ) (s : S
 
   shut_state : (closed : Bool) (r : Option sessions.Session) (shut : Bool) (st : State) → IsLentOpen st → sessions.state_by closed r shut ≡ state_as st
       → sessions.state_by closed r true ≡ state_as (machine.shut st)
-  shut_state true r shut (state.Reading Open) opened e = absurd (cc)
-  shut_state true r shut (state.Writing Open) opened e = absurd (cc)
-  shut_state false None shut (state.Reading Open) opened e = absurd (cc)
-  shut_state false None shut (state.Writing Open) opened e = absurd (cc)
-  shut_state false (Some r) shut (state.Reading Open) opened e = let same : r.kind ≡ Reading = cc in ap (λ k. sessions.In k false) same
-  shut_state false (Some r) shut (state.Writing Open) opened e = let same : r.kind ≡ Writing = cc in ap (λ k. sessions.In k false) same
+  shut_state true r shut (state.Lent kind Open) opened e = absurd (cc)
+  shut_state false None shut (state.Lent kind Open) opened e = absurd (cc)
+  shut_state false (Some r) shut (state.Lent kind Open) opened e = let same : r.kind ≡ kind_as kind = cc in ap (λ k. sessions.In k false) same
   shut_state closed r shut _ opened e = absurd opened
 
   shut_looks : (c : HandleCall) (st : State) (ended : Bool) → IsLentOpen st → ended ≡ false → LooksFrom c (machine.shut st) ended
-  shut_looks c (state.Reading Open) ended opened e = subst (λ b. LooksFrom c (state.Reading Shut) b) (sym e) tt
-  shut_looks c (state.Writing Open) ended opened e = subst (λ b. LooksFrom c (state.Writing Shut) b) (sym e) tt
+  shut_looks c (state.Lent kind Open) ended opened e = subst (λ b. LooksFrom c (state.Lent kind Shut) b) (sym e) tt
   shut_looks c _ ended opened e = absurd opened
 
   close_goes : p.next ≡ action.Close → Old → Goes (close_did p s polling).owner cut (by_owner h (OwnerClosed (serial_of s.pipe.job_seat)) first growth)
@@ -434,7 +389,7 @@ module _ (bytes : ℕ) (asked : Option HandleCall) (p : OwnerMachine ℕ) (s : S
   pub record Writes (offered : List ℕ) (t : Old) : Type 0 where
     pub call_is : t.stage.0.call ≡ handle_call.Write offered
     pub some : 0 < length offered
-    pub at : p.state ≡ state.Writing Open
+    pub at : p.state ≡ state.Lent session_kind.Writing Open
     pub kind_is : kind ≡ Writing
     pub open_is : shut ≡ false
     pub next_is : next_of_owner cut ≡ law.Fill offered
@@ -563,13 +518,9 @@ module _ (bytes : ℕ) (asked : Option HandleCall) (p : OwnerMachine ℕ) (s : S
   looks_away c _ ended looks = refl
 
   lent_state : (c : HandleCall) (st : State) (ended : Bool) → LooksFrom c st ended → (r : Option sessions.Session) (b : Bool) → sessions.state_in r b ≡ state_as st → is_none r ≡ false
+  lent_state c (state.Lent kind end) ended looks None b e = absurd (cc)
+  lent_state c (state.Lent kind end) ended looks (Some r) b e = refl
   lent_state c state.Idle ended looks r b e = absurd looks
-  lent_state c (state.Reading Open) ended looks None b e = absurd (cc)
-  lent_state c (state.Reading Shut) ended looks None b e = absurd (cc)
-  lent_state c (state.Writing Open) ended looks None b e = absurd (cc)
-  lent_state c (state.Writing Shut) ended looks None b e = absurd (cc)
-  lent_state c (state.Reading end) ended looks (Some r) b e = refl
-  lent_state c (state.Writing end) ended looks (Some r) b e = refl
   lent_state c state.Closed ended looks r b e = absurd looks
 
   shut_now : (k : Kind) (r : Option sessions.Session) (b : Bool) → sessions.state_in r b ≡ sessions.In k false → not b ≡ false
@@ -577,12 +528,12 @@ module _ (bytes : ℕ) (asked : Option HandleCall) (p : OwnerMachine ℕ) (s : S
   shut_now k (Some r) b e = cc
 
   -- one end of its pipe was closed
-  closed_end : (c : HandleCall) (st : State) (ended : Bool) → LooksFrom c st ended → sessions.state_in (sessions.session (own cut)) shut ≡ state_as st
+  closed_end : (c : HandleCall) (st : State) (ended : Bool) → LooksFrom c st ended → IsThere st → sessions.state_in (sessions.session (own cut)) shut ≡ state_as st
       → shut ≡ not s.pipe.is_owner_open → (ended ≡ true → IsAtEnd s) → (s.pipe.is_owner_open ≡ false) ⊎ (s.pipe.is_job_open ≡ false)
-  closed_end c (state.Reading Shut) false looks at lent ends = inl (sym (not_not shut s.pipe.is_owner_open lent) ∙ shut_now Reading (sessions.session (own cut)) shut at)
-  closed_end c (state.Writing Shut) false looks at lent ends = inl (sym (not_not shut s.pipe.is_owner_open lent) ∙ shut_now Writing (sessions.session (own cut)) shut at)
-  closed_end (handle_call.Read most) (state.Reading Open) true looks at lent ends = inr (ends refl).1
-  closed_end _ _ _ looks at lent ends = absurd looks
+  closed_end c (state.Lent kind Shut) false looks there at lent ends = inl (sym (not_not shut s.pipe.is_owner_open lent) ∙ shut_now (kind_as kind) (sessions.session (own cut)) shut at)
+  closed_end c (state.Lent kind Open) false looks there at lent ends = absurd (let pipe = piped kind there in cc)
+  closed_end (handle_call.Read most) (state.Lent session_kind.Reading Open) true looks there at lent ends = inr (ends refl).1
+  closed_end _ _ _ looks there at lent ends = absurd looks
 
   -- it finds nothing yet, and is seated
   slot_waits : p.next ≡ action.PollSlot → Old → s.slot.content ≡ Empty
@@ -595,7 +546,7 @@ module _ (bytes : ℕ) (asked : Option HandleCall) (p : OwnerMachine ℕ) (s : S
       let at = lent_by (own cut) p.state (looks_away c p.state p.is_at_end fits.0) t.stage.0.at_is in
       let going_on = lent_state c p.state p.is_at_end fits.0 (sessions.session (own cut)) shut at in
       let unfinished = ap has_finished (its_job s (bound bytes) cut t.last) ∙ slot.0 ∙ going_on in
-      let closed = closed_end c p.state p.is_at_end fits.0 at t.last.lent.shut_is (λ is_end. t.ended (sym fits.1 ∙ is_end)) in
+      let closed = closed_end c p.state p.is_at_end fits.0 (is_there (Some s) (bound bytes) cut p.state t.last t.stage.0.at_is) at t.last.lent.shut_is (λ is_end. t.ended (sym fits.1 ∙ is_end)) in
       record {
         acts = subst (λ n. Polls cut n Waits) (sym at_slot) (ap poll_slot (sym unfinished));
         ends = tt;
@@ -630,14 +581,12 @@ module _ (bytes : ℕ) (asked : Option HandleCall) (p : OwnerMachine ℕ) (s : S
   is_read (handle_call.Read most) = true
   is_read _ = false
 
-  reads_end : (c : HandleCall) (st : State) → LooksFrom c st true → (is_read c ≡ true) × (st ≡ state.Reading Open)
-  reads_end (handle_call.Read most) (state.Reading Open) looks = (refl, refl)
-  reads_end c (state.Reading Shut) looks = absurd looks
-  reads_end c (state.Writing Open) looks = absurd looks
-  reads_end c (state.Writing Shut) looks = absurd looks
+  reads_end : (c : HandleCall) (st : State) → LooksFrom c st true → (is_read c ≡ true) × (st ≡ state.Lent session_kind.Reading Open)
+  reads_end (handle_call.Read most) (state.Lent session_kind.Reading Open) looks = (refl, refl)
+  reads_end c (state.Lent kind Shut) looks = absurd looks
   reads_end c state.Idle looks = absurd looks
   reads_end c state.Closed looks = absurd looks
-  reads_end _ (state.Reading Open) looks = absurd looks
+  reads_end _ (state.Lent _ Open) looks = absurd looks
 
   -- what follows once the handle is back
   after_back_is : (c : HandleCall) (st : State) (ended : Bool) (why : Option (Fault ℕ)) → LooksFrom c st ended
@@ -673,10 +622,15 @@ module _ (bytes : ℕ) (asked : Option HandleCall) (p : OwnerMachine ℕ) (s : S
   back_fits q (handle_call.Write (byte ∷ more)) st false None back looks at end whole flushed = (tt, at, end)
   back_fits q (handle_call.Write offered) st true None back looks at end whole flushed = absurd (let reads = (reads_end (handle_call.Write offered) st looks).0 in cc)
   back_fits q handle_call.Flush st ended (Some why) back looks at end whole flushed = (refl, tt, tt)
-  back_fits q handle_call.Flush st ended None back looks at end whole flushed = (refl, flushed refl, tt)
+  back_fits q handle_call.Flush st true None back looks at end whole flushed = (refl, flushed refl, tt)
+  back_fits q handle_call.Flush st false None back looks at end whole flushed = (refl, flushed refl, tt)
   back_fits q handle_call.Close st ended (Some why) back looks at end whole flushed = (refl, tt, tt)
-  back_fits q handle_call.Close st ended None back looks at end whole flushed = (refl, at, flushed refl)
-  back_fits q handle_call.GetMut st ended why back looks at end whole flushed = (refl, tt, tt)
+  back_fits q handle_call.Close st true None back looks at end whole flushed = (refl, at, flushed refl)
+  back_fits q handle_call.Close st false None back looks at end whole flushed = (refl, at, flushed refl)
+  back_fits q handle_call.GetMut st true None back looks at end whole flushed = (refl, tt, tt)
+  back_fits q handle_call.GetMut st true (Some why) back looks at end whole flushed = (refl, tt, tt)
+  back_fits q handle_call.GetMut st false None back looks at end whole flushed = (refl, tt, tt)
+  back_fits q handle_call.GetMut st false (Some why) back looks at end whole flushed = (refl, tt, tt)
 
   -- a job that finished is over
   over_now : Old → has_finished acts ≡ true → next_but_wake kind acts ≡ Over
@@ -790,6 +744,11 @@ end_is c r back said same e = subst (λ told. IsTrueEnd (Some c) (value_of said 
     by_reply handle_call.Flush reply.Done same e = e
     by_reply handle_call.Close reply.Done same e = e
     by_reply (handle_call.Read (suc n)) (reply.Count (suc k)) same e = tt
+    by_reply c (reply.Position place) same e = absurd (cc)
+    by_reply c reply.Item same e = absurd (cc)
+    by_reply c reply.End same e = absurd (cc)
+    by_reply c reply.Result same e = absurd (cc)
+    by_reply c (reply.NotBegun why) same e = absurd (cc)
     by_reply c reply.Closed same e = absurd (cc)
     by_reply _ _ same e = tt
 
@@ -799,15 +758,12 @@ after_reply : (c : HandleCall) (r : Reply ℕ) (said : Told) (closed : Bool) (la
 after_reply c r (told.Count n) closed last shut st same away e = e
 after_reply c r told.Handle closed last shut st same away e = e
 after_reply c r (told.Failed why) closed last shut st same away e = e
-after_reply c (reply.Count n) told.Okay closed last shut st same away e = absurd (cc)
-after_reply c reply.Handle told.Okay closed last shut st same away e = absurd (cc)
-after_reply c (reply.Failed why) told.Okay closed last shut st same away e = absurd (cc)
-after_reply c reply.Closed told.Okay closed last shut st same away e = absurd (cc)
 after_reply handle_call.Close reply.Done told.Okay closed last shut st same away e = sym (ap state_as away)
 after_reply (handle_call.Read n) reply.Done told.Okay closed last shut st same away e = e
 after_reply (handle_call.Write l) reply.Done told.Okay closed last shut st same away e = e
 after_reply handle_call.Flush reply.Done told.Okay closed last shut st same away e = e
 after_reply handle_call.GetMut reply.Done told.Okay closed last shut st same away e = e
+after_reply c _ told.Okay closed last shut st same away e = absurd (cc)
 
 reply_goes : (bytes : ℕ) (asked : Option HandleCall) (p : OwnerMachine ℕ) (last : Option Session) (h first : ℕ) (growth : Growth) (cut : List Event) (r : Reply ℕ) (said : Told)
     → p.next ≡ action.Reply r → reply_as r ≡ Some said → OwnerAs (owner_by_parts bytes asked (stage.Polls p) last) cut
@@ -905,15 +861,8 @@ own_by bytes asked p h first growth cut done (action.Drain most) (Some s) is t d
     subst (λ (d : Did). Goes d.owner cut (by_owner h d.act first growth)) (ap (value_of done) does)
     (drain_goes bytes asked p s h first growth cut most is t (drained (reach most s) s) refl)
 own_by bytes asked p h first growth cut done action.PollSlot (Some s) is t does = look_goes bytes asked p s h first growth cut is t s.slot.content refl done does
-own_by bytes asked p h first growth cut done action.Close None is t does = absurd (cc)
-own_by bytes asked p h first growth cut done (action.Drain most) None is t does = absurd (cc)
-own_by bytes asked p h first growth cut done action.PollSlot None is t does = absurd (cc)
-own_by bytes asked p h first growth cut done action.Begin None is t does = absurd (cc)
-own_by bytes asked p h first growth cut done action.Begin (Some s) is t does = absurd (cc)
-own_by bytes asked p h first growth cut done action.Deliver None is t does = absurd (cc)
-own_by bytes asked p h first growth cut done action.Deliver (Some s) is t does = absurd (cc)
-own_by bytes asked p h first growth cut done action.Pending None is t does = absurd (cc)
-own_by bytes asked p h first growth cut done action.Pending (Some s) is t does = absurd (cc)
+own_by bytes asked p h first growth cut done _ None is t does = absurd (cc)
+own_by bytes asked p h first growth cut done _ (Some s) is t does = absurd (cc)
 
 own_at : (bytes : ℕ) (asked : Option HandleCall) (here : OwnerStage) (last : Option Session) (h first : ℕ) (growth : Growth) (cut : List Event) (done : Did)
     → OwnerAs (owner_by_parts bytes asked here last) cut → did_by here (owner_by_parts bytes asked here last) ≡ Some done → Goes done.owner cut (by_owner h done.act first growth)

@@ -30,7 +30,7 @@ use Rattle.blocking_lanes.specs.declared.job.SessionJob.{SessionJob}
 use Rattle.blocking_lanes.specs.declared.job.SessionJob.TheVariants as of_job
 use Rattle.blocking_lanes.specs.declared.owner.OwnerStage.{OwnerStage}
 use Rattle.blocking_lanes.specs.declared.owner.OwnerStage.TheVariants as stage
-use Rattle.blocking_lanes.proofs.owners.Own.{value_of}
+use Rattle.blocking_lanes.proofs.owners.OwnerActs.{value_of}
 
 -- Such an act is seen, and accepts these jobs.
 pub record IsPlain (jobs : List ℕ) (act : Act) : Type 0 where
@@ -87,15 +87,8 @@ plain_did action.DropHandle p last owner done e = moved (λ (d : Did). IsPlain [
 plain_did action.Close p (Some s) owner done e = moved (λ (d : Did). IsPlain [] d.act) _ done e (record { pool = refl; nothing = refl; made = refl; new = refl })
 plain_did (action.Drain most) p (Some s) owner done e = moved (λ (d : Did). IsPlain [] d.act) _ done e (plain_drain (drained (reach most s) s) p s owner)
 plain_did action.PollSlot p (Some s) owner done e = plain_look s.slot.content p (session_after_look s.slot.content s) owner done e
-plain_did action.Close p None owner done e = absurd (cc)
-plain_did (action.Drain most) p None owner done e = absurd (cc)
-plain_did action.PollSlot p None owner done e = absurd (cc)
-plain_did action.Begin p None owner done e = absurd (cc)
-plain_did action.Begin p (Some s) owner done e = absurd (cc)
-plain_did action.Deliver p None owner done e = absurd (cc)
-plain_did action.Deliver p (Some s) owner done e = absurd (cc)
-plain_did action.Pending p None owner done e = absurd (cc)
-plain_did action.Pending p (Some s) owner done e = absurd (cc)
+plain_did _ p None owner done e = absurd (cc)
+plain_did _ p (Some s) owner done e = absurd (cc)
 
 plain_room : (met : Met ℕ) → IsPlain [] (seen_room met)
 plain_room (Served n) = record { pool = refl; nothing = refl; made = refl; new = refl }

@@ -10,7 +10,7 @@ use Rattle.blocking_lanes.specs.OwnerTies.{OwnerAs, LastAs}
 use Rattle.blocking_lanes.specs.Owners.{Owner, capacity_of, number_in, number_of}
 use Rattle.blocking_lanes.specs.Sessions.{Session}
 use Rattle.blocking_lanes.specs.Tasks.{Task}
-use Rattle.blocking_parts.proofs.ties.SessionJobs.{first_of_table}
+use Rattle.blocking_parts.proofs.rows.SessionJobs.{first_of_table}
 use Rattle.blocking_laws.specs.JobTable.{Over, next_but_wake, has_given_up}
 use Rattle.blocking_laws.specs.Jobs.{holder, is_holder, standing, is_marked}
 use Rattle.blocking_laws.specs.Passed.{is_serial}
@@ -36,7 +36,7 @@ use Rattle.blocking_parts.specs.declared.row.Core.{Core}
 use Rattle.blocking_parts.specs.declared.row.Core.TheVariants as core
 use Rattle.blocking_parts.proofs.past.Holders.{holder_is}
 use Rattle.blocking_parts.proofs.ties.Jobs.{job_here, held_row, task_holds, task_number, owner_holds, owner_number}
-use Rattle.blocking_parts.proofs.ties.LetGo.{mark_is}
+use Rattle.blocking_parts.proofs.ties.Releases.{mark_is}
 
 -- ---- a job at rest
 

@@ -32,7 +32,7 @@ use Rattle.blocking_lanes.specs.Sessions.{Session, work_by, writer_works}
 use Rattle.blocking_lanes.specs.Steps.{TaskStep}
 use Rattle.blocking_lanes.specs.Tasks.{Task}
 use Rattle.blocking_lanes.proofs.owners.Actions.{works_some}
-use Rattle.blocking_parts.proofs.ties.SessionJobs.{job_action_is}
+use Rattle.blocking_parts.proofs.rows.SessionJobs.{job_action_is}
 use Rattle.blocking_laws.specs.JobTable.{Calling, is_asking, is_over, next_of_job, has_given_up}
 use Rattle.blocking_laws.specs.Jobs.{holder}
 use Rattle.blocking_laws.specs.Seen.{events, acts_of, cut}
@@ -48,7 +48,7 @@ use Rattle.blocking_parts.specs.declared.row.Core.{Core}
 use Rattle.blocking_parts.specs.declared.row.Core.TheVariants as core
 use Rattle.blocking_parts.specs.declared.row.Row.{Row}
 use Rattle.blocking_parts.proofs.ties.Jobs.{IsHere, job_here, job_place, hand_job, next_here}
-use Rattle.blocking_parts.proofs.ties.LetGo.{owner_there, task_there}
+use Rattle.blocking_parts.proofs.ties.Releases.{owner_there, task_there}
 
 -- ---- what a job does next
 

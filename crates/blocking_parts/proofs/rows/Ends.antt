@@ -15,7 +15,7 @@ use Rattle.blocking_lanes.specs.Calls.{RanAs}
 use Rattle.blocking_lanes.specs.Reads.{has_waker}
 use Rattle.blocking_lanes.specs.SessionJobs.{JobAs, action_of, kind_of}
 use Rattle.blocking_lanes.specs.declared.job.SessionJob.{SessionJob}
-use Rattle.blocking_lanes.proofs.owners.Own.{last_is}
+use Rattle.blocking_lanes.proofs.owners.OwnerActs.{last_is}
 use Rattle.blocking_laws.specs.Growth.{IsPlanned}
 use Rattle.blocking_laws.specs.JobTable.{Kind, Calling, Reading, Writing, JobAction, AskBytes, OfferBytes, AskFlush, Over, next_but_wake, next_after_answer, wake_first, is_over, has_finished, has_given_up}
 use Rattle.blocking_laws.specs.Jobs.{ends_for_good}
@@ -38,8 +38,8 @@ use Rattle.blocking_parts.specs.Ties.{Tied, CoreAs, PlaceAs}
 use Rattle.blocking_parts.specs.declared.row.Core.{Core}
 use Rattle.blocking_parts.specs.declared.row.Core.TheVariants as core
 use Rattle.blocking_parts.proofs.ties.Jobs.{hand_job, job_place, next_here}
-use Rattle.blocking_parts.proofs.ties.Places.{IsOver}
-use Rattle.blocking_parts.proofs.ties.SessionJobs.{job_action_is, next_by}
+use Rattle.blocking_parts.proofs.rows.Places.{IsOver}
+use Rattle.blocking_parts.proofs.rows.SessionJobs.{job_action_is, next_by}
 
 -- ---- a job that has nothing left to do
 

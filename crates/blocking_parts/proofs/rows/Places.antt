@@ -20,7 +20,7 @@ use Rattle.blocking_laws.specs.declared.event.Party.TheVariants.{Owner, Task, Wo
 use Rattle.blocking_laws.proofs.Queues.{same_self, held_so}
 use Rattle.blocking_parts.specs.Ties.{PlaceAs}
 use Rattle.blocking_parts.proofs.past.Drops.{handed_out}
-use Rattle.blocking_parts.proofs.past.Stands.{Takes, woken_parked, cancelled_parked, taken_queued}
+use Rattle.blocking_parts.proofs.past.Standings.{Takes, woken_parked, cancelled_parked, taken_queued}
 
 -- ---- the end of a turn
 

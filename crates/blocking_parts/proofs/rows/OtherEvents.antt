@@ -24,8 +24,8 @@ use Rattle.blocking_parts.specs.declared.row.Core.{Core}
 use Rattle.blocking_parts.specs.declared.row.Row.{Row}
 use Rattle.blocking_parts.proofs.ties.Hands.{IsOldOrBegins}
 use Rattle.blocking_laws.specs.Steps.{kind_by}
-use Rattle.blocking_parts.proofs.ties.Kinds.{kind_stays}
-use Rattle.blocking_parts.proofs.ties.Places.{IsOver, place_after}
+use Rattle.blocking_parts.proofs.rows.Kinds.{kind_stays}
+use Rattle.blocking_parts.proofs.rows.Places.{IsOver, place_after}
 
 pub none_accepted : (act : Act) (s : ℕ) → accepted_by act ≡ [] → accepts s act ≡ false
 none_accepted (Accepted t) s none = absurd cc

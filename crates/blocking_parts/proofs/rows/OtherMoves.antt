@@ -14,7 +14,7 @@ use Rattle.blocking_lanes.specs.Owners.{Owner, number_of}
 use Rattle.blocking_lanes.specs.Tasks.{Task, task_after_call}
 use Rattle.blocking_pool.proofs.Places.{in_pushed}
 use Rattle.blocking_lanes.proofs.acts.Calls.{by_call, call_number}
-use Rattle.blocking_lanes.proofs.owners.Plain.{plain_of}
+use Rattle.blocking_lanes.proofs.owners.Events.{plain_of}
 use Rattle.blocking_laws.specs.Growth.{IsPlanned}
 use Rattle.blocking_laws.specs.Jobs.{accepted_by, ends_for_good}
 use Rattle.blocking_laws.specs.Seen.{events, acts_of, is_of_job, is_of_pool, is_some_worker}
@@ -30,14 +30,14 @@ use Rattle.blocking_parts.specs.Moves.{Move, Idles, Makes, Asks, Owns, Lends, De
 use Rattle.blocking_parts.specs.Parts.{Parts, row_of}
 use Rattle.blocking_parts.specs.Ties.{Tied, Rowed, moment}
 use Rattle.blocking_parts.specs.declared.row.Row.{Row}
-use Rattle.blocking_parts.proofs.moves.Found.{in_set}
-use Rattle.blocking_parts.proofs.ties.Ends.{pass_over}
+use Rattle.blocking_parts.proofs.moves.Lookups.{in_set}
+use Rattle.blocking_parts.proofs.rows.Ends.{pass_over}
 use Rattle.blocking_parts.proofs.ties.Hands.{IsOldOrBegins, leaves_turns, hands_moved}
-use Rattle.blocking_parts.proofs.ties.Kept.{KeepsRows, rows_kept}
-use Rattle.blocking_parts.proofs.ties.Numbers.{number_stays}
-use Rattle.blocking_parts.proofs.ties.Places.{IsOver}
-use Rattle.blocking_parts.proofs.ties.Said.{SaidBy, said}
-use Rattle.blocking_parts.proofs.ties.Told.{Told, by_no_worker}
+use Rattle.blocking_parts.proofs.rows.OtherEvents.{KeepsRows, rows_kept}
+use Rattle.blocking_parts.proofs.rows.Numbers.{number_stays}
+use Rattle.blocking_parts.proofs.rows.Places.{IsOver}
+use Rattle.blocking_parts.proofs.ties.Events.{SaidBy, said}
+use Rattle.blocking_parts.proofs.ties.CrewEvents.{Told, by_no_worker}
 
 -- whether a job acts by a move, or is new
 abbrev pub changes_rows : Move → Bool

@@ -14,8 +14,8 @@ use Rattle.blocking_lanes.specs.declared.job.SessionJob.{SessionJob}
 use Rattle.blocking_lanes.specs.Steps as tasks
 use Rattle.blocking_lanes.specs.Steps.{TaskStep}
 use Rattle.blocking_lanes.specs.Tasks.{Task}
-use Rattle.blocking_lanes.proofs.owners.Own.{value_of}
-use Rattle.blocking_lanes.proofs.owners.Plain.{IsPlain}
+use Rattle.blocking_lanes.proofs.owners.OwnerActs.{value_of}
+use Rattle.blocking_lanes.proofs.owners.Events.{IsPlain}
 use Rattle.blocking_laws.specs.JobTable.{has_given_up}
 use Rattle.blocking_laws.specs.Jobs.{holder}
 use Rattle.blocking_laws.specs.Seen.{events, acts_of}
@@ -34,11 +34,11 @@ use Rattle.blocking_parts.specs.Ties.{PlaceAs, Tied}
 use Rattle.blocking_parts.specs.declared.row.Core.{Core}
 use Rattle.blocking_parts.specs.declared.row.Core.TheVariants as core
 use Rattle.blocking_parts.specs.declared.row.Row.{Row}
-use Rattle.blocking_parts.proofs.moves.Found.{row_set}
+use Rattle.blocking_parts.proofs.moves.Lookups.{row_set}
 use Rattle.blocking_parts.proofs.past.Drops.{must_drop}
 use Rattle.blocking_parts.proofs.ties.Jobs.{IsHere, job_place, next_here}
-use Rattle.blocking_parts.proofs.ties.Said.{answer_fits}
-use Rattle.blocking_parts.proofs.ties.Told.{Told, told_is}
+use Rattle.blocking_parts.proofs.ties.Events.{answer_fits}
+use Rattle.blocking_parts.proofs.ties.CrewEvents.{Told, told_is}
 
 -- ---- what it does
 

@@ -4,8 +4,8 @@ use Rattle.blocking_lanes.specs.Reads.{has_waker}
 use Rattle.blocking_lanes.specs.SessionJobs.{JobAs, action_of, job_after_answer, kind_of}
 use Rattle.blocking_lanes.specs.declared.job.SessionJob.{SessionJob}
 use Rattle.blocking_lanes.specs.declared.job.SessionJob.TheVariants as job_of
-use Rattle.blocking_lanes.proofs.owners.Reads as reads
-use Rattle.blocking_lanes.proofs.owners.Writes as writes
+use Rattle.blocking_lanes.proofs.owners.ReadJobs as reads
+use Rattle.blocking_lanes.proofs.owners.WriteJobs as writes
 use Rattle.blocking_laws.specs.JobTable.{Kind, JobAction, is_answer, next_but_wake, next_of_job, wake_first}
 use Rattle.blocking_laws.specs.declared.event.Act.{Act}
 use Rattle.blocking_laws.specs.declared.event.Act.TheVariants.{Answered}

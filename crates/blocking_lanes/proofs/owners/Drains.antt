@@ -290,6 +290,12 @@ IsLending Reading = Unit {0}
 IsLending Writing = Unit {0}
 IsLending Calling = ⊥
 
+-- what goes through a session's pipe tells that it is such a one
+pub lends : (s : Session) (shut : Bool) (got accepted : List ℕ) (next : JobAction) (acts : List Act) (kind : Kind) → Flows kind s shut got accepted next acts → IsLending kind
+lends s shut got accepted next acts Reading flow = tt
+lends s shut got accepted next acts Writing flow = tt
+lends s shut got accepted next acts Calling flow = absurd flow
+
 pub begins : (number : JobNumber) (kind : Kind) (capacity : ℕ) (dropped : Bool) → IsLending kind → 0 < capacity
     → SessionAs (new_session number capacity) kind capacity (Some (record { serial = number.serial; kind = kind })) false false dropped [] [] [] false false false
 begins number Reading capacity dropped lending some = record {

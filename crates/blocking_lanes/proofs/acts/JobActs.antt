@@ -18,7 +18,7 @@ use Rattle.blocking_laws.specs.declared.step.Answer.TheVariants.{Number}
 use Rattle.blocking_lanes.specs.Tasks.{Task, has_let_go, finish_wakes, task_after_finish, give_up_wakes, task_after_give_up}
 use Rattle.blocking_lanes.specs.declared.task.TaskStage.{TaskStage}
 use Rattle.blocking_lanes.specs.declared.task.TaskStage.TheVariants as task_stage
-use Rattle.blocking_lanes.proofs.acts.Own.{Goes}
+use Rattle.blocking_lanes.proofs.acts.TaskActs.{Goes}
 
 acts_more : (v s : ℕ) (act : Act) (first : ℕ) (growth : Growth) (cut : List Event) → is_of_pool act ≡ false → is_nothing act ≡ false → acts_of s (by_job v s act first growth ∷ cut) ≡ act ∷ acts_of s cut
 acts_more v s act first growth cut pool nothing = rw (pool, nothing, eq-eqb s s refl) refl

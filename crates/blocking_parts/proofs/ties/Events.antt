@@ -35,7 +35,7 @@ use Rattle.blocking_parts.specs.declared.row.Core.{Core}
 use Rattle.blocking_parts.specs.declared.row.Core.TheVariants as core
 use Rattle.blocking_parts.proofs.moves.SessionActs.{fits_turn, moved, worked_so}
 use Rattle.blocking_parts.proofs.ties.Jobs.{job_here, next_here}
-use Rattle.blocking_parts.proofs.ties.Told.{Told, ToldBy, IsPlain, told, worked as works_so, plain}
+use Rattle.blocking_parts.proofs.ties.CrewEvents.{Told, ToldBy, IsPlain, told, worked as works_so, plain}
 
 -- ---- what a job does fits its turn
 
