@@ -5,6 +5,7 @@ pub mod WriteSessions
 pub mod Drains
 pub mod Fills
 pub mod States
+pub mod Known
 pub mod Cuts
 pub mod OwnerActs
 pub mod PoolAnswers

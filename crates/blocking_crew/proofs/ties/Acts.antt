@@ -13,7 +13,7 @@ use Rattle.blocking_laws.specs.Seen.{is_of_pool}
 use Rattle.blocking_laws.specs.Steps.{is_there}
 use Rattle.blocking_laws.specs.Turns.{FitsTurn, HoldsOne, turn, hand}
 use Rattle.blocking_laws.specs.declared.event.Act.{Act}
-use Rattle.blocking_laws.specs.declared.event.Act.TheVariants.{Made, Asked, OwnerClosed, Got, GotEnd, Filled, FillShut, Back, Replied, Accepted, Refused, JobWoken, JobCancelled, LimitSet, Swept, Waits, HolderDropped, TaskGot, TaskGotNone, TaskCancelled, TaskDetached, Arrived, Took, TookDropped, TookNone, Stays, Stopped, Ended, HandedOut, Answered, RoomFree, RoomShut, JobParked, Put, Lost, Peeked, Drained, Taken as TakenOut, JobClosed, Finished, GaveUp, HolderWoken, NoAction}
+use Rattle.blocking_laws.specs.declared.event.Act.TheVariants.{Made, Asked, OwnerClosed, Got, GotEnd, Filled, FillShut, Back, Replied, Accepted, Refused, JobWoken, JobCancelled, LimitSet, Swept, Waits, HolderDropped, TaskGot, TaskGotNone, TaskCancelled, TaskDetached, Arrived, Took, TookDropped, TookNone, Stays, Stopped, Ended, HandedOut, Answered, RoomFree, RoomShut, JobParked, Put, Lost, Peeked, Drained, Taken as TakenOut, JobClosed, ResultPut, Finished, GaveUp, HolderWoken, NoAction}
 use Rattle.blocking_laws.specs.declared.event.HolderWaker.{HolderWaker}
 use Rattle.blocking_laws.specs.declared.event.Moment.{Moment}
 use Rattle.blocking_laws.specs.declared.event.Party.{Party}
@@ -167,6 +167,7 @@ by_work P goes_on parks gives_up stage.Runs (Peeked bytes) may = goes_on stage.R
 by_work P goes_on parks gives_up stage.Runs Drained may = goes_on stage.Runs Drained refl refl refl
 by_work P goes_on parks gives_up stage.Runs (TakenOut n waker) may = goes_on stage.Runs (TakenOut n waker) refl refl refl
 by_work P goes_on parks gives_up stage.Runs (JobClosed waker) may = goes_on stage.Runs (JobClosed waker) refl refl refl
+by_work P goes_on parks gives_up stage.Runs (ResultPut waker) may = goes_on stage.Runs (ResultPut waker) refl refl refl
 by_work P goes_on parks gives_up stage.Runs (Finished waker) may = goes_on stage.Runs (Finished waker) refl refl refl
 by_work P goes_on parks gives_up stage.Runs HolderWoken may = goes_on stage.Runs HolderWoken refl refl refl
 by_work P goes_on parks gives_up stage.Runs _ may = absurd cc
