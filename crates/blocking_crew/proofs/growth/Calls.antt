@@ -11,12 +11,9 @@ use Rattle.blocking_pool.specs.Pools.{IsSound, is_queued_job, Enters, FindsNobod
 use Rattle.blocking_pool.specs.Jobs.{Job, JobNumber}
 use Rattle.blocking_pool.specs.PoolAnswers.{Takes}
 use Rattle.blocking_pool.specs.declared.pool.answer.Took.{Took}
-use Rattle.blocking_pool.specs.declared.pool.answer.Took.TheVariants.{Run, Drop, Idle}
-use Rattle.blocking_pool.specs.declared.pool.standing.Standing.TheVariants.{Queued}
-use Rattle.blocking_pool.specs.declared.pool.token.WorkerPass.{WorkerPass}
 use Rattle.blocking_pool.proofs.Standings.{queued_is}
 use Rattle.blocking_crew.specs.Tickets.{JobPool, new_ticket, Accepts, FindsNoWorker, TakesFront, TakesTo, EntersAgain}
-use Rattle.blocking_crew.specs.declared.ticket.Ticket.{Ticket}
+use Rattle.blocking_crew.proofs.Types.{Run, Drop, Idle, Queued, WorkerPass, Ticket}
 use Rattle.blocking_crew.proofs.growth.Reads.{IsRead, reads, numbers_last}
 
 -- what a ticket answers where it is asked for its mark

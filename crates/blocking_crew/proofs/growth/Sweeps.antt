@@ -1,6 +1,6 @@
 -- What sweeps and waits do, with the growth that was read.
-use Rattle.std.proofs.Common.{◌≤◌, ◌≡◌, ℕ, ◌+◌, ◌<◌, nat_lt, arith, ◌∙◌, Bool, true, false, cond, List, [], ◌∷◌, length, ap, subst, sym, refl}
-use Rattle.std.specs.Prelude.{◌&&◌, ◌||◌, filter, is_some, Option, Some, None}
+use Rattle.std.proofs.Common.{◌≤◌, ◌≡◌, ℕ, ◌+◌, ◌<◌, nat_lt, arith, ◌∙◌, Bool, true, false, List, [], ◌∷◌, length, ap, subst, sym, refl}
+use Rattle.std.specs.Prelude.{◌&&◌, ◌||◌, is_some, Option, Some, None}
 use Rattle.std.specs.FinMap as map
 use Rattle.std.proofs.Math.Bool.{or-true}
 use Rattle.std.proofs.lemmas.List.Elements.{filter_agree}
@@ -8,17 +8,12 @@ use Rattle.blocking_pool.specs.Counts.{limit_of}
 use Rattle.blocking_pool.specs.Growth.{Asking, Growth, greatest, number_after}
 use Rattle.blocking_pool.specs.Jobs.{Job, Jobs, is_running, is_parked, is_parked_job, jobs_after_requeue}
 use Rattle.blocking_pool.specs.PoolAnswers.{Sweeps as CoreSweeps, SweepsTo as CoreSweepsTo, SweepsIf as CoreSweepsIf, Waits as CoreWaits, StaysOrStops, must_stop}
-use Rattle.blocking_pool.specs.declared.pool.token.WorkerPass.{WorkerPass}
 use Rattle.blocking_pool.specs.Pools.{IsSound}
 use Rattle.blocking_pool.specs.Sweeps.{AreAsked, swept, serials_below}
-use Rattle.blocking_pool.specs.declared.pool.standing.Standing.{Standing}
-use Rattle.blocking_pool.specs.declared.pool.standing.Standing.TheVariants.{Running, Parked}
-use Rattle.blocking_pool.specs.declared.pool.answer.Waited.{Waited}
-use Rattle.blocking_pool.specs.declared.pool.answer.Waited.TheVariants.{Stay, Stop}
 use Rattle.blocking_laws.specs.Seen.{joined}
 use Rattle.blocking_crew.specs.Closing.{NoneDue}
 use Rattle.blocking_crew.specs.Tickets.{JobPool, SweepsTo, SweepsIf, WaitsSo, no_growth, is_valued, AreValued, to_sweep, is_due_to_sweep, is_marked_ticket}
-use Rattle.blocking_crew.specs.declared.ticket.Ticket.{Ticket}
+use Rattle.blocking_crew.proofs.Types.{WorkerPass, Standing, Running, Parked, Waited, Stay, Stop, Ticket}
 use Rattle.blocking_crew.proofs.growth.Calls.{is_marked_so, enters_again}
 use Rattle.blocking_crew.proofs.jobs.Kept.{PoolKept, same_pool, requeued_kept, stay_valued, swept_parked, none_due, sweeps_nothing}
 use Rattle.blocking_crew.proofs.growth.Reads.{IsRead, numbers_last}

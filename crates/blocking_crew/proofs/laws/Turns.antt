@@ -4,26 +4,15 @@ use Rattle.std.specs.Prelude.{Ok, Err, not}
 use Rattle.blocking_pool.specs.Growth.{Growth}
 use Rattle.blocking_pool.specs.Jobs.{JobNumber}
 use Rattle.blocking_pool.specs.Lists.{is_in}
-use Rattle.blocking_pool.specs.declared.pool.answer.Waited.TheVariants.{Stay, Stop}
-use Rattle.blocking_pool.specs.declared.pool.token.WorkerPass.{WorkerPass}
 use Rattle.blocking_laws.specs.Growth.{IsPlanned}
 use Rattle.blocking_laws.specs.Queue.{running}
 use Rattle.blocking_laws.specs.Turns.{Turn, turn, hand, TurnLaw, FitsTurn, ActsInTurn}
-use Rattle.blocking_laws.specs.declared.event.Act.{Act}
-use Rattle.blocking_laws.specs.declared.event.Act.TheVariants.{JobParked, GaveUp}
-use Rattle.blocking_laws.specs.declared.event.Moment.{Moment}
-use Rattle.blocking_laws.specs.declared.event.Party.{Party}
-use Rattle.blocking_laws.specs.declared.event.Party.TheVariants.{Worker}
-use Rattle.blocking_laws.specs.declared.step.Step.{Step}
 use Rattle.blocking_crew.specs.Crews.{Crew, hand_at}
 use Rattle.blocking_crew.specs.Moves.{Move, Adds, TakesJob, Works, EndsTurn, Parks, HasWaited, IsLetGo, Tells, May, next_start}
 use Rattle.blocking_crew.specs.Tickets.{JobPool, TakesFront, no_growth}
 use Rattle.blocking_crew.specs.Ties.{turn_of, CrewHolds, moment_of}
-use Rattle.blocking_crew.specs.declared.hand.Hand.TheVariants.{Free, Holds}
-use Rattle.blocking_crew.specs.declared.hand.Held.{Held}
-use Rattle.blocking_crew.specs.declared.hand.Stage.{Stage}
-use Rattle.blocking_crew.specs.declared.ticket.Ticket.{Ticket}
 use Rattle.blocking_crew.specs.declared.tickets.Parking.TheVariants as parking
+use Rattle.blocking_crew.proofs.Types.{Stay, Stop, WorkerPass, Act, JobParked, GaveUp, Moment, Party, Worker, Step, Free, Holds, Held, Stage, Ticket}
 use Rattle.blocking_crew.proofs.ties.Acts.{now_with, plain, aside_plain, by_work, by_let_go}
 use Rattle.blocking_crew.proofs.ties.Hands.{hand_seen}
 use Rattle.blocking_crew.proofs.ties.Known.{front_rests}

@@ -1,5 +1,8 @@
 -- Whatever a crew does, it hangs together with what was seen, and the law of the pool holds.
-use Rattle.std.proofs.Common.{[], ◌||◌, ◌≡◌, ℕ, List, ◌∷◌, Bool, true, false, refl, sym, ap, ◌∙◌, subst, if◌then◌else◌, Option, None}
+use Rattle.std.proofs.Common.{[], ◌||◌, ◌≡◌, ℕ, List, ◌∷◌, Bool, true, false, refl, sym, ap, ◌∙◌, subst, Option, None, ◌==◌}
+use Rattle.blocking_crew.proofs.Types.{Act, NoAction, Event, Moment, Step, Out}
+use Rattle.blocking_crew.proofs.ready.Changes.{no_hand, empty_ready}
+use Rattle.std.proofs.lemmas.Bool.{cond_both}
 use Rattle.std.specs.FinMap as map
 use Rattle.std.specs.Ordering.{nat_cmp}
 use Rattle.blocking_pool.specs.Growth.{Narrows}
@@ -7,19 +10,11 @@ use Rattle.blocking_pool.specs.Pools.{empty_pool}
 use Rattle.blocking_laws.specs.Growth.{IsPlanned}
 use Rattle.blocking_laws.specs.Legal.{PoolLaw}
 use Rattle.blocking_laws.specs.Seen.{is_nothing}
-use Rattle.blocking_laws.specs.declared.event.Act.{Act}
-use Rattle.blocking_laws.specs.declared.event.Act.TheVariants.{NoAction}
-use Rattle.blocking_laws.specs.declared.event.Event.{Event}
-use Rattle.blocking_laws.specs.declared.event.Moment.{Moment}
-use Rattle.blocking_laws.specs.declared.step.Step.{Step}
 use Rattle.blocking_laws.proofs.Queues.{order_after}
-use Rattle.blocking_crew.specs.Crews.{Crew, hand_at, hand_in}
+use Rattle.blocking_crew.specs.Crews.{Crew}
 use Rattle.blocking_crew.specs.Moves.{Call, Move, Tells, is_aside, May, Moves, call_of, after, next_start}
-use Rattle.blocking_crew.specs.Tickets.{no_growth, is_valued}
+use Rattle.blocking_crew.specs.Tickets.{no_growth}
 use Rattle.blocking_crew.specs.Ties.{FiledAs, HandAs, Crewed, CrewHolds, IsAsked, IsAside, seen_as, moment_of}
-use Rattle.blocking_crew.specs.declared.hand.Hand.{Hand}
-use Rattle.blocking_crew.specs.declared.hand.Hand.TheVariants.{Out, Holds}
-use Rattle.blocking_crew.specs.declared.hand.Held.{Held}
 use Rattle.blocking_crew.proofs.ready.Moves.{ready_after}
 use Rattle.blocking_crew.proofs.ties.Acts.{now_with}
 use Rattle.blocking_crew.proofs.ties.Counts.{counts_after}
@@ -85,19 +80,6 @@ module _ (setting : ℕ) (plan : List Bool) (crew : Crew) (past : List Moment) (
 
 -- ---- a new crew
 
-no_hand : (v : ℕ) → hand_at [] v ≡ Out
-no_hand v = hand_or _
-  where
-    hand_or : (b : Bool) → (if b then Out else hand_in None) ≡ Out
-    hand_or true = refl
-    hand_or false = refl
-
-out_hand : (v : ℕ) (hand : Hand) → hand ≡ Out → HandAs hand false None
-out_hand v hand is = subst (λ h. HandAs h false None) (sym is) (refl, refl)
-
-no_held : (v : ℕ) (held : Held) → hand_at [] v ≡ Holds held → ⊥
-no_held v held there = let out : Out ≡ Holds held = sym (no_hand v) ∙ there in absurd cc
-
 -- A new crew hangs together with what was seen, which is nothing.
 pub begins : (setting : ℕ) (plan : List Bool) → CrewHolds setting plan (record { pool = empty_pool setting 1 1; hands = [] }) []
 begins setting plan = record {
@@ -116,13 +98,9 @@ begins setting plan = record {
       known_is = refl;
       next_is = refl;
     };
-    handed = record { each = λ v. out_hand v (hand_at [] v) (no_hand v); turn_is = λ v held there. absurd (no_held v held there) };
+    handed =
+        record { each = λ v. cond_both (v == 0) Out Out (λ hand. HandAs hand false None) (λ is. (refl, refl)) (λ is. (refl, refl)); turn_is = λ v held there. absurd (no_hand v held there) };
   };
-  ready = record {
-    idle = refl;
-    runs = λ v held there. absurd (no_held v held there);
-    apart = λ v w one other here there same. absurd (no_held v one here);
-    valued = λ s. ap is_valued (map.get-empty nat_cmp s);
-  };
+  ready = empty_ready setting (empty_pool setting 1 1) [] refl refl;
   laws = tt;
 }

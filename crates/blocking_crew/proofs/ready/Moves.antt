@@ -2,14 +2,13 @@
 use Rattle.std.proofs.Common.{◌≡◌, ℕ, Bool, true, not, refl, sym, subst, arith}
 use Rattle.blocking_pool.specs.Counts.{after_arrival}
 use Rattle.blocking_pool.specs.PoolAnswers.{is_empty}
-use Rattle.blocking_pool.specs.declared.pool.answer.Waited.TheVariants.{Stay, Stop}
 use Rattle.blocking_laws.specs.Seen.{has_timed_out}
-use Rattle.blocking_laws.specs.declared.event.Event.{Event}
 use Rattle.blocking_crew.specs.Crews.{Crew, IsReady}
 use Rattle.blocking_crew.specs.Moves.{Call, Move, Idles, Adds, Arrives, TakesJob, TakesNone, Works, EndsTurn, Parks, HasWaited, SetsLimit, Sweeps, IsWoken, IsCancelled, IsLetGo, Tells, May, Moves, after, first_stage}
 use Rattle.blocking_crew.specs.Crews.{stage_after}
 use Rattle.blocking_crew.specs.declared.tickets.Parking.TheVariants as parking
 use Rattle.blocking_crew.specs.declared.hand.Stage.TheVariants as stage
+use Rattle.blocking_crew.proofs.Types.{Stay, Stop, Event}
 use Rattle.blocking_crew.proofs.growth.Sweeps.{sweeps_keep}
 use Rattle.blocking_crew.proofs.jobs.Kept.{all_kept}
 use Rattle.blocking_crew.proofs.ready.Changes.{pool_ready, push_ready}

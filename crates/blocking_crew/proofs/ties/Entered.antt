@@ -6,27 +6,17 @@ use Rattle.blocking_pool.specs.Counts.{Counts, limit_of}
 use Rattle.blocking_pool.specs.Growth.{greatest, Growth, after_growth, limit_after, number_after}
 use Rattle.blocking_pool.specs.Jobs.{JobNumber}
 use Rattle.blocking_pool.specs.Sweeps.{serials_below}
-use Rattle.blocking_pool.specs.declared.pool.answer.Refusal.TheVariants.{Memory, NoWorker, Numbers}
-use Rattle.blocking_pool.specs.declared.pool.answer.Waited.TheVariants.{Stay, Stop}
-use Rattle.blocking_pool.specs.declared.pool.answer.Woke.TheVariants.{Entered as PutBack}
 use Rattle.blocking_laws.specs.Counts.{workers}
 use Rattle.blocking_laws.specs.Growth.{IsPlanned, HasWorker}
 use Rattle.blocking_laws.specs.Jobs.{accepted_by, accepted_jobs}
 use Rattle.blocking_laws.specs.Queue.{entered_by, to_sweep as seen_to_sweep}
 use Rattle.blocking_laws.specs.Seen.{joined, has_timed_out}
-use Rattle.blocking_laws.specs.declared.event.Act.{Act}
-use Rattle.blocking_laws.specs.declared.event.Act.TheVariants.{Accepted}
-use Rattle.blocking_laws.specs.declared.event.Moment.{Moment}
-use Rattle.blocking_laws.specs.declared.event.Party.{Party}
-use Rattle.blocking_laws.specs.declared.event.Party.TheVariants.{Worker}
-use Rattle.blocking_laws.specs.declared.step.Step.{Step}
 use Rattle.blocking_crew.specs.Crews.{Crew, with_hand, held_after_act, one_if_busy, busy_hands}
 use Rattle.blocking_crew.specs.Moves.{Move, Idles, Adds, Arrives, TakesJob, TakesNone, Works, EndsTurn, Parks, HasWaited, SetsLimit, Sweeps, IsWoken, IsCancelled, IsLetGo, Tells, May, after, next_start, hand_after_park}
 use Rattle.blocking_crew.specs.Tickets.{JobPool, no_growth, GrowsBy, Accepts, SweepsTo, SweepsIf, to_sweep}
 use Rattle.blocking_crew.specs.Ties.{Numbered, CrewHolds, moment_of}
-use Rattle.blocking_crew.specs.declared.hand.Hand.{Hand}
-use Rattle.blocking_crew.specs.declared.hand.Hand.TheVariants.{Free, Holds}
 use Rattle.blocking_crew.specs.declared.tickets.Parking.TheVariants as parking
+use Rattle.blocking_crew.proofs.Types.{Memory, NoWorker, Numbers, Stay, Stop, Entered as PutBack, Act, Accepted, Moment, Party, Worker, Step, Hand, Free, Holds}
 use Rattle.blocking_crew.proofs.growth.Reads.{numbers_last}
 use Rattle.blocking_crew.proofs.hands.Rows.{at_held, at_free, sum_set}
 use Rattle.blocking_crew.proofs.jobs.Marks.{let_go_alone}

@@ -2,21 +2,15 @@
 use Rattle.std.proofs.Common.{[], ◌≡◌, ℕ, if◌then◌else◌, List, ◌∷◌, ◌++◌, Bool, true, false, sym, ap, ◌∙◌, Option, Some, refl, ap₂}
 use Rattle.std.specs.Prelude.{Err}
 use Rattle.blocking_pool.specs.Growth.{Growth}
-use Rattle.blocking_pool.specs.declared.pool.answer.Refusal.TheVariants.{NoWorker}
-use Rattle.blocking_pool.specs.declared.pool.answer.Waited.TheVariants.{Stop}
 use Rattle.blocking_laws.specs.Growth.{IsPlanned}
 use Rattle.blocking_laws.specs.Queue.{queue, to_sweep, entered_by}
 use Rattle.blocking_laws.specs.Seen.{has_timed_out, joined, without_all}
-use Rattle.blocking_laws.specs.declared.event.Act.{Act}
-use Rattle.blocking_laws.specs.declared.event.Moment.{Moment}
-use Rattle.blocking_laws.specs.declared.event.Party.{Party}
-use Rattle.blocking_laws.specs.declared.event.Party.TheVariants.{Worker}
-use Rattle.blocking_laws.specs.declared.step.Step.{Step}
 use Rattle.blocking_crew.specs.Crews.{Crew}
 use Rattle.blocking_crew.specs.Moves.{Move, Adds, Arrives, TakesJob, EndsTurn, Parks, HasWaited, May, after, next_start, SetsLimit}
 use Rattle.blocking_crew.specs.Tickets.{JobPool, no_growth}
 use Rattle.blocking_crew.specs.Ties.{Lined, CrewHolds, moment_of, Numbered}
 use Rattle.blocking_crew.specs.declared.tickets.Parking.TheVariants as parking
+use Rattle.blocking_crew.proofs.Types.{NoWorker, Stop, Act, Moment, Party, Worker, Step}
 use Rattle.blocking_crew.proofs.ties.Acts.{now_with, by_end, enters_so}
 use Rattle.blocking_crew.proofs.ties.Known.{front_out}
 use Rattle.blocking_crew.proofs.ties.Sweeps.{is_swept_if}

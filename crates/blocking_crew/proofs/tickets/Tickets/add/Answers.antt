@@ -1,6 +1,5 @@
 use Rattle.std.proofs.Common.{◌≡◌, arith}
 use Rattle.blocking_pool.specs.Starters.{asked}
-use Rattle.blocking_crew.specs.Tickets.{FindsNoWorker}
 use Rattle.blocking_crew.proofs.growth.Reads.{numbers_last}
 use Rattle.blocking_crew.proofs.growth.Calls.{accepts, finds_no_worker}
 use Rattle.blocking_crew.proofs.tickets.Tickets.add.Goals as goal

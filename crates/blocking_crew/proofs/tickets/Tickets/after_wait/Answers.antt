@@ -1,4 +1,4 @@
-use Rattle.std.proofs.Common.{◌≡◌, ap, arith}
+use Rattle.std.proofs.Common.{ap, arith}
 use Rattle.blocking_pool.specs.PoolAnswers.{StaysOrStops}
 use Rattle.blocking_pool.specs.Starters.{asked}
 use Rattle.blocking_crew.specs.Tickets.{JobPool}
