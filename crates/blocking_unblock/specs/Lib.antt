@@ -1,3 +1,4 @@
+pub mod Iterators
 pub mod Owners
 pub mod Polls
 pub mod Readers

@@ -2,6 +2,7 @@
 #![tactic(auto)]
 
 mod io;
+mod item_job;
 mod lend;
 mod link;
 mod place;
@@ -9,12 +10,14 @@ mod read_ext;
 mod read_job;
 mod read_session;
 mod session;
+mod slot;
 mod unblock;
 mod write_ext;
 mod write_job;
 mod write_session;
 
 pub use io::{AsyncRead, AsyncWrite, IoFault};
+pub use item_job::ItemJob;
 pub use read_ext::{AsyncReadExt, ReadExact, ReadSome, ReadToEnd};
 pub use read_job::ReadJob;
 pub use unblock::Unblock;

@@ -3,12 +3,12 @@ ghost use Rattle.std.specs.Prelude.{◌≡◌, ◌<◌, ◌≤◌, length, None,
 ghost use Rattle.blocking_core.specs.declared.job.read.ReadAction.TheVariants.{FindRoom, Read as ReadPiece, Put as PutPiece, Close, Finish, Deliver};
 ghost use Rattle.blocking_core.specs.Reading.{new_read, read_next};
 
-use crate::link::{Link, OwnerWaker, Returned};
+use crate::link::{Ended, Link};
+use crate::slot::OwnerWaker;
 use blocking_core::io::JobFault;
 use blocking_core::job::{ReadAction, ReadAnswer, ReadCore};
 use blocking_core::pipe::{Put, Room};
 use blocking_core::pool::{Carries, Job, JobNo, JobStep};
-use blocking_core::task;
 use blocking_ends::{AnyPlace, SendEnd};
 use std::io::Read;
 use std::marker::Model;
@@ -152,11 +152,7 @@ impl<T: Drop, H: Wait + Copy> ReadJob<T, H> {
         let Some(handle) = self.reader.take() else {
             unreachable!()
         };
-        let fault = self.fault.take();
-        let returned = Returned { handle, fault };
-        let task::Put { back, wake } = self.link.put(&self.rt, returned);
-        // (a reader that nobody wants is dropped under no lock)
-        drop(back);
+        let wake = self.link.give_back(&self.rt, handle, Ended::by(self.fault.take()));
         let woke = wake.is_some();
         self.waker = wake.flatten();
         self.core.answer(ReadAnswer::Finished { woke });

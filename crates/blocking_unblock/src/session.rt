@@ -2,10 +2,10 @@
 ghost use Rattle.std.specs.Prelude.{◌<◌, ◌≤◌, vec_len, IfOk, OnErr};
 ghost use Rattle.futures.specs.Task.{IsArmed, Keeps};
 
-use crate::link::{Link, OwnerWaker, Returned};
+use crate::link::{Link, Returned};
 use blocking_core::job::PIECE;
-use blocking_core::task::{Looked, Seat, Slotted};
-use futures::task::{Context, Poll, Source};
+use blocking_core::task::Seat;
+use futures::task::{Context, Source};
 use std::alloc::{AllocError, AllocGlobal};
 use std::sync::{Arc, Wait};
 
@@ -23,33 +23,12 @@ impl<T: Drop, H: Wait + Copy> WayBack<T, H> {
         self.link.mark();
     }
 
-    // Waits in the slot, unless the handle is there. No slot is given up while its owner is there; one that is would be asked again.
-    fn wait(&self, waker: OwnerWaker) -> Result<Returned<T>, Seat> {
-        let rt = self.rt;
-        let mut waker = waker;
-        for _ in rt.forever() {
-            let (answer, spare) = self.link.poll(&rt, waker);
-            match answer {
-                Slotted::Value(returned) => return Ok(returned),
-                Slotted::Waits(seat) => return Err(seat),
-                Slotted::Gone => waker = spare.flatten(),
-            }
-        }
-        unreachable!()
-    }
-
     /// Takes the handle out of the slot, or waits there for it.
     pub(crate) fn poll(&self, cx: &mut Context<'_>) -> Result<Returned<T>, Seat>
         ensures armed { OnErr result (IsArmed cx.new) }
         ensures kept { Keeps cx.old cx.new }
     {
-        // (a handle that is there needs no waker; else that of an earlier poll is used again, since one that is dropped wakes)
-        let mut waker = match self.link.look(&self.rt) {
-            Looked::Value(returned) => return Ok(returned),
-            Looked::Seat(seat) => seat.flatten(),
-        };
-        let _pending: Poll<()> = cx.register(&self.source, &mut waker);
-        self.wait(waker)
+        self.link.await_back(self.rt, &self.source, cx)
     }
 }
 

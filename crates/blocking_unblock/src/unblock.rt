@@ -5,7 +5,7 @@ ghost use Rattle.futures.specs.Task.{IsArmed, Keeps};
 
 use crate::io::{AsyncRead, AsyncWrite, IoFault};
 use crate::lend::{Lends, ToNobody, ToRead, ToWrite};
-use crate::link::{Returned, told_of_fault};
+use crate::link::{Returned, told_of_end};
 use crate::place::Place;
 use crate::read_job::ReadJob;
 use crate::write_job::WriteJob;
@@ -148,9 +148,9 @@ impl<T: Drop, I: Drop, J: Job, H: Runtime> Unblock<T, I, J, H> {
         ensures kept { Keeps cx.old cx.new }
     {
         match self.place.poll_back(cx) {
-            Ok(Returned { handle, fault }) => {
+            Ok(Returned { handle, ended }) => {
                 self.place = Place::Idle(handle);
-                OwnerAnswer::Back(told_of_fault(fault))
+                told_of_end(ended)
             }
             Err(seat) => OwnerAnswer::Waits(seat),
         }
