@@ -7,6 +7,7 @@ pub mod OwnerCalls
 pub mod PipeAnswers
 pub mod Pipes
 pub mod Places
+pub mod Positions
 pub mod Reading
 pub mod Seeks
 pub mod SlotAnswers
