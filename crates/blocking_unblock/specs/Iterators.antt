@@ -44,9 +44,9 @@ Answers action answer = ⊥
 
 -- what a step tells its worker: a job that was seated waits, one that has nothing more to do is done, and else it goes on
 abbrev pub told_by : ItemAnswer → ItemAction → JobStep
-told_by by.Parked next = step.Waiting
+told_by by.Parked then = step.Waiting
 told_by answer Done = step.Done
-told_by answer next = step.Again
+told_by answer then = step.Again
 
 -- how many items an answer means to be sent
 abbrev pub sent_by : ItemAnswer → ℕ

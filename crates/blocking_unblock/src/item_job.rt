@@ -3,7 +3,7 @@ ghost use Rattle.std.specs.Prelude.{◌≡◌, None, Some};
 ghost use Rattle.blocking_core.specs.declared.job.item.ItemAction.TheVariants.{Next, Send, Close, Finish, Deliver};
 ghost use Rattle.blocking_core.specs.Items.{new_item, item_next};
 
-use crate::link::{Ended, Link};
+use crate::link::{Link, MayFail};
 use crate::slot::OwnerWaker;
 use blocking_core::job::{ItemAction, ItemAnswer, ItemCore};
 use blocking_core::pipe::Sending;
@@ -25,7 +25,7 @@ pub struct ItemJob<T: Iterator<Item = I> + Drop, I: Drop, H: Wait + Copy> {
     end: SendEnd<I, AnyPlace, H>,
     // The waker that was taken out of the owner's seat, and has to be called.
     waker: OwnerWaker,
-    link: Arc<Link<T>>,
+    link: Arc<Link<T, MayFail>>,
     rt: H,
 }
 
@@ -49,7 +49,7 @@ impl<T: Iterator<Item = I> + Drop, I: Drop, H: Wait + Copy> ItemJob<T, I, H> {
         rt: H,
         iterator: T,
         end: SendEnd<I, AnyPlace, H>,
-        link: Arc<Link<T>>,
+        link: Arc<Link<T, MayFail>>,
     ) -> ItemJob<T, I, H>
         requires { (state : T) → T.can_next state }
         ensures { result ≡ record { core = new_item; iterator = Some iterator; hand = None; sent = end.sent } }
@@ -142,7 +142,7 @@ impl<T: Iterator<Item = I> + Drop, I: Drop, H: Wait + Copy> ItemJob<T, I, H> {
         let Some(handle) = self.iterator.take() else {
             unreachable!()
         };
-        let wake = self.link.give_back(&self.rt, handle, Ended::Well);
+        let wake = self.link.give_back(&self.rt, handle, None);
         let woke = wake.is_some();
         self.waker = wake.flatten();
         self.core.answer(ItemAnswer::Finished { woke });

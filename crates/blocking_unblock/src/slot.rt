@@ -4,7 +4,7 @@ ghost use Rattle.futures.specs.Task.{IsArmed, Keeps};
 
 use blocking_core::task::{Looked, Put, Seat, Slot, Slotted};
 use futures::task::{Context, Poll, Source, Waker};
-use std::marker::Model;
+use std::marker::{Model, PhantomData};
 use std::sync::{Mutex, Wait};
 
 // The owner's waker, or none where none could be registered. Letting it go calls it.
@@ -17,6 +17,17 @@ pub(crate) trait Left {
 
     /// What holds of it.
     ghost may_be: { Self.Value → Type 0 };
+}
+
+/// The rule that allows every value of a type.
+pub(crate) struct AnyOf<X> {
+    value: PhantomData<X>,
+}
+
+impl<X> Left for AnyOf<X> {
+    type Value = X;
+
+    ghost may_be = { λ _. Unit {0} };
 }
 
 /// A slot whose value is as the rule says.
@@ -114,11 +125,7 @@ impl<A: Left<Value: Drop>> LockedSlot<A> {
         self.slot.lock(rt).look()
     }
 
-    fn poll<R: Wait>(
-        &self,
-        rt: &R,
-        waker: OwnerWaker,
-    ) -> (Slotted<A::Value>, Option<OwnerWaker>)
+    fn poll<R: Wait>(&self, rt: &R, waker: OwnerWaker) -> (Slotted<A::Value>, Option<OwnerWaker>)
         ensures { IfPolled result.0 A.may_be }
     {
         self.slot.lock(rt).poll(waker)
