@@ -15,7 +15,7 @@ use Rattle.blocking_core.specs.declared.unblock.SessionKind.TheVariants as sessi
 use Rattle.blocking_core.specs.declared.unblock.State.{State}
 use Rattle.blocking_core.specs.declared.unblock.State.TheVariants as state
 use Rattle.blocking_laws.specs.Ends.{handle_answers, has_failure, has_failed_write, has_flush, last_is_end, came_back, IsReadBack, IsFlushedBack}
-use Rattle.blocking_laws.specs.JobTable.{Kind, Calling, Reading, Writing, JobAction, FindRoom, AskBytes, PutPiece, Peek, OfferBytes, Consume, AskFlush, CloseEnd, Finish, Over, next_but_wake, is_over, fault, has_closed, has_finished, has_given_up}
+use Rattle.blocking_laws.specs.JobTable.{Kind, Reading, Writing, Streaming, Seeking, Operating, JobAction, FindRoom, AskBytes, PutPiece, Peek, OfferBytes, Consume, AskFlush, CloseEnd, Finish, Over, next_but_wake, is_over, fault, has_closed, has_finished, has_given_up}
 use Rattle.blocking_laws.specs.Jobs.{holder}
 use Rattle.blocking_laws.specs.OwnerLaws.{OwnerLaws}
 use Rattle.blocking_laws.specs.OwnerSeats.{is_job_seated, pipe_seat, slot_seat}
@@ -25,9 +25,10 @@ use Rattle.blocking_laws.specs.Passed.{gave, got, answered, was_put, data_of, ac
 use Rattle.blocking_laws.specs.Seen.{IsBeginning, events, acts_of, own, cut}
 use Rattle.blocking_laws.specs.Sessions.{call, under_way, is_made, is_dropped, last_session, is_shut, jobs_of, kind_of_job, capacity}
 use Rattle.blocking_laws.specs.Sessions as sessions
-use Rattle.blocking_laws.specs.Steps.{owners}
+use Rattle.blocking_laws.specs.Steps.{owners, is_known}
 use Rattle.blocking_laws.specs.Wakes.{is_waiting, was_woken}
 use Rattle.blocking_laws.specs.declared.event.Act.{Act}
+use Rattle.blocking_laws.specs.declared.event.Act.TheVariants.{Asked}
 use Rattle.blocking_laws.specs.declared.event.Event.{Event}
 use Rattle.blocking_laws.specs.declared.event.Moment.{Moment}
 use Rattle.blocking_laws.specs.declared.event.Party.TheVariants.{Owner as ByOwner}
@@ -50,11 +51,13 @@ called_at (stage.Polls poll) asked = asked
 called_at (stage.Wakes poll note) asked = asked
 called_at _ asked = None
 
--- what the job of a session is for, in the words of the laws; they have none yet for items, seeks and operations
+-- what the job of a session is for, in the words of the laws
 abbrev pub kind_as : SessionKind → Kind
 kind_as session_kind.Reading = Reading
 kind_as session_kind.Writing = Writing
-kind_as kind = Calling
+kind_as session_kind.Streaming = Streaming
+kind_as (session_kind.Seeking position) = Seeking position
+kind_as session_kind.Operating = Operating
 
 -- whether the owner's end of the pipe is open
 abbrev pub is_end_open : OwnerEnd → Bool
@@ -79,7 +82,9 @@ action_as call action.Begin = law.Begin
 action_as call action.Close = law.CloseOwn
 action_as call (action.Drain most) = law.Drain most
 action_as call (action.Fill most) = law.Fill (data_of (Some call))
+action_as call action.Receive = law.Receive
 action_as call action.PollSlot = law.PollSlot
+action_as call action.PollResult = law.PollPlace
 action_as call action.DropHandle = law.Say told.Okay
 action_as call (action.Reply reply) = say (reply_as reply)
 action_as call _ = law.Rest
@@ -92,6 +97,7 @@ newest_note (act ∷ past) = note_in act
 -- a reply that tells the end of the reader, or that all is done, comes after the handle came back so
 abbrev pub EndAs : HandleCall → Reply ℕ → Option (List Event) → Type 0
 EndAs (handle_call.Read (suc n)) (reply.Count zero) back = IsReadBack back
+EndAs handle_call.Next reply.End back = IsReadBack back
 EndAs handle_call.Flush reply.Done back = IsFlushedBack back
 EndAs handle_call.Close reply.Done back = IsFlushedBack back
 EndAs _ _ back = Unit {0}
@@ -285,7 +291,7 @@ pub record WriteFlowAs (s : Session) (shut : Bool) (got accepted : List ℕ) (ne
 abbrev pub Flows : Kind → Session → Bool → List ℕ → List ℕ → JobAction → List Act → Type 0
 Flows Reading s shut got accepted next acts = FlowAs s shut got next (has_closed acts) (has_given_up acts) (passed_by acts)
 Flows Writing s shut got accepted next acts = WriteFlowAs s shut got accepted next (has_closed acts) (has_given_up acts) (wrote_by acts)
-Flows Calling s shut got accepted next acts = ⊥
+Flows _ s shut got accepted next acts = ⊥
 
 -- what stands in the slot, by whether the job finished or gave up, whether the handle is back, and the job's fault
 abbrev pub SlotAs : Content (Option (Fault ℕ)) → Bool → Bool → Bool → Option (Fault ℕ) → Type 0
@@ -371,13 +377,20 @@ is_seated (Some s) = is_some s.pipe.owner_seat || is_some s.slot.seat
 
 -- ---- one owner
 
+-- the owner was asked only for what owners are asked for yet
+abbrev pub AskKnown : List Act → Type 0
+AskKnown [] = Unit {0}
+AskKnown (Asked call ∷ past) = (is_known call ≡ true) × AskKnown past
+AskKnown (_ ∷ past) = AskKnown past
+
 -- An owner, by its cut: what it did itself, and what its jobs did.
 pub record OwnerAs (owner : Owner) (cut : List Event) : Type 0 where
   pub made : is_made (own cut) ≡ true
   pub gone : is_dropped (own cut) ≡ is_gone owner.stage
   pub asked : call (own cut) ≡ owner.asked
   pub polled : under_way (own cut) ≡ called_at owner.stage owner.asked
-  pub bytes : capacity (own cut) ≡ capacity_of owner
+  pub bytes : capacity Reading (own cut) ≡ capacity_of owner
+  pub calls : AskKnown (own cut)
   pub stage : StageAs owner.stage cut
   pub last : LastAs owner.session (capacity_of owner) cut
   pub ended : is_at_end (own cut) ≡ true → EndedIn owner.session

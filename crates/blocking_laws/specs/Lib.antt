@@ -26,5 +26,8 @@ pub mod Legal
 pub mod Traces
 pub mod OwnerTraces
 pub mod WriteTraces
+pub mod StreamTraces
+pub mod SeekTraces
+pub mod OperationTraces
 pub mod Served
 pub mod Staffed

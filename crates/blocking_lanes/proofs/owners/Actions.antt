@@ -18,13 +18,14 @@ use Rattle.blocking_laws.specs.Passed.{got, accepted, kind_in}
 use Rattle.blocking_laws.specs.Seen.{own, acts_of}
 use Rattle.blocking_laws.specs.Sessions.{jobs_of, kind_of_job, under_way, is_poll_over, is_for_closed}
 use Rattle.blocking_laws.specs.Sessions as sessions
+use Rattle.blocking_laws.specs.Steps.{is_known}
 use Rattle.blocking_laws.specs.declared.event.Act.{Act}
 use Rattle.blocking_laws.specs.declared.event.Event.{Event}
 use Rattle.blocking_laws.specs.declared.event.Reply.{Reply as Told}
 use Rattle.blocking_laws.specs.declared.step.HandleCall.{HandleCall}
 use Rattle.blocking_laws.specs.declared.step.HandleCall.TheVariants as handle_call
 use Rattle.blocking_pool.specs.Lists.{is_in}
-use Rattle.blocking_lanes.specs.Owners.{Owner, rests, may_ask, next_of, next_at, next_by, next_to_say, did, did_in, drain_did, fill_did, fill_did_in, look_did, looked_as, reply_as, reply_did, worked, worked_by, read_as, read_in, write_as, write_in}
+use Rattle.blocking_lanes.specs.Owners.{Owner, rests, may_ask, may_ask_at, next_of, next_at, next_by, next_to_say, did, did_in, drain_did, fill_did, fill_did_in, look_did, looked_as, reply_as, reply_did, worked, worked_by, read_as, read_in, write_as, write_in}
 use Rattle.blocking_lanes.specs.OwnerTies.{OwnerAs, LastAs, SlotAs, Flows, state_as}
 use Rattle.blocking_lanes.specs.Passages.{OfBytes}
 use Rattle.blocking_lanes.specs.Reads as reads
@@ -41,6 +42,7 @@ use Rattle.blocking_lanes.specs.declared.owner.OwnerStage.{OwnerStage}
 use Rattle.blocking_lanes.specs.declared.owner.OwnerStage.TheVariants as stage
 use Rattle.blocking_lanes.proofs.owners.Cuts.{kind_is}
 use Rattle.blocking_lanes.proofs.owners.Goods.{through_here}
+use Rattle.blocking_lanes.proofs.owners.Known.{gone_known, may_ask_known}
 use Rattle.blocking_lanes.proofs.owners.OwnerActs.{owner_by_parts, bound, doing, fits_at}
 use Rattle.blocking_lanes.proofs.owners.States.{gone_is, is_lent, lent, lent_at, looks_lent, may_be_asked, open_lent}
 use Rattle.blocking_lanes.proofs.owners.ReadJobs as read_job
@@ -94,17 +96,17 @@ rests_next owner cut t = rest_at owner.capacity owner.asked owner.stage owner.se
 
 rests_at : (bytes : ℕ) (asked : Option HandleCall) (here : OwnerStage) (last : Option Session) (cut : List Event) → OwnerAs (owner_by_parts bytes asked here last) cut
     → sessions.rests (own cut) ≡ rests (owner_by_parts bytes asked here last)
-rests_at bytes asked (stage.Rests st) last cut t = rw (t.made, t.gone, t.polled) refl
-rests_at bytes asked (stage.Polls p) last cut t = rw (t.made, t.gone, polled_is bytes asked p last cut t) refl
-rests_at bytes asked (stage.Wakes p note) last cut t = rw (t.made, t.gone, woken_is bytes asked p note last cut t) refl
-rests_at bytes asked stage.Dropped last cut t = rw (t.made, t.gone) refl
+rests_at bytes asked (stage.Rests st) last cut t = rw (t.made, gone_known (own cut) t.calls ∙ t.gone, t.polled) refl
+rests_at bytes asked (stage.Polls p) last cut t = rw (t.made, gone_known (own cut) t.calls ∙ t.gone, polled_is bytes asked p last cut t) refl
+rests_at bytes asked (stage.Wakes p note) last cut t = rw (t.made, gone_known (own cut) t.calls ∙ t.gone, woken_is bytes asked p note last cut t) refl
+rests_at bytes asked stage.Dropped last cut t = rw (t.made, gone_known (own cut) t.calls ∙ t.gone) refl
 
 -- and it rests where the law says
 pub rests_is : (owner : Owner) (cut : List Event) → OwnerAs owner cut → sessions.rests (own cut) ≡ rests owner
 rests_is owner cut t = rests_at owner.capacity owner.asked owner.stage owner.session cut t
 
 asked_at : (bytes : ℕ) (asked : Option HandleCall) (here : OwnerStage) (last : Option Session) (cut : List Event) (call : HandleCall) → OwnerAs (owner_by_parts bytes asked here last) cut
-    → sessions.may_ask (own cut) call ≡ may_ask (owner_by_parts bytes asked here last) call
+    → (sessions.rests (own cut) && (not (sessions.is_closed (own cut)) || is_for_closed call)) ≡ may_ask_at here call
 asked_at bytes asked (stage.Rests st) last cut call t =
     ap (λ b. b && (not (sessions.is_closed (own cut)) || is_for_closed call)) (rests_at bytes asked (stage.Rests st) last cut t)
     ∙ ap (λ b. not b || is_for_closed call) (gone_is (own cut) st t.stage.0) ∙ may_be_asked st call
@@ -115,9 +117,13 @@ asked_at bytes asked (stage.Wakes p note) last cut call t =
 asked_at bytes asked stage.Dropped last cut call t =
     ap (λ b. b && (not (sessions.is_closed (own cut)) || is_for_closed call)) (rests_at bytes asked stage.Dropped last cut t)
 
--- and there it may be asked for what the law says
-pub may_ask_is : (owner : Owner) (cut : List Event) (call : HandleCall) → OwnerAs owner cut → sessions.may_ask (own cut) call ≡ may_ask owner call
-may_ask_is owner cut call t = asked_at owner.capacity owner.asked owner.stage owner.session cut call t
+-- and there it may be asked for what the law says, of what owners are asked for
+pub may_ask_is : (owner : Owner) (cut : List Event) (call : HandleCall) → OwnerAs owner cut → (is_known call && sessions.may_ask (own cut) call) ≡ may_ask owner call
+may_ask_is owner cut call t = by (is_known call) refl
+  where
+    by : (b : Bool) → is_known call ≡ b → (b && sessions.may_ask (own cut) call) ≡ (b && may_ask_at owner.stage call)
+    by false is = refl
+    by true is = may_ask_known (own cut) call t.calls is ∙ asked_at owner.capacity owner.asked owner.stage owner.session cut call t
 
 -- ---- what it does is there to be done
 
@@ -148,10 +154,7 @@ fill_some p (Some (handle_call.Write [])) last owner offered asks some there goo
     let none : [] ≡ offered = cc in
     let count = ap (λ (l : List ℕ). length l) none in
     absurd (omega (arith, count, some))
-fill_some p (Some (handle_call.Read n)) last owner offered asks some there goods = absurd (cc)
-fill_some p (Some handle_call.Flush) last owner offered asks some there goods = absurd (cc)
-fill_some p (Some handle_call.Close) last owner offered asks some there goods = absurd (cc)
-fill_some p (Some handle_call.GetMut) last owner offered asks some there goods = absurd (cc)
+fill_some p (Some _) last owner offered asks some there goods = absurd (cc)
 fill_some p None last owner offered asks some there goods = absurd (cc)
 
 some_by : (bytes : ℕ) (asked : Option HandleCall) (p : OwnerMachine ℕ) (cut : List Event) (a : OwnerAction ℕ) (last : Option Session) → OwnerAs (owner_by_parts bytes asked (stage.Polls p) last) cut

@@ -65,10 +65,7 @@ plain_fills p (Some (handle_call.Write (byte ∷ bytes))) (Some s) owner done e 
     moved (λ (d : Did). IsPlain [] d.act) _ done (through_some OfBytes s.goods _ done e).1 (plain_fill (byte ∷ bytes) (filled (length (byte ∷ bytes)) s) p s owner)
 plain_fills p (Some (handle_call.Write (byte ∷ bytes))) None owner done e = absurd (cc)
 plain_fills p (Some (handle_call.Write [])) last owner done e = absurd (cc)
-plain_fills p (Some (handle_call.Read n)) last owner done e = absurd (cc)
-plain_fills p (Some handle_call.Flush) last owner done e = absurd (cc)
-plain_fills p (Some handle_call.Close) last owner done e = absurd (cc)
-plain_fills p (Some handle_call.GetMut) last owner done e = absurd (cc)
+plain_fills p (Some _) last owner done e = absurd (cc)
 plain_fills p None last owner done e = absurd (cc)
 
 plain_look : (content : Content (Option (Fault ℕ))) (p : OwnerMachine ℕ) (s : Session) (owner : Owner) (done : Did) → look_did (looked_as content) p s owner ≡ Some done → IsPlain [] done.act

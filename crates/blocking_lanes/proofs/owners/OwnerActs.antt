@@ -23,7 +23,7 @@ use Rattle.blocking_core.specs.declared.unblock.SessionKind.TheVariants as sessi
 use Rattle.blocking_core.specs.declared.unblock.State.{State}
 use Rattle.blocking_core.specs.declared.unblock.State.TheVariants as state
 use Rattle.blocking_laws.specs.Ends.{EndsTruly, IsTrueEnd, came_back, IsReadBack, IsReadWhole, IsFlushed, IsFlushedIf, IsFlushedBack, handle_answers, has_failure, has_failed_write, has_flush, is_failure, last_is_end}
-use Rattle.blocking_laws.specs.JobTable.{Kind, Calling, Reading, Writing, JobAction, Over, next_but_wake, is_over, earlier, fault, fault_in, has_closed, has_finished, has_given_up}
+use Rattle.blocking_laws.specs.JobTable.{Kind, Reading, Writing, JobAction, Over, next_but_wake, is_over, earlier, fault, fault_in, number, has_closed, has_finished, has_given_up}
 use Rattle.blocking_laws.specs.OwnerLaws.{OwnerMayAct, Polls}
 use Rattle.blocking_laws.specs.OwnerTable.{next_of_owner, deliver_first, owner_next_but_wake}
 use Rattle.blocking_laws.specs.OwnerTable as law
@@ -32,6 +32,7 @@ use Rattle.blocking_laws.specs.Passed.{gave, got, accepted, data_of, taken as ta
 use Rattle.blocking_laws.specs.Places.{seen_drain, seen_fill, poll_slot}
 use Rattle.blocking_laws.specs.Seen.{own, acts_of, is_some_worker}
 use Rattle.blocking_laws.specs.Sessions as sessions
+use Rattle.blocking_laws.specs.Steps.{is_known}
 use Rattle.blocking_laws.specs.declared.event.Act.{Act}
 use Rattle.blocking_laws.specs.declared.event.Act.TheVariants.{OwnerClosed, Got, GotEnd, Filled, FillShut, Waits, Back, Replied, Answered}
 use Rattle.blocking_laws.specs.declared.event.Event.{Event}
@@ -50,6 +51,7 @@ use Rattle.blocking_lanes.specs.Passages.{OfBytes}
 use Rattle.blocking_lanes.specs.Sessions.{Session, serial_of, reach, drained, filled, session_after_close, session_after_drain, session_after_fill, session_after_look}
 use Rattle.blocking_lanes.specs.declared.owner.OwnerStage.{OwnerStage}
 use Rattle.blocking_lanes.specs.declared.owner.OwnerStage.TheVariants as stage
+use Rattle.blocking_lanes.proofs.owners.Known.{known_call}
 use Rattle.blocking_lanes.proofs.owners.Cuts.{not_not, next_with, inside_is, room_is, lasts_is, open_is, noted_is, its_job, drain_act, drain_seen}
 use Rattle.blocking_lanes.proofs.owners.Fills.{fills, fill_waits, filled_some, filled_note, fill_act, fill_seen}
 use Rattle.blocking_lanes.proofs.owners.Drains.{shuts, takes, waits, returns, waits_for_it, front, at_end, reached}
@@ -250,6 +252,7 @@ module _ (bytes : ℕ) (asked : Option HandleCall) (p : OwnerMachine ℕ) (s : S
           asked = t.asked;
           polled = t.polled ∙ still_called q note asked;
           bytes = t.bytes;
+          calls = t.calls;
           stage = goes_on_so q note (sessions.call (own cut)) (sessions.state (own (e ∷ cut))) law.PollSlot false (came_back cut) polled refl;
           last = shuts s kind (bound bytes) began shut over gone took written acts js ps ss t.last;
           ended = λ is_end. absurd (cc);
@@ -304,6 +307,7 @@ module _ (bytes : ℕ) (asked : Option HandleCall) (p : OwnerMachine ℕ) (s : S
           asked = t.asked;
           polled = t.polled ∙ still_called q found.1 asked;
           bytes = t.bytes;
+          calls = t.calls;
           stage = goes_on_so q found.1 (sessions.call (own cut)) (sessions.state (own cut)) (law.Say (told.Count (length found.0))) false (came_back cut) polled refl;
           last = subst (λ k. SessionAs (session_after_drain (Served found) s) k (bound bytes) began shut over gone (took ++ found.0) written acts false ps ss) (sym lent.0) last;
           ended = λ is_end. absurd (cc);
@@ -330,6 +334,7 @@ module _ (bytes : ℕ) (asked : Option HandleCall) (p : OwnerMachine ℕ) (s : S
           asked = t.asked;
           polled = refl;
           bytes = t.bytes;
+          calls = t.calls;
           stage = (t.stage.0.at_is, refl, refl);
           last = subst (λ n. SessionAs (session_after_drain Waiting s) kind (bound bytes) began shut over gone took written acts js (pipe_seated_by Waits (place_of n) ps) (slot_seated_by Waits (place_of n) ss)) (sym at_pipe)
               (subst (λ k. SessionAs (session_after_drain Waiting s) k (bound bytes) began shut over gone took written acts js true ss) (sym lent.0) last);
@@ -357,6 +362,7 @@ module _ (bytes : ℕ) (asked : Option HandleCall) (p : OwnerMachine ℕ) (s : S
           asked = t.asked;
           polled = t.polled;
           bytes = t.bytes;
+          calls = t.calls;
           stage = (
             record {
               call = c;
@@ -448,6 +454,7 @@ module _ (bytes : ℕ) (asked : Option HandleCall) (p : OwnerMachine ℕ) (s : S
           asked = t.asked;
           polled = t.polled ∙ still_called q went.1 asked;
           bytes = t.bytes;
+          calls = t.calls;
           stage = goes_on_so q went.1 (sessions.call (own cut)) (sessions.state (own cut)) (law.Say (told.Count went.0)) false (came_back cut) polled refl;
           last = subst (λ k. SessionAs (session_after_fill offered (Served went) s) k (bound bytes) began shut over gone took (accepted (own (seen ∷ cut))) acts false ps ss) (sym w.kind_is)
               (subst (λ l. SessionAs (session_after_fill offered (Served went) s) Writing (bound bytes) began shut over gone took (written ++ take went.0 l) acts false ps ss) offer last);
@@ -468,6 +475,7 @@ module _ (bytes : ℕ) (asked : Option HandleCall) (p : OwnerMachine ℕ) (s : S
           asked = t.asked;
           polled = refl;
           bytes = t.bytes;
+          calls = t.calls;
           stage = (t.stage.0.at_is, refl, refl);
           last = subst (λ n. SessionAs (session_after_fill offered Waiting s) kind (bound bytes) began shut over gone took written acts js (pipe_seated_by Waits (place_of n) ps) (slot_seated_by Waits (place_of n) ss)) (sym w.next_is)
               (subst (λ k. SessionAs (session_after_fill offered Waiting s) k (bound bytes) began shut over gone took written acts js true ss) (sym w.kind_is) last);
@@ -492,6 +500,7 @@ module _ (bytes : ℕ) (asked : Option HandleCall) (p : OwnerMachine ℕ) (s : S
           asked = t.asked;
           polled = t.polled;
           bytes = t.bytes;
+          calls = t.calls;
           stage = (
             record {
               call = c;
@@ -558,6 +567,7 @@ module _ (bytes : ℕ) (asked : Option HandleCall) (p : OwnerMachine ℕ) (s : S
           asked = t.asked;
           polled = refl;
           bytes = t.bytes;
+          calls = t.calls;
           stage = (t.stage.0.at_is, refl, refl);
           last = subst (λ n. SessionAs (session_after_look Empty s) kind (bound bytes) began shut over gone took written acts js (pipe_seated_by Waits (place_of n) ps) (slot_seated_by Waits (place_of n) ss)) (sym at_slot)
               (waits_for_it s kind (bound bytes) began shut over gone took written acts js ps ss empty closed t.last);
@@ -568,13 +578,13 @@ module _ (bytes : ℕ) (asked : Option HandleCall) (p : OwnerMachine ℕ) (s : S
         };
       }
 
-  -- what the law says once the handle is back, by the call that is asked and the fault that the job met
-  abbrev once_back : Option HandleCall → Option (Fault ℕ) → Bool → law.OwnerAction
-  once_back None why ended = law.Rest
-  once_back (Some call) why ended = law.after_back call why ended
+  -- what the law says once the handle is back, by the call that is asked, the fault that the job met, its kind and its last number
+  abbrev once_back : Option HandleCall → Option (Fault ℕ) → Bool → Kind → ℕ → law.OwnerAction
+  once_back None why ended of n = law.Rest
+  once_back (Some call) why ended of n = law.after_back call why ended of n
 
   at_back_is : (asked : Option HandleCall) (r : sessions.Session) (ended : Bool) (seen : List Event)
-      → law.at_back asked (Some r) ended seen ≡ once_back asked (fault r.kind (acts_of r.serial seen)) ended
+      → law.at_back asked (Some r) ended seen ≡ once_back asked (fault r.kind (acts_of r.serial seen)) ended r.kind (number (acts_of r.serial seen))
   at_back_is None r ended seen = refl
   at_back_is (Some call) r ended seen = refl
 
@@ -591,48 +601,50 @@ module _ (bytes : ℕ) (asked : Option HandleCall) (p : OwnerMachine ℕ) (s : S
   reads_end _ (state.Lent _ Open) looks = absurd looks
 
   -- what follows once the handle is back
-  after_back_is : (c : HandleCall) (st : State) (ended : Bool) (why : Option (Fault ℕ)) → LooksFrom c st ended
-      → law.after_back c why ended ≡ action_as c (machine.after_back (poll_call_of c) ended why)
-  after_back_is (handle_call.Read most) st ended (Some why) looks = refl
-  after_back_is (handle_call.Read most) st true None looks = refl
-  after_back_is (handle_call.Read zero) st false None looks = refl
-  after_back_is (handle_call.Read (suc n)) st false None looks = refl
-  after_back_is (handle_call.Write offered) st ended (Some why) looks = refl
-  after_back_is (handle_call.Write []) st false None looks = refl
-  after_back_is (handle_call.Write (byte ∷ more)) st false None looks = refl
-  after_back_is (handle_call.Write offered) st true None looks = absurd (let reads = (reads_end (handle_call.Write offered) st looks).0 in cc)
-  after_back_is handle_call.Flush st ended (Some why) looks = refl
-  after_back_is handle_call.Flush st false None looks = refl
-  after_back_is handle_call.Flush st true None looks = absurd (let reads = (reads_end handle_call.Flush st looks).0 in cc)
-  after_back_is handle_call.Close st ended (Some why) looks = refl
-  after_back_is handle_call.Close st false None looks = refl
-  after_back_is handle_call.Close st true None looks = absurd (let reads = (reads_end handle_call.Close st looks).0 in cc)
-  after_back_is handle_call.GetMut st false None looks = refl
-  after_back_is handle_call.GetMut st false (Some why) looks = refl
-  after_back_is handle_call.GetMut st true why looks = absurd (let reads = (reads_end handle_call.GetMut st looks).0 in cc)
+  after_back_is : (c : HandleCall) (st : State) (ended : Bool) (why : Option (Fault ℕ)) (of : Kind) (last : ℕ) → is_known c ≡ true → LooksFrom c st ended
+      → law.after_back c why ended of last ≡ action_as c (machine.after_back (poll_call_of c) ended why)
+  after_back_is (handle_call.Read most) st ended (Some why) of last known looks = refl
+  after_back_is (handle_call.Read most) st true None of last known looks = refl
+  after_back_is (handle_call.Read zero) st false None of last known looks = refl
+  after_back_is (handle_call.Read (suc n)) st false None of last known looks = refl
+  after_back_is (handle_call.Write offered) st ended (Some why) of last known looks = refl
+  after_back_is (handle_call.Write []) st false None of last known looks = refl
+  after_back_is (handle_call.Write (byte ∷ more)) st false None of last known looks = refl
+  after_back_is (handle_call.Write offered) st true None of last known looks = absurd (let reads = (reads_end (handle_call.Write offered) st looks).0 in cc)
+  after_back_is handle_call.Flush st ended (Some why) of last known looks = refl
+  after_back_is handle_call.Flush st false None of last known looks = refl
+  after_back_is handle_call.Flush st true None of last known looks = absurd (let reads = (reads_end handle_call.Flush st looks).0 in cc)
+  after_back_is handle_call.Close st ended (Some why) of last known looks = refl
+  after_back_is handle_call.Close st false None of last known looks = refl
+  after_back_is handle_call.Close st true None of last known looks = absurd (let reads = (reads_end handle_call.Close st looks).0 in cc)
+  after_back_is handle_call.GetMut st false None of last known looks = refl
+  after_back_is handle_call.GetMut st false (Some why) of last known looks = refl
+  after_back_is handle_call.GetMut st true why of last known looks = absurd (let reads = (reads_end handle_call.GetMut st looks).0 in cc)
+  after_back_is _ st ended why of last known looks = absurd (cc)
 
   -- and it fits
-  back_fits : (q : OwnerMachine ℕ) (c : HandleCall) (st : State) (ended : Bool) (why : Option (Fault ℕ)) (back : Option (List Event)) → LooksFrom c st ended → q.state ≡ state.Idle → q.is_at_end ≡ ended
+  back_fits : (q : OwnerMachine ℕ) (c : HandleCall) (st : State) (ended : Bool) (why : Option (Fault ℕ)) (back : Option (List Event)) → is_known c ≡ true → LooksFrom c st ended → q.state ≡ state.Idle → q.is_at_end ≡ ended
       → (ended ≡ true → why ≡ None → IsReadBack back) → (why ≡ None → IsFlushedBack back) → FitsNext c q (machine.after_back (poll_call_of c) ended why) false back
-  back_fits q (handle_call.Read most) st ended (Some why) back looks at end whole flushed = failed_fits (handle_call.Read most) q why false back
-  back_fits q (handle_call.Read zero) st true None back looks at end whole flushed = (refl, tt, tt)
-  back_fits q (handle_call.Read (suc n)) st true None back looks at end whole flushed = (refl, whole refl refl, tt)
-  back_fits q (handle_call.Read zero) st false None back looks at end whole flushed = (refl, tt, tt)
-  back_fits q (handle_call.Read (suc n)) st false None back looks at end whole flushed = (tt, at, end)
-  back_fits q (handle_call.Write offered) st ended (Some why) back looks at end whole flushed = (refl, tt, tt)
-  back_fits q (handle_call.Write []) st false None back looks at end whole flushed = (refl, tt, tt)
-  back_fits q (handle_call.Write (byte ∷ more)) st false None back looks at end whole flushed = (tt, at, end)
-  back_fits q (handle_call.Write offered) st true None back looks at end whole flushed = absurd (let reads = (reads_end (handle_call.Write offered) st looks).0 in cc)
-  back_fits q handle_call.Flush st ended (Some why) back looks at end whole flushed = (refl, tt, tt)
-  back_fits q handle_call.Flush st true None back looks at end whole flushed = (refl, flushed refl, tt)
-  back_fits q handle_call.Flush st false None back looks at end whole flushed = (refl, flushed refl, tt)
-  back_fits q handle_call.Close st ended (Some why) back looks at end whole flushed = (refl, tt, tt)
-  back_fits q handle_call.Close st true None back looks at end whole flushed = (refl, at, flushed refl)
-  back_fits q handle_call.Close st false None back looks at end whole flushed = (refl, at, flushed refl)
-  back_fits q handle_call.GetMut st true None back looks at end whole flushed = (refl, tt, tt)
-  back_fits q handle_call.GetMut st true (Some why) back looks at end whole flushed = (refl, tt, tt)
-  back_fits q handle_call.GetMut st false None back looks at end whole flushed = (refl, tt, tt)
-  back_fits q handle_call.GetMut st false (Some why) back looks at end whole flushed = (refl, tt, tt)
+  back_fits q (handle_call.Read most) st ended (Some why) back known looks at end whole flushed = failed_fits (handle_call.Read most) q why false back
+  back_fits q (handle_call.Read zero) st true None back known looks at end whole flushed = (refl, tt, tt)
+  back_fits q (handle_call.Read (suc n)) st true None back known looks at end whole flushed = (refl, whole refl refl, tt)
+  back_fits q (handle_call.Read zero) st false None back known looks at end whole flushed = (refl, tt, tt)
+  back_fits q (handle_call.Read (suc n)) st false None back known looks at end whole flushed = (tt, at, end)
+  back_fits q (handle_call.Write offered) st ended (Some why) back known looks at end whole flushed = (refl, tt, tt)
+  back_fits q (handle_call.Write []) st false None back known looks at end whole flushed = (refl, tt, tt)
+  back_fits q (handle_call.Write (byte ∷ more)) st false None back known looks at end whole flushed = (tt, at, end)
+  back_fits q (handle_call.Write offered) st true None back known looks at end whole flushed = absurd (let reads = (reads_end (handle_call.Write offered) st looks).0 in cc)
+  back_fits q handle_call.Flush st ended (Some why) back known looks at end whole flushed = (refl, tt, tt)
+  back_fits q handle_call.Flush st true None back known looks at end whole flushed = (refl, flushed refl, tt)
+  back_fits q handle_call.Flush st false None back known looks at end whole flushed = (refl, flushed refl, tt)
+  back_fits q handle_call.Close st ended (Some why) back known looks at end whole flushed = (refl, tt, tt)
+  back_fits q handle_call.Close st true None back known looks at end whole flushed = (refl, at, flushed refl)
+  back_fits q handle_call.Close st false None back known looks at end whole flushed = (refl, at, flushed refl)
+  back_fits q handle_call.GetMut st true None back known looks at end whole flushed = (refl, tt, tt)
+  back_fits q handle_call.GetMut st true (Some why) back known looks at end whole flushed = (refl, tt, tt)
+  back_fits q handle_call.GetMut st false None back known looks at end whole flushed = (refl, tt, tt)
+  back_fits q handle_call.GetMut st false (Some why) back known looks at end whole flushed = (refl, tt, tt)
+  back_fits q _ st ended why back known looks at end whole flushed = absurd (cc)
 
   -- a job that finished is over
   over_now : Old → has_finished acts ≡ true → next_but_wake kind acts ≡ Over
@@ -673,7 +685,7 @@ module _ (bytes : ℕ) (asked : Option HandleCall) (p : OwnerMachine ℕ) (s : S
   flushed_if : (k : Kind) → (k ≡ Writing → IsFlushed (by_owner h Back first growth ∷ cut)) → IsFlushedIf k (by_owner h Back first growth ∷ cut)
   flushed_if Writing flushed = flushed refl
   flushed_if Reading flushed = tt
-  flushed_if Calling flushed = tt
+  flushed_if _ flushed = tt
 
   back_goes : p.next ≡ action.PollSlot → Old → (why : Option (Fault ℕ)) → s.slot.content ≡ Full why
       → Goes (owner_by_parts bytes asked (stage.Polls (owner_after p (by.Back why))) (Some (session_after_look (Full why) s))) cut (by_owner h Back first growth)
@@ -686,12 +698,14 @@ module _ (bytes : ℕ) (asked : Option HandleCall) (p : OwnerMachine ℕ) (s : S
       let same : owner_after p (by.Back why) ≡ q =
       turned p action.PollSlot (by.Back why) t.stage.1 is ∙ ap (λ k. record p { state = state.Idle; next = machine.after_back k p.is_at_end why }) t.stage.0.call_is in
       let finished = ap has_finished (its_job s (bound bytes) cut t.last) ∙ slot.0 in
-      let table : law.at_back (sessions.call (own cut)) began (law.is_at_end (own cut)) (e ∷ cut) ≡ law.after_back c why p.is_at_end =
+      let known = known_call (own cut) c t.calls t.stage.0.asked_is in
+      let last_number = number acts in
+      let table : law.at_back (sessions.call (own cut)) began (law.is_at_end (own cut)) (e ∷ cut) ≡ law.after_back c why p.is_at_end kind last_number =
       ap (λ c. law.at_back c began (law.is_at_end (own cut)) (e ∷ cut)) t.stage.0.asked_is
       ∙ ap (λ r. law.at_back (Some c) r (law.is_at_end (own cut)) (e ∷ cut)) t.last.lent.begun
       ∙ at_back_is (Some c) (record { serial = s.number.serial; kind = kind }) (law.is_at_end (own cut)) (e ∷ cut)
-      ∙ ap (λ f. once_back (Some c) f (law.is_at_end (own cut))) (sym slot.3)
-      ∙ ap (λ b. once_back (Some c) why b) (sym fits.1) in
+      ∙ ap (λ f. once_back (Some c) f (law.is_at_end (own cut)) kind last_number) (sym slot.3)
+      ∙ ap (λ b. once_back (Some c) why b kind last_number) (sym fits.1) in
       let there = looks_away c p.state p.is_at_end fits.0 in
       let whole = λ (is_end : p.is_at_end ≡ true) (none : why ≡ None).
       (let here = reads_end c p.state (subst (λ b. LooksFrom c p.state b) is_end fits.0) in
@@ -707,14 +721,15 @@ module _ (bytes : ℕ) (asked : Option HandleCall) (p : OwnerMachine ℕ) (s : S
           asked = t.asked;
           polled = t.polled;
           bytes = t.bytes;
+          calls = t.calls;
           stage = (
             record {
               call = c;
               asked_is = t.stage.0.asked_is;
               call_is = t.stage.0.call_is;
               at_is = ap (λ b. sessions.state_by b None shut) (gone_is (own cut) p.state t.stage.0.at_is ∙ there);
-              next_is = table ∙ after_back_is c p.state p.is_at_end why fits.0;
-              fits = back_fits q c p.state p.is_at_end why (Some (e ∷ cut)) fits.0 refl refl whole flushed;
+              next_is = table ∙ after_back_is c p.state p.is_at_end why kind last_number known fits.0;
+              fits = back_fits q c p.state p.is_at_end why (Some (e ∷ cut)) known fits.0 refl refl whole flushed;
             },
             t.stage.1,
             refl,
@@ -748,9 +763,8 @@ end_is c r back said same e = subst (λ told. IsTrueEnd (Some c) (value_of said 
     by_reply (handle_call.Read (suc n)) (reply.Count (suc k)) same e = tt
     by_reply c (reply.Position place) same e = absurd (cc)
     by_reply c reply.Item same e = absurd (cc)
-    by_reply c reply.End same e = absurd (cc)
+    by_reply handle_call.Next reply.End same e = e
     by_reply c reply.Result same e = absurd (cc)
-    by_reply c (reply.NotBegun why) same e = absurd (cc)
     by_reply c reply.Closed same e = absurd (cc)
     by_reply _ _ same e = tt
 
@@ -759,12 +773,20 @@ after_reply : (c : HandleCall) (r : Reply ℕ) (said : Told) (closed : Bool) (la
     → sessions.state_by closed last shut ≡ state_as st → sessions.state_by (sessions.ends_close said (Some c) || closed) last shut ≡ state_as st
 after_reply c r (told.Count n) closed last shut st same away e = e
 after_reply c r told.Handle closed last shut st same away e = e
+after_reply c r (told.OneItem x) closed last shut st same away e = e
+after_reply c r told.NoMore closed last shut st same away e = e
 after_reply c r (told.Failed why) closed last shut st same away e = e
+after_reply c r (told.NotBegun why) closed last shut st same away e = e
 after_reply handle_call.Close reply.Done told.Okay closed last shut st same away e = sym (ap state_as away)
 after_reply (handle_call.Read n) reply.Done told.Okay closed last shut st same away e = e
 after_reply (handle_call.Write l) reply.Done told.Okay closed last shut st same away e = e
 after_reply handle_call.Flush reply.Done told.Okay closed last shut st same away e = e
 after_reply handle_call.GetMut reply.Done told.Okay closed last shut st same away e = e
+after_reply (handle_call.Seek position) reply.Done told.Okay closed last shut st same away e = e
+after_reply handle_call.Next reply.Done told.Okay closed last shut st same away e = e
+after_reply handle_call.Operate reply.Done told.Okay closed last shut st same away e = e
+after_reply handle_call.OperateAgain reply.Done told.Okay closed last shut st same away e = e
+after_reply handle_call.IntoInner reply.Done told.Okay closed last shut st same away e = e
 after_reply c _ told.Okay closed last shut st same away e = absurd (cc)
 
 reply_goes : (bytes : ℕ) (asked : Option HandleCall) (p : OwnerMachine ℕ) (last : Option Session) (h first : ℕ) (growth : Growth) (cut : List Event) (r : Reply ℕ) (said : Told)
@@ -782,6 +804,7 @@ reply_goes bytes asked p last h first growth cut r said is same t =
         asked = t.asked;
         polled = refl;
         bytes = t.bytes;
+        calls = t.calls;
         stage = (
           ap (λ c. sessions.state_by (sessions.ends_close said c || sessions.is_closed (own cut)) (sessions.session (own cut)) (sessions.is_shut (own cut))) t.stage.0.asked_is
               ∙ after_reply c r said (sessions.is_closed (own cut)) (sessions.session (own cut)) (sessions.is_shut (own cut)) p.state same fits.2 t.stage.0.at_is,
@@ -814,6 +837,7 @@ drops_goes bytes asked p last h first growth cut is t =
         asked = t.asked;
         polled = refl;
         bytes = t.bytes;
+        calls = t.calls;
         stage = (
           ap (λ c. sessions.state_by (sessions.ends_close told.Okay c || sessions.is_closed (own cut)) (sessions.session (own cut)) (sessions.is_shut (own cut))) called,
           refl,
@@ -839,10 +863,7 @@ own_fills bytes (Some (handle_call.Write (byte ∷ more))) p h first growth cut 
     (fill_goes bytes asks p s h first growth cut (byte ∷ more) t (fills_so bytes asks p s h first growth cut (byte ∷ more) most refl is t) (filled (length (byte ∷ more)) s) refl)
 own_fills bytes (Some (handle_call.Write (byte ∷ more))) p h first growth cut done most None is t does = absurd (cc)
 own_fills bytes (Some (handle_call.Write [])) p h first growth cut done most last is t does = absurd (cc)
-own_fills bytes (Some (handle_call.Read n)) p h first growth cut done most last is t does = absurd (cc)
-own_fills bytes (Some handle_call.Flush) p h first growth cut done most last is t does = absurd (cc)
-own_fills bytes (Some handle_call.Close) p h first growth cut done most last is t does = absurd (cc)
-own_fills bytes (Some handle_call.GetMut) p h first growth cut done most last is t does = absurd (cc)
+own_fills bytes (Some _) p h first growth cut done most last is t does = absurd (cc)
 own_fills bytes None p h first growth cut done most last is t does = absurd (cc)
 
 own_by : (bytes : ℕ) (asked : Option HandleCall) (p : OwnerMachine ℕ) (h first : ℕ) (growth : Growth) (cut : List Event) (done : Did) (next : OwnerAction ℕ) (last : Option Session) → p.next ≡ next

@@ -18,8 +18,5 @@ by_fill P poll (Some (handle_call.Write (byte ∷ bytes))) (Some session) owner 
     through_by P OfBytes session.goods _ none (some (byte ∷ bytes) session (filled (length (byte ∷ bytes)) session) refl refl)
 by_fill P poll (Some (handle_call.Write (byte ∷ bytes))) None owner none some = none
 by_fill P poll (Some (handle_call.Write [])) last owner none some = none
-by_fill P poll (Some (handle_call.Read n)) last owner none some = none
-by_fill P poll (Some handle_call.Flush) last owner none some = none
-by_fill P poll (Some handle_call.Close) last owner none some = none
-by_fill P poll (Some handle_call.GetMut) last owner none some = none
+by_fill P poll (Some _) last owner none some = none
 by_fill P poll None last owner none some = none
