@@ -4,6 +4,7 @@ pub mod ReadSessions
 pub mod WriteSessions
 pub mod Drains
 pub mod Fills
+pub mod Goods
 pub mod States
 pub mod Known
 pub mod Cuts

@@ -37,7 +37,7 @@ use Rattle.blocking_laws.specs.declared.event.Reply.TheVariants as told
 use Rattle.blocking_laws.specs.declared.step.HandleCall.{HandleCall}
 use Rattle.blocking_laws.specs.declared.step.HandleCall.TheVariants as handle_call
 use Rattle.blocking_lanes.specs.Owners.{Owner, capacity_of, number_of, note_at, is_gone, poll_call_of, reply_as}
-use Rattle.blocking_lanes.specs.Sessions.{Session}
+use Rattle.blocking_lanes.specs.Sessions.{Session, goods_of}
 use Rattle.blocking_lanes.specs.declared.owner.OwnerStage.{OwnerStage}
 use Rattle.blocking_lanes.specs.declared.owner.OwnerStage.TheVariants as stage
 use Rattle.blocking_pool.specs.Jobs.{JobNumber}
@@ -206,9 +206,10 @@ PassedAs Finish room lasts stopped passed = (lasts ≡ false) × GaveAll stopped
 PassedAs Over room lasts stopped passed = GaveAll stopped passed
 PassedAs _ room lasts stopped passed = ⊥
 
--- Which session it is, and that its pipe holds no more than it may.
+-- Which session it is, what passes through its pipe, and that this holds no more than it may.
 pub record LentAs (s : Session) (kind : Kind) (capacity : ℕ) (last : Option sessions.Session) (shut : Bool) : Type 0 where
   pub begun : last ≡ Some (record { serial = s.number.serial; kind = kind })
+  pub goods : s.goods ≡ goods_of kind
   pub some : 0 < capacity
   pub holds : s.pipe.capacity ≡ capacity
   pub within : length s.pipe.items ≤ capacity

@@ -11,25 +11,31 @@ use Rattle.blocking_core.specs.declared.job.read.ReadAnswer.TheVariants as by
 use Rattle.blocking_core.specs.declared.job.write.WriteAction.{WriteAction}
 use Rattle.blocking_core.specs.declared.job.write.WriteAction.TheVariants as write
 use Rattle.blocking_core.specs.declared.job.write.WriteAnswer.TheVariants as wrote
-use Rattle.blocking_laws.specs.JobTable.{piece as largest_piece}
+use Rattle.blocking_laws.specs.JobTable.{Kind, piece as largest_piece}
 use Rattle.blocking_laws.specs.Places.{seen_room, seen_put, seen_peek}
 use Rattle.blocking_laws.specs.Seats.{waker_in}
 use Rattle.blocking_laws.specs.declared.event.Act.{Act}
 use Rattle.blocking_laws.specs.declared.event.Act.TheVariants.{Taken, JobClosed, Finished}
+use Rattle.blocking_lanes.specs.Passages.{Goods, OfBytes, closed_by_owner, closed_by_job}
 use Rattle.blocking_lanes.specs.Reads.{Progress, progress_with}
 use Rattle.blocking_lanes.specs.Writes as writes
 use Rattle.blocking_pool.specs.Jobs.{JobNumber}
 
--- A session: the number of its job, the pipe of bytes, and the slot in which the handle comes back with the fault of the job. Wakers are
--- told as units.
+-- A session: the number of its job, what passes through its pipe, the pipe itself, and the slot in which the handle comes back with the fault
+-- of the job. Wakers are told as units.
 pub record Session : Type 0 where
   pub number : JobNumber
+  pub goods : Goods
   pub pipe : Pipe ℕ (Unit {0})
   pub slot : Slot (Option (Fault ℕ)) (Unit {0})
 
--- a session that begins, with this job and a pipe for so many bytes
-abbrev pub new_session : JobNumber → ℕ → Session
-new_session number capacity = record { number = number; pipe = empty_pipe capacity; slot = empty_slot }
+-- what passes through the pipe of a session of this kind
+abbrev pub goods_of : Kind → Goods
+goods_of kind = OfBytes
+
+-- a session that begins, with this job and a pipe for so many bytes or items
+abbrev pub new_session : JobNumber → Goods → ℕ → Session
+new_session number goods capacity = record { number = number; goods = goods; pipe = empty_pipe capacity; slot = empty_slot }
 
 -- ---- its owner acts
 
@@ -40,7 +46,7 @@ serial_of (Some number) = Some number.serial
 
 -- the session after its owner closed its end of the pipe
 abbrev pub session_after_close : Session → Session
-session_after_close session = record session { pipe = record session.pipe { is_owner_open = false; job_seat = None } }
+session_after_close session = record session { pipe = closed_by_owner session.pipe }
 
 -- how many bytes come out where the owner wants at most so many, one at least: as many as are inside
 abbrev pub reach : ℕ → Session → ℕ
@@ -117,7 +123,7 @@ abbrev pub finish_wakes : Option (Fault ℕ) → Session → Bool
 finish_wakes why session = is_some (put_in session.slot why).wake
 
 abbrev pub session_after_job_close : Session → Session
-session_after_job_close session = record session { pipe = record session.pipe { is_job_open = false; owner_seat = None } }
+session_after_job_close session = record session { pipe = closed_by_job session.pipe }
 
 abbrev pub session_after_finish : Option (Fault ℕ) → Session → Session
 session_after_finish why session = record session { slot = after_put session.slot why }

@@ -5,11 +5,12 @@ ghost use Rattle.blocking_lanes.specs.Sessions.{serial_of};
 ghost use Rattle.blocking_lanes.specs.Owners.{poll_call_of, reply_as};
 
 use crate::job::SessionJob;
+use crate::passage::Passage;
 use crate::read::ReadProgress;
 use crate::session::{Entered, Found, Looked, Session};
 use crate::write::WriteProgress;
 use blocking_core::job::{ReadAction, WriteAction};
-use blocking_core::pipe::{BytePipe, DEFAULT_BYTES, Pipe};
+use blocking_core::pipe::{DEFAULT_BYTES, Pipe};
 use blocking_core::pool::{JobNo, Refusal, WakeNote};
 use blocking_core::unblock::{OwnerAction, OwnerAnswer, OwnerCall, PollCall, Reply, State};
 use blocking_laws::event::{Act, HolderWaker, Reply as Told};
@@ -110,7 +111,8 @@ fn told(reply: Reply<u64>) -> Option<Told>
 impl Owner {
     ghost use Rattle.std.specs.Prelude.{vec_len, IfOk, OnErr, Some};
     ghost use Rattle.blocking_core.specs.Pipes.{empty_pipe};
-    ghost use Rattle.blocking_lanes.specs.Owners.{new_owner, capacity_of, is_resting, is_gone, note_at, next_of, number_of, bytes_in, rests};
+    ghost use Rattle.blocking_lanes.specs.Passages.{goods_in, pipe_in};
+    ghost use Rattle.blocking_lanes.specs.Owners.{new_owner, capacity_of, goods_asked, is_resting, is_gone, note_at, next_of, number_of, bytes_in, rests};
     ghost use Rattle.blocking_lanes.specs.Owners.{owner_after_ask, did, did_in, reply_did, IsDid, goes_on, reach_in};
     ghost use Rattle.blocking_lanes.specs.Owners.{owner_after_begin, owner_after_refusal, owner_after_delivery, owner_after_drop};
     ghost use Rattle.blocking_lanes.specs.Owners.{may_ask, may_ask_at, front_in, fill_did_in, drop_did, new_job_of, worked, IsWorked, give_up_act, owner_after_give_up};
@@ -128,16 +130,17 @@ impl Owner {
         }
     }
 
-    /// An empty pipe for a session of this owner. Err where there is no memory for it.
-    pub fn pipe(&self, alloc: Global) -> Result<BytePipe<()>, AllocError>
-        ensures { IfOk result (λ pipe. pipe ≡ empty_pipe (capacity_of self.now)) }
+    /// An empty pipe for the session that its poll begins. Err where there is no memory for it.
+    pub fn passage(&self, alloc: Global) -> Result<Passage, AllocError>
+        ensures goods { IfOk result (λ passage. goods_in passage ≡ goods_asked self.now) }
+        ensures pipe { IfOk result (λ passage. pipe_in passage ≡ empty_pipe (capacity_of self.now)) }
     {
         let capacity = if self.capacity == 0 {
             DEFAULT_BYTES
         } else {
             self.capacity
         };
-        Pipe::new(alloc, capacity)
+        Ok(Passage::Bytes(Pipe::new(alloc, capacity)?))
     }
 
     /// Whether it may be dropped: it is there, and no poll of it is under way.
@@ -317,6 +320,9 @@ impl Owner {
         let Some(session) = &mut self.session else {
             return None;
         };
+        if !session.is_of_bytes() {
+            return None;
+        }
         let mut poll = poll;
         match session.drain(room) {
             Found::Bytes(bytes, note) => {
@@ -351,7 +357,7 @@ impl Owner {
         let Some(session) = &mut self.session else {
             return None;
         };
-        if bytes.as_slice().is_empty() {
+        if bytes.as_slice().is_empty() || !session.is_of_bytes() {
             return None;
         }
         let mut poll = poll;
@@ -432,12 +438,12 @@ impl Owner {
     }
 
     /// A session began, with this job and this pipe, which is empty.
-    pub fn begin(&mut self, number: JobNo, pipe: BytePipe<()>)
-        ensures { self.new ≡ owner_after_begin number pipe self.old }
+    pub fn begin(&mut self, number: JobNo, passage: Passage)
+        ensures { self.new ≡ owner_after_begin number (goods_in passage) (pipe_in passage) self.old }
     {
         if let OwnerStage::Polls(poll) = &mut self.stage {
             poll.answer(OwnerAnswer::Begun);
-            self.session = Some(Session::new(number, pipe));
+            self.session = Some(Session::new(number, passage));
         }
     }
 

@@ -10,7 +10,7 @@ use Rattle.blocking_laws.specs.JobTable.{Kind, Reading, Writing, JobAction, Find
 use Rattle.blocking_laws.specs.Sessions as sessions
 use Rattle.blocking_laws.specs.declared.event.Act.{Act}
 use Rattle.blocking_lanes.specs.OwnerTies.{SessionAs, SlotAs, Flows, IsStuckIn, IsOwnerStuckIn, Passed, passed_by, PassedAs, Wrote, wrote_by, WrittenAs, IsDrained, IsDone}
-use Rattle.blocking_lanes.specs.Sessions.{Session, new_session, session_after_close, session_after_drain, session_after_look}
+use Rattle.blocking_lanes.specs.Sessions.{Session, goods_of, new_session, session_after_close, session_after_drain, session_after_look}
 use Rattle.blocking_pool.specs.Jobs.{JobNumber}
 
 -- ---- what a drain finds
@@ -161,7 +161,7 @@ module _ (s : Session) (kind : Kind) (capacity : ℕ) (last : Option sessions.Se
   pub shuts : SessionAs s kind capacity last shut back dropped took accepted acts js ps ss
       → SessionAs (session_after_close s) kind capacity last true back dropped took accepted acts false ps ss
   shuts t = record {
-    lent = record { begun = t.lent.begun; some = t.lent.some; holds = t.lent.holds; within = t.lent.within; shut_is = refl };
+    lent = record { begun = t.lent.begun; goods = t.lent.goods; some = t.lent.some; holds = t.lent.holds; within = t.lent.within; shut_is = refl };
     flow = shut_flow s kind shut took accepted (next_but_wake kind acts) acts t.flow;
     result = t.result;
     seats = record {
@@ -183,7 +183,7 @@ module _ (s : Session) (kind : Kind) (capacity : ℕ) (last : Option sessions.Se
       let slot = subst (λ c. SlotAs c (has_finished acts) (has_given_up acts) back (fault kind acts)) found t.result.slot in
       let emptied : Slot (Option (Fault ℕ)) (Unit {0}) = record s.slot { content = Empty } in
       record {
-        lent = record { begun = t.lent.begun; some = t.lent.some; holds = t.lent.holds; within = t.lent.within; shut_is = t.lent.shut_is };
+        lent = record { begun = t.lent.begun; goods = t.lent.goods; some = t.lent.some; holds = t.lent.holds; within = t.lent.within; shut_is = t.lent.shut_is };
         flow = same_flow s emptied kind shut took accepted (next_but_wake kind acts) acts t.flow;
         result = record { slot = (slot.0, slot.1); over_is = t.result.over_is; let_go = t.result.let_go };
         seats = record {
@@ -205,7 +205,7 @@ module _ (s : Session) (kind : Kind) (capacity : ℕ) (last : Option sessions.Se
   waits_for_it found closed t =
       let sat : Slot (Option (Fault ℕ)) (Unit {0}) = record s.slot { seat = Some tt } in
       record {
-        lent = record { begun = t.lent.begun; some = t.lent.some; holds = t.lent.holds; within = t.lent.within; shut_is = t.lent.shut_is };
+        lent = record { begun = t.lent.begun; goods = t.lent.goods; some = t.lent.some; holds = t.lent.holds; within = t.lent.within; shut_is = t.lent.shut_is };
         flow = same_flow s sat kind shut took accepted (next_but_wake kind acts) acts t.flow;
         result = t.result;
         seats = record {
@@ -233,7 +233,7 @@ module _ (s : Session) (capacity : ℕ) (last : Option sessions.Session) (shut b
       let bounded = t.flow.bounded in
       let shorter : length (drop (length got.0) s.pipe.items) ≤ length s.pipe.items = simp length-drop (omega arith) in
       record {
-        lent = record { begun = t.lent.begun; some = t.lent.some; holds = t.lent.holds; within = omega (arith, shorter, within); shut_is = t.lent.shut_is };
+        lent = record { begun = t.lent.begun; goods = t.lent.goods; some = t.lent.some; holds = t.lent.holds; within = omega (arith, shorter, within); shut_is = t.lent.shut_is };
         flow = record {
           closed_is = t.flow.closed_is;
           inside = t.flow.inside ∙ ap (λ l. took ++ l) (sym (rejoined n s.pipe.items got.0 f.0)) ∙ sym (append_assoc took got.0 (drop (length got.0) s.pipe.items));
@@ -267,7 +267,7 @@ module _ (s : Session) (capacity : ℕ) (last : Option sessions.Session) (shut b
   pub waits : (n : ℕ) → drain n s.pipe.items s.pipe.is_job_open s.pipe.job_seat ≡ Waiting
       → SessionAs s Reading capacity last shut back dropped took accepted acts js ps ss → SessionAs (session_after_drain Waiting s) Reading capacity last shut back dropped took accepted acts js true ss
   waits n found t = record {
-    lent = record { begun = t.lent.begun; some = t.lent.some; holds = t.lent.holds; within = t.lent.within; shut_is = t.lent.shut_is };
+    lent = record { begun = t.lent.begun; goods = t.lent.goods; some = t.lent.some; holds = t.lent.holds; within = t.lent.within; shut_is = t.lent.shut_is };
     flow = record { closed_is = t.flow.closed_is; inside = t.flow.inside; put = t.flow.put; bounded = t.flow.bounded; passed_is = t.flow.passed_is; unclosed = t.flow.unclosed; unwritten = t.flow.unwritten };
     result = t.result;
     seats = record {
@@ -297,9 +297,9 @@ lends s shut got accepted next acts Writing flow = tt
 lends s shut got accepted next acts _ flow = absurd flow
 
 pub begins : (number : JobNumber) (kind : Kind) (capacity : ℕ) (dropped : Bool) → IsLending kind → 0 < capacity
-    → SessionAs (new_session number capacity) kind capacity (Some (record { serial = number.serial; kind = kind })) false false dropped [] [] [] false false false
+    → SessionAs (new_session number (goods_of kind) capacity) kind capacity (Some (record { serial = number.serial; kind = kind })) false false dropped [] [] [] false false false
 begins number Reading capacity dropped lending some = record {
-  lent = record { begun = refl; some = some; holds = refl; within = omega arith; shut_is = refl };
+  lent = record { begun = refl; goods = refl; some = some; holds = refl; within = omega arith; shut_is = refl };
   flow = record { closed_is = refl; inside = refl; put = ([], refl); bounded = omega arith; passed_is = (refl, (refl, refl)); unclosed = λ is. absurd (cc); unwritten = refl };
   result = record { slot = (refl, refl); over_is = refl; let_go = λ is. absurd (cc) };
   seats = record {
@@ -310,7 +310,7 @@ begins number Reading capacity dropped lending some = record {
   };
 }
 begins number Writing capacity dropped lending some = record {
-  lent = record { begun = refl; some = some; holds = refl; within = omega arith; shut_is = refl };
+  lent = record { begun = refl; goods = refl; some = some; holds = refl; within = omega arith; shut_is = refl };
   flow = record {
     closed_is = refl;
     out = [];

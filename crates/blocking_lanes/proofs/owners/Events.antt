@@ -23,6 +23,7 @@ use Rattle.blocking_laws.specs.declared.step.HandleCall.TheVariants as handle_ca
 use Rattle.blocking_pool.specs.Jobs.{JobNumber}
 use Rattle.blocking_lanes.specs.Owners.{Owner, Did, Worked, note_at, drain_did, fill_did, fill_did_in, look_did, looked_as, reply_as, reply_did, did_in, did_by, did, worked_by, read_in, read_as, write_in, write_as, worked}
 use Rattle.blocking_lanes.specs.OwnerSteps.{OwnerStep, IsAsked, Acts, Begins, IsRefused, Delivers, IsDropped, Works, IsAnswered, GivesUp, CallsWaker, act_of, act_in, act_of_work, delivered}
+use Rattle.blocking_lanes.specs.Passages.{OfBytes, through}
 use Rattle.blocking_lanes.specs.Reads as reads
 use Rattle.blocking_lanes.specs.Writes as writes
 use Rattle.blocking_lanes.specs.Sessions.{Session, Work, work_by, work_at_put, writer_works, work_of_consume, holds, fits_in, found_room, found_put, found_piece, drained, filled, reach, session_after_look}
@@ -30,6 +31,7 @@ use Rattle.blocking_lanes.specs.declared.job.SessionJob.{SessionJob}
 use Rattle.blocking_lanes.specs.declared.job.SessionJob.TheVariants as of_job
 use Rattle.blocking_lanes.specs.declared.owner.OwnerStage.{OwnerStage}
 use Rattle.blocking_lanes.specs.declared.owner.OwnerStage.TheVariants as stage
+use Rattle.blocking_lanes.proofs.owners.Goods.{through_some}
 use Rattle.blocking_lanes.proofs.owners.OwnerActs.{value_of}
 
 -- Such an act is seen, and accepts these jobs.
@@ -60,7 +62,7 @@ plain_fill bytes Closed p s owner = record { pool = refl; nothing = refl; made =
 
 plain_fills : (p : OwnerMachine ℕ) (asked : Option HandleCall) (last : Option Session) (owner : Owner) (done : Did) → fill_did_in p asked last owner ≡ Some done → IsPlain [] done.act
 plain_fills p (Some (handle_call.Write (byte ∷ bytes))) (Some s) owner done e =
-    moved (λ (d : Did). IsPlain [] d.act) _ done e (plain_fill (byte ∷ bytes) (filled (length (byte ∷ bytes)) s) p s owner)
+    moved (λ (d : Did). IsPlain [] d.act) _ done (through_some OfBytes s.goods _ done e).1 (plain_fill (byte ∷ bytes) (filled (length (byte ∷ bytes)) s) p s owner)
 plain_fills p (Some (handle_call.Write (byte ∷ bytes))) None owner done e = absurd (cc)
 plain_fills p (Some (handle_call.Write [])) last owner done e = absurd (cc)
 plain_fills p (Some _) last owner done e = absurd (cc)
@@ -82,7 +84,7 @@ plain_did (action.Reply r) p last owner done e = by_told (reply_as r) e
 plain_did (action.Fill most) p last owner done e = plain_fills p owner.asked last owner done e
 plain_did action.DropHandle p last owner done e = moved (λ (d : Did). IsPlain [] d.act) _ done e (record { pool = refl; nothing = refl; made = refl; new = refl })
 plain_did action.Close p (Some s) owner done e = moved (λ (d : Did). IsPlain [] d.act) _ done e (record { pool = refl; nothing = refl; made = refl; new = refl })
-plain_did (action.Drain most) p (Some s) owner done e = moved (λ (d : Did). IsPlain [] d.act) _ done e (plain_drain (drained (reach most s) s) p s owner)
+plain_did (action.Drain most) p (Some s) owner done e = moved (λ (d : Did). IsPlain [] d.act) _ done (through_some OfBytes s.goods _ done e).1 (plain_drain (drained (reach most s) s) p s owner)
 plain_did action.PollSlot p (Some s) owner done e = plain_look s.slot.content p (session_after_look s.slot.content s) owner done e
 plain_did _ p None owner done e = absurd (cc)
 plain_did _ p (Some s) owner done e = absurd (cc)
@@ -137,7 +139,7 @@ plain_by job_of (Some work) owner done plain e = moved (λ (d : Worked). IsPlain
 
 plain_in : (a : ReadAction) (last : Option Session) (p : reads.Progress) (owner : Owner) (done : Worked) → read_in a last p owner ≡ Some done → IsPlain [] done.act
 plain_in a None p owner done e = absurd (cc)
-plain_in a (Some s) p owner done e = plain_by of_job.Read (work_by a p s) owner done (plain_work a p s) e
+plain_in a (Some s) p owner done e = plain_by of_job.Read (through OfBytes s.goods (work_by a p s)) owner done (λ work does. plain_work a p s work (through_some OfBytes s.goods (work_by a p s) work does).1) e
 
 plain_read : (a : ReadAction) (p : reads.Progress) (owner : Owner) (done : Worked) → read_as a p owner ≡ Some done → IsPlain [] done.act
 plain_read read.Deliver p owner done e = moved (λ (d : Worked). IsPlain [] d.act) _ done e (record { pool = refl; nothing = refl; made = refl; new = refl })
@@ -150,7 +152,7 @@ plain_read read.Done p owner done e = plain_in read.Done owner.session p owner d
 
 plain_out : (a : WriteAction) (last : Option Session) (p : writes.Progress) (owner : Owner) (done : Worked) → write_in a last p owner ≡ Some done → IsPlain [] done.act
 plain_out a None p owner done e = absurd (cc)
-plain_out a (Some s) p owner done e = plain_by of_job.Write (writer_works a p s) owner done (plain_writer a p s) e
+plain_out a (Some s) p owner done e = plain_by of_job.Write (through OfBytes s.goods (writer_works a p s)) owner done (λ work does. plain_writer a p s work (through_some OfBytes s.goods (writer_works a p s) work does).1) e
 
 plain_write : (a : WriteAction) (p : writes.Progress) (owner : Owner) (done : Worked) → write_as a p owner ≡ Some done → IsPlain [] done.act
 plain_write write.Deliver p owner done e = moved (λ (d : Worked). IsPlain [] d.act) _ done e (record { pool = refl; nothing = refl; made = refl; new = refl })

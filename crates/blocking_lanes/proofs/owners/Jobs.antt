@@ -17,6 +17,7 @@ use Rattle.blocking_laws.specs.Seats.{waker_in}
 use Rattle.blocking_laws.specs.declared.event.Act.{Act}
 use Rattle.blocking_laws.specs.declared.event.Act.TheVariants.{RoomFree, RoomShut, JobParked, Put, Lost, Drained, Taken as TakenOut, JobClosed, Finished}
 use Rattle.blocking_lanes.specs.Owners.{Owner, Worked, worked, worked_by, read_in, read_as, write_in, write_as}
+use Rattle.blocking_lanes.specs.Passages.{OfBytes, through}
 use Rattle.blocking_lanes.specs.Reads as reads
 use Rattle.blocking_lanes.specs.Reads.{ReadAs}
 use Rattle.blocking_lanes.specs.SessionJobs.{JobAs}
@@ -25,6 +26,7 @@ use Rattle.blocking_lanes.specs.Writes as writes
 use Rattle.blocking_lanes.specs.Writes.{WriteAs}
 use Rattle.blocking_lanes.specs.declared.job.SessionJob.{SessionJob}
 use Rattle.blocking_lanes.specs.declared.job.SessionJob.TheVariants as of_job
+use Rattle.blocking_lanes.proofs.owners.Goods.{through_some}
 use Rattle.blocking_lanes.proofs.owners.OwnerActs.{value_of}
 use Rattle.blocking_lanes.proofs.owners.ReadJobs as of_reader
 use Rattle.blocking_lanes.proofs.owners.ReadSessions.{some_room}
@@ -161,12 +163,12 @@ at_work J of acts owner (Some work) so done does = subst (λ (d : Worked). JobAs
 read_goes : (p : reads.Progress) (acts : List Act) (last : Option Session) (owner : Owner) → ReadAs p acts → (a : ReadAction) → read_next p.core ≡ a
     → (done : Worked) → read_in a last p owner ≡ Some done → JobAs done.job (done.act ∷ acts)
 read_goes p acts None owner r a is done does = absurd (cc)
-read_goes p acts (Some s) owner r a is done does = at_work reads.Progress of_job.Read acts owner (work_by a p s) (λ work e. reads_on p acts s r a is work e) done does
+read_goes p acts (Some s) owner r a is done does = at_work reads.Progress of_job.Read acts owner (through OfBytes s.goods (work_by a p s)) (λ work e. reads_on p acts s r a is work (through_some OfBytes s.goods (work_by a p s) work e).1) done does
 
 write_goes : (p : writes.Progress) (acts : List Act) (last : Option Session) (owner : Owner) → WriteAs p acts → (a : WriteAction) → write_next p.core ≡ a
     → (done : Worked) → write_in a last p owner ≡ Some done → JobAs done.job (done.act ∷ acts)
 write_goes p acts None owner r a is done does = absurd (cc)
-write_goes p acts (Some s) owner r a is done does = at_work writes.Progress of_job.Write acts owner (writer_works a p s) (λ work e. writes_on p acts s r a is work e) done does
+write_goes p acts (Some s) owner r a is done does = at_work writes.Progress of_job.Write acts owner (through OfBytes s.goods (writer_works a p s)) (λ work e. writes_on p acts s r a is work (through_some OfBytes s.goods (writer_works a p s) work e).1) done does
 
 -- how far it is after what it does next by itself
 pub worked_on : (p : SessionJob) (acts : List Act) (owner : Owner) (done : Worked) → JobAs p acts → worked p owner ≡ Some done → JobAs done.job (done.act ∷ acts)

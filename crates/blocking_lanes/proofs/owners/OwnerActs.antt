@@ -47,6 +47,7 @@ use Rattle.blocking_pool.specs.Jobs.{JobNumber}
 use Rattle.blocking_lanes.specs.Owners.{Owner, Did, capacity_of, note_at, goes_on, close_did, drain_did, fill_did, fill_did_in, drop_did, look_did, looked_as, poll_call_of, reply_as, reply_did, did_in, did_by, did, is_gone}
 use Rattle.blocking_lanes.specs.OwnerSteps.{by_owner}
 use Rattle.blocking_lanes.specs.OwnerTies.{OwnerAs, SlotAs, Passed, passed_by, PassedAs, GaveAll, WrittenAs, wrote_by, PollAs, FitsNext, IsGoneBy, IsLentOpen, LooksFrom, EndAs, StageBy, SessionAs, IsAtEnd, called_at, kind_as, state_as, say, action_as, seat_of}
+use Rattle.blocking_lanes.specs.Passages.{OfBytes}
 use Rattle.blocking_lanes.specs.Sessions.{Session, serial_of, reach, drained, filled, session_after_close, session_after_drain, session_after_fill, session_after_look}
 use Rattle.blocking_lanes.specs.declared.owner.OwnerStage.{OwnerStage}
 use Rattle.blocking_lanes.specs.declared.owner.OwnerStage.TheVariants as stage
@@ -54,6 +55,7 @@ use Rattle.blocking_lanes.proofs.owners.Known.{known_call}
 use Rattle.blocking_lanes.proofs.owners.Cuts.{not_not, next_with, inside_is, room_is, lasts_is, open_is, noted_is, its_job, drain_act, drain_seen}
 use Rattle.blocking_lanes.proofs.owners.Fills.{fills, fill_waits, filled_some, filled_note, fill_act, fill_seen}
 use Rattle.blocking_lanes.proofs.owners.Drains.{shuts, takes, waits, returns, waits_for_it, front, at_end, reached}
+use Rattle.blocking_lanes.proofs.owners.Goods.{through_some}
 use Rattle.blocking_lanes.proofs.owners.States.{IsThere, is_away, gone_is, lent_at, lent_by, is_there, piped}
 
 -- an owner by its parts
@@ -593,7 +595,7 @@ module _ (bytes : ℕ) (asked : Option HandleCall) (p : OwnerMachine ℕ) (s : S
 
   reads_end : (c : HandleCall) (st : State) → LooksFrom c st true → (is_read c ≡ true) × (st ≡ state.Lent session_kind.Reading Open)
   reads_end (handle_call.Read most) (state.Lent session_kind.Reading Open) looks = (refl, refl)
-  reads_end c (state.Lent kind Shut) looks = absurd looks
+  reads_end c (state.Lent _ Shut) looks = absurd looks
   reads_end c state.Idle looks = absurd looks
   reads_end c state.Closed looks = absurd looks
   reads_end _ (state.Lent _ Open) looks = absurd looks
@@ -857,7 +859,7 @@ own_fills : (bytes : ℕ) (asked : Option HandleCall) (p : OwnerMachine ℕ) (h 
     → Goes done.owner cut (by_owner h done.act first growth)
 own_fills bytes (Some (handle_call.Write (byte ∷ more))) p h first growth cut done most (Some s) is t does =
     let asks = Some (handle_call.Write (byte ∷ more)) in
-    subst (λ (d : Did). Goes d.owner cut (by_owner h d.act first growth)) (ap (value_of done) does)
+    subst (λ (d : Did). Goes d.owner cut (by_owner h d.act first growth)) (ap (value_of done) (through_some OfBytes s.goods _ done does).1)
     (fill_goes bytes asks p s h first growth cut (byte ∷ more) t (fills_so bytes asks p s h first growth cut (byte ∷ more) most refl is t) (filled (length (byte ∷ more)) s) refl)
 own_fills bytes (Some (handle_call.Write (byte ∷ more))) p h first growth cut done most None is t does = absurd (cc)
 own_fills bytes (Some (handle_call.Write [])) p h first growth cut done most last is t does = absurd (cc)
@@ -879,7 +881,7 @@ own_by bytes asked p h first growth cut done action.DropHandle last is t does =
 own_by bytes asked p h first growth cut done action.Close (Some s) is t does =
     subst (λ (d : Did). Goes d.owner cut (by_owner h d.act first growth)) (ap (value_of done) does) (close_goes bytes asked p s h first growth cut is t)
 own_by bytes asked p h first growth cut done (action.Drain most) (Some s) is t does =
-    subst (λ (d : Did). Goes d.owner cut (by_owner h d.act first growth)) (ap (value_of done) does)
+    subst (λ (d : Did). Goes d.owner cut (by_owner h d.act first growth)) (ap (value_of done) (through_some OfBytes s.goods _ done does).1)
     (drain_goes bytes asked p s h first growth cut most is t (drained (reach most s) s) refl)
 own_by bytes asked p h first growth cut done action.PollSlot (Some s) is t does = look_goes bytes asked p s h first growth cut is t s.slot.content refl done does
 own_by bytes asked p h first growth cut done _ None is t does = absurd (cc)

@@ -43,7 +43,7 @@ use Rattle.blocking_pool.specs.declared.pool.answer.Woke.{Woke}
 use Rattle.blocking_lanes.specs.Owners.{poll_call_of, may_call_at}
 use Rattle.blocking_lanes.specs.OwnerSteps.{by_owner}
 use Rattle.blocking_lanes.specs.OwnerTies.{OwnerAs, FitsNext, BeginsBy, LastAs, SessionAs, SlotAs, kind_as, is_end_open, state_as, action_as, newest_note}
-use Rattle.blocking_lanes.specs.Sessions.{Session, new_session}
+use Rattle.blocking_lanes.specs.Sessions.{Session, goods_of, new_session}
 use Rattle.blocking_lanes.specs.declared.owner.OwnerStage.TheVariants as stage
 use Rattle.blocking_lanes.proofs.owners.Cuts.{next_with, next_stays, kind_of_last}
 use Rattle.blocking_lanes.proofs.owners.Known.{gone_known, may_ask_known}
@@ -388,7 +388,7 @@ begins_by _ p back begins end = absurd begins
 
 pub begin_goes : (bytes : ℕ) (asked : Option HandleCall) (p : OwnerMachine ℕ) (last : Option Session) (h first : ℕ) (growth : Growth) (cut : List Event) (number : JobNumber) → p.next ≡ action.Begin
     → is_in number.serial (jobs_of (own cut)) ≡ false → acts_of number.serial cut ≡ [] → OwnerAs (owner_by_parts bytes asked (stage.Polls p) last) cut
-    → Goes (owner_by_parts bytes asked (stage.Polls (owner_after p by.Begun)) (Some (new_session number (bound bytes)))) cut (by_owner h (Accepted number.serial) first growth)
+    → Goes (owner_by_parts bytes asked (stage.Polls (owner_after p by.Begun)) (Some (new_session number (goods_of (kind_of asked)) (bound bytes)))) cut (by_owner h (Accepted number.serial) first growth)
 begin_goes bytes asked p last h first growth cut number is fresh quiet t =
     let c = t.stage.0.call in
     let fits = fits_at bytes asked p cut last action.Begin t is in
@@ -403,7 +403,7 @@ begin_goes bytes asked p last h first growth cut number is fresh quiet t =
     let opened : sessions.state_by (sessions.is_closed (own cut)) began false ≡ sessions.In (kind_of (Some c)) true =
     ap (λ b. sessions.state_by b began false) (gone_is (own cut) p.state t.stage.0.at_is ∙ there) ∙ ap (λ k. sessions.In k true) kind in
     let idle = lent_by (own cut) p.state there t.stage.0.at_is ∙ ap state_as fits.1 in
-    let s = new_session number (bound bytes) in
+    let s = new_session number (goods_of (kind_of asked)) (bound bytes) in
     subst (λ (m : OwnerMachine ℕ). Goes (owner_by_parts bytes asked (stage.Polls m) (Some s)) cut e) (sym same)
     (record {
       acts = subst (λ n. Polls cut n (Accepted number.serial)) (sym (lawful bytes asked p cut last action.Begin t is)) fresh;

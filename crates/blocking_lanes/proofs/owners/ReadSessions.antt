@@ -228,7 +228,7 @@ module _ (s : Session) (kind : Kind) (capacity : ℕ) (last : Option sessions.Se
   closes waker t =
       let none = (going s.slot.content (has_finished acts) (has_given_up acts) back dropped (fault kind acts) t.result).stays in
       record {
-        lent = record { begun = t.lent.begun; some = t.lent.some; holds = t.lent.holds; within = t.lent.within; shut_is = t.lent.shut_is };
+        lent = record { begun = t.lent.begun; goods = t.lent.goods; some = t.lent.some; holds = t.lent.holds; within = t.lent.within; shut_is = t.lent.shut_is };
         flow = closed_flow s kind shut took accepted acts waker t.flow;
         result = t.result;
         seats = record {
@@ -253,7 +253,7 @@ module _ (s : Session) (kind : Kind) (capacity : ℕ) (last : Option sessions.Se
       let full = ap (λ (l : Slot (Option (Fault ℕ)) (Unit {0})). l.content) put in
       let out = ap (λ (l : Slot (Option (Fault ℕ)) (Unit {0})). l.seat) put in
       record {
-        lent = record { begun = t.lent.begun; some = t.lent.some; holds = t.lent.holds; within = t.lent.within; shut_is = t.lent.shut_is };
+        lent = record { begun = t.lent.begun; goods = t.lent.goods; some = t.lent.some; holds = t.lent.holds; within = t.lent.within; shut_is = t.lent.shut_is };
         flow = finished_flow s (slot_after s.slot.content s.slot.seat why) kind shut took accepted acts waker t.flow;
         result = record {
           slot = subst (λ c. SlotAs c true (has_given_up acts) back (fault kind acts)) (sym full) (refl, none, g.lent, same);
@@ -283,7 +283,7 @@ module _ (s : Session) (kind : Kind) (capacity : ℕ) (last : Option sessions.Se
       let full = ap (λ (l : Slot (Option (Fault ℕ)) (Unit {0})). l.content) given in
       let out = ap (λ (l : Slot (Option (Fault ℕ)) (Unit {0})). l.seat) given in
       record {
-        lent = record { begun = t.lent.begun; some = t.lent.some; holds = t.lent.holds; within = t.lent.within; shut_is = t.lent.shut_is };
+        lent = record { begun = t.lent.begun; goods = t.lent.goods; some = t.lent.some; holds = t.lent.holds; within = t.lent.within; shut_is = t.lent.shut_is };
         flow = left_flow s (slot_without_job s.slot.content s.slot.seat) kind shut took accepted (next_but_wake kind acts) acts waker t.flow;
         result = record {
           slot = subst (λ c. SlotAs c (has_finished acts) true back (fault kind acts)) (sym full) (g.unfinished, refl, g.lent);
@@ -366,7 +366,7 @@ module _ (s : Session) (capacity : ℕ) (last : Option sessions.Session) (shut b
   parks found e t =
       let full = no_room (room s.pipe) s.pipe.is_owner_open found in
       record {
-        lent = record { begun = t.lent.begun; some = t.lent.some; holds = t.lent.holds; within = t.lent.within; shut_is = t.lent.shut_is };
+        lent = record { begun = t.lent.begun; goods = t.lent.goods; some = t.lent.some; holds = t.lent.holds; within = t.lent.within; shut_is = t.lent.shut_is };
         flow = record { closed_is = t.flow.closed_is; inside = t.flow.inside; put = t.flow.put; bounded = t.flow.bounded; passed_is = t.flow.passed_is; unclosed = t.flow.unclosed; unwritten = t.flow.unwritten };
         result = t.result;
         seats = record {
@@ -476,6 +476,7 @@ module _ (s : Session) (capacity : ℕ) (last : Option sessions.Session) (shut b
       record {
         lent = record {
           begun = t.lent.begun;
+          goods = t.lent.goods;
           some = t.lent.some;
           holds = t.lent.holds;
           within = rw length-append (omega (arith, within, holds, fits));

@@ -35,6 +35,7 @@ use Rattle.blocking_pool.specs.Lists.{is_in}
 use Rattle.blocking_lanes.specs.Owners.{Owner, Did, Worked, capacity_of, may_call_at, is_gone, next_at, next_by, next_to_say, reply_as, did, read_as, read_in, write_as, write_in, worked, worked_by, giving_up_wakes, without_job}
 use Rattle.blocking_lanes.specs.OwnerSteps.{OwnerStep, IsAsked, Acts, Begins, IsRefused, Delivers, IsDropped, Works as DoesWork, IsAnswered, GivesUp, CallsWaker, MayTake, act_in, act_of, act_of_work, owner_in, owner_after, owner_after_work, event_by, by_owner, by_its_job, is_of_its_job}
 use Rattle.blocking_lanes.specs.OwnerTies.{OwnerAs, StageBy, LastAs, SessionAs, newest_note}
+use Rattle.blocking_lanes.specs.Passages.{OfBytes, through}
 use Rattle.blocking_lanes.specs.Reads as reads
 use Rattle.blocking_lanes.specs.Reads.{ReadAs}
 use Rattle.blocking_lanes.specs.SessionJobs.{JobAs, action_of, kind_of}
@@ -46,6 +47,7 @@ use Rattle.blocking_lanes.specs.declared.job.SessionJob.TheVariants as of_job
 use Rattle.blocking_lanes.specs.declared.owner.OwnerNext.TheVariants as next
 use Rattle.blocking_lanes.specs.declared.owner.OwnerStage.{OwnerStage}
 use Rattle.blocking_lanes.specs.declared.owner.OwnerStage.TheVariants as stage
+use Rattle.blocking_lanes.proofs.owners.Goods.{through_some, through_none}
 use Rattle.blocking_lanes.proofs.owners.Cuts.{its_kind, kind_is, next_stays, passes}
 use Rattle.blocking_lanes.proofs.owners.JobActs.{WorksOn, room_works, put_works, close_works, finish_works, answer_goes, give_up_goes, peek_works, consume_works, writer_close_works, writer_finish_works, writer_answer_goes, asking_goes}
 use Rattle.blocking_lanes.proofs.owners.Known.{both_true}
@@ -204,14 +206,15 @@ module _ (bytes : ℕ) (asked : Option HandleCall) (here : OwnerStage) (h v firs
           let s = l.session in
           let tied = subst (λ o. OwnerAs (owner_by_parts bytes asked here o) cut) l.here t in
           subst (λ m. WorkGoes m done) (sym l.same)
-          (does_so reads.Progress of_job.Read s tied (work_by a p s)
+          (does_so reads.Progress of_job.Read s tied (through OfBytes s.goods (work_by a p s))
           (λ work works.
           reader_at s tied p (subst (λ m. ReadAs p (acts_of m cut)) l.same r) (kind_at s tied Reading (subst (λ m. kind_of_job m (own cut) ≡ Reading) l.same of))
-          (subst (λ m. is_in m (jobs_of (own cut)) ≡ true) l.same among) a is work works) done (subst (λ o. read_in a o p (owner_by_parts bytes asked here o) ≡ Some done) l.here does))
+          (subst (λ m. is_in m (jobs_of (own cut)) ≡ true) l.same among) a is work (through_some OfBytes s.goods (work_by a p s) work works).1) done (subst (λ o. read_in a o p (owner_by_parts bytes asked here o) ≡ Some done) l.here does))
 
       none_at : (a : ReadAction) (last : Option Session) → ((s : Session) → work_by a p s ≡ None) → read_in a last p (owner_by_parts bytes asked here last) ≡ Some done → WorkGoes n done
       none_at a None none does = absurd (cc)
-      none_at a (Some s) none does = absurd (let never = ap (λ o. worked_by of_job.Read o (owner_by_parts bytes asked here (Some s))) (sym (none s)) ∙ does in cc)
+      none_at a (Some s) none does =
+          absurd (let never = ap (λ o. worked_by of_job.Read o (owner_by_parts bytes asked here (Some s))) (sym (through_none OfBytes s.goods (work_by a p s) (none s))) ∙ does in cc)
 
       by : (a : ReadAction) → read_next p.core ≡ a → read_as a p (owner_by_parts bytes asked here last) ≡ Some done → WorkGoes n done
       by read.FindRoom is does = there read.FindRoom is (λ e. cc) refl does
@@ -237,14 +240,15 @@ module _ (bytes : ℕ) (asked : Option HandleCall) (here : OwnerStage) (h v firs
           let s = l.session in
           let tied = subst (λ o. OwnerAs (owner_by_parts bytes asked here o) cut) l.here t in
           subst (λ m. WorkGoes m done) (sym l.same)
-          (does_so writes.Progress of_job.Write s tied (writer_works a p s)
+          (does_so writes.Progress of_job.Write s tied (through OfBytes s.goods (writer_works a p s))
           (λ work works.
           writer_at s tied p (subst (λ m. WriteAs p (acts_of m cut)) l.same r) (kind_at s tied Writing (subst (λ m. kind_of_job m (own cut) ≡ Writing) l.same of))
-          (subst (λ m. is_in m (jobs_of (own cut)) ≡ true) l.same among) a is work works) done (subst (λ o. write_in a o p (owner_by_parts bytes asked here o) ≡ Some done) l.here does))
+          (subst (λ m. is_in m (jobs_of (own cut)) ≡ true) l.same among) a is work (through_some OfBytes s.goods (writer_works a p s) work works).1) done (subst (λ o. write_in a o p (owner_by_parts bytes asked here o) ≡ Some done) l.here does))
 
       none_at : (a : WriteAction) (last : Option Session) → ((s : Session) → writer_works a p s ≡ None) → write_in a last p (owner_by_parts bytes asked here last) ≡ Some done → WorkGoes n done
       none_at a None none does = absurd (cc)
-      none_at a (Some s) none does = absurd (let never = ap (λ o. worked_by of_job.Write o (owner_by_parts bytes asked here (Some s))) (sym (none s)) ∙ does in cc)
+      none_at a (Some s) none does =
+          absurd (let never = ap (λ o. worked_by of_job.Write o (owner_by_parts bytes asked here (Some s))) (sym (through_none OfBytes s.goods (writer_works a p s) (none s))) ∙ does in cc)
 
       by : (a : WriteAction) → write_next p.core ≡ a → write_as a p (owner_by_parts bytes asked here last) ≡ Some done → WorkGoes n done
       by write.Peek is does = there write.Peek is (λ e. cc) refl does
