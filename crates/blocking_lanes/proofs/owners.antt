@@ -1,7 +1,9 @@
 pub mod ReadJobs
 pub mod WriteJobs
+pub mod SeekJobs
 pub mod ReadSessions
 pub mod WriteSessions
+pub mod SeekSessions
 pub mod Drains
 pub mod Fills
 pub mod Goods

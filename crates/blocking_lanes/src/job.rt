@@ -2,8 +2,9 @@
 ghost use Rattle.std.specs.Prelude.{◌≡◌};
 
 use crate::read::ReadProgress;
+use crate::seek::SeekProgress;
 use crate::write::WriteProgress;
-use blocking_core::job::{ReadAction, WriteAction};
+use blocking_core::job::{ReadAction, SeekAction, WriteAction};
 use blocking_laws::step::Answer;
 
 /// The job of a session, and how far it is.
@@ -13,6 +14,8 @@ pub enum SessionJob {
     Read(ReadProgress),
     /// It writes behind its owner.
     Write(WriteProgress),
+    /// It moves the handle to a position.
+    Seek(SeekProgress),
 }
 
 impl SessionJob {
@@ -29,6 +32,7 @@ impl SessionJob {
             SessionJob::Write(write) => {
                 matches!(write.next(), WriteAction::Write(_) | WriteAction::Flush)
             }
+            SessionJob::Seek(seek) => matches!(seek.next(), SeekAction::Seek),
         }
     }
 
@@ -39,6 +43,7 @@ impl SessionJob {
         match self {
             SessionJob::Read(read) => matches!(read.next(), ReadAction::Done),
             SessionJob::Write(write) => matches!(write.next(), WriteAction::Done),
+            SessionJob::Seek(seek) => matches!(seek.next(), SeekAction::Done),
         }
     }
 
@@ -49,6 +54,7 @@ impl SessionJob {
         match self {
             SessionJob::Read(read) => read.may_be_answered(answer),
             SessionJob::Write(write) => write.may_be_answered(answer),
+            SessionJob::Seek(seek) => seek.may_be_answered(answer),
         }
     }
 
@@ -59,6 +65,7 @@ impl SessionJob {
         match self {
             SessionJob::Read(read) => read.answer(answer),
             SessionJob::Write(write) => write.answer(answer),
+            SessionJob::Seek(seek) => seek.answer(answer),
         }
     }
 }

@@ -3,9 +3,10 @@ ghost use Rattle.std.specs.Prelude.{◌≡◌, ◌<◌, ◌≤◌, true, length,
 
 use crate::passage::Passage;
 use crate::read::ReadProgress;
+use crate::seek::SeekProgress;
 use crate::write::WriteProgress;
 use blocking_core::io::Fault;
-use blocking_core::job::{PIECE, ReadAction, ReadAnswer, WriteAction, WriteAnswer};
+use blocking_core::job::{PIECE, ReadAction, ReadAnswer, SeekAction, SeekAnswer, WriteAction, WriteAnswer};
 use blocking_core::pipe::{Answered, Drained, Filled, Peeked, Put, Room};
 use blocking_core::pool::{JobNo, WakeNote};
 use blocking_core::task::{Slot, Slotted};
@@ -14,12 +15,14 @@ use blocking_laws::event::{Act, HolderWaker};
 use std::alloc::{AllocError, Global};
 use std::marker::Model;
 
-/// A session of an owner: the number of its job, the pipe between the two, and the slot in which the handle comes back.
+/// A session of an owner: the number of its job, the pipe between the two, the slot in which the handle comes back, and where a seek left
+/// the handle.
 #[derive(Drop)]
 pub(crate) struct Session {
     number: JobNo,
     passage: Passage,
     slot: Slot<Option<Fault<u64>>, ()>,
+    left: u64,
 }
 
 /// What an owner finds in the pipe.
@@ -63,6 +66,7 @@ impl Model for Session {
       goods = goods_in s.passage;
       pipe = pipe_in s.passage;
       slot = s.slot;
+      left = s.left;
     } };
 }
 
@@ -71,9 +75,10 @@ impl Session {
     ghost use Rattle.blocking_core.specs.Reading.{read_next};
     ghost use Rattle.blocking_core.specs.Slots.{empty_slot};
     ghost use Rattle.blocking_core.specs.Writing.{write_next};
-    ghost use Rattle.blocking_lanes.specs.Passages.{OfBytes, is_bytes, goods_in, pipe_in, through};
+    ghost use Rattle.blocking_core.specs.Seeks.{seek_next};
+    ghost use Rattle.blocking_lanes.specs.Passages.{OfBytes, is_bytes, is_piped, goods_in, pipe_in, through};
     ghost use Rattle.blocking_lanes.specs.Sessions.{filled, session_after_fill, front, found_piece, holds, work_at_peek, work_of_consume};
-    ghost use Rattle.blocking_lanes.specs.Sessions.{writer_closes, writer_finishes, writer_works};
+    ghost use Rattle.blocking_lanes.specs.Sessions.{writer_closes, writer_finishes, writer_works, seek_finishes, seek_works};
     ghost use Rattle.blocking_lanes.specs.Sessions.{reach, drained, session_after_close, session_after_drain, session_after_look};
     ghost use Rattle.blocking_lanes.specs.Sessions.{work_by, work_at_room, work_at_put, work_of_close, work_of_finish, found_room, found_put, fits_in};
     ghost use Rattle.blocking_lanes.specs.Sessions.{give_up_wakes, session_after_give_up, IsWork};
@@ -86,12 +91,14 @@ impl Session {
           goods = goods_in passage;
           pipe = pipe_in passage;
           slot = empty_slot;
+          left = 0;
         } }
     {
         Session {
             number,
             passage,
             slot: Slot::new(),
+            left: 0,
         }
     }
 
@@ -109,10 +116,25 @@ impl Session {
         self.passage.is_of_bytes()
     }
 
+    /// Whether it has a pipe.
+    pub(crate) fn is_piped(&self) -> bool
+        ensures { result ≡ is_piped self.now.goods }
+    {
+        self.passage.is_piped()
+    }
+
+    /// Where the handle was left, after a seek that went well.
+    pub(crate) fn left(&self) -> u64
+        ensures { result ≡ self.now.left }
+    {
+        self.left
+    }
+
     // ---- its owner acts
 
     /// Closes the owner's end of the pipe. Answers the note of a job that waited.
     pub(crate) fn close(&mut self) -> Option<WakeNote>
+        requires { is_piped self.old.goods ≡ true }
         ensures session { self.new ≡ session_after_close self.old }
         ensures note { result ≡ self.old.pipe.job_seat }
     {
@@ -260,6 +282,7 @@ impl Session {
 
     // The job closes its end of the pipe.
     fn close_job(&mut self, job: &mut ReadProgress) -> Act
+        requires { is_piped self.old.goods ≡ true }
         ensures { work_of_close job.old self.old
             ≡ record { act = result; job = job.new; session = self.new } }
     {
@@ -370,6 +393,7 @@ impl Session {
 
     // The job closes its end of the pipe.
     fn close_writer(&mut self, job: &mut WriteProgress) -> Act
+        requires { is_piped self.old.goods ≡ true }
         ensures { writer_closes job.old self.old
             ≡ record { act = result; job = job.new; session = self.new } }
     {
@@ -415,6 +439,29 @@ impl Session {
             | WriteAction::Deliver
             | WriteAction::Done => None,
         })
+    }
+
+    // ---- a job that seeks
+
+    // The job puts its result into the slot, and leaves where the handle is.
+    fn finish_seek(&mut self, job: &mut SeekProgress) -> Act
+        ensures { seek_finishes job.old self.old
+            ≡ record { act = result; job = job.new; session = self.new } }
+    {
+        let woke = self.slot.put(job.fault()).wake.is_some();
+        self.left = job.place();
+        job.meet(SeekAnswer::Finished { woke });
+        Act::Finished(HolderWaker::in_seat(woke))
+    }
+
+    /// A job that seeks takes its next action, where it takes it at its session: what is seen of it.
+    pub(crate) fn seek(&mut self, job: &mut SeekProgress) -> Option<Act>
+        ensures { IsWork (seek_works (seek_next job.old.core) job.old self.old) job.old self.old result job.new self.new }
+    {
+        match job.next() {
+            SeekAction::Finish => Some(self.finish_seek(job)),
+            SeekAction::Seek | SeekAction::Deliver | SeekAction::Done => None,
+        }
     }
 
     // ---- either

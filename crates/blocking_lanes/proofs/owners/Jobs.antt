@@ -6,24 +6,30 @@ use Rattle.blocking_core.specs.Pipes.{room}
 use Rattle.blocking_core.specs.Places.{Met, Served, Waiting, Closed, hand_in}
 use Rattle.blocking_core.specs.Reading.{read_next}
 use Rattle.blocking_core.specs.Writing.{write_next}
+use Rattle.blocking_core.specs.Seeks.{seek_next}
 use Rattle.blocking_core.specs.declared.job.read.ReadAction.{ReadAction}
 use Rattle.blocking_core.specs.declared.job.read.ReadAction.TheVariants as read
 use Rattle.blocking_core.specs.declared.job.read.ReadAnswer.TheVariants as by
 use Rattle.blocking_core.specs.declared.job.write.WriteAction.{WriteAction}
 use Rattle.blocking_core.specs.declared.job.write.WriteAction.TheVariants as write
 use Rattle.blocking_core.specs.declared.job.write.WriteAnswer.TheVariants as wrote
+use Rattle.blocking_core.specs.declared.job.seek.SeekAction.{SeekAction}
+use Rattle.blocking_core.specs.declared.job.seek.SeekAction.TheVariants as seek
+use Rattle.blocking_core.specs.declared.job.seek.SeekAnswer.TheVariants as sought
 use Rattle.blocking_laws.specs.JobTable.{piece, is_taken}
 use Rattle.blocking_laws.specs.Seats.{waker_in}
 use Rattle.blocking_laws.specs.declared.event.Act.{Act}
 use Rattle.blocking_laws.specs.declared.event.Act.TheVariants.{RoomFree, RoomShut, JobParked, Put, Lost, Drained, Taken as TakenOut, JobClosed, Finished}
-use Rattle.blocking_lanes.specs.Owners.{Owner, Worked, worked, worked_by, read_in, read_as, write_in, write_as}
+use Rattle.blocking_lanes.specs.Owners.{Owner, Worked, worked, worked_by, read_in, read_as, write_in, write_as, seek_in, seek_as}
 use Rattle.blocking_lanes.specs.Passages.{OfBytes, through}
 use Rattle.blocking_lanes.specs.Reads as reads
 use Rattle.blocking_lanes.specs.Reads.{ReadAs}
 use Rattle.blocking_lanes.specs.SessionJobs.{JobAs}
-use Rattle.blocking_lanes.specs.Sessions.{Session, Work, closing_wakes, finish_wakes, found_piece, found_put, found_room, fits_in, holds, work_at_peek, work_at_put, work_at_room, work_by, work_of_close, work_of_consume, work_of_finish, writer_closes, writer_finishes, writer_works}
+use Rattle.blocking_lanes.specs.Sessions.{Session, Work, closing_wakes, finish_wakes, found_piece, found_put, found_room, fits_in, holds, work_at_peek, work_at_put, work_at_room, work_by, work_of_close, work_of_consume, work_of_finish, writer_closes, writer_finishes, writer_works, seek_works}
 use Rattle.blocking_lanes.specs.Writes as writes
 use Rattle.blocking_lanes.specs.Writes.{WriteAs}
+use Rattle.blocking_lanes.specs.Seeks as seeks
+use Rattle.blocking_lanes.specs.Seeks.{SeekAs}
 use Rattle.blocking_lanes.specs.declared.job.SessionJob.{SessionJob}
 use Rattle.blocking_lanes.specs.declared.job.SessionJob.TheVariants as of_job
 use Rattle.blocking_lanes.proofs.owners.Goods.{through_some}
@@ -32,6 +38,7 @@ use Rattle.blocking_lanes.proofs.owners.ReadJobs as of_reader
 use Rattle.blocking_lanes.proofs.owners.ReadSessions.{some_room}
 use Rattle.blocking_lanes.proofs.owners.WriteSessions.{some_piece}
 use Rattle.blocking_lanes.proofs.owners.WriteJobs as of_writer
+use Rattle.blocking_lanes.proofs.owners.SeekJobs as of_seeker
 
 -- what a job takes of wakers is what is seen
 taken_is : (b : Bool) → b ≡ is_taken (waker_in b)
@@ -152,6 +159,19 @@ module _ (p : writes.Progress) (acts : List Act) (s : Session) (r : WriteAs p ac
   writes_on write.Deliver is work does = absurd (cc)
   writes_on write.Done is work does = absurd (cc)
 
+-- ---- a job that seeks, at its session
+
+-- what it does next there
+seeks_on : (p : seeks.Progress) (acts : List Act) (s : Session) → SeekAs p acts → (a : SeekAction) → seek_next p.core ≡ a → (work : Work seeks.Progress) → seek_works a p s ≡ Some work
+    → SeekAs work.job (work.act ∷ acts)
+seeks_on p acts s r seek.Finish is work does =
+    let woke = finish_wakes p.fault s in
+    subst (λ (w : Work seeks.Progress). SeekAs w.job (w.act ∷ acts)) (ap (value_of work) does)
+    (of_seeker.meets p acts seek.Finish seek.Done woke (sought.Finished woke) (Finished (waker_in woke)) r (of_seeker.awake p seek.Finish is (λ e. cc)) refl refl (taken_is woke) refl refl)
+seeks_on p acts s r seek.Seek is work does = absurd (cc)
+seeks_on p acts s r seek.Deliver is work does = absurd (cc)
+seeks_on p acts s r seek.Done is work does = absurd (cc)
+
 -- ---- a job of an owner
 
 -- what an act at a session leaves of a job, if there is one
@@ -169,6 +189,11 @@ write_goes : (p : writes.Progress) (acts : List Act) (last : Option Session) (ow
     → (done : Worked) → write_in a last p owner ≡ Some done → JobAs done.job (done.act ∷ acts)
 write_goes p acts None owner r a is done does = absurd (cc)
 write_goes p acts (Some s) owner r a is done does = at_work writes.Progress of_job.Write acts owner (through OfBytes s.goods (writer_works a p s)) (λ work e. writes_on p acts s r a is work (through_some OfBytes s.goods (writer_works a p s) work e).1) done does
+
+seek_goes : (p : seeks.Progress) (acts : List Act) (last : Option Session) (owner : Owner) → SeekAs p acts → (a : SeekAction) → seek_next p.core ≡ a
+    → (done : Worked) → seek_in a last p owner ≡ Some done → JobAs done.job (done.act ∷ acts)
+seek_goes p acts None owner r a is done does = absurd (cc)
+seek_goes p acts (Some s) owner r a is done does = at_work seeks.Progress of_job.Seek acts owner (seek_works a p s) (λ work e. seeks_on p acts s r a is work e) done does
 
 -- how far it is after what it does next by itself
 pub worked_on : (p : SessionJob) (acts : List Act) (owner : Owner) (done : Worked) → JobAs p acts → worked p owner ≡ Some done → JobAs done.job (done.act ∷ acts)
@@ -193,3 +218,10 @@ worked_on (of_job.Write p) acts owner done r does = by (write_next p.core) refl 
     by write.Close is does = write_goes p acts owner.session owner r write.Close is done does
     by write.Finish is does = write_goes p acts owner.session owner r write.Finish is done does
     by write.Done is does = write_goes p acts owner.session owner r write.Done is done does
+worked_on (of_job.Seek p) acts owner done r does = by (seek_next p.core) refl does
+  where
+    by : (a : SeekAction) → seek_next p.core ≡ a → seek_as a p owner ≡ Some done → JobAs done.job (done.act ∷ acts)
+    by seek.Deliver is does = subst (λ (d : Worked). JobAs d.job (d.act ∷ acts)) (ap (value_of done) does) (of_seeker.wakes p acts r is)
+    by seek.Seek is does = seek_goes p acts owner.session owner r seek.Seek is done does
+    by seek.Finish is does = seek_goes p acts owner.session owner r seek.Finish is done does
+    by seek.Done is does = seek_goes p acts owner.session owner r seek.Done is done does
