@@ -22,7 +22,7 @@ use Rattle.blocking_core.specs.declared.unblock.Reply.{Reply}
 use Rattle.blocking_core.specs.declared.unblock.Reply.TheVariants as reply
 use Rattle.blocking_core.specs.declared.unblock.State.{State}
 use Rattle.blocking_core.specs.declared.unblock.State.TheVariants as state
-use Rattle.blocking_laws.specs.JobTable.{Reading}
+use Rattle.blocking_laws.specs.JobTable.{Kind}
 use Rattle.blocking_laws.specs.Sessions.{default_capacity, kind_of, is_for_closed}
 use Rattle.blocking_laws.specs.Steps.{is_known}
 use Rattle.blocking_laws.specs.Seats.{waker_in}
@@ -64,9 +64,9 @@ pub record Owner : Type 0 where
 abbrev pub new_owner : ℕ → Owner
 new_owner capacity = record { capacity = capacity; asked = None; stage = stage.Rests state.Idle; session = None }
 
--- how many bytes the pipe of a session holds
-abbrev pub capacity_of : Owner → ℕ
-capacity_of owner = if owner.capacity == 0 then default_capacity Reading else owner.capacity
+-- how many bytes or items the pipe of a session of this kind holds
+abbrev pub capacity_of : Owner → Kind → ℕ
+capacity_of owner kind = if owner.capacity == 0 then default_capacity kind else owner.capacity
 
 -- the number of the last session's job
 abbrev pub number_in : Option Session → Option JobNumber
@@ -314,7 +314,10 @@ IsDid (Some done) owner seen new = (seen ≡ Some done.act) × (new ≡ done.own
 abbrev pub new_job_of : Owner → SessionJob
 new_job_of owner = new_job (kind_of owner.asked)
 
--- what passes through the pipe of that session
+-- how much the pipe of that session holds, and what passes through it
+abbrev pub capacity_asked : Owner → ℕ
+capacity_asked owner = capacity_of owner (kind_of owner.asked)
+
 abbrev pub goods_asked : Owner → Goods
 goods_asked owner = goods_of (kind_of owner.asked)
 

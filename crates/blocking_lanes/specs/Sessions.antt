@@ -11,12 +11,12 @@ use Rattle.blocking_core.specs.declared.job.read.ReadAnswer.TheVariants as by
 use Rattle.blocking_core.specs.declared.job.write.WriteAction.{WriteAction}
 use Rattle.blocking_core.specs.declared.job.write.WriteAction.TheVariants as write
 use Rattle.blocking_core.specs.declared.job.write.WriteAnswer.TheVariants as wrote
-use Rattle.blocking_laws.specs.JobTable.{Kind, piece as largest_piece}
+use Rattle.blocking_laws.specs.JobTable.{Kind, Streaming, piece as largest_piece}
 use Rattle.blocking_laws.specs.Places.{seen_room, seen_put, seen_peek}
 use Rattle.blocking_laws.specs.Seats.{waker_in}
 use Rattle.blocking_laws.specs.declared.event.Act.{Act}
 use Rattle.blocking_laws.specs.declared.event.Act.TheVariants.{Taken, JobClosed, Finished}
-use Rattle.blocking_lanes.specs.Passages.{Goods, OfBytes, closed_by_owner, closed_by_job}
+use Rattle.blocking_lanes.specs.Passages.{Goods, OfBytes, OfItems, closed_by_owner, closed_by_job}
 use Rattle.blocking_lanes.specs.Reads.{Progress, progress_with}
 use Rattle.blocking_lanes.specs.Writes as writes
 use Rattle.blocking_pool.specs.Jobs.{JobNumber}
@@ -31,6 +31,7 @@ pub record Session : Type 0 where
 
 -- what passes through the pipe of a session of this kind
 abbrev pub goods_of : Kind → Goods
+goods_of Streaming = OfItems
 goods_of kind = OfBytes
 
 -- a session that begins, with this job and a pipe for so many bytes or items

@@ -139,7 +139,7 @@ told_some None p owner known = absurd (cc)
 told_some (Some told) p owner known = refl
 
 -- what passes through the pipe of a session, by its kind
-goods_at : (last : Option Session) (bytes : ℕ) (cut : List Event) (k : Kind) → LastAs last bytes cut → kind_in (sessions.last_session (own cut)) ≡ k → (s : Session) → last ≡ Some s
+goods_at : (last : Option Session) (bytes : Kind → ℕ) (cut : List Event) (k : Kind) → LastAs last bytes cut → kind_in (sessions.last_session (own cut)) ≡ k → (s : Session) → last ≡ Some s
     → s.goods ≡ goods_of k
 goods_at None bytes cut k l is s e = absurd (cc)
 goods_at (Some r) bytes cut k l is s e = let same : r ≡ s = cc in subst (λ (x : Session). x.goods ≡ goods_of k) same (l.lent.goods ∙ ap goods_of is)

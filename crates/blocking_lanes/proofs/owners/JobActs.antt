@@ -127,7 +127,7 @@ module _ (bytes : ℕ) (asked : Option HandleCall) (here : OwnerStage) (s : Sess
 
   -- the tie of a session that is then so, of this kind, by the acts of its job and by who is seated
   abbrev pub Tied : Session → Kind → List Act → Bool → Bool → Bool → Type 0
-  Tied now k l job_sits pipe_sits slot_sits = SessionAs now k (bound bytes) began shut over gone took written l job_sits pipe_sits slot_sits
+  Tied now k l job_sits pipe_sits slot_sits = SessionAs now k (bound bytes k) began shut over gone took written l job_sits pipe_sits slot_sits
 
   pub last_as : (k : Kind) → kind ≡ k → Tied s k acts js ps ss
   last_as k same = subst (λ k. Tied s k acts js ps ss) same t.last
@@ -218,8 +218,8 @@ module _ (bytes : ℕ) (asked : Option HandleCall) (here : OwnerStage) (s : Sess
     last : Tied s Reading acts js ps ss
     last = last_as Reading reads
 
-    tied : (next : JobAction) → next_but_wake Reading acts ≡ next → At s Reading (bound bytes) began shut over gone took written acts js ps ss next
-    tied next e = at s Reading (bound bytes) began shut over gone took written acts js ps ss next e last
+    tied : (next : JobAction) → next_but_wake Reading acts ≡ next → At s Reading (bound bytes Reading) began shut over gone took written acts js ps ss next
+    tied next e = at s Reading (bound bytes Reading) began shut over gone took written acts js ps ss next e last
 
     -- it looks for room
     room_found : found_room s ≡ find_room (room_in cut) (not shut)
@@ -238,7 +238,7 @@ module _ (bytes : ℕ) (asked : Option HandleCall) (here : OwnerStage) (s : Sess
           ends = tt;
           back = λ here before. refl;
           faults = λ is kind. (refl, refl);
-          session = finds s (bound bytes) began shut over gone took written acts js ps ss (suc n) found (tied FindRoom (table read.FindRoom a));
+          session = finds s (bound bytes Reading) began shut over gone took written acts js ps ss (suc n) found (tied FindRoom (table read.FindRoom a));
           ended = λ e. e;
           told = λ e. inr e;
         })
@@ -251,7 +251,7 @@ module _ (bytes : ℕ) (asked : Option HandleCall) (here : OwnerStage) (s : Sess
           ends = tt;
           back = λ here before. refl;
           faults = λ is kind. (refl, refl);
-          session = parks s (bound bytes) began shut over gone took written acts js ps ss found (table read.FindRoom a) last;
+          session = parks s (bound bytes Reading) began shut over gone took written acts js ps ss found (table read.FindRoom a) last;
           ended = λ e. e;
           told = λ e. inr e;
         })
@@ -264,7 +264,7 @@ module _ (bytes : ℕ) (asked : Option HandleCall) (here : OwnerStage) (s : Sess
           ends = tt;
           back = λ here before. refl;
           faults = λ is kind. (refl, refl);
-          session = finds_shut s (bound bytes) began shut over gone took written acts js ps ss found (tied FindRoom (table read.FindRoom a));
+          session = finds_shut s (bound bytes Reading) began shut over gone took written acts js ps ss found (tied FindRoom (table read.FindRoom a));
           ended = λ e. e;
           told = λ e. inr e;
         })
@@ -290,7 +290,7 @@ module _ (bytes : ℕ) (asked : Option HandleCall) (here : OwnerStage) (s : Sess
           ends = tt;
           back = λ here before. refl;
           faults = λ is kind. (refl, refl);
-          session = puts s (bound bytes) began shut over gone took written acts js ps ss p.piece (waker_in (is_some seat)) seat found here;
+          session = puts s (bound bytes Reading) began shut over gone took written acts js ps ss p.piece (waker_in (is_some seat)) seat found here;
           ended = λ e. absurd (let closed = e.1 in let lasts = here.flow.passed_is.0 in cc);
           told = λ e. subst (λ o. (is_taken (waker_in (is_some o)) ≡ true) ⊎ (is_some s.slot.seat ≡ true)) (sym took_it) (taken_first (is_some s.pipe.owner_seat) (is_some s.slot.seat) e);
         })
@@ -304,7 +304,7 @@ module _ (bytes : ℕ) (asked : Option HandleCall) (here : OwnerStage) (s : Sess
           ends = tt;
           back = λ here before. refl;
           faults = λ is kind. (refl, refl);
-          session = loses s (bound bytes) began shut over gone took written acts js ps ss p.piece found (tied (PutPiece p.piece) (table (read.Put count) a));
+          session = loses s (bound bytes Reading) began shut over gone took written acts js ps ss p.piece found (tied (PutPiece p.piece) (table (read.Put count) a));
           ended = λ e. e;
           told = λ e. inr e;
         })
@@ -323,7 +323,7 @@ module _ (bytes : ℕ) (asked : Option HandleCall) (here : OwnerStage) (s : Sess
           ends = tt;
           back = λ here before. refl;
           faults = λ is kind. (refl, refl);
-          session = closes s Reading (bound bytes) began shut over gone took written acts js ps ss (waker_in woke) here;
+          session = closes s Reading (bound bytes Reading) began shut over gone took written acts js ps ss (waker_in woke) here;
           ended = λ e. absurd (let closed = e.1 in let lasts = here.flow.passed_is.0 in cc);
           told = λ e. taken_first (is_some s.pipe.owner_seat) (is_some s.slot.seat) e;
         })
@@ -344,7 +344,7 @@ module _ (bytes : ℕ) (asked : Option HandleCall) (here : OwnerStage) (s : Sess
           ends = tt;
           back = λ here before. refl;
           faults = λ is kind. (refl, refl);
-          session = finishes s Reading (bound bytes) began shut over gone took written acts js ps ss (waker_in woke) p.fault r.fault_is here;
+          session = finishes s Reading (bound bytes Reading) began shut over gone took written acts js ps ss (waker_in woke) p.fault r.fault_is here;
           ended = λ e. e;
           told = λ e. taken_last (is_some s.pipe.owner_seat) (is_some s.slot.seat) woke _ sits e;
         })
@@ -363,7 +363,7 @@ module _ (bytes : ℕ) (asked : Option HandleCall) (here : OwnerStage) (s : Sess
           ends = tt;
           back = λ here before. refl;
           faults = λ is. absurd (let lent = going_on.lent in cc);
-          session = Sessions.answers s (bound bytes) began shut over gone took written acts js ps ss q.most answer q.fits q.table last;
+          session = Sessions.answers s (bound bytes Reading) began shut over gone took written acts js ps ss q.most answer q.fits q.table last;
           ended = λ e. absurd (let closed = e.1 in let lasts = here.flow.passed_is.0 in cc);
           told = λ e. inr e;
         })
@@ -383,8 +383,8 @@ module _ (bytes : ℕ) (asked : Option HandleCall) (here : OwnerStage) (s : Sess
     writer_last : Tied s Writing acts js ps ss
     writer_last = last_as Writing writing
 
-    writer_tied : (next : JobAction) → next_but_wake Writing acts ≡ next → At s Writing (bound bytes) began shut over gone took written acts js ps ss next
-    writer_tied next e = at s Writing (bound bytes) began shut over gone took written acts js ps ss next e writer_last
+    writer_tied : (next : JobAction) → next_but_wake Writing acts ≡ next → At s Writing (bound bytes Writing) began shut over gone took written acts js ps ss next
+    writer_tied next e = at s Writing (bound bytes Writing) began shut over gone took written acts js ps ss next e writer_last
 
     -- it looks at the front of the pipe
     piece_found : found_piece s ≡ peek piece (inside cut) (not shut)
@@ -402,7 +402,7 @@ module _ (bytes : ℕ) (asked : Option HandleCall) (here : OwnerStage) (s : Sess
           ends = tt;
           back = λ here before. refl;
           faults = λ is kind. (refl, refl);
-          session = peeks s (bound bytes) began shut over gone took written acts js ps ss found shows (writer_tied Peek (writer_table write.Peek a));
+          session = peeks s (bound bytes Writing) began shut over gone took written acts js ps ss found shows (writer_tied Peek (writer_table write.Peek a));
           ended = λ e. e;
           told = λ e. inr e;
         })
@@ -415,7 +415,7 @@ module _ (bytes : ℕ) (asked : Option HandleCall) (here : OwnerStage) (s : Sess
           ends = tt;
           back = λ here before. refl;
           faults = λ is kind. (refl, refl);
-          session = peek_parks s (bound bytes) began shut over gone took written acts js ps ss shows (writer_table write.Peek a) writer_last;
+          session = peek_parks s (bound bytes Writing) began shut over gone took written acts js ps ss shows (writer_table write.Peek a) writer_last;
           ended = λ e. e;
           told = λ e. inr e;
         })
@@ -428,7 +428,7 @@ module _ (bytes : ℕ) (asked : Option HandleCall) (here : OwnerStage) (s : Sess
           ends = tt;
           back = λ here before. refl;
           faults = λ is kind. (refl, refl);
-          session = drains s (bound bytes) began shut over gone took written acts js ps ss shows (writer_tied Peek (writer_table write.Peek a));
+          session = drains s (bound bytes Writing) began shut over gone took written acts js ps ss shows (writer_tied Peek (writer_table write.Peek a));
           ended = λ e. e;
           told = λ e. inr e;
         })
@@ -447,7 +447,7 @@ module _ (bytes : ℕ) (asked : Option HandleCall) (here : OwnerStage) (s : Sess
           ends = tt;
           back = λ here before. refl;
           faults = λ is kind. (refl, refl);
-          session = consumes s (bound bytes) began shut over gone took written acts js ps ss n (waker_in woke) here;
+          session = consumes s (bound bytes Writing) began shut over gone took written acts js ps ss n (waker_in woke) here;
           ended = λ e. absurd (let closed = e.1 in let lasts = here.flow.written_is.0 in cc);
           told = λ e. taken_first (is_some s.pipe.owner_seat) (is_some s.slot.seat) e;
         })
@@ -466,7 +466,7 @@ module _ (bytes : ℕ) (asked : Option HandleCall) (here : OwnerStage) (s : Sess
           ends = tt;
           back = λ here before. refl;
           faults = λ is kind. (refl, refl);
-          session = closes s Writing (bound bytes) began shut over gone took written acts js ps ss (waker_in woke) here;
+          session = closes s Writing (bound bytes Writing) began shut over gone took written acts js ps ss (waker_in woke) here;
           ended = λ e. absurd (let closed = e.1 in let lasts = here.flow.written_is.0 in cc);
           told = λ e. taken_first (is_some s.pipe.owner_seat) (is_some s.slot.seat) e;
         })
@@ -488,7 +488,7 @@ module _ (bytes : ℕ) (asked : Option HandleCall) (here : OwnerStage) (s : Sess
           ends = tt;
           back = λ here before. refl;
           faults = λ is kind. (refl, refl);
-          session = finishes s Writing (bound bytes) began shut over gone took written acts js ps ss (waker_in woke) why r.fault_is here;
+          session = finishes s Writing (bound bytes Writing) began shut over gone took written acts js ps ss (waker_in woke) why r.fault_is here;
           ended = λ e. e;
           told = λ e. taken_last (is_some s.pipe.owner_seat) (is_some s.slot.seat) woke _ sits e;
         })
@@ -509,7 +509,7 @@ module _ (bytes : ℕ) (asked : Option HandleCall) (here : OwnerStage) (s : Sess
           ends = tt;
           back = λ here before. refl;
           faults = λ is. absurd (let lent = going_on.lent in cc);
-          session = writer_answers s (bound bytes) began shut over gone took written acts js ps ss (writes.action_as p.piece q.now) answer q.fits q.table writer_last;
+          session = writer_answers s (bound bytes Writing) began shut over gone took written acts js ps ss (writes.action_as p.piece q.now) answer q.fits q.table writer_last;
           ended = λ e. e;
           told = λ e. inr e;
         })
@@ -531,7 +531,7 @@ module _ (bytes : ℕ) (asked : Option HandleCall) (here : OwnerStage) (s : Sess
         ends = tt;
         back = λ here before. refl;
         faults = λ is any. (refl, refl);
-        session = gives_up s kind (bound bytes) began shut over gone took written acts js ps ss (waker_in woke) goes dropped t.last;
+        session = gives_up s kind (bound bytes kind) began shut over gone took written acts js ps ss (waker_in woke) goes dropped t.last;
         ended = λ e. e;
         told = λ e. taken_last (is_some s.pipe.owner_seat) (is_some s.slot.seat) woke _ sits e;
       })

@@ -77,11 +77,11 @@ module _ (bytes : ℕ) (asked : Option HandleCall) (here : OwnerStage) (last : O
     where
       Tied : List Act → Type 0
       Tied l =
-          SessionAs s (kind_in (sessions.last_session (own cut))) (bound bytes) (sessions.last_session (own cut)) (sessions.is_shut (own cut)) (is_none (sessions.session (own cut))) (sessions.is_dropped (own cut))
+          SessionAs s (kind_in (sessions.last_session (own cut))) (bound bytes (kind_in (sessions.last_session (own cut)))) (sessions.last_session (own cut)) (sessions.is_shut (own cut)) (is_none (sessions.session (own cut))) (sessions.is_dropped (own cut))
           (got (own cut)) (accepted (own cut)) l (is_job_seated cut) (pipe_seat cut) (slot_seat cut)
 
       at : (b : Bool) → (n == s.number.serial) ≡ b → Tied (acts_of s.number.serial (woken ∷ cut))
-      at true test = rw test (calls s (kind_in (sessions.last_session (own cut))) (bound bytes) (sessions.last_session (own cut)) (sessions.is_shut (own cut)) (is_none (sessions.session (own cut))) (sessions.is_dropped (own cut))
+      at true test = rw test (calls s (kind_in (sessions.last_session (own cut))) (bound bytes (kind_in (sessions.last_session (own cut)))) (sessions.last_session (own cut)) (sessions.is_shut (own cut)) (is_none (sessions.session (own cut))) (sessions.is_dropped (own cut))
           (got (own cut)) (accepted (own cut)) (acts_of s.number.serial cut) (is_job_seated cut) (pipe_seat cut) (slot_seat cut) t)
       at false test = rw test t
 
