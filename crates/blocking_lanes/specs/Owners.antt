@@ -7,6 +7,10 @@ use Rattle.blocking_core.specs.Reading.{read_next}
 use Rattle.blocking_core.specs.Writing.{write_next}
 use Rattle.blocking_core.specs.Slots.{Content, Empty, Full, GivenUp, Abandoned, empty_slot}
 use Rattle.blocking_core.specs.declared.io.Fault.{Fault}
+use Rattle.blocking_core.specs.Items.{item_next}
+use Rattle.blocking_core.specs.declared.job.item.ItemAction.{ItemAction}
+use Rattle.blocking_core.specs.declared.job.item.ItemAction.TheVariants as item
+use Rattle.blocking_core.specs.declared.job.item.ItemAnswer.TheVariants as sent
 use Rattle.blocking_core.specs.declared.job.read.ReadAction.{ReadAction}
 use Rattle.blocking_core.specs.declared.job.read.ReadAction.TheVariants as read
 use Rattle.blocking_core.specs.declared.job.read.ReadAnswer.TheVariants as job_by
@@ -32,10 +36,11 @@ use Rattle.blocking_laws.specs.declared.event.Reply.{Reply as Told}
 use Rattle.blocking_laws.specs.declared.event.Reply.TheVariants as told
 use Rattle.blocking_laws.specs.declared.step.HandleCall.{HandleCall}
 use Rattle.blocking_laws.specs.declared.step.HandleCall.TheVariants as handle_call
-use Rattle.blocking_lanes.specs.Passages.{Goods, OfBytes, through}
+use Rattle.blocking_lanes.specs.Passages.{Goods, OfBytes, OfItems, through}
 use Rattle.blocking_lanes.specs.Reads as reads
 use Rattle.blocking_lanes.specs.SessionJobs.{new_job}
-use Rattle.blocking_lanes.specs.Sessions.{Session, Work, goods_of, serial_of, drained, filled, reach, front, session_after_close, session_after_drain, session_after_fill, session_after_look, session_after_give_up, give_up_wakes, work_by, writer_works}
+use Rattle.blocking_lanes.specs.Sessions.{Session, Work, goods_of, serial_of, drained, filled, reach, front, session_after_close, session_after_drain, session_after_fill, session_after_look, session_after_give_up, give_up_wakes, streamer_works, work_by, writer_works}
+use Rattle.blocking_lanes.specs.Streams as streams
 use Rattle.blocking_lanes.specs.Writes as writes
 use Rattle.blocking_lanes.specs.declared.job.SessionJob.{SessionJob}
 use Rattle.blocking_lanes.specs.declared.job.SessionJob.TheVariants as of_job
@@ -393,10 +398,20 @@ abbrev pub write_as : WriteAction → writes.Progress → Owner → Option Worke
 write_as write.Deliver job owner = calls_waker (of_job.Write (writes.progress_with job wrote.Delivered)) owner
 write_as next job owner = write_in next owner.session job owner
 
+-- the same of a job that runs an iterator
+abbrev pub stream_in : ItemAction → Option Session → streams.Progress → Owner → Option Worked
+stream_in doing None job owner = None
+stream_in doing (Some session) job owner = worked_by of_job.Items (through OfItems session.goods (streamer_works doing job session)) owner
+
+abbrev pub stream_as : ItemAction → streams.Progress → Owner → Option Worked
+stream_as item.Deliver job owner = calls_waker (of_job.Items (streams.progress_with job sent.Delivered)) owner
+stream_as doing job owner = stream_in doing owner.session job owner
+
 -- What its job does next, where that is the job's own.
 abbrev pub worked : SessionJob → Owner → Option Worked
 worked (of_job.Read job) owner = read_as (read_next job.core) job owner
 worked (of_job.Write job) owner = write_as (write_next job.core) job owner
+worked (of_job.Items job) owner = stream_as (item_next job.core) job owner
 
 -- the answer of a call by which the job may act, and what it leaves: where it has no such act nothing changes
 abbrev pub IsWorked : Option Worked → SessionJob → Owner → Option Act → SessionJob → Owner → Type 0

@@ -4,12 +4,13 @@ ghost use Rattle.blocking_core.specs.declared.unblock.OwnerAction.TheVariants as
 ghost use Rattle.blocking_lanes.specs.Sessions.{serial_of};
 ghost use Rattle.blocking_lanes.specs.Owners.{poll_call_of, reply_as};
 
+use crate::item::ItemProgress;
 use crate::job::SessionJob;
 use crate::passage::Passage;
 use crate::read::ReadProgress;
 use crate::session::{Entered, Found, Looked, Session};
 use crate::write::WriteProgress;
-use blocking_core::job::{ReadAction, WriteAction};
+use blocking_core::job::{ItemAction, ReadAction, WriteAction};
 use blocking_core::pipe::{DEFAULT_BYTES, DEFAULT_ITEMS, Pipe};
 use blocking_core::pool::{JobNo, Refusal, WakeNote};
 use blocking_core::unblock::{OwnerAction, OwnerAnswer, OwnerCall, PollCall, Reply, State};
@@ -426,12 +427,13 @@ impl Owner {
         }
     }
 
-    /// The job of the session that its poll begins: it reads or writes, as was asked. Takes no memory.
+    /// The job of the session that its poll begins: it reads, writes or takes items, as was asked. Takes no memory.
     pub fn new_job(&self, alloc: Global) -> SessionJob
         ensures { result ≡ new_job_of self.now }
     {
         match &self.asked {
             Some(HandleCall::Write(_)) => SessionJob::Write(WriteProgress::new(alloc)),
+            Some(HandleCall::Next) => SessionJob::Items(ItemProgress::new()),
             _ => SessionJob::Read(ReadProgress::new(alloc)),
         }
     }
@@ -523,7 +525,22 @@ impl Owner {
         match job {
             SessionJob::Read(read) => Ok(self.read(read)),
             SessionJob::Write(write) => self.write(alloc, write),
+            SessionJob::Items(items) => Ok(self.stream(items)),
         }
+    }
+
+    // A job that runs an iterator takes its next action.
+    fn stream(&mut self, job: &mut ItemProgress) -> Option<Act>
+        ensures { IsWorked (worked (of_job.Items job.old) self.old) (of_job.Items job.old) self.old result (of_job.Items job.new) self.new }
+    {
+        if let ItemAction::Deliver = job.next() {
+            job.wake();
+            return Some(Act::HolderWoken);
+        }
+        let Some(session) = &mut self.session else {
+            return None;
+        };
+        session.stream(job)
     }
 
     // A job that reads takes its next action.
