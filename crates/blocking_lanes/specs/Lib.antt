@@ -4,6 +4,7 @@ pub mod Ties
 pub mod Steps
 pub mod Reads
 pub mod Writes
+pub mod Streams
 pub mod Seeks
 pub mod SessionJobs
 pub mod Passages

@@ -8,6 +8,10 @@ use Rattle.blocking_core.specs.Writing.{write_next}
 use Rattle.blocking_core.specs.Seeks.{seek_next}
 use Rattle.blocking_core.specs.Slots.{Content, Empty, Full, GivenUp, Abandoned, empty_slot}
 use Rattle.blocking_core.specs.declared.io.Fault.{Fault}
+use Rattle.blocking_core.specs.Items.{item_next}
+use Rattle.blocking_core.specs.declared.job.item.ItemAction.{ItemAction}
+use Rattle.blocking_core.specs.declared.job.item.ItemAction.TheVariants as item
+use Rattle.blocking_core.specs.declared.job.item.ItemAnswer.TheVariants as sent
 use Rattle.blocking_core.specs.declared.job.read.ReadAction.{ReadAction}
 use Rattle.blocking_core.specs.declared.job.read.ReadAction.TheVariants as read
 use Rattle.blocking_core.specs.declared.job.read.ReadAnswer.TheVariants as job_by
@@ -28,7 +32,7 @@ use Rattle.blocking_core.specs.declared.unblock.Reply.TheVariants as reply
 use Rattle.blocking_core.specs.declared.unblock.SessionKind.TheVariants as session_kind
 use Rattle.blocking_core.specs.declared.unblock.State.{State}
 use Rattle.blocking_core.specs.declared.unblock.State.TheVariants as state
-use Rattle.blocking_laws.specs.JobTable.{Reading}
+use Rattle.blocking_laws.specs.JobTable.{Kind}
 use Rattle.blocking_laws.specs.Sessions.{default_capacity, kind_of, is_for_closed}
 use Rattle.blocking_laws.specs.Steps.{is_known}
 use Rattle.blocking_laws.specs.Seats.{waker_in}
@@ -38,10 +42,11 @@ use Rattle.blocking_laws.specs.declared.event.Reply.{Reply as Told}
 use Rattle.blocking_laws.specs.declared.event.Reply.TheVariants as told
 use Rattle.blocking_laws.specs.declared.step.HandleCall.{HandleCall}
 use Rattle.blocking_laws.specs.declared.step.HandleCall.TheVariants as handle_call
-use Rattle.blocking_lanes.specs.Passages.{Goods, OfBytes, if_piped, through}
+use Rattle.blocking_lanes.specs.Passages.{Goods, OfBytes, OfItems, through, if_piped}
 use Rattle.blocking_lanes.specs.Reads as reads
 use Rattle.blocking_lanes.specs.SessionJobs.{new_job}
-use Rattle.blocking_lanes.specs.Sessions.{Session, Work, goods_of, serial_of, drained, filled, reach, front, session_after_close, session_after_drain, session_after_fill, session_after_look, session_after_give_up, give_up_wakes, work_by, writer_works, seek_works}
+use Rattle.blocking_lanes.specs.Sessions.{Session, Work, goods_of, serial_of, drained, filled, reach, front, session_after_close, session_after_drain, session_after_fill, session_after_look, session_after_give_up, give_up_wakes, streamer_works, work_by, writer_works, seek_works}
+use Rattle.blocking_lanes.specs.Streams as streams
 use Rattle.blocking_lanes.specs.Writes as writes
 use Rattle.blocking_lanes.specs.Seeks as seeks
 use Rattle.blocking_lanes.specs.declared.job.SessionJob.{SessionJob}
@@ -71,9 +76,9 @@ pub record Owner : Type 0 where
 abbrev pub new_owner : ℕ → Owner
 new_owner capacity = record { capacity = capacity; asked = None; stage = stage.Rests state.Idle; session = None }
 
--- how many bytes the pipe of a session holds
-abbrev pub capacity_of : Owner → ℕ
-capacity_of owner = if owner.capacity == 0 then default_capacity Reading else owner.capacity
+-- how many bytes or items the pipe of a session of this kind holds
+abbrev pub capacity_of : Owner → Kind → ℕ
+capacity_of owner kind = if owner.capacity == 0 then default_capacity kind else owner.capacity
 
 -- the number of the last session's job
 abbrev pub number_in : Option Session → Option JobNumber
@@ -327,7 +332,10 @@ IsDid (Some done) owner seen new = (seen ≡ Some done.act) × (new ≡ done.own
 abbrev pub new_job_of : Owner → SessionJob
 new_job_of owner = new_job (kind_of owner.asked)
 
--- what passes through the pipe of that session
+-- how much the pipe of that session holds, and what passes through it
+abbrev pub capacity_asked : Owner → ℕ
+capacity_asked owner = capacity_of owner (kind_of owner.asked)
+
 abbrev pub goods_asked : Owner → Goods
 goods_asked owner = goods_of (kind_of owner.asked)
 
@@ -403,6 +411,15 @@ abbrev pub write_as : WriteAction → writes.Progress → Owner → Option Worke
 write_as write.Deliver job owner = calls_waker (of_job.Write (writes.progress_with job wrote.Delivered)) owner
 write_as next job owner = write_in next owner.session job owner
 
+-- the same of a job that runs an iterator
+abbrev pub stream_in : ItemAction → Option Session → streams.Progress → Owner → Option Worked
+stream_in doing None job owner = None
+stream_in doing (Some session) job owner = worked_by of_job.Items (through OfItems session.goods (streamer_works doing job session)) owner
+
+abbrev pub stream_as : ItemAction → streams.Progress → Owner → Option Worked
+stream_as item.Deliver job owner = calls_waker (of_job.Items (streams.progress_with job sent.Delivered)) owner
+stream_as doing job owner = stream_in doing owner.session job owner
+
 -- the same of a job that seeks
 abbrev pub seek_in : SeekAction → Option Session → seeks.Progress → Owner → Option Worked
 seek_in next None job owner = None
@@ -416,6 +433,7 @@ seek_as next job owner = seek_in next owner.session job owner
 abbrev pub worked : SessionJob → Owner → Option Worked
 worked (of_job.Read job) owner = read_as (read_next job.core) job owner
 worked (of_job.Write job) owner = write_as (write_next job.core) job owner
+worked (of_job.Items job) owner = stream_as (item_next job.core) job owner
 worked (of_job.Seek job) owner = seek_as (seek_next job.core) job owner
 
 -- the answer of a call by which the job may act, and what it leaves: where it has no such act nothing changes

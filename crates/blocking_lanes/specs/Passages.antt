@@ -14,6 +14,10 @@ abbrev pub is_bytes : Goods → Bool
 is_bytes OfBytes = true
 is_bytes _ = false
 
+abbrev pub is_items : Goods → Bool
+is_items OfItems = true
+is_items _ = false
+
 -- whether there is a pipe
 abbrev pub is_piped : Goods → Bool
 is_piped OfNothing = false

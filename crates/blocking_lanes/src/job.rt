@@ -1,10 +1,11 @@
 //! The job of a session.
 ghost use Rattle.std.specs.Prelude.{◌≡◌};
 
+use crate::item::ItemProgress;
 use crate::read::ReadProgress;
 use crate::seek::SeekProgress;
 use crate::write::WriteProgress;
-use blocking_core::job::{ReadAction, SeekAction, WriteAction};
+use blocking_core::job::{ItemAction, ReadAction, SeekAction, WriteAction};
 use blocking_laws::step::Answer;
 
 /// The job of a session, and how far it is.
@@ -14,6 +15,8 @@ pub enum SessionJob {
     Read(ReadProgress),
     /// It writes behind its owner.
     Write(WriteProgress),
+    /// It takes items ahead of its owner.
+    Items(ItemProgress),
     /// It moves the handle to a position.
     Seek(SeekProgress),
 }
@@ -32,6 +35,7 @@ impl SessionJob {
             SessionJob::Write(write) => {
                 matches!(write.next(), WriteAction::Write(_) | WriteAction::Flush)
             }
+            SessionJob::Items(items) => matches!(items.next(), ItemAction::Next),
             SessionJob::Seek(seek) => matches!(seek.next(), SeekAction::Seek),
         }
     }
@@ -43,6 +47,7 @@ impl SessionJob {
         match self {
             SessionJob::Read(read) => matches!(read.next(), ReadAction::Done),
             SessionJob::Write(write) => matches!(write.next(), WriteAction::Done),
+            SessionJob::Items(items) => matches!(items.next(), ItemAction::Done),
             SessionJob::Seek(seek) => matches!(seek.next(), SeekAction::Done),
         }
     }
@@ -54,6 +59,7 @@ impl SessionJob {
         match self {
             SessionJob::Read(read) => read.may_be_answered(answer),
             SessionJob::Write(write) => write.may_be_answered(answer),
+            SessionJob::Items(items) => items.may_be_answered(answer),
             SessionJob::Seek(seek) => seek.may_be_answered(answer),
         }
     }
@@ -65,6 +71,7 @@ impl SessionJob {
         match self {
             SessionJob::Read(read) => read.answer(answer),
             SessionJob::Write(write) => write.answer(answer),
+            SessionJob::Items(items) => items.answer(answer),
             SessionJob::Seek(seek) => seek.answer(answer),
         }
     }

@@ -6,6 +6,7 @@
 #![tactic(auto)]
 
 mod call;
+mod item;
 mod job;
 pub mod kept;
 mod owner;
@@ -17,6 +18,7 @@ mod task;
 mod write;
 
 pub use call::CallProgress;
+pub use item::ItemProgress;
 pub use job::SessionJob;
 pub use owner::{Owner, OwnerNext};
 pub use passage::Passage;

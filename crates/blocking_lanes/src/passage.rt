@@ -1,7 +1,7 @@
 //! The pipe between an owner and the job of its session.
 ghost use Rattle.std.specs.Prelude.{◌≡◌, length, is_some, true};
 ghost use Rattle.blocking_core.specs.Pipes.{room};
-ghost use Rattle.blocking_lanes.specs.Passages.{is_bytes, is_piped, goods_in, pipe_in, closed_by_owner, closed_by_job};
+ghost use Rattle.blocking_lanes.specs.Passages.{is_bytes, is_items, is_piped, goods_in, pipe_in, closed_by_owner, closed_by_job};
 
 use blocking_core::pipe::{BytePipe, ItemPipe};
 use blocking_core::pool::WakeNote;
@@ -23,6 +23,13 @@ impl Passage {
         ensures { result ≡ is_bytes (goods_in self.now) }
     {
         matches!(self, Passage::Bytes(_))
+    }
+
+    /// Whether items pass.
+    pub(crate) fn is_of_items(&self) -> bool
+        ensures { result ≡ is_items (goods_in self.now) }
+    {
+        matches!(self, Passage::Items(_))
     }
 
     /// Whether there is a pipe.

@@ -1,13 +1,17 @@
 //! Where an owner meets the job of its session.
 ghost use Rattle.std.specs.Prelude.{◌≡◌, ◌<◌, ◌≤◌, true, length, []};
 
+use crate::item::ItemProgress;
 use crate::passage::Passage;
 use crate::read::ReadProgress;
 use crate::seek::SeekProgress;
 use crate::write::WriteProgress;
 use blocking_core::io::Fault;
-use blocking_core::job::{PIECE, ReadAction, ReadAnswer, SeekAction, SeekAnswer, WriteAction, WriteAnswer};
-use blocking_core::pipe::{Answered, Drained, Filled, Peeked, Put, Room};
+use blocking_core::job::{
+    ItemAction, ItemAnswer, PIECE, ReadAction, ReadAnswer, SeekAction, SeekAnswer, WriteAction,
+    WriteAnswer,
+};
+use blocking_core::pipe::{Answered, Drained, Filled, Peeked, Put, Room, Sending};
 use blocking_core::pool::{JobNo, WakeNote};
 use blocking_core::task::{Slot, Slotted};
 use blocking_laws::bytes::Bytes;
@@ -72,12 +76,14 @@ impl Model for Session {
 
 impl Session {
     ghost use Rattle.std.specs.Prelude.{vec_len, IfOk, OnErr};
+    ghost use Rattle.blocking_core.specs.Items.{item_next};
     ghost use Rattle.blocking_core.specs.Reading.{read_next};
     ghost use Rattle.blocking_core.specs.Slots.{empty_slot};
     ghost use Rattle.blocking_core.specs.Writing.{write_next};
+    ghost use Rattle.blocking_lanes.specs.Passages.{OfBytes, OfItems, is_bytes, is_items, goods_in, pipe_in, through, is_piped};
     ghost use Rattle.blocking_core.specs.Seeks.{seek_next};
-    ghost use Rattle.blocking_lanes.specs.Passages.{OfBytes, is_bytes, is_piped, goods_in, pipe_in, through};
     ghost use Rattle.blocking_lanes.specs.Sessions.{filled, session_after_fill, front, found_piece, holds, work_at_peek, work_of_consume};
+    ghost use Rattle.blocking_lanes.specs.Sessions.{found_send, streamer_closes, streamer_finishes, streamer_works, work_at_send, seek_finishes, seek_works};
     ghost use Rattle.blocking_lanes.specs.Sessions.{writer_closes, writer_finishes, writer_works, seek_finishes, seek_works};
     ghost use Rattle.blocking_lanes.specs.Sessions.{reach, drained, session_after_close, session_after_drain, session_after_look};
     ghost use Rattle.blocking_lanes.specs.Sessions.{work_by, work_at_room, work_at_put, work_of_close, work_of_finish, found_room, found_put, fits_in};
@@ -114,6 +120,13 @@ impl Session {
         ensures { result ≡ is_bytes self.now.goods }
     {
         self.passage.is_of_bytes()
+    }
+
+    /// Whether items pass through its pipe.
+    pub(crate) fn is_of_items(&self) -> bool
+        ensures { result ≡ is_items self.now.goods }
+    {
+        self.passage.is_of_items()
     }
 
     /// Whether it has a pipe.
@@ -439,6 +452,71 @@ impl Session {
             | WriteAction::Deliver
             | WriteAction::Done => None,
         })
+    }
+
+    // ---- a job that runs an iterator
+
+    // The job sends the item that its handle gave, and is seated where there is no room.
+    fn send(&mut self, job: &mut ItemProgress) -> Act
+        requires { self.old.goods ≡ OfItems }
+        ensures { work_at_send (found_send self.old) job.old self.old
+            ≡ record { act = result; job = job.new; session = self.new } }
+    {
+        let Passage::Items(pipe) = &mut self.passage else {
+            unreachable!()
+        };
+        match pipe.send(self.number, job.item()) {
+            Sending::Sent(seat) => {
+                let woke = seat.is_some();
+                job.meet(ItemAnswer::Sent { woke });
+                Act::Put(1, HolderWaker::in_seat(woke))
+            }
+            Sending::Parked(_in_hand) => {
+                job.meet(ItemAnswer::Parked);
+                Act::JobParked
+            }
+            Sending::Shut(_in_hand) => {
+                job.meet(ItemAnswer::Shut);
+                Act::Lost(1)
+            }
+        }
+    }
+
+    // The job closes its end of the pipe.
+    fn close_streamer(&mut self, job: &mut ItemProgress) -> Act
+        requires { is_piped self.old.goods ≡ true }
+        ensures { streamer_closes job.old self.old
+            ≡ record { act = result; job = job.new; session = self.new } }
+    {
+        let woke = self.passage.close_job();
+        job.meet(ItemAnswer::Closed { woke });
+        Act::JobClosed(HolderWaker::in_seat(woke))
+    }
+
+    // The job puts its result into the slot.
+    fn finish_streamer(&mut self, job: &mut ItemProgress) -> Act
+        ensures { streamer_finishes job.old self.old
+            ≡ record { act = result; job = job.new; session = self.new } }
+    {
+        let woke = self.slot.put(None).wake.is_some();
+        job.meet(ItemAnswer::Finished { woke });
+        Act::Finished(HolderWaker::in_seat(woke))
+    }
+
+    /// A job that runs an iterator takes its next action, where it takes it at its session: what is seen of it.
+    pub(crate) fn stream(&mut self, job: &mut ItemProgress) -> Option<Act>
+        ensures { IsWork (through OfItems self.old.goods (streamer_works (item_next job.old.core) job.old self.old)) job.old self.old result
+            job.new self.new }
+    {
+        if !self.is_of_items() {
+            return None;
+        }
+        match job.next() {
+            ItemAction::Send => Some(self.send(job)),
+            ItemAction::Close => Some(self.close_streamer(job)),
+            ItemAction::Finish => Some(self.finish_streamer(job)),
+            ItemAction::Next | ItemAction::Deliver | ItemAction::Done => None,
+        }
     }
 
     // ---- a job that seeks

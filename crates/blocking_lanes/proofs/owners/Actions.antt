@@ -8,6 +8,9 @@ use Rattle.blocking_core.specs.Writing.{write_next}
 use Rattle.blocking_core.specs.Seeks.{seek_next}
 use Rattle.blocking_core.specs.Slots.{Content, Empty, Full, GivenUp, Abandoned}
 use Rattle.blocking_core.specs.declared.io.Fault.{Fault}
+use Rattle.blocking_core.specs.Items.{item_next}
+use Rattle.blocking_core.specs.declared.job.item.ItemAction.{ItemAction}
+use Rattle.blocking_core.specs.declared.job.item.ItemAction.TheVariants as item
 use Rattle.blocking_core.specs.declared.job.read.ReadAction.{ReadAction}
 use Rattle.blocking_core.specs.declared.job.read.ReadAction.TheVariants as read
 use Rattle.blocking_core.specs.declared.job.write.WriteAction.{WriteAction}
@@ -16,7 +19,7 @@ use Rattle.blocking_core.specs.declared.job.seek.SeekAction.{SeekAction}
 use Rattle.blocking_core.specs.declared.job.seek.SeekAction.TheVariants as seek
 use Rattle.blocking_core.specs.declared.unblock.OwnerAction.{OwnerAction}
 use Rattle.blocking_core.specs.declared.unblock.OwnerAction.TheVariants as action
-use Rattle.blocking_laws.specs.JobTable.{Kind, Reading, Writing, Seeking, JobAction, PutPiece, Consume, next_but_wake, is_asking, is_over, fault, has_finished, has_given_up}
+use Rattle.blocking_laws.specs.JobTable.{Kind, Reading, Writing, Streaming, JobAction, PutPiece, Consume, next_but_wake, is_asking, is_over, fault, has_finished, has_given_up, Seeking}
 use Rattle.blocking_laws.specs.Passed.{got, accepted, kind_in}
 use Rattle.blocking_laws.specs.Seen.{own, acts_of}
 use Rattle.blocking_laws.specs.Sessions.{jobs_of, kind_of_job, under_way, is_poll_over, is_for_closed}
@@ -28,13 +31,15 @@ use Rattle.blocking_laws.specs.declared.event.Reply.{Reply as Told}
 use Rattle.blocking_laws.specs.declared.step.HandleCall.{HandleCall}
 use Rattle.blocking_laws.specs.declared.step.HandleCall.TheVariants as handle_call
 use Rattle.blocking_pool.specs.Lists.{is_in}
-use Rattle.blocking_lanes.specs.Owners.{Owner, rests, may_ask, may_ask_at, next_of, next_at, next_by, next_to_say, did, did_in, close_did, drain_did, fill_did, fill_did_in, look_did, looked_as, reply_as, reply_did, worked, worked_by, read_as, read_in, write_as, write_in, seek_as, seek_in}
+use Rattle.blocking_lanes.specs.Owners.{Owner, rests, may_ask, may_ask_at, next_of, next_at, next_by, next_to_say, did, did_in, drain_did, fill_did, fill_did_in, look_did, looked_as, reply_as, reply_did, worked, worked_by, read_as, read_in, stream_as, stream_in, write_as, write_in, close_did, seek_as, seek_in}
 use Rattle.blocking_lanes.specs.OwnerTies.{OwnerAs, LastAs, SlotAs, Flows, state_as}
-use Rattle.blocking_lanes.specs.Passages.{OfBytes, is_piped}
+use Rattle.blocking_lanes.specs.Passages.{OfBytes, OfItems, is_piped}
 use Rattle.blocking_lanes.specs.Reads as reads
 use Rattle.blocking_lanes.specs.Reads.{ReadAs}
 use Rattle.blocking_lanes.specs.SessionJobs.{JobAs, kind_of, action_of}
-use Rattle.blocking_lanes.specs.Sessions.{Session, drained, filled, fits_in, found_put, goods_of, holds, reach, session_after_look, work_at_put, work_by, work_of_consume, writer_works}
+use Rattle.blocking_lanes.specs.Sessions.{Session, drained, filled, fits_in, found_put, goods_of, holds, reach, session_after_look, streamer_works, work_at_put, work_by, work_of_consume, writer_works}
+use Rattle.blocking_lanes.specs.Streams as streams
+use Rattle.blocking_lanes.specs.Streams.{ItemAs}
 use Rattle.blocking_lanes.specs.Writes as writes
 use Rattle.blocking_lanes.specs.Writes.{WriteAs}
 use Rattle.blocking_lanes.specs.Seeks as seeks
@@ -51,6 +56,7 @@ use Rattle.blocking_lanes.proofs.owners.Known.{gone_known, may_ask_known}
 use Rattle.blocking_lanes.proofs.owners.OwnerActs.{owner_by_parts, bound, doing, fits_at}
 use Rattle.blocking_lanes.proofs.owners.States.{gone_is, is_lent, lent, lent_at, looks_lent, may_be_asked, open_lent, open_piped}
 use Rattle.blocking_lanes.proofs.owners.ReadJobs as read_job
+use Rattle.blocking_lanes.proofs.owners.StreamJobs as stream_job
 use Rattle.blocking_lanes.proofs.owners.WriteJobs as write_job
 use Rattle.blocking_lanes.proofs.owners.SeekJobs as seek_job
 use Rattle.blocking_lanes.proofs.owners.Steps.{its_last}
@@ -145,7 +151,7 @@ told_some None p owner known = absurd (cc)
 told_some (Some told) p owner known = refl
 
 -- what passes through the pipe of a session, by its kind
-goods_at : (last : Option Session) (bytes : ℕ) (cut : List Event) (k : Kind) → LastAs last bytes cut → kind_in (sessions.last_session (own cut)) ≡ k → (s : Session) → last ≡ Some s
+goods_at : (last : Option Session) (bytes : Kind → ℕ) (cut : List Event) (k : Kind) → LastAs last bytes cut → kind_in (sessions.last_session (own cut)) ≡ k → (s : Session) → last ≡ Some s
     → s.goods ≡ goods_of k
 goods_at None bytes cut k l is s e = absurd (cc)
 goods_at (Some r) bytes cut k l is s e = let same : r ≡ s = cc in subst (λ (x : Session). x.goods ≡ goods_of k) same (l.lent.goods ∙ ap goods_of is)
@@ -310,6 +316,31 @@ write_some owner cut n p t of r among asks over = by_next (write_next p.core) re
         by_case write.Flush is asks over = absurd (cc)
         by_case write.Done is asks over = absurd (cc)
 
+-- and one that runs an iterator
+stream_some : (owner : Owner) (cut : List Event) (n : ℕ) (p : streams.Progress) → OwnerAs owner cut → kind_of_job n (own cut) ≡ Streaming → ItemAs p (acts_of n cut) → is_in n (jobs_of (own cut)) ≡ true
+    → is_asking (streams.action_of p) ≡ false → is_over (streams.action_of p) ≡ false → is_some (worked (of_job.Items p) owner) ≡ true
+stream_some owner cut n p t of r among asks over = by_next (item_next p.core) refl asks over
+  where
+    at_last : (a : ItemAction) → item_next p.core ≡ a → (a ≡ item.Deliver → ⊥) → is_over (streams.action_as p.item a) ≡ false
+        → ((s : Session) → is_some (worked_by of_job.Items (streamer_works a p s) owner) ≡ true) → is_some (stream_in a owner.session p owner) ≡ true
+    at_last a is other goes here =
+        let m = meets owner cut n Streaming (streams.action_as p.item a) t of among (sym r.next ∙ ap (streams.action_as p.item) (stream_job.awake p a is other).next_is) goes in
+        subst (λ o. is_some (stream_in a o p owner) ≡ true) (sym m.here)
+        (ap (λ w. is_some (worked_by of_job.Items w owner)) (through_here OfItems m.session.goods (streamer_works a p m.session) m.goods) ∙ here m.session)
+
+    by_next : (a : ItemAction) → item_next p.core ≡ a → is_asking (streams.action_as p.item (item_next p.core)) ≡ false → is_over (streams.action_as p.item (item_next p.core)) ≡ false
+        → is_some (stream_as (item_next p.core) p owner) ≡ true
+    by_next a is asks over = subst (λ b. is_some (stream_as b p owner) ≡ true) (sym is)
+        (by_case a is (ap (λ b. is_asking (streams.action_as p.item b)) (sym is) ∙ asks) (ap (λ b. is_over (streams.action_as p.item b)) (sym is) ∙ over))
+      where
+        by_case : (a : ItemAction) → item_next p.core ≡ a → is_asking (streams.action_as p.item a) ≡ false → is_over (streams.action_as p.item a) ≡ false → is_some (stream_as a p owner) ≡ true
+        by_case item.Deliver is asks over = refl
+        by_case item.Send is asks over = at_last item.Send is (λ e. cc) refl (λ s. refl)
+        by_case item.Close is asks over = at_last item.Close is (λ e. cc) refl (λ s. refl)
+        by_case item.Finish is asks over = at_last item.Finish is (λ e. cc) refl (λ s. refl)
+        by_case item.Next is asks over = absurd (cc)
+        by_case item.Done is asks over = absurd (cc)
+
 -- and one that seeks
 seek_some : (owner : Owner) (cut : List Event) (n : ℕ) (p : seeks.Progress) → OwnerAs owner cut → kind_of_job n (own cut) ≡ Seeking p.goal → SeekAs p (acts_of n cut) → is_in n (jobs_of (own cut)) ≡ true
     → is_asking (seeks.action_of p) ≡ false → is_over (seeks.action_of p) ≡ false → is_some (worked (of_job.Seek p) owner) ≡ true
@@ -328,4 +359,5 @@ pub works_some : (owner : Owner) (cut : List Event) (n : ℕ) (p : SessionJob) �
     → is_in n (jobs_of (own cut)) ≡ true → is_asking (action_of p) ≡ false → is_over (action_of p) ≡ false → is_some (worked p owner) ≡ true
 works_some owner cut n (of_job.Read p) t of r among asks over = read_some owner cut n p t of r among asks over
 works_some owner cut n (of_job.Write p) t of r among asks over = write_some owner cut n p t of r among asks over
+works_some owner cut n (of_job.Items p) t of r among asks over = stream_some owner cut n p t of r among asks over
 works_some owner cut n (of_job.Seek p) t of r among asks over = seek_some owner cut n p t of r among asks over

@@ -6,7 +6,7 @@ use Rattle.blocking_core.specs.Pipes.{room}
 use Rattle.blocking_core.specs.Places.{Served, Waiting, Closed, drain}
 use Rattle.blocking_core.specs.Slots.{Slot, Empty, Full}
 use Rattle.blocking_core.specs.declared.io.Fault.{Fault}
-use Rattle.blocking_laws.specs.JobTable.{Kind, Reading, Writing, Seeking, JobAction, FindRoom, AskBytes, PutPiece, Peek, OfferBytes, Consume, AskFlush, CloseEnd, Finish, Over, next_but_wake, fault, has_closed, has_finished, has_given_up}
+use Rattle.blocking_laws.specs.JobTable.{Kind, Reading, Writing, Streaming, JobAction, FindRoom, AskBytes, PutPiece, Peek, OfferBytes, Consume, AskFlush, AskItem, SendItem, CloseEnd, Finish, Over, next_but_wake, fault, has_finished, has_given_up, Seeking, has_closed}
 use Rattle.blocking_laws.specs.Passed.{gave, peeked, taken as taken_by}
 use Rattle.blocking_laws.specs.Sessions as sessions
 use Rattle.blocking_laws.specs.declared.event.Act.{Act}
@@ -52,6 +52,8 @@ more_room : (next : JobAction) (old new : ℕ) (lasts stopped : Bool) (g : Passe
 more_room FindRoom old new lasts stopped g more p = p
 more_room (AskBytes most) old new lasts stopped g more p = let fits = p.2 in (p.0, p.1, omega (arith, fits, more))
 more_room (PutPiece bytes) old new lasts stopped g more p = let fits = p.2 in (p.0, p.1, omega (arith, fits, more), p.3)
+more_room AskItem old new lasts stopped g more p = p
+more_room (SendItem x) old new lasts stopped g more p = p
 more_room CloseEnd old new lasts stopped g more p = p
 more_room Finish old new lasts stopped g more p = p
 more_room Over old new lasts stopped g more p = p
@@ -62,6 +64,8 @@ stops : (next : JobAction) (room : ℕ) (lasts stopped : Bool) (g : Passed) → 
 stops FindRoom room lasts stopped g p = p
 stops (AskBytes most) room lasts stopped g p = p
 stops (PutPiece bytes) room lasts stopped g p = p
+stops AskItem room lasts stopped g p = p
+stops (SendItem x) room lasts stopped g p = p
 stops CloseEnd room lasts stopped g p = (p.0, tt)
 stops Finish room lasts stopped g p = (p.0, tt)
 stops Over room lasts stopped g p = tt
@@ -126,6 +130,15 @@ shut_flow s Reading shut took accepted next acts t = record {
   unwritten = t.unwritten;
   unclosed = t.unclosed;
 }
+shut_flow s Streaming shut took accepted next acts t = record {
+  closed_is = t.closed_is;
+  inside = t.inside;
+  put = t.put;
+  bounded = t.bounded;
+  passed_is = stops next (room s.pipe) s.pipe.is_job_open (shut || has_given_up acts) (passed_by acts) t.passed_is;
+  unwritten = t.unwritten;
+  unclosed = t.unclosed;
+}
 shut_flow s Writing shut took accepted next acts t = record {
   closed_is = t.closed_is;
   out = t.out;
@@ -145,6 +158,15 @@ shut_flow s _ shut took accepted next acts t = absurd t
 pub same_flow : (s : Session) (slot : Slot (Option (Fault ℕ)) (Unit {0})) (kind : Kind) (shut : Bool) (took accepted : List ℕ) (next : JobAction) (acts : List Act)
     → Flows kind s shut took accepted next acts → Flows kind (record s { slot = slot }) shut took accepted next acts
 same_flow s slot Reading shut took accepted next acts t = record {
+  closed_is = t.closed_is;
+  inside = t.inside;
+  put = t.put;
+  bounded = t.bounded;
+  passed_is = t.passed_is;
+  unwritten = t.unwritten;
+  unclosed = t.unclosed;
+}
+same_flow s slot Streaming shut took accepted next acts t = record {
   closed_is = t.closed_is;
   inside = t.inside;
   put = t.put;
@@ -319,9 +341,10 @@ module _ (s : Session) (capacity : ℕ) (last : Option sessions.Session) (shut b
 
 -- ---- a session that begins
 
--- jobs that are lent a handle
+-- jobs that are lent a handle, with a pipe
 abbrev pub IsLending : Kind → Type 0
 IsLending Reading = Unit {0}
+IsLending Streaming = Unit {0}
 IsLending Writing = Unit {0}
 IsLending (Seeking goal) = Unit {0}
 IsLending _ = ⊥
@@ -329,6 +352,7 @@ IsLending _ = ⊥
 -- what goes through a session's pipe tells that it is such a one
 pub lends : (s : Session) (shut : Bool) (got accepted : List ℕ) (next : JobAction) (acts : List Act) (kind : Kind) → Flows kind s shut got accepted next acts → IsLending kind
 lends s shut got accepted next acts Reading flow = tt
+lends s shut got accepted next acts Streaming flow = tt
 lends s shut got accepted next acts Writing flow = tt
 lends s shut got accepted next acts (Seeking goal) flow = tt
 lends s shut got accepted next acts _ flow = absurd flow
@@ -336,6 +360,17 @@ lends s shut got accepted next acts _ flow = absurd flow
 pub begins : (number : JobNumber) (kind : Kind) (capacity : ℕ) (dropped : Bool) → IsLending kind → 0 < capacity
     → SessionAs (new_session number (goods_of kind) capacity) kind capacity (Some (record { serial = number.serial; kind = kind })) false false dropped [] [] [] false false false
 begins number Reading capacity dropped lending some = record {
+  lent = record { begun = refl; goods = refl; some = some; holds = refl; within = omega arith; shut_is = refl };
+  flow = record { closed_is = refl; inside = refl; put = ([], refl); bounded = omega arith; passed_is = (refl, (refl, refl)); unclosed = λ is. absurd (cc); unwritten = refl };
+  result = record { slot = (refl, refl); over_is = refl; let_go = λ is. absurd (cc) };
+  seats = record {
+    job = refl;
+    owner = refl;
+    slot = refl;
+    reason = record { job = λ seated. absurd (cc); owner = λ seated. absurd (cc); slot = λ seated. absurd (cc) };
+  };
+}
+begins number Streaming capacity dropped lending some = record {
   lent = record { begun = refl; goods = refl; some = some; holds = refl; within = omega arith; shut_is = refl };
   flow = record { closed_is = refl; inside = refl; put = ([], refl); bounded = omega arith; passed_is = (refl, (refl, refl)); unclosed = λ is. absurd (cc); unwritten = refl };
   result = record { slot = (refl, refl); over_is = refl; let_go = λ is. absurd (cc) };

@@ -5,6 +5,9 @@ use Rattle.blocking_core.specs.Places.{Met, Served, Waiting, Closed}
 use Rattle.blocking_core.specs.Reading.{read_next}
 use Rattle.blocking_core.specs.Slots.{Content, Empty, Full, GivenUp, Abandoned}
 use Rattle.blocking_core.specs.declared.io.Fault.{Fault}
+use Rattle.blocking_core.specs.Items.{item_next}
+use Rattle.blocking_core.specs.declared.job.item.ItemAction.{ItemAction}
+use Rattle.blocking_core.specs.declared.job.item.ItemAction.TheVariants as item
 use Rattle.blocking_core.specs.declared.job.read.ReadAction.{ReadAction}
 use Rattle.blocking_core.specs.declared.job.read.ReadAction.TheVariants as read
 use Rattle.blocking_core.specs.declared.job.write.WriteAction.{WriteAction}
@@ -24,13 +27,14 @@ use Rattle.blocking_laws.specs.declared.event.Reply.{Reply as Told}
 use Rattle.blocking_laws.specs.declared.step.HandleCall.{HandleCall}
 use Rattle.blocking_laws.specs.declared.step.HandleCall.TheVariants as handle_call
 use Rattle.blocking_pool.specs.Jobs.{JobNumber}
-use Rattle.blocking_lanes.specs.Owners.{Owner, Did, Worked, note_at, drain_did, fill_did, fill_did_in, look_did, looked_as, reply_as, reply_did, did_in, did_by, did, worked_by, read_in, read_as, seek_in, seek_as, write_in, write_as, worked}
+use Rattle.blocking_lanes.specs.Owners.{Owner, Did, Worked, note_at, drain_did, fill_did, fill_did_in, look_did, looked_as, reply_as, reply_did, did_in, did_by, did, worked_by, read_in, read_as, stream_in, stream_as, write_in, write_as, worked, seek_in, seek_as}
 use Rattle.blocking_lanes.specs.OwnerSteps.{OwnerStep, IsAsked, Acts, Begins, IsRefused, Delivers, IsDropped, Works, IsAnswered, GivesUp, CallsWaker, act_of, act_in, act_of_work, delivered}
-use Rattle.blocking_lanes.specs.Passages.{OfBytes, through}
+use Rattle.blocking_lanes.specs.Passages.{OfBytes, OfItems, through}
 use Rattle.blocking_lanes.specs.Reads as reads
+use Rattle.blocking_lanes.specs.Streams as streams
 use Rattle.blocking_lanes.specs.Writes as writes
+use Rattle.blocking_lanes.specs.Sessions.{Session, Work, found_send, streamer_works, work_by, work_at_put, writer_works, work_of_consume, holds, fits_in, found_room, found_put, found_piece, drained, filled, reach, session_after_look}
 use Rattle.blocking_lanes.specs.Seeks as seeks
-use Rattle.blocking_lanes.specs.Sessions.{Session, Work, work_by, work_at_put, writer_works, work_of_consume, holds, fits_in, found_room, found_put, found_piece, drained, filled, reach, session_after_look}
 use Rattle.blocking_lanes.specs.declared.job.SessionJob.{SessionJob}
 use Rattle.blocking_lanes.specs.declared.job.SessionJob.TheVariants as of_job
 use Rattle.blocking_lanes.specs.declared.owner.OwnerStage.{OwnerStage}
@@ -135,6 +139,14 @@ plain_writer write.Flush p s work e = absurd (cc)
 plain_writer write.Deliver p s work e = absurd (cc)
 plain_writer write.Done p s work e = absurd (cc)
 
+plain_streamer : (a : ItemAction) (p : streams.Progress) (s : Session) (work : Work streams.Progress) → streamer_works a p s ≡ Some work → IsPlain [] work.act
+plain_streamer item.Send p s work e = moved (λ (w : Work streams.Progress). IsPlain [] w.act) _ work e (plain_put 1 (found_send s))
+plain_streamer item.Close p s work e = moved (λ (w : Work streams.Progress). IsPlain [] w.act) _ work e (record { pool = refl; nothing = refl; made = refl; new = refl })
+plain_streamer item.Finish p s work e = moved (λ (w : Work streams.Progress). IsPlain [] w.act) _ work e (record { pool = refl; nothing = refl; made = refl; new = refl })
+plain_streamer item.Next p s work e = absurd (cc)
+plain_streamer item.Deliver p s work e = absurd (cc)
+plain_streamer item.Done p s work e = absurd (cc)
+
 -- what a job does at its session
 plain_by : {J : Type 0} (job_of : J → SessionJob) (o : Option (Work J)) (owner : Owner) (done : Worked) → ((work : Work J) → o ≡ Some work → IsPlain [] work.act)
     → worked_by job_of o owner ≡ Some done → IsPlain [] done.act
@@ -168,6 +180,19 @@ plain_write (write.Write count) p owner done e = plain_out (write.Write count) o
 plain_write write.Flush p owner done e = plain_out write.Flush owner.session p owner done e
 plain_write write.Done p owner done e = plain_out write.Done owner.session p owner done e
 
+plain_sent : (a : ItemAction) (last : Option Session) (p : streams.Progress) (owner : Owner) (done : Worked) → stream_in a last p owner ≡ Some done → IsPlain [] done.act
+plain_sent a None p owner done e = absurd (cc)
+plain_sent a (Some s) p owner done e =
+    plain_by of_job.Items (through OfItems s.goods (streamer_works a p s)) owner done (λ work does. plain_streamer a p s work (through_some OfItems s.goods (streamer_works a p s) work does).1) e
+
+plain_stream : (a : ItemAction) (p : streams.Progress) (owner : Owner) (done : Worked) → stream_as a p owner ≡ Some done → IsPlain [] done.act
+plain_stream item.Deliver p owner done e = moved (λ (d : Worked). IsPlain [] d.act) _ done e (record { pool = refl; nothing = refl; made = refl; new = refl })
+plain_stream item.Next p owner done e = plain_sent item.Next owner.session p owner done e
+plain_stream item.Send p owner done e = plain_sent item.Send owner.session p owner done e
+plain_stream item.Close p owner done e = plain_sent item.Close owner.session p owner done e
+plain_stream item.Finish p owner done e = plain_sent item.Finish owner.session p owner done e
+plain_stream item.Done p owner done e = plain_sent item.Done owner.session p owner done e
+
 plain_sought : (a : SeekAction) (last : Option Session) (p : seeks.Progress) (owner : Owner) (done : Worked) → seek_in a last p owner ≡ Some done → IsPlain [] done.act
 plain_sought a None p owner done e = absurd (cc)
 plain_sought seek.Finish (Some s) p owner done e = moved (λ (d : Worked). IsPlain [] d.act) _ done e (record { pool = refl; nothing = refl; made = refl; new = refl })
@@ -185,6 +210,7 @@ plain_seek seek.Done p owner done e = plain_sought seek.Done owner.session p own
 plain_worked : (p : SessionJob) (owner : Owner) (done : Worked) → worked p owner ≡ Some done → IsPlain [] done.act
 plain_worked (of_job.Read p) owner done e = plain_read (read_next p.core) p owner done e
 plain_worked (of_job.Write p) owner done e = plain_write (write_next p.core) p owner done e
+plain_worked (of_job.Items p) owner done e = plain_stream (item_next p.core) p owner done e
 plain_worked (of_job.Seek p) owner done e = plain_seek (seek_next p.core) p owner done e
 
 -- each step

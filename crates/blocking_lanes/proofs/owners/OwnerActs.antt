@@ -65,9 +65,9 @@ use Rattle.blocking_lanes.proofs.owners.States.{is_away, gone_is, lent_at, lent_
 abbrev pub owner_by_parts : ℕ → Option HandleCall → OwnerStage → Option Session → Owner
 owner_by_parts bytes asked here last = record { capacity = bytes; asked = asked; stage = here; session = last }
 
--- how many bytes the pipes of its sessions hold
-abbrev pub bound : ℕ → ℕ
-bound bytes = capacity_of (owner_by_parts bytes None (stage.Rests state.Idle) None)
+-- how much the pipes of its sessions hold, by their kind
+abbrev pub bound : ℕ → Kind → ℕ
+bound bytes kind = capacity_of (owner_by_parts bytes None (stage.Rests state.Idle) None) kind
 
 -- An event keeps the law of its owner but for what passed, and leaves the owner tied.
 pub record Goes (new : Owner) (cut : List Event) (e : Event) : Type 0 where
@@ -213,8 +213,8 @@ module _ (bytes : ℕ) (asked : Option HandleCall) (p : OwnerMachine ℕ) (s : S
   polling = owner_by_parts bytes asked (stage.Polls p) (Some s)
 
   -- the session, where its kind is known
-  of_kind : (k : Kind) → kind ≡ k → Old → SessionAs s k (bound bytes) began shut over gone took written acts js ps ss
-  of_kind k e t = subst (λ k. SessionAs s k (bound bytes) began shut over gone took written acts js ps ss) e t.last
+  of_kind : (k : Kind) → kind ≡ k → Old → SessionAs s k (bound bytes k) began shut over gone took written acts js ps ss
+  of_kind k e t = subst (λ k. SessionAs s k (bound bytes k) began shut over gone took written acts js ps ss) e t.last
 
   -- ---- it closes its end of the pipe
 
@@ -257,7 +257,7 @@ module _ (bytes : ℕ) (asked : Option HandleCall) (p : OwnerMachine ℕ) (s : S
           bytes = t.bytes;
           calls = t.calls;
           stage = goes_on_so q note (sessions.call (own cut)) (sessions.state (own (e ∷ cut))) law.PollSlot false (came_back cut) polled refl;
-          last = shuts s kind (bound bytes) began shut over gone took written acts js ps ss t.last;
+          last = shuts s kind (bound bytes kind) began shut over gone took written acts js ps ss t.last;
           ended = λ is_end. absurd (cc);
           earlier = t.earlier;
           noted = noted_so q note js s.number t.last.seats.job;
@@ -299,7 +299,7 @@ module _ (bytes : ℕ) (asked : Option HandleCall) (p : OwnerMachine ℕ) (s : S
         next_is = refl;
         fits = some_fits c q (length found.0) false (came_back cut) any;
       } in
-      let last = takes s (bound bytes) began shut over gone took written acts js ps ss (max 1 (reach most s)) found e (of_kind Reading lent.0 t) in
+      let last = takes s (bound bytes Reading) began shut over gone took written acts js ps ss (max 1 (reach most s)) found e (of_kind Reading lent.0 t) in
       subst (λ (m : OwnerMachine ℕ). Goes (owner_by_parts bytes asked (goes_on m found.1) (Some (session_after_drain (Served found) s))) cut seen) (sym same)
       (record {
         acts = subst (λ n. Polls cut n (Got found.0 (serial_of found.1))) (sym (lawful bytes asked p cut (Some s) (action.Drain most) t is)) (ap drain_act (sym e) ∙ found_so most wanted t);
@@ -312,7 +312,7 @@ module _ (bytes : ℕ) (asked : Option HandleCall) (p : OwnerMachine ℕ) (s : S
           bytes = t.bytes;
           calls = t.calls;
           stage = goes_on_so q found.1 (sessions.call (own cut)) (sessions.state (own cut)) (law.Say (told.Count (length found.0))) false (came_back cut) polled refl;
-          last = subst (λ k. SessionAs (session_after_drain (Served found) s) k (bound bytes) began shut over gone (took ++ found.0) written acts false ps ss) (sym lent.0) last;
+          last = subst (λ k. SessionAs (session_after_drain (Served found) s) k (bound bytes k) began shut over gone (took ++ found.0) written acts false ps ss) (sym lent.0) last;
           ended = λ is_end. absurd (cc);
           earlier = t.earlier;
           noted = noted_so q found.1 js s.number (here.1 ∙ t.last.seats.job);
@@ -327,7 +327,7 @@ module _ (bytes : ℕ) (asked : Option HandleCall) (p : OwnerMachine ℕ) (s : S
       let fits = fits_at bytes asked p cut (Some s) (action.Drain most) t is in
       let lent = lent_at (own cut) Reading true (t.stage.0.at_is ∙ ap state_as fits.2) in
       let at_pipe = lawful bytes asked p cut (Some s) (action.Drain most) t is in
-      let last = waits s (bound bytes) began shut over gone took written acts js ps ss (max 1 (reach most s)) e (of_kind Reading lent.0 t) in
+      let last = waits s (bound bytes Reading) began shut over gone took written acts js ps ss (max 1 (reach most s)) e (of_kind Reading lent.0 t) in
       record {
         acts = subst (λ n. Polls cut n Waits) (sym at_pipe) (ap drain_act (sym e) ∙ found_so most fits.1 t);
         ends = tt;
@@ -339,8 +339,8 @@ module _ (bytes : ℕ) (asked : Option HandleCall) (p : OwnerMachine ℕ) (s : S
           bytes = t.bytes;
           calls = t.calls;
           stage = (t.stage.0.at_is, refl, refl);
-          last = subst (λ n. SessionAs (session_after_drain Waiting s) kind (bound bytes) began shut over gone took written acts js (pipe_seated_by Waits (place_of n) ps) (slot_seated_by Waits (place_of n) ss)) (sym at_pipe)
-              (subst (λ k. SessionAs (session_after_drain Waiting s) k (bound bytes) began shut over gone took written acts js true ss) (sym lent.0) last);
+          last = subst (λ n. SessionAs (session_after_drain Waiting s) kind (bound bytes kind) began shut over gone took written acts js (pipe_seated_by Waits (place_of n) ps) (slot_seated_by Waits (place_of n) ss)) (sym at_pipe)
+              (subst (λ k. SessionAs (session_after_drain Waiting s) k (bound bytes k) began shut over gone took written acts js true ss) (sym lent.0) last);
           ended = λ is_end. absurd (cc);
           earlier = t.earlier;
           noted = λ number is. absurd (cc);
@@ -445,7 +445,7 @@ module _ (bytes : ℕ) (asked : Option HandleCall) (p : OwnerMachine ℕ) (s : S
         next_is = refl;
         fits = some_fits c q went.0 false (came_back cut) many.0;
       } in
-      let last = fills s (bound bytes) began shut over gone took written acts js ps ss offered went e w.open_is (of_kind Writing w.kind_is t) in
+      let last = fills s (bound bytes Writing) began shut over gone took written acts js ps ss offered went e w.open_is (of_kind Writing w.kind_is t) in
       let offer : offered ≡ data_of (sessions.call (own cut)) = sym (ap data_of t.stage.0.asked_is ∙ ap (λ c. data_of (Some c)) w.call_is) in
       subst (λ (m : OwnerMachine ℕ). Goes (owner_by_parts bytes asked (goes_on m went.1) (Some (session_after_fill offered (Served went) s))) cut seen) (sym same)
       (record {
@@ -459,8 +459,8 @@ module _ (bytes : ℕ) (asked : Option HandleCall) (p : OwnerMachine ℕ) (s : S
           bytes = t.bytes;
           calls = t.calls;
           stage = goes_on_so q went.1 (sessions.call (own cut)) (sessions.state (own cut)) (law.Say (told.Count went.0)) false (came_back cut) polled refl;
-          last = subst (λ k. SessionAs (session_after_fill offered (Served went) s) k (bound bytes) began shut over gone took (accepted (own (seen ∷ cut))) acts false ps ss) (sym w.kind_is)
-              (subst (λ l. SessionAs (session_after_fill offered (Served went) s) Writing (bound bytes) began shut over gone took (written ++ take went.0 l) acts false ps ss) offer last);
+          last = subst (λ k. SessionAs (session_after_fill offered (Served went) s) k (bound bytes k) began shut over gone took (accepted (own (seen ∷ cut))) acts false ps ss) (sym w.kind_is)
+              (subst (λ l. SessionAs (session_after_fill offered (Served went) s) Writing (bound bytes Writing) began shut over gone took (written ++ take went.0 l) acts false ps ss) offer last);
           ended = λ is_end. absurd (cc);
           earlier = t.earlier;
           noted = noted_so q went.1 js s.number ((filled_note (length offered) s went e).0 ∙ t.last.seats.job);
@@ -468,7 +468,7 @@ module _ (bytes : ℕ) (asked : Option HandleCall) (p : OwnerMachine ℕ) (s : S
         };
       })
   fill_goes offered t w Waiting e =
-      let last = fill_waits s (bound bytes) began shut over gone took written acts js ps ss offered e (of_kind Writing w.kind_is t) in
+      let last = fill_waits s (bound bytes Writing) began shut over gone took written acts js ps ss offered e (of_kind Writing w.kind_is t) in
       record {
         acts = subst (λ n. Polls cut n Waits) (sym w.next_is) (ap fill_act (sym e) ∙ entered_so (length offered) t);
         ends = tt;
@@ -480,8 +480,8 @@ module _ (bytes : ℕ) (asked : Option HandleCall) (p : OwnerMachine ℕ) (s : S
           bytes = t.bytes;
           calls = t.calls;
           stage = (t.stage.0.at_is, refl, refl);
-          last = subst (λ n. SessionAs (session_after_fill offered Waiting s) kind (bound bytes) began shut over gone took written acts js (pipe_seated_by Waits (place_of n) ps) (slot_seated_by Waits (place_of n) ss)) (sym w.next_is)
-              (subst (λ k. SessionAs (session_after_fill offered Waiting s) k (bound bytes) began shut over gone took written acts js true ss) (sym w.kind_is) last);
+          last = subst (λ n. SessionAs (session_after_fill offered Waiting s) kind (bound bytes kind) began shut over gone took written acts js (pipe_seated_by Waits (place_of n) ps) (slot_seated_by Waits (place_of n) ss)) (sym w.next_is)
+              (subst (λ k. SessionAs (session_after_fill offered Waiting s) k (bound bytes k) began shut over gone took written acts js true ss) (sym w.kind_is) last);
           ended = λ is_end. absurd (cc);
           earlier = t.earlier;
           noted = λ number is. absurd (cc);
@@ -572,8 +572,8 @@ module _ (bytes : ℕ) (asked : Option HandleCall) (p : OwnerMachine ℕ) (s : S
           bytes = t.bytes;
           calls = t.calls;
           stage = (t.stage.0.at_is, refl, refl);
-          last = subst (λ n. SessionAs (session_after_look Empty s) kind (bound bytes) began shut over gone took written acts js (pipe_seated_by Waits (place_of n) ps) (slot_seated_by Waits (place_of n) ss)) (sym at_slot)
-              (waits_for_it s kind (bound bytes) began shut over gone took written acts js ps ss empty closed t.last);
+          last = subst (λ n. SessionAs (session_after_look Empty s) kind (bound bytes kind) began shut over gone took written acts js (pipe_seated_by Waits (place_of n) ps) (slot_seated_by Waits (place_of n) ss)) (sym at_slot)
+              (waits_for_it s kind (bound bytes kind) began shut over gone took written acts js ps ss empty closed t.last);
           ended = λ is_end. absurd (cc);
           earlier = t.earlier;
           noted = λ number is. absurd (cc);
@@ -651,7 +651,6 @@ module _ (bytes : ℕ) (asked : Option HandleCall) (p : OwnerMachine ℕ) (s : S
   sought_is handle_call.Close goal end place known = refl
   sought_is handle_call.GetMut goal end place known = refl
   sought_is _ goal end place known = absurd (cc)
-
 
   -- and it fits
   back_fits : (q : OwnerMachine ℕ) (c : HandleCall) (st : State) (ended : Bool) (why : Option (Fault ℕ)) (back : Option (List Event)) → is_known c ≡ true → LooksFrom c st ended → q.state ≡ state.Idle → q.is_at_end ≡ ended
@@ -781,7 +780,7 @@ module _ (bytes : ℕ) (asked : Option HandleCall) (p : OwnerMachine ℕ) (s : S
             t.stage.1,
             refl,
           );
-          last = returns s kind (bound bytes) began shut over gone took written acts js ps ss why full t.last;
+          last = returns s kind (bound bytes kind) began shut over gone took written acts js ps ss why full t.last;
           ended = λ is_end. absurd (cc);
           earlier = t.earlier;
           noted = λ number is. absurd (cc);

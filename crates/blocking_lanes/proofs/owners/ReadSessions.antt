@@ -10,7 +10,7 @@ use Rattle.blocking_core.specs.Places.{Served, Waiting, Closed, find_room, hand_
 use Rattle.blocking_core.specs.Slots.{Content, Empty, Full, GivenUp, Abandoned, Slot, slot_after, slot_without_job}
 use Rattle.blocking_core.specs.declared.io.Fault.{Fault}
 use Rattle.blocking_laws.specs.Ends.{handle_answers, has_failure}
-use Rattle.blocking_laws.specs.JobTable.{Kind, Reading, Writing, Seeking, JobAction, FindRoom, AskBytes, PutPiece, CloseEnd, Finish, Over, next_but_wake, is_over, next_after_answer, is_answer, fault, number, has_closed, has_finished, has_given_up}
+use Rattle.blocking_laws.specs.JobTable.{Kind, Reading, Writing, Streaming, JobAction, FindRoom, AskBytes, PutPiece, CloseEnd, Finish, Over, next_but_wake, is_over, next_after_answer, is_answer, fault, has_finished, has_given_up, Seeking, number, has_closed}
 use Rattle.blocking_laws.specs.Passed.{gave, got, answered, was_put, carried, peeked, counted, taken as taken_by}
 use Rattle.blocking_laws.specs.Sessions as sessions
 use Rattle.blocking_laws.specs.declared.event.Act.{Act}
@@ -135,6 +135,7 @@ going content finished given_up back dropped why r = by_slot content (neither fi
 called_flow : (s : Session) (kind : Kind) (shut : Bool) (took accepted : List ℕ) (acts : List Act) → Flows kind s shut took accepted (next_but_wake kind acts) acts
     → Flows kind s shut took accepted (next_but_wake kind acts) (HolderWoken ∷ acts)
 called_flow s Reading shut took accepted acts t = t
+called_flow s Streaming shut took accepted acts t = t
 called_flow s Writing shut took accepted acts t = t
 called_flow s (Seeking goal) shut took accepted acts t = record { plain = t.plain; next_is = t.next_is; place = t.place }
 called_flow s _ shut took accepted acts t = t
@@ -143,6 +144,15 @@ called_flow s _ shut took accepted acts t = t
 left_flow : (s : Session) (slot : Slot (Option (Fault ℕ)) (Unit {0})) (kind : Kind) (shut : Bool) (took accepted : List ℕ) (next : JobAction) (acts : List Act) (waker : HolderWaker)
     → Flows kind s shut took accepted next acts → Flows kind (record s { slot = slot }) shut took accepted Over (GaveUp waker ∷ acts)
 left_flow s slot Reading shut took accepted next acts waker t = record {
+  closed_is = t.closed_is;
+  inside = t.inside;
+  put = t.put;
+  bounded = t.bounded;
+  passed_is = subst (λ b. GaveAll b (passed_by acts)) (sym (or_right shut true refl)) tt;
+  unclosed = λ is lasts. refl;
+  unwritten = t.unwritten;
+}
+left_flow s slot Streaming shut took accepted next acts waker t = record {
   closed_is = t.closed_is;
   inside = t.inside;
   put = t.put;
@@ -182,6 +192,15 @@ closed_flow s Reading shut took accepted acts waker t = record {
   unclosed = λ is. absurd (cc);
   unwritten = t.unwritten;
 }
+closed_flow s Streaming shut took accepted acts waker t = record {
+  closed_is = refl;
+  inside = t.inside;
+  put = t.put;
+  bounded = t.bounded;
+  passed_is = (refl, t.passed_is.1);
+  unclosed = λ is. absurd (cc);
+  unwritten = t.unwritten;
+}
 closed_flow s Writing shut took accepted acts waker t = record {
   closed_is = refl;
   out = t.out;
@@ -206,6 +225,15 @@ Leaves kind s acts = Unit {0}
 finished_flow : (s : Session) (slot : Slot (Option (Fault ℕ)) (Unit {0})) (kind : Kind) (shut : Bool) (took accepted : List ℕ) (acts : List Act) (waker : HolderWaker)
     → Leaves kind s acts → Flows kind s shut took accepted Finish acts → Flows kind (record s { slot = slot }) shut took accepted Over (Finished waker ∷ acts)
 finished_flow s slot Reading shut took accepted acts waker leaves t = record {
+  closed_is = t.closed_is;
+  inside = t.inside;
+  put = t.put;
+  bounded = t.bounded;
+  passed_is = t.passed_is.1;
+  unclosed = λ is lasts. absurd (let closed = t.passed_is.0 in cc);
+  unwritten = t.unwritten;
+}
+finished_flow s slot Streaming shut took accepted acts waker leaves t = record {
   closed_is = t.closed_is;
   inside = t.inside;
   put = t.put;
@@ -414,6 +442,10 @@ still content finished given_up back dropped why new r =
 pub longer : (put given more : List ℕ) → (rest : List ℕ) × (given ≡ put ++ rest) → (rest : List ℕ) × (given ++ more ≡ put ++ rest)
 longer put given more found = (found.0 ++ more, ap (λ l. l ++ more) found.1 ∙ append_assoc put found.0 more)
 
+-- a job that reads has nothing in hand
+no_hand : {a b : ℕ} → a ≤ b → a ≤ b + 0
+no_hand within = omega arith
+
 -- what goes into the room that was found is bounded, where all that was given before was taken or is inside
 bounds : (given put taken items more : List ℕ) (capacity : ℕ) → given ≡ put ++ [] → put ≡ taken ++ items → length items ≤ capacity → length more ≤ capacity - length items
     → length (given ++ more) ≤ length taken + capacity
@@ -439,7 +471,7 @@ module _ (s : Session) (capacity : ℕ) (last : Option sessions.Session) (shut b
           closed_is = a.flow.closed_is;
           inside = a.flow.inside;
           put = longer (was_put acts) (gave acts) (carried answer) a.flow.put;
-          bounded = bounds (gave acts) (was_put acts) took s.pipe.items (carried answer) s.pipe.capacity a.flow.passed_is.1.0 a.flow.inside whole fits;
+          bounded = no_hand (bounds (gave acts) (was_put acts) took s.pipe.items (carried answer) s.pipe.capacity a.flow.passed_is.1.0 a.flow.inside whole fits);
           passed_is = passed;
           unclosed = λ is. absurd (cc);
           unwritten = ap (λ l. l ++ counted answer (peeked acts)) a.flow.unwritten ∙ uncounted (peeked acts);

@@ -99,7 +99,7 @@ lent_goes_on acts state.Idle is at = absurd (cc)
 lent_goes_on acts state.Closed is at = absurd (cc)
 
 -- a handle that is lent is lent to the last session's job
-pub lent : (last : Option Session) (bytes : ℕ) (cut : List Event) (st : State) → LastAs last bytes cut → sessions.state (own cut) ≡ state_as st → is_lent st ≡ true → is_some last ≡ true
+pub lent : (last : Option Session) (bytes : Kind → ℕ) (cut : List Event) (st : State) → LastAs last bytes cut → sessions.state (own cut) ≡ state_as st → is_lent st ≡ true → is_some last ≡ true
 lent (Some s) bytes cut st l at is = refl
 lent None bytes cut st l at is = absurd (none (session (own cut)) refl (lent_goes_on (own cut) st is at))
   where
@@ -109,12 +109,12 @@ lent None bytes cut st l at is = absurd (none (session (own cut)) refl (lent_goe
 
 -- ---- the sessions that there are
 
--- a handle that is lent is lent to a job that reads, writes or seeks
+-- a handle that is lent is lent to a job that reads, writes, takes items or seeks
 abbrev pub IsThere : State → Type 0
 IsThere (state.Lent kind end) = IsLending (kind_as kind)
 IsThere _ = Unit {0}
 
-pub is_there : (last : Option Session) (bytes : ℕ) (cut : List Event) (st : State) → LastAs last bytes cut → sessions.state (own cut) ≡ state_as st → IsThere st
+pub is_there : (last : Option Session) (bytes : Kind → ℕ) (cut : List Event) (st : State) → LastAs last bytes cut → sessions.state (own cut) ≡ state_as st → IsThere st
 is_there last bytes cut state.Idle l at = tt
 is_there last bytes cut state.Closed l at = tt
 is_there None bytes cut (state.Lent kind end) l at = absurd (let none = lent None bytes cut (state.Lent kind end) l at refl in cc)
@@ -148,12 +148,15 @@ open_piped acts _ opened at = absurd opened
 
 -- what holds in each session that there is, with either end, holds where the handle is lent
 pub of_session : (P : SessionKind → OwnerEnd → Type 0) → P session_kind.Reading Open → P session_kind.Reading Shut → P session_kind.Writing Open → P session_kind.Writing Shut
+    → P session_kind.Streaming Open → P session_kind.Streaming Shut
     → ((goal : Position) → P (session_kind.Seeking goal) Open) → ((goal : Position) → P (session_kind.Seeking goal) Shut)
     → (kind : SessionKind) (end : OwnerEnd) → IsLending (kind_as kind) → P kind end
-of_session P reads read writes written seeks sought session_kind.Reading Open there = reads
-of_session P reads read writes written seeks sought session_kind.Reading Shut there = read
-of_session P reads read writes written seeks sought session_kind.Writing Open there = writes
-of_session P reads read writes written seeks sought session_kind.Writing Shut there = written
-of_session P reads read writes written seeks sought (session_kind.Seeking goal) Open there = seeks goal
-of_session P reads read writes written seeks sought (session_kind.Seeking goal) Shut there = sought goal
-of_session P reads read writes written seeks sought _ end there = absurd there
+of_session P reads read writes written streams streamed seeks sought session_kind.Reading Open there = reads
+of_session P reads read writes written streams streamed seeks sought session_kind.Reading Shut there = read
+of_session P reads read writes written streams streamed seeks sought session_kind.Writing Open there = writes
+of_session P reads read writes written streams streamed seeks sought session_kind.Writing Shut there = written
+of_session P reads read writes written streams streamed seeks sought session_kind.Streaming Open there = streams
+of_session P reads read writes written streams streamed seeks sought session_kind.Streaming Shut there = streamed
+of_session P reads read writes written streams streamed seeks sought (session_kind.Seeking goal) Open there = seeks goal
+of_session P reads read writes written streams streamed seeks sought (session_kind.Seeking goal) Shut there = sought goal
+of_session P reads read writes written streams streamed seeks sought _ end there = absurd there
