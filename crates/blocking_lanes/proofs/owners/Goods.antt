@@ -57,6 +57,11 @@ module _ {A : Type 0} where
   piped_some OfBytes does done is = is
   piped_some OfItems does done is = is
 
+  pub piped_by : (P : Option A → Type 0) (there : Goods) (does : Option A) → P None → P does → P (if_piped there does)
+  piped_by P OfNothing does none some = none
+  piped_by P OfBytes does none some = some
+  piped_by P OfItems does none some = some
+
   pub piped_here : (there : Goods) (does : Option A) → is_piped there ≡ true → if_piped there does ≡ does
   piped_here OfNothing does is = absurd (cc)
   piped_here OfBytes does is = refl
