@@ -148,11 +148,11 @@ module _ (bytes : ℕ) (asked : Option HandleCall) (here : OwnerStage) (s : Sess
     pub back : (here : List Event) (before : Option (List Event)) → back_by act here before ≡ before
     pub faults : over ≡ true → (any : Kind) → (fault any (act ∷ acts) ≡ fault any acts) × (number (act ∷ acts) ≡ number acts)
     pub session :
-        Tied (record { number = s.number; goods = s.goods; pipe = pipe; slot = slot }) k (act ∷ acts)
+        Tied (record { number = s.number; goods = s.goods; item = s.item; pipe = pipe; slot = slot }) k (act ∷ acts)
         (job_seated_by act (is_job_seated cut)) (pipe_seated_by act (place_of (next_of_owner cut)) (pipe_seat cut))
         (slot_seated_by act (place_of (next_of_owner cut)) (slot_seat cut))
-    pub ended : IsAtEnd s → IsAtEnd (record { number = s.number; goods = s.goods; pipe = pipe; slot = slot })
-    pub told : is_seated (Some s) ≡ true → (takes_waker act ≡ true) ⊎ (is_seated (Some (record { number = s.number; goods = s.goods; pipe = pipe; slot = slot })) ≡ true)
+    pub ended : IsAtEnd s → IsAtEnd (record { number = s.number; goods = s.goods; item = s.item; pipe = pipe; slot = slot })
+    pub told : is_seated (Some s) ≡ true → (takes_waker act ≡ true) ⊎ (is_seated (Some (record { number = s.number; goods = s.goods; item = s.item; pipe = pipe; slot = slot })) ≡ true)
 
   serial_test : (n : ℕ) → is_serial began (Some n) ≡ false → (s.number.serial == n) ≡ false
   serial_test n other =
@@ -160,7 +160,7 @@ module _ (bytes : ℕ) (asked : Option HandleCall) (here : OwnerStage) (s : Sess
       grind (arith, nat_tests)
 
   pub keeps_goes : (of : Kind) → kind ≡ of → (act : Act) (pipe : Pipe ℕ (Unit {0})) (slot : Slot (Option (Fault ℕ)) (Unit {0})) → is_in s.number.serial (jobs_of (own cut)) ≡ true → Keeps of act pipe slot
-      → Goes (owner_by_parts bytes asked here (Some (record { number = s.number; goods = s.goods; pipe = pipe; slot = slot }))) cut (event act)
+      → Goes (owner_by_parts bytes asked here (Some (record { number = s.number; goods = s.goods; item = s.item; pipe = pipe; slot = slot }))) cut (event act)
   keeps_goes of same act pipe slot among k =
       let e = event act in
       let more = acts_more act k.pool k.nothing in
@@ -176,13 +176,13 @@ module _ (bytes : ℕ) (asked : Option HandleCall) (here : OwnerStage) (s : Sess
           polled = t.polled;
           bytes = t.bytes;
           calls = t.calls;
-          stage = subst (λ n. StageBy here (sessions.call (own cut)) (sessions.state (own cut)) n (law.is_at_end (own cut)) (came_back (e ∷ cut)) (newest_note (own cut))) (sym next)
-              (subst (λ b. StageBy here (sessions.call (own cut)) (sessions.state (own cut)) (owner_next_but_wake cut (own cut)) (law.is_at_end (own cut)) b (newest_note (own cut)))
+          stage = subst (λ n. StageBy here s.item (sessions.call (own cut)) (sessions.state (own cut)) n (law.is_at_end (own cut)) (came_back (e ∷ cut)) (newest_note (own cut))) (sym next)
+              (subst (λ b. StageBy here s.item (sessions.call (own cut)) (sessions.state (own cut)) (owner_next_but_wake cut (own cut)) (law.is_at_end (own cut)) b (newest_note (own cut)))
               (sym (k.back (e ∷ cut) (came_back cut))) t.stage);
-          last = subst (λ (l : List Act). Tied (record { number = s.number; goods = s.goods; pipe = pipe; slot = slot }) kind l
+          last = subst (λ (l : List Act). Tied (record { number = s.number; goods = s.goods; item = s.item; pipe = pipe; slot = slot }) kind l
               (job_seated_by act (is_job_seated cut)) (pipe_seated_by act (place_of (next_of_owner cut)) (pipe_seat cut)) (slot_seated_by act (place_of (next_of_owner cut)) (slot_seat cut)))
               (sym more)
-              (subst (λ any. Tied (record { number = s.number; goods = s.goods; pipe = pipe; slot = slot }) any (act ∷ acts)
+              (subst (λ any. Tied (record { number = s.number; goods = s.goods; item = s.item; pipe = pipe; slot = slot }) any (act ∷ acts)
               (job_seated_by act (is_job_seated cut)) (pipe_seated_by act (place_of (next_of_owner cut)) (pipe_seat cut)) (slot_seated_by act (place_of (next_of_owner cut)) (slot_seat cut)))
               (sym same) k.session);
           ended = λ is_end. k.ended (t.ended is_end);
