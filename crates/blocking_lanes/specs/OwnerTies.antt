@@ -36,7 +36,7 @@ use Rattle.blocking_laws.specs.declared.event.Reply.{Reply as Told}
 use Rattle.blocking_laws.specs.declared.event.Reply.TheVariants as told
 use Rattle.blocking_laws.specs.declared.step.HandleCall.{HandleCall}
 use Rattle.blocking_laws.specs.declared.step.HandleCall.TheVariants as handle_call
-use Rattle.blocking_lanes.specs.Owners.{Owner, capacity_of, number_of, note_at, is_gone, poll_call_of, reply_as}
+use Rattle.blocking_lanes.specs.Owners.{Owner, capacity_of, number_of, note_at, is_gone, poll_call_of, reply_as, item_in}
 use Rattle.blocking_lanes.specs.Sessions.{Session, goods_of}
 use Rattle.blocking_lanes.specs.declared.owner.OwnerStage.{OwnerStage}
 use Rattle.blocking_lanes.specs.declared.owner.OwnerStage.TheVariants as stage
@@ -75,19 +75,19 @@ abbrev pub say : Option Told → law.OwnerAction
 say None = law.Rest
 say (Some told) = law.Say told
 
--- What the machine does next that was asked for this, in the words of the laws. To drop its handle is to reply that all is done. Where it
+-- What the machine does next that was asked for this, in the words of the laws, where this item came out last. To drop its handle is to reply that all is done. Where it
 -- would deliver or wait the law has no such thing.
-abbrev pub action_as : HandleCall → OwnerAction ℕ → law.OwnerAction
-action_as call action.Begin = law.Begin
-action_as call action.Close = law.CloseOwn
-action_as call (action.Drain most) = law.Drain most
-action_as call (action.Fill most) = law.Fill (data_of (Some call))
-action_as call action.Receive = law.Receive
-action_as call action.PollSlot = law.PollSlot
-action_as call action.PollResult = law.PollPlace
-action_as call action.DropHandle = law.Say told.Okay
-action_as call (action.Reply reply) = say (reply_as reply)
-action_as call _ = law.Rest
+abbrev pub action_as : ℕ → HandleCall → OwnerAction ℕ → law.OwnerAction
+action_as x call action.Begin = law.Begin
+action_as x call action.Close = law.CloseOwn
+action_as x call (action.Drain most) = law.Drain most
+action_as x call (action.Fill most) = law.Fill (data_of (Some call))
+action_as x call action.Receive = law.Receive
+action_as x call action.PollSlot = law.PollSlot
+action_as x call action.PollResult = law.PollPlace
+action_as x call action.DropHandle = law.Say told.Okay
+action_as x call (action.Reply reply) = say (reply_as x reply)
+action_as x call _ = law.Rest
 
 -- the job whose note the newest of these acts took
 abbrev pub newest_note : List Act → Option ℕ
@@ -115,17 +115,19 @@ is_piped_kind (Seeking goal) = false
 is_piped_kind Operating = false
 is_piped_kind kind = true
 
--- who looks for the handle has closed the own end of the pipe, if there is one; or reads, and saw the other end closed
+-- who looks for the handle has closed the own end of the pipe, if there is one; or reads or takes items, and saw the other end closed
 abbrev pub LooksFrom : HandleCall → State → Bool → Type 0
 LooksFrom call (state.Lent kind Shut) false = Unit {0}
 LooksFrom call (state.Lent kind Open) false = has_pipe kind ≡ false
 LooksFrom (handle_call.Read most) (state.Lent session_kind.Reading Open) true = Unit {0}
+LooksFrom handle_call.Next (state.Lent session_kind.Streaming Open) true = Unit {0}
 LooksFrom _ _ _ = ⊥
 
--- a call that begins a session reads some bytes, or writes some, or seeks
+-- a call that begins a session reads some bytes, or writes some, or wants an item, or seeks
 abbrev pub BeginsBy : HandleCall → Type 0
 BeginsBy (handle_call.Read (suc n)) = Unit {0}
 BeginsBy (handle_call.Write (byte ∷ bytes)) = Unit {0}
+BeginsBy handle_call.Next = Unit {0}
 BeginsBy (handle_call.Seek goal) = Unit {0}
 BeginsBy _ = ⊥
 
@@ -133,6 +135,12 @@ BeginsBy _ = ⊥
 abbrev pub IsLentOpen : State → Type 0
 IsLentOpen (state.Lent kind Open) = has_pipe kind ≡ true
 IsLentOpen _ = ⊥
+
+-- whether a reply is told to those who ask an owner so far
+abbrev pub is_told : Reply ℕ → Bool
+is_told reply.Result = false
+is_told reply.Closed = false
+is_told _ = true
 
 -- What is next fits the call, where the handle is, whether the end of the pipe was just seen, and what came back in the poll.
 abbrev pub FitsNext : HandleCall → OwnerMachine ℕ → OwnerAction ℕ → Bool → Option (List Event) → Type 0
@@ -143,33 +151,35 @@ FitsNext call poll (action.Drain most) ended back =
 FitsNext call poll (action.Fill most) ended back =
     (bytes : List ℕ) × (call ≡ handle_call.Write bytes) × (most ≡ length bytes) × (0 < most)
     × (poll.state ≡ state.Lent session_kind.Writing Open) × (poll.is_at_end ≡ false)
+FitsNext call poll action.Receive ended back =
+    (call ≡ handle_call.Next) × (poll.state ≡ state.Lent session_kind.Streaming Open) × (poll.is_at_end ≡ false)
 FitsNext call poll action.PollSlot ended back = LooksFrom call poll.state poll.is_at_end × (poll.is_at_end ≡ ended)
 FitsNext call poll action.DropHandle ended back = (call ≡ handle_call.Close) × (poll.state ≡ state.Idle) × IsFlushedBack back
-FitsNext call poll (action.Reply reply) ended back = (is_some (reply_as reply) ≡ true) × EndAs call reply back × IsGoneBy reply call poll.state
+FitsNext call poll (action.Reply reply) ended back = (is_told reply ≡ true) × EndAs call reply back × IsGoneBy reply call poll.state
 FitsNext call poll _ ended back = ⊥
 
--- A poll that is under way, by the call that was asked last, where the handle is, what is next, whether the end of the pipe was just
+-- A poll that is under way, by the item that came out last, the call that was asked last, where the handle is, what is next, whether the end of the pipe was just
 -- seen, and what came back in the poll.
-pub record PollAs (poll : OwnerMachine ℕ) (asked : Option HandleCall) (at : sessions.State) (next : law.OwnerAction) (ended : Bool)
+pub record PollAs (poll : OwnerMachine ℕ) (x : ℕ) (asked : Option HandleCall) (at : sessions.State) (next : law.OwnerAction) (ended : Bool)
     (back : Option (List Event)) : Type 0 where
   pub call : HandleCall
   pub asked_is : asked ≡ Some call
   pub call_is : poll.call ≡ poll_call_of call
   pub at_is : at ≡ state_as poll.state
-  pub next_is : next ≡ action_as call poll.next
+  pub next_is : next ≡ action_as x call poll.next
   pub fits : FitsNext call poll poll.next ended back
 
 -- where an owner is in its polls, by the same, and by the note that it has to deliver
-abbrev pub StageBy : OwnerStage → Option HandleCall → sessions.State → law.OwnerAction → Bool → Option (List Event) → Option ℕ → Type 0
-StageBy (stage.Rests here) asked at next ended back note = (at ≡ state_as here) × (next ≡ law.Rest) × (note ≡ None)
-StageBy (stage.Polls poll) asked at next ended back note = PollAs poll asked at next ended back × (poll.is_waking ≡ false) × (note ≡ None)
-StageBy (stage.Wakes poll number) asked at next ended back note =
-    PollAs poll asked at next ended back × (poll.is_waking ≡ true) × (note ≡ Some number.serial)
-StageBy stage.Dropped asked at next ended back note = (next ≡ law.Rest) × (note ≡ None)
+abbrev pub StageBy : OwnerStage → ℕ → Option HandleCall → sessions.State → law.OwnerAction → Bool → Option (List Event) → Option ℕ → Type 0
+StageBy (stage.Rests here) x asked at next ended back note = (at ≡ state_as here) × (next ≡ law.Rest) × (note ≡ None)
+StageBy (stage.Polls poll) x asked at next ended back note = PollAs poll x asked at next ended back × (poll.is_waking ≡ false) × (note ≡ None)
+StageBy (stage.Wakes poll number) x asked at next ended back note =
+    PollAs poll x asked at next ended back × (poll.is_waking ≡ true) × (note ≡ Some number.serial)
+StageBy stage.Dropped x asked at next ended back note = (next ≡ law.Rest) × (note ≡ None)
 
-abbrev pub StageAs : OwnerStage → List Event → Type 0
-StageAs here cut =
-    StageBy here (call (own cut)) (sessions.state (own cut)) (owner_next_but_wake cut (own cut)) (is_at_end (own cut)) (came_back cut)
+abbrev pub StageAs : OwnerStage → ℕ → List Event → Type 0
+StageAs here x cut =
+    StageBy here x (call (own cut)) (sessions.state (own cut)) (owner_next_but_wake cut (own cut)) (is_at_end (own cut)) (came_back cut)
     (newest_note (own cut))
 
 -- ---- what passes between it and its job
@@ -235,7 +245,9 @@ pub record FlowAs (hand : ℕ) (s : Session) (shut : Bool) (taken : List ℕ) (n
   pub put : IsBeginning passed.put passed.given
   pub bounded : length passed.given ≤ length taken + s.pipe.capacity + hand
   pub passed_is : PassedAs next (room s.pipe) s.pipe.is_job_open (shut || given_up) passed
-  -- a job that reads writes nothing
+  -- a job that takes items meets no failure
+  pub sound : hand ≡ 1 → passed.failed ≡ false
+  -- a job that reads or takes items writes nothing
   pub unwritten : passed.written ≡ []
   -- a job that is over has closed its end, unless it gave up
   pub unclosed : is_over next ≡ true → s.pipe.is_job_open ≡ true → given_up ≡ true
@@ -432,7 +444,7 @@ pub record OwnerAs (owner : Owner) (cut : List Event) : Type 0 where
   pub polled : under_way (own cut) ≡ called_at owner.stage owner.asked
   pub bytes : (kind : Kind) → capacity kind (own cut) ≡ capacity_of owner kind
   pub calls : AskKnown (own cut)
-  pub stage : StageAs owner.stage cut
+  pub stage : StageAs owner.stage (item_in owner.session) cut
   pub last : LastAs owner.session (capacity_of owner) cut
   pub ended : is_at_end (own cut) ≡ true → EndedIn owner.session
   -- a job of an earlier session is over but for the waker that it has to call

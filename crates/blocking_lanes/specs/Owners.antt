@@ -37,7 +37,7 @@ use Rattle.blocking_laws.specs.Sessions.{default_capacity, kind_of, is_for_close
 use Rattle.blocking_laws.specs.Steps.{is_known}
 use Rattle.blocking_laws.specs.Seats.{waker_in}
 use Rattle.blocking_laws.specs.declared.event.Act.{Act}
-use Rattle.blocking_laws.specs.declared.event.Act.TheVariants.{OwnerClosed, Got, GotEnd, Filled, FillShut, Waits, Back, Replied, GaveUp, HolderWoken}
+use Rattle.blocking_laws.specs.declared.event.Act.TheVariants.{OwnerClosed, Got, GotEnd, Filled, FillShut, Waits, Back, Replied, GaveUp, HolderWoken, GotItem}
 use Rattle.blocking_laws.specs.declared.event.Reply.{Reply as Told}
 use Rattle.blocking_laws.specs.declared.event.Reply.TheVariants as told
 use Rattle.blocking_laws.specs.declared.step.HandleCall.{HandleCall}
@@ -45,7 +45,7 @@ use Rattle.blocking_laws.specs.declared.step.HandleCall.TheVariants as handle_ca
 use Rattle.blocking_lanes.specs.Passages.{Goods, OfBytes, OfItems, through, if_piped}
 use Rattle.blocking_lanes.specs.Reads as reads
 use Rattle.blocking_lanes.specs.SessionJobs.{new_job}
-use Rattle.blocking_lanes.specs.Sessions.{Session, Work, goods_of, serial_of, drained, filled, reach, front, session_after_close, session_after_drain, session_after_fill, session_after_look, session_after_give_up, give_up_wakes, streamer_works, work_by, writer_works, seek_works}
+use Rattle.blocking_lanes.specs.Sessions.{Session, Work, goods_of, serial_of, drained, filled, reach, front, session_after_close, session_after_drain, session_after_fill, session_after_look, session_after_give_up, give_up_wakes, streamer_works, work_by, writer_works, received, session_after_receive, seek_works}
 use Rattle.blocking_lanes.specs.Streams as streams
 use Rattle.blocking_lanes.specs.Writes as writes
 use Rattle.blocking_lanes.specs.Seeks as seeks
@@ -59,6 +59,8 @@ use Rattle.blocking_lanes.specs.declared.session.Entered.{Entered}
 use Rattle.blocking_lanes.specs.declared.session.Entered.TheVariants as entered
 use Rattle.blocking_lanes.specs.declared.session.Found.{Found}
 use Rattle.blocking_lanes.specs.declared.session.Found.TheVariants as found
+use Rattle.blocking_lanes.specs.declared.session.Obtained.{Obtained}
+use Rattle.blocking_lanes.specs.declared.session.Obtained.TheVariants as obtained
 use Rattle.blocking_lanes.specs.declared.session.Looked.{Looked}
 use Rattle.blocking_lanes.specs.declared.session.Looked.TheVariants as looked
 use Rattle.blocking_pool.specs.Jobs.{JobNumber}
@@ -103,17 +105,23 @@ poll_call_of handle_call.OperateAgain = poll_call.Operate true
 poll_call_of handle_call.GetMut = poll_call.GetMut
 poll_call_of handle_call.IntoInner = poll_call.IntoInner
 
--- a reply, in the words of the laws; there is none for a call that isn't asked once the handle is gone, and for an item and a result,
--- which owners aren't asked for yet
-abbrev pub reply_as : Reply ℕ → Option Told
-reply_as (reply.Count count) = Some (told.Count count)
-reply_as reply.End = Some told.NoMore
-reply_as (reply.Position place) = Some (told.Count place)
-reply_as reply.Handle = Some told.Handle
-reply_as (reply.Failed why) = Some (told.Failed why)
-reply_as (reply.NotBegun why) = Some (told.NotBegun why)
-reply_as reply.Done = Some told.Okay
-reply_as _ = None
+-- the item that came out of the pipe of the last session last
+abbrev pub item_in : Option Session → ℕ
+item_in None = 0
+item_in (Some session) = session.item
+
+-- a reply, in the words of the laws, where this item came out last; there is none for a call that isn't asked once the handle is gone, and for a
+-- result, which owners aren't asked for yet
+abbrev pub reply_as : ℕ → Reply ℕ → Option Told
+reply_as x (reply.Count count) = Some (told.Count count)
+reply_as x reply.Item = Some (told.OneItem x)
+reply_as x (reply.Position place) = Some (told.Count place)
+reply_as x reply.End = Some told.NoMore
+reply_as x reply.Handle = Some told.Handle
+reply_as x (reply.Failed why) = Some (told.Failed why)
+reply_as x (reply.NotBegun why) = Some (told.NotBegun why)
+reply_as x reply.Done = Some told.Okay
+reply_as x _ = None
 
 -- whether it is there and no poll of it is under way
 abbrev pub is_resting : OwnerStage → Bool
@@ -171,10 +179,11 @@ abbrev pub next_by : OwnerAction ℕ → Option Session → OwnerNext
 next_by action.Begin session = Begins
 next_by (action.Drain most) session = Acts (reach_in most session)
 next_by action.Close session = Acts 0
+next_by action.Receive session = Acts 0
 next_by (action.Fill most) session = Acts 0
 next_by action.PollSlot session = Acts 0
 next_by action.DropHandle session = Acts 0
-next_by (action.Reply reply) session = next_to_say (reply_as reply)
+next_by (action.Reply reply) session = next_to_say (reply_as (item_in session) reply)
 next_by _ session = Rests
 
 abbrev pub next_at : OwnerStage → Option Session → OwnerNext
@@ -206,11 +215,16 @@ pub record Did : Type 0 where
   pub act : Act
   pub owner : Owner
 
--- what a drain finds, a fill, and a look into the slot
+-- what a drain finds, a receipt, a fill, and a look into the slot
 abbrev pub found_as : Met (List ℕ × Option JobNumber) → Found
 found_as (Served got) = found.Bytes got.0 got.1
 found_as Waiting = found.Nothing
 found_as Closed = found.End
+
+abbrev pub obtained_as : Met (ℕ × Option JobNumber) → Obtained
+obtained_as (Served got) = obtained.Item got.0 got.1
+obtained_as Waiting = obtained.Nothing
+obtained_as Closed = obtained.End
 
 abbrev pub entered_as : Met (ℕ × Option JobNumber) → Entered
 entered_as (Served went) = entered.Bytes went.0 went.1
@@ -248,6 +262,24 @@ drain_did Waiting poll session owner = record {
   owner = record owner { stage = stage.Rests poll.state; session = Some (session_after_drain Waiting session) };
 }
 drain_did Closed poll session owner = record {
+  act = GotEnd;
+  owner = record owner { stage = stage.Polls (owner_after poll by.Ended) };
+}
+
+-- it receives an item, and finds this: a poll that waits is over
+abbrev pub receive_did : Met (ℕ × Option JobNumber) → OwnerMachine ℕ → Session → Owner → Did
+receive_did (Served got) poll session owner = record {
+  act = GotItem got.0 (serial_of got.1);
+  owner = record owner {
+    stage = goes_on (owner_after poll (by.Received (is_some got.1))) got.1;
+    session = Some (session_after_receive (Served got) session);
+  };
+}
+receive_did Waiting poll session owner = record {
+  act = Waits;
+  owner = record owner { stage = stage.Rests poll.state; session = Some (session_after_receive Waiting session) };
+}
+receive_did Closed poll session owner = record {
   act = GotEnd;
   owner = record owner { stage = stage.Polls (owner_after poll by.Ended) };
 }
@@ -302,12 +334,13 @@ reply_did None poll owner = None
 abbrev pub did_at : OwnerAction ℕ → OwnerMachine ℕ → Session → Owner → Option Did
 did_at action.Close poll session owner = if_piped session.goods (Some (close_did poll session owner))
 did_at (action.Drain most) poll session owner = through OfBytes session.goods (Some (drain_did (drained (reach most session) session) poll session owner))
+did_at action.Receive poll session owner = through OfItems session.goods (Some (receive_did (received session) poll session owner))
 did_at action.PollSlot poll session owner =
     look_did (looked_as session.slot.content) poll (session_after_look session.slot.content session) owner
 did_at _ poll session owner = None
 
 abbrev pub did_in : OwnerAction ℕ → OwnerMachine ℕ → Option Session → Owner → Option Did
-did_in (action.Reply reply) poll session owner = reply_did (reply_as reply) poll owner
+did_in (action.Reply reply) poll session owner = reply_did (reply_as (item_in session) reply) poll owner
 did_in (action.Fill most) poll session owner = fill_did_in poll owner.asked session owner
 did_in action.DropHandle poll session owner = Some (drop_did poll owner)
 did_in action poll None owner = None
@@ -343,7 +376,7 @@ goods_asked owner = goods_of (kind_of owner.asked)
 abbrev pub after_begin : JobNumber → Goods → Pipe ℕ (Unit {0}) → OwnerStage → Owner → Owner
 after_begin number goods pipe (stage.Polls poll) owner = record owner {
   stage = stage.Polls (owner_after poll by.Begun);
-  session = Some (record { number = number; goods = goods; pipe = pipe; slot = empty_slot; left = 0 });
+  session = Some (record { number = number; goods = goods; item = 0; pipe = pipe; slot = empty_slot; left = 0 });
 }
 after_begin number goods pipe _ owner = owner
 

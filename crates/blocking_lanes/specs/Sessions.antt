@@ -1,7 +1,7 @@
 -- A session: where an owner meets the job that was lent its handle, and what each act of the owner and of the job does there.
 use Rattle.std.specs.Prelude.{◌≡◌, ℕ, nat_le, min, max, if◌then◌else◌, Bool, true, false, List, [], ◌∷◌, ◌++◌, length, take, drop, Option, Some, None, is_some}
 use Rattle.blocking_core.specs.Pipes.{Pipe, empty_pipe, room}
-use Rattle.blocking_core.specs.Places.{Met, Served, Waiting, Closed, drain, fill, find_room, hand_in, peek}
+use Rattle.blocking_core.specs.Places.{Met, Served, Waiting, Closed, drain, fill, find_room, hand_in, peek, receive}
 use Rattle.blocking_core.specs.Slots.{Slot, Content, Empty, Full, GivenUp, Abandoned, empty_slot, after_put, put_in, after_give_up, waker_of_give_up}
 use Rattle.blocking_core.specs.declared.io.Fault.{Fault}
 use Rattle.blocking_core.specs.declared.job.item.ItemAction.{ItemAction}
@@ -30,11 +30,13 @@ use Rattle.blocking_lanes.specs.Writes as writes
 use Rattle.blocking_lanes.specs.Seeks as seeks
 use Rattle.blocking_pool.specs.Jobs.{JobNumber}
 
--- A session: the number of its job, what passes through its pipe, the pipe itself, the slot in which the handle comes back with the fault
--- of the job, and beside it where a seek left the handle. Wakers are told as units.
+-- A session: the number of its job, what passes through its pipe, the item that came out of it last, 0 before the first, which is kept until
+-- it is told, the pipe itself, the slot in which the handle comes back with the fault of the job, and beside it where a seek left the handle.
+-- Wakers are told as units.
 pub record Session : Type 0 where
   pub number : JobNumber
   pub goods : Goods
+  pub item : ℕ
   pub pipe : Pipe ℕ (Unit {0})
   pub slot : Slot (Option (Fault ℕ)) (Unit {0})
   pub left : ℕ
@@ -47,7 +49,7 @@ goods_of kind = OfBytes
 
 -- a session that begins, with this job and a pipe for so many bytes or items
 abbrev pub new_session : JobNumber → Goods → ℕ → Session
-new_session number goods capacity = record { number = number; goods = goods; pipe = empty_pipe capacity; slot = empty_slot; left = 0 }
+new_session number goods capacity = record { number = number; goods = goods; item = 0; pipe = empty_pipe capacity; slot = empty_slot; left = 0 }
 
 -- ---- its owner acts
 
@@ -74,6 +76,17 @@ session_after_drain (Served found) session =
     record session { pipe = record session.pipe { items = drop (length found.0) session.pipe.items; job_seat = None } }
 session_after_drain Waiting session = record session { pipe = record session.pipe { owner_seat = Some tt } }
 session_after_drain Closed session = session
+
+-- what the owner finds that receives an item
+abbrev pub received : Session → Met (ℕ × Option JobNumber)
+received session = receive session.pipe.items session.pipe.is_job_open session.pipe.job_seat
+
+-- the session after that
+abbrev pub session_after_receive : Met (ℕ × Option JobNumber) → Session → Session
+session_after_receive (Served found) session =
+    record session { item = found.0; pipe = record session.pipe { items = drop 1 session.pipe.items; job_seat = None } }
+session_after_receive Waiting session = record session { pipe = record session.pipe { owner_seat = Some tt } }
+session_after_receive Closed session = session
 
 -- the session after its owner looked into the slot: the handle leaves it, or the owner is seated where it may still come
 abbrev pub session_after_look : Content (Option (Fault ℕ)) → Session → Session

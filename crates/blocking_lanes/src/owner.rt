@@ -8,8 +8,8 @@ use crate::item::ItemProgress;
 use crate::job::SessionJob;
 use crate::passage::Passage;
 use crate::read::ReadProgress;
+use crate::session::{Entered, Found, Looked, Obtained, Session};
 use crate::seek::SeekProgress;
-use crate::session::{Entered, Found, Looked, Session};
 use crate::write::WriteProgress;
 use blocking_core::io::Fault;
 use blocking_core::job::{ItemAction, ReadAction, SeekAction, WriteAction};
@@ -97,20 +97,21 @@ fn poll_call(call: &HandleCall) -> PollCall
     }
 }
 
-// A reply, as it is told. None for the one to a call that isn't asked of an owner whose handle is gone, and for an item and a result,
-// which owners aren't asked for yet.
-fn told(reply: Reply<u64>) -> Option<Told>
-    ensures { result ≡ reply_as reply }
+// A reply, as it is told, where this item came out last. None for the one to a call that isn't asked of an owner whose handle is gone, and for a
+// result, which owners aren't asked for yet.
+fn told(reply: Reply<u64>, item: u64) -> Option<Told>
+    ensures { result ≡ reply_as item reply }
 {
     match reply {
         Reply::Count(count) => Some(Told::Count(count as u64)),
+        Reply::Item => Some(Told::OneItem(item)),
         Reply::Position(place) => Some(Told::Count(place)),
         Reply::End => Some(Told::NoMore),
         Reply::Handle => Some(Told::Handle),
         Reply::Failed(why) => Some(Told::Failed(why)),
         Reply::NotBegun(why) => Some(Told::NotBegun(why)),
         Reply::Done => Some(Told::Okay),
-        Reply::Item | Reply::Result | Reply::Closed => None,
+        Reply::Result | Reply::Closed => None,
     }
 }
 
@@ -140,7 +141,7 @@ impl Owner {
     ghost use Rattle.blocking_lanes.specs.Owners.{new_owner, capacity_asked, goods_asked, is_resting, is_gone, note_at, next_of, number_of, bytes_in, rests};
     ghost use Rattle.blocking_lanes.specs.Owners.{owner_after_ask, did, did_in, reply_did, IsDid, goes_on, reach_in};
     ghost use Rattle.blocking_lanes.specs.Owners.{owner_after_begin, owner_after_refusal, owner_after_delivery, owner_after_drop};
-    ghost use Rattle.blocking_lanes.specs.Owners.{may_ask, may_ask_at, front_in, fill_did_in, drop_did, new_job_of, worked, IsWorked, give_up_act, owner_after_give_up};
+    ghost use Rattle.blocking_lanes.specs.Owners.{may_ask, may_ask_at, front_in, fill_did_in, item_in, drop_did, new_job_of, worked, IsWorked, give_up_act, owner_after_give_up};
     ghost use Rattle.blocking_lanes.specs.declared.job.SessionJob.TheVariants as of_job;
 
     /// An owner, with an idle handle. The pipes of its sessions hold so many bytes or items; 0 stands for 8,388,608 bytes and 8,192 items.
@@ -228,17 +229,27 @@ impl Owner {
                 OwnerAction::Drain(most) => OwnerNext::Acts(self.reach(most)),
                 OwnerAction::Close
                 | OwnerAction::Fill(_)
+                | OwnerAction::Receive
                 | OwnerAction::PollSlot
                 | OwnerAction::DropHandle => OwnerNext::Acts(0),
-                OwnerAction::Reply(reply) => match told(reply) {
+                OwnerAction::Reply(reply) => match told(reply, self.item()) {
                     Some(_) => OwnerNext::Acts(0),
                     None => OwnerNext::Rests,
                 },
-                OwnerAction::Receive
-                | OwnerAction::PollResult
-                | OwnerAction::Deliver
-                | OwnerAction::Pending => OwnerNext::Rests,
+                OwnerAction::PollResult | OwnerAction::Deliver | OwnerAction::Pending => {
+                    OwnerNext::Rests
+                }
             },
+        }
+    }
+
+    // The item that came out of the pipe of its last session last.
+    fn item(&self) -> u64
+        ensures { result ≡ item_in self.now.session }
+    {
+        match &self.session {
+            Some(session) => session.item(),
+            None => 0,
         }
     }
 
@@ -299,11 +310,14 @@ impl Owner {
             OwnerAction::Close => self.close(poll),
             OwnerAction::Drain(_) => self.drain(poll, room),
             OwnerAction::Fill(_) => self.fill(poll),
+            OwnerAction::Receive => self.receive(poll),
             OwnerAction::PollSlot => self.look(poll),
             OwnerAction::DropHandle => self.drop_handle(poll),
-            OwnerAction::Reply(reply) => self.reply(poll, told(reply)),
+            OwnerAction::Reply(reply) => {
+                let told = told(reply, self.item());
+                self.reply(poll, told)
+            }
             OwnerAction::Begin
-            | OwnerAction::Receive
             | OwnerAction::PollResult
             | OwnerAction::Deliver
             | OwnerAction::Pending => None,
@@ -371,6 +385,39 @@ impl Owner {
                 Some(Act::GotEnd)
             }
             Found::Nothing => {
+                self.turn(OwnerStage::Rests(poll.state()));
+                Some(Act::Waits)
+            }
+        }
+    }
+
+    // It receives an item, which is kept until the reply.
+    fn receive(&mut self, poll: OwnerCall<u64>) -> Option<Act>
+        requires { note_at self.old.stage ≡ None }
+        ensures { IsDid (did_in action.Receive poll self.old.session self.old) self.old result self.new }
+    {
+        let Some(session) = &mut self.session else {
+            return None;
+        };
+        if session.is_of_bytes() {
+            return None;
+        }
+        let mut poll = poll;
+        match session.receive() {
+            Obtained::Item(item, note) => {
+                let serial = serial_of(&note);
+                poll.answer(OwnerAnswer::Received {
+                    has_note: serial.is_some(),
+                });
+                self.go_on(poll, note);
+                Some(Act::GotItem(item, serial))
+            }
+            Obtained::End => {
+                poll.answer(OwnerAnswer::Ended);
+                self.turn(OwnerStage::Polls(poll));
+                Some(Act::GotEnd)
+            }
+            Obtained::Nothing => {
                 self.turn(OwnerStage::Rests(poll.state()));
                 Some(Act::Waits)
             }

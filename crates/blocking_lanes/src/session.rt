@@ -11,7 +11,7 @@ use blocking_core::job::{
     ItemAction, ItemAnswer, PIECE, ReadAction, ReadAnswer, SeekAction, SeekAnswer, WriteAction,
     WriteAnswer,
 };
-use blocking_core::pipe::{Answered, Drained, Filled, Peeked, Put, Room, Sending};
+use blocking_core::pipe::{Answered, Drained, Filled, Peeked, Put, Received, Room, Sending};
 use blocking_core::pool::{JobNo, WakeNote};
 use blocking_core::task::{Slot, Slotted};
 use blocking_laws::bytes::Bytes;
@@ -25,6 +25,8 @@ use std::marker::Model;
 pub(crate) struct Session {
     number: JobNo,
     passage: Passage,
+    // (the one that came out last, 0 before the first)
+    item: u64,
     slot: Slot<Option<Fault<u64>>, ()>,
     left: u64,
 }
@@ -33,6 +35,16 @@ pub(crate) struct Session {
 pub(crate) enum Found {
     /// These bytes, and the note of a job that waited.
     Bytes(Bytes, Option<WakeNote>),
+    /// Nothing yet: the owner is seated.
+    Nothing,
+    /// Nothing, and no more will come.
+    End,
+}
+
+/// What an owner finds that receives an item.
+pub(crate) enum Obtained {
+    /// This item, and the note of a job that waited.
+    Item(u64, Option<WakeNote>),
     /// Nothing yet: the owner is seated.
     Nothing,
     /// Nothing, and no more will come.
@@ -68,6 +80,7 @@ impl Model for Session {
     ghost view = { λ s. record {
       number = s.number;
       goods = goods_in s.passage;
+      item = s.item;
       pipe = pipe_in s.passage;
       slot = s.slot;
       left = s.left;
@@ -88,13 +101,15 @@ impl Session {
     ghost use Rattle.blocking_lanes.specs.Sessions.{reach, drained, session_after_close, session_after_drain, session_after_look};
     ghost use Rattle.blocking_lanes.specs.Sessions.{work_by, work_at_room, work_at_put, work_of_close, work_of_finish, found_room, found_put, fits_in};
     ghost use Rattle.blocking_lanes.specs.Sessions.{give_up_wakes, session_after_give_up, IsWork};
-    ghost use Rattle.blocking_lanes.specs.Owners.{found_as, entered_as, looked_as};
+    ghost use Rattle.blocking_lanes.specs.Sessions.{received, session_after_receive};
+    ghost use Rattle.blocking_lanes.specs.Owners.{obtained_as, found_as, entered_as, looked_as};
 
     /// A session that begins, with this job and this empty pipe.
     pub(crate) fn new(number: JobNo, passage: Passage) -> Session
         ensures { result ≡ record {
           number = number;
           goods = goods_in passage;
+          item = 0;
           pipe = pipe_in passage;
           slot = empty_slot;
           left = 0;
@@ -103,6 +118,7 @@ impl Session {
         Session {
             number,
             passage,
+            item: 0,
             slot: Slot::new(),
             left: 0,
         }
@@ -206,6 +222,36 @@ impl Session {
             Drained::Got(_, _note) => unreachable!(),
             Drained::Ended => Found::End,
             Drained::Waits(_at_the_pipe) => Found::Nothing,
+        }
+    }
+
+    /// The item that came out of the pipe last.
+    pub(crate) fn item(&self) -> u64
+        ensures { result ≡ self.now.item }
+    {
+        self.item
+    }
+
+    /// The owner receives an item, which is kept.
+    pub(crate) fn receive(&mut self) -> Obtained
+        requires { self.old.goods ≡ OfItems }
+        ensures found { result ≡ obtained_as (received self.old) }
+        ensures session { self.new ≡ session_after_receive (received self.old) self.old }
+    {
+        let Passage::Items(pipe) = &mut self.passage else {
+            unreachable!()
+        };
+        let Answered {
+            answer,
+            spare: _spare,
+        } = pipe.receive_or_seat(());
+        match answer {
+            Received::Got(item, note) => {
+                self.item = item;
+                Obtained::Item(item, note)
+            }
+            Received::Ended => Obtained::End,
+            Received::Waits(_at_the_pipe) => Obtained::Nothing,
         }
     }
 

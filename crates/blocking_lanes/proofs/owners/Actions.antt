@@ -19,6 +19,8 @@ use Rattle.blocking_core.specs.declared.job.seek.SeekAction.{SeekAction}
 use Rattle.blocking_core.specs.declared.job.seek.SeekAction.TheVariants as seek
 use Rattle.blocking_core.specs.declared.unblock.OwnerAction.{OwnerAction}
 use Rattle.blocking_core.specs.declared.unblock.OwnerAction.TheVariants as action
+use Rattle.blocking_core.specs.declared.unblock.Reply.{Reply}
+use Rattle.blocking_core.specs.declared.unblock.Reply.TheVariants as reply
 use Rattle.blocking_laws.specs.JobTable.{Kind, Reading, Writing, Streaming, JobAction, PutPiece, Consume, next_but_wake, is_asking, is_over, fault, has_finished, has_given_up, Seeking}
 use Rattle.blocking_laws.specs.Passed.{got, accepted, kind_in}
 use Rattle.blocking_laws.specs.Seen.{own, acts_of}
@@ -31,13 +33,13 @@ use Rattle.blocking_laws.specs.declared.event.Reply.{Reply as Told}
 use Rattle.blocking_laws.specs.declared.step.HandleCall.{HandleCall}
 use Rattle.blocking_laws.specs.declared.step.HandleCall.TheVariants as handle_call
 use Rattle.blocking_pool.specs.Lists.{is_in}
-use Rattle.blocking_lanes.specs.Owners.{Owner, rests, may_ask, may_ask_at, next_of, next_at, next_by, next_to_say, did, did_in, drain_did, fill_did, fill_did_in, look_did, looked_as, reply_as, reply_did, worked, worked_by, read_as, read_in, stream_as, stream_in, write_as, write_in, close_did, seek_as, seek_in}
-use Rattle.blocking_lanes.specs.OwnerTies.{OwnerAs, LastAs, SlotAs, Flows, state_as}
+use Rattle.blocking_lanes.specs.Owners.{Owner, rests, may_ask, may_ask_at, next_of, next_at, next_by, next_to_say, did, did_in, drain_did, fill_did, fill_did_in, look_did, looked_as, reply_as, reply_did, worked, worked_by, read_as, read_in, stream_as, stream_in, write_as, write_in, item_in, receive_did, close_did, seek_as, seek_in}
+use Rattle.blocking_lanes.specs.OwnerTies.{OwnerAs, LastAs, SlotAs, Flows, state_as, is_told}
 use Rattle.blocking_lanes.specs.Passages.{OfBytes, OfItems, is_piped}
 use Rattle.blocking_lanes.specs.Reads as reads
 use Rattle.blocking_lanes.specs.Reads.{ReadAs}
 use Rattle.blocking_lanes.specs.SessionJobs.{JobAs, kind_of, action_of}
-use Rattle.blocking_lanes.specs.Sessions.{Session, drained, filled, fits_in, found_put, goods_of, holds, reach, session_after_look, streamer_works, work_at_put, work_by, work_of_consume, writer_works}
+use Rattle.blocking_lanes.specs.Sessions.{Session, drained, filled, fits_in, found_put, goods_of, holds, reach, session_after_look, streamer_works, work_at_put, work_by, work_of_consume, writer_works, received}
 use Rattle.blocking_lanes.specs.Streams as streams
 use Rattle.blocking_lanes.specs.Streams.{ItemAs}
 use Rattle.blocking_lanes.specs.Writes as writes
@@ -68,6 +70,12 @@ abbrev pub is_rest : OwnerNext → Bool
 is_rest Rests = true
 is_rest _ = false
 
+-- the laws have a word for a reply that is told
+is_some_reply : (x : ℕ) (r : Reply ℕ) → is_told r ≡ true → is_some (reply_as x r) ≡ true
+is_some_reply x reply.Result told = absurd (cc)
+is_some_reply x reply.Closed told = absurd (cc)
+is_some_reply x _ told = refl
+
 -- a reply that there is to be told is something to do
 to_say : (told : Option Told) → is_some told ≡ true → is_rest (next_to_say told) ≡ false
 to_say None known = absurd (cc)
@@ -96,8 +104,8 @@ rest_at bytes asked (stage.Polls p) last cut t = ap is_poll_over (polled_is byte
     by_next (action.Fill most) is = sym (ap (λ a. is_rest (next_by a last)) (doing p t.stage.1 ∙ is))
     by_next action.PollSlot is = sym (ap (λ a. is_rest (next_by a last)) (doing p t.stage.1 ∙ is))
     by_next action.DropHandle is = sym (ap (λ a. is_rest (next_by a last)) (doing p t.stage.1 ∙ is))
-    by_next (action.Reply r) is = sym (ap (λ a. is_rest (next_by a last)) (doing p t.stage.1 ∙ is) ∙ to_say (reply_as r) (fits_at bytes asked p cut last (action.Reply r) t is).0)
-    by_next action.Receive is = absurd (fits_at bytes asked p cut last action.Receive t is)
+    by_next (action.Reply r) is = sym (ap (λ a. is_rest (next_by a last)) (doing p t.stage.1 ∙ is) ∙ to_say (reply_as (item_in last) r) (is_some_reply (item_in last) r (fits_at bytes asked p cut last (action.Reply r) t is).0))
+    by_next action.Receive is = sym (ap (λ a. is_rest (next_by a last)) (doing p t.stage.1 ∙ is))
     by_next action.PollResult is = absurd (fits_at bytes asked p cut last action.PollResult t is)
     by_next action.Deliver is = absurd (fits_at bytes asked p cut last action.Deliver t is)
     by_next action.Pending is = absurd (fits_at bytes asked p cut last action.Pending t is)
@@ -172,7 +180,7 @@ fill_some p None last owner offered asks some there goods = absurd (cc)
 some_by : (bytes : ℕ) (asked : Option HandleCall) (p : OwnerMachine ℕ) (cut : List Event) (a : OwnerAction ℕ) (last : Option Session) → OwnerAs (owner_by_parts bytes asked (stage.Polls p) last) cut
     → p.next ≡ a → (n : ℕ) → next_by a last ≡ Acts n → is_some (did_in a p last (owner_by_parts bytes asked (stage.Polls p) last)) ≡ true
 some_by bytes asked p cut (action.Reply r) last t is n e =
-    told_some (reply_as r) p (owner_by_parts bytes asked (stage.Polls p) last) (fits_at bytes asked p cut last (action.Reply r) t is).0
+    told_some (reply_as (item_in last) r) p (owner_by_parts bytes asked (stage.Polls p) last) (is_some_reply (item_in last) r (fits_at bytes asked p cut last (action.Reply r) t is).0)
 some_by bytes asked p cut (action.Fill most) last t is n e =
     let fits = fits_at bytes asked p cut last (action.Fill most) t is in
     fill_some p asked last (owner_by_parts bytes asked (stage.Polls p) last) fits.0 (sym t.asked ∙ t.stage.0.asked_is ∙ ap Some fits.1) (subst (λ n. 0 < n) fits.2 fits.3)
@@ -187,6 +195,10 @@ some_by bytes asked p cut (action.Drain most) (Some s) t is n e =
     let fits = fits_at bytes asked p cut (Some s) (action.Drain most) t is in
     let kind = (lent_at (own cut) Reading true (t.stage.0.at_is ∙ ap state_as fits.2)).0 in
     ap is_some (through_here OfBytes s.goods (Some (drain_did (drained (reach most s) s) p s (owner_by_parts bytes asked (stage.Polls p) (Some s)))) (t.last.lent.goods ∙ ap goods_of kind))
+some_by bytes asked p cut action.Receive (Some s) t is n e =
+    let fits = fits_at bytes asked p cut (Some s) action.Receive t is in
+    let kind = (lent_at (own cut) Streaming true (t.stage.0.at_is ∙ ap state_as fits.1)).0 in
+    ap is_some (through_here OfItems s.goods (Some (receive_did (received s) p s (owner_by_parts bytes asked (stage.Polls p) (Some s)))) (t.last.lent.goods ∙ ap goods_of kind))
 some_by bytes asked p cut action.PollSlot (Some s) t is n e =
     let works = acts_of s.number.serial cut in
     look_some s.slot.content (has_finished works) (has_given_up works) (is_none (sessions.session (own cut))) (fault (kind_in (sessions.last_session (own cut))) works) p
@@ -201,6 +213,9 @@ some_by bytes asked p cut action.Close None t is n e =
 some_by bytes asked p cut (action.Drain most) None t is n e =
     let fits = fits_at bytes asked p cut None (action.Drain most) t is in
     lent None (bound bytes) cut p.state t.last t.stage.0.at_is (ap is_lent fits.2)
+some_by bytes asked p cut action.Receive None t is n e =
+    let fits = fits_at bytes asked p cut None action.Receive t is in
+    lent None (bound bytes) cut p.state t.last t.stage.0.at_is (ap is_lent fits.1)
 some_by bytes asked p cut action.PollSlot None t is n e =
     let fits = fits_at bytes asked p cut None action.PollSlot t is in
     lent None (bound bytes) cut p.state t.last t.stage.0.at_is (looks_lent t.stage.0.call p.state p.is_at_end fits.0)

@@ -3,18 +3,18 @@ use Rattle.std.proofs.Common.{◌≡◌, ℕ, ◌≤◌, ◌&&◌, cond, List, [
 use Rattle.std.specs.Prelude.{◌+◌, ◌-◌, not, drop, map, filter, is_none}
 use Rattle.std.proofs.lemmas.Bool.{eq-eqb}
 use Rattle.std.proofs.Math.Seq.{drop-append_seam}
-use Rattle.blocking_core.specs.Places.{Met, Served, Waiting, Closed, drain}
+use Rattle.blocking_core.specs.Places.{Met, Served, Waiting, Closed, drain, receive}
 use Rattle.blocking_core.specs.Pipes.{room}
 use Rattle.blocking_laws.specs.JobTable.{Kind, Reading, Writing, Streaming, JobAction, next_but_wake, fault, number, has_closed, Seeking}
 use Rattle.blocking_laws.specs.OwnerSeats.{note_of, noted, is_job_seated}
 use Rattle.blocking_laws.specs.OwnerTable.{owner_next_but_wake, next_of_owner, next_of_owner_by, deliver_first, at_back, after_back, is_at_end}
 use Rattle.blocking_laws.specs.Passed.{inside, inside_by, last_job, last_kind, kind_in, in_hand, room_in, gave, got, accepted, taken, is_of_session, PassesOn}
-use Rattle.blocking_laws.specs.Places.{seen_drain}
+use Rattle.blocking_laws.specs.Places.{seen_drain, seen_receive}
 use Rattle.blocking_laws.specs.Seen.{IsBeginning, own, acts_of, is_of_pool, is_nothing, is_some_worker}
 use Rattle.blocking_laws.specs.Sessions.{call, last_session, is_shut, capacity, kind_of_job}
 use Rattle.blocking_laws.specs.Sessions as sessions
 use Rattle.blocking_laws.specs.declared.event.Act.{Act}
-use Rattle.blocking_laws.specs.declared.event.Act.TheVariants.{Accepted, Got, GotEnd, Waits, JobWoken, Back}
+use Rattle.blocking_laws.specs.declared.event.Act.TheVariants.{Accepted, Got, GotEnd, Waits, JobWoken, Back, GotItem}
 use Rattle.blocking_laws.specs.declared.event.Event.{Event}
 use Rattle.blocking_laws.specs.declared.step.HandleCall.{HandleCall}
 use Rattle.blocking_lanes.specs.OwnerTies.{LastAs, Flows, newest_note, seat_of}
@@ -198,3 +198,14 @@ pub drain_seen : (n : ℕ) (items : List ℕ) (lasts : Bool) (seat : Option JobN
 drain_seen n [] true seat = refl
 drain_seen n [] false seat = refl
 drain_seen n (x ∷ xs) lasts seat = refl
+
+-- and a receipt
+abbrev pub receive_act : Met (ℕ × Option JobNumber) → Act
+receive_act (Served got) = GotItem got.0 (serial_of got.1)
+receive_act Waiting = Waits
+receive_act Closed = GotEnd
+
+pub receive_shown : (items : List ℕ) (lasts : Bool) (seat : Option JobNumber) → receive_act (receive items lasts seat) ≡ seen_receive (receive items lasts (serial_of seat))
+receive_shown [] true seat = refl
+receive_shown [] false seat = refl
+receive_shown (x ∷ xs) lasts seat = refl

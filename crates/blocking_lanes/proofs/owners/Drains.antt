@@ -3,15 +3,15 @@ use Rattle.std.proofs.Common.{◌≡◌, ℕ, ◌<◌, ◌≤◌, List, [], ◌�
 use Rattle.std.specs.Prelude.{◌||◌, ◌⊎◌, ◌-◌, min, max, take, drop}
 use Rattle.std.proofs.lemmas.List.{take-append-drop, length-drop, take_min, length-take}
 use Rattle.blocking_core.specs.Pipes.{room}
-use Rattle.blocking_core.specs.Places.{Served, Waiting, Closed, drain}
+use Rattle.blocking_core.specs.Places.{Served, Waiting, Closed, drain, receive}
 use Rattle.blocking_core.specs.Slots.{Slot, Empty, Full}
 use Rattle.blocking_core.specs.declared.io.Fault.{Fault}
 use Rattle.blocking_laws.specs.JobTable.{Kind, Reading, Writing, Streaming, JobAction, FindRoom, AskBytes, PutPiece, Peek, OfferBytes, Consume, AskFlush, AskItem, SendItem, CloseEnd, Finish, Over, next_but_wake, fault, has_finished, has_given_up, Seeking, has_closed}
 use Rattle.blocking_laws.specs.Passed.{gave, peeked, taken as taken_by}
 use Rattle.blocking_laws.specs.Sessions as sessions
 use Rattle.blocking_laws.specs.declared.event.Act.{Act}
-use Rattle.blocking_lanes.specs.OwnerTies.{SessionAs, SlotAs, Flows, PlainFlow, is_piped_kind, IsStuckIn, IsOwnerStuckIn, Passed, passed_by, PassedAs, Wrote, wrote_by, WrittenAs, IsDrained, IsDone}
-use Rattle.blocking_lanes.specs.Sessions.{Session, goods_of, new_session, session_after_close, session_after_drain, session_after_look}
+use Rattle.blocking_lanes.specs.OwnerTies.{SessionAs, SlotAs, Flows, IsStuckIn, IsOwnerStuckIn, Passed, passed_by, PassedAs, Wrote, wrote_by, WrittenAs, IsDrained, IsDone, PlainFlow, is_piped_kind}
+use Rattle.blocking_lanes.specs.Sessions.{Session, goods_of, new_session, session_after_close, session_after_drain, session_after_look, received, session_after_receive}
 use Rattle.blocking_pool.specs.Jobs.{JobNumber}
 
 -- ---- what a drain finds
@@ -126,6 +126,7 @@ shut_flow s Reading shut took accepted next acts t = record {
   inside = t.inside;
   put = t.put;
   bounded = t.bounded;
+  sound = t.sound;
   passed_is = stops next (room s.pipe) s.pipe.is_job_open (shut || has_given_up acts) (passed_by acts) t.passed_is;
   unwritten = t.unwritten;
   unclosed = t.unclosed;
@@ -135,6 +136,7 @@ shut_flow s Streaming shut took accepted next acts t = record {
   inside = t.inside;
   put = t.put;
   bounded = t.bounded;
+  sound = t.sound;
   passed_is = stops next (room s.pipe) s.pipe.is_job_open (shut || has_given_up acts) (passed_by acts) t.passed_is;
   unwritten = t.unwritten;
   unclosed = t.unclosed;
@@ -162,6 +164,7 @@ same_flow s slot Reading shut took accepted next acts t = record {
   inside = t.inside;
   put = t.put;
   bounded = t.bounded;
+  sound = t.sound;
   passed_is = t.passed_is;
   unwritten = t.unwritten;
   unclosed = t.unclosed;
@@ -171,6 +174,7 @@ same_flow s slot Streaming shut took accepted next acts t = record {
   inside = t.inside;
   put = t.put;
   bounded = t.bounded;
+  sound = t.sound;
   passed_is = t.passed_is;
   unwritten = t.unwritten;
   unclosed = t.unclosed;
@@ -296,6 +300,7 @@ module _ (s : Session) (capacity : ℕ) (last : Option sessions.Session) (shut b
           inside = t.flow.inside ∙ ap (λ l. took ++ l) (sym (rejoined n s.pipe.items got.0 f.0)) ∙ sym (append_assoc took got.0 (drop (length got.0) s.pipe.items));
           put = t.flow.put;
           bounded = rw length-append (omega (arith, bounded));
+          sound = t.flow.sound;
           passed_is = more_room (next_but_wake Reading acts) (room s.pipe) (s.pipe.capacity - length (drop (length got.0) s.pipe.items)) s.pipe.is_job_open (shut || has_given_up acts) (passed_by acts)
               (omega (arith, shorter)) t.flow.passed_is;
           unclosed = t.flow.unclosed;
@@ -325,7 +330,7 @@ module _ (s : Session) (capacity : ℕ) (last : Option sessions.Session) (shut b
       → SessionAs s Reading capacity last shut back dropped took accepted acts js ps ss → SessionAs (session_after_drain Waiting s) Reading capacity last shut back dropped took accepted acts js true ss
   waits n found t = record {
     lent = record { begun = t.lent.begun; goods = t.lent.goods; some = t.lent.some; holds = t.lent.holds; within = t.lent.within; shut_is = t.lent.shut_is };
-    flow = record { closed_is = t.flow.closed_is; inside = t.flow.inside; put = t.flow.put; bounded = t.flow.bounded; passed_is = t.flow.passed_is; unclosed = t.flow.unclosed; unwritten = t.flow.unwritten };
+    flow = record { closed_is = t.flow.closed_is; inside = t.flow.inside; put = t.flow.put; bounded = t.flow.bounded; sound = t.flow.sound; passed_is = t.flow.passed_is; unclosed = t.flow.unclosed; unwritten = t.flow.unwritten };
     result = t.result;
     seats = record {
       job = t.seats.job;
@@ -334,6 +339,78 @@ module _ (s : Session) (capacity : ℕ) (last : Option sessions.Session) (shut b
       reason = record {
         job = t.seats.reason.job;
         owner = λ seated. nothing_yet n s.pipe.items s.pipe.is_job_open s.pipe.job_seat found;
+        slot = t.seats.reason.slot;
+      };
+    };
+  }
+
+-- ---- of one that takes items
+
+-- an owner that finds an item found the first of what was inside
+pub first_item : {N : Type 0} (items : List ℕ) (lasts : Bool) (seat : Option N) (got : ℕ × Option N) → receive items lasts seat ≡ Served got → (items ≡ got.0 ∷ drop 1 items) × (got.1 ≡ seat)
+first_item [] true seat got e = absurd (cc)
+first_item [] false seat got e = absurd (cc)
+first_item (x ∷ xs) lasts seat got e = let same : got ≡ (x, seat) = cc in (ap (λ g. g.0 ∷ xs) (sym same), ap (λ g. g.1) same)
+
+pub no_item_yet : {N : Type 0} (items : List ℕ) (lasts : Bool) (seat : Option N) → receive items lasts seat ≡ Waiting → (items ≡ []) × (lasts ≡ true)
+no_item_yet [] true seat e = (refl, refl)
+no_item_yet [] false seat e = absurd (cc)
+no_item_yet (x ∷ xs) lasts seat e = absurd (cc)
+
+pub no_more_items : {N : Type 0} (items : List ℕ) (lasts : Bool) (seat : Option N) → receive items lasts seat ≡ Closed → (items ≡ []) × (lasts ≡ false)
+no_more_items [] true seat e = absurd (cc)
+no_more_items [] false seat e = (refl, refl)
+no_more_items (x ∷ xs) lasts seat e = absurd (cc)
+
+module _ (s : Session) (capacity : ℕ) (last : Option sessions.Session) (shut back dropped : Bool) (took accepted : List ℕ) (acts : List Act) (js ps ss : Bool) where
+  -- it receives an item
+  pub receives : (got : ℕ × Option JobNumber) → received s ≡ Served got → SessionAs s Streaming capacity last shut back dropped took accepted acts js ps ss
+      → SessionAs (session_after_receive (Served got) s) Streaming capacity last shut back dropped (took ++ got.0 ∷ []) accepted acts false ps ss
+  receives got found t =
+      let f = first_item s.pipe.items s.pipe.is_job_open s.pipe.job_seat got found in
+      let within = t.lent.within in
+      let bounded = t.flow.bounded in
+      let shorter : length (drop 1 s.pipe.items) ≤ length s.pipe.items = simp length-drop (omega arith) in
+      record {
+        lent = record { begun = t.lent.begun; goods = t.lent.goods; some = t.lent.some; holds = t.lent.holds; within = omega (arith, shorter, within); shut_is = t.lent.shut_is };
+        flow = record {
+          closed_is = t.flow.closed_is;
+          inside = t.flow.inside ∙ ap (λ l. took ++ l) f.0 ∙ sym (append_assoc took (got.0 ∷ []) (drop 1 s.pipe.items));
+          put = t.flow.put;
+          bounded = rw length-append (omega (arith, bounded));
+          sound = t.flow.sound;
+          passed_is = more_room (next_but_wake Streaming acts) (room s.pipe) (s.pipe.capacity - length (drop 1 s.pipe.items)) s.pipe.is_job_open (shut || has_given_up acts) (passed_by acts)
+              (omega (arith, shorter)) t.flow.passed_is;
+          unclosed = t.flow.unclosed;
+          unwritten = t.flow.unwritten;
+        };
+        result = t.result;
+        seats = record {
+          job = refl;
+          owner = t.seats.owner;
+          slot = t.seats.slot;
+          reason = record {
+            job = λ seated. absurd (cc);
+            owner = λ seated. absurd (let none = sym (t.seats.reason.owner seated).0 ∙ f.0 in cc);
+            slot = t.seats.reason.slot;
+          };
+        };
+      }
+
+  -- there is none yet, and it is seated
+  pub waits_for_item : received s ≡ Waiting → SessionAs s Streaming capacity last shut back dropped took accepted acts js ps ss
+      → SessionAs (session_after_receive Waiting s) Streaming capacity last shut back dropped took accepted acts js true ss
+  waits_for_item found t = record {
+    lent = record { begun = t.lent.begun; goods = t.lent.goods; some = t.lent.some; holds = t.lent.holds; within = t.lent.within; shut_is = t.lent.shut_is };
+    flow = record { closed_is = t.flow.closed_is; inside = t.flow.inside; put = t.flow.put; bounded = t.flow.bounded; sound = t.flow.sound; passed_is = t.flow.passed_is; unclosed = t.flow.unclosed; unwritten = t.flow.unwritten };
+    result = t.result;
+    seats = record {
+      job = t.seats.job;
+      owner = refl;
+      slot = t.seats.slot;
+      reason = record {
+        job = t.seats.reason.job;
+        owner = λ seated. no_item_yet s.pipe.items s.pipe.is_job_open s.pipe.job_seat found;
         slot = t.seats.reason.slot;
       };
     };
@@ -361,7 +438,7 @@ pub begins : (number : JobNumber) (kind : Kind) (capacity : ℕ) (dropped : Bool
     → SessionAs (new_session number (goods_of kind) capacity) kind capacity (Some (record { serial = number.serial; kind = kind })) false false dropped [] [] [] false false false
 begins number Reading capacity dropped lending some = record {
   lent = record { begun = refl; goods = refl; some = some; holds = refl; within = omega arith; shut_is = refl };
-  flow = record { closed_is = refl; inside = refl; put = ([], refl); bounded = omega arith; passed_is = (refl, (refl, refl)); unclosed = λ is. absurd (cc); unwritten = refl };
+  flow = record { closed_is = refl; inside = refl; put = ([], refl); bounded = omega arith; sound = λ hand. refl; passed_is = (refl, (refl, refl)); unclosed = λ is. absurd (cc); unwritten = refl };
   result = record { slot = (refl, refl); over_is = refl; let_go = λ is. absurd (cc) };
   seats = record {
     job = refl;
@@ -372,7 +449,7 @@ begins number Reading capacity dropped lending some = record {
 }
 begins number Streaming capacity dropped lending some = record {
   lent = record { begun = refl; goods = refl; some = some; holds = refl; within = omega arith; shut_is = refl };
-  flow = record { closed_is = refl; inside = refl; put = ([], refl); bounded = omega arith; passed_is = (refl, (refl, refl)); unclosed = λ is. absurd (cc); unwritten = refl };
+  flow = record { closed_is = refl; inside = refl; put = ([], refl); bounded = omega arith; sound = λ hand. refl; passed_is = (refl, (refl, refl)); unclosed = λ is. absurd (cc); unwritten = refl };
   result = record { slot = (refl, refl); over_is = refl; let_go = λ is. absurd (cc) };
   seats = record {
     job = refl;

@@ -27,13 +27,13 @@ use Rattle.blocking_laws.specs.declared.event.Reply.{Reply as Told}
 use Rattle.blocking_laws.specs.declared.step.HandleCall.{HandleCall}
 use Rattle.blocking_laws.specs.declared.step.HandleCall.TheVariants as handle_call
 use Rattle.blocking_pool.specs.Jobs.{JobNumber}
-use Rattle.blocking_lanes.specs.Owners.{Owner, Did, Worked, note_at, drain_did, fill_did, fill_did_in, look_did, looked_as, reply_as, reply_did, did_in, did_by, did, worked_by, read_in, read_as, stream_in, stream_as, write_in, write_as, worked, seek_in, seek_as}
+use Rattle.blocking_lanes.specs.Owners.{Owner, Did, Worked, note_at, drain_did, fill_did, fill_did_in, look_did, looked_as, reply_as, reply_did, did_in, did_by, did, worked_by, read_in, read_as, stream_in, stream_as, write_in, write_as, worked, item_in, receive_did, seek_in, seek_as}
 use Rattle.blocking_lanes.specs.OwnerSteps.{OwnerStep, IsAsked, Acts, Begins, IsRefused, Delivers, IsDropped, Works, IsAnswered, GivesUp, CallsWaker, act_of, act_in, act_of_work, delivered}
 use Rattle.blocking_lanes.specs.Passages.{OfBytes, OfItems, through}
 use Rattle.blocking_lanes.specs.Reads as reads
 use Rattle.blocking_lanes.specs.Streams as streams
 use Rattle.blocking_lanes.specs.Writes as writes
-use Rattle.blocking_lanes.specs.Sessions.{Session, Work, found_send, streamer_works, work_by, work_at_put, writer_works, work_of_consume, holds, fits_in, found_room, found_put, found_piece, drained, filled, reach, session_after_look}
+use Rattle.blocking_lanes.specs.Sessions.{Session, Work, found_send, streamer_works, work_by, work_at_put, writer_works, work_of_consume, holds, fits_in, found_room, found_put, found_piece, drained, filled, reach, session_after_look, received}
 use Rattle.blocking_lanes.specs.Seeks as seeks
 use Rattle.blocking_lanes.specs.declared.job.SessionJob.{SessionJob}
 use Rattle.blocking_lanes.specs.declared.job.SessionJob.TheVariants as of_job
@@ -63,6 +63,11 @@ plain_drain (Served got) p s owner = record { pool = refl; nothing = refl; made 
 plain_drain Waiting p s owner = record { pool = refl; nothing = refl; made = refl; new = refl }
 plain_drain Closed p s owner = record { pool = refl; nothing = refl; made = refl; new = refl }
 
+plain_receive : (met : Met (ℕ × Option JobNumber)) (p : OwnerMachine ℕ) (s : Session) (owner : Owner) → IsPlain [] (receive_did met p s owner).act
+plain_receive (Served got) p s owner = record { pool = refl; nothing = refl; made = refl; new = refl }
+plain_receive Waiting p s owner = record { pool = refl; nothing = refl; made = refl; new = refl }
+plain_receive Closed p s owner = record { pool = refl; nothing = refl; made = refl; new = refl }
+
 plain_fill : (bytes : List ℕ) (met : Met (ℕ × Option JobNumber)) (p : OwnerMachine ℕ) (s : Session) (owner : Owner) → IsPlain [] (fill_did bytes met p s owner).act
 plain_fill bytes (Served went) p s owner = record { pool = refl; nothing = refl; made = refl; new = refl }
 plain_fill bytes Waiting p s owner = record { pool = refl; nothing = refl; made = refl; new = refl }
@@ -84,7 +89,7 @@ plain_look (Abandoned true) p s owner done e = absurd (cc)
 plain_look (Abandoned false) p s owner done e = moved (λ (d : Did). IsPlain [] d.act) _ done e (record { pool = refl; nothing = refl; made = refl; new = refl })
 
 plain_did : (next : OwnerAction ℕ) (p : OwnerMachine ℕ) (last : Option Session) (owner : Owner) (done : Did) → did_in next p last owner ≡ Some done → IsPlain [] done.act
-plain_did (action.Reply r) p last owner done e = by_told (reply_as r) e
+plain_did (action.Reply r) p last owner done e = by_told (reply_as (item_in last) r) e
   where
     by_told : (told : Option Told) → reply_did told p owner ≡ Some done → IsPlain [] done.act
     by_told (Some told) e = moved (λ (d : Did). IsPlain [] d.act) _ done e (record { pool = refl; nothing = refl; made = refl; new = refl })
@@ -93,6 +98,7 @@ plain_did (action.Fill most) p last owner done e = plain_fills p owner.asked las
 plain_did action.DropHandle p last owner done e = moved (λ (d : Did). IsPlain [] d.act) _ done e (record { pool = refl; nothing = refl; made = refl; new = refl })
 plain_did action.Close p (Some s) owner done e = moved (λ (d : Did). IsPlain [] d.act) _ done (piped_some s.goods _ done e) (record { pool = refl; nothing = refl; made = refl; new = refl })
 plain_did (action.Drain most) p (Some s) owner done e = moved (λ (d : Did). IsPlain [] d.act) _ done (through_some OfBytes s.goods _ done e).1 (plain_drain (drained (reach most s) s) p s owner)
+plain_did action.Receive p (Some s) owner done e = moved (λ (d : Did). IsPlain [] d.act) _ done (through_some OfItems s.goods _ done e).1 (plain_receive (received s) p s owner)
 plain_did action.PollSlot p (Some s) owner done e = plain_look s.slot.content p (session_after_look s.slot.content s) owner done e
 plain_did _ p None owner done e = absurd (cc)
 plain_did _ p (Some s) owner done e = absurd (cc)

@@ -147,7 +147,7 @@ module _ (bytes : ℕ) (asked : Option HandleCall) (here : OwnerStage) (s : Sess
 
   -- the session with this pipe, slot and number
   abbrev now_at : Pipe ℕ (Unit {0}) → Slot (Option (Fault ℕ)) (Unit {0}) → ℕ → Session
-  now_at pipe slot left = record { number = s.number; goods = s.goods; pipe = pipe; slot = slot; left = left }
+  now_at pipe slot left = record { number = s.number; goods = s.goods; item = s.item; pipe = pipe; slot = slot; left = left }
 
   -- What an act of the job, which is of this kind, has to keep, so that the tie and the law do.
   pub record KeepsLeft (k : Kind) (act : Act) (pipe : Pipe ℕ (Unit {0})) (slot : Slot (Option (Fault ℕ)) (Unit {0})) (left : ℕ) : Type 0 where
@@ -191,8 +191,8 @@ module _ (bytes : ℕ) (asked : Option HandleCall) (here : OwnerStage) (s : Sess
           polled = t.polled;
           bytes = t.bytes;
           calls = t.calls;
-          stage = subst (λ n. StageBy here (sessions.call (own cut)) (sessions.state (own cut)) n (law.is_at_end (own cut)) (came_back (e ∷ cut)) (newest_note (own cut))) (sym next)
-              (subst (λ b. StageBy here (sessions.call (own cut)) (sessions.state (own cut)) (owner_next_but_wake cut (own cut)) (law.is_at_end (own cut)) b (newest_note (own cut)))
+          stage = subst (λ n. StageBy here s.item (sessions.call (own cut)) (sessions.state (own cut)) n (law.is_at_end (own cut)) (came_back (e ∷ cut)) (newest_note (own cut))) (sym next)
+              (subst (λ b. StageBy here s.item (sessions.call (own cut)) (sessions.state (own cut)) (owner_next_but_wake cut (own cut)) (law.is_at_end (own cut)) b (newest_note (own cut)))
               (sym (k.back (e ∷ cut) (came_back cut))) t.stage);
           last = subst (λ (l : List Act). Tied (now_at pipe slot left) kind l
               (job_seated_by act (is_job_seated cut)) (pipe_seated_by act (place_of (next_of_owner cut)) (pipe_seat cut)) (slot_seated_by act (place_of (next_of_owner cut)) (slot_seat cut)))

@@ -8,7 +8,7 @@ use Rattle.blocking_core.specs.Machines.{wake_first}
 use Rattle.blocking_core.specs.OwnerCalls.{OwnerMachine, owner_next, owner_after, owner_by, owner_in, new_poll}
 use Rattle.blocking_core.specs.OwnerCalls as machine
 use Rattle.blocking_core.specs.Pipes.{room}
-use Rattle.blocking_core.specs.Places.{Met, Served, Waiting, Closed, drain, fill}
+use Rattle.blocking_core.specs.Places.{Met, Served, Waiting, Closed, drain, fill, receive}
 use Rattle.blocking_core.specs.Slots.{Content, Empty, Full, GivenUp, Abandoned}
 use Rattle.blocking_core.specs.Positions.{same_position}
 use Rattle.blocking_core.specs.declared.io.Fault.{Fault}
@@ -26,18 +26,18 @@ use Rattle.blocking_core.specs.declared.unblock.SessionKind.TheVariants as sessi
 use Rattle.blocking_core.specs.declared.unblock.State.{State}
 use Rattle.blocking_core.specs.declared.unblock.State.TheVariants as state
 use Rattle.blocking_laws.specs.Ends.{EndsTruly, IsTrueEnd, came_back, IsReadBack, IsReadWhole, IsFlushed, IsFlushedIf, IsFlushedBack, handle_answers, has_failure, has_failed_write, has_flush, is_failure, last_is_end}
-use Rattle.blocking_laws.specs.JobTable.{Kind, Reading, Writing, Seeking, JobAction, Over, next_but_wake, is_over, earlier, fault, fault_in, number, has_closed, has_finished, has_given_up}
+use Rattle.blocking_laws.specs.JobTable.{Kind, Reading, Writing, JobAction, Over, next_but_wake, is_over, earlier, fault, fault_in, number, has_closed, has_finished, has_given_up, Streaming, Seeking}
 use Rattle.blocking_laws.specs.OwnerLaws.{OwnerMayAct, Polls}
 use Rattle.blocking_laws.specs.OwnerTable.{next_of_owner, deliver_first, owner_next_but_wake}
 use Rattle.blocking_laws.specs.OwnerTable as law
 use Rattle.blocking_laws.specs.OwnerSeats.{noted, place_of, is_job_seated, pipe_seat, pipe_seated_by, slot_seat, slot_seated_by}
 use Rattle.blocking_laws.specs.Passed.{gave, got, accepted, data_of, taken as taken_by, inside, room_in, last_job, kind_in}
-use Rattle.blocking_laws.specs.Places.{seen_drain, seen_fill, poll_slot}
+use Rattle.blocking_laws.specs.Places.{seen_drain, seen_fill, poll_slot, seen_receive}
 use Rattle.blocking_laws.specs.Seen.{own, acts_of, is_some_worker}
 use Rattle.blocking_laws.specs.Sessions as sessions
 use Rattle.blocking_laws.specs.Steps.{is_known}
 use Rattle.blocking_laws.specs.declared.event.Act.{Act}
-use Rattle.blocking_laws.specs.declared.event.Act.TheVariants.{OwnerClosed, Got, GotEnd, Filled, FillShut, Waits, Back, Replied, Answered}
+use Rattle.blocking_laws.specs.declared.event.Act.TheVariants.{OwnerClosed, Got, GotEnd, Filled, FillShut, Waits, Back, Replied, Answered, GotItem}
 use Rattle.blocking_laws.specs.declared.event.Event.{Event}
 use Rattle.blocking_laws.specs.declared.event.Reply.{Reply as Told}
 use Rattle.blocking_laws.specs.declared.event.Reply.TheVariants as told
@@ -47,18 +47,18 @@ use Rattle.blocking_laws.specs.declared.step.HandleCall.{HandleCall}
 use Rattle.blocking_laws.specs.declared.step.HandleCall.TheVariants as handle_call
 use Rattle.blocking_pool.specs.Growth.{Growth}
 use Rattle.blocking_pool.specs.Jobs.{JobNumber}
-use Rattle.blocking_lanes.specs.Owners.{Owner, Did, capacity_of, note_at, goes_on, close_did, drain_did, fill_did, fill_did_in, drop_did, back_answer, look_did, looked_as, poll_call_of, reply_as, reply_did, did_in, did_by, did, is_gone}
+use Rattle.blocking_lanes.specs.Owners.{Owner, Did, capacity_of, note_at, goes_on, close_did, drain_did, fill_did, fill_did_in, drop_did, look_did, looked_as, poll_call_of, reply_as, reply_did, did_in, did_by, did, is_gone, item_in, receive_did, back_answer}
 use Rattle.blocking_lanes.specs.OwnerSteps.{by_owner}
-use Rattle.blocking_lanes.specs.OwnerTies.{OwnerAs, SlotAs, Passed, passed_by, PassedAs, GaveAll, WrittenAs, wrote_by, PollAs, FitsNext, IsGoneBy, IsLentOpen, LooksFrom, EndAs, StageBy, SessionAs, IsAtEnd, called_at, is_piped_kind, kind_as, is_end_open, state_as, say, action_as, seat_of}
-use Rattle.blocking_lanes.specs.Passages.{OfBytes}
-use Rattle.blocking_lanes.specs.Sessions.{Session, serial_of, reach, drained, filled, session_after_close, session_after_drain, session_after_fill, session_after_look}
+use Rattle.blocking_lanes.specs.OwnerTies.{OwnerAs, SlotAs, Passed, passed_by, PassedAs, GaveAll, WrittenAs, wrote_by, PollAs, FitsNext, IsGoneBy, IsLentOpen, LooksFrom, EndAs, StageBy, SessionAs, IsAtEnd, called_at, kind_as, state_as, say, action_as, seat_of, is_piped_kind, is_end_open}
+use Rattle.blocking_lanes.specs.Passages.{OfBytes, OfItems}
+use Rattle.blocking_lanes.specs.Sessions.{Session, serial_of, reach, drained, filled, session_after_close, session_after_drain, session_after_fill, session_after_look, received, session_after_receive}
 use Rattle.blocking_lanes.specs.declared.owner.OwnerStage.{OwnerStage}
 use Rattle.blocking_lanes.specs.declared.owner.OwnerStage.TheVariants as stage
 use Rattle.blocking_lanes.proofs.owners.Known.{known_call}
-use Rattle.blocking_lanes.proofs.owners.Cuts.{not_not, next_with, inside_is, room_is, lasts_is, open_is, noted_is, its_job, drain_act, drain_seen}
+use Rattle.blocking_lanes.proofs.owners.Cuts.{not_not, next_with, inside_is, room_is, lasts_is, open_is, noted_is, its_job, drain_act, drain_seen, receive_act, receive_shown}
 use Rattle.blocking_lanes.proofs.owners.Fills.{fills, fill_waits, filled_some, filled_note, fill_act, fill_seen}
-use Rattle.blocking_lanes.proofs.owners.Drains.{shuts, takes, waits, returns, waits_for_it, front, at_end, reached}
-use Rattle.blocking_lanes.proofs.owners.Goods.{piped_some, through_some}
+use Rattle.blocking_lanes.proofs.owners.Drains.{shuts, takes, waits, returns, waits_for_it, front, at_end, reached, first_item, no_more_items, receives, waits_for_item}
+use Rattle.blocking_lanes.proofs.owners.Goods.{through_some, piped_some}
 use Rattle.blocking_lanes.proofs.owners.States.{is_away, gone_is, lent_at, lent_by, piped_is}
 
 -- an owner by its parts
@@ -91,10 +91,10 @@ pub doing : (p : OwnerMachine ℕ) → p.is_waking ≡ false → owner_next p �
 doing p waking = ap (λ b. wake_first b action.Deliver p.next) waking
 
 -- a poll that goes on, first by a note that it took
-pub goes_on_so : (q : OwnerMachine ℕ) (note : Option JobNumber) (asked : Option HandleCall) (at : sessions.State) (next : law.OwnerAction) (ended : Bool) (back : Option (List Event))
-    → PollAs q asked at next ended back → q.is_waking ≡ is_some note → StageBy (goes_on q note) asked at next ended back (serial_of note)
-goes_on_so q None asked at next ended back p waking = (p, waking, refl)
-goes_on_so q (Some number) asked at next ended back p waking = (p, waking, refl)
+pub goes_on_so : (q : OwnerMachine ℕ) (note : Option JobNumber) (x : ℕ) (asked : Option HandleCall) (at : sessions.State) (next : law.OwnerAction) (ended : Bool) (back : Option (List Event))
+    → PollAs q x asked at next ended back → q.is_waking ≡ is_some note → StageBy (goes_on q note) x asked at next ended back (serial_of note)
+goes_on_so q None x asked at next ended back p waking = (p, waking, refl)
+goes_on_so q (Some number) x asked at next ended back p waking = (p, waking, refl)
 
 pub not_gone : (q : OwnerMachine ℕ) (note : Option JobNumber) → false ≡ is_gone (goes_on q note)
 not_gone q None = refl
@@ -106,9 +106,9 @@ still_called q (Some number) asked = refl
 
 -- what its poll does next is what the law says, and fits
 pub lawful : (bytes : ℕ) (asked : Option HandleCall) (p : OwnerMachine ℕ) (cut : List Event) (last : Option Session) (next : OwnerAction ℕ)
-    → (t : OwnerAs (owner_by_parts bytes asked (stage.Polls p) last) cut) → p.next ≡ next → next_of_owner cut ≡ action_as t.stage.0.call next
+    → (t : OwnerAs (owner_by_parts bytes asked (stage.Polls p) last) cut) → p.next ≡ next → next_of_owner cut ≡ action_as (item_in last) t.stage.0.call next
 lawful bytes asked p cut last next t is =
-    next_with cut ∙ ap (λ n. deliver_first n (owner_next_but_wake cut (own cut))) t.stage.2 ∙ t.stage.0.next_is ∙ ap (action_as t.stage.0.call) is
+    next_with cut ∙ ap (λ n. deliver_first n (owner_next_but_wake cut (own cut))) t.stage.2 ∙ t.stage.0.next_is ∙ ap (action_as (item_in last) t.stage.0.call) is
 
 pub fits_at : (bytes : ℕ) (asked : Option HandleCall) (p : OwnerMachine ℕ) (cut : List Event) (last : Option Session) (next : OwnerAction ℕ)
     → (t : OwnerAs (owner_by_parts bytes asked (stage.Polls p) last) cut) → p.next ≡ next → FitsNext t.stage.0.call p next (law.is_at_end (own cut)) (came_back cut)
@@ -237,7 +237,7 @@ module _ (bytes : ℕ) (asked : Option HandleCall) (p : OwnerMachine ℕ) (s : S
       let q : OwnerMachine ℕ = record p { state = machine.shut p.state; next = action.PollSlot; is_waking = is_some note } in
       let fits = fits_at bytes asked p cut (Some s) action.Close t is in
       let same : owner_after p (by.Closed (is_some note)) ≡ q = turned p action.Close (by.Closed (is_some note)) t.stage.1 is in
-      let polled : PollAs q (sessions.call (own cut)) (sessions.state (own (e ∷ cut))) law.PollSlot false (came_back cut) = record {
+      let polled : PollAs q s.item (sessions.call (own cut)) (sessions.state (own (e ∷ cut))) law.PollSlot false (came_back cut) = record {
         call = c;
         asked_is = t.stage.0.asked_is;
         call_is = t.stage.0.call_is;
@@ -256,7 +256,7 @@ module _ (bytes : ℕ) (asked : Option HandleCall) (p : OwnerMachine ℕ) (s : S
           polled = t.polled ∙ still_called q note asked;
           bytes = t.bytes;
           calls = t.calls;
-          stage = goes_on_so q note (sessions.call (own cut)) (sessions.state (own (e ∷ cut))) law.PollSlot false (came_back cut) polled refl;
+          stage = goes_on_so q note s.item (sessions.call (own cut)) (sessions.state (own (e ∷ cut))) law.PollSlot false (came_back cut) polled refl;
           last = shuts s kind (bound bytes kind) began shut over gone took written acts js ps ss t.last;
           ended = λ is_end. absurd (cc);
           earlier = t.earlier;
@@ -291,7 +291,7 @@ module _ (bytes : ℕ) (asked : Option HandleCall) (p : OwnerMachine ℕ) (s : S
       let any : 0 < length found.0 = omega (arith, count, some) in
       let same : owner_after p (by.Got (length found.0) (is_some found.1)) ≡ q =
       turned p (action.Drain most) (by.Got (length found.0) (is_some found.1)) t.stage.1 is ∙ got_machine p most (length found.0) (is_some found.1) any (omega (arith, count, wanted)) in
-      let polled : PollAs q (sessions.call (own cut)) (sessions.state (own cut)) (law.Say (told.Count (length found.0))) false (came_back cut) = record {
+      let polled : PollAs q s.item (sessions.call (own cut)) (sessions.state (own cut)) (law.Say (told.Count (length found.0))) false (came_back cut) = record {
         call = c;
         asked_is = t.stage.0.asked_is;
         call_is = t.stage.0.call_is;
@@ -311,7 +311,7 @@ module _ (bytes : ℕ) (asked : Option HandleCall) (p : OwnerMachine ℕ) (s : S
           polled = t.polled ∙ still_called q found.1 asked;
           bytes = t.bytes;
           calls = t.calls;
-          stage = goes_on_so q found.1 (sessions.call (own cut)) (sessions.state (own cut)) (law.Say (told.Count (length found.0))) false (came_back cut) polled refl;
+          stage = goes_on_so q found.1 s.item (sessions.call (own cut)) (sessions.state (own cut)) (law.Say (told.Count (length found.0))) false (came_back cut) polled refl;
           last = subst (λ k. SessionAs (session_after_drain (Served found) s) k (bound bytes k) began shut over gone (took ++ found.0) written acts false ps ss) (sym lent.0) last;
           ended = λ is_end. absurd (cc);
           earlier = t.earlier;
@@ -386,6 +386,117 @@ module _ (bytes : ℕ) (asked : Option HandleCall) (p : OwnerMachine ℕ) (s : S
         };
       })
 
+  -- ---- it receives an item
+
+  -- what it finds is what the law says
+  item_so : Old → receive_act (received s) ≡ seen_receive (receive (inside cut) (not (has_closed (last_job cut))) (noted cut))
+  item_so t =
+      receive_shown s.pipe.items s.pipe.is_job_open s.pipe.job_seat
+      ∙ ap (λ l. seen_receive (receive l s.pipe.is_job_open (serial_of s.pipe.job_seat))) (sym (inside_is s (bound bytes) cut t.last))
+      ∙ ap (λ b. seen_receive (receive (inside cut) b (serial_of s.pipe.job_seat))) (sym (lasts_is s (bound bytes) cut t.last))
+      ∙ ap (λ n. seen_receive (receive (inside cut) (not (has_closed (last_job cut))) n)) (noted_is s (bound bytes) cut t.last)
+
+  receive_goes : p.next ≡ action.Receive → Old → (met : Met (ℕ × Option JobNumber)) → received s ≡ met
+      → Goes (receive_did met p s polling).owner cut (by_owner h (receive_did met p s polling).act first growth)
+  receive_goes is t (Served found) e =
+      let c = t.stage.0.call in
+      let fits = fits_at bytes asked p cut (Some s) action.Receive t is in
+      let lent = lent_at (own cut) Streaming true (t.stage.0.at_is ∙ ap state_as fits.1) in
+      let seen = by_owner h (GotItem found.0 (serial_of found.1)) first growth in
+      let here = first_item s.pipe.items s.pipe.is_job_open s.pipe.job_seat found e in
+      let q : OwnerMachine ℕ = record p { next = action.Reply reply.Item; is_waking = is_some found.1 } in
+      let same : owner_after p (by.Received (is_some found.1)) ≡ q = turned p action.Receive (by.Received (is_some found.1)) t.stage.1 is in
+      let polled : PollAs q found.0 (sessions.call (own cut)) (sessions.state (own cut)) (law.Say (told.OneItem found.0)) false (came_back cut) = record {
+        call = c;
+        asked_is = t.stage.0.asked_is;
+        call_is = t.stage.0.call_is;
+        at_is = t.stage.0.at_is;
+        next_is = refl;
+        fits = subst (λ c. FitsNext c q (action.Reply reply.Item) false (came_back cut)) (sym fits.0) (refl, tt, tt);
+      } in
+      let last = receives s (bound bytes Streaming) began shut over gone took written acts js ps ss found e (of_kind Streaming lent.0 t) in
+      subst (λ (m : OwnerMachine ℕ). Goes (owner_by_parts bytes asked (goes_on m found.1) (Some (session_after_receive (Served found) s))) cut seen) (sym same)
+      (record {
+        acts = subst (λ n. Polls cut n (GotItem found.0 (serial_of found.1))) (sym (lawful bytes asked p cut (Some s) action.Receive t is)) (ap receive_act (sym e) ∙ item_so t);
+        ends = tt;
+        tie = record {
+          made = t.made;
+          gone = t.gone ∙ not_gone q found.1;
+          asked = t.asked;
+          polled = t.polled ∙ still_called q found.1 asked;
+          bytes = t.bytes;
+          calls = t.calls;
+          stage = goes_on_so q found.1 found.0 (sessions.call (own cut)) (sessions.state (own cut)) (law.Say (told.OneItem found.0)) false (came_back cut) polled refl;
+          last = subst (λ k. SessionAs (session_after_receive (Served found) s) k (bound bytes k) began shut over gone (took ++ found.0 ∷ []) written acts false ps ss) (sym lent.0) last;
+          ended = λ is_end. absurd (cc);
+          earlier = t.earlier;
+          noted = noted_so q found.1 js s.number (here.1 ∙ t.last.seats.job);
+          told = λ waits. absurd (cc);
+        };
+      })
+  receive_goes is t Waiting e =
+      let fits = fits_at bytes asked p cut (Some s) action.Receive t is in
+      let lent = lent_at (own cut) Streaming true (t.stage.0.at_is ∙ ap state_as fits.1) in
+      let at_pipe = lawful bytes asked p cut (Some s) action.Receive t is in
+      let last = waits_for_item s (bound bytes Streaming) began shut over gone took written acts js ps ss e (of_kind Streaming lent.0 t) in
+      record {
+        acts = subst (λ n. Polls cut n Waits) (sym at_pipe) (ap receive_act (sym e) ∙ item_so t);
+        ends = tt;
+        tie = record {
+          made = t.made;
+          gone = t.gone;
+          asked = t.asked;
+          polled = refl;
+          bytes = t.bytes;
+          calls = t.calls;
+          stage = (t.stage.0.at_is, refl, refl);
+          last = subst (λ n. SessionAs (session_after_receive Waiting s) kind (bound bytes kind) began shut over gone took written acts js (pipe_seated_by Waits (place_of n) ps) (slot_seated_by Waits (place_of n) ss)) (sym at_pipe)
+              (subst (λ k. SessionAs (session_after_receive Waiting s) k (bound bytes k) began shut over gone took written acts js true ss) (sym lent.0) last);
+          ended = λ is_end. absurd (cc);
+          earlier = t.earlier;
+          noted = λ number is. absurd (cc);
+          told = λ waits. (refl, inr refl);
+        };
+      }
+  receive_goes is t Closed e =
+      let c = t.stage.0.call in
+      let fits = fits_at bytes asked p cut (Some s) action.Receive t is in
+      let lent = lent_at (own cut) Streaming true (t.stage.0.at_is ∙ ap state_as fits.1) in
+      let seen = by_owner h GotEnd first growth in
+      let q : OwnerMachine ℕ = record p { next = action.PollSlot; is_at_end = true } in
+      let same : owner_after p by.Ended ≡ q = turned p action.Receive by.Ended t.stage.1 is in
+      let closed = no_more_items s.pipe.items s.pipe.is_job_open s.pipe.job_seat e in
+      subst (λ (m : OwnerMachine ℕ). Goes (owner_by_parts bytes asked (stage.Polls m) (Some s)) cut seen) (sym same)
+      (record {
+        acts = subst (λ n. Polls cut n GotEnd) (sym (lawful bytes asked p cut (Some s) action.Receive t is)) (ap receive_act (sym e) ∙ item_so t);
+        ends = tt;
+        tie = record {
+          made = t.made;
+          gone = t.gone;
+          asked = t.asked;
+          polled = t.polled;
+          bytes = t.bytes;
+          calls = t.calls;
+          stage = (
+            record {
+              call = c;
+              asked_is = t.stage.0.asked_is;
+              call_is = t.stage.0.call_is;
+              at_is = t.stage.0.at_is;
+              next_is = refl;
+              fits = (subst (λ c. LooksFrom c p.state true) (sym fits.0) (subst (λ st. LooksFrom handle_call.Next st true) (sym fits.1) tt), refl);
+            },
+            t.stage.1,
+            refl,
+          );
+          last = t.last;
+          ended = λ is_end. (closed.0, closed.1, sym (open_is s (bound bytes) cut t.last) ∙ lent.1);
+          earlier = t.earlier;
+          noted = λ number is. absurd (cc);
+          told = λ waits. absurd (cc);
+        };
+      })
+
   -- ---- it fills the pipe
 
   -- what it finds is what the law says
@@ -437,7 +548,7 @@ module _ (bytes : ℕ) (asked : Option HandleCall) (p : OwnerMachine ℕ) (s : S
       let q : OwnerMachine ℕ = record p { next = action.Reply (reply.Count went.0); is_waking = is_some went.1 } in
       let same : owner_after p (by.Took went.0 (is_some went.1)) ≡ q =
       turned p (action.Fill (length offered)) (by.Took went.0 (is_some went.1)) t.stage.1 w.most_is ∙ got_machine p (length offered) went.0 (is_some went.1) many.0 many.1 in
-      let polled : PollAs q (sessions.call (own cut)) (sessions.state (own cut)) (law.Say (told.Count went.0)) false (came_back cut) = record {
+      let polled : PollAs q s.item (sessions.call (own cut)) (sessions.state (own cut)) (law.Say (told.Count went.0)) false (came_back cut) = record {
         call = c;
         asked_is = t.stage.0.asked_is;
         call_is = t.stage.0.call_is;
@@ -458,7 +569,7 @@ module _ (bytes : ℕ) (asked : Option HandleCall) (p : OwnerMachine ℕ) (s : S
           polled = t.polled ∙ still_called q went.1 asked;
           bytes = t.bytes;
           calls = t.calls;
-          stage = goes_on_so q went.1 (sessions.call (own cut)) (sessions.state (own cut)) (law.Say (told.Count went.0)) false (came_back cut) polled refl;
+          stage = goes_on_so q went.1 s.item (sessions.call (own cut)) (sessions.state (own cut)) (law.Say (told.Count went.0)) false (came_back cut) polled refl;
           last = subst (λ k. SessionAs (session_after_fill offered (Served went) s) k (bound bytes k) began shut over gone took (accepted (own (seen ∷ cut))) acts false ps ss) (sym w.kind_is)
               (subst (λ l. SessionAs (session_after_fill offered (Served went) s) Writing (bound bytes Writing) began shut over gone took (written ++ take went.0 l) acts false ps ss) offer last);
           ended = λ is_end. absurd (cc);
@@ -547,6 +658,7 @@ module _ (bytes : ℕ) (asked : Option HandleCall) (p : OwnerMachine ℕ) (s : S
   closed_end c (state.Lent of Shut) false looks there at lent ends = inl (sym (not_not shut s.pipe.is_owner_open lent) ∙ shut_now (kind_as of) (sessions.session (own cut)) shut at)
   closed_end c (state.Lent of Open) false looks there at lent ends = inr (inr (ap is_piped_kind (lent_at (own cut) (kind_as of) true there).0 ∙ sym (piped_is of) ∙ looks))
   closed_end (handle_call.Read most) (state.Lent session_kind.Reading Open) true looks there at lent ends = inr (inl (ends refl).1)
+  closed_end handle_call.Next (state.Lent session_kind.Streaming Open) true looks there at lent ends = inr (inl (ends refl).1)
   closed_end _ _ _ looks there at lent ends = absurd looks
 
   -- it finds nothing yet, and is seated
@@ -591,17 +703,34 @@ module _ (bytes : ℕ) (asked : Option HandleCall) (p : OwnerMachine ℕ) (s : S
   at_back_is None r ended seen = refl
   at_back_is (Some call) r ended seen = refl
 
-  -- only a read sees the end
-  abbrev is_read : HandleCall → Bool
-  is_read (handle_call.Read most) = true
-  is_read _ = false
+  -- only a read and a call for an item see the end
+  abbrev sees_end : HandleCall → Bool
+  sees_end (handle_call.Read most) = true
+  sees_end handle_call.Next = true
+  sees_end _ = false
 
-  reads_end : (c : HandleCall) (st : State) → LooksFrom c st true → (is_read c ≡ true) × (st ≡ state.Lent session_kind.Reading Open)
-  reads_end (handle_call.Read most) (state.Lent session_kind.Reading Open) looks = (refl, refl)
-  reads_end c (state.Lent _ Shut) looks = absurd looks
-  reads_end c state.Idle looks = absurd looks
-  reads_end c state.Closed looks = absurd looks
-  reads_end _ (state.Lent _ Open) looks = absurd looks
+  only_seen : (c : HandleCall) (st : State) → LooksFrom c st true → sees_end c ≡ true
+  only_seen (handle_call.Read most) st looks = refl
+  only_seen handle_call.Next st looks = refl
+  only_seen c (state.Lent _ Shut) looks = absurd looks
+  only_seen c state.Idle looks = absurd looks
+  only_seen c state.Closed looks = absurd looks
+  only_seen _ (state.Lent _ Open) looks = absurd looks
+
+  -- each in its own session
+  seen_reading : (most : ℕ) (st : State) → LooksFrom (handle_call.Read most) st true → st ≡ state.Lent session_kind.Reading Open
+  seen_reading most (state.Lent session_kind.Reading Open) looks = refl
+  seen_reading most (state.Lent _ Shut) looks = absurd looks
+  seen_reading most state.Idle looks = absurd looks
+  seen_reading most state.Closed looks = absurd looks
+  seen_reading most (state.Lent _ Open) looks = absurd looks
+
+  seen_streaming : (st : State) → LooksFrom handle_call.Next st true → st ≡ state.Lent session_kind.Streaming Open
+  seen_streaming (state.Lent session_kind.Streaming Open) looks = refl
+  seen_streaming (state.Lent _ Shut) looks = absurd looks
+  seen_streaming state.Idle looks = absurd looks
+  seen_streaming state.Closed looks = absurd looks
+  seen_streaming (state.Lent _ Open) looks = absurd looks
 
   -- it came back from no seek that went well
   abbrev IsNoSeek : Kind → Option (Fault ℕ) → Type 0
@@ -610,7 +739,7 @@ module _ (bytes : ℕ) (asked : Option HandleCall) (p : OwnerMachine ℕ) (s : S
 
   -- what follows once the handle is back
   after_back_is : (c : HandleCall) (st : State) (ended : Bool) (why : Option (Fault ℕ)) (of : Kind) (last : ℕ) → is_known c ≡ true → LooksFrom c st ended → IsNoSeek of why
-      → law.after_back c why ended of last ≡ action_as c (machine.after_back (poll_call_of c) ended why)
+      → law.after_back c why ended of last ≡ action_as s.item c (machine.after_back (poll_call_of c) ended why)
   after_back_is (handle_call.Read most) st ended (Some why) of last known looks kept = refl
   after_back_is (handle_call.Read most) st true None of last known looks kept = refl
   after_back_is (handle_call.Read zero) st false None of last known looks kept = refl
@@ -618,29 +747,33 @@ module _ (bytes : ℕ) (asked : Option HandleCall) (p : OwnerMachine ℕ) (s : S
   after_back_is (handle_call.Write offered) st ended (Some why) of last known looks kept = refl
   after_back_is (handle_call.Write []) st false None of last known looks kept = refl
   after_back_is (handle_call.Write (byte ∷ more)) st false None of last known looks kept = refl
-  after_back_is (handle_call.Write offered) st true None of last known looks kept = absurd (let reads = (reads_end (handle_call.Write offered) st looks).0 in cc)
+  after_back_is (handle_call.Write offered) st true None of last known looks kept = absurd (let seen = only_seen (handle_call.Write offered) st looks in cc)
   after_back_is handle_call.Flush st ended (Some why) of last known looks kept = refl
   after_back_is handle_call.Flush st false None of last known looks kept = refl
-  after_back_is handle_call.Flush st true None of last known looks kept = absurd (let reads = (reads_end handle_call.Flush st looks).0 in cc)
+  after_back_is handle_call.Flush st true None of last known looks kept = absurd (let seen = only_seen handle_call.Flush st looks in cc)
   after_back_is handle_call.Close st ended (Some why) of last known looks kept = refl
   after_back_is handle_call.Close st false None of last known looks kept = refl
-  after_back_is handle_call.Close st true None of last known looks kept = absurd (let reads = (reads_end handle_call.Close st looks).0 in cc)
+  after_back_is handle_call.Close st true None of last known looks kept = absurd (let seen = only_seen handle_call.Close st looks in cc)
   after_back_is handle_call.GetMut st false None of last known looks kept = refl
   after_back_is handle_call.GetMut st false (Some why) of last known looks kept = refl
-  after_back_is handle_call.GetMut st true why of last known looks kept = absurd (let reads = (reads_end handle_call.GetMut st looks).0 in cc)
+  after_back_is handle_call.GetMut st true why of last known looks kept = absurd (let seen = only_seen handle_call.GetMut st looks in cc)
+  after_back_is handle_call.Next st true None of last known looks kept = refl
+  after_back_is handle_call.Next st true (Some why) of last known looks kept = refl
+  after_back_is handle_call.Next st false None of last known looks kept = refl
+  after_back_is handle_call.Next st false (Some why) of last known looks kept = refl
   after_back_is (handle_call.Seek goal) st ended (Some why) of last known looks kept = refl
   after_back_is (handle_call.Seek goal) st false None (Seeking from) last known looks kept = absurd kept
   after_back_is (handle_call.Seek goal) st false None _ last known looks kept = refl
-  after_back_is (handle_call.Seek goal) st true None of last known looks kept = absurd (let reads = (reads_end (handle_call.Seek goal) st looks).0 in cc)
+  after_back_is (handle_call.Seek goal) st true None of last known looks kept = absurd (let seen = only_seen (handle_call.Seek goal) st looks in cc)
   after_back_is _ st ended why of last known looks kept = absurd (cc)
 
   -- and once it is back from a seek that went well
   sought_is : (c : HandleCall) (goal : Position) (end : OwnerEnd) (place : ℕ) → is_known c ≡ true
-      → law.after_back c None false (Seeking goal) place ≡ action_as c (machine.after_seek (state.Lent (session_kind.Seeking goal) end) (poll_call_of c) place)
+      → law.after_back c None false (Seeking goal) place ≡ action_as s.item c (machine.after_seek (state.Lent (session_kind.Seeking goal) end) (poll_call_of c) place)
   sought_is (handle_call.Seek to) goal end place known = by (same_position goal to)
     where
       by : (b : Bool) → (if b then law.Say (told.Count place) else law.Begin)
-          ≡ action_as (handle_call.Seek to) (if b then action.Reply (reply.Position place) else action.Begin)
+          ≡ action_as s.item (handle_call.Seek to) (if b then action.Reply (reply.Position place) else action.Begin)
       by true = refl
       by false = refl
   sought_is (handle_call.Read zero) goal end place known = refl
@@ -650,34 +783,40 @@ module _ (bytes : ℕ) (asked : Option HandleCall) (p : OwnerMachine ℕ) (s : S
   sought_is handle_call.Flush goal end place known = refl
   sought_is handle_call.Close goal end place known = refl
   sought_is handle_call.GetMut goal end place known = refl
+  sought_is handle_call.Next goal end place known = refl
   sought_is _ goal end place known = absurd (cc)
 
   -- and it fits
   back_fits : (q : OwnerMachine ℕ) (c : HandleCall) (st : State) (ended : Bool) (why : Option (Fault ℕ)) (back : Option (List Event)) → is_known c ≡ true → LooksFrom c st ended → q.state ≡ state.Idle → q.is_at_end ≡ ended
-      → (ended ≡ true → why ≡ None → IsReadBack back) → (why ≡ None → IsFlushedBack back) → FitsNext c q (machine.after_back (poll_call_of c) ended why) false back
-  back_fits q (handle_call.Read most) st ended (Some why) back known looks at end whole flushed = failed_fits (handle_call.Read most) q why false back
-  back_fits q (handle_call.Read zero) st true None back known looks at end whole flushed = (refl, tt, tt)
-  back_fits q (handle_call.Read (suc n)) st true None back known looks at end whole flushed = (refl, whole refl refl, tt)
-  back_fits q (handle_call.Read zero) st false None back known looks at end whole flushed = (refl, tt, tt)
-  back_fits q (handle_call.Read (suc n)) st false None back known looks at end whole flushed = (tt, at, end)
-  back_fits q (handle_call.Write offered) st ended (Some why) back known looks at end whole flushed = (refl, tt, tt)
-  back_fits q (handle_call.Write []) st false None back known looks at end whole flushed = (refl, tt, tt)
-  back_fits q (handle_call.Write (byte ∷ more)) st false None back known looks at end whole flushed = (tt, at, end)
-  back_fits q (handle_call.Write offered) st true None back known looks at end whole flushed = absurd (let reads = (reads_end (handle_call.Write offered) st looks).0 in cc)
-  back_fits q handle_call.Flush st ended (Some why) back known looks at end whole flushed = (refl, tt, tt)
-  back_fits q handle_call.Flush st true None back known looks at end whole flushed = (refl, flushed refl, tt)
-  back_fits q handle_call.Flush st false None back known looks at end whole flushed = (refl, flushed refl, tt)
-  back_fits q handle_call.Close st ended (Some why) back known looks at end whole flushed = (refl, tt, tt)
-  back_fits q handle_call.Close st true None back known looks at end whole flushed = (refl, at, flushed refl)
-  back_fits q handle_call.Close st false None back known looks at end whole flushed = (refl, at, flushed refl)
-  back_fits q handle_call.GetMut st true None back known looks at end whole flushed = (refl, tt, tt)
-  back_fits q handle_call.GetMut st true (Some why) back known looks at end whole flushed = (refl, tt, tt)
-  back_fits q handle_call.GetMut st false None back known looks at end whole flushed = (refl, tt, tt)
-  back_fits q handle_call.GetMut st false (Some why) back known looks at end whole flushed = (refl, tt, tt)
-  back_fits q (handle_call.Seek goal) st ended (Some why) back known looks at end whole flushed = (refl, tt, tt)
-  back_fits q (handle_call.Seek goal) st false None back known looks at end whole flushed = (tt, at, end)
-  back_fits q (handle_call.Seek goal) st true None back known looks at end whole flushed = absurd (let reads = (reads_end (handle_call.Seek goal) st looks).0 in cc)
-  back_fits q _ st ended why back known looks at end whole flushed = absurd (cc)
+      → (ended ≡ true → why ≡ None → st ≡ state.Lent session_kind.Reading Open → IsReadBack back) → (ended ≡ true → st ≡ state.Lent session_kind.Streaming Open → IsReadBack back)
+      → (why ≡ None → IsFlushedBack back) → FitsNext c q (machine.after_back (poll_call_of c) ended why) false back
+  back_fits q (handle_call.Read most) st ended (Some why) back known looks at end whole taken flushed = failed_fits (handle_call.Read most) q why false back
+  back_fits q (handle_call.Read zero) st true None back known looks at end whole taken flushed = (refl, tt, tt)
+  back_fits q (handle_call.Read (suc n)) st true None back known looks at end whole taken flushed = (refl, whole refl refl (seen_reading (suc n) st looks), tt)
+  back_fits q (handle_call.Read zero) st false None back known looks at end whole taken flushed = (refl, tt, tt)
+  back_fits q (handle_call.Read (suc n)) st false None back known looks at end whole taken flushed = (tt, at, end)
+  back_fits q (handle_call.Write offered) st ended (Some why) back known looks at end whole taken flushed = (refl, tt, tt)
+  back_fits q (handle_call.Write []) st false None back known looks at end whole taken flushed = (refl, tt, tt)
+  back_fits q (handle_call.Write (byte ∷ more)) st false None back known looks at end whole taken flushed = (tt, at, end)
+  back_fits q (handle_call.Write offered) st true None back known looks at end whole taken flushed = absurd (let seen = only_seen (handle_call.Write offered) st looks in cc)
+  back_fits q handle_call.Flush st ended (Some why) back known looks at end whole taken flushed = (refl, tt, tt)
+  back_fits q handle_call.Flush st true None back known looks at end whole taken flushed = (refl, flushed refl, tt)
+  back_fits q handle_call.Flush st false None back known looks at end whole taken flushed = (refl, flushed refl, tt)
+  back_fits q handle_call.Close st ended (Some why) back known looks at end whole taken flushed = (refl, tt, tt)
+  back_fits q handle_call.Close st true None back known looks at end whole taken flushed = (refl, at, flushed refl)
+  back_fits q handle_call.Close st false None back known looks at end whole taken flushed = (refl, at, flushed refl)
+  back_fits q handle_call.GetMut st true None back known looks at end whole taken flushed = (refl, tt, tt)
+  back_fits q handle_call.GetMut st true (Some why) back known looks at end whole taken flushed = (refl, tt, tt)
+  back_fits q handle_call.GetMut st false None back known looks at end whole taken flushed = (refl, tt, tt)
+  back_fits q handle_call.GetMut st false (Some why) back known looks at end whole taken flushed = (refl, tt, tt)
+  back_fits q handle_call.Next st true None back known looks at end whole taken flushed = (refl, taken refl (seen_streaming st looks), tt)
+  back_fits q handle_call.Next st true (Some why) back known looks at end whole taken flushed = (refl, taken refl (seen_streaming st looks), tt)
+  back_fits q handle_call.Next st false None back known looks at end whole taken flushed = (tt, at, end)
+  back_fits q handle_call.Next st false (Some why) back known looks at end whole taken flushed = (tt, at, end)
+  back_fits q (handle_call.Seek goal) st ended (Some why) back known looks at end whole taken flushed = (refl, tt, tt)
+  back_fits q (handle_call.Seek goal) st false None back known looks at end whole taken flushed = (tt, at, end)
+  back_fits q (handle_call.Seek goal) st true None back known looks at end whole taken flushed = absurd (let seen = only_seen (handle_call.Seek goal) st looks in cc)
+  back_fits q _ st ended why back known looks at end whole taken flushed = absurd (cc)
 
   sought_fits : (q : OwnerMachine ℕ) (c : HandleCall) (goal : Position) (end : OwnerEnd) (place : ℕ) (back : Option (List Event)) → is_known c ≡ true → q.state ≡ state.Idle → q.is_at_end ≡ false
       → IsFlushedBack back → FitsNext c q (machine.after_seek (state.Lent (session_kind.Seeking goal) end) (poll_call_of c) place) false back
@@ -693,6 +832,7 @@ module _ (bytes : ℕ) (asked : Option HandleCall) (p : OwnerMachine ℕ) (s : S
   sought_fits q handle_call.Flush goal end place back known at ended flushed = (refl, flushed, tt)
   sought_fits q handle_call.Close goal end place back known at ended flushed = (refl, at, flushed)
   sought_fits q handle_call.GetMut goal end place back known at ended flushed = (refl, tt, tt)
+  sought_fits q handle_call.Next goal end place back known at ended flushed = (tt, at, ended)
   sought_fits q _ goal end place back known at ended flushed = absurd (cc)
 
   -- a job that finished is over
@@ -708,6 +848,22 @@ module _ (bytes : ℕ) (asked : Option HandleCall) (p : OwnerMachine ℕ) (s : S
       let all = subst (λ a. PassedAs a (room s.pipe) s.pipe.is_job_open (shut || has_given_up acts) (passed_by acts)) next l.flow.passed_is in
       let put = l.flow.inside ∙ ap (λ l. took ++ l) ends.0 ∙ append-nil took in
       let failed = no_failure acts (subst (λ k. fault k acts ≡ None) reads sound) in
+      let whole = whole_by (passed_by acts) (shut || has_given_up acts) took (or_from shut (has_given_up acts) (l.lent.shut_is ∙ ap not ends.2) stays) all put failed in
+      record {
+        all = whole.0 ∙ sym (ap gave job);
+        ended = ap (λ l. last_is_end (handle_answers l)) job ∙ whole.1;
+        sound = ap (λ l. has_failure (handle_answers l)) job ∙ failed;
+      }
+
+  -- and so was one that takes items
+  taken_whole : (t : Old) → kind ≡ Streaming → IsAtEnd s → has_finished acts ≡ true → has_given_up acts ≡ false → IsReadWhole (by_owner h Back first growth ∷ cut)
+  taken_whole t streams ends finished stays =
+      let job = its_job s (bound bytes) cut t.last in
+      let l = of_kind Streaming streams t in
+      let next : next_but_wake Streaming acts ≡ Over = subst (λ k. next_but_wake k acts ≡ Over) streams (over_now t finished) in
+      let all = subst (λ a. PassedAs a (room s.pipe) s.pipe.is_job_open (shut || has_given_up acts) (passed_by acts)) next l.flow.passed_is in
+      let put = l.flow.inside ∙ ap (λ l. took ++ l) ends.0 ∙ append-nil took in
+      let failed = l.flow.sound refl in
       let whole = whole_by (passed_by acts) (shut || has_given_up acts) took (or_from shut (has_given_up acts) (l.lent.shut_is ∙ ap not ends.2) stays) all put failed in
       record {
         all = whole.0 ∙ sym (ap gave job);
@@ -739,7 +895,7 @@ module _ (bytes : ℕ) (asked : Option HandleCall) (p : OwnerMachine ℕ) (s : S
   -- the handle is back, and the machine was told so in this way
   returned : (is : p.next ≡ action.PollSlot) (t : Old) (why : Option (Fault ℕ)) → s.slot.content ≡ Full why → (answer : OwnerAnswer ℕ) (next : OwnerAction ℕ)
       → owner_after p answer ≡ record p { state = state.Idle; next = next }
-      → law.after_back t.stage.0.call why p.is_at_end kind (number acts) ≡ action_as t.stage.0.call next
+      → law.after_back t.stage.0.call why p.is_at_end kind (number acts) ≡ action_as s.item t.stage.0.call next
       → FitsNext t.stage.0.call (record p { state = state.Idle; next = next }) next false (Some (by_owner h Back first growth ∷ cut))
       → Goes (owner_by_parts bytes asked (stage.Polls (owner_after p answer)) (Some (session_after_look (Full why) s))) cut (by_owner h Back first growth)
   returned is t why full answer next same follows fit =
@@ -798,12 +954,13 @@ module _ (bytes : ℕ) (asked : Option HandleCall) (p : OwnerMachine ℕ) (s : S
       let same : owner_after p (by.Back why) ≡ q =
       turned p action.PollSlot (by.Back why) t.stage.1 is ∙ ap (λ k. record p { state = state.Idle; next = machine.after_back k p.is_at_end why }) t.stage.0.call_is in
       let known = known_call (own cut) c t.calls t.stage.0.asked_is in
-      let whole = λ (is_end : p.is_at_end ≡ true) (none : why ≡ None).
-      (let here = reads_end c p.state (subst (λ b. LooksFrom c p.state b) is_end fits.0) in
-      read_whole t (lent_at (own cut) Reading true (t.stage.0.at_is ∙ ap state_as here.1)).0 (t.ended (sym fits.1 ∙ is_end)) slot.0 slot.1 (sym slot.3 ∙ none)) in
+      let whole = λ (is_end : p.is_at_end ≡ true) (none : why ≡ None) (there_is : p.state ≡ state.Lent session_kind.Reading Open).
+      read_whole t (lent_at (own cut) Reading true (t.stage.0.at_is ∙ ap state_as there_is)).0 (t.ended (sym fits.1 ∙ is_end)) slot.0 slot.1 (sym slot.3 ∙ none) in
+      let all_taken = λ (is_end : p.is_at_end ≡ true) (there_is : p.state ≡ state.Lent session_kind.Streaming Open).
+      taken_whole t (lent_at (own cut) Streaming true (t.stage.0.at_is ∙ ap state_as there_is)).0 (t.ended (sym fits.1 ∙ is_end)) slot.0 slot.1 in
       let flushed = λ (none : why ≡ None). flushed_if kind (λ writes. flushed_whole t writes slot.0 slot.1 (sym slot.3 ∙ none)) in
       returned is t why full (by.Back why) (machine.after_back (poll_call_of c) p.is_at_end why) same (after_back_is c p.state p.is_at_end why kind (number acts) known fits.0 kept)
-      (back_fits q c p.state p.is_at_end why (Some (by_owner h Back first growth ∷ cut)) known fits.0 refl refl whole flushed)
+      (back_fits q c p.state p.is_at_end why (Some (by_owner h Back first growth ∷ cut)) known fits.0 refl refl whole all_taken flushed)
 
   -- the handle is back from a seek that went well
   sought_goes : p.next ≡ action.PollSlot → Old → (goal : Position) (end : OwnerEnd) → p.state ≡ state.Lent (session_kind.Seeking goal) end → s.slot.content ≡ Full None
@@ -821,16 +978,19 @@ module _ (bytes : ℕ) (asked : Option HandleCall) (p : OwnerMachine ℕ) (s : S
       turned p action.PollSlot (by.Sought s.left) t.stage.1 is ∙ ap (λ k. record p { state = state.Idle; next = machine.after_seek p.state k s.left }) t.stage.0.call_is
       ∙ ap (λ st. record p { state = state.Idle; next = machine.after_seek st (poll_call_of c) s.left }) from in
       let known = known_call (own cut) c t.calls t.stage.0.asked_is in
-      let unended = ends_not p.is_at_end c (subst (λ st. LooksFrom c st p.is_at_end) from fits.0) in
+      let unended = ends_not end p.is_at_end c (subst (λ st. LooksFrom c st p.is_at_end) from fits.0) in
       let flushed = flushed_if kind (λ writes. flushed_whole t writes slot.0 slot.1 (sym slot.3)) in
       returned is t None full (by.Sought s.left) next same
       (ap (λ b. law.after_back c None b kind (number acts)) unended ∙ ap (λ k. law.after_back c None false k (number acts)) of
       ∙ ap (λ n. law.after_back c None false (Seeking goal) n) (sym place) ∙ sought_is c goal end s.left known)
       (sought_fits q c goal end s.left (Some (by_owner h Back first growth ∷ cut)) known refl unended flushed)
     where
-      ends_not : (b : Bool) (c : HandleCall) → LooksFrom c (state.Lent (session_kind.Seeking goal) end) b → b ≡ false
-      ends_not false c looks = refl
-      ends_not true c looks = absurd (let at = (reads_end c (state.Lent (session_kind.Seeking goal) end) looks).1 in cc)
+      ends_not : (end : OwnerEnd) (b : Bool) (c : HandleCall) → LooksFrom c (state.Lent (session_kind.Seeking goal) end) b → b ≡ false
+      ends_not end false c looks = refl
+      ends_not Shut true _ looks = absurd looks
+      ends_not Open true (handle_call.Read most) looks = absurd looks
+      ends_not Open true handle_call.Next looks = absurd looks
+      ends_not Open true _ looks = absurd looks
 
   some_why : (k : Kind) (why : Fault ℕ) → IsNoSeek k (Some why)
   some_why (Seeking goal) why = tt
@@ -862,52 +1022,51 @@ module _ (bytes : ℕ) (asked : Option HandleCall) (p : OwnerMachine ℕ) (s : S
 
 -- ---- it replies
 
-end_is : (c : HandleCall) (r : Reply ℕ) (back : Option (List Event)) (said : Told) → reply_as r ≡ Some said → EndAs c r back → IsTrueEnd (Some c) said back
-end_is c r back said same e = subst (λ told. IsTrueEnd (Some c) (value_of said told) back) same (by_reply c r same e)
+end_is : (x : ℕ) (c : HandleCall) (r : Reply ℕ) (back : Option (List Event)) (said : Told) → reply_as x r ≡ Some said → EndAs c r back → IsTrueEnd (Some c) said back
+end_is x c r back said same e = subst (λ told. IsTrueEnd (Some c) (value_of said told) back) same (by_reply c r same e)
   where
-    by_reply : (c : HandleCall) (r : Reply ℕ) → reply_as r ≡ Some said → EndAs c r back → IsTrueEnd (Some c) (value_of said (reply_as r)) back
+    by_reply : (c : HandleCall) (r : Reply ℕ) → reply_as x r ≡ Some said → EndAs c r back → IsTrueEnd (Some c) (value_of said (reply_as x r)) back
     by_reply (handle_call.Read (suc n)) (reply.Count zero) same e = e
     by_reply handle_call.Flush reply.Done same e = e
     by_reply handle_call.Close reply.Done same e = e
     by_reply (handle_call.Read (suc n)) (reply.Count (suc k)) same e = tt
     by_reply (handle_call.Seek goal) (reply.Position place) same e = tt
     by_reply _ (reply.Position place) same e = absurd e
-    by_reply c reply.Item same e = absurd (cc)
     by_reply handle_call.Next reply.End same e = e
     by_reply c reply.Result same e = absurd (cc)
     by_reply c reply.Closed same e = absurd (cc)
     by_reply _ _ same e = tt
 
 -- where the handle is after a reply: a close that is all done has none
-after_reply : (c : HandleCall) (r : Reply ℕ) (said : Told) (closed : Bool) (last : Option sessions.Session) (shut : Bool) (st : State) → reply_as r ≡ Some said → IsGoneBy r c st
+after_reply : (x : ℕ) (c : HandleCall) (r : Reply ℕ) (said : Told) (closed : Bool) (last : Option sessions.Session) (shut : Bool) (st : State) → reply_as x r ≡ Some said → IsGoneBy r c st
     → sessions.state_by closed last shut ≡ state_as st → sessions.state_by (sessions.ends_close said (Some c) || closed) last shut ≡ state_as st
-after_reply c r (told.Count n) closed last shut st same away e = e
-after_reply c r told.Handle closed last shut st same away e = e
-after_reply c r (told.OneItem x) closed last shut st same away e = e
-after_reply c r told.NoMore closed last shut st same away e = e
-after_reply c r (told.Failed why) closed last shut st same away e = e
-after_reply c r (told.NotBegun why) closed last shut st same away e = e
-after_reply handle_call.Close reply.Done told.Okay closed last shut st same away e = sym (ap state_as away)
-after_reply (handle_call.Read n) reply.Done told.Okay closed last shut st same away e = e
-after_reply (handle_call.Write l) reply.Done told.Okay closed last shut st same away e = e
-after_reply handle_call.Flush reply.Done told.Okay closed last shut st same away e = e
-after_reply handle_call.GetMut reply.Done told.Okay closed last shut st same away e = e
-after_reply (handle_call.Seek position) reply.Done told.Okay closed last shut st same away e = e
-after_reply handle_call.Next reply.Done told.Okay closed last shut st same away e = e
-after_reply handle_call.Operate reply.Done told.Okay closed last shut st same away e = e
-after_reply handle_call.OperateAgain reply.Done told.Okay closed last shut st same away e = e
-after_reply handle_call.IntoInner reply.Done told.Okay closed last shut st same away e = e
-after_reply c _ told.Okay closed last shut st same away e = absurd (cc)
+after_reply x c r (told.Count n) closed last shut st same away e = e
+after_reply x c r told.Handle closed last shut st same away e = e
+after_reply x c r (told.OneItem y) closed last shut st same away e = e
+after_reply x c r told.NoMore closed last shut st same away e = e
+after_reply x c r (told.Failed why) closed last shut st same away e = e
+after_reply x c r (told.NotBegun why) closed last shut st same away e = e
+after_reply x handle_call.Close reply.Done told.Okay closed last shut st same away e = sym (ap state_as away)
+after_reply x (handle_call.Read n) reply.Done told.Okay closed last shut st same away e = e
+after_reply x (handle_call.Write l) reply.Done told.Okay closed last shut st same away e = e
+after_reply x handle_call.Flush reply.Done told.Okay closed last shut st same away e = e
+after_reply x handle_call.GetMut reply.Done told.Okay closed last shut st same away e = e
+after_reply x (handle_call.Seek position) reply.Done told.Okay closed last shut st same away e = e
+after_reply x handle_call.Next reply.Done told.Okay closed last shut st same away e = e
+after_reply x handle_call.Operate reply.Done told.Okay closed last shut st same away e = e
+after_reply x handle_call.OperateAgain reply.Done told.Okay closed last shut st same away e = e
+after_reply x handle_call.IntoInner reply.Done told.Okay closed last shut st same away e = e
+after_reply x c _ told.Okay closed last shut st same away e = absurd (cc)
 
 reply_goes : (bytes : ℕ) (asked : Option HandleCall) (p : OwnerMachine ℕ) (last : Option Session) (h first : ℕ) (growth : Growth) (cut : List Event) (r : Reply ℕ) (said : Told)
-    → p.next ≡ action.Reply r → reply_as r ≡ Some said → OwnerAs (owner_by_parts bytes asked (stage.Polls p) last) cut
+    → p.next ≡ action.Reply r → reply_as (item_in last) r ≡ Some said → OwnerAs (owner_by_parts bytes asked (stage.Polls p) last) cut
     → Goes (owner_by_parts bytes asked (stage.Rests p.state) last) cut (by_owner h (Replied said) first growth)
 reply_goes bytes asked p last h first growth cut r said is same t =
     let c = t.stage.0.call in
     let fits = fits_at bytes asked p cut last (action.Reply r) t is in
     record {
       acts = subst (λ n. Polls cut n (Replied said)) (sym (lawful bytes asked p cut last (action.Reply r) t is ∙ ap say same)) refl;
-      ends = subst (λ c. IsTrueEnd c said (came_back cut)) (sym t.stage.0.asked_is) (end_is c r (came_back cut) said same fits.1);
+      ends = subst (λ c. IsTrueEnd c said (came_back cut)) (sym t.stage.0.asked_is) (end_is (item_in last) c r (came_back cut) said same fits.1);
       tie = record {
         made = t.made;
         gone = t.gone;
@@ -917,7 +1076,7 @@ reply_goes bytes asked p last h first growth cut r said is same t =
         calls = t.calls;
         stage = (
           ap (λ c. sessions.state_by (sessions.ends_close said c || sessions.is_closed (own cut)) (sessions.session (own cut)) (sessions.is_shut (own cut))) t.stage.0.asked_is
-              ∙ after_reply c r said (sessions.is_closed (own cut)) (sessions.session (own cut)) (sessions.is_shut (own cut)) p.state same fits.2 t.stage.0.at_is,
+              ∙ after_reply (item_in last) c r said (sessions.is_closed (own cut)) (sessions.session (own cut)) (sessions.is_shut (own cut)) p.state same fits.2 t.stage.0.at_is,
           refl,
           refl,
         );
@@ -979,9 +1138,9 @@ own_fills bytes None p h first growth cut done most last is t does = absurd (cc)
 own_by : (bytes : ℕ) (asked : Option HandleCall) (p : OwnerMachine ℕ) (h first : ℕ) (growth : Growth) (cut : List Event) (done : Did) (next : OwnerAction ℕ) (last : Option Session) → p.next ≡ next
     → OwnerAs (owner_by_parts bytes asked (stage.Polls p) last) cut → did_in next p last (owner_by_parts bytes asked (stage.Polls p) last) ≡ Some done
     → Goes done.owner cut (by_owner h done.act first growth)
-own_by bytes asked p h first growth cut done (action.Reply r) last is t does = replies (reply_as r) refl does
+own_by bytes asked p h first growth cut done (action.Reply r) last is t does = replies (reply_as (item_in last) r) refl does
   where
-    replies : (told : Option Told) → reply_as r ≡ told → reply_did told p (owner_by_parts bytes asked (stage.Polls p) last) ≡ Some done → Goes done.owner cut (by_owner h done.act first growth)
+    replies : (told : Option Told) → reply_as (item_in last) r ≡ told → reply_did told p (owner_by_parts bytes asked (stage.Polls p) last) ≡ Some done → Goes done.owner cut (by_owner h done.act first growth)
     replies (Some said) same does =
         subst (λ (d : Did). Goes d.owner cut (by_owner h d.act first growth)) (ap (value_of done) does) (reply_goes bytes asked p last h first growth cut r said is same t)
     replies None same does = absurd (cc)
@@ -993,6 +1152,9 @@ own_by bytes asked p h first growth cut done action.Close (Some s) is t does =
 own_by bytes asked p h first growth cut done (action.Drain most) (Some s) is t does =
     subst (λ (d : Did). Goes d.owner cut (by_owner h d.act first growth)) (ap (value_of done) (through_some OfBytes s.goods _ done does).1)
     (drain_goes bytes asked p s h first growth cut most is t (drained (reach most s) s) refl)
+own_by bytes asked p h first growth cut done action.Receive (Some s) is t does =
+    subst (λ (d : Did). Goes d.owner cut (by_owner h d.act first growth)) (ap (value_of done) (through_some OfItems s.goods _ done does).1)
+    (receive_goes bytes asked p s h first growth cut is t (received s) refl)
 own_by bytes asked p h first growth cut done action.PollSlot (Some s) is t does = look_goes bytes asked p s h first growth cut is t s.slot.content refl done does
 own_by bytes asked p h first growth cut done _ None is t does = absurd (cc)
 own_by bytes asked p h first growth cut done _ (Some s) is t does = absurd (cc)

@@ -14,6 +14,7 @@ use Rattle.blocking_core.specs.declared.unblock.OwnerAnswer.TheVariants as by
 use Rattle.blocking_core.specs.declared.unblock.OwnerEnd.{OwnerEnd}
 use Rattle.blocking_core.specs.declared.unblock.OwnerEnd.TheVariants.{Open, Shut}
 use Rattle.blocking_core.specs.declared.unblock.PollCall.TheVariants as poll_call
+use Rattle.blocking_core.specs.declared.unblock.Reply.{Reply}
 use Rattle.blocking_core.specs.declared.unblock.Reply.TheVariants as reply
 use Rattle.blocking_core.specs.declared.unblock.SessionKind.{SessionKind}
 use Rattle.blocking_core.specs.declared.unblock.SessionKind.TheVariants as session_kind
@@ -32,7 +33,6 @@ use Rattle.blocking_laws.specs.Steps.{is_known}
 use Rattle.blocking_laws.specs.declared.event.Act.{Act}
 use Rattle.blocking_laws.specs.declared.event.Act.TheVariants.{Asked, Accepted, Refused, JobWoken, HolderDropped, GotEnd}
 use Rattle.blocking_laws.specs.declared.event.Event.{Event}
-use Rattle.blocking_laws.specs.declared.event.Reply.TheVariants as told
 use Rattle.blocking_laws.specs.declared.step.HandleCall.{HandleCall}
 use Rattle.blocking_laws.specs.declared.step.HandleCall.TheVariants as handle_call
 use Rattle.blocking_pool.specs.Growth.{Growth}
@@ -40,7 +40,7 @@ use Rattle.blocking_pool.specs.Jobs.{JobNumber}
 use Rattle.blocking_pool.specs.Lists.{is_in}
 use Rattle.blocking_pool.specs.declared.pool.answer.Refusal.{Refusal}
 use Rattle.blocking_pool.specs.declared.pool.answer.Woke.{Woke}
-use Rattle.blocking_lanes.specs.Owners.{poll_call_of, may_call_at}
+use Rattle.blocking_lanes.specs.Owners.{poll_call_of, may_call_at, item_in}
 use Rattle.blocking_lanes.specs.OwnerSteps.{by_owner}
 use Rattle.blocking_lanes.specs.OwnerTies.{OwnerAs, FitsNext, BeginsBy, LooksFrom, LastAs, SessionAs, SlotAs, kind_as, is_end_open, state_as, action_as, newest_note}
 use Rattle.blocking_lanes.specs.Sessions.{Session, goods_of, new_session}
@@ -54,43 +54,46 @@ use Rattle.blocking_lanes.proofs.owners.Drains.{IsLending, begins}
 -- ---- it is asked
 
 -- in each session the machine does what the law says
-abbrev DoesSo : HandleCall → SessionKind → OwnerEnd → Type 0
-DoesSo call kind end =
+abbrev DoesSo : ℕ → HandleCall → SessionKind → OwnerEnd → Type 0
+DoesSo x call kind end =
     law.table call (sessions.In (kind_as kind) (is_end_open end))
-    ≡ action_as call (machine.in_session (machine.goes_on_in kind (poll_call_of call)) (poll_call_of call) kind end)
+    ≡ action_as x call (machine.in_session (machine.goes_on_in kind (poll_call_of call)) (poll_call_of call) kind end)
 
 -- the machine's table is that of the laws, wherever the call may be asked
-table_at : (call : HandleCall) (at : State) → is_known call ≡ true → may_call_at at call ≡ true → IsThere at → law.table call (state_as at) ≡ action_as call (machine.table (poll_call_of call) at)
-table_at (handle_call.Read zero) at known may there = refl
-table_at (handle_call.Write []) at known may there = refl
-table_at (handle_call.Read (suc n)) (state.Lent kind end) known may there = of_session (DoesSo (handle_call.Read (suc n))) refl refl refl refl refl refl (λ goal. refl) (λ goal. refl) kind end there
-table_at (handle_call.Write (byte ∷ more)) (state.Lent kind end) known may there = of_session (DoesSo (handle_call.Write (byte ∷ more))) refl refl refl refl refl refl (λ goal. refl) (λ goal. refl) kind end there
-table_at handle_call.Flush (state.Lent kind end) known may there = of_session (DoesSo handle_call.Flush) refl refl refl refl refl refl (λ goal. refl) (λ goal. refl) kind end there
-table_at handle_call.Close (state.Lent kind end) known may there = of_session (DoesSo handle_call.Close) refl refl refl refl refl refl (λ goal. refl) (λ goal. refl) kind end there
-table_at handle_call.GetMut (state.Lent kind end) known may there = of_session (DoesSo handle_call.GetMut) refl refl refl refl refl refl (λ goal. refl) (λ goal. refl) kind end there
-table_at (handle_call.Seek to) (state.Lent kind end) known may there = of_session (DoesSo (handle_call.Seek to)) refl refl refl refl refl refl (λ goal. refl) (λ goal. refl) kind end there
-table_at (handle_call.Seek to) state.Idle known may there = refl
-table_at (handle_call.Seek to) state.Closed known may there = absurd (cc)
-table_at (handle_call.Read (suc n)) state.Closed known may there = absurd (cc)
-table_at (handle_call.Write (byte ∷ more)) state.Closed known may there = absurd (cc)
-table_at handle_call.GetMut state.Closed known may there = absurd (cc)
-table_at handle_call.Flush state.Closed known may there = refl
-table_at handle_call.Close state.Closed known may there = refl
-table_at (handle_call.Read (suc n)) state.Idle known may there = refl
-table_at (handle_call.Write (byte ∷ more)) state.Idle known may there = refl
-table_at handle_call.Flush state.Idle known may there = refl
-table_at handle_call.Close state.Idle known may there = refl
-table_at handle_call.GetMut state.Idle known may there = refl
-table_at _ at known may there = absurd (cc)
+table_at : (x : ℕ) (call : HandleCall) (at : State) → is_known call ≡ true → may_call_at at call ≡ true → IsThere at → law.table call (state_as at) ≡ action_as x call (machine.table (poll_call_of call) at)
+table_at x (handle_call.Read zero) at known may there = refl
+table_at x (handle_call.Write []) at known may there = refl
+table_at x (handle_call.Read (suc n)) (state.Lent kind end) known may there = of_session (DoesSo x (handle_call.Read (suc n))) refl refl refl refl refl refl (λ goal. refl) (λ goal. refl) kind end there
+table_at x (handle_call.Write (byte ∷ more)) (state.Lent kind end) known may there = of_session (DoesSo x (handle_call.Write (byte ∷ more))) refl refl refl refl refl refl (λ goal. refl) (λ goal. refl) kind end there
+table_at x handle_call.Flush (state.Lent kind end) known may there = of_session (DoesSo x handle_call.Flush) refl refl refl refl refl refl (λ goal. refl) (λ goal. refl) kind end there
+table_at x handle_call.Close (state.Lent kind end) known may there = of_session (DoesSo x handle_call.Close) refl refl refl refl refl refl (λ goal. refl) (λ goal. refl) kind end there
+table_at x handle_call.GetMut (state.Lent kind end) known may there = of_session (DoesSo x handle_call.GetMut) refl refl refl refl refl refl (λ goal. refl) (λ goal. refl) kind end there
+table_at x (handle_call.Read (suc n)) state.Closed known may there = absurd (cc)
+table_at x (handle_call.Write (byte ∷ more)) state.Closed known may there = absurd (cc)
+table_at x handle_call.GetMut state.Closed known may there = absurd (cc)
+table_at x handle_call.Flush state.Closed known may there = refl
+table_at x handle_call.Close state.Closed known may there = refl
+table_at x (handle_call.Read (suc n)) state.Idle known may there = refl
+table_at x (handle_call.Write (byte ∷ more)) state.Idle known may there = refl
+table_at x handle_call.Flush state.Idle known may there = refl
+table_at x handle_call.Close state.Idle known may there = refl
+table_at x handle_call.GetMut state.Idle known may there = refl
+table_at x handle_call.Next (state.Lent kind end) known may there = of_session (DoesSo x handle_call.Next) refl refl refl refl refl refl (λ goal. refl) (λ goal. refl) kind end there
+table_at x handle_call.Next state.Closed known may there = absurd (cc)
+table_at x handle_call.Next state.Idle known may there = refl
+table_at x (handle_call.Seek to) (state.Lent kind end) known may there = of_session (DoesSo x (handle_call.Seek to)) refl refl refl refl refl refl (λ goal. refl) (λ goal. refl) kind end there
+table_at x (handle_call.Seek to) state.Idle known may there = refl
+table_at x (handle_call.Seek to) state.Closed known may there = absurd (cc)
+table_at x _ at known may there = absurd (cc)
 
 -- a call that was just asked goes by the table
 asked_by_table : (call : HandleCall) (begun : Bool) (here : sessions.State) → is_known call ≡ true → law.at_asked call begun here ≡ law.table call here
 asked_by_table handle_call.OperateAgain begun here known = absurd (cc)
 asked_by_table _ begun here known = refl
 
-table_is : (call : HandleCall) (begun : Bool) (at : State) (here : sessions.State) → is_known call ≡ true → may_call_at at call ≡ true → IsThere at → here ≡ state_as at
-    → law.at_asked call begun here ≡ action_as call (machine.table (poll_call_of call) at)
-table_is call begun at here known may there e = asked_by_table call begun here known ∙ ap (law.table call) e ∙ table_at call at known may there
+table_is : (x : ℕ) (call : HandleCall) (begun : Bool) (at : State) (here : sessions.State) → is_known call ≡ true → may_call_at at call ≡ true → IsThere at → here ≡ state_as at
+    → law.at_asked call begun here ≡ action_as x call (machine.table (poll_call_of call) at)
+table_is x call begun at here known may there e = asked_by_table call begun here known ∙ ap (law.table call) e ∙ table_at x call at known may there
 
 -- who stops a session closes the own end of its pipe, or looks for the handle
 stop_fits : (call : HandleCall) (kind : SessionKind) (end : OwnerEnd) → FitsNext call (new_poll (poll_call_of call) (state.Lent kind end)) (machine.stop (machine.has_pipe kind) end) false None
@@ -152,6 +155,13 @@ table_fits handle_call.Close state.Closed known may = (refl, tt, refl)
 table_fits handle_call.GetMut state.Idle known may = (refl, tt, tt)
 table_fits handle_call.GetMut (state.Lent kind end) known may = session_fits handle_call.GetMut kind end (machine.goes_on_in kind poll_call.GetMut) refl (λ own. absurd (get_stops kind own))
 table_fits handle_call.GetMut state.Closed known may = absurd (cc)
+table_fits handle_call.Next state.Idle known may = (tt, refl, refl)
+table_fits handle_call.Next (state.Lent kind end) known may = session_fits handle_call.Next kind end (machine.goes_on_in kind poll_call.Next) refl (own kind)
+  where
+    own : (kind : SessionKind) → machine.goes_on_in kind poll_call.Next ≡ true → FitsNext handle_call.Next (new_poll poll_call.Next (state.Lent kind Open)) action.Receive false None
+    own session_kind.Streaming is = (refl, refl, refl)
+    own _ is = absurd (cc)
+table_fits handle_call.Next state.Closed known may = absurd (cc)
 table_fits (handle_call.Seek to) state.Idle known may = (tt, refl, refl)
 table_fits (handle_call.Seek to) (state.Lent kind end) known may = session_fits (handle_call.Seek to) kind end (machine.goes_on_in kind (poll_call.Seek to)) refl (own kind)
   where
@@ -188,7 +198,7 @@ ask_goes bytes asked here last h first growth cut call known may t =
             asked_is = refl;
             call_is = refl;
             at_is = t.stage.0;
-            next_is = table_is call (sessions.has_begun (own cut)) here (sessions.state (own cut)) known may (is_there last (bound bytes) cut here t.last t.stage.0) t.stage.0;
+            next_is = table_is (item_in last) call (sessions.has_begun (own cut)) here (sessions.state (own cut)) known may (is_there last (bound bytes) cut here t.last t.stage.0) t.stage.0;
             fits = table_fits call here known may;
           },
           refl,
@@ -236,18 +246,31 @@ drop_goes bytes asked here last h first growth cut t = record {
 
 -- ---- a session is refused
 
--- a call tells by a fault that its session was refused
-refused : (call : HandleCall) (reason : Refusal) → BeginsBy call → machine.refusal {E = ℕ} (poll_call_of call) reason ≡ action.Reply (reply.Failed (why.Refused reason))
+-- how a call tells that its session was refused
+abbrev refused_reply : HandleCall → Refusal → Reply ℕ
+refused_reply handle_call.Next reason = reply.NotBegun reason
+refused_reply _ reason = reply.Failed (why.Refused reason)
+
+refused : (call : HandleCall) (reason : Refusal) → BeginsBy call → machine.refusal {E = ℕ} (poll_call_of call) reason ≡ action.Reply (refused_reply call reason)
 refused (handle_call.Read (suc n)) reason begins = refl
 refused (handle_call.Write (byte ∷ more)) reason begins = refl
+refused handle_call.Next reason begins = refl
 refused (handle_call.Seek goal) reason begins = refl
 refused _ reason begins = absurd begins
 
-refused_so : (call : HandleCall) (reason : Refusal) → BeginsBy call → law.refusal (Some call) reason ≡ told.Failed (why.Refused reason)
-refused_so (handle_call.Read (suc n)) reason begins = refl
-refused_so (handle_call.Write (byte ∷ more)) reason begins = refl
-refused_so (handle_call.Seek goal) reason begins = refl
-refused_so _ reason begins = absurd begins
+refused_so : (x : ℕ) (call : HandleCall) (reason : Refusal) → BeginsBy call → law.Say (law.refusal (Some call) reason) ≡ action_as x call (action.Reply (refused_reply call reason))
+refused_so x (handle_call.Read (suc n)) reason begins = refl
+refused_so x (handle_call.Write (byte ∷ more)) reason begins = refl
+refused_so x handle_call.Next reason begins = refl
+refused_so x (handle_call.Seek goal) reason begins = refl
+refused_so x _ reason begins = absurd begins
+
+refused_fits : (call : HandleCall) (p : OwnerMachine ℕ) (reason : Refusal) (back : Option (List Event)) → BeginsBy call → FitsNext call p (action.Reply (refused_reply call reason)) false back
+refused_fits (handle_call.Read (suc n)) p reason back begins = (refl, tt, tt)
+refused_fits (handle_call.Write (byte ∷ more)) p reason back begins = (refl, tt, tt)
+refused_fits handle_call.Next p reason back begins = (refl, tt, tt)
+refused_fits (handle_call.Seek goal) p reason back begins = (refl, tt, tt)
+refused_fits _ p reason back begins = absurd begins
 
 pub refuse_goes : (bytes : ℕ) (asked : Option HandleCall) (p : OwnerMachine ℕ) (last : Option Session) (h first : ℕ) (growth : Growth) (cut : List Event) (reason : Refusal) → p.next ≡ action.Begin
     → OwnerAs (owner_by_parts bytes asked (stage.Polls p) last) cut
@@ -255,7 +278,7 @@ pub refuse_goes : (bytes : ℕ) (asked : Option HandleCall) (p : OwnerMachine �
 refuse_goes bytes asked p last h first growth cut reason is t =
     let c = t.stage.0.call in
     let begins = (fits_at bytes asked p cut last action.Begin t is).0 in
-    let q : OwnerMachine ℕ = record p { next = action.Reply (reply.Failed (why.Refused reason)) } in
+    let q : OwnerMachine ℕ = record p { next = action.Reply (refused_reply c reason) } in
     let same : owner_after p (by.Refused reason) ≡ q =
     turned p action.Begin (by.Refused reason) t.stage.1 is ∙ ap (λ k. record p { next = machine.refusal k reason }) t.stage.0.call_is
     ∙ ap (λ (n : OwnerAction ℕ). record p { next = n }) (refused c reason begins) in
@@ -276,8 +299,8 @@ refuse_goes bytes asked p last h first growth cut reason is t =
             asked_is = t.stage.0.asked_is;
             call_is = t.stage.0.call_is;
             at_is = t.stage.0.at_is;
-            next_is = ap law.Say (ap (λ o. law.refusal o reason) t.stage.0.asked_is ∙ refused_so c reason begins);
-            fits = failed_fits c q (why.Refused reason) false (came_back cut);
+            next_is = ap (λ o. law.Say (law.refusal o reason)) t.stage.0.asked_is ∙ refused_so (item_in last) c reason begins;
+            fits = refused_fits c q reason (came_back cut) begins;
           },
           t.stage.1,
           refl,
@@ -298,6 +321,7 @@ fits_then c p action.Begin ended back e f = f
 fits_then c p action.Close ended back e f = f
 fits_then c p (action.Drain most) ended back e f = f
 fits_then c p (action.Fill most) ended back e f = f
+fits_then c p action.Receive ended back e f = f
 fits_then c p action.PollSlot ended back e f = (f.0, f.1 ∙ e)
 fits_then c p action.DropHandle ended back e f = f
 fits_then c p (action.Reply r) ended back e f = f
@@ -394,13 +418,14 @@ last_over (Some s) bytes cut l idle t is =
 record Began (c : HandleCall) (p : OwnerMachine ℕ) (back : Option (List Event)) : Type 0 where
   pub lending : IsLending (kind_of (Some c))
   pub at_is : sessions.In (kind_of (Some c)) true ≡ state_as (machine.begun_by (poll_call_of c))
-  pub next_is : law.at_accepted (Some c) (sessions.In (kind_of (Some c)) true) ≡ action_as c (machine.in_own (poll_call_of c))
+  pub next_is : law.at_accepted (Some c) (sessions.In (kind_of (Some c)) true) ≡ action_as 0 c (machine.in_own (poll_call_of c))
   pub fits : FitsNext c (record p { state = machine.begun_by (poll_call_of c); next = machine.in_own (poll_call_of c) })
       (machine.in_own (poll_call_of c)) false back
 
 begins_by : (c : HandleCall) (p : OwnerMachine ℕ) (back : Option (List Event)) → BeginsBy c → p.is_at_end ≡ false → Began c p back
 begins_by (handle_call.Read (suc n)) p back begins end = record { lending = tt; at_is = refl; next_is = refl; fits = (refl, omega arith, refl, end) }
 begins_by (handle_call.Write (byte ∷ more)) p back begins end = record { lending = tt; at_is = refl; next_is = refl; fits = (byte ∷ more, refl, refl, omega arith, refl, end) }
+begins_by handle_call.Next p back begins end = record { lending = tt; at_is = refl; next_is = refl; fits = (refl, refl, end) }
 begins_by (handle_call.Seek goal) p back begins end = record {
   lending = tt;
   at_is = refl;

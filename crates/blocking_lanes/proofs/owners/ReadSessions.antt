@@ -148,6 +148,7 @@ left_flow s slot Reading shut took accepted next acts waker t = record {
   inside = t.inside;
   put = t.put;
   bounded = t.bounded;
+  sound = t.sound;
   passed_is = subst (λ b. GaveAll b (passed_by acts)) (sym (or_right shut true refl)) tt;
   unclosed = λ is lasts. refl;
   unwritten = t.unwritten;
@@ -157,6 +158,7 @@ left_flow s slot Streaming shut took accepted next acts waker t = record {
   inside = t.inside;
   put = t.put;
   bounded = t.bounded;
+  sound = t.sound;
   passed_is = subst (λ b. GaveAll b (passed_by acts)) (sym (or_right shut true refl)) tt;
   unclosed = λ is lasts. refl;
   unwritten = t.unwritten;
@@ -188,6 +190,7 @@ closed_flow s Reading shut took accepted acts waker t = record {
   inside = t.inside;
   put = t.put;
   bounded = t.bounded;
+  sound = t.sound;
   passed_is = (refl, t.passed_is.1);
   unclosed = λ is. absurd (cc);
   unwritten = t.unwritten;
@@ -197,6 +200,7 @@ closed_flow s Streaming shut took accepted acts waker t = record {
   inside = t.inside;
   put = t.put;
   bounded = t.bounded;
+  sound = t.sound;
   passed_is = (refl, t.passed_is.1);
   unclosed = λ is. absurd (cc);
   unwritten = t.unwritten;
@@ -229,6 +233,7 @@ finished_flow s slot Reading shut took accepted acts waker leaves t = record {
   inside = t.inside;
   put = t.put;
   bounded = t.bounded;
+  sound = t.sound;
   passed_is = t.passed_is.1;
   unclosed = λ is lasts. absurd (let closed = t.passed_is.0 in cc);
   unwritten = t.unwritten;
@@ -238,6 +243,7 @@ finished_flow s slot Streaming shut took accepted acts waker leaves t = record {
   inside = t.inside;
   put = t.put;
   bounded = t.bounded;
+  sound = t.sound;
   passed_is = t.passed_is.1;
   unclosed = λ is lasts. absurd (let closed = t.passed_is.0 in cc);
   unwritten = t.unwritten;
@@ -360,7 +366,7 @@ module _ (s : Session) (capacity : ℕ) (last : Option sessions.Session) (shut b
       let any = some.1 in
       record {
         lent = t.lent;
-        flow = record { closed_is = t.flow.closed_is; inside = t.flow.inside; put = t.flow.put; bounded = t.flow.bounded; passed_is = (p.0, p.1, omega (arith, free)); unclosed = λ is. absurd (cc); unwritten = t.flow.unwritten };
+        flow = record { closed_is = t.flow.closed_is; inside = t.flow.inside; put = t.flow.put; bounded = t.flow.bounded; sound = t.flow.sound; passed_is = (p.0, p.1, omega (arith, free)); unclosed = λ is. absurd (cc); unwritten = t.flow.unwritten };
         result = t.result;
         seats = record {
           job = t.seats.job;
@@ -387,6 +393,7 @@ module _ (s : Session) (capacity : ℕ) (last : Option sessions.Session) (shut b
           inside = t.flow.inside;
           put = t.flow.put;
           bounded = t.flow.bounded;
+          sound = t.flow.sound;
           passed_is = (t.flow.passed_is.0, subst (λ b. GaveAll (b || has_given_up acts) (passed_by acts)) (sym stopped) tt);
           unclosed = λ is. absurd (cc);
           unwritten = t.flow.unwritten;
@@ -412,7 +419,7 @@ module _ (s : Session) (capacity : ℕ) (last : Option sessions.Session) (shut b
       let full = no_room (room s.pipe) s.pipe.is_owner_open found in
       record {
         lent = record { begun = t.lent.begun; goods = t.lent.goods; some = t.lent.some; holds = t.lent.holds; within = t.lent.within; shut_is = t.lent.shut_is };
-        flow = record { closed_is = t.flow.closed_is; inside = t.flow.inside; put = t.flow.put; bounded = t.flow.bounded; passed_is = t.flow.passed_is; unclosed = t.flow.unclosed; unwritten = t.flow.unwritten };
+        flow = record { closed_is = t.flow.closed_is; inside = t.flow.inside; put = t.flow.put; bounded = t.flow.bounded; sound = t.flow.sound; passed_is = t.flow.passed_is; unclosed = t.flow.unclosed; unwritten = t.flow.unwritten };
         result = t.result;
         seats = record {
           job = refl;
@@ -472,6 +479,7 @@ module _ (s : Session) (capacity : ℕ) (last : Option sessions.Session) (shut b
           inside = a.flow.inside;
           put = longer (was_put acts) (gave acts) (carried answer) a.flow.put;
           bounded = no_hand (bounds (gave acts) (was_put acts) took s.pipe.items (carried answer) s.pipe.capacity a.flow.passed_is.1.0 a.flow.inside whole fits);
+          sound = λ hand. absurd (omega (arith, hand));
           passed_is = passed;
           unclosed = λ is. absurd (cc);
           unwritten = ap (λ l. l ++ counted answer (peeked acts)) a.flow.unwritten ∙ uncounted (peeked acts);
@@ -536,6 +544,7 @@ module _ (s : Session) (capacity : ℕ) (last : Option sessions.Session) (shut b
           inside = more ∙ ap (λ l. l ++ bytes) t.flow.inside ∙ append_assoc took s.pipe.items bytes;
           put = ([], p.1.0 ∙ sym more ∙ sym (append-nil (was_put acts ++ take (length bytes) (answered acts))));
           bounded = t.flow.bounded;
+          sound = t.flow.sound;
           passed_is = (p.0, (p.1.0 ∙ sym more ∙ sym (append-nil (was_put acts ++ take (length bytes) (answered acts))), p.1.1));
           unclosed = λ is. absurd (cc);
           unwritten = t.flow.unwritten;
@@ -567,6 +576,7 @@ module _ (s : Session) (capacity : ℕ) (last : Option sessions.Session) (shut b
           inside = t.flow.inside;
           put = t.flow.put;
           bounded = t.flow.bounded;
+          sound = t.flow.sound;
           passed_is = (t.flow.passed_is.0, subst (λ b. GaveAll (b || has_given_up acts) (passed_by acts)) (sym stopped) tt);
           unclosed = λ is. absurd (cc);
           unwritten = t.flow.unwritten;

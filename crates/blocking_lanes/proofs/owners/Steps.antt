@@ -38,7 +38,7 @@ use Rattle.blocking_laws.specs.declared.step.Answer.{Answer}
 use Rattle.blocking_laws.specs.declared.step.HandleCall.{HandleCall}
 use Rattle.blocking_pool.specs.Growth.{Growth}
 use Rattle.blocking_pool.specs.Lists.{is_in}
-use Rattle.blocking_lanes.specs.Owners.{Owner, Did, Worked, capacity_of, may_call_at, is_gone, next_at, next_by, next_to_say, reply_as, did, read_as, read_in, stream_as, stream_in, write_as, write_in, worked, worked_by, giving_up_wakes, without_job, seek_as, seek_in}
+use Rattle.blocking_lanes.specs.Owners.{Owner, Did, Worked, capacity_of, may_call_at, is_gone, next_at, next_by, next_to_say, reply_as, did, read_as, read_in, stream_as, stream_in, write_as, write_in, worked, worked_by, giving_up_wakes, without_job, item_in, seek_as, seek_in}
 use Rattle.blocking_lanes.specs.OwnerSteps.{OwnerStep, IsAsked, Acts, Begins, IsRefused, Delivers, IsDropped, Works as DoesWork, IsAnswered, GivesUp, CallsWaker, MayTake, act_in, act_of, act_of_work, owner_in, owner_after, owner_after_work, event_by, by_owner, by_its_job, is_of_its_job}
 use Rattle.blocking_lanes.specs.OwnerTies.{OwnerAs, StageBy, LastAs, SessionAs, newest_note}
 use Rattle.blocking_lanes.specs.Passages.{OfBytes, OfItems, through}
@@ -108,7 +108,7 @@ module _ (bytes : ℕ) (asked : Option HandleCall) (here : OwnerStage) (last : O
       polled = t.polled;
       bytes = t.bytes;
       calls = t.calls;
-      stage = subst (λ next. StageBy here (sessions.call (own cut)) (sessions.state (own cut)) next (law.is_at_end (own cut)) (came_back cut) (newest_note (own cut)))
+      stage = subst (λ next. StageBy here (item_in last) (sessions.call (own cut)) (sessions.state (own cut)) next (law.is_at_end (own cut)) (came_back cut) (newest_note (own cut)))
           (sym (next_stays (woken ∷ cut) cut (own cut) (λ back k m. (same_of (fault k) (λ l. refl) m, same_of number (λ l. refl) m)))) t.stage;
       last = woken_last last t.last;
       ended = t.ended;
@@ -378,7 +378,7 @@ pub record IsAllowed (step : OwnerStep) (owner : Owner) (n : ℕ) (cut : List Ev
 
 begins_by : (a : OwnerAction ℕ) (last : Option Session) → next_by a last ≡ next.Begins → a ≡ action.Begin
 begins_by action.Begin last e = refl
-begins_by (action.Reply r) last e = absurd (never (reply_as r) e)
+begins_by (action.Reply r) last e = absurd (never (reply_as (item_in last) r) e)
   where
     never : (told : Option Told) → next_to_say told ≡ next.Begins → ⊥
     never None e = cc

@@ -61,6 +61,7 @@ module _ (s : Session) (capacity : ℕ) (last : Option sessions.Session) (shut b
           inside = more ∙ ap (λ l. l ++ x ∷ []) t.flow.inside ∙ append_assoc took s.pipe.items (x ∷ []);
           put = ([], p.1.0 ∙ sym more ∙ sym (append-nil (was_put acts ++ take 1 (answered acts))));
           bounded = t.flow.bounded;
+          sound = t.flow.sound;
           passed_is = (p.0, (p.1.0 ∙ sym more ∙ sym (append-nil (was_put acts ++ take 1 (answered acts))), p.1.1));
           unclosed = λ is. absurd (cc);
           unwritten = t.flow.unwritten;
@@ -91,6 +92,7 @@ module _ (s : Session) (capacity : ℕ) (last : Option sessions.Session) (shut b
           inside = t.flow.inside;
           put = t.flow.put;
           bounded = t.flow.bounded;
+          sound = t.flow.sound;
           passed_is = (t.flow.passed_is.0, subst (λ b. GaveAll (b || has_given_up acts) (passed_by acts)) (sym stopped) tt);
           unclosed = λ is. absurd (cc);
           unwritten = t.flow.unwritten;
@@ -116,7 +118,7 @@ module _ (s : Session) (capacity : ℕ) (last : Option sessions.Session) (shut b
       let full = no_space (room s.pipe) s.pipe.is_owner_open s.pipe.owner_seat found in
       record {
         lent = record { begun = t.lent.begun; goods = t.lent.goods; some = t.lent.some; holds = t.lent.holds; within = t.lent.within; shut_is = t.lent.shut_is };
-        flow = record { closed_is = t.flow.closed_is; inside = t.flow.inside; put = t.flow.put; bounded = t.flow.bounded; passed_is = t.flow.passed_is; unclosed = t.flow.unclosed; unwritten = t.flow.unwritten };
+        flow = record { closed_is = t.flow.closed_is; inside = t.flow.inside; put = t.flow.put; bounded = t.flow.bounded; sound = t.flow.sound; passed_is = t.flow.passed_is; unclosed = t.flow.unclosed; unwritten = t.flow.unwritten };
         result = t.result;
         seats = record {
           job = refl;
@@ -149,6 +151,7 @@ module _ (s : Session) (capacity : ℕ) (last : Option sessions.Session) (shut b
           inside = a.flow.inside;
           put = longer (was_put acts) (gave acts) (x ∷ []) a.flow.put;
           bounded = one_more (gave acts) (was_put acts) took s.pipe.items x s.pipe.capacity p.1.0 a.flow.inside whole;
+          sound = a.flow.sound;
           passed_is = (p.0, (ap (λ l. l ++ x ∷ []) (p.1.0 ∙ append-nil (was_put acts)), p.1.1), refl);
           unclosed = λ is. absurd (cc);
           unwritten = ap (λ l. l ++ []) a.flow.unwritten;
@@ -168,6 +171,7 @@ module _ (s : Session) (capacity : ℕ) (last : Option sessions.Session) (shut b
           inside = a.flow.inside;
           put = longer (was_put acts) (gave acts) [] a.flow.put;
           bounded = subst (λ (l : List ℕ). length l ≤ length took + s.pipe.capacity + 1) (sym (append-nil (gave acts))) a.flow.bounded;
+          sound = a.flow.sound;
           passed_is = (p.0, gave_all (shut || has_given_up acts) (append-nil (gave acts) ∙ p.1.0 ∙ append-nil (was_put acts)) (or_right (has_failure (handle_answers acts)) true refl));
           unclosed = λ is. absurd (cc);
           unwritten = ap (λ l. l ++ []) a.flow.unwritten;
