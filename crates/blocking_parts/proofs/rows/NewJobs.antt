@@ -174,6 +174,7 @@ kind_begun (handle_call.Read zero) begins = absurd begins
 kind_begun (handle_call.Read (suc n)) begins = refl
 kind_begun (handle_call.Write []) begins = absurd begins
 kind_begun (handle_call.Write (byte ∷ bytes)) begins = refl
+kind_begun handle_call.Next begins = refl
 kind_begun _ begins = absurd begins
 
 begins_kind : (bytes : ℕ) (asked : Option HandleCall) (here : OwnerStage) (last : Option Session) (cut : List Event) → OwnerAs (owner_by_parts bytes asked here last) cut → next_at here last ≡ next.Begins
