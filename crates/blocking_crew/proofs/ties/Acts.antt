@@ -15,7 +15,7 @@ use Rattle.blocking_crew.specs.Crews.{Crew, may_act, stage_after, outcome_of, st
 use Rattle.blocking_crew.specs.Moves.{is_aside, seen}
 use Rattle.blocking_crew.specs.Ties.{FiledHere, Handed, turn_of}
 use Rattle.blocking_crew.specs.declared.hand.Stage.TheVariants as stage
-use Rattle.blocking_crew.proofs.Types.{NoWorker, Done, Dropped, Act, Made, Asked, OwnerClosed, Got, GotEnd, Filled, FillShut, Back, Replied, Accepted, Refused, JobWoken, JobCancelled, LimitSet, Swept, Waits, HolderDropped, TaskGot, TaskGotNone, TaskCancelled, TaskDetached, Arrived, TookDropped, TookNone, Stays, Stopped, Ended, HandedOut, Answered, RoomFree, RoomShut, JobParked, Put, Lost, Peeked, Drained, JobClosed, Finished, GaveUp, HolderWoken, NoAction, HolderWaker, Moment, Party, Step, Stage, Ticket}
+use Rattle.blocking_crew.proofs.Types.{NoWorker, Done, Dropped, Act, Made, Asked, OwnerClosed, Got, GotItem, GotEnd, Filled, FillShut, Back, Replied, Accepted, Refused, JobWoken, JobCancelled, LimitSet, Swept, Waits, HolderDropped, TaskGot, TaskGotNone, TaskCancelled, TaskDetached, Arrived, TookDropped, TookNone, Stays, Stopped, Ended, HandedOut, Answered, RoomFree, RoomShut, JobParked, Put, Lost, Peeked, Drained, JobClosed, Finished, GaveUp, HolderWoken, NoAction, HolderWaker, Moment, Party, Step, Stage, Ticket}
 
 -- the moment of an act, as the layer above sees it
 abbrev pub now_with : Step → Option ℕ → Party → Option ℕ → Act → ℕ → Growth → Moment
@@ -134,6 +134,7 @@ aside_plain (Made h capacity) is = refl
 aside_plain (Asked call) is = refl
 aside_plain (OwnerClosed told) is = refl
 aside_plain (Got bytes told) is = refl
+aside_plain (GotItem x told) is = refl
 aside_plain GotEnd is = refl
 aside_plain (Filled n told) is = refl
 aside_plain FillShut is = refl

@@ -72,7 +72,6 @@ is_rest _ = false
 
 -- the laws have a word for a reply that is told
 is_some_reply : (x : ℕ) (r : Reply ℕ) → is_told r ≡ true → is_some (reply_as x r) ≡ true
-is_some_reply x (reply.Position place) told = absurd (cc)
 is_some_reply x reply.Result told = absurd (cc)
 is_some_reply x reply.Closed told = absurd (cc)
 is_some_reply x _ told = refl

@@ -4,7 +4,7 @@ use Rattle.std.specs.Prelude.{◌&&◌, ◌||◌, not, slice_get, is_some}
 use Rattle.std.specs.FinMap.{get}
 use Rattle.std.proofs.lemmas.Bool.{eq-eqb, or_left}
 use Rattle.blocking_lanes.specs.OwnerTies.{OwnerAs, LastAs, StageAs, newest_note, seat_of}
-use Rattle.blocking_lanes.specs.Owners.{Owner, capacity_of, note_at}
+use Rattle.blocking_lanes.specs.Owners.{Owner, capacity_of, note_at, item_in}
 use Rattle.blocking_lanes.specs.Sessions.{Session}
 use Rattle.blocking_lanes.specs.declared.owner.OwnerStage.{OwnerStage}
 use Rattle.blocking_lanes.specs.declared.owner.OwnerStage.TheVariants as stage
@@ -75,16 +75,16 @@ waits_unnoted : (acts : List Act) → is_waiting acts ≡ true → newest_note a
 waits_unnoted (Waits ∷ past) waits = refl
 waits_unnoted _ waits = absurd cc
 
-none_noted : (here : OwnerStage) (X : List Event) (s : ℕ) → StageAs here X → is_waiting (own X) ≡ true → is_number (note_at here) s ≡ true → ⊥
-none_noted (stage.Wakes poll number) X s t waits noted = let none = waits_unnoted (own X) waits in let some = t.2 in cc
-none_noted (stage.Rests at) X s t waits noted = cc
-none_noted (stage.Polls poll) X s t waits noted = cc
-none_noted stage.Dropped X s t waits noted = cc
+none_noted : (here : OwnerStage) (x : ℕ) (X : List Event) (s : ℕ) → StageAs here x X → is_waiting (own X) ≡ true → is_number (note_at here) s ≡ true → ⊥
+none_noted (stage.Wakes poll number) x X s t waits noted = let none = waits_unnoted (own X) waits in let some = t.2 in cc
+none_noted (stage.Rests at) x X s t waits noted = cc
+none_noted (stage.Polls poll) x X s t waits noted = cc
+none_noted stage.Dropped x X s t waits noted = cc
 
 -- so an owner that waits meets a job that is left to it in the pipe
 waits_met : (owner : Owner) (X : List Event) (s : ℕ) → OwnerAs owner X → is_waiting (own X) ≡ true → IsMet owner s → is_job_seated X ≡ true
 waits_met owner X s t waits (inl seat) = seated_seen owner.session (capacity_of owner) X s t.last seat
-waits_met owner X s t waits (inr noted) = absurd (none_noted owner.stage X s t.stage waits noted)
+waits_met owner X s t waits (inr noted) = absurd (none_noted owner.stage (item_in owner.session) X s t.stage waits noted)
 
 -- ---- why a job waits
 
@@ -109,16 +109,16 @@ noted_waking : (acts : List Act) (s n : ℕ) → newest_note acts ≡ Some n →
 noted_waking [] s n is same = absurd cc
 noted_waking (act ∷ past) s n is same = waking_by s act (is_waking s past) n is same
 
-noted_under_way : (here : OwnerStage) (X : List Event) (s : ℕ) → StageAs here X → is_number (note_at here) s ≡ true → is_waking s (own X) ≡ true
-noted_under_way (stage.Wakes poll number) X s t noted = noted_waking (own X) s number.serial t.2 noted
-noted_under_way (stage.Rests at) X s t noted = absurd cc
-noted_under_way (stage.Polls poll) X s t noted = absurd cc
-noted_under_way stage.Dropped X s t noted = absurd cc
+noted_under_way : (here : OwnerStage) (x : ℕ) (X : List Event) (s : ℕ) → StageAs here x X → is_number (note_at here) s ≡ true → is_waking s (own X) ≡ true
+noted_under_way (stage.Wakes poll number) x X s t noted = noted_waking (own X) s number.serial t.2 noted
+noted_under_way (stage.Rests at) x X s t noted = absurd cc
+noted_under_way (stage.Polls poll) x X s t noted = absurd cc
+noted_under_way stage.Dropped x X s t noted = absurd cc
 
 -- so a job that is left to its owner has reason to wait, or a wake of it is under way
 parks_met : (owner : Owner) (X : List Event) (s : ℕ) → OwnerAs owner X → is_waking s (own X) ≡ false → IsMet owner s → HasReason X
 parks_met owner X s t still (inl seat) = seated_so owner.session (capacity_of owner) X s t.bytes t.last seat
-parks_met owner X s t still (inr noted) = absurd (never _ still (noted_under_way owner.stage X s t.stage noted))
+parks_met owner X s t still (inr noted) = absurd (never _ still (noted_under_way owner.stage (item_in owner.session) X s t.stage noted))
 
 -- ---- all of them
 

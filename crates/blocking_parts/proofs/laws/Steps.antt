@@ -15,7 +15,7 @@ use Rattle.blocking_crew.specs.declared.hand.Held.{Held}
 use Rattle.blocking_crew.specs.declared.tickets.Parking.{Parking}
 use Rattle.blocking_crew.specs.declared.tickets.Parking.TheVariants as parking
 use Rattle.blocking_lanes.specs.OwnerSteps.{Acts, act_in}
-use Rattle.blocking_lanes.specs.Owners.{Owner, Did, did, did_by, did_in, next_at, next_by, next_of, next_to_say, note_at, reply_as, reply_did}
+use Rattle.blocking_lanes.specs.Owners.{Owner, Did, did, did_by, did_in, next_at, next_by, next_of, next_to_say, note_at, reply_as, reply_did, item_in}
 use Rattle.blocking_lanes.specs.Sessions.{Session}
 use Rattle.blocking_lanes.specs.Tasks.{Task, task_act}
 use Rattle.blocking_lanes.specs.declared.owner.OwnerNext.{OwnerNext}
@@ -99,7 +99,8 @@ acts_next (action.Drain most) poll last owner some = refl
 acts_next (action.Fill most) poll last owner some = refl
 acts_next action.PollSlot poll last owner some = refl
 acts_next action.DropHandle poll last owner some = refl
-acts_next (action.Reply reply) poll last owner some = says (reply_as reply) poll owner some
+acts_next action.Receive poll last owner some = refl
+acts_next (action.Reply reply) poll last owner some = says (reply_as (item_in last) reply) poll owner some
 acts_next _ poll None owner some = absurd cc
 acts_next _ poll (Some session) owner some = absurd cc
 

@@ -7,14 +7,14 @@ use Rattle.blocking_core.specs.declared.io.Fault.{Fault}
 use Rattle.blocking_core.specs.declared.unblock.OwnerAction.{OwnerAction}
 use Rattle.blocking_core.specs.declared.unblock.OwnerAction.TheVariants as action
 use Rattle.blocking_crew.specs.Moves.{is_aside}
-use Rattle.blocking_lanes.specs.Owners.{Owner, Did, IsDid, did, did_by, did_in, drain_did, fill_did, look_did, looked_as, reply_as, reply_did}
-use Rattle.blocking_lanes.specs.Sessions.{Session, drained, reach, session_after_look}
+use Rattle.blocking_lanes.specs.Owners.{Owner, Did, IsDid, did, did_by, did_in, drain_did, fill_did, look_did, looked_as, reply_as, reply_did, item_in, receive_did}
+use Rattle.blocking_lanes.specs.Sessions.{Session, drained, reach, session_after_look, received}
 use Rattle.blocking_lanes.specs.declared.owner.OwnerStage.{OwnerStage}
 use Rattle.blocking_lanes.specs.declared.owner.OwnerStage.TheVariants as stage
 use Rattle.blocking_laws.specs.declared.event.Act.{Act}
 use Rattle.blocking_laws.specs.declared.event.Reply.{Reply as Told}
 use Rattle.blocking_pool.specs.Jobs.{JobNumber}
-use Rattle.blocking_lanes.specs.Passages.{OfBytes}
+use Rattle.blocking_lanes.specs.Passages.{OfBytes, OfItems}
 use Rattle.blocking_lanes.proofs.owners.Goods.{through_by, piped_by}
 use Rattle.blocking_parts.proofs.moves.Fills.{by_fill}
 
@@ -27,6 +27,11 @@ drains : (met : Met (List ℕ × Option JobNumber)) (poll : OwnerMachine ℕ) (s
 drains (Served got) poll session owner = refl
 drains Waiting poll session owner = refl
 drains Closed poll session owner = refl
+
+receives : (met : Met (ℕ × Option JobNumber)) (poll : OwnerMachine ℕ) (session : Session) (owner : Owner) → is_aside (receive_did met poll session owner).act ≡ true
+receives (Served got) poll session owner = refl
+receives Waiting poll session owner = refl
+receives Closed poll session owner = refl
 
 fills : (bytes : List ℕ) (met : Met (ℕ × Option JobNumber)) (poll : OwnerMachine ℕ) (session : Session) (owner : Owner) → is_aside (fill_did bytes met poll session owner).act ≡ true
 fills bytes (Served went) poll session owner = refl
@@ -45,10 +50,11 @@ replies (Some told) poll owner = refl
 replies None poll owner = refl
 
 acts : (next : OwnerAction ℕ) (poll : OwnerMachine ℕ) (session : Option Session) (owner : Owner) → is_aside_if (did_in next poll session owner) ≡ true
-acts (action.Reply reply) poll session owner = replies (reply_as reply) poll owner
+acts (action.Reply reply) poll session owner = replies (reply_as (item_in session) reply) poll owner
 acts (action.Drain most) poll (Some session) owner =
     through_by (λ o. is_aside_if o ≡ true) OfBytes session.goods _ refl (drains (drained (reach most session) session) poll session owner)
 acts (action.Fill most) poll session owner = by_fill (λ o. is_aside_if o ≡ true) poll owner.asked session owner refl (λ bytes session met here found. fills bytes met poll session owner)
+acts action.Receive poll (Some session) owner = through_by (λ o. is_aside_if o ≡ true) OfItems session.goods _ refl (receives (received session) poll session owner)
 acts action.PollSlot poll (Some session) owner = looks session.slot.content poll (session_after_look session.slot.content session) owner
 acts action.Close poll (Some session) owner = piped_by (λ o. is_aside_if o ≡ true) session.goods _ refl refl
 acts _ poll (Some session) owner = refl

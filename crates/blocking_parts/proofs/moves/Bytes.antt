@@ -9,8 +9,8 @@ use Rattle.blocking_core.specs.Slots.{Content, Empty, Full, GivenUp, Abandoned}
 use Rattle.blocking_core.specs.declared.io.Fault.{Fault}
 use Rattle.blocking_core.specs.declared.unblock.OwnerAction.{OwnerAction}
 use Rattle.blocking_core.specs.declared.unblock.OwnerAction.TheVariants as action
-use Rattle.blocking_lanes.specs.Owners.{Owner, Did, bytes_in, next_of, next_at, next_by, did, did_by, did_in, drain_did, fill_did, front_in, look_did, looked_as, reply_as, reply_did, worked, Worked, close_did}
-use Rattle.blocking_lanes.specs.Sessions.{Session, session_after_look}
+use Rattle.blocking_lanes.specs.Owners.{Owner, Did, bytes_in, next_of, next_at, next_by, did, did_by, did_in, drain_did, fill_did, front_in, look_did, looked_as, reply_as, reply_did, worked, Worked, item_in, receive_did, close_did}
+use Rattle.blocking_lanes.specs.Sessions.{Session, session_after_look, received}
 use Rattle.blocking_lanes.specs.declared.owner.OwnerStage.{OwnerStage}
 use Rattle.blocking_lanes.specs.declared.owner.OwnerStage.TheVariants as stage
 use Rattle.blocking_core.specs.declared.job.Action.{Action}
@@ -45,7 +45,7 @@ use Rattle.blocking_parts.specs.Rows as rows
 use Rattle.blocking_parts.specs.Rows.{Done, call_done, call_step, call_step_by, session_done, session_seen, session_step}
 use Rattle.blocking_parts.specs.declared.row.Core.{Core}
 use Rattle.blocking_parts.specs.declared.row.Core.TheVariants as core
-use Rattle.blocking_lanes.specs.Passages.{OfBytes}
+use Rattle.blocking_lanes.specs.Passages.{OfBytes, OfItems}
 use Rattle.blocking_lanes.proofs.owners.Goods.{through_by, piped_by}
 use Rattle.blocking_parts.proofs.moves.Fills.{by_fill}
 use Rattle.blocking_parts.proofs.moves.SessionActs.{DoesSo, carried_at, moved, seen as seen_at, worked_so}
@@ -78,6 +78,11 @@ looks GivenUp p s owner n = tt
 looks (Abandoned true) p s owner n = tt
 looks (Abandoned false) p s owner n = omega arith
 
+receives : (met : Met (ℕ × Option JobNumber)) (p : OwnerMachine ℕ) (s : Session) (owner : Owner) → Carries (Some (receive_did met p s owner)) 0
+receives (Served got) p s owner = omega arith
+receives Waiting p s owner = omega arith
+receives Closed p s owner = omega arith
+
 fills : (bytes : List ℕ) (met : Met (ℕ × Option JobNumber)) (p : OwnerMachine ℕ) (s : Session) (owner : Owner) → Carries (Some (fill_did bytes met p s owner)) 0
 fills bytes (Served went) p s owner = omega arith
 fills bytes Waiting p s owner = omega arith
@@ -88,11 +93,12 @@ replies (Some told) p owner n = omega arith
 replies None p owner n = tt
 
 polls : (a : OwnerAction ℕ) (p : OwnerMachine ℕ) (last : Option Session) (owner : Owner) → Carries (did_in a p last owner) (bytes_in (next_by a last))
-polls (action.Reply reply) p last owner = replies (reply_as reply) p owner _
+polls (action.Reply reply) p last owner = replies (reply_as (item_in last) reply) p owner _
 polls (action.Drain most) p (Some s) owner =
     through_by (λ o. Carries o (bytes_in (next_by (action.Drain most) (Some s)))) OfBytes s.goods _ tt (got_within most s.pipe.items s.pipe.is_job_open s.pipe.job_seat p s owner)
 polls (action.Fill most) p last owner = by_fill (λ o. Carries o 0) p owner.asked last owner tt (λ bytes s met here found. fills bytes met p s owner)
 polls action.DropHandle p last owner = omega arith
+polls action.Receive p (Some s) owner = through_by (λ o. Carries o 0) OfItems s.goods _ tt (receives (received s) p s owner)
 polls action.PollSlot p (Some s) owner = looks s.slot.content p (session_after_look s.slot.content s) owner _
 polls action.Close p (Some s) owner = piped_by (λ o. Carries o 0) s.goods (Some (close_did p s owner)) tt (omega arith)
 polls _ p (Some s) owner = tt

@@ -1,4 +1,5 @@
 -- Where an owner meets a job that is left to it, after each step: in the pipe's seat, or by the note that it has to deliver.
+use Rattle.blocking_lanes.proofs.owners.Drains.{first_item}
 use Rattle.std.proofs.Common.{◌≡◌, ◌⊎◌, inl, inr, ℕ, List, [], ◌∷◌, length, Bool, true, false, refl, sym, ap, ◌∙◌, subst, Option, Some, None, if◌then◌else◌}
 use Rattle.std.specs.Prelude.{◌==◌, min}
 use Rattle.blocking_core.specs.OwnerCalls.{OwnerMachine, owner_next}
@@ -13,10 +14,10 @@ use Rattle.blocking_laws.specs.declared.event.Act.{Act}
 use Rattle.blocking_laws.specs.declared.event.Act.TheVariants.{JobParked}
 use Rattle.blocking_laws.specs.declared.event.Reply.{Reply as Told}
 use Rattle.blocking_laws.specs.declared.step.HandleCall.{HandleCall}
-use Rattle.blocking_lanes.specs.Owners.{Owner, Did, Worked, after_ask, did, did_by, did_in, drain_did, fill_did, goes_on, is_resting, look_did, looked_as, note_at, number_in, number_of, owner_after_ask, owner_after_delivery, owner_after_drop, owner_after_give_up, owner_after_refusal, reply_as, reply_did, rests, stage_after_delivery, stage_after_drop, stage_after_refusal, without_job, worked}
+use Rattle.blocking_lanes.specs.Owners.{Owner, Did, Worked, after_ask, did, did_by, did_in, drain_did, fill_did, goes_on, is_resting, look_did, looked_as, note_at, number_in, number_of, owner_after_ask, owner_after_delivery, owner_after_drop, owner_after_give_up, owner_after_refusal, reply_as, reply_did, rests, stage_after_delivery, stage_after_drop, stage_after_refusal, without_job, worked, item_in, receive_did}
 use Rattle.blocking_lanes.specs.OwnerTies.{seat_of}
-use Rattle.blocking_lanes.specs.Passages.{OfBytes}
-use Rattle.blocking_lanes.specs.Sessions.{Session, drained, filled, reach, session_after_look}
+use Rattle.blocking_lanes.specs.Passages.{OfBytes, OfItems}
+use Rattle.blocking_lanes.specs.Sessions.{Session, drained, filled, reach, session_after_look, received}
 use Rattle.blocking_lanes.specs.declared.job.SessionJob.{SessionJob}
 use Rattle.blocking_lanes.specs.declared.owner.OwnerStage.{OwnerStage}
 use Rattle.blocking_lanes.specs.declared.owner.OwnerStage.TheVariants as stage
@@ -98,7 +99,7 @@ dropped_met owner s rests met = by owner.stage rests met
 -- its poll acts
 module _ (owner : Owner) (s : ℕ) (done : Did) (poll : OwnerMachine ℕ) where
   acts_met : (next : OwnerAction ℕ) (last : Option Session) → owner.session ≡ last → did_in next poll last owner ≡ Some done → is_number (seated_in last) s ≡ true → IsMet done.owner s
-  acts_met (action.Reply reply) last here does seat = told (reply_as reply) does
+  acts_met (action.Reply reply) last here does seat = told (reply_as (item_in last) reply) does
     where
       told : (o : Option Told) → reply_did o poll owner ≡ Some done → IsMet done.owner s
       told (Some reply) does = moved (λ (d : Did). IsMet d.owner s) _ done does (inl (ap (λ o. is_number (seated_in o) s) here ∙ seat))
@@ -113,6 +114,14 @@ module _ (owner : Owner) (s : ℕ) (done : Did) (poll : OwnerMachine ℕ) where
           moved (λ (d : Did). IsMet d.owner s) _ done does (inr (ap (λ o. is_number o s) (noted_on _ got.1 ∙ same) ∙ seat))
       drains Waiting found does = moved (λ (d : Did). IsMet d.owner s) _ done does (inl seat)
       drains Closed found does = moved (λ (d : Did). IsMet d.owner s) _ done does (inl (ap (λ o. is_number (seated_in o) s) here ∙ seat))
+  acts_met action.Receive (Some session) here does seat = receives (received session) refl (through_some OfItems session.goods _ done does).1
+    where
+      receives : (met : Met (ℕ × Option JobNumber)) → received session ≡ met → Some (receive_did met poll session owner) ≡ Some done → IsMet done.owner s
+      receives (Served got) found does =
+          let same = (first_item session.pipe.items session.pipe.is_job_open session.pipe.job_seat got found).1 in
+          moved (λ (d : Did). IsMet d.owner s) _ done does (inr (ap (λ o. is_number o s) (noted_on _ got.1 ∙ same) ∙ seat))
+      receives Waiting found does = moved (λ (d : Did). IsMet d.owner s) _ done does (inl seat)
+      receives Closed found does = moved (λ (d : Did). IsMet d.owner s) _ done does (inl (ap (λ o. is_number (seated_in o) s) here ∙ seat))
   acts_met action.PollSlot (Some session) here does seat = looks session.slot.content does
     where
       looks : (content : Content (Option (Fault ℕ))) → look_did (looked_as content) poll (session_after_look content session) owner ≡ Some done → IsMet done.owner s

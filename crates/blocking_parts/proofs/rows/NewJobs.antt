@@ -176,6 +176,7 @@ kind_begun (handle_call.Read zero) begins = absurd begins
 kind_begun (handle_call.Read (suc n)) begins = refl
 kind_begun (handle_call.Write []) begins = absurd begins
 kind_begun (handle_call.Write (byte ∷ bytes)) begins = refl
+kind_begun handle_call.Next begins = refl
 kind_begun (handle_call.Seek goal) begins = refl
 kind_begun _ begins = absurd begins
 

@@ -8,13 +8,13 @@ use Rattle.blocking_core.specs.declared.unblock.OwnerAction.{OwnerAction}
 use Rattle.blocking_core.specs.declared.unblock.OwnerAction.TheVariants as action
 use Rattle.blocking_laws.specs.declared.event.Reply.{Reply as Told}
 use Rattle.blocking_lanes.specs.OwnerSteps.{OwnerStep, IsAsked, Acts, Begins, IsRefused, Delivers, IsDropped, Works, IsAnswered, GivesUp, CallsWaker, owner_after, owner_in, owner_after_work}
-use Rattle.blocking_lanes.specs.Owners.{Owner, Did, Worked, after_ask, number_in, number_of, did, did_by, did_in, drain_did, fill_did, look_did, looked_as, reply_as, reply_did, worked, without_job}
-use Rattle.blocking_lanes.specs.Sessions.{Session, session_after_look, drained, reach}
+use Rattle.blocking_lanes.specs.Owners.{Owner, Did, Worked, after_ask, number_in, number_of, did, did_by, did_in, drain_did, fill_did, look_did, looked_as, reply_as, reply_did, worked, without_job, item_in, receive_did}
+use Rattle.blocking_lanes.specs.Sessions.{Session, session_after_look, drained, reach, received}
 use Rattle.blocking_lanes.specs.declared.owner.OwnerStage.{OwnerStage}
 use Rattle.blocking_lanes.specs.declared.owner.OwnerStage.TheVariants as stage
 use Rattle.blocking_lanes.proofs.owners.Events.{brought}
 use Rattle.blocking_pool.specs.Jobs.{JobNumber}
-use Rattle.blocking_lanes.specs.Passages.{OfBytes}
+use Rattle.blocking_lanes.specs.Passages.{OfBytes, OfItems}
 use Rattle.blocking_lanes.proofs.owners.Goods.{through_some, piped_some}
 use Rattle.blocking_parts.proofs.moves.Fills.{by_fill}
 use Rattle.blocking_parts.proofs.moves.SessionActs.{moved, number_worked}
@@ -25,6 +25,11 @@ of_drain : (met : Met (List ℕ × Option JobNumber)) (p : OwnerMachine ℕ) (s 
 of_drain (Served got) p s owner is = refl
 of_drain Waiting p s owner is = refl
 of_drain Closed p s owner is = ap number_in is
+
+of_receive : (met : Met (ℕ × Option JobNumber)) (p : OwnerMachine ℕ) (s : Session) (owner : Owner) → owner.session ≡ Some s → number_of (receive_did met p s owner).owner ≡ Some s.number
+of_receive (Served got) p s owner is = refl
+of_receive Waiting p s owner is = refl
+of_receive Closed p s owner is = ap number_in is
 
 of_fill : (bytes : List ℕ) (met : Met (ℕ × Option JobNumber)) (p : OwnerMachine ℕ) (s : Session) (owner : Owner) → owner.session ≡ Some s → number_of (fill_did bytes met p s owner).owner ≡ Some s.number
 of_fill bytes (Served went) p s owner is = refl
@@ -39,13 +44,14 @@ of_look (Abandoned true) p s owner done e = absurd cc
 of_look (Abandoned false) p s owner done e = moved (λ (d : Did). number_of d.owner ≡ Some s.number) _ done e refl
 
 of_did : (next : OwnerAction ℕ) (p : OwnerMachine ℕ) (last : Option Session) (owner : Owner) (done : Did) → owner.session ≡ last → did_in next p last owner ≡ Some done → number_of done.owner ≡ number_in last
-of_did (action.Reply r) p last owner done is e = by_told (reply_as r) e
+of_did (action.Reply r) p last owner done is e = by_told (reply_as (item_in last) r) e
   where
     by_told : (told : Option Told) → reply_did told p owner ≡ Some done → number_of done.owner ≡ number_in last
     by_told (Some told) e = moved (λ (d : Did). number_of d.owner ≡ number_in last) _ done e (ap number_in is)
     by_told None e = absurd cc
 of_did action.Close p (Some s) owner done is e = moved (λ (d : Did). number_of d.owner ≡ Some s.number) _ done (piped_some s.goods _ done e) refl
 of_did (action.Drain most) p (Some s) owner done is e = moved (λ (d : Did). number_of d.owner ≡ Some s.number) _ done (through_some OfBytes s.goods _ done e).1 (of_drain (drained (reach most s) s) p s owner is)
+of_did action.Receive p (Some s) owner done is e = moved (λ (d : Did). number_of d.owner ≡ Some s.number) _ done (through_some OfItems s.goods _ done e).1 (of_receive (received s) p s owner is)
 of_did action.PollSlot p (Some s) owner done is e = of_look s.slot.content p s owner done e
 of_did (action.Fill most) p last owner done is e =
     by_fill (λ o. o ≡ Some done → number_of done.owner ≡ number_in last) p owner.asked last owner (λ e. absurd cc)
