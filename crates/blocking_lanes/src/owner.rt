@@ -399,7 +399,7 @@ impl Owner {
         let Some(session) = &mut self.session else {
             return None;
         };
-        if session.is_of_bytes() {
+        if !session.is_of_items() {
             return None;
         }
         let mut poll = poll;
