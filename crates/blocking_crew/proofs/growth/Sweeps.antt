@@ -15,7 +15,7 @@ use Rattle.blocking_crew.specs.Closing.{NoneDue}
 use Rattle.blocking_crew.specs.Tickets.{JobPool, SweepsTo, SweepsIf, WaitsSo, no_growth, is_valued, AreValued, to_sweep, is_due_to_sweep, is_marked_ticket}
 use Rattle.blocking_crew.proofs.Types.{WorkerPass, Standing, Running, Parked, Waited, Stay, Stop, Ticket}
 use Rattle.blocking_crew.proofs.growth.Calls.{is_marked_so, enters_again}
-use Rattle.blocking_crew.proofs.jobs.Kept.{PoolKept, same_pool, requeued_kept, stay_valued, swept_parked, none_due, sweeps_nothing}
+use Rattle.blocking_crew.proofs.jobs.Tickets.{PoolKept, same_pool, requeued_kept, stay_valued, swept_parked, none_due, sweeps_nothing}
 use Rattle.blocking_crew.proofs.growth.Reads.{IsRead, numbers_last}
 
 -- a parked job has its ticket
@@ -69,6 +69,10 @@ sweeps_keep false may_answer old new growth sweeps = same_pool old new sweeps.1
 sweeps_keep true may_answer old new growth sweeps =
     let left = left_by may_answer old new (to_sweep old) growth sweeps in
     record { jobs = rw left.jobs (requeued_kept old.jobs (to_sweep old) (swept_parked old)); level = left.level }
+
+pub sweep_serial : (timed_out : Bool) (may_answer : ℕ → Bool → Type 0) (old new : JobPool) (growth : Growth) → SweepsIf timed_out may_answer old growth new → new.next_serial ≡ old.next_serial
+sweep_serial false may_answer old new growth sweeps = ap (λ (p : JobPool). p.next_serial) sweeps.1
+sweep_serial true may_answer old new growth sweeps = (left_by may_answer old new (to_sweep old) growth sweeps).serial
 
 -- What a sweep does: these are put back, each job that doesn't run has its ticket, and none is due any more.
 pub record HasSwept (may_answer : ℕ → Bool → Type 0) (old : JobPool) (told : ℕ) (growth : Growth) (new : JobPool) : Type 0 where

@@ -8,7 +8,7 @@ use Rattle.blocking_pool.specs.Pools.{empty_pool}
 use Rattle.blocking_crew.specs.Crews.{Crew, IsReady, hand_at, with_hand, one_if_free, free_hands}
 use Rattle.blocking_crew.specs.Tickets.{JobPool, AreValued, is_valued}
 use Rattle.blocking_crew.proofs.Types.{WorkerPass, Hand, Out, Free, Holds, Held}
-use Rattle.blocking_crew.proofs.jobs.Kept.{PoolKept, runs_on, stay_valued}
+use Rattle.blocking_crew.proofs.jobs.Tickets.{PoolKept, runs_on, stay_valued}
 use Rattle.blocking_crew.proofs.hands.Rows.{IsAt, hand_set, hand_pushed, sum_set, sum_pushed}
 
 pub pool_ready : (crew : Crew) (pool : JobPool) → IsReady crew → PoolKept crew.pool pool → IsReady (record crew { pool = pool })

@@ -1,18 +1,21 @@
 -- A crew stays ready where a worker's hand changes with its pool.
-use Rattle.std.proofs.Common.{◌≡◌, ℕ, ◌+◌, ◌-◌, ◌<◌, ◌==◌, Bool, true, false, refl, sym, ap, ◌∙◌, subst, arith, Option, Some, None}
+use Rattle.std.proofs.Common.{◌≡◌, ℕ, ◌+◌, ◌-◌, ◌<◌, ◌==◌, Bool, true, false, refl, sym, ap, ◌∙◌, subst, arith, Option, Some, None, if◌then◌else◌}
+use Rattle.blocking_crew.proofs.jobs.Changes.{change_of, found_after}
+use Rattle.blocking_crew.specs.Moves.{Move, Parks, May, after}
 use Rattle.std.specs.Prelude.{option_map}
 use Rattle.std.specs.FinMap.{get, insert}
 use Rattle.std.proofs.lemmas.Bool.{ne_eqb, eqb-false, cond_both}
 use Rattle.blocking_pool.specs.Counts.{after_stop}
 use Rattle.blocking_pool.specs.Growth.{Growth}
-use Rattle.blocking_pool.specs.Jobs.{Job, Jobs, JobNumber, amend, if_at, is_running_job, is_running_as, entry_after_take, entry_after_park, entry_after_requeue}
-use Rattle.blocking_pool.specs.Pools.{without_job, after_park, after_return}
+use Rattle.blocking_pool.specs.Jobs.{Job, Jobs, JobNumber, if_at, is_running_job, is_running_as, entry_after_take, entry_after_park, entry_after_requeue}
+use Rattle.blocking_pool.specs.Pools.{without_job}
 use Rattle.blocking_crew.specs.Crews.{Crew, IsReady, hand_at, with_hand, one_if_free, free_hands}
 use Rattle.blocking_crew.specs.Tickets.{JobPool, AreValued, is_valued, TakesFront}
+use Rattle.blocking_crew.specs.declared.tickets.Parking.TheVariants as parking
 use Rattle.blocking_crew.proofs.Types.{Standing, WorkerPass, Hand, Out, Free, Holds, Held, Stage, Ticket}
 use Rattle.blocking_crew.proofs.hands.Rows.{IsAt, at_free, at_held, sum_set}
-use Rattle.blocking_crew.proofs.jobs.Kept.{removed_valued, removed_runs, with_ticket}
-use Rattle.blocking_crew.proofs.jobs.Lookups.{job_put, job_changed, changed_twice, taken_runs, runs_at}
+use Rattle.blocking_crew.proofs.jobs.Tickets.{removed_valued, removed_runs, with_ticket}
+use Rattle.blocking_crew.proofs.jobs.Lookups.{job_put, taken_runs, runs_at}
 use Rattle.blocking_crew.proofs.ready.Changes.{hand_ready}
 
 -- a free hand is that of an idle worker that has arrived
@@ -80,45 +83,32 @@ over_ready crew v held pass ready at =
     ended_ready crew (without_job crew.pool held.turn.serial) v held pass ready at refl refl
     (λ number apart. removed_runs crew.pool.jobs held.turn.serial number apart) (removed_valued crew.pool.jobs held.turn.serial ready.valued)
 
--- what ran beside a job that has changed runs on
-amended_runs : (jobs : Jobs Ticket) (t : ℕ) (change : Job Ticket → Job Ticket) (number : JobNumber) → (t == number.serial) ≡ false → is_running_as (amend jobs t change) number ≡ is_running_as jobs number
-amended_runs jobs t change number apart = ap (λ (o : Option (Job Ticket)). is_running_job (if_at number.place o)) (job_changed jobs t change number.serial false apart)
+park_valued : (ticket : Ticket) (found : Option (Job Ticket)) → is_valued (option_map (entry_after_park ticket) found) ≡ true
+park_valued ticket None = refl
+park_valued ticket (Some job) = with_ticket (entry_after_park ticket job) ticket refl
 
-amended_valued : (jobs : Jobs Ticket) (t : ℕ) (change : Job Ticket → Job Ticket) → ((found : Option (Job Ticket)) → is_valued found ≡ true → is_valued (option_map change found) ≡ true)
-    → AreValued jobs → AreValued (amend jobs t change)
-amended_valued jobs t change keeps valued s =
-    ap is_valued (job_changed jobs t change s (t == s) refl) ∙ cond_both (t == s) (option_map change (get jobs s)) (get jobs s) (λ found. is_valued found ≡ true) (λ is. keeps (get jobs s) (valued s)) (λ is. valued s)
-
-park_valued : (ticket : Ticket) (found : Option (Job Ticket)) → is_valued found ≡ true → is_valued (option_map (entry_after_park ticket) found) ≡ true
-park_valued ticket None has = refl
-park_valued ticket (Some job) has = with_ticket (entry_after_park ticket job) ticket refl
-
--- the job parks
-pub park_ready : (crew : Crew) (v : ℕ) (held : Held) (ticket : Ticket) (pass : WorkerPass) → IsReady crew → hand_at crew.hands v ≡ Holds held
-    → IsReady (record { pool = after_park crew.pool held.turn.serial ticket; hands = with_hand crew.hands v (Free pass) })
-park_ready crew v held ticket pass ready at =
-    ended_ready crew (after_park crew.pool held.turn.serial ticket) v held pass ready at refl refl
-    (λ number apart. amended_runs crew.pool.jobs held.turn.serial (entry_after_park ticket) number apart)
-    (amended_valued crew.pool.jobs held.turn.serial (entry_after_park ticket) (park_valued ticket) ready.valued)
-
--- a job that was parked and enters again has its ticket
 return_valued : (ticket : Ticket) (found : Option (Job Ticket)) → is_valued (option_map entry_after_requeue (option_map (entry_after_park ticket) found)) ≡ true
 return_valued ticket None = refl
 return_valued ticket (Some job) = refl
 
-returned_valued : (jobs : Jobs Ticket) (t : ℕ) (ticket : Ticket) → AreValued jobs → AreValued (amend (amend jobs t (entry_after_park ticket)) t entry_after_requeue)
-returned_valued jobs t ticket valued s =
-    ap is_valued (changed_twice jobs t (entry_after_park ticket) entry_after_requeue s (t == s) refl) ∙ cond_both (t == s) _ (get jobs s) (λ found. is_valued found ≡ true) (λ is. return_valued ticket (get jobs s)) (λ is. valued s)
+module _ (may_answer : ℕ → Bool → Type 0) (crew : Crew) (v : ℕ) (held : Held) (ticket : Ticket) (pass : WorkerPass) (pool : JobPool) (ready : IsReady crew) where
+  -- a move after which the job in the hand waits or is queued again, with its ticket
+  left_ready : (move : Move) → May may_answer crew move → hand_at crew.hands v ≡ Holds held → (after crew move).pool ≡ pool → ((s : ℕ) → (change_of crew move).which s ≡ (held.turn.serial == s))
+      → ((found : Option (Job Ticket)) → is_valued ((change_of crew move).becomes found) ≡ true) → pool.counts.idle ≡ crew.pool.counts.idle + 1 → pool.counts.arriving ≡ crew.pool.counts.arriving
+      → IsReady (record { pool = pool; hands = with_hand crew.hands v (Free pass) })
+  left_ready move may at same which has idle arriving =
+      let found = λ (s : ℕ). ap (λ (p : JobPool). get p.jobs s) (sym same) ∙ found_after may_answer crew move s may in
+      ended_ready crew pool v held pass ready at idle arriving
+      (λ number apart. ap (λ (o : Option (Job Ticket)). is_running_job (if_at number.place o))
+      (found number.serial ∙ ap (λ (b : Bool). if b then (change_of crew move).becomes (get crew.pool.jobs number.serial) else get crew.pool.jobs number.serial) (which number.serial ∙ apart)))
+      (λ s. ap is_valued (found s)
+      ∙ cond_both ((change_of crew move).which s) _ (get crew.pool.jobs s) (λ o. is_valued o ≡ true) (λ is. has (get crew.pool.jobs s)) (λ is. ready.valued s))
 
--- the job is queued again
-pub return_ready : (crew : Crew) (v : ℕ) (held : Held) (ticket : Ticket) (pass : WorkerPass) → IsReady crew → hand_at crew.hands v ≡ Holds held
-    → IsReady (record { pool = after_return crew.pool held.turn.serial ticket; hands = with_hand crew.hands v (Free pass) })
-return_ready crew v held ticket pass ready at =
-    ended_ready crew (after_return crew.pool held.turn.serial ticket) v held pass ready at refl refl
-    (λ number apart.
-    amended_runs (amend crew.pool.jobs held.turn.serial (entry_after_park ticket)) held.turn.serial entry_after_requeue number apart
-    ∙ amended_runs crew.pool.jobs held.turn.serial (entry_after_park ticket) number apart)
-    (returned_valued crew.pool.jobs held.turn.serial ticket ready.valued)
+  pub park_ready : May may_answer crew (Parks v held ticket (parking.Parked pass) pool) → IsReady (record { pool = pool; hands = with_hand crew.hands v (Free pass) })
+  park_ready may = left_ready (Parks v held ticket (parking.Parked pass) pool) may may.0 refl (λ s. refl) (park_valued ticket) (rw may.2.effect.2 refl) (rw may.2.effect.2 refl)
+
+  pub return_ready : May may_answer crew (Parks v held ticket (parking.Queued pass) pool) → IsReady (record { pool = pool; hands = with_hand crew.hands v (Free pass) })
+  return_ready may = left_ready (Parks v held ticket (parking.Queued pass) pool) may may.0 refl (λ s. refl) (return_valued ticket) (rw may.2.effect.2 refl) (rw may.2.effect.2 refl)
 
 -- ---- a worker stops
 

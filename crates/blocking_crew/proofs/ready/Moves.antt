@@ -10,7 +10,7 @@ use Rattle.blocking_crew.specs.declared.tickets.Parking.TheVariants as parking
 use Rattle.blocking_crew.specs.declared.hand.Stage.TheVariants as stage
 use Rattle.blocking_crew.proofs.Types.{Stay, Stop, Event}
 use Rattle.blocking_crew.proofs.growth.Sweeps.{sweeps_keep}
-use Rattle.blocking_crew.proofs.jobs.Kept.{all_kept}
+use Rattle.blocking_crew.proofs.jobs.Tickets.{all_kept}
 use Rattle.blocking_crew.proofs.ready.Changes.{pool_ready, push_ready}
 use Rattle.blocking_crew.proofs.ready.Hands.{pass_ready, turn_ready, over_ready, park_ready, return_ready, stop_ready, taken_ready}
 use Rattle.blocking_crew.proofs.ready.Pools.{adds_keep, wakes_keep, cancels_keep, let_go_keeps_pool}
@@ -26,8 +26,8 @@ ready_after may_answer crew (TakesJob v old to_drop turn ticket growth pool) rea
 ready_after may_answer crew (TakesNone v old pass) ready may = pass_ready crew v old pass ready may.0
 ready_after may_answer crew (Works v held act) ready may = turn_ready crew v held held.turn (stage_after act held.stage) ready may.0 refl
 ready_after may_answer crew (EndsTurn v held pass) ready may = over_ready crew v held pass ready may.0
-ready_after may_answer crew (Parks v held ticket (parking.Parked pass) pool) ready may = rw may.2.effect.2 (park_ready crew v held ticket pass ready may.0)
-ready_after may_answer crew (Parks v held ticket (parking.Queued pass) pool) ready may = rw may.2.effect.2 (return_ready crew v held ticket pass ready may.0)
+ready_after may_answer crew (Parks v held ticket (parking.Parked pass) pool) ready may = park_ready may_answer crew v held ticket pass pool ready may
+ready_after may_answer crew (Parks v held ticket (parking.Queued pass) pool) ready may = return_ready may_answer crew v held ticket pass pool ready may
 ready_after may_answer crew (Parks v held ticket (parking.HandedOut turn) pool) ready may = rw may.2.effect.2 (turn_ready crew v held turn stage.MustGiveUp ready may.0 may.2.effect.1)
 ready_after may_answer crew (HasWaited v pass end (Stay back) growth pool) ready may =
     let swept = pool_ready crew may.1.between ready (sweeps_keep (has_timed_out end) may_answer crew.pool may.1.between growth may.1.sweep) in

@@ -9,7 +9,7 @@ use Rattle.blocking_pool.specs.Pools.{with_job}
 use Rattle.blocking_pool.specs.Wakes.{wake_of, cancel_of}
 use Rattle.blocking_crew.specs.Tickets.{JobPool, new_ticket, ticket_after_mark, pool_after_mark_of, pool_after_mark, pool_after_let_go, is_valued, AddsTo, Wakes, WakesTo, Cancels, CancelsTo, EntersAgain}
 use Rattle.blocking_crew.proofs.Types.{Refusal, Memory, NoWorker, Numbers, Woke, Entered, Marked, Nothing, Parked, Ticket}
-use Rattle.blocking_crew.proofs.jobs.Kept.{PoolKept, same_pool, changed_kept, with_ticket, all_kept, kept_then, amended_kept, inserted_kept, requeued_kept}
+use Rattle.blocking_crew.proofs.jobs.Tickets.{PoolKept, same_pool, changed_kept, with_ticket, all_kept, kept_then, amended_kept, inserted_kept, requeued_kept}
 use Rattle.blocking_crew.proofs.jobs.Lookups.{woken_is, cancelled_is}
 
 -- ---- new jobs

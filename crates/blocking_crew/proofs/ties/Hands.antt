@@ -18,7 +18,7 @@ use Rattle.blocking_crew.specs.declared.tickets.Parking.TheVariants as parking
 use Rattle.blocking_crew.proofs.Types.{Stay, Stop, Standing, Queued, Running, Parked, WorkerPass, Act, Ended, JobParked, GaveUp, HolderWaker, Absent, Moment, Party, Worker, Step, Hand, Out, Free, Holds, Held, Stage}
 use Rattle.blocking_crew.proofs.hands.Rows.{IsAt, at_held, at_free, hand_set, hand_pushed, hand_next}
 use Rattle.blocking_crew.proofs.ties.Acts.{now_with, plain, aside_plain, by_work, by_let_go}
-use Rattle.blocking_crew.proofs.ties.Known.{held_runs, front_stands}
+use Rattle.blocking_crew.proofs.ties.Standings.{held_runs, front_stands}
 
 -- ---- a row of hands in which one has changed
 

@@ -77,7 +77,7 @@ stay_valued jobs new kept valued s = (kept s).valued (valued s)
 -- after one has changed
 pub amended_kept : (jobs : Jobs Ticket) (t : ℕ) (change : Job Ticket → Job Ticket) → IsKept (get jobs t) (option_map change (get jobs t)) → AreKept jobs (amend jobs t change)
 amended_kept jobs t change kept s =
-    subst (IsKept (get jobs s)) (sym (job_changed jobs t change s (t == s) refl))
+    subst (IsKept (get jobs s)) (sym (job_changed jobs t change s (get jobs t) refl))
     (cond_both (t == s) (option_map change (get jobs s)) (get jobs s) (IsKept (get jobs s)) (λ same. subst (λ (n : ℕ). IsKept (get jobs n) (option_map change (get jobs n))) (eqb-true t s same) kept) (λ same. same_kept (get jobs s)))
 
 fresh_kept : (found : Option (Job Ticket)) (job : Job Ticket) → found ≡ None → is_valued (Some job) ≡ true → IsKept found (Some job)
