@@ -1,11 +1,15 @@
 pub mod Cores
 pub mod Faults
+pub mod Items
 pub mod Machines
+pub mod Operations
 pub mod OwnerCalls
 pub mod PipeAnswers
 pub mod Pipes
 pub mod Places
+pub mod Positions
 pub mod Reading
+pub mod Seeks
 pub mod SlotAnswers
 pub mod Slots
 pub mod Writing

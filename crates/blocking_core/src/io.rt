@@ -23,6 +23,34 @@ pub enum JobFault<E> {
     WriteZero,
 }
 
+/// Where a seek goes, in bytes.
+#[derive(Clone, Copy, Debug, PartialEq, Eq)]
+pub enum Position {
+    /// So far behind the start.
+    Start(u64),
+    /// So far behind where the handle is now, or before that.
+    Current(i64),
+    /// So far behind the end, or before that.
+    End(i64),
+}
+
+impl Position {
+    ghost use Rattle.std.specs.Prelude.{◌≡◌};
+    ghost use Rattle.blocking_core.specs.Positions.{same_position};
+
+    /// Whether both say the same: the same offset, from the same place.
+    pub fn is_same(self, other: Position) -> bool
+        ensures { result ≡ same_position self other }
+    {
+        match (self, other) {
+            (Position::Start(here), Position::Start(there)) => here == there,
+            (Position::Current(here), Position::Current(there)) => here == there,
+            (Position::End(here), Position::End(there)) => here == there,
+            _ => false,
+        }
+    }
+}
+
 impl<E> From<JobFault<E>> for Fault<E> {
     ghost use Rattle.std.specs.Prelude.{◌≡◌};
     ghost use Rattle.blocking_core.specs.Faults.{told};

@@ -17,6 +17,19 @@ pub trait Call {
         ensures { may_give result };
 }
 
+/// A call on a handle, that a job makes once.
+pub trait CallOn<T> {
+    /// What the call gives.
+    type Out;
+
+    /// What a call of this type may give: a relation of the type, and not of the one value.
+    ghost may_give: { Self.Out → Type 0 };
+
+    /// Makes the call.
+    fn call_on(self, io: &mut T) -> Self::Out
+        ensures { may_give result };
+}
+
 #[derive(Debug, Drop)]
 enum Content<T: Drop> {
     Empty,

@@ -4,6 +4,8 @@ pub mod ReadSessions
 pub mod WriteSessions
 pub mod Drains
 pub mod Fills
+pub mod States
+pub mod Known
 pub mod Cuts
 pub mod OwnerActs
 pub mod PoolAnswers

@@ -10,7 +10,7 @@ use Rattle.blocking_laws.specs.Queue.{entered_by, taken_by, ended_by}
 use Rattle.blocking_laws.specs.Seen.{is_of_pool}
 use Rattle.blocking_laws.specs.Steps.{is_there}
 use Rattle.blocking_laws.specs.Turns.{FitsTurn, HoldsOne, turn, hand}
-use Rattle.blocking_laws.specs.declared.event.Act.TheVariants.{Took, Taken as TakenOut}
+use Rattle.blocking_laws.specs.declared.event.Act.TheVariants.{Took, Taken as TakenOut, ResultPut}
 use Rattle.blocking_crew.specs.Crews.{Crew, may_act, stage_after, outcome_of, standing_after}
 use Rattle.blocking_crew.specs.Moves.{is_aside, seen}
 use Rattle.blocking_crew.specs.Ties.{FiledHere, Handed, turn_of}
@@ -159,6 +159,7 @@ by_work P goes_on parks gives_up stage.Runs (Peeked bytes) may = goes_on stage.R
 by_work P goes_on parks gives_up stage.Runs Drained may = goes_on stage.Runs Drained refl refl refl
 by_work P goes_on parks gives_up stage.Runs (TakenOut n waker) may = goes_on stage.Runs (TakenOut n waker) refl refl refl
 by_work P goes_on parks gives_up stage.Runs (JobClosed waker) may = goes_on stage.Runs (JobClosed waker) refl refl refl
+by_work P goes_on parks gives_up stage.Runs (ResultPut waker) may = goes_on stage.Runs (ResultPut waker) refl refl refl
 by_work P goes_on parks gives_up stage.Runs (Finished waker) may = goes_on stage.Runs (Finished waker) refl refl refl
 by_work P goes_on parks gives_up stage.Runs HolderWoken may = goes_on stage.Runs HolderWoken refl refl refl
 by_work P goes_on parks gives_up stage.Runs _ may = absurd cc

@@ -6,7 +6,7 @@ use Rattle.blocking_core.specs.Pipes.{room}
 use Rattle.blocking_core.specs.Places.{Served, Waiting, Closed, drain}
 use Rattle.blocking_core.specs.Slots.{Slot, Empty, Full}
 use Rattle.blocking_core.specs.declared.io.Fault.{Fault}
-use Rattle.blocking_laws.specs.JobTable.{Kind, Calling, Reading, Writing, JobAction, FindRoom, AskBytes, PutPiece, Peek, OfferBytes, Consume, AskFlush, CloseEnd, Finish, Over, next_but_wake, fault, has_finished, has_given_up}
+use Rattle.blocking_laws.specs.JobTable.{Kind, Reading, Writing, JobAction, FindRoom, AskBytes, PutPiece, Peek, OfferBytes, Consume, AskFlush, CloseEnd, Finish, Over, next_but_wake, fault, has_finished, has_given_up}
 use Rattle.blocking_laws.specs.Sessions as sessions
 use Rattle.blocking_laws.specs.declared.event.Act.{Act}
 use Rattle.blocking_lanes.specs.OwnerTies.{SessionAs, SlotAs, Flows, IsStuckIn, IsOwnerStuckIn, Passed, passed_by, PassedAs, Wrote, wrote_by, WrittenAs, IsDrained, IsDone}
@@ -109,7 +109,7 @@ shut_flow s Writing shut took accepted next acts t = record {
   ungiven = t.ungiven;
   unclosed = t.unclosed;
 }
-shut_flow s Calling shut took accepted next acts t = absurd t
+shut_flow s _ shut took accepted next acts t = absurd t
 
 -- where the slot is another, what went through the pipe is the same
 pub same_flow : (s : Session) (slot : Slot (Option (Fault ℕ)) (Unit {0})) (kind : Kind) (shut : Bool) (took accepted : List ℕ) (next : JobAction) (acts : List Act)
@@ -135,24 +135,24 @@ same_flow s slot Writing shut took accepted next acts t = record {
   ungiven = t.ungiven;
   unclosed = t.unclosed;
 }
-same_flow s slot Calling shut took accepted next acts t = absurd t
+same_flow s slot _ shut took accepted next acts t = absurd t
 
 -- who can't go on at the pipe can't where the slot is another
 pub same_stuck : (s : Session) (slot : Slot (Option (Fault ℕ)) (Unit {0})) (kind : Kind) → IsStuckIn kind s → IsStuckIn kind (record s { slot = slot })
 same_stuck s slot Writing e = e
 same_stuck s slot Reading e = e
-same_stuck s slot Calling e = e
+same_stuck s slot _ e = e
 
 pub same_owner_stuck : (s : Session) (slot : Slot (Option (Fault ℕ)) (Unit {0})) (kind : Kind) → IsOwnerStuckIn kind s → IsOwnerStuckIn kind (record s { slot = slot })
 same_owner_stuck s slot Writing e = e
 same_owner_stuck s slot Reading e = e
-same_owner_stuck s slot Calling e = e
+same_owner_stuck s slot _ e = e
 
 -- an owner that can't go on still can't where its end is closed
 shut_stuck : (s : Session) (kind : Kind) → IsOwnerStuckIn kind s → IsOwnerStuckIn kind (session_after_close s)
 shut_stuck s Writing e = e
 shut_stuck s Reading e = e
-shut_stuck s Calling e = e
+shut_stuck s _ e = e
 
 -- ---- each act, of a session of any kind
 
@@ -288,7 +288,13 @@ module _ (s : Session) (capacity : ℕ) (last : Option sessions.Session) (shut b
 abbrev pub IsLending : Kind → Type 0
 IsLending Reading = Unit {0}
 IsLending Writing = Unit {0}
-IsLending Calling = ⊥
+IsLending _ = ⊥
+
+-- what goes through a session's pipe tells that it is such a one
+pub lends : (s : Session) (shut : Bool) (got accepted : List ℕ) (next : JobAction) (acts : List Act) (kind : Kind) → Flows kind s shut got accepted next acts → IsLending kind
+lends s shut got accepted next acts Reading flow = tt
+lends s shut got accepted next acts Writing flow = tt
+lends s shut got accepted next acts _ flow = absurd flow
 
 pub begins : (number : JobNumber) (kind : Kind) (capacity : ℕ) (dropped : Bool) → IsLending kind → 0 < capacity
     → SessionAs (new_session number capacity) kind capacity (Some (record { serial = number.serial; kind = kind })) false false dropped [] [] [] false false false
@@ -325,4 +331,4 @@ begins number Writing capacity dropped lending some = record {
     reason = record { job = λ seated. absurd (cc); owner = λ seated. absurd (cc); slot = λ seated. absurd (cc) };
   };
 }
-begins number Calling capacity dropped lending some = absurd lending
+begins number _ capacity dropped lending some = absurd lending

@@ -63,10 +63,7 @@ plain_fills p (Some (handle_call.Write (byte ∷ bytes))) (Some s) owner done e 
     moved (λ (d : Did). IsPlain [] d.act) _ done e (plain_fill (byte ∷ bytes) (filled (length (byte ∷ bytes)) s) p s owner)
 plain_fills p (Some (handle_call.Write (byte ∷ bytes))) None owner done e = absurd (cc)
 plain_fills p (Some (handle_call.Write [])) last owner done e = absurd (cc)
-plain_fills p (Some (handle_call.Read n)) last owner done e = absurd (cc)
-plain_fills p (Some handle_call.Flush) last owner done e = absurd (cc)
-plain_fills p (Some handle_call.Close) last owner done e = absurd (cc)
-plain_fills p (Some handle_call.GetMut) last owner done e = absurd (cc)
+plain_fills p (Some _) last owner done e = absurd (cc)
 plain_fills p None last owner done e = absurd (cc)
 
 plain_look : (content : Content (Option (Fault ℕ))) (p : OwnerMachine ℕ) (s : Session) (owner : Owner) (done : Did) → look_did (looked_as content) p s owner ≡ Some done → IsPlain [] done.act
@@ -87,15 +84,8 @@ plain_did action.DropHandle p last owner done e = moved (λ (d : Did). IsPlain [
 plain_did action.Close p (Some s) owner done e = moved (λ (d : Did). IsPlain [] d.act) _ done e (record { pool = refl; nothing = refl; made = refl; new = refl })
 plain_did (action.Drain most) p (Some s) owner done e = moved (λ (d : Did). IsPlain [] d.act) _ done e (plain_drain (drained (reach most s) s) p s owner)
 plain_did action.PollSlot p (Some s) owner done e = plain_look s.slot.content p (session_after_look s.slot.content s) owner done e
-plain_did action.Close p None owner done e = absurd (cc)
-plain_did (action.Drain most) p None owner done e = absurd (cc)
-plain_did action.PollSlot p None owner done e = absurd (cc)
-plain_did action.Begin p None owner done e = absurd (cc)
-plain_did action.Begin p (Some s) owner done e = absurd (cc)
-plain_did action.Deliver p None owner done e = absurd (cc)
-plain_did action.Deliver p (Some s) owner done e = absurd (cc)
-plain_did action.Pending p None owner done e = absurd (cc)
-plain_did action.Pending p (Some s) owner done e = absurd (cc)
+plain_did _ p None owner done e = absurd (cc)
+plain_did _ p (Some s) owner done e = absurd (cc)
 
 plain_room : (met : Met ℕ) → IsPlain [] (seen_room met)
 plain_room (Served n) = record { pool = refl; nothing = refl; made = refl; new = refl }

@@ -14,7 +14,7 @@ use Rattle.blocking_core.specs.declared.job.read.ReadAction.TheVariants as read
 use Rattle.blocking_core.specs.declared.job.write.WriteAction.{WriteAction}
 use Rattle.blocking_core.specs.declared.job.write.WriteAction.TheVariants as write
 use Rattle.blocking_laws.specs.Ends.{EndsTruly, back_by, came_back}
-use Rattle.blocking_laws.specs.JobTable.{Kind, Reading, Writing, JobAction, AskCall, FindRoom, AskBytes, PutPiece, Peek, OfferBytes, Consume, AskFlush, piece, CloseEnd, Finish, WakeHolder, Over, next_but_wake, next_of_job, is_over, is_answer, takes_waker, is_taken, fault, has_finished, has_given_up}
+use Rattle.blocking_laws.specs.JobTable.{Kind, Reading, Writing, JobAction, AskCall, AskItem, AskSeek, AskResult, FindRoom, AskBytes, PutPiece, Peek, OfferBytes, Consume, AskFlush, piece, CloseEnd, Finish, WakeHolder, Over, next_but_wake, next_of_job, is_over, is_answer, takes_waker, is_taken, fault, number, has_finished, has_given_up}
 use Rattle.blocking_laws.specs.JobTable as job
 use Rattle.blocking_laws.specs.OwnerLaws.{JobActs, Works}
 use Rattle.blocking_laws.specs.OwnerSeats.{place_of, is_job_seated, job_seated_by, pipe_seat, pipe_seated_by, slot_seat, slot_seated_by}
@@ -75,6 +75,9 @@ answers_it cut AskCall answer is = is
 answers_it cut (AskBytes n) answer is = is
 answers_it cut (OfferBytes bytes) answer is = is
 answers_it cut AskFlush answer is = is
+answers_it cut AskItem answer is = is
+answers_it cut AskSeek answer is = is
+answers_it cut AskResult answer is = is
 answers_it cut _ answer is = absurd (cc)
 
 module _ (bytes : ℕ) (asked : Option HandleCall) (here : OwnerStage) (s : Session) (h v first : ℕ) (growth : Growth) (cut : List Event) (t : OwnerAs (owner_by_parts bytes asked here (Some s)) cut) where
@@ -136,7 +139,7 @@ module _ (bytes : ℕ) (asked : Option HandleCall) (here : OwnerStage) (s : Sess
     pub lawful : JobActs cut s.number.serial k act
     pub ends : EndsTruly cut act
     pub back : (here : List Event) (before : Option (List Event)) → back_by act here before ≡ before
-    pub faults : over ≡ true → (any : Kind) → fault any (act ∷ acts) ≡ fault any acts
+    pub faults : over ≡ true → (any : Kind) → (fault any (act ∷ acts) ≡ fault any acts) × (number (act ∷ acts) ≡ number acts)
     pub session :
         Tied (record { number = s.number; pipe = pipe; slot = slot }) k (act ∷ acts)
         (job_seated_by act (is_job_seated cut)) (pipe_seated_by act (place_of (next_of_owner cut)) (pipe_seat cut))
@@ -165,6 +168,7 @@ module _ (bytes : ℕ) (asked : Option HandleCall) (here : OwnerStage) (s : Sess
           asked = t.asked;
           polled = t.polled;
           bytes = t.bytes;
+          calls = t.calls;
           stage = subst (λ n. StageBy here (sessions.call (own cut)) (sessions.state (own cut)) n (law.is_at_end (own cut)) (came_back (e ∷ cut)) (newest_note (own cut))) (sym next)
               (subst (λ b. StageBy here (sessions.call (own cut)) (sessions.state (own cut)) (owner_next_but_wake cut (own cut)) (law.is_at_end (own cut)) b (newest_note (own cut)))
               (sym (k.back (e ∷ cut) (came_back cut))) t.stage);
@@ -185,11 +189,14 @@ module _ (bytes : ℕ) (asked : Option HandleCall) (here : OwnerStage) (s : Sess
         };
       }
     where
-      same_fault : over ≡ true → (any : Kind) (n : ℕ) (b : Bool) → (s.number.serial == n) ≡ b → fault any (acts_of n (event act ∷ cut)) ≡ fault any (acts_of n cut)
+      same_fault : over ≡ true → (any : Kind) (n : ℕ) (b : Bool) → (s.number.serial == n) ≡ b
+          → (fault any (acts_of n (event act ∷ cut)) ≡ fault any (acts_of n cut)) × (number (acts_of n (event act ∷ cut)) ≡ number (acts_of n cut))
       same_fault is any n true test =
           let same : s.number.serial ≡ n = grind (arith, nat_tests) in
-          subst (λ m. fault any (acts_of m (event act ∷ cut)) ≡ fault any (acts_of m cut)) same (ap (fault any) (acts_more act k.pool k.nothing) ∙ k.faults is any)
-      same_fault is any n false test = ap (fault any) (acts_other act n k.pool k.nothing test)
+          let more = acts_more act k.pool k.nothing in
+          subst (λ m. (fault any (acts_of m (event act ∷ cut)) ≡ fault any (acts_of m cut)) × (number (acts_of m (event act ∷ cut)) ≡ number (acts_of m cut))) same
+          (ap (fault any) more ∙ (k.faults is any).0, ap number more ∙ (k.faults is any).1)
+      same_fault is any n false test = let other = acts_other act n k.pool k.nothing test in (ap (fault any) other, ap number other)
 
   -- ---- the acts of a job that reads, at the session
 
@@ -230,7 +237,7 @@ module _ (bytes : ℕ) (asked : Option HandleCall) (here : OwnerStage) (s : Sess
           lawful = lawful_at p FindRoom (RoomFree (suc n)) r (ap (action_as p.piece) is) (ap seen_room (sym found ∙ room_found));
           ends = tt;
           back = λ here before. refl;
-          faults = λ is kind. refl;
+          faults = λ is kind. (refl, refl);
           session = finds s (bound bytes) began shut over gone took written acts js ps ss (suc n) found (tied FindRoom (table read.FindRoom a));
           ended = λ e. e;
           told = λ e. inr e;
@@ -243,7 +250,7 @@ module _ (bytes : ℕ) (asked : Option HandleCall) (here : OwnerStage) (s : Sess
           lawful = lawful_at p FindRoom JobParked r (ap (action_as p.piece) is) (ap seen_room (sym found ∙ room_found));
           ends = tt;
           back = λ here before. refl;
-          faults = λ is kind. refl;
+          faults = λ is kind. (refl, refl);
           session = parks s (bound bytes) began shut over gone took written acts js ps ss found (table read.FindRoom a) last;
           ended = λ e. e;
           told = λ e. inr e;
@@ -256,7 +263,7 @@ module _ (bytes : ℕ) (asked : Option HandleCall) (here : OwnerStage) (s : Sess
           lawful = lawful_at p FindRoom RoomShut r (ap (action_as p.piece) is) (ap seen_room (sym found ∙ room_found));
           ends = tt;
           back = λ here before. refl;
-          faults = λ is kind. refl;
+          faults = λ is kind. (refl, refl);
           session = finds_shut s (bound bytes) began shut over gone took written acts js ps ss found (tied FindRoom (table read.FindRoom a));
           ended = λ e. e;
           told = λ e. inr e;
@@ -282,7 +289,7 @@ module _ (bytes : ℕ) (asked : Option HandleCall) (here : OwnerStage) (s : Sess
           lawful = lawful_at p (PutPiece p.piece) act r (ap (action_as p.piece) is) (ap (seen_put (length p.piece)) (sym found ∙ put_found));
           ends = tt;
           back = λ here before. refl;
-          faults = λ is kind. refl;
+          faults = λ is kind. (refl, refl);
           session = puts s (bound bytes) began shut over gone took written acts js ps ss p.piece (waker_in (is_some seat)) seat found here;
           ended = λ e. absurd (let closed = e.1 in let lasts = here.flow.passed_is.0 in cc);
           told = λ e. subst (λ o. (is_taken (waker_in (is_some o)) ≡ true) ⊎ (is_some s.slot.seat ≡ true)) (sym took_it) (taken_first (is_some s.pipe.owner_seat) (is_some s.slot.seat) e);
@@ -296,7 +303,7 @@ module _ (bytes : ℕ) (asked : Option HandleCall) (here : OwnerStage) (s : Sess
           lawful = lawful_at p (PutPiece p.piece) act r (ap (action_as p.piece) is) (ap (seen_put (length p.piece)) (sym found ∙ put_found));
           ends = tt;
           back = λ here before. refl;
-          faults = λ is kind. refl;
+          faults = λ is kind. (refl, refl);
           session = loses s (bound bytes) began shut over gone took written acts js ps ss p.piece found (tied (PutPiece p.piece) (table (read.Put count) a));
           ended = λ e. e;
           told = λ e. inr e;
@@ -315,7 +322,7 @@ module _ (bytes : ℕ) (asked : Option HandleCall) (here : OwnerStage) (s : Sess
           lawful = lawful_at p CloseEnd act r (ap (action_as p.piece) is) (ap (λ b. JobClosed (waker_in b)) (sym t.last.seats.owner));
           ends = tt;
           back = λ here before. refl;
-          faults = λ is kind. refl;
+          faults = λ is kind. (refl, refl);
           session = closes s Reading (bound bytes) began shut over gone took written acts js ps ss (waker_in woke) here;
           ended = λ e. absurd (let closed = e.1 in let lasts = here.flow.passed_is.0 in cc);
           told = λ e. taken_first (is_some s.pipe.owner_seat) (is_some s.slot.seat) e;
@@ -336,7 +343,7 @@ module _ (bytes : ℕ) (asked : Option HandleCall) (here : OwnerStage) (s : Sess
           lawful = lawful_at p Finish act r (ap (action_as p.piece) is) (ap (λ b. Finished (waker_in b)) (sits ∙ sym t.last.seats.slot));
           ends = tt;
           back = λ here before. refl;
-          faults = λ is kind. refl;
+          faults = λ is kind. (refl, refl);
           session = finishes s Reading (bound bytes) began shut over gone took written acts js ps ss (waker_in woke) p.fault r.fault_is here;
           ended = λ e. e;
           told = λ e. taken_last (is_some s.pipe.owner_seat) (is_some s.slot.seat) woke _ sits e;
@@ -394,7 +401,7 @@ module _ (bytes : ℕ) (asked : Option HandleCall) (here : OwnerStage) (s : Sess
           lawful = writer_lawful p Peek (Peeked found) r (ap (writes.action_as p.piece) is) (ap seen_peek (sym shows ∙ piece_found));
           ends = tt;
           back = λ here before. refl;
-          faults = λ is kind. refl;
+          faults = λ is kind. (refl, refl);
           session = peeks s (bound bytes) began shut over gone took written acts js ps ss found shows (writer_tied Peek (writer_table write.Peek a));
           ended = λ e. e;
           told = λ e. inr e;
@@ -407,7 +414,7 @@ module _ (bytes : ℕ) (asked : Option HandleCall) (here : OwnerStage) (s : Sess
           lawful = writer_lawful p Peek JobParked r (ap (writes.action_as p.piece) is) (ap seen_peek (sym shows ∙ piece_found));
           ends = tt;
           back = λ here before. refl;
-          faults = λ is kind. refl;
+          faults = λ is kind. (refl, refl);
           session = peek_parks s (bound bytes) began shut over gone took written acts js ps ss shows (writer_table write.Peek a) writer_last;
           ended = λ e. e;
           told = λ e. inr e;
@@ -420,7 +427,7 @@ module _ (bytes : ℕ) (asked : Option HandleCall) (here : OwnerStage) (s : Sess
           lawful = writer_lawful p Peek Drained r (ap (writes.action_as p.piece) is) (ap seen_peek (sym shows ∙ piece_found));
           ends = tt;
           back = λ here before. refl;
-          faults = λ is kind. refl;
+          faults = λ is kind. (refl, refl);
           session = drains s (bound bytes) began shut over gone took written acts js ps ss shows (writer_tied Peek (writer_table write.Peek a));
           ended = λ e. e;
           told = λ e. inr e;
@@ -439,7 +446,7 @@ module _ (bytes : ℕ) (asked : Option HandleCall) (here : OwnerStage) (s : Sess
           lawful = writer_lawful p (Consume n) act r (ap (writes.action_as p.piece) is) (ap (λ b. TakenOut n (waker_in b)) (sym t.last.seats.owner));
           ends = tt;
           back = λ here before. refl;
-          faults = λ is kind. refl;
+          faults = λ is kind. (refl, refl);
           session = consumes s (bound bytes) began shut over gone took written acts js ps ss n (waker_in woke) here;
           ended = λ e. absurd (let closed = e.1 in let lasts = here.flow.written_is.0 in cc);
           told = λ e. taken_first (is_some s.pipe.owner_seat) (is_some s.slot.seat) e;
@@ -458,7 +465,7 @@ module _ (bytes : ℕ) (asked : Option HandleCall) (here : OwnerStage) (s : Sess
           lawful = writer_lawful p CloseEnd act r (ap (writes.action_as p.piece) is) (ap (λ b. JobClosed (waker_in b)) (sym t.last.seats.owner));
           ends = tt;
           back = λ here before. refl;
-          faults = λ is kind. refl;
+          faults = λ is kind. (refl, refl);
           session = closes s Writing (bound bytes) began shut over gone took written acts js ps ss (waker_in woke) here;
           ended = λ e. absurd (let closed = e.1 in let lasts = here.flow.written_is.0 in cc);
           told = λ e. taken_first (is_some s.pipe.owner_seat) (is_some s.slot.seat) e;
@@ -480,7 +487,7 @@ module _ (bytes : ℕ) (asked : Option HandleCall) (here : OwnerStage) (s : Sess
           lawful = writer_lawful p Finish act r (ap (writes.action_as p.piece) is) (ap (λ b. Finished (waker_in b)) (sits ∙ sym t.last.seats.slot));
           ends = tt;
           back = λ here before. refl;
-          faults = λ is kind. refl;
+          faults = λ is kind. (refl, refl);
           session = finishes s Writing (bound bytes) began shut over gone took written acts js ps ss (waker_in woke) why r.fault_is here;
           ended = λ e. e;
           told = λ e. taken_last (is_some s.pipe.owner_seat) (is_some s.slot.seat) woke _ sits e;
@@ -523,7 +530,7 @@ module _ (bytes : ℕ) (asked : Option HandleCall) (here : OwnerStage) (s : Sess
         lawful = (dropped, goes, ap waker_in (sits ∙ sym t.last.seats.slot));
         ends = tt;
         back = λ here before. refl;
-        faults = λ is any. refl;
+        faults = λ is any. (refl, refl);
         session = gives_up s kind (bound bytes) began shut over gone took written acts js ps ss (waker_in woke) goes dropped t.last;
         ended = λ e. e;
         told = λ e. taken_last (is_some s.pipe.owner_seat) (is_some s.slot.seat) woke _ sits e;

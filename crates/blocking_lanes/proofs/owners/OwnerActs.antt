@@ -18,10 +18,12 @@ use Rattle.blocking_core.specs.declared.unblock.OwnerAnswer.TheVariants as by
 use Rattle.blocking_core.specs.declared.unblock.OwnerEnd.TheVariants.{Open, Shut}
 use Rattle.blocking_core.specs.declared.unblock.Reply.{Reply}
 use Rattle.blocking_core.specs.declared.unblock.Reply.TheVariants as reply
+use Rattle.blocking_core.specs.declared.unblock.SessionKind.{SessionKind}
+use Rattle.blocking_core.specs.declared.unblock.SessionKind.TheVariants as session_kind
 use Rattle.blocking_core.specs.declared.unblock.State.{State}
 use Rattle.blocking_core.specs.declared.unblock.State.TheVariants as state
 use Rattle.blocking_laws.specs.Ends.{EndsTruly, IsTrueEnd, came_back, IsReadBack, IsReadWhole, IsFlushed, IsFlushedIf, IsFlushedBack, handle_answers, has_failure, has_failed_write, has_flush, is_failure, last_is_end}
-use Rattle.blocking_laws.specs.JobTable.{Kind, Calling, Reading, Writing, JobAction, Over, next_but_wake, is_over, earlier, fault, fault_in, has_closed, has_finished, has_given_up}
+use Rattle.blocking_laws.specs.JobTable.{Kind, Reading, Writing, JobAction, Over, next_but_wake, is_over, earlier, fault, fault_in, number, has_closed, has_finished, has_given_up}
 use Rattle.blocking_laws.specs.OwnerLaws.{OwnerMayAct, Polls}
 use Rattle.blocking_laws.specs.OwnerTable.{next_of_owner, deliver_first, owner_next_but_wake}
 use Rattle.blocking_laws.specs.OwnerTable as law
@@ -30,6 +32,7 @@ use Rattle.blocking_laws.specs.Passed.{gave, got, accepted, data_of, taken as ta
 use Rattle.blocking_laws.specs.Places.{seen_drain, seen_fill, poll_slot}
 use Rattle.blocking_laws.specs.Seen.{own, acts_of, is_some_worker}
 use Rattle.blocking_laws.specs.Sessions as sessions
+use Rattle.blocking_laws.specs.Steps.{is_known}
 use Rattle.blocking_laws.specs.declared.event.Act.{Act}
 use Rattle.blocking_laws.specs.declared.event.Act.TheVariants.{OwnerClosed, Got, GotEnd, Filled, FillShut, Waits, Back, Replied, Answered}
 use Rattle.blocking_laws.specs.declared.event.Event.{Event}
@@ -43,14 +46,15 @@ use Rattle.blocking_pool.specs.Growth.{Growth}
 use Rattle.blocking_pool.specs.Jobs.{JobNumber}
 use Rattle.blocking_lanes.specs.Owners.{Owner, Did, capacity_of, note_at, goes_on, close_did, drain_did, fill_did, fill_did_in, drop_did, look_did, looked_as, poll_call_of, reply_as, reply_did, did_in, did_by, did, is_gone}
 use Rattle.blocking_lanes.specs.OwnerSteps.{by_owner}
-use Rattle.blocking_lanes.specs.OwnerTies.{OwnerAs, SlotAs, Passed, passed_by, PassedAs, GaveAll, WrittenAs, wrote_by, PollAs, FitsNext, IsGoneBy, IsLentOpen, LooksFrom, EndAs, StageBy, SessionAs, IsAtEnd, called_at, state_as, say, action_as, seat_of}
+use Rattle.blocking_lanes.specs.OwnerTies.{OwnerAs, SlotAs, Passed, passed_by, PassedAs, GaveAll, WrittenAs, wrote_by, PollAs, FitsNext, IsGoneBy, IsLentOpen, LooksFrom, EndAs, StageBy, SessionAs, IsAtEnd, called_at, kind_as, state_as, say, action_as, seat_of}
 use Rattle.blocking_lanes.specs.Sessions.{Session, serial_of, reach, drained, filled, session_after_close, session_after_drain, session_after_fill, session_after_look}
 use Rattle.blocking_lanes.specs.declared.owner.OwnerStage.{OwnerStage}
 use Rattle.blocking_lanes.specs.declared.owner.OwnerStage.TheVariants as stage
+use Rattle.blocking_lanes.proofs.owners.Known.{known_call}
 use Rattle.blocking_lanes.proofs.owners.Cuts.{not_not, next_with, inside_is, room_is, lasts_is, open_is, noted_is, its_job, drain_act, drain_seen}
 use Rattle.blocking_lanes.proofs.owners.Fills.{fills, fill_waits, filled_some, filled_note, fill_act, fill_seen}
 use Rattle.blocking_lanes.proofs.owners.Drains.{shuts, takes, waits, returns, waits_for_it, front, at_end, reached}
-use Rattle.blocking_lanes.proofs.owners.Wakes.{session_is_last}
+use Rattle.blocking_lanes.proofs.owners.States.{IsThere, is_away, gone_is, lent_at, lent_by, is_there, piped}
 
 -- an owner by its parts
 abbrev pub owner_by_parts : ℕ → Option HandleCall → OwnerStage → Option Session → Owner
@@ -70,49 +74,6 @@ pub record Goes (new : Owner) (cut : List Event) (e : Event) : Type 0 where
 abbrev pub value_of : {A : Type 0} → A → Option A → A
 value_of other None = other
 value_of other (Some value) = value
-
--- ---- where the handle is
-
--- whether the handle is gone
-abbrev pub is_away : State → Bool
-is_away state.Closed = true
-is_away _ = false
-
--- what the law tells of it, where the machine knows where it is
-pub away_is : (closed : Bool) (r : Option sessions.Session) (shut : Bool) (st : State) → sessions.state_by closed r shut ≡ state_as st → closed ≡ is_away st
-away_is true r shut state.Closed e = refl
-away_is true r shut state.Idle e = absurd (cc)
-away_is true r shut (state.Reading Open) e = absurd (cc)
-away_is true r shut (state.Reading Shut) e = absurd (cc)
-away_is true r shut (state.Writing Open) e = absurd (cc)
-away_is true r shut (state.Writing Shut) e = absurd (cc)
-away_is false None shut state.Closed e = absurd (cc)
-away_is false (Some r) shut state.Closed e = absurd (cc)
-away_is false r shut state.Idle e = refl
-away_is false r shut (state.Reading end) e = refl
-away_is false r shut (state.Writing end) e = refl
-
--- whether the handle was dropped by a close
-pub gone_is : (acts : List Act) (st : State) → sessions.state acts ≡ state_as st → sessions.is_closed acts ≡ is_away st
-gone_is acts st e = away_is (sessions.is_closed acts) (sessions.session acts) (sessions.is_shut acts) st e
-
--- where it isn't gone it is with its owner, or with a job
-pub lent_by : (acts : List Act) (st : State) → is_away st ≡ false → sessions.state acts ≡ state_as st → sessions.state_in (sessions.session acts) (sessions.is_shut acts) ≡ state_as st
-lent_by acts st there e = ap (λ b. sessions.state_by b (sessions.session acts) (sessions.is_shut acts)) (sym (gone_is acts st e ∙ there)) ∙ e
-
--- of a handle that is lent the last session has the kind, and tells whether the own end of its pipe is open
-pub lent_at : (acts : List Act) (k : Kind) (opened : Bool) → sessions.state acts ≡ sessions.In k opened
-    → (kind_in (sessions.last_session acts) ≡ k) × (not (sessions.is_shut acts) ≡ opened) × (is_none (sessions.session acts) ≡ false)
-lent_at acts k opened e = by (sessions.is_closed acts) (sessions.session acts) refl e
-  where
-    by : (closed : Bool) (r : Option sessions.Session) → sessions.session acts ≡ r → sessions.state_by closed r (sessions.is_shut acts) ≡ sessions.In k opened
-        → (kind_in (sessions.last_session acts) ≡ k) × (not (sessions.is_shut acts) ≡ opened) × (is_none (sessions.session acts) ≡ false)
-    by true r is e = absurd (cc)
-    by false None is e = absurd (cc)
-    by false (Some r) is e =
-        let same : r.kind ≡ k = cc in
-        let ends : not (sessions.is_shut acts) ≡ opened = cc in
-        (ap kind_in (session_is_last acts r is) ∙ same, ends, ap is_none is)
 
 -- ---- the machine of a poll
 
@@ -254,17 +215,13 @@ module _ (bytes : ℕ) (asked : Option HandleCall) (p : OwnerMachine ℕ) (s : S
 
   shut_state : (closed : Bool) (r : Option sessions.Session) (shut : Bool) (st : State) → IsLentOpen st → sessions.state_by closed r shut ≡ state_as st
       → sessions.state_by closed r true ≡ state_as (machine.shut st)
-  shut_state true r shut (state.Reading Open) opened e = absurd (cc)
-  shut_state true r shut (state.Writing Open) opened e = absurd (cc)
-  shut_state false None shut (state.Reading Open) opened e = absurd (cc)
-  shut_state false None shut (state.Writing Open) opened e = absurd (cc)
-  shut_state false (Some r) shut (state.Reading Open) opened e = let same : r.kind ≡ Reading = cc in ap (λ k. sessions.In k false) same
-  shut_state false (Some r) shut (state.Writing Open) opened e = let same : r.kind ≡ Writing = cc in ap (λ k. sessions.In k false) same
+  shut_state true r shut (state.Lent kind Open) opened e = absurd (cc)
+  shut_state false None shut (state.Lent kind Open) opened e = absurd (cc)
+  shut_state false (Some r) shut (state.Lent kind Open) opened e = let same : r.kind ≡ kind_as kind = cc in ap (λ k. sessions.In k false) same
   shut_state closed r shut _ opened e = absurd opened
 
   shut_looks : (c : HandleCall) (st : State) (ended : Bool) → IsLentOpen st → ended ≡ false → LooksFrom c (machine.shut st) ended
-  shut_looks c (state.Reading Open) ended opened e = subst (λ b. LooksFrom c (state.Reading Shut) b) (sym e) tt
-  shut_looks c (state.Writing Open) ended opened e = subst (λ b. LooksFrom c (state.Writing Shut) b) (sym e) tt
+  shut_looks c (state.Lent kind Open) ended opened e = subst (λ b. LooksFrom c (state.Lent kind Shut) b) (sym e) tt
   shut_looks c _ ended opened e = absurd opened
 
   close_goes : p.next ≡ action.Close → Old → Goes (close_did p s polling).owner cut (by_owner h (OwnerClosed (serial_of s.pipe.job_seat)) first growth)
@@ -293,6 +250,7 @@ module _ (bytes : ℕ) (asked : Option HandleCall) (p : OwnerMachine ℕ) (s : S
           asked = t.asked;
           polled = t.polled ∙ still_called q note asked;
           bytes = t.bytes;
+          calls = t.calls;
           stage = goes_on_so q note (sessions.call (own cut)) (sessions.state (own (e ∷ cut))) law.PollSlot false (came_back cut) polled refl;
           last = shuts s kind (bound bytes) began shut over gone took written acts js ps ss t.last;
           ended = λ is_end. absurd (cc);
@@ -347,6 +305,7 @@ module _ (bytes : ℕ) (asked : Option HandleCall) (p : OwnerMachine ℕ) (s : S
           asked = t.asked;
           polled = t.polled ∙ still_called q found.1 asked;
           bytes = t.bytes;
+          calls = t.calls;
           stage = goes_on_so q found.1 (sessions.call (own cut)) (sessions.state (own cut)) (law.Say (told.Count (length found.0))) false (came_back cut) polled refl;
           last = subst (λ k. SessionAs (session_after_drain (Served found) s) k (bound bytes) began shut over gone (took ++ found.0) written acts false ps ss) (sym lent.0) last;
           ended = λ is_end. absurd (cc);
@@ -373,6 +332,7 @@ module _ (bytes : ℕ) (asked : Option HandleCall) (p : OwnerMachine ℕ) (s : S
           asked = t.asked;
           polled = refl;
           bytes = t.bytes;
+          calls = t.calls;
           stage = (t.stage.0.at_is, refl, refl);
           last = subst (λ n. SessionAs (session_after_drain Waiting s) kind (bound bytes) began shut over gone took written acts js (pipe_seated_by Waits (place_of n) ps) (slot_seated_by Waits (place_of n) ss)) (sym at_pipe)
               (subst (λ k. SessionAs (session_after_drain Waiting s) k (bound bytes) began shut over gone took written acts js true ss) (sym lent.0) last);
@@ -400,6 +360,7 @@ module _ (bytes : ℕ) (asked : Option HandleCall) (p : OwnerMachine ℕ) (s : S
           asked = t.asked;
           polled = t.polled;
           bytes = t.bytes;
+          calls = t.calls;
           stage = (
             record {
               call = c;
@@ -434,7 +395,7 @@ module _ (bytes : ℕ) (asked : Option HandleCall) (p : OwnerMachine ℕ) (s : S
   pub record Writes (offered : List ℕ) (t : Old) : Type 0 where
     pub call_is : t.stage.0.call ≡ handle_call.Write offered
     pub some : 0 < length offered
-    pub at : p.state ≡ state.Writing Open
+    pub at : p.state ≡ state.Lent session_kind.Writing Open
     pub kind_is : kind ≡ Writing
     pub open_is : shut ≡ false
     pub next_is : next_of_owner cut ≡ law.Fill offered
@@ -491,6 +452,7 @@ module _ (bytes : ℕ) (asked : Option HandleCall) (p : OwnerMachine ℕ) (s : S
           asked = t.asked;
           polled = t.polled ∙ still_called q went.1 asked;
           bytes = t.bytes;
+          calls = t.calls;
           stage = goes_on_so q went.1 (sessions.call (own cut)) (sessions.state (own cut)) (law.Say (told.Count went.0)) false (came_back cut) polled refl;
           last = subst (λ k. SessionAs (session_after_fill offered (Served went) s) k (bound bytes) began shut over gone took (accepted (own (seen ∷ cut))) acts false ps ss) (sym w.kind_is)
               (subst (λ l. SessionAs (session_after_fill offered (Served went) s) Writing (bound bytes) began shut over gone took (written ++ take went.0 l) acts false ps ss) offer last);
@@ -511,6 +473,7 @@ module _ (bytes : ℕ) (asked : Option HandleCall) (p : OwnerMachine ℕ) (s : S
           asked = t.asked;
           polled = refl;
           bytes = t.bytes;
+          calls = t.calls;
           stage = (t.stage.0.at_is, refl, refl);
           last = subst (λ n. SessionAs (session_after_fill offered Waiting s) kind (bound bytes) began shut over gone took written acts js (pipe_seated_by Waits (place_of n) ps) (slot_seated_by Waits (place_of n) ss)) (sym w.next_is)
               (subst (λ k. SessionAs (session_after_fill offered Waiting s) k (bound bytes) began shut over gone took written acts js true ss) (sym w.kind_is) last);
@@ -535,6 +498,7 @@ module _ (bytes : ℕ) (asked : Option HandleCall) (p : OwnerMachine ℕ) (s : S
           asked = t.asked;
           polled = t.polled;
           bytes = t.bytes;
+          calls = t.calls;
           stage = (
             record {
               call = c;
@@ -563,13 +527,9 @@ module _ (bytes : ℕ) (asked : Option HandleCall) (p : OwnerMachine ℕ) (s : S
   looks_away c _ ended looks = refl
 
   lent_state : (c : HandleCall) (st : State) (ended : Bool) → LooksFrom c st ended → (r : Option sessions.Session) (b : Bool) → sessions.state_in r b ≡ state_as st → is_none r ≡ false
+  lent_state c (state.Lent kind end) ended looks None b e = absurd (cc)
+  lent_state c (state.Lent kind end) ended looks (Some r) b e = refl
   lent_state c state.Idle ended looks r b e = absurd looks
-  lent_state c (state.Reading Open) ended looks None b e = absurd (cc)
-  lent_state c (state.Reading Shut) ended looks None b e = absurd (cc)
-  lent_state c (state.Writing Open) ended looks None b e = absurd (cc)
-  lent_state c (state.Writing Shut) ended looks None b e = absurd (cc)
-  lent_state c (state.Reading end) ended looks (Some r) b e = refl
-  lent_state c (state.Writing end) ended looks (Some r) b e = refl
   lent_state c state.Closed ended looks r b e = absurd looks
 
   shut_now : (k : Kind) (r : Option sessions.Session) (b : Bool) → sessions.state_in r b ≡ sessions.In k false → not b ≡ false
@@ -577,12 +537,12 @@ module _ (bytes : ℕ) (asked : Option HandleCall) (p : OwnerMachine ℕ) (s : S
   shut_now k (Some r) b e = cc
 
   -- one end of its pipe was closed
-  closed_end : (c : HandleCall) (st : State) (ended : Bool) → LooksFrom c st ended → sessions.state_in (sessions.session (own cut)) shut ≡ state_as st
+  closed_end : (c : HandleCall) (st : State) (ended : Bool) → LooksFrom c st ended → IsThere st → sessions.state_in (sessions.session (own cut)) shut ≡ state_as st
       → shut ≡ not s.pipe.is_owner_open → (ended ≡ true → IsAtEnd s) → (s.pipe.is_owner_open ≡ false) ⊎ (s.pipe.is_job_open ≡ false)
-  closed_end c (state.Reading Shut) false looks at lent ends = inl (sym (not_not shut s.pipe.is_owner_open lent) ∙ shut_now Reading (sessions.session (own cut)) shut at)
-  closed_end c (state.Writing Shut) false looks at lent ends = inl (sym (not_not shut s.pipe.is_owner_open lent) ∙ shut_now Writing (sessions.session (own cut)) shut at)
-  closed_end (handle_call.Read most) (state.Reading Open) true looks at lent ends = inr (ends refl).1
-  closed_end _ _ _ looks at lent ends = absurd looks
+  closed_end c (state.Lent kind Shut) false looks there at lent ends = inl (sym (not_not shut s.pipe.is_owner_open lent) ∙ shut_now (kind_as kind) (sessions.session (own cut)) shut at)
+  closed_end c (state.Lent kind Open) false looks there at lent ends = absurd (let pipe = piped kind there in cc)
+  closed_end (handle_call.Read most) (state.Lent session_kind.Reading Open) true looks there at lent ends = inr (ends refl).1
+  closed_end _ _ _ looks there at lent ends = absurd looks
 
   -- it finds nothing yet, and is seated
   slot_waits : p.next ≡ action.PollSlot → Old → s.slot.content ≡ Empty
@@ -595,7 +555,7 @@ module _ (bytes : ℕ) (asked : Option HandleCall) (p : OwnerMachine ℕ) (s : S
       let at = lent_by (own cut) p.state (looks_away c p.state p.is_at_end fits.0) t.stage.0.at_is in
       let going_on = lent_state c p.state p.is_at_end fits.0 (sessions.session (own cut)) shut at in
       let unfinished = ap has_finished (its_job s (bound bytes) cut t.last) ∙ slot.0 ∙ going_on in
-      let closed = closed_end c p.state p.is_at_end fits.0 at t.last.lent.shut_is (λ is_end. t.ended (sym fits.1 ∙ is_end)) in
+      let closed = closed_end c p.state p.is_at_end fits.0 (is_there (Some s) (bound bytes) cut p.state t.last t.stage.0.at_is) at t.last.lent.shut_is (λ is_end. t.ended (sym fits.1 ∙ is_end)) in
       record {
         acts = subst (λ n. Polls cut n Waits) (sym at_slot) (ap poll_slot (sym unfinished));
         ends = tt;
@@ -605,6 +565,7 @@ module _ (bytes : ℕ) (asked : Option HandleCall) (p : OwnerMachine ℕ) (s : S
           asked = t.asked;
           polled = refl;
           bytes = t.bytes;
+          calls = t.calls;
           stage = (t.stage.0.at_is, refl, refl);
           last = subst (λ n. SessionAs (session_after_look Empty s) kind (bound bytes) began shut over gone took written acts js (pipe_seated_by Waits (place_of n) ps) (slot_seated_by Waits (place_of n) ss)) (sym at_slot)
               (waits_for_it s kind (bound bytes) began shut over gone took written acts js ps ss empty closed t.last);
@@ -615,13 +576,13 @@ module _ (bytes : ℕ) (asked : Option HandleCall) (p : OwnerMachine ℕ) (s : S
         };
       }
 
-  -- what the law says once the handle is back, by the call that is asked and the fault that the job met
-  abbrev once_back : Option HandleCall → Option (Fault ℕ) → Bool → law.OwnerAction
-  once_back None why ended = law.Rest
-  once_back (Some call) why ended = law.after_back call why ended
+  -- what the law says once the handle is back, by the call that is asked, the fault that the job met, its kind and its last number
+  abbrev once_back : Option HandleCall → Option (Fault ℕ) → Bool → Kind → ℕ → law.OwnerAction
+  once_back None why ended of n = law.Rest
+  once_back (Some call) why ended of n = law.after_back call why ended of n
 
   at_back_is : (asked : Option HandleCall) (r : sessions.Session) (ended : Bool) (seen : List Event)
-      → law.at_back asked (Some r) ended seen ≡ once_back asked (fault r.kind (acts_of r.serial seen)) ended
+      → law.at_back asked (Some r) ended seen ≡ once_back asked (fault r.kind (acts_of r.serial seen)) ended r.kind (number (acts_of r.serial seen))
   at_back_is None r ended seen = refl
   at_back_is (Some call) r ended seen = refl
 
@@ -630,53 +591,58 @@ module _ (bytes : ℕ) (asked : Option HandleCall) (p : OwnerMachine ℕ) (s : S
   is_read (handle_call.Read most) = true
   is_read _ = false
 
-  reads_end : (c : HandleCall) (st : State) → LooksFrom c st true → (is_read c ≡ true) × (st ≡ state.Reading Open)
-  reads_end (handle_call.Read most) (state.Reading Open) looks = (refl, refl)
-  reads_end c (state.Reading Shut) looks = absurd looks
-  reads_end c (state.Writing Open) looks = absurd looks
-  reads_end c (state.Writing Shut) looks = absurd looks
+  reads_end : (c : HandleCall) (st : State) → LooksFrom c st true → (is_read c ≡ true) × (st ≡ state.Lent session_kind.Reading Open)
+  reads_end (handle_call.Read most) (state.Lent session_kind.Reading Open) looks = (refl, refl)
+  reads_end c (state.Lent kind Shut) looks = absurd looks
   reads_end c state.Idle looks = absurd looks
   reads_end c state.Closed looks = absurd looks
-  reads_end _ (state.Reading Open) looks = absurd looks
+  reads_end _ (state.Lent _ Open) looks = absurd looks
 
   -- what follows once the handle is back
-  after_back_is : (c : HandleCall) (st : State) (ended : Bool) (why : Option (Fault ℕ)) → LooksFrom c st ended
-      → law.after_back c why ended ≡ action_as c (machine.after_back (poll_call_of c) ended why)
-  after_back_is (handle_call.Read most) st ended (Some why) looks = refl
-  after_back_is (handle_call.Read most) st true None looks = refl
-  after_back_is (handle_call.Read zero) st false None looks = refl
-  after_back_is (handle_call.Read (suc n)) st false None looks = refl
-  after_back_is (handle_call.Write offered) st ended (Some why) looks = refl
-  after_back_is (handle_call.Write []) st false None looks = refl
-  after_back_is (handle_call.Write (byte ∷ more)) st false None looks = refl
-  after_back_is (handle_call.Write offered) st true None looks = absurd (let reads = (reads_end (handle_call.Write offered) st looks).0 in cc)
-  after_back_is handle_call.Flush st ended (Some why) looks = refl
-  after_back_is handle_call.Flush st false None looks = refl
-  after_back_is handle_call.Flush st true None looks = absurd (let reads = (reads_end handle_call.Flush st looks).0 in cc)
-  after_back_is handle_call.Close st ended (Some why) looks = refl
-  after_back_is handle_call.Close st false None looks = refl
-  after_back_is handle_call.Close st true None looks = absurd (let reads = (reads_end handle_call.Close st looks).0 in cc)
-  after_back_is handle_call.GetMut st false None looks = refl
-  after_back_is handle_call.GetMut st false (Some why) looks = refl
-  after_back_is handle_call.GetMut st true why looks = absurd (let reads = (reads_end handle_call.GetMut st looks).0 in cc)
+  after_back_is : (c : HandleCall) (st : State) (ended : Bool) (why : Option (Fault ℕ)) (of : Kind) (last : ℕ) → is_known c ≡ true → LooksFrom c st ended
+      → law.after_back c why ended of last ≡ action_as c (machine.after_back (poll_call_of c) ended why)
+  after_back_is (handle_call.Read most) st ended (Some why) of last known looks = refl
+  after_back_is (handle_call.Read most) st true None of last known looks = refl
+  after_back_is (handle_call.Read zero) st false None of last known looks = refl
+  after_back_is (handle_call.Read (suc n)) st false None of last known looks = refl
+  after_back_is (handle_call.Write offered) st ended (Some why) of last known looks = refl
+  after_back_is (handle_call.Write []) st false None of last known looks = refl
+  after_back_is (handle_call.Write (byte ∷ more)) st false None of last known looks = refl
+  after_back_is (handle_call.Write offered) st true None of last known looks = absurd (let reads = (reads_end (handle_call.Write offered) st looks).0 in cc)
+  after_back_is handle_call.Flush st ended (Some why) of last known looks = refl
+  after_back_is handle_call.Flush st false None of last known looks = refl
+  after_back_is handle_call.Flush st true None of last known looks = absurd (let reads = (reads_end handle_call.Flush st looks).0 in cc)
+  after_back_is handle_call.Close st ended (Some why) of last known looks = refl
+  after_back_is handle_call.Close st false None of last known looks = refl
+  after_back_is handle_call.Close st true None of last known looks = absurd (let reads = (reads_end handle_call.Close st looks).0 in cc)
+  after_back_is handle_call.GetMut st false None of last known looks = refl
+  after_back_is handle_call.GetMut st false (Some why) of last known looks = refl
+  after_back_is handle_call.GetMut st true why of last known looks = absurd (let reads = (reads_end handle_call.GetMut st looks).0 in cc)
+  after_back_is _ st ended why of last known looks = absurd (cc)
 
   -- and it fits
-  back_fits : (q : OwnerMachine ℕ) (c : HandleCall) (st : State) (ended : Bool) (why : Option (Fault ℕ)) (back : Option (List Event)) → LooksFrom c st ended → q.state ≡ state.Idle → q.is_at_end ≡ ended
+  back_fits : (q : OwnerMachine ℕ) (c : HandleCall) (st : State) (ended : Bool) (why : Option (Fault ℕ)) (back : Option (List Event)) → is_known c ≡ true → LooksFrom c st ended → q.state ≡ state.Idle → q.is_at_end ≡ ended
       → (ended ≡ true → why ≡ None → IsReadBack back) → (why ≡ None → IsFlushedBack back) → FitsNext c q (machine.after_back (poll_call_of c) ended why) false back
-  back_fits q (handle_call.Read most) st ended (Some why) back looks at end whole flushed = failed_fits (handle_call.Read most) q why false back
-  back_fits q (handle_call.Read zero) st true None back looks at end whole flushed = (refl, tt, tt)
-  back_fits q (handle_call.Read (suc n)) st true None back looks at end whole flushed = (refl, whole refl refl, tt)
-  back_fits q (handle_call.Read zero) st false None back looks at end whole flushed = (refl, tt, tt)
-  back_fits q (handle_call.Read (suc n)) st false None back looks at end whole flushed = (tt, at, end)
-  back_fits q (handle_call.Write offered) st ended (Some why) back looks at end whole flushed = (refl, tt, tt)
-  back_fits q (handle_call.Write []) st false None back looks at end whole flushed = (refl, tt, tt)
-  back_fits q (handle_call.Write (byte ∷ more)) st false None back looks at end whole flushed = (tt, at, end)
-  back_fits q (handle_call.Write offered) st true None back looks at end whole flushed = absurd (let reads = (reads_end (handle_call.Write offered) st looks).0 in cc)
-  back_fits q handle_call.Flush st ended (Some why) back looks at end whole flushed = (refl, tt, tt)
-  back_fits q handle_call.Flush st ended None back looks at end whole flushed = (refl, flushed refl, tt)
-  back_fits q handle_call.Close st ended (Some why) back looks at end whole flushed = (refl, tt, tt)
-  back_fits q handle_call.Close st ended None back looks at end whole flushed = (refl, at, flushed refl)
-  back_fits q handle_call.GetMut st ended why back looks at end whole flushed = (refl, tt, tt)
+  back_fits q (handle_call.Read most) st ended (Some why) back known looks at end whole flushed = failed_fits (handle_call.Read most) q why false back
+  back_fits q (handle_call.Read zero) st true None back known looks at end whole flushed = (refl, tt, tt)
+  back_fits q (handle_call.Read (suc n)) st true None back known looks at end whole flushed = (refl, whole refl refl, tt)
+  back_fits q (handle_call.Read zero) st false None back known looks at end whole flushed = (refl, tt, tt)
+  back_fits q (handle_call.Read (suc n)) st false None back known looks at end whole flushed = (tt, at, end)
+  back_fits q (handle_call.Write offered) st ended (Some why) back known looks at end whole flushed = (refl, tt, tt)
+  back_fits q (handle_call.Write []) st false None back known looks at end whole flushed = (refl, tt, tt)
+  back_fits q (handle_call.Write (byte ∷ more)) st false None back known looks at end whole flushed = (tt, at, end)
+  back_fits q (handle_call.Write offered) st true None back known looks at end whole flushed = absurd (let reads = (reads_end (handle_call.Write offered) st looks).0 in cc)
+  back_fits q handle_call.Flush st ended (Some why) back known looks at end whole flushed = (refl, tt, tt)
+  back_fits q handle_call.Flush st true None back known looks at end whole flushed = (refl, flushed refl, tt)
+  back_fits q handle_call.Flush st false None back known looks at end whole flushed = (refl, flushed refl, tt)
+  back_fits q handle_call.Close st ended (Some why) back known looks at end whole flushed = (refl, tt, tt)
+  back_fits q handle_call.Close st true None back known looks at end whole flushed = (refl, at, flushed refl)
+  back_fits q handle_call.Close st false None back known looks at end whole flushed = (refl, at, flushed refl)
+  back_fits q handle_call.GetMut st true None back known looks at end whole flushed = (refl, tt, tt)
+  back_fits q handle_call.GetMut st true (Some why) back known looks at end whole flushed = (refl, tt, tt)
+  back_fits q handle_call.GetMut st false None back known looks at end whole flushed = (refl, tt, tt)
+  back_fits q handle_call.GetMut st false (Some why) back known looks at end whole flushed = (refl, tt, tt)
+  back_fits q _ st ended why back known looks at end whole flushed = absurd (cc)
 
   -- a job that finished is over
   over_now : Old → has_finished acts ≡ true → next_but_wake kind acts ≡ Over
@@ -717,7 +683,7 @@ module _ (bytes : ℕ) (asked : Option HandleCall) (p : OwnerMachine ℕ) (s : S
   flushed_if : (k : Kind) → (k ≡ Writing → IsFlushed (by_owner h Back first growth ∷ cut)) → IsFlushedIf k (by_owner h Back first growth ∷ cut)
   flushed_if Writing flushed = flushed refl
   flushed_if Reading flushed = tt
-  flushed_if Calling flushed = tt
+  flushed_if _ flushed = tt
 
   back_goes : p.next ≡ action.PollSlot → Old → (why : Option (Fault ℕ)) → s.slot.content ≡ Full why
       → Goes (owner_by_parts bytes asked (stage.Polls (owner_after p (by.Back why))) (Some (session_after_look (Full why) s))) cut (by_owner h Back first growth)
@@ -730,12 +696,14 @@ module _ (bytes : ℕ) (asked : Option HandleCall) (p : OwnerMachine ℕ) (s : S
       let same : owner_after p (by.Back why) ≡ q =
       turned p action.PollSlot (by.Back why) t.stage.1 is ∙ ap (λ k. record p { state = state.Idle; next = machine.after_back k p.is_at_end why }) t.stage.0.call_is in
       let finished = ap has_finished (its_job s (bound bytes) cut t.last) ∙ slot.0 in
-      let table : law.at_back (sessions.call (own cut)) began (law.is_at_end (own cut)) (e ∷ cut) ≡ law.after_back c why p.is_at_end =
+      let known = known_call (own cut) c t.calls t.stage.0.asked_is in
+      let last_number = number acts in
+      let table : law.at_back (sessions.call (own cut)) began (law.is_at_end (own cut)) (e ∷ cut) ≡ law.after_back c why p.is_at_end kind last_number =
       ap (λ c. law.at_back c began (law.is_at_end (own cut)) (e ∷ cut)) t.stage.0.asked_is
       ∙ ap (λ r. law.at_back (Some c) r (law.is_at_end (own cut)) (e ∷ cut)) t.last.lent.begun
       ∙ at_back_is (Some c) (record { serial = s.number.serial; kind = kind }) (law.is_at_end (own cut)) (e ∷ cut)
-      ∙ ap (λ f. once_back (Some c) f (law.is_at_end (own cut))) (sym slot.3)
-      ∙ ap (λ b. once_back (Some c) why b) (sym fits.1) in
+      ∙ ap (λ f. once_back (Some c) f (law.is_at_end (own cut)) kind last_number) (sym slot.3)
+      ∙ ap (λ b. once_back (Some c) why b kind last_number) (sym fits.1) in
       let there = looks_away c p.state p.is_at_end fits.0 in
       let whole = λ (is_end : p.is_at_end ≡ true) (none : why ≡ None).
       (let here = reads_end c p.state (subst (λ b. LooksFrom c p.state b) is_end fits.0) in
@@ -751,14 +719,15 @@ module _ (bytes : ℕ) (asked : Option HandleCall) (p : OwnerMachine ℕ) (s : S
           asked = t.asked;
           polled = t.polled;
           bytes = t.bytes;
+          calls = t.calls;
           stage = (
             record {
               call = c;
               asked_is = t.stage.0.asked_is;
               call_is = t.stage.0.call_is;
               at_is = ap (λ b. sessions.state_by b None shut) (gone_is (own cut) p.state t.stage.0.at_is ∙ there);
-              next_is = table ∙ after_back_is c p.state p.is_at_end why fits.0;
-              fits = back_fits q c p.state p.is_at_end why (Some (e ∷ cut)) fits.0 refl refl whole flushed;
+              next_is = table ∙ after_back_is c p.state p.is_at_end why kind last_number known fits.0;
+              fits = back_fits q c p.state p.is_at_end why (Some (e ∷ cut)) known fits.0 refl refl whole flushed;
             },
             t.stage.1,
             refl,
@@ -790,6 +759,10 @@ end_is c r back said same e = subst (λ told. IsTrueEnd (Some c) (value_of said 
     by_reply handle_call.Flush reply.Done same e = e
     by_reply handle_call.Close reply.Done same e = e
     by_reply (handle_call.Read (suc n)) (reply.Count (suc k)) same e = tt
+    by_reply c (reply.Position place) same e = absurd (cc)
+    by_reply c reply.Item same e = absurd (cc)
+    by_reply handle_call.Next reply.End same e = e
+    by_reply c reply.Result same e = absurd (cc)
     by_reply c reply.Closed same e = absurd (cc)
     by_reply _ _ same e = tt
 
@@ -798,16 +771,21 @@ after_reply : (c : HandleCall) (r : Reply ℕ) (said : Told) (closed : Bool) (la
     → sessions.state_by closed last shut ≡ state_as st → sessions.state_by (sessions.ends_close said (Some c) || closed) last shut ≡ state_as st
 after_reply c r (told.Count n) closed last shut st same away e = e
 after_reply c r told.Handle closed last shut st same away e = e
+after_reply c r (told.OneItem x) closed last shut st same away e = e
+after_reply c r told.NoMore closed last shut st same away e = e
 after_reply c r (told.Failed why) closed last shut st same away e = e
-after_reply c (reply.Count n) told.Okay closed last shut st same away e = absurd (cc)
-after_reply c reply.Handle told.Okay closed last shut st same away e = absurd (cc)
-after_reply c (reply.Failed why) told.Okay closed last shut st same away e = absurd (cc)
-after_reply c reply.Closed told.Okay closed last shut st same away e = absurd (cc)
+after_reply c r (told.NotBegun why) closed last shut st same away e = e
 after_reply handle_call.Close reply.Done told.Okay closed last shut st same away e = sym (ap state_as away)
 after_reply (handle_call.Read n) reply.Done told.Okay closed last shut st same away e = e
 after_reply (handle_call.Write l) reply.Done told.Okay closed last shut st same away e = e
 after_reply handle_call.Flush reply.Done told.Okay closed last shut st same away e = e
 after_reply handle_call.GetMut reply.Done told.Okay closed last shut st same away e = e
+after_reply (handle_call.Seek position) reply.Done told.Okay closed last shut st same away e = e
+after_reply handle_call.Next reply.Done told.Okay closed last shut st same away e = e
+after_reply handle_call.Operate reply.Done told.Okay closed last shut st same away e = e
+after_reply handle_call.OperateAgain reply.Done told.Okay closed last shut st same away e = e
+after_reply handle_call.IntoInner reply.Done told.Okay closed last shut st same away e = e
+after_reply c _ told.Okay closed last shut st same away e = absurd (cc)
 
 reply_goes : (bytes : ℕ) (asked : Option HandleCall) (p : OwnerMachine ℕ) (last : Option Session) (h first : ℕ) (growth : Growth) (cut : List Event) (r : Reply ℕ) (said : Told)
     → p.next ≡ action.Reply r → reply_as r ≡ Some said → OwnerAs (owner_by_parts bytes asked (stage.Polls p) last) cut
@@ -824,6 +802,7 @@ reply_goes bytes asked p last h first growth cut r said is same t =
         asked = t.asked;
         polled = refl;
         bytes = t.bytes;
+        calls = t.calls;
         stage = (
           ap (λ c. sessions.state_by (sessions.ends_close said c || sessions.is_closed (own cut)) (sessions.session (own cut)) (sessions.is_shut (own cut))) t.stage.0.asked_is
               ∙ after_reply c r said (sessions.is_closed (own cut)) (sessions.session (own cut)) (sessions.is_shut (own cut)) p.state same fits.2 t.stage.0.at_is,
@@ -856,6 +835,7 @@ drops_goes bytes asked p last h first growth cut is t =
         asked = t.asked;
         polled = refl;
         bytes = t.bytes;
+        calls = t.calls;
         stage = (
           ap (λ c. sessions.state_by (sessions.ends_close told.Okay c || sessions.is_closed (own cut)) (sessions.session (own cut)) (sessions.is_shut (own cut))) called,
           refl,
@@ -881,10 +861,7 @@ own_fills bytes (Some (handle_call.Write (byte ∷ more))) p h first growth cut 
     (fill_goes bytes asks p s h first growth cut (byte ∷ more) t (fills_so bytes asks p s h first growth cut (byte ∷ more) most refl is t) (filled (length (byte ∷ more)) s) refl)
 own_fills bytes (Some (handle_call.Write (byte ∷ more))) p h first growth cut done most None is t does = absurd (cc)
 own_fills bytes (Some (handle_call.Write [])) p h first growth cut done most last is t does = absurd (cc)
-own_fills bytes (Some (handle_call.Read n)) p h first growth cut done most last is t does = absurd (cc)
-own_fills bytes (Some handle_call.Flush) p h first growth cut done most last is t does = absurd (cc)
-own_fills bytes (Some handle_call.Close) p h first growth cut done most last is t does = absurd (cc)
-own_fills bytes (Some handle_call.GetMut) p h first growth cut done most last is t does = absurd (cc)
+own_fills bytes (Some _) p h first growth cut done most last is t does = absurd (cc)
 own_fills bytes None p h first growth cut done most last is t does = absurd (cc)
 
 own_by : (bytes : ℕ) (asked : Option HandleCall) (p : OwnerMachine ℕ) (h first : ℕ) (growth : Growth) (cut : List Event) (done : Did) (next : OwnerAction ℕ) (last : Option Session) → p.next ≡ next
@@ -905,15 +882,8 @@ own_by bytes asked p h first growth cut done (action.Drain most) (Some s) is t d
     subst (λ (d : Did). Goes d.owner cut (by_owner h d.act first growth)) (ap (value_of done) does)
     (drain_goes bytes asked p s h first growth cut most is t (drained (reach most s) s) refl)
 own_by bytes asked p h first growth cut done action.PollSlot (Some s) is t does = look_goes bytes asked p s h first growth cut is t s.slot.content refl done does
-own_by bytes asked p h first growth cut done action.Close None is t does = absurd (cc)
-own_by bytes asked p h first growth cut done (action.Drain most) None is t does = absurd (cc)
-own_by bytes asked p h first growth cut done action.PollSlot None is t does = absurd (cc)
-own_by bytes asked p h first growth cut done action.Begin None is t does = absurd (cc)
-own_by bytes asked p h first growth cut done action.Begin (Some s) is t does = absurd (cc)
-own_by bytes asked p h first growth cut done action.Deliver None is t does = absurd (cc)
-own_by bytes asked p h first growth cut done action.Deliver (Some s) is t does = absurd (cc)
-own_by bytes asked p h first growth cut done action.Pending None is t does = absurd (cc)
-own_by bytes asked p h first growth cut done action.Pending (Some s) is t does = absurd (cc)
+own_by bytes asked p h first growth cut done _ None is t does = absurd (cc)
+own_by bytes asked p h first growth cut done _ (Some s) is t does = absurd (cc)
 
 own_at : (bytes : ℕ) (asked : Option HandleCall) (here : OwnerStage) (last : Option Session) (h first : ℕ) (growth : Growth) (cut : List Event) (done : Did)
     → OwnerAs (owner_by_parts bytes asked here last) cut → did_by here (owner_by_parts bytes asked here last) ≡ Some done → Goes done.owner cut (by_owner h done.act first growth)

@@ -141,6 +141,7 @@ new_tied h capacity first growth = record {
   asked = refl;
   polled = refl;
   bytes = refl;
+  calls = tt;
   stage = (refl, refl, refl);
   last = (refl, refl, refl);
   ended = λ is_end. absurd (cc);

@@ -1,5 +1,5 @@
 -- An owner is asked and dropped, and the pool answers it: each keeps its law and its tie.
-use Rattle.std.proofs.Common.{◌≡◌, ℕ, suc, zero, ◌<◌, ◌==◌, List, [], ◌∷◌, Bool, true, false, refl, sym, ap, ◌∙◌, subst, arith, Option, Some, None, if◌then◌else◌}
+use Rattle.std.proofs.Common.{◌≡◌, ℕ, suc, zero, ◌<◌, ◌==◌, List, [], ◌∷◌, length, Bool, true, false, refl, sym, ap, ◌∙◌, subst, arith, Option, Some, None, if◌then◌else◌}
 use Rattle.std.specs.Prelude.{◌||◌, ◌&&◌, not, is_none}
 use Rattle.std.proofs.lemmas.Bool.{or_left}
 use Rattle.std.proofs.lemmas.Bool.Decides.{nat_tests}
@@ -11,12 +11,16 @@ use Rattle.blocking_core.specs.declared.io.Fault.TheVariants as why
 use Rattle.blocking_core.specs.declared.unblock.OwnerAction.{OwnerAction}
 use Rattle.blocking_core.specs.declared.unblock.OwnerAction.TheVariants as action
 use Rattle.blocking_core.specs.declared.unblock.OwnerAnswer.TheVariants as by
+use Rattle.blocking_core.specs.declared.unblock.OwnerEnd.{OwnerEnd}
 use Rattle.blocking_core.specs.declared.unblock.OwnerEnd.TheVariants.{Open, Shut}
+use Rattle.blocking_core.specs.declared.unblock.PollCall.TheVariants as poll_call
 use Rattle.blocking_core.specs.declared.unblock.Reply.TheVariants as reply
+use Rattle.blocking_core.specs.declared.unblock.SessionKind.{SessionKind}
+use Rattle.blocking_core.specs.declared.unblock.SessionKind.TheVariants as session_kind
 use Rattle.blocking_core.specs.declared.unblock.State.{State}
 use Rattle.blocking_core.specs.declared.unblock.State.TheVariants as state
 use Rattle.blocking_laws.specs.Ends.{came_back}
-use Rattle.blocking_laws.specs.JobTable.{Kind, Over, next_but_wake, fault, has_finished, has_given_up}
+use Rattle.blocking_laws.specs.JobTable.{Kind, Reading, Over, next_but_wake, fault, has_finished, has_given_up}
 use Rattle.blocking_laws.specs.OwnerLaws.{Polls}
 use Rattle.blocking_laws.specs.OwnerTable.{owner_next_but_wake, deliver_first}
 use Rattle.blocking_laws.specs.OwnerTable as law
@@ -24,9 +28,11 @@ use Rattle.blocking_laws.specs.Passed.{is_serial, kind_in}
 use Rattle.blocking_laws.specs.Seen.{own, acts_of}
 use Rattle.blocking_laws.specs.Sessions.{jobs_of, kind_of, kind_of_job, default_capacity, is_for_closed}
 use Rattle.blocking_laws.specs.Sessions as sessions
+use Rattle.blocking_laws.specs.Steps.{is_known}
 use Rattle.blocking_laws.specs.declared.event.Act.{Act}
 use Rattle.blocking_laws.specs.declared.event.Act.TheVariants.{Asked, Accepted, Refused, JobWoken, HolderDropped, GotEnd}
 use Rattle.blocking_laws.specs.declared.event.Event.{Event}
+use Rattle.blocking_laws.specs.declared.event.Reply.TheVariants as told
 use Rattle.blocking_laws.specs.declared.step.HandleCall.{HandleCall}
 use Rattle.blocking_laws.specs.declared.step.HandleCall.TheVariants as handle_call
 use Rattle.blocking_pool.specs.Growth.{Growth}
@@ -36,104 +42,126 @@ use Rattle.blocking_pool.specs.declared.pool.answer.Refusal.{Refusal}
 use Rattle.blocking_pool.specs.declared.pool.answer.Woke.{Woke}
 use Rattle.blocking_lanes.specs.Owners.{poll_call_of, may_call_at}
 use Rattle.blocking_lanes.specs.OwnerSteps.{by_owner}
-use Rattle.blocking_lanes.specs.OwnerTies.{OwnerAs, FitsNext, BeginsBy, LastAs, SessionAs, SlotAs, state_as, action_as, newest_note}
+use Rattle.blocking_lanes.specs.OwnerTies.{OwnerAs, FitsNext, BeginsBy, LastAs, SessionAs, SlotAs, kind_as, is_end_open, state_as, action_as, newest_note}
 use Rattle.blocking_lanes.specs.Sessions.{Session, new_session}
 use Rattle.blocking_lanes.specs.declared.owner.OwnerStage.TheVariants as stage
 use Rattle.blocking_lanes.proofs.owners.Cuts.{next_with, next_stays, kind_of_last}
-use Rattle.blocking_lanes.proofs.owners.OwnerActs.{Goes, owner_by_parts, bound, turned, lawful, fits_at, failed_fits, gone_is, lent_by, is_away, last_is}
+use Rattle.blocking_lanes.proofs.owners.Known.{gone_known, may_ask_known}
+use Rattle.blocking_lanes.proofs.owners.OwnerActs.{Goes, owner_by_parts, bound, turned, lawful, fits_at, failed_fits, last_is}
+use Rattle.blocking_lanes.proofs.owners.States.{IsThere, is_away, gone_is, lent_by, may_be_asked, is_there, of_session}
 use Rattle.blocking_lanes.proofs.owners.Drains.{IsLending, begins}
 
 -- ---- it is asked
 
+-- in each session the machine does what the law says
+abbrev DoesSo : HandleCall → SessionKind → OwnerEnd → Type 0
+DoesSo call kind end =
+    law.table call (sessions.In (kind_as kind) (is_end_open end))
+    ≡ action_as call (machine.in_session (machine.goes_on_in kind (poll_call_of call)) (poll_call_of call) kind end)
+
 -- the machine's table is that of the laws, wherever the call may be asked
-table_at : (call : HandleCall) (at : State) → may_call_at at call ≡ true → law.table call (state_as at) ≡ action_as call (machine.table (poll_call_of call) at)
-table_at (handle_call.Read zero) at may = refl
-table_at (handle_call.Read (suc n)) state.Idle may = refl
-table_at (handle_call.Read (suc n)) (state.Reading Open) may = refl
-table_at (handle_call.Read (suc n)) (state.Reading Shut) may = refl
-table_at (handle_call.Read (suc n)) (state.Writing Open) may = refl
-table_at (handle_call.Read (suc n)) (state.Writing Shut) may = refl
-table_at (handle_call.Read (suc n)) state.Closed may = absurd (cc)
-table_at (handle_call.Write []) at may = refl
-table_at (handle_call.Write (byte ∷ more)) state.Idle may = refl
-table_at (handle_call.Write (byte ∷ more)) (state.Reading Open) may = refl
-table_at (handle_call.Write (byte ∷ more)) (state.Reading Shut) may = refl
-table_at (handle_call.Write (byte ∷ more)) (state.Writing Open) may = refl
-table_at (handle_call.Write (byte ∷ more)) (state.Writing Shut) may = refl
-table_at (handle_call.Write (byte ∷ more)) state.Closed may = absurd (cc)
-table_at handle_call.Flush state.Idle may = refl
-table_at handle_call.Flush (state.Reading Open) may = refl
-table_at handle_call.Flush (state.Reading Shut) may = refl
-table_at handle_call.Flush (state.Writing Open) may = refl
-table_at handle_call.Flush (state.Writing Shut) may = refl
-table_at handle_call.Flush state.Closed may = refl
-table_at handle_call.Close state.Idle may = refl
-table_at handle_call.Close (state.Reading Open) may = refl
-table_at handle_call.Close (state.Reading Shut) may = refl
-table_at handle_call.Close (state.Writing Open) may = refl
-table_at handle_call.Close (state.Writing Shut) may = refl
-table_at handle_call.Close state.Closed may = refl
-table_at handle_call.GetMut state.Idle may = refl
-table_at handle_call.GetMut (state.Reading Open) may = refl
-table_at handle_call.GetMut (state.Reading Shut) may = refl
-table_at handle_call.GetMut (state.Writing Open) may = refl
-table_at handle_call.GetMut (state.Writing Shut) may = refl
-table_at handle_call.GetMut state.Closed may = absurd (cc)
+table_at : (call : HandleCall) (at : State) → is_known call ≡ true → may_call_at at call ≡ true → IsThere at → law.table call (state_as at) ≡ action_as call (machine.table (poll_call_of call) at)
+table_at (handle_call.Read zero) at known may there = refl
+table_at (handle_call.Write []) at known may there = refl
+table_at (handle_call.Read (suc n)) (state.Lent kind end) known may there = of_session (DoesSo (handle_call.Read (suc n))) refl refl refl refl kind end there
+table_at (handle_call.Write (byte ∷ more)) (state.Lent kind end) known may there = of_session (DoesSo (handle_call.Write (byte ∷ more))) refl refl refl refl kind end there
+table_at handle_call.Flush (state.Lent kind end) known may there = of_session (DoesSo handle_call.Flush) refl refl refl refl kind end there
+table_at handle_call.Close (state.Lent kind end) known may there = of_session (DoesSo handle_call.Close) refl refl refl refl kind end there
+table_at handle_call.GetMut (state.Lent kind end) known may there = of_session (DoesSo handle_call.GetMut) refl refl refl refl kind end there
+table_at (handle_call.Read (suc n)) state.Closed known may there = absurd (cc)
+table_at (handle_call.Write (byte ∷ more)) state.Closed known may there = absurd (cc)
+table_at handle_call.GetMut state.Closed known may there = absurd (cc)
+table_at handle_call.Flush state.Closed known may there = refl
+table_at handle_call.Close state.Closed known may there = refl
+table_at (handle_call.Read (suc n)) state.Idle known may there = refl
+table_at (handle_call.Write (byte ∷ more)) state.Idle known may there = refl
+table_at handle_call.Flush state.Idle known may there = refl
+table_at handle_call.Close state.Idle known may there = refl
+table_at handle_call.GetMut state.Idle known may there = refl
+table_at _ at known may there = absurd (cc)
 
-table_is : (call : HandleCall) (at : State) (here : sessions.State) → may_call_at at call ≡ true → here ≡ state_as at → law.table call here ≡ action_as call (machine.table (poll_call_of call) at)
-table_is call at here may e = ap (law.table call) e ∙ table_at call at may
+-- a call that was just asked goes by the table
+asked_by_table : (call : HandleCall) (begun : Bool) (here : sessions.State) → is_known call ≡ true → law.at_asked call begun here ≡ law.table call here
+asked_by_table handle_call.OperateAgain begun here known = absurd (cc)
+asked_by_table _ begun here known = refl
 
-table_fits : (call : HandleCall) (at : State) → may_call_at at call ≡ true → FitsNext call (new_poll (poll_call_of call) at) (machine.table (poll_call_of call) at) false None
-table_fits (handle_call.Read zero) at may = (refl, tt, tt)
-table_fits (handle_call.Read (suc n)) state.Idle may = (tt, refl, refl)
-table_fits (handle_call.Read (suc n)) (state.Reading Open) may = (refl, omega arith, refl, refl)
-table_fits (handle_call.Read (suc n)) (state.Reading Shut) may = (tt, refl)
-table_fits (handle_call.Read (suc n)) (state.Writing Open) may = (tt, refl)
-table_fits (handle_call.Read (suc n)) (state.Writing Shut) may = (tt, refl)
-table_fits (handle_call.Read (suc n)) state.Closed may = absurd (cc)
-table_fits (handle_call.Write []) at may = (refl, tt, tt)
-table_fits (handle_call.Write (byte ∷ more)) state.Idle may = (tt, refl, refl)
-table_fits (handle_call.Write (byte ∷ more)) (state.Reading Open) may = (tt, refl)
-table_fits (handle_call.Write (byte ∷ more)) (state.Reading Shut) may = (tt, refl)
-table_fits (handle_call.Write (byte ∷ more)) (state.Writing Open) may = (byte ∷ more, refl, refl, omega arith, refl, refl)
-table_fits (handle_call.Write (byte ∷ more)) (state.Writing Shut) may = (tt, refl)
-table_fits (handle_call.Write (byte ∷ more)) state.Closed may = absurd (cc)
-table_fits handle_call.Flush state.Idle may = (refl, tt, tt)
-table_fits handle_call.Flush (state.Reading Open) may = (tt, refl)
-table_fits handle_call.Flush (state.Reading Shut) may = (tt, refl)
-table_fits handle_call.Flush (state.Writing Open) may = (tt, refl)
-table_fits handle_call.Flush (state.Writing Shut) may = (tt, refl)
-table_fits handle_call.Flush state.Closed may = (refl, tt, tt)
-table_fits handle_call.Close state.Idle may = (refl, refl, tt)
-table_fits handle_call.Close (state.Reading Open) may = (tt, refl)
-table_fits handle_call.Close (state.Reading Shut) may = (tt, refl)
-table_fits handle_call.Close (state.Writing Open) may = (tt, refl)
-table_fits handle_call.Close (state.Writing Shut) may = (tt, refl)
-table_fits handle_call.Close state.Closed may = (refl, tt, refl)
-table_fits handle_call.GetMut state.Idle may = (refl, tt, tt)
-table_fits handle_call.GetMut (state.Reading Open) may = (tt, refl)
-table_fits handle_call.GetMut (state.Reading Shut) may = (tt, refl)
-table_fits handle_call.GetMut (state.Writing Open) may = (tt, refl)
-table_fits handle_call.GetMut (state.Writing Shut) may = (tt, refl)
-table_fits handle_call.GetMut state.Closed may = absurd (cc)
+table_is : (call : HandleCall) (begun : Bool) (at : State) (here : sessions.State) → is_known call ≡ true → may_call_at at call ≡ true → IsThere at → here ≡ state_as at
+    → law.at_asked call begun here ≡ action_as call (machine.table (poll_call_of call) at)
+table_is call begun at here known may there e = asked_by_table call begun here known ∙ ap (law.table call) e ∙ table_at call at known may there
 
--- what may be asked, by the law
-pub may_be_asked : (here : State) (call : HandleCall) → (not (is_away here) || is_for_closed call) ≡ may_call_at here call
-may_be_asked state.Closed call = refl
-may_be_asked state.Idle call = refl
-may_be_asked (state.Reading end) call = refl
-may_be_asked (state.Writing end) call = refl
+-- who stops a session closes the own end of its pipe, or looks for the handle
+stop_fits : (call : HandleCall) (kind : SessionKind) (end : OwnerEnd) → FitsNext call (new_poll (poll_call_of call) (state.Lent kind end)) (machine.stop (machine.has_pipe kind) end) false None
+stop_fits call kind end = by (machine.has_pipe kind) end refl
+  where
+    by : (pipe : Bool) (end : OwnerEnd) → machine.has_pipe kind ≡ pipe → FitsNext call (new_poll (poll_call_of call) (state.Lent kind end)) (machine.stop pipe end) false None
+    by true Open is = (is, refl)
+    by true Shut is = (tt, refl)
+    by false Open is = (is, refl)
+    by false Shut is = (tt, refl)
+
+-- so what is done in a session fits, if what is done in a session of the call's own does
+session_fits : (call : HandleCall) (kind : SessionKind) (end : OwnerEnd) (own : Bool) → machine.goes_on_in kind (poll_call_of call) ≡ own
+    → (machine.goes_on_in kind (poll_call_of call) ≡ true → FitsNext call (new_poll (poll_call_of call) (state.Lent kind Open)) (machine.in_own (poll_call_of call)) false None)
+    → FitsNext call (new_poll (poll_call_of call) (state.Lent kind end)) (machine.in_session own (poll_call_of call) kind end) false None
+session_fits call kind Open true is fits = fits is
+session_fits call kind Shut true is fits = stop_fits call kind Shut
+session_fits call kind Open false is fits = stop_fits call kind Open
+session_fits call kind Shut false is fits = stop_fits call kind Shut
+
+-- a flush, a close and the call for the handle have no session of their own
+flush_stops : (kind : SessionKind) → machine.goes_on_in kind poll_call.Flush ≡ true → ⊥
+flush_stops session_kind.Reading own = cc
+flush_stops _ own = cc
+
+close_stops : (kind : SessionKind) → machine.goes_on_in kind poll_call.Close ≡ true → ⊥
+close_stops session_kind.Reading own = cc
+close_stops _ own = cc
+
+get_stops : (kind : SessionKind) → machine.goes_on_in kind poll_call.GetMut ≡ true → ⊥
+get_stops session_kind.Reading own = cc
+get_stops _ own = cc
+
+table_fits : (call : HandleCall) (at : State) → is_known call ≡ true → may_call_at at call ≡ true → FitsNext call (new_poll (poll_call_of call) at) (machine.table (poll_call_of call) at) false None
+table_fits (handle_call.Read zero) at known may = (refl, tt, tt)
+table_fits (handle_call.Read (suc n)) state.Idle known may = (tt, refl, refl)
+table_fits (handle_call.Read (suc n)) (state.Lent kind end) known may = session_fits (handle_call.Read (suc n)) kind end (machine.goes_on_in kind (poll_call.Read (suc n))) refl (own kind)
+  where
+    own : (kind : SessionKind) → machine.goes_on_in kind (poll_call.Read (suc n)) ≡ true
+        → FitsNext (handle_call.Read (suc n)) (new_poll (poll_call.Read (suc n)) (state.Lent kind Open)) (action.Drain (suc n)) false None
+    own session_kind.Reading is = (refl, omega arith, refl, refl)
+    own _ is = absurd (cc)
+table_fits (handle_call.Read (suc n)) state.Closed known may = absurd (cc)
+table_fits (handle_call.Write []) at known may = (refl, tt, tt)
+table_fits (handle_call.Write (byte ∷ more)) state.Idle known may = (tt, refl, refl)
+table_fits (handle_call.Write (byte ∷ more)) (state.Lent kind end) known may = session_fits (handle_call.Write (byte ∷ more)) kind end (machine.goes_on_in kind (poll_call.Write (length (byte ∷ more)))) refl (own kind)
+  where
+    own : (kind : SessionKind) → machine.goes_on_in kind (poll_call.Write (length (byte ∷ more))) ≡ true
+        → FitsNext (handle_call.Write (byte ∷ more)) (new_poll (poll_call.Write (length (byte ∷ more))) (state.Lent kind Open)) (action.Fill (length (byte ∷ more))) false None
+    own session_kind.Writing is = (byte ∷ more, refl, refl, omega arith, refl, refl)
+    own _ is = absurd (cc)
+table_fits (handle_call.Write (byte ∷ more)) state.Closed known may = absurd (cc)
+table_fits handle_call.Flush state.Idle known may = (refl, tt, tt)
+table_fits handle_call.Flush (state.Lent kind end) known may = session_fits handle_call.Flush kind end (machine.goes_on_in kind poll_call.Flush) refl (λ own. absurd (flush_stops kind own))
+table_fits handle_call.Flush state.Closed known may = (refl, tt, tt)
+table_fits handle_call.Close state.Idle known may = (refl, refl, tt)
+table_fits handle_call.Close (state.Lent kind end) known may = session_fits handle_call.Close kind end (machine.goes_on_in kind poll_call.Close) refl (λ own. absurd (close_stops kind own))
+table_fits handle_call.Close state.Closed known may = (refl, tt, refl)
+table_fits handle_call.GetMut state.Idle known may = (refl, tt, tt)
+table_fits handle_call.GetMut (state.Lent kind end) known may = session_fits handle_call.GetMut kind end (machine.goes_on_in kind poll_call.GetMut) refl (λ own. absurd (get_stops kind own))
+table_fits handle_call.GetMut state.Closed known may = absurd (cc)
+table_fits _ at known may = absurd (cc)
 
 -- it rests, by the law
 rests_so : (bytes : ℕ) (asked : Option HandleCall) (here : State) (last : Option Session) (cut : List Event) → OwnerAs (owner_by_parts bytes asked (stage.Rests here) last) cut → sessions.rests (own cut) ≡ true
-rests_so bytes asked here last cut t = rw (t.made, t.gone, t.polled) refl
+rests_so bytes asked here last cut t = rw (t.made, gone_known (own cut) t.calls ∙ t.gone, t.polled) refl
 
 pub ask_goes : (bytes : ℕ) (asked : Option HandleCall) (here : State) (last : Option Session) (h first : ℕ) (growth : Growth) (cut : List Event) (call : HandleCall)
-    → may_call_at here call ≡ true → OwnerAs (owner_by_parts bytes asked (stage.Rests here) last) cut
+    → is_known call ≡ true → may_call_at here call ≡ true → OwnerAs (owner_by_parts bytes asked (stage.Rests here) last) cut
     → Goes (owner_by_parts bytes (Some call) (stage.Polls (new_poll (poll_call_of call) here)) last) cut (by_owner h (Asked call) first growth)
-ask_goes bytes asked here last h first growth cut call may t =
+ask_goes bytes asked here last h first growth cut call known may t =
     record {
-      acts = ap (λ b. b && (not (sessions.is_closed (own cut)) || is_for_closed call)) (rests_so bytes asked here last cut t)
+      acts = may_ask_known (own cut) call t.calls known
+          ∙ ap (λ b. b && (not (sessions.is_closed (own cut)) || is_for_closed call)) (rests_so bytes asked here last cut t)
           ∙ ap (λ b. not b || is_for_closed call) (gone_is (own cut) here t.stage.0) ∙ may_be_asked here call ∙ may;
       ends = tt;
       tie = record {
@@ -142,14 +170,15 @@ ask_goes bytes asked here last h first growth cut call may t =
         asked = refl;
         polled = refl;
         bytes = t.bytes;
+        calls = (known, t.calls);
         stage = (
           record {
             call = call;
             asked_is = refl;
             call_is = refl;
             at_is = t.stage.0;
-            next_is = table_is call here (sessions.state (own cut)) may t.stage.0;
-            fits = table_fits call here may;
+            next_is = table_is call (sessions.has_begun (own cut)) here (sessions.state (own cut)) known may (is_there last (bound bytes) cut here t.last t.stage.0) t.stage.0;
+            fits = table_fits call here known may;
           },
           refl,
           refl,
@@ -184,6 +213,7 @@ drop_goes bytes asked here last h first growth cut t = record {
     asked = t.asked;
     polled = refl;
     bytes = t.bytes;
+    calls = t.calls;
     stage = (refl, refl);
     last = dropped_last last (bound bytes) h first growth cut t.last;
     ended = λ is_end. absurd (cc);
@@ -195,13 +225,27 @@ drop_goes bytes asked here last h first growth cut t = record {
 
 -- ---- a session is refused
 
+-- a call tells by a fault that its session was refused
+refused : (call : HandleCall) (reason : Refusal) → BeginsBy call → machine.refusal {E = ℕ} (poll_call_of call) reason ≡ action.Reply (reply.Failed (why.Refused reason))
+refused (handle_call.Read (suc n)) reason begins = refl
+refused (handle_call.Write (byte ∷ more)) reason begins = refl
+refused _ reason begins = absurd begins
+
+refused_so : (call : HandleCall) (reason : Refusal) → BeginsBy call → law.refusal (Some call) reason ≡ told.Failed (why.Refused reason)
+refused_so (handle_call.Read (suc n)) reason begins = refl
+refused_so (handle_call.Write (byte ∷ more)) reason begins = refl
+refused_so _ reason begins = absurd begins
+
 pub refuse_goes : (bytes : ℕ) (asked : Option HandleCall) (p : OwnerMachine ℕ) (last : Option Session) (h first : ℕ) (growth : Growth) (cut : List Event) (reason : Refusal) → p.next ≡ action.Begin
     → OwnerAs (owner_by_parts bytes asked (stage.Polls p) last) cut
     → Goes (owner_by_parts bytes asked (stage.Polls (owner_after p (by.Refused reason))) last) cut (by_owner h (Refused reason) first growth)
 refuse_goes bytes asked p last h first growth cut reason is t =
     let c = t.stage.0.call in
+    let begins = (fits_at bytes asked p cut last action.Begin t is).0 in
     let q : OwnerMachine ℕ = record p { next = action.Reply (reply.Failed (why.Refused reason)) } in
-    let same : owner_after p (by.Refused reason) ≡ q = turned p action.Begin (by.Refused reason) t.stage.1 is in
+    let same : owner_after p (by.Refused reason) ≡ q =
+    turned p action.Begin (by.Refused reason) t.stage.1 is ∙ ap (λ k. record p { next = machine.refusal k reason }) t.stage.0.call_is
+    ∙ ap (λ (n : OwnerAction ℕ). record p { next = n }) (refused c reason begins) in
     subst (λ (m : OwnerMachine ℕ). Goes (owner_by_parts bytes asked (stage.Polls m) last) cut (by_owner h (Refused reason) first growth)) (sym same)
     (record {
       acts = subst (λ n. Polls cut n (Refused reason)) (sym (lawful bytes asked p cut last action.Begin t is)) tt;
@@ -212,13 +256,14 @@ refuse_goes bytes asked p last h first growth cut reason is t =
         asked = t.asked;
         polled = t.polled;
         bytes = t.bytes;
+        calls = t.calls;
         stage = (
           record {
             call = c;
             asked_is = t.stage.0.asked_is;
             call_is = t.stage.0.call_is;
             at_is = t.stage.0.at_is;
-            next_is = refl;
+            next_is = ap law.Say (ap (λ o. law.refusal o reason) t.stage.0.asked_is ∙ refused_so c reason begins);
             fits = failed_fits c q (why.Refused reason) false (came_back cut);
           },
           t.stage.1,
@@ -243,8 +288,7 @@ fits_then c p (action.Fill most) ended back e f = f
 fits_then c p action.PollSlot ended back e f = (f.0, f.1 ∙ e)
 fits_then c p action.DropHandle ended back e f = f
 fits_then c p (action.Reply r) ended back e f = f
-fits_then c p action.Deliver ended back e f = absurd f
-fits_then c p action.Pending ended back e f = absurd f
+fits_then c p _ ended back e f = absurd f
 
 -- an act that took a note didn't see the end
 noted_goes_on : (acts : List Act) (n : ℕ) → newest_note acts ≡ Some n → law.is_at_end acts ≡ false
@@ -270,13 +314,14 @@ deliver_goes bytes asked p note last h first growth cut woke t =
         asked = t.asked;
         polled = t.polled;
         bytes = t.bytes;
+        calls = t.calls;
         stage = (
           record {
             call = t.stage.0.call;
             asked_is = t.stage.0.asked_is;
             call_is = t.stage.0.call_is;
             at_is = t.stage.0.at_is;
-            next_is = next_stays (e ∷ cut) cut (own cut) (λ back k s. refl) ∙ t.stage.0.next_is;
+            next_is = next_stays (e ∷ cut) cut (own cut) (λ back k s. (refl, refl)) ∙ t.stage.0.next_is;
             fits = fits_then t.stage.0.call p p.next (law.is_at_end (own cut)) (came_back cut) (noted_goes_on (own cut) note.serial t.stage.2) t.stage.0.fits;
           },
           refl,
@@ -296,7 +341,7 @@ deliver_goes bytes asked p note last h first growth cut woke t =
 some_bound : (bytes : ℕ) → 0 < bound bytes
 some_bound bytes = at (bytes == 0) refl
   where
-    at : (b : Bool) → (bytes == 0) ≡ b → 0 < (if b then default_capacity else bytes)
+    at : (b : Bool) → (bytes == 0) ≡ b → 0 < (if b then default_capacity Reading else bytes)
     at true e = omega arith
     at false e = grind (arith, nat_tests)
 
@@ -332,9 +377,9 @@ last_over (Some s) bytes cut l idle t is =
 record Began (c : HandleCall) (p : OwnerMachine ℕ) (back : Option (List Event)) : Type 0 where
   pub lending : IsLending (kind_of (Some c))
   pub at_is : sessions.In (kind_of (Some c)) true ≡ state_as (machine.begun_by (poll_call_of c))
-  pub next_is : law.table c (sessions.In (kind_of (Some c)) true) ≡ action_as c (machine.table (poll_call_of c) (machine.begun_by (poll_call_of c)))
-  pub fits : FitsNext c (record p { state = machine.begun_by (poll_call_of c); next = machine.table (poll_call_of c) (machine.begun_by (poll_call_of c)) })
-      (machine.table (poll_call_of c) (machine.begun_by (poll_call_of c))) false back
+  pub next_is : law.at_accepted (Some c) (sessions.In (kind_of (Some c)) true) ≡ action_as c (machine.in_own (poll_call_of c))
+  pub fits : FitsNext c (record p { state = machine.begun_by (poll_call_of c); next = machine.in_own (poll_call_of c) })
+      (machine.in_own (poll_call_of c)) false back
 
 begins_by : (c : HandleCall) (p : OwnerMachine ℕ) (back : Option (List Event)) → BeginsBy c → p.is_at_end ≡ false → Began c p back
 begins_by (handle_call.Read (suc n)) p back begins end = record { lending = tt; at_is = refl; next_is = refl; fits = (refl, omega arith, refl, end) }
@@ -349,9 +394,9 @@ begin_goes bytes asked p last h first growth cut number is fresh quiet t =
     let fits = fits_at bytes asked p cut last action.Begin t is in
     let e = by_owner h (Accepted number.serial) first growth in
     let b = begins_by c p (came_back cut) fits.0 fits.2 in
-    let q : OwnerMachine ℕ = record p { state = machine.begun_by (poll_call_of c); next = machine.table (poll_call_of c) (machine.begun_by (poll_call_of c)) } in
-    let turn : owner_after p by.Begun ≡ record p { state = machine.begun_by p.call; next = machine.table p.call (machine.begun_by p.call) } = turned p action.Begin by.Begun t.stage.1 is in
-    let same : owner_after p by.Begun ≡ q = turn ∙ ap (λ k. record p { state = machine.begun_by k; next = machine.table k (machine.begun_by k) }) t.stage.0.call_is in
+    let q : OwnerMachine ℕ = record p { state = machine.begun_by (poll_call_of c); next = machine.in_own (poll_call_of c) } in
+    let turn : owner_after p by.Begun ≡ record p { state = machine.begun_by p.call; next = machine.in_own p.call } = turned p action.Begin by.Begun t.stage.1 is in
+    let same : owner_after p by.Begun ≡ q = turn ∙ ap (λ k. record p { state = machine.begun_by k; next = machine.in_own k }) t.stage.0.call_is in
     let there : is_away p.state ≡ false = ap is_away fits.1 in
     let kind : kind_of (sessions.call (own cut)) ≡ kind_of (Some c) = ap kind_of t.stage.0.asked_is in
     let began : Option sessions.Session = Some (record { serial = number.serial; kind = kind_of (sessions.call (own cut)) }) in
@@ -369,6 +414,7 @@ begin_goes bytes asked p last h first growth cut number is fresh quiet t =
         asked = t.asked;
         polled = t.polled;
         bytes = t.bytes;
+        calls = t.calls;
         stage = (
           record {
             call = c;

@@ -143,5 +143,4 @@ answers p acts (Failed error) r is =
       waking = ap (λ (c : Machine ReadAction). c.is_waking) core;
       fault_is = first_fault p.fault acts (Failed error) r.fault_is;
     }
-answers p acts (Number n) r is = let q = asks p acts (Number n) r is in absurd (let f = q.fits in cc)
-answers p acts Fine r is = let q = asks p acts Fine r is in absurd (let f = q.fits in cc)
+answers p acts answer r is = let q = asks p acts answer r is in absurd (let f = q.fits in cc)

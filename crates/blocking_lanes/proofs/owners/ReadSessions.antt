@@ -10,7 +10,7 @@ use Rattle.blocking_core.specs.Places.{Served, Waiting, Closed, find_room, hand_
 use Rattle.blocking_core.specs.Slots.{Content, Empty, Full, GivenUp, Abandoned, Slot, slot_after, slot_without_job}
 use Rattle.blocking_core.specs.declared.io.Fault.{Fault}
 use Rattle.blocking_laws.specs.Ends.{handle_answers, has_failure}
-use Rattle.blocking_laws.specs.JobTable.{Kind, Calling, Reading, Writing, JobAction, FindRoom, AskBytes, PutPiece, CloseEnd, Finish, Over, next_but_wake, is_over, next_after_answer, is_answer, fault, has_finished, has_given_up}
+use Rattle.blocking_laws.specs.JobTable.{Kind, Reading, Writing, JobAction, FindRoom, AskBytes, PutPiece, CloseEnd, Finish, Over, next_but_wake, is_over, next_after_answer, is_answer, fault, has_finished, has_given_up}
 use Rattle.blocking_laws.specs.Passed.{gave, got, answered, was_put, carried, peeked, counted}
 use Rattle.blocking_laws.specs.Sessions as sessions
 use Rattle.blocking_laws.specs.declared.event.Act.{Act}
@@ -136,7 +136,7 @@ called_flow : (s : Session) (kind : Kind) (shut : Bool) (took accepted : List �
     → Flows kind s shut took accepted (next_but_wake kind acts) (HolderWoken ∷ acts)
 called_flow s Reading shut took accepted acts t = t
 called_flow s Writing shut took accepted acts t = t
-called_flow s Calling shut took accepted acts t = t
+called_flow s _ shut took accepted acts t = t
 
 -- and where it gave up
 left_flow : (s : Session) (slot : Slot (Option (Fault ℕ)) (Unit {0})) (kind : Kind) (shut : Bool) (took accepted : List ℕ) (next : JobAction) (acts : List Act) (waker : HolderWaker)
@@ -162,7 +162,7 @@ left_flow s slot Writing shut took accepted next acts waker t = record {
   ungiven = t.ungiven;
   unclosed = λ is lasts. refl;
 }
-left_flow s slot Calling shut took accepted next acts waker t = absurd t
+left_flow s slot _ shut took accepted next acts waker t = absurd t
 
 -- and where it closed its end
 closed_flow : (s : Session) (kind : Kind) (shut : Bool) (took accepted : List ℕ) (acts : List Act) (waker : HolderWaker)
@@ -188,7 +188,7 @@ closed_flow s Writing shut took accepted acts waker t = record {
   ungiven = t.ungiven;
   unclosed = λ is. absurd (cc);
 }
-closed_flow s Calling shut took accepted acts waker t = absurd t
+closed_flow s _ shut took accepted acts waker t = absurd t
 
 -- and where it put its result
 finished_flow : (s : Session) (slot : Slot (Option (Fault ℕ)) (Unit {0})) (kind : Kind) (shut : Bool) (took accepted : List ℕ) (acts : List Act) (waker : HolderWaker)
@@ -214,7 +214,7 @@ finished_flow s slot Writing shut took accepted acts waker t = record {
   ungiven = t.ungiven;
   unclosed = λ is lasts. absurd (let closed = t.written_is.0 in cc);
 }
-finished_flow s slot Calling shut took accepted acts waker t = absurd t
+finished_flow s slot _ shut took accepted acts waker t = absurd t
 
 module _ (s : Session) (kind : Kind) (capacity : ℕ) (last : Option sessions.Session) (shut back dropped : Bool) (took accepted : List ℕ) (acts : List Act) (js ps ss : Bool) where
   -- the waker that it took is called
@@ -456,8 +456,7 @@ module _ (s : Session) (capacity : ℕ) (last : Option sessions.Session) (shut b
       gave_all : (b : Bool) → gave acts ++ [] ≡ was_put acts → GaveAll b (passed_by (Answered (Failed error) ∷ acts))
       gave_all true same = tt
       gave_all false same = (same, refl)
-  answers (Number n) fits e t = absurd (cc)
-  answers Fine fits e t = absurd (cc)
+  answers _ fits e t = absurd (cc)
 
 -- ---- it puts bytes
 

@@ -5,7 +5,7 @@ use Rattle.std.proofs.lemmas.Bool.{or_left, or_right, eq-eqb}
 use Rattle.blocking_core.specs.Places.{Served, Waiting, drain, fill}
 use Rattle.blocking_core.specs.Slots.{Content, Empty, Full, GivenUp, Abandoned}
 use Rattle.blocking_core.specs.declared.io.Fault.{Fault}
-use Rattle.blocking_laws.specs.JobTable.{Kind, Calling, Reading, Writing, JobAction, FindRoom, Peek, next_but_wake, is_over, fault, has_finished, has_given_up, has_closed}
+use Rattle.blocking_laws.specs.JobTable.{Kind, Reading, Writing, JobAction, FindRoom, Peek, next_but_wake, is_over, fault, has_finished, has_given_up, has_closed}
 use Rattle.std.specs.Prelude.{not}
 use Rattle.blocking_laws.specs.OwnerLaws.{OwnerActs, Polls}
 use Rattle.blocking_laws.specs.OwnerSeats.{is_job_seated, job_seated_by, note_of, noted}
@@ -24,38 +24,33 @@ use Rattle.blocking_laws.specs.declared.event.Event.{Event}
 use Rattle.blocking_lanes.specs.Owners.{Owner, capacity_of}
 use Rattle.blocking_lanes.specs.OwnerTies.{OwnerAs, LastAs, SlotAs, Flows, IsStuckIn, IsOwnerStuckIn, is_finding, seat_of, is_seated}
 use Rattle.blocking_lanes.specs.Sessions.{Session}
-use Rattle.blocking_lanes.proofs.owners.Cuts.{inside_is}
-
--- the session that isn't over is the last one
-pub session_is_last : (acts : List Act) (r : sessions.Session) → session acts ≡ Some r → last_session acts ≡ Some r
-session_is_last [] r e = absurd (cc)
-session_is_last (Back ∷ past) r e = absurd (cc)
-session_is_last (Accepted s ∷ past) r e = e
-session_is_last (_ ∷ past) r e = session_is_last past r e
+use Rattle.blocking_lanes.proofs.owners.Cuts.{inside_is, capacity_is}
+use Rattle.blocking_lanes.proofs.owners.States.{session_is_last}
 
 -- ---- what a job and its owner find, by the kind of the session
 
 module _ (s : Session) (shut : Bool) (took written : List ℕ) (acts : List Act) where
   -- a job that looks for room, or for bytes, has its end of the pipe open
   finding_lasts : (kind : Kind) (a : JobAction) → is_finding a ≡ true → Flows kind s shut took written a acts → s.pipe.is_job_open ≡ true
-  finding_lasts Calling a finding flow = absurd flow
   finding_lasts Reading FindRoom finding flow = flow.passed_is.0
   finding_lasts Reading Peek finding flow = absurd flow.passed_is
   finding_lasts Writing Peek finding flow = flow.written_is.0
   finding_lasts Writing FindRoom finding flow = absurd flow.written_is
-  finding_lasts kind _ finding flow = absurd (cc)
+  finding_lasts Reading _ finding flow = absurd (cc)
+  finding_lasts Writing _ finding flow = absurd (cc)
+  finding_lasts _ a finding flow = absurd flow
 
   -- a job that is over has closed its end, unless it gave up
   over_closed : (kind : Kind) (a : JobAction) → Flows kind s shut took written a acts → is_over a ≡ true → s.pipe.is_job_open ≡ true → has_given_up acts ≡ true
-  over_closed Calling a flow over lasts = absurd flow
   over_closed Reading a flow over lasts = flow.unclosed over lasts
   over_closed Writing a flow over lasts = flow.unclosed over lasts
+  over_closed _ a flow over lasts = absurd flow
 
 -- not both can't go on at a pipe that holds something
 not_both : (s : Session) (kind : Kind) → 0 < s.pipe.capacity → IsStuckIn kind s → IsOwnerStuckIn kind s → ⊥
 not_both s Reading some full none = let empty = ap (λ (l : List ℕ). length l) none in absurd (omega (arith, full, empty, some))
-not_both s Calling some full none = let empty = ap (λ (l : List ℕ). length l) none in absurd (omega (arith, full, empty, some))
 not_both s Writing some none full = let empty = ap (λ (l : List ℕ). length l) none in absurd (omega (arith, full, empty, some))
+not_both s _ some full none = let empty = ap (λ (l : List ℕ). length l) none in absurd (omega (arith, full, empty, some))
 
 module _ (s : Session) (capacity : ℕ) (cut : List Event) (t : LastAs (Some s) capacity cut) where
   abbrev works : List Act
@@ -105,21 +100,17 @@ module _ (s : Session) (capacity : ℕ) (cut : List Event) (t : LastAs (Some s) 
           ⊎_elim (λ shut. (let open_is = (t.seats.reason.job there).2 in cc)) (λ closed. (let open_is = lasts in cc)) (t.seats.reason.slot sits).1
 
 -- A job that sits in the pipe can't go on, and its owner's end is open.
-pub seated_reason : (s : Session) (bytes : ℕ) (cut : List Event) → sessions.capacity (own cut) ≡ bytes → LastAs (Some s) bytes cut → is_some s.pipe.job_seat ≡ true → HasReason cut
+pub seated_reason : (s : Session) (bytes : ℕ) (cut : List Event) → sessions.capacity Reading (own cut) ≡ bytes → LastAs (Some s) bytes cut → is_some s.pipe.job_seat ≡ true → HasReason cut
 seated_reason s bytes cut same t seated =
     let reason = t.seats.reason.job seated in
-    (t.lent.shut_is ∙ ap not reason.2, by_kind (kind_in (last_session (own cut))) reason.1)
+    (t.lent.shut_is ∙ ap not reason.2, by_kind (kind_in (last_session (own cut))) (capacity_is s bytes cut t same) reason.1)
   where
-    by_kind : (kind : Kind) → IsStuckIn kind s → IsStuck kind cut
-    by_kind Writing none = inside_is s bytes cut t ∙ none
-    by_kind Reading full =
+    by_kind : (kind : Kind) → sessions.capacity kind (own cut) ≡ bytes → IsStuckIn kind s → IsStuck kind cut
+    by_kind Writing whole none = inside_is s bytes cut t ∙ none
+    by_kind _ whole full =
         let within = t.lent.within in
         let holds = t.lent.holds in
-        ap (λ (l : List ℕ). length l) (inside_is s bytes cut t) ∙ omega (arith, full, within, holds, same)
-    by_kind Calling full =
-        let within = t.lent.within in
-        let holds = t.lent.holds in
-        ap (λ (l : List ℕ). length l) (inside_is s bytes cut t) ∙ omega (arith, full, within, holds, same)
+        ap (λ (l : List ℕ). length l) (inside_is s bytes cut t) ∙ omega (arith, full, within, holds, whole)
 
 -- An owner that waits in a session whose job is over, or sits in its own seat, was woken.
 pub not_lost : (owner : Owner) (cut : List Event) → OwnerAs owner cut → (s : ℕ) → IsSessionOf (session (own cut)) s → is_waiting (own cut) ≡ true

@@ -160,12 +160,10 @@ module _ (p : Progress) (acts : List Act) (r : WriteAs p acts) where
       answered_by (write.Write most) (write.Consume (suc k)) (by.Took (suc k)) (Number (suc k)) a table
       (ap (λ t. machine (if t then write.Consume (suc k) else write.Write most) false) (ap (nat_le (suc k)) whole ∙ fits)) refl tt refl
   by_action (write.Write most) (Failed error) a table fits = answered_by (write.Write most) write.Flush (by.Failed error) (Failed error) a table refl refl tt refl
-  by_action (write.Write most) (Gave bytes) a table fits = absurd (cc)
-  by_action (write.Write most) Fine a table fits = absurd (cc)
+  by_action (write.Write most) _ a table fits = absurd (cc)
   by_action write.Flush Fine a table fits = answered_by write.Flush write.Close by.Flushed Fine a table refl refl tt refl
   by_action write.Flush (Failed error) a table fits = answered_by write.Flush write.Close (by.Failed error) (Failed error) a table refl refl tt refl
-  by_action write.Flush (Gave bytes) a table fits = absurd (cc)
-  by_action write.Flush (Number n) a table fits = absurd (cc)
+  by_action write.Flush _ a table fits = absurd (cc)
   by_action write.Peek answer a table fits = absurd (cc)
   by_action (write.Consume count) answer a table fits = absurd (cc)
   by_action write.Close answer a table fits = absurd (cc)

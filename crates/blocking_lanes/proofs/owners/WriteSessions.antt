@@ -8,7 +8,7 @@ use Rattle.blocking_core.specs.Places.{Served, Waiting, Closed, peek}
 use Rattle.blocking_core.specs.declared.io.Fault.{Fault}
 use Rattle.blocking_core.specs.declared.io.Fault.TheVariants.{Io, WriteZero}
 use Rattle.blocking_laws.specs.Ends.{handle_answers, has_failed_write}
-use Rattle.blocking_laws.specs.JobTable.{Writing, JobAction, AskCall, AskBytes, Peek, OfferBytes, Consume, AskFlush, CloseEnd, next_but_wake, next_after_answer, is_over, is_answer, fault, fault_in, earlier, has_finished, has_given_up}
+use Rattle.blocking_laws.specs.JobTable.{Writing, JobAction, AskCall, AskBytes, Peek, OfferBytes, Consume, AskFlush, AskItem, AskSeek, AskResult, CloseEnd, next_but_wake, next_after_answer, is_over, is_answer, fault, fault_in, earlier, has_finished, has_given_up}
 use Rattle.blocking_laws.specs.Passed.{carried, counted, peeked, taken}
 use Rattle.blocking_laws.specs.Seen.{IsBeginning}
 use Rattle.blocking_laws.specs.Sessions as sessions
@@ -276,8 +276,7 @@ module _ (s : Session) (capacity : ℕ) (last : Option sessions.Session) (shut b
       nothing_taken piece (Number 0) WriteZero (λ found. refl) refl refl refl e (at s Writing capacity last shut back dropped took accepted acts js ps ss (OfferBytes piece) e t)
   writer_answers (OfferBytes piece) (Failed error) fits e t =
       nothing_taken piece (Failed error) (Io error) (λ found. refl) refl refl refl e (at s Writing capacity last shut back dropped took accepted acts js ps ss (OfferBytes piece) e t)
-  writer_answers (OfferBytes piece) (Gave bytes) fits e t = absurd (cc)
-  writer_answers (OfferBytes piece) Fine fits e t = absurd (cc)
+  writer_answers (OfferBytes piece) _ fits e t = absurd (cc)
   writer_answers AskFlush Fine fits e t =
       let a = at s Writing capacity last shut back dropped took accepted acts js ps ss AskFlush e t in
       let p = a.flow.written_is in
@@ -291,8 +290,10 @@ module _ (s : Session) (capacity : ℕ) (last : Option sessions.Session) (shut b
       left AskFlush (Failed error) CloseEnd refl refl refl refl refl e a (subst (λ l. IsBeginning l accepted) (sym same) a.flow.begun)
       (p.0, same ∙ p.1, (λ none. absurd (fails AskFlush (Failed error) (Io error) e refl none), λ none. absurd (fails AskFlush (Failed error) (Io error) e refl none)))
       (λ none. absurd (fails AskFlush (Failed error) (Io error) e refl none))
-  writer_answers AskFlush (Gave bytes) fits e t = absurd (cc)
-  writer_answers AskFlush (Number n) fits e t = absurd (cc)
+  writer_answers AskFlush _ fits e t = absurd (cc)
   writer_answers AskCall answer fits e t = absurd ((at s Writing capacity last shut back dropped took accepted acts js ps ss AskCall e t).flow.written_is)
   writer_answers (AskBytes n) answer fits e t = absurd ((at s Writing capacity last shut back dropped took accepted acts js ps ss (AskBytes n) e t).flow.written_is)
+  writer_answers AskItem answer fits e t = absurd ((at s Writing capacity last shut back dropped took accepted acts js ps ss AskItem e t).flow.written_is)
+  writer_answers AskSeek answer fits e t = absurd ((at s Writing capacity last shut back dropped took accepted acts js ps ss AskSeek e t).flow.written_is)
+  writer_answers AskResult answer fits e t = absurd ((at s Writing capacity last shut back dropped took accepted acts js ps ss AskResult e t).flow.written_is)
   writer_answers _ answer fits e t = absurd (cc)

@@ -17,17 +17,17 @@ use Rattle.blocking_lanes.specs.SessionJobs.{JobAs, action_of, kind_of}
 use Rattle.blocking_lanes.specs.declared.job.SessionJob.{SessionJob}
 use Rattle.blocking_lanes.proofs.owners.OwnerActs.{last_is}
 use Rattle.blocking_laws.specs.Growth.{IsPlanned}
-use Rattle.blocking_laws.specs.JobTable.{Kind, Calling, Reading, Writing, JobAction, AskBytes, OfferBytes, AskFlush, Over, next_but_wake, next_after_answer, wake_first, is_over, has_finished, has_given_up}
+use Rattle.blocking_laws.specs.JobTable.{Kind, Calling, Reading, Writing, Streaming, Seeking, Operating, JobAction, AskBytes, OfferBytes, AskFlush, AskItem, Over, after_put, next_but_wake, next_after_answer, wake_first, is_over, has_finished, has_given_up}
 use Rattle.blocking_laws.specs.Jobs.{ends_for_good}
 use Rattle.blocking_laws.specs.Seen.{events, acts_of}
 use Rattle.blocking_laws.specs.Steps.{next_in_turn, is_turn_end}
 use Rattle.blocking_laws.specs.Turns.{GoesOn}
 use Rattle.blocking_laws.specs.declared.event.Act.{Act}
-use Rattle.blocking_laws.specs.declared.event.Act.TheVariants.{RoomFree, RoomShut, Answered, Put, Lost, Peeked, Drained, Taken, JobClosed, Finished, GaveUp, Ended}
+use Rattle.blocking_laws.specs.declared.event.Act.TheVariants.{RoomFree, RoomShut, Answered, Put, Lost, Peeked, Drained, Taken, JobClosed, ResultPut, Finished, GaveUp, Ended}
 use Rattle.blocking_laws.specs.declared.event.Event.{Event}
 use Rattle.blocking_laws.specs.declared.event.Moment.{Moment}
 use Rattle.blocking_laws.specs.declared.step.Answer.{Answer}
-use Rattle.blocking_laws.specs.declared.step.Answer.TheVariants.{Number, Gave}
+use Rattle.blocking_laws.specs.declared.step.Answer.TheVariants.{Number, Gave, Item}
 use Rattle.blocking_pool.specs.declared.pool.answer.Waited.TheVariants.{Stay, Stop}
 use Rattle.blocking_pool.specs.declared.pool.standing.Standing.{Standing}
 use Rattle.blocking_pool.specs.declared.pool.standing.Standing.TheVariants.{Running, Done, Dropped}
@@ -52,24 +52,35 @@ not_answered (OfferBytes bytes) (Number (suc k)) is = cc
 not_answered (OfferBytes bytes) (Number zero) is = cc
 not_answered (OfferBytes bytes) _ is = cc
 not_answered AskFlush answer is = cc
+not_answered AskItem (Item x) is = cc
+not_answered AskItem _ is = cc
 not_answered _ answer is = cc
+
+-- after a put there is more to do
+put_goes_on : (kind : Kind) → after_put kind ≡ Over → ⊥
+put_goes_on Streaming is = cc
+put_goes_on _ is = cc
 
 -- a job that has nothing left to do by its table has put its result or given up
 table_over : (kind : Kind) (acts : List Act) → next_but_wake kind acts ≡ Over → IsOver acts
 table_over Calling [] is = absurd cc
 table_over Reading [] is = absurd cc
 table_over Writing [] is = absurd cc
+table_over Streaming [] is = absurd cc
+table_over (Seeking position) [] is = absurd cc
+table_over Operating [] is = absurd cc
 table_over kind (Finished waker ∷ past) is = refl
 table_over kind (GaveUp waker ∷ past) is = or_right (has_finished past) true refl
 table_over kind (Answered answer ∷ past) is = absurd (not_answered (next_but_wake kind past) answer is)
 table_over kind (RoomFree n ∷ past) is = absurd cc
 table_over kind (RoomShut ∷ past) is = absurd cc
-table_over kind (Put n waker ∷ past) is = absurd cc
+table_over kind (Put n waker ∷ past) is = absurd (put_goes_on kind is)
 table_over kind (Lost n ∷ past) is = absurd cc
 table_over kind (Peeked bytes ∷ past) is = absurd cc
 table_over kind (Drained ∷ past) is = absurd cc
 table_over kind (Taken n waker ∷ past) is = absurd cc
 table_over kind (JobClosed waker ∷ past) is = absurd cc
+table_over kind (ResultPut waker ∷ past) is = absurd cc
 table_over kind (_ ∷ past) is = table_over kind past is
 
 call_over : (next : Action) (n : ℕ) (acts : List Act) → is_turn_end (next_in_turn GoesOn (call_action next)) ≡ true → RanAs next n acts → IsOver acts

@@ -25,14 +25,14 @@ use Rattle.blocking_lanes.specs.Tasks.{Task, finish_wakes}
 use Rattle.blocking_pool.proofs.Places.{got_same, got_other}
 use Rattle.blocking_lanes.proofs.acts.Calls.{call_number}
 use Rattle.blocking_lanes.proofs.owners.OwnerActs.{value_of}
-use Rattle.blocking_laws.specs.JobTable.{JobAction, AskCall, AskBytes, FindRoom, PutPiece, Peek, OfferBytes, Consume, AskFlush, CloseEnd, Finish, WakeHolder, Over, next_but_wake, next_of_job, is_answer, has_given_up}
+use Rattle.blocking_laws.specs.JobTable.{JobAction, AskCall, AskBytes, FindRoom, PutPiece, Peek, OfferBytes, Consume, AskFlush, AskItem, SendItem, AskSeek, AskResult, PutResult, CloseEnd, Finish, WakeHolder, Over, next_but_wake, next_of_job, is_answer, has_given_up}
 use Rattle.blocking_laws.specs.Jobs.{accepted_by, ends_for_good, holder, sweeps, stands_by, is_parked}
 use Rattle.blocking_laws.specs.Seats.{waker_in}
 use Rattle.blocking_laws.specs.Seen.{events, acts_of, is_of_pool, is_nothing}
 use Rattle.blocking_laws.specs.Steps.{is_answered_action, next_in_turn}
 use Rattle.blocking_laws.specs.Turns.{GoesOn, turn_by}
 use Rattle.blocking_laws.specs.declared.event.Act.{Act}
-use Rattle.blocking_laws.specs.declared.event.Act.TheVariants.{Answered, Finished, GaveUp, HolderWoken, JobParked, RoomFree, RoomShut, Put, Lost, Peeked, Drained, Taken as TakenOut, JobClosed}
+use Rattle.blocking_laws.specs.declared.event.Act.TheVariants.{Answered, Finished, GaveUp, HolderWoken, JobParked, RoomFree, RoomShut, Put, Lost, Peeked, Drained, Taken as TakenOut, JobClosed, ResultPut}
 use Rattle.blocking_laws.specs.declared.event.HolderWaker.TheVariants.{Taken, Absent}
 use Rattle.blocking_laws.specs.declared.event.Moment.{Moment}
 use Rattle.blocking_laws.specs.declared.step.Answer.{Answer}
@@ -70,6 +70,7 @@ own_in_turn (Peeked bytes) fits = record { pool = refl; something = refl; accept
 own_in_turn Drained fits = record { pool = refl; something = refl; accepted = refl; ended = λ s. refl; stays = λ s stand mark. refl }
 own_in_turn (TakenOut n waker) fits = record { pool = refl; something = refl; accepted = refl; ended = λ s. refl; stays = λ s stand mark. refl }
 own_in_turn (JobClosed waker) fits = record { pool = refl; something = refl; accepted = refl; ended = λ s. refl; stays = λ s stand mark. refl }
+own_in_turn (ResultPut waker) fits = record { pool = refl; something = refl; accepted = refl; ended = λ s. refl; stays = λ s stand mark. refl }
 own_in_turn (Finished waker) fits = record { pool = refl; something = refl; accepted = refl; ended = λ s. refl; stays = λ s stand mark. refl }
 own_in_turn HolderWoken fits = record { pool = refl; something = refl; accepted = refl; ended = λ s. refl; stays = λ s stand mark. refl }
 own_in_turn _ fits = absurd cc
@@ -96,6 +97,7 @@ turn_goes (Peeked bytes) s first acts fits parks going = going
 turn_goes Drained s first acts fits parks going = going
 turn_goes (TakenOut n waker) s first acts fits parks going = going
 turn_goes (JobClosed waker) s first acts fits parks going = going
+turn_goes (ResultPut waker) s first acts fits parks going = going
 turn_goes (Finished waker) s first acts fits parks going = going
 turn_goes HolderWoken s first acts fits parks going = going
 turn_goes _ s first acts fits parks going = absurd cc
@@ -213,6 +215,11 @@ asked Peek answer is = absurd cc
 asked (OfferBytes bytes) answer is = is
 asked (Consume n) answer is = absurd cc
 asked AskFlush answer is = is
+asked AskItem answer is = is
+asked (SendItem x) answer is = absurd cc
+asked AskSeek answer is = is
+asked AskResult answer is = is
+asked PutResult answer is = absurd cc
 asked CloseEnd answer is = absurd cc
 asked Finish answer is = absurd cc
 asked WakeHolder answer is = absurd cc
@@ -221,9 +228,7 @@ asked Over answer is = absurd cc
 call_answered : (k : ℕ) (next : Action) (n : ℕ) (answer : Answer) (acts : List Act) → (has_given_up acts ≡ false → RanAs next n acts) → has_given_up acts ≡ false → is_answer (call_action next) answer ≡ true
     → Leaves (core.Call k (call_by_parts next n)) (core_after_answer answer (core.Call k (call_by_parts next n))) (Answered answer) acts
 call_answered k action.Call n (Number m) acts ran going is = record { party = refl; kind = refl; core = λ on. ap (λ (l : List Act). Answered (Number m) ∷ l) (ran going); parks = λ parks. absurd cc }
-call_answered k action.Call n (Gave bytes) acts ran going is = absurd cc
-call_answered k action.Call n Fine acts ran going is = absurd cc
-call_answered k action.Call n (Failed error) acts ran going is = absurd cc
+call_answered k action.Call n _ acts ran going is = absurd cc
 call_answered k action.Finish n answer acts ran going is = absurd cc
 call_answered k action.Deliver n answer acts ran going is = absurd cc
 call_answered k action.Done n answer acts ran going is = absurd cc

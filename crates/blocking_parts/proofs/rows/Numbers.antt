@@ -45,14 +45,12 @@ of_did (action.Reply r) p last owner done is e = by_told (reply_as r) e
 of_did action.Close p (Some s) owner done is e = moved (λ (d : Did). number_of d.owner ≡ Some s.number) _ done e refl
 of_did (action.Drain most) p (Some s) owner done is e = moved (λ (d : Did). number_of d.owner ≡ Some s.number) _ done e (of_drain (drained (reach most s) s) p s owner is)
 of_did action.PollSlot p (Some s) owner done is e = of_look s.slot.content p s owner done e
-of_did action.Begin p (Some s) owner done is e = absurd cc
-of_did action.Deliver p (Some s) owner done is e = absurd cc
-of_did action.Pending p (Some s) owner done is e = absurd cc
 of_did (action.Fill most) p last owner done is e =
     by_fill (λ o. o ≡ Some done → number_of done.owner ≡ number_in last) p owner.asked last owner (λ e. absurd cc)
     (λ bytes s met here found e. moved (λ (d : Did). number_of d.owner ≡ number_in last) _ done e (of_fill bytes met p s owner (is ∙ here) ∙ sym (ap number_in here))) e
 of_did action.DropHandle p last owner done is e = moved (λ (d : Did). number_of d.owner ≡ number_in last) _ done e (ap number_in is)
 of_did _ p None owner done is e = absurd cc
+of_did _ p (Some s) owner done is e = absurd cc
 
 of_poll : (here : OwnerStage) (owner : Owner) (done : Did) → did_by here owner ≡ Some done → number_of done.owner ≡ number_of owner
 of_poll (stage.Polls p) owner done e = of_did (owner_next p) p owner.session owner done refl e

@@ -22,7 +22,7 @@ use Rattle.blocking_laws.specs.Seen.{events, acts_of}
 use Rattle.blocking_laws.specs.Steps.{may_cancel, is_answered_action, next_in_turn}
 use Rattle.blocking_laws.specs.Turns.{GoesOn}
 use Rattle.blocking_laws.specs.declared.event.Act.{Act}
-use Rattle.blocking_laws.specs.declared.event.Act.TheVariants.{Answered, RoomFree, RoomShut, JobParked, Put, Lost, Peeked, Drained, Taken as TakenOut, JobClosed, Finished, GaveUp, HolderWoken}
+use Rattle.blocking_laws.specs.declared.event.Act.TheVariants.{Answered, RoomFree, RoomShut, JobParked, Put, Lost, Peeked, Drained, Taken as TakenOut, JobClosed, ResultPut, Finished, GaveUp, HolderWoken}
 use Rattle.blocking_laws.specs.declared.event.Event.{Event}
 use Rattle.blocking_laws.specs.declared.event.Moment.{Moment}
 use Rattle.blocking_laws.specs.declared.event.Party.{Party}
@@ -103,6 +103,7 @@ may_plain stage.Runs (Peeked bytes) may = record { pool = refl; nothing = refl; 
 may_plain stage.Runs Drained may = record { pool = refl; nothing = refl; made = refl; new = refl }
 may_plain stage.Runs (TakenOut n waker) may = record { pool = refl; nothing = refl; made = refl; new = refl }
 may_plain stage.Runs (JobClosed waker) may = record { pool = refl; nothing = refl; made = refl; new = refl }
+may_plain stage.Runs (ResultPut waker) may = record { pool = refl; nothing = refl; made = refl; new = refl }
 may_plain stage.Runs (Finished waker) may = record { pool = refl; nothing = refl; made = refl; new = refl }
 may_plain stage.Runs HolderWoken may = record { pool = refl; nothing = refl; made = refl; new = refl }
 may_plain stage.MustGiveUp (GaveUp waker) may = record { pool = refl; nothing = refl; made = refl; new = refl }

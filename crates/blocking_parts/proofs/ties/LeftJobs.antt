@@ -22,7 +22,8 @@ use Rattle.blocking_lanes.specs.declared.owner.OwnerNext.TheVariants as next
 use Rattle.blocking_lanes.specs.declared.owner.OwnerStage.{OwnerStage}
 use Rattle.blocking_lanes.specs.declared.owner.OwnerStage.TheVariants as owner_stage
 use Rattle.blocking_pool.proofs.Places.{got_same, in_pushed}
-use Rattle.blocking_lanes.proofs.owners.Cuts.{its_kind, kind_is, state_is}
+use Rattle.blocking_lanes.proofs.owners.Cuts.{its_kind, kind_is}
+use Rattle.blocking_lanes.proofs.owners.States.{is_away, lent_by}
 use Rattle.blocking_lanes.proofs.owners.OwnerActs.{fits_at, owner_by_parts, value_of}
 use Rattle.blocking_lanes.proofs.owners.ReadSessions.{going}
 use Rattle.blocking_lanes.proofs.owners.Steps.{IsLast, begins_at, its_last}
@@ -92,7 +93,7 @@ begins_idle : (bytes : ℕ) (asked : Option HandleCall) (here : OwnerStage) (las
 begins_idle bytes asked (owner_stage.Polls poll) last X t begins =
     let fits = fits_at bytes asked poll X last action.Begin t (begins_at bytes asked poll last X t begins) in
     let idle = fits.1 in
-    sym (state_is (own X) poll.state t.stage.0.at_is (λ closed. cc)) ∙ t.stage.0.at_is ∙ ap state_as idle
+    lent_by (own X) poll.state (ap is_away idle) t.stage.0.at_is ∙ ap state_as idle
 begins_idle bytes asked (owner_stage.Rests at) last X t begins = absurd cc
 begins_idle bytes asked (owner_stage.Wakes poll note) last X t begins = absurd cc
 begins_idle bytes asked owner_stage.Dropped last X t begins = absurd cc

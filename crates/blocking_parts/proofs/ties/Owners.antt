@@ -25,7 +25,7 @@ use Rattle.blocking_lanes.proofs.owners.Events.{IsPlain}
 use Rattle.blocking_parts.proofs.rows.SessionJobs.{first_of_table}
 use Rattle.blocking_lanes.proofs.ties.Holders.{accepts_no_job}
 use Rattle.blocking_laws.specs.Growth.{IsPlanned}
-use Rattle.blocking_laws.specs.JobTable.{Kind, JobAction, Over, AskCall, AskBytes, OfferBytes, AskFlush, next_but_wake, is_answer, is_over, has_given_up}
+use Rattle.blocking_laws.specs.JobTable.{Kind, JobAction, Over, AskCall, AskBytes, OfferBytes, AskFlush, AskItem, AskSeek, AskResult, next_but_wake, is_answer, is_over, has_given_up}
 use Rattle.blocking_laws.specs.Jobs.{accepted_by, accepts, holder}
 use Rattle.blocking_laws.specs.OwnerLaws.{OwnerLaws}
 use Rattle.blocking_laws.specs.Seen.{events, acts_of, own, cut, is_in_cut, is_of_pool, is_nothing, is_some_worker, is_of_job, is_by_task}
@@ -98,6 +98,9 @@ answer_of AskCall answer is = is
 answer_of (AskBytes n) answer is = is
 answer_of (OfferBytes bytes) answer is = is
 answer_of AskFlush answer is = is
+answer_of AskItem answer is = is
+answer_of AskSeek answer is = is
+answer_of AskResult answer is = is
 answer_of _ answer is = absurd cc
 
 -- ---- what is seen where no owner takes a step
