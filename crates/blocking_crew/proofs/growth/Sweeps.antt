@@ -13,19 +13,14 @@ use Rattle.blocking_pool.specs.Sweeps.{AreAsked, swept, serials_below}
 use Rattle.blocking_laws.specs.Seen.{joined}
 use Rattle.blocking_crew.specs.Closing.{NoneDue}
 use Rattle.blocking_crew.specs.Tickets.{JobPool, SweepsTo, SweepsIf, WaitsSo, no_growth, is_valued, AreValued, to_sweep, is_due_to_sweep, is_marked_ticket}
-use Rattle.blocking_crew.proofs.Types.{WorkerPass, Standing, Running, Parked, Waited, Stay, Stop, Ticket}
+use Rattle.blocking_crew.proofs.Types.{WorkerPass, Standing, Parked, Waited, Stay, Stop, Ticket}
 use Rattle.blocking_crew.proofs.growth.Calls.{is_marked_so, enters_again}
-use Rattle.blocking_crew.proofs.jobs.Tickets.{PoolKept, same_pool, requeued_kept, stay_valued, swept_parked, none_due, sweeps_nothing}
+use Rattle.blocking_crew.proofs.jobs.Tickets.{PoolKept, same_pool, requeued_kept, swept_parked, none_due, sweeps_nothing}
 use Rattle.blocking_crew.proofs.growth.Reads.{IsRead, numbers_last}
 
--- a parked job has its ticket
-parked_valued : (standing : Standing) (value : Option Ticket) → is_running standing || is_some value ≡ true → standing ≡ Parked → is_some value ≡ true
-parked_valued Running value has is = absurd cc
-parked_valued _ value has is = has
-
-due_by : (standing : Standing) (value : Option Ticket) (m : Bool) → (standing ≡ Parked → is_some value ≡ true)
-    → ((ticket : Ticket) → standing ≡ Parked → value ≡ Some ticket → ticket.is_marked ≡ m) → (is_parked standing && m) ≡ (is_parked standing && is_marked_ticket value)
-due_by Parked None m valued asked = let never : false ≡ true = valued refl in absurd cc
+due_by : (standing : Standing) (value : Option Ticket) (m : Bool) → is_running standing || is_some value ≡ true → ((ticket : Ticket) → standing ≡ Parked → value ≡ Some ticket → ticket.is_marked ≡ m)
+    → (is_parked standing && m) ≡ (is_parked standing && is_marked_ticket value)
+due_by Parked None m valued asked = absurd cc
 due_by Parked (Some ticket) m valued asked = sym (asked ticket refl refl)
 due_by _ value m valued asked = refl
 
@@ -33,7 +28,7 @@ due_is : (jobs : Jobs Ticket) (marked : ℕ → Bool) (serial : ℕ) (found : Op
     → (is_parked_job found && marked serial) ≡ is_due_to_sweep found
 due_is jobs marked serial None at valued asked = refl
 due_is jobs marked serial (Some job) at valued asked =
-    due_by job.standing job.value (marked serial) (parked_valued job.standing job.value (sym (ap is_valued at) ∙ valued serial)) (λ ticket parked value. asked serial job ticket at parked value)
+    due_by job.standing job.value (marked serial) (sym (ap is_valued at) ∙ valued serial) (λ ticket parked value. asked serial job ticket at parked value)
 
 none_again : (asking : Asking) (old new : JobPool) (serials : List ℕ) → length serials ≡ 0 → CoreSweepsTo asking old serials new → SweepsTo asking.may_answer old serials no_growth new
 none_again asking old new [] none effect = (refl, effect.0)
@@ -97,7 +92,7 @@ module _ (asking : Asking) (old new : JobPool) (count : ℕ) (valued : AreValued
   has_swept growth sound after = record {
     count = told;
     after = after;
-    valued = stay_valued old.jobs new.jobs (sweeps_keep true asking.may_answer old new growth after).jobs valued;
+    valued = λ s. ((sweeps_keep true asking.may_answer old new growth after).jobs s).valued (valued s);
     due = none_due old new.jobs sound.unused (left_by asking.may_answer old new (to_sweep old) growth after).jobs;
   }
 

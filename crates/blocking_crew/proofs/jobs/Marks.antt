@@ -1,6 +1,6 @@
 -- Marks on the tickets of jobs in the pool.
 use Rattle.std.proofs.Common.{◌≡◌, Option, Some, None, ap, ◌∙◌, subst, refl, ℕ, ◌==◌, Bool, true, false, sym, if◌then◌else◌}
-use Rattle.std.proofs.lemmas.Bool.{eqb-true, eq-eqb}
+use Rattle.std.proofs.lemmas.Bool.{eqb-true, eq-eqb, cond_both}
 use Rattle.std.specs.FinMap.{get}
 use Rattle.std.specs.Prelude.{OnSome, option_map, IfSome}
 use Rattle.std.specs.Borrow.{MutBor}
@@ -34,17 +34,6 @@ abbrev pub mark_by : Option Ticket → Entry Ticket → Entry Ticket
 mark_by None entry = entry
 mark_by (Some value) entry = entry_with (ticket_after_mark value) entry
 
-as_was : (b : Bool) (found : Option (Entry Ticket)) → found ≡ (if b then option_map (mark_by None) found else found)
-as_was true None = refl
-as_was true (Some entry) = refl
-as_was false found = refl
-
--- the jobs after the ticket of one was marked, if it was there
-pub marked_by : (pool : JobPool) (number : JobNumber) (s : ℕ) (value : Option Ticket)
-    → get (pool_after_mark_of pool number value).jobs s ≡ (if number.serial == s then option_map (mark_by value) (get pool.jobs s) else get pool.jobs s)
-marked_by pool number s None = as_was (number.serial == s) (get pool.jobs s)
-marked_by pool number s (Some value) = job_changed pool.jobs number.serial (entry_with (ticket_after_mark value)) s (get pool.jobs number.serial) refl
-
 -- a ticket that is marked or left as it is, where it is there
 abbrev pub mark_ticket : Bool → Option Ticket → Option Ticket
 mark_ticket false value = value
@@ -57,6 +46,12 @@ mark_if b entry = record entry { value = mark_ticket b entry.value }
 unmarked : (found : Option (Entry Ticket)) → found ≡ option_map (mark_if false) found
 unmarked None = refl
 unmarked (Some entry) = refl
+
+-- the jobs after the ticket of one was marked, if it was there
+pub marked_by : (pool : JobPool) (number : JobNumber) (s : ℕ) (value : Option Ticket)
+    → get (pool_after_mark_of pool number value).jobs s ≡ (if number.serial == s then option_map (mark_by value) (get pool.jobs s) else get pool.jobs s)
+marked_by pool number s None = cond_both (number.serial == s) (option_map (mark_by None) (get pool.jobs s)) (get pool.jobs s) (λ found. get pool.jobs s ≡ found) (λ is. unmarked (get pool.jobs s)) (λ is. refl)
+marked_by pool number s (Some value) = job_changed pool.jobs number.serial (entry_with (ticket_after_mark value)) s (get pool.jobs number.serial) refl
 
 -- what is done to the job of a number marks its ticket
 marks_it : (found : Option (Entry Ticket)) (place : ℕ) (value : Option Ticket) → ((entry : Entry Ticket) → found ≡ Some entry → entry.place ≡ place) → value ≡ value_at (if_at place found)

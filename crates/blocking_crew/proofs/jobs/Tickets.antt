@@ -2,16 +2,16 @@
 use Rattle.std.proofs.Common.{◌+◌, ◌≡◌, ℕ, ◌<◌, ◌≤◌, ◌==◌, ◌||◌, cond, Bool, true, false, refl, sym, ap, ◌∙◌, subst, if◌then◌else◌, List, [], ◌∷◌, Option, Some, None, inl, inr, arith}
 use Rattle.blocking_pool.proofs.SweepLemmas.{stands_below}
 use Rattle.std.specs.Prelude.{option_map, is_some, filter}
-use Rattle.std.specs.FinMap.{get, insert, remove}
+use Rattle.std.specs.FinMap.{get, insert}
 use Rattle.std.proofs.Math.Bool.{or-true}
 use Rattle.std.proofs.lemmas.Bool.{eqb-true, cases_lt, and_parts, and_from, cond_both}
-use Rattle.blocking_pool.specs.Jobs.{Job, Jobs, JobNumber, amend, if_at, is_running, is_parked, is_running_job, is_parked_job, is_running_as, jobs_after_requeue, entry_after_requeue}
+use Rattle.blocking_pool.specs.Jobs.{Job, Jobs, amend, if_at, is_running, is_parked, is_running_job, is_parked_job, jobs_after_requeue, entry_after_requeue}
 use Rattle.blocking_pool.specs.Lists.{is_in}
 use Rattle.blocking_pool.specs.Sweeps.{serials_below}
-use Rattle.blocking_crew.specs.Tickets.{JobPool, is_valued, AreValued, is_due_to_sweep, is_marked_ticket, to_sweep}
+use Rattle.blocking_crew.specs.Tickets.{JobPool, is_valued, is_due_to_sweep, is_marked_ticket, to_sweep}
 use Rattle.blocking_crew.specs.Closing.{NoneDue}
 use Rattle.blocking_crew.proofs.Types.{Standing, Running, Parked, Ticket}
-use Rattle.blocking_crew.proofs.jobs.Lookups.{job_put, job_out, job_changed, job_requeued, runs_at, in_filter}
+use Rattle.blocking_crew.proofs.jobs.Lookups.{job_put, job_changed, job_requeued, runs_at, in_filter}
 
 -- ---- one job
 
@@ -62,17 +62,6 @@ AreKept jobs new = (s : ℕ) → IsKept (get jobs s) (get new s)
 
 pub all_kept : (jobs : Jobs Ticket) → AreKept jobs jobs
 all_kept jobs s = same_kept (get jobs s)
-
-pub kept_then : (jobs between new : Jobs Ticket) → AreKept jobs between → AreKept between new → AreKept jobs new
-kept_then jobs between new first second s =
-    record { runs = λ place runs. (second s).runs place ((first s).runs place runs); valued = λ has. (second s).valued ((first s).valued has) }
-
--- what ran runs on
-pub runs_on : (jobs new : Jobs Ticket) (number : JobNumber) → AreKept jobs new → is_running_as jobs number ≡ true → is_running_as new number ≡ true
-runs_on jobs new number kept runs = (kept number.serial).runs number.place runs
-
-pub stay_valued : (jobs new : Jobs Ticket) → AreKept jobs new → AreValued jobs → AreValued new
-stay_valued jobs new kept valued s = (kept s).valued (valued s)
 
 -- after one has changed
 pub amended_kept : (jobs : Jobs Ticket) (t : ℕ) (change : Job Ticket → Job Ticket) → IsKept (get jobs t) (option_map change (get jobs t)) → AreKept jobs (amend jobs t change)
@@ -147,12 +136,3 @@ filter_none test (n ∷ ns) none = ap (λ (b : Bool). cond b (n ∷ filter test 
 -- and a sweep puts nothing back
 pub sweeps_nothing : (pool : JobPool) → NoneDue pool → to_sweep pool ≡ []
 sweeps_nothing pool none = filter_none (λ serial. is_due_to_sweep (get pool.jobs serial)) (serials_below pool.next_serial) none
-
--- ---- after one was taken out
-
-pub removed_valued : (jobs : Jobs Ticket) (t : ℕ) → AreValued jobs → AreValued (remove jobs t)
-removed_valued jobs t valued s = ap is_valued (job_out jobs t s (t == s) refl) ∙ cond_both (t == s) None (get jobs s) (λ found. is_valued found ≡ true) (λ is. refl) (λ is. valued s)
-
--- the others run on
-pub removed_runs : (jobs : Jobs Ticket) (t : ℕ) (number : JobNumber) → (t == number.serial) ≡ false → is_running_as (remove jobs t) number ≡ is_running_as jobs number
-removed_runs jobs t number apart = ap (λ (o : Option (Job Ticket)). is_running_job (if_at number.place o)) (job_out jobs t number.serial false apart)

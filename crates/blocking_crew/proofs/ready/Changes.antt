@@ -8,15 +8,15 @@ use Rattle.blocking_pool.specs.Pools.{empty_pool}
 use Rattle.blocking_crew.specs.Crews.{Crew, IsReady, hand_at, with_hand, one_if_free, free_hands}
 use Rattle.blocking_crew.specs.Tickets.{JobPool, AreValued, is_valued}
 use Rattle.blocking_crew.proofs.Types.{WorkerPass, Hand, Out, Free, Holds, Held}
-use Rattle.blocking_crew.proofs.jobs.Tickets.{PoolKept, runs_on, stay_valued}
+use Rattle.blocking_crew.proofs.jobs.Tickets.{PoolKept}
 use Rattle.blocking_crew.proofs.hands.Rows.{IsAt, hand_set, hand_pushed, sum_set, sum_pushed}
 
 pub pool_ready : (crew : Crew) (pool : JobPool) → IsReady crew → PoolKept crew.pool pool → IsReady (record crew { pool = pool })
 pool_ready crew pool ready kept = record {
   idle = let idle = ready.idle in let level = kept.level in omega (arith, idle, level);
-  runs = λ v held at. runs_on crew.pool.jobs pool.jobs held.turn kept.jobs (ready.runs v held at);
+  runs = λ v held at. (kept.jobs held.turn.serial).runs held.turn.place (ready.runs v held at);
   apart = ready.apart;
-  valued = stay_valued crew.pool.jobs pool.jobs kept.jobs ready.valued;
+  valued = λ s. (kept.jobs s).valued (ready.valued s);
 }
 
 -- ---- one hand changes
