@@ -1,100 +1,29 @@
--- Jobs that run on, and have their tickets, whatever becomes of others.
-use Rattle.std.proofs.Common.{◌+◌, ◌≡◌, ℕ, ◌<◌, ◌≤◌, ◌==◌, ◌||◌, cond, Bool, true, false, refl, sym, ap, ◌∙◌, subst, if◌then◌else◌, List, [], ◌∷◌, Option, Some, None, inl, inr, arith}
+-- The tickets of jobs, and which jobs a sweep puts back.
+use Rattle.std.proofs.Common.{◌≡◌, ℕ, ◌<◌, ◌≤◌, ◌||◌, cond, Bool, true, false, refl, sym, ap, ◌∙◌, if◌then◌else◌, List, [], ◌∷◌, Option, Some, None, inl, inr, arith}
 use Rattle.blocking_pool.proofs.SweepLemmas.{stands_below}
 use Rattle.std.specs.Prelude.{option_map, is_some, filter}
-use Rattle.std.specs.FinMap.{get, insert}
+use Rattle.std.specs.FinMap.{get}
 use Rattle.std.proofs.Math.Bool.{or-true}
-use Rattle.std.proofs.lemmas.Bool.{eqb-true, cases_lt, and_parts, and_from, cond_both}
-use Rattle.blocking_pool.specs.Jobs.{Job, Jobs, amend, if_at, is_running, is_parked, is_running_job, is_parked_job, jobs_after_requeue, entry_after_requeue}
+use Rattle.std.proofs.lemmas.Bool.{cases_lt, and_parts, and_from, cond_both}
+use Rattle.blocking_pool.specs.Jobs.{Job, Jobs, is_running, is_parked, is_parked_job, jobs_after_requeue, entry_after_requeue}
 use Rattle.blocking_pool.specs.Lists.{is_in}
 use Rattle.blocking_pool.specs.Sweeps.{serials_below}
-use Rattle.blocking_crew.specs.Tickets.{JobPool, is_valued, is_due_to_sweep, is_marked_ticket, to_sweep}
+use Rattle.blocking_crew.specs.Tickets.{JobPool, is_valued, is_due_to_sweep, is_marked_ticket, to_sweep, AreValued}
 use Rattle.blocking_crew.specs.Closing.{NoneDue}
-use Rattle.blocking_crew.proofs.Types.{Standing, Running, Parked, Ticket}
-use Rattle.blocking_crew.proofs.jobs.Lookups.{job_put, job_changed, job_requeued, runs_at, in_filter}
-
--- ---- one job
-
--- a job that runs at its place runs on there, and one that has its ticket where it doesn't run has it
-pub record IsKept (old new : Option (Job Ticket)) : Type 0 where
-  pub runs : (place : ℕ) → is_running_job (if_at place old) ≡ true → is_running_job (if_at place new) ≡ true
-  pub valued : is_valued old ≡ true → is_valued new ≡ true
-
-pub same_kept : (found : Option (Job Ticket)) → IsKept found found
-same_kept found = record { runs = λ place runs. runs; valued = λ valued. valued }
-
-place_alike : (p : ℕ) (job new : Job Ticket) → new.standing ≡ job.standing → new.place ≡ job.place → is_running_job (if_at p (Some new)) ≡ is_running_job (if_at p (Some job))
-place_alike p job new st pl = rw pl (grind (arith, st))
-
--- a job whose standing and place stay is kept, if its value is
-pub changed_kept : (change : Job Ticket → Job Ticket) → ((job : Job Ticket) → (change job).standing ≡ job.standing) → ((job : Job Ticket) → (change job).place ≡ job.place)
-    → ((job : Job Ticket) → is_valued (Some job) ≡ true → is_valued (Some (change job)) ≡ true) → (found : Option (Job Ticket)) → IsKept found (option_map change found)
-changed_kept change standing place valued None = same_kept None
-changed_kept change standing place valued (Some job) = record {
-  runs = λ p runs. place_alike p job (change job) (standing job) (place job) ∙ runs;
-  valued = λ has. valued job has;
-}
+use Rattle.blocking_crew.proofs.Types.{Standing, Parked, Ticket}
+use Rattle.blocking_crew.proofs.jobs.Lookups.{job_requeued, in_filter}
 
 -- a job with its ticket is valued
 pub with_ticket : (job : Job Ticket) (ticket : Ticket) → job.value ≡ Some ticket → is_valued (Some job) ≡ true
 with_ticket job ticket has = rw has (or-true (is_running job.standing))
 
-not_parked : (standing : Standing) → is_running standing ≡ true → is_parked standing ≡ true → ⊥
-not_parked Running runs parked = cc
-not_parked _ runs parked = cc
-
-parked_has : (standing : Standing) (value : Option Ticket) → is_parked standing ≡ true → (is_running standing || is_some value) ≡ true → is_some value ≡ true
+pub parked_has : (standing : Standing) (value : Option Ticket) → is_parked standing ≡ true → (is_running standing || is_some value) ≡ true → is_some value ≡ true
 parked_has Parked value parked has = has
 parked_has _ value parked has = absurd cc
 
--- a parked job that enters again is kept
-pub parked_kept : (found : Option (Job Ticket)) → is_parked_job found ≡ true → IsKept found (option_map entry_after_requeue found)
-parked_kept None parked = absurd cc
-parked_kept (Some job) parked = record {
-  runs = λ place runs. absurd (not_parked job.standing (runs_at place (Some job) runs) parked);
-  valued = λ has. parked_has job.standing job.value parked has;
-}
-
--- ---- the jobs of a pool
-
-abbrev pub AreKept : Jobs Ticket → Jobs Ticket → Type 0
-AreKept jobs new = (s : ℕ) → IsKept (get jobs s) (get new s)
-
-pub all_kept : (jobs : Jobs Ticket) → AreKept jobs jobs
-all_kept jobs s = same_kept (get jobs s)
-
--- after one has changed
-pub amended_kept : (jobs : Jobs Ticket) (t : ℕ) (change : Job Ticket → Job Ticket) → IsKept (get jobs t) (option_map change (get jobs t)) → AreKept jobs (amend jobs t change)
-amended_kept jobs t change kept s =
-    subst (IsKept (get jobs s)) (sym (job_changed jobs t change s (get jobs t) refl))
-    (cond_both (t == s) (option_map change (get jobs s)) (get jobs s) (IsKept (get jobs s)) (λ same. subst (λ (n : ℕ). IsKept (get jobs n) (option_map change (get jobs n))) (eqb-true t s same) kept) (λ same. same_kept (get jobs s)))
-
-fresh_kept : (found : Option (Job Ticket)) (job : Job Ticket) → found ≡ None → is_valued (Some job) ≡ true → IsKept found (Some job)
-fresh_kept None job none valued = record { runs = λ place runs. absurd cc; valued = λ has. valued }
-fresh_kept (Some other) job none valued = absurd cc
-
--- after a new one was put in
-pub inserted_kept : (jobs : Jobs Ticket) (t : ℕ) (job : Job Ticket) → get jobs t ≡ None → is_valued (Some job) ≡ true → AreKept jobs (insert jobs t job)
-inserted_kept jobs t job fresh valued s =
-    subst (IsKept (get jobs s)) (sym (job_put jobs t job s (t == s) refl))
-    (cond_both (t == s) (Some job) (get jobs s) (IsKept (get jobs s)) (λ same. fresh_kept (get jobs s) job (ap (get jobs) (sym (eqb-true t s same)) ∙ fresh) valued) (λ same. same_kept (get jobs s)))
-
--- after parked ones entered again
-pub requeued_kept : (jobs : Jobs Ticket) (serials : List ℕ) → ((s : ℕ) → is_in s serials ≡ true → is_parked_job (get jobs s) ≡ true) → AreKept jobs (jobs_after_requeue jobs serials)
-requeued_kept jobs serials parked s =
-    subst (IsKept (get jobs s)) (sym (job_requeued serials jobs s))
-    (cond_both (is_in s serials) (option_map entry_after_requeue (get jobs s)) (get jobs s) (IsKept (get jobs s)) (λ found. parked_kept (get jobs s) (parked s found)) (λ found. same_kept (get jobs s)))
-
--- ---- pools
-
--- What a change of the pool leaves: jobs run on and have their tickets, and as many idle workers have arrived as before.
-pub record PoolKept (old new : JobPool) : Type 0 where
-  pub jobs : AreKept old.jobs new.jobs
-  pub level : new.counts.idle + old.counts.arriving ≡ old.counts.idle + new.counts.arriving
-
--- the same pool
-pub same_pool : (old new : JobPool) → new ≡ old → PoolKept old new
-same_pool old new same = rw same (record { jobs = all_kept old.jobs; level = refl })
+requeued_valued : (found : Option (Job Ticket)) → is_parked_job found ≡ true → is_valued found ≡ true → is_valued (option_map entry_after_requeue found) ≡ true
+requeued_valued None parked has = refl
+requeued_valued (Some job) parked has = parked_has job.standing job.value parked has
 
 -- ---- sweeps
 
@@ -106,6 +35,13 @@ due_parked (Some job) due = (and_parts (is_parked job.standing) (is_marked_ticke
 pub swept_parked : (pool : JobPool) (s : ℕ) → is_in s (to_sweep pool) ≡ true → is_parked_job (get pool.jobs s) ≡ true
 swept_parked pool s found =
     due_parked (get pool.jobs s) (and_parts (is_due_to_sweep (get pool.jobs s)) (is_in s (serials_below pool.next_serial)) (sym (in_filter (λ serial. is_due_to_sweep (get pool.jobs serial)) (serials_below pool.next_serial) s) ∙ found)).0
+
+-- so each job that doesn't run has its ticket after it
+pub swept_valued : (pool : JobPool) → AreValued pool.jobs → AreValued (jobs_after_requeue pool.jobs (to_sweep pool))
+swept_valued pool valued s =
+    ap is_valued (job_requeued (to_sweep pool) pool.jobs s)
+    ∙ cond_both (is_in s (to_sweep pool)) (option_map entry_after_requeue (get pool.jobs s)) (get pool.jobs s) (λ found. is_valued found ≡ true)
+    (λ is. requeued_valued (get pool.jobs s) (swept_parked pool s is) (valued s)) (λ is. valued s)
 
 requeued_undue : (found : Option (Job Ticket)) → is_due_to_sweep (option_map entry_after_requeue found) ≡ false
 requeued_undue None = refl

@@ -1,21 +1,19 @@
 -- A crew stays ready where a worker's hand changes with its pool.
 use Rattle.std.proofs.Common.{◌≡◌, ℕ, ◌+◌, ◌-◌, ◌<◌, ◌==◌, Bool, true, false, refl, sym, ap, ◌∙◌, arith, Option, Some, None, if◌then◌else◌}
 use Rattle.blocking_crew.proofs.jobs.Changes.{change_of, found_after}
-use Rattle.blocking_crew.specs.Moves.{Move, Parks, May, after}
-use Rattle.std.specs.Prelude.{option_map}
+use Rattle.blocking_crew.specs.Moves.{Move, May, after}
 use Rattle.std.specs.FinMap.{get, insert}
 use Rattle.std.proofs.lemmas.Bool.{ne_eqb, eqb-false, cond_both}
 use Rattle.blocking_pool.specs.Growth.{Growth}
-use Rattle.blocking_pool.specs.Jobs.{Job, Jobs, JobNumber, if_at, is_running_job, is_running_as, entry_after_take, entry_after_park, entry_after_requeue}
+use Rattle.blocking_pool.specs.Jobs.{Job, Jobs, JobNumber, if_at, is_running_job, is_running_as, entry_after_take}
 use Rattle.blocking_pool.specs.Pools.{without_job}
 use Rattle.blocking_crew.specs.Crews.{Crew, IsReady, hand_at, with_hand, one_if_free, free_hands}
 use Rattle.blocking_crew.specs.Tickets.{JobPool, AreValued, is_valued, TakesFront}
-use Rattle.blocking_crew.specs.declared.tickets.Parking.TheVariants as parking
 use Rattle.blocking_crew.proofs.Types.{Standing, WorkerPass, Hand, Out, Free, Holds, Held, Stage, Ticket}
 use Rattle.blocking_crew.proofs.hands.Rows.{at_free, at_held, sum_set}
-use Rattle.blocking_crew.proofs.jobs.Tickets.{with_ticket}
-use Rattle.blocking_crew.proofs.jobs.Lookups.{job_put, job_out, taken_runs, runs_at}
+use Rattle.blocking_crew.proofs.jobs.Lookups.{job_out, taken_runs, runs_at}
 use Rattle.blocking_crew.proofs.ready.Changes.{hand_ready}
+use Rattle.blocking_crew.proofs.ready.Jobs.{IsKept, kept_after}
 
 -- a free hand is that of an idle worker that has arrived
 pub one_free : (crew : Crew) (v : ℕ) (pass : WorkerPass) → IsReady crew → hand_at crew.hands v ≡ Free pass → crew.pool.counts.arriving < crew.pool.counts.idle
@@ -27,17 +25,18 @@ one_free crew v pass ready at =
 
 -- ---- no turn ends
 
--- the jobs stay, and a worker that held no job holds none
-pub free_ready : (crew : Crew) (pool : JobPool) (v : ℕ) (old : WorkerPass) (new : Hand) → IsReady crew → hand_at crew.hands v ≡ Free old → ((held : Held) → new ≡ Holds held → ⊥) → pool.jobs ≡ crew.pool.jobs
-    → pool.counts.idle + 1 + crew.pool.counts.arriving ≡ crew.pool.counts.idle + pool.counts.arriving + one_if_free new → IsReady (record { pool = pool; hands = with_hand crew.hands v new })
-free_ready crew pool v old new ready at jobless same level =
+-- a worker that held no job holds none
+pub free_ready : (crew : Crew) (pool : JobPool) (v : ℕ) (old : WorkerPass) (new : Hand) → IsReady crew → hand_at crew.hands v ≡ Free old → ((held : Held) → new ≡ Holds held → ⊥)
+    → ((s : ℕ) → IsKept false (get crew.pool.jobs s) (get pool.jobs s)) → pool.counts.idle + 1 + crew.pool.counts.arriving ≡ crew.pool.counts.idle + pool.counts.arriving + one_if_free new
+    → IsReady (record { pool = pool; hands = with_hand crew.hands v new })
+free_ready crew pool v old new ready at jobless kept level =
     hand_ready crew pool v (Free old) new ready (record {
       at = at_free crew.hands v old at;
       level = level;
-      others = λ u held apart there. rw same (ready.runs u held there);
+      others = λ u held apart there. (kept held.turn.serial).runs refl held.turn.place (ready.runs u held there);
       own = λ held is. absurd (jobless held is);
       alone = λ u held other apart is there serial. jobless held is;
-      valued = rw same ready.valued;
+      valued = λ s. (kept s).valued (ready.valued s);
     })
 
 turn_in : (turn : JobNumber) (stage : Stage) (held : Held) → Holds (record { turn = turn; stage = stage }) ≡ Holds held → turn ≡ held.turn
@@ -84,32 +83,15 @@ over_ready crew v held pass ready at =
     (λ number apart. ap (λ (o : Option (Job Ticket)). is_running_job (if_at number.place o)) (job_out crew.pool.jobs held.turn.serial number.serial false apart))
     (λ s. ap is_valued (job_out crew.pool.jobs held.turn.serial s (held.turn.serial == s) refl) ∙ cond_both (held.turn.serial == s) None (get crew.pool.jobs s) (λ found. is_valued found ≡ true) (λ is. refl) (λ is. ready.valued s))
 
-park_valued : (ticket : Ticket) (found : Option (Job Ticket)) → is_valued (option_map (entry_after_park ticket) found) ≡ true
-park_valued ticket None = refl
-park_valued ticket (Some job) = with_ticket (entry_after_park ticket job) ticket refl
-
-return_valued : (ticket : Ticket) (found : Option (Job Ticket)) → is_valued (option_map entry_after_requeue (option_map (entry_after_park ticket) found)) ≡ true
-return_valued ticket None = refl
-return_valued ticket (Some job) = refl
-
-module _ (may_answer : ℕ → Bool → Type 0) (crew : Crew) (v : ℕ) (held : Held) (ticket : Ticket) (pass : WorkerPass) (pool : JobPool) (ready : IsReady crew) where
-  -- a move after which the job in the hand waits or is queued again, with its ticket
-  left_ready : (move : Move) → May may_answer crew move → hand_at crew.hands v ≡ Holds held → (after crew move).pool ≡ pool → ((s : ℕ) → (change_of crew move).which s ≡ (held.turn.serial == s))
-      → ((found : Option (Job Ticket)) → is_valued ((change_of crew move).becomes found) ≡ true) → pool.counts.idle ≡ crew.pool.counts.idle + 1 → pool.counts.arriving ≡ crew.pool.counts.arriving
-      → IsReady (record { pool = pool; hands = with_hand crew.hands v (Free pass) })
-  left_ready move may at same which has idle arriving =
-      let found = λ (s : ℕ). ap (λ (p : JobPool). get p.jobs s) (sym same) ∙ found_after may_answer crew move s may in
-      ended_ready crew pool v held pass ready at idle arriving
-      (λ number apart. ap (λ (o : Option (Job Ticket)). is_running_job (if_at number.place o))
-      (found number.serial ∙ ap (λ (b : Bool). if b then (change_of crew move).becomes (get crew.pool.jobs number.serial) else get crew.pool.jobs number.serial) (which number.serial ∙ apart)))
-      (λ s. ap is_valued (found s)
-      ∙ cond_both ((change_of crew move).which s) _ (get crew.pool.jobs s) (λ o. is_valued o ≡ true) (λ is. has (get crew.pool.jobs s)) (λ is. ready.valued s))
-
-  pub park_ready : May may_answer crew (Parks v held ticket (parking.Parked pass) pool) → IsReady (record { pool = pool; hands = with_hand crew.hands v (Free pass) })
-  park_ready may = left_ready (Parks v held ticket (parking.Parked pass) pool) may may.0 refl (λ s. refl) (park_valued ticket) (rw may.2.effect.2 refl) (rw may.2.effect.2 refl)
-
-  pub return_ready : May may_answer crew (Parks v held ticket (parking.Queued pass) pool) → IsReady (record { pool = pool; hands = with_hand crew.hands v (Free pass) })
-  return_ready may = left_ready (Parks v held ticket (parking.Queued pass) pool) may may.0 refl (λ s. refl) (return_valued ticket) (rw may.2.effect.2 refl) (rw may.2.effect.2 refl)
+-- the job waits, or is queued again
+pub left_ready : (may_answer : ℕ → Bool → Type 0) (crew : Crew) (move : Move) (v : ℕ) (held : Held) (pass : WorkerPass) → IsReady crew → May may_answer crew move → hand_at crew.hands v ≡ Holds held
+    → ((s : ℕ) → (change_of crew move).which s ≡ (held.turn.serial == s)) → (after crew move).pool.counts.idle ≡ crew.pool.counts.idle + 1 → (after crew move).pool.counts.arriving ≡ crew.pool.counts.arriving
+    → IsReady (record { pool = (after crew move).pool; hands = with_hand crew.hands v (Free pass) })
+left_ready may_answer crew move v held pass ready may at which idle arriving =
+    ended_ready crew (after crew move).pool v held pass ready at idle arriving
+    (λ number apart. ap (λ (o : Option (Job Ticket)). is_running_job (if_at number.place o))
+    (found_after may_answer crew move number.serial may ∙ ap (λ (b : Bool). if b then (change_of crew move).becomes (get crew.pool.jobs number.serial) else get crew.pool.jobs number.serial) (which number.serial ∙ apart)))
+    (λ s. (kept_after may_answer crew move s may).valued (ready.valued s))
 
 -- ---- a job is taken
 
@@ -117,7 +99,7 @@ queued_runs : (found : Option (Job Ticket)) (job : Job Ticket) (place : ℕ) →
 queued_runs found job place there idle runs = let bad : true ≡ false = sym (runs_at place found runs) ∙ ap is_running_job there ∙ idle in cc
 
 module _ (may_answer : ℕ → Bool → Type 0) (crew : Crew) (pool : JobPool) (v : ℕ) (pass : WorkerPass) (turn : JobNumber) (ticket : Ticket) (to_drop : Bool) (stage : Stage) (growth : Growth)
-    (ready : IsReady crew) (at : hand_at crew.hands v ≡ Free pass) (takes : TakesFront may_answer crew.pool turn ticket to_drop growth pool) where
+    (ready : IsReady crew) (at : hand_at crew.hands v ≡ Free pass) (takes : TakesFront may_answer crew.pool turn ticket to_drop growth pool) (kept : (s : ℕ) → IsKept false (get crew.pool.jobs s) (get pool.jobs s)) where
   taken_jobs : pool.jobs ≡ insert crew.pool.jobs turn.serial (entry_after_take takes.job)
   taken_jobs = ap (λ (p : JobPool). p.jobs) takes.after_is
 
@@ -127,12 +109,6 @@ module _ (may_answer : ℕ → Bool → Type 0) (crew : Crew) (pool : JobPool) (
       queued_runs (get crew.pool.jobs held.turn.serial) takes.job held.turn.place (ap (get crew.pool.jobs) (sym same) ∙ takes.found)
       (ap (λ (s : Standing). is_running_job (Some (record takes.job { standing = s }))) takes.stands) (ready.runs u held there)
 
-  others_run : (u : ℕ) (held : Held) → hand_at crew.hands u ≡ Holds held → is_running_as pool.jobs held.turn ≡ true
-  others_run u held there =
-      ap (λ (jobs : Jobs Ticket). is_running_as jobs held.turn) taken_jobs
-      ∙ ap (λ (o : Option (Job Ticket)). is_running_job (if_at held.turn.place o)) (job_put crew.pool.jobs turn.serial (entry_after_take takes.job) held.turn.serial false (ne_eqb turn.serial held.turn.serial (unheld u held there)))
-      ∙ ready.runs u held there
-
   pub taken_ready : IsReady (record { pool = pool; hands = with_hand crew.hands v (Holds (record { turn = turn; stage = stage })) })
   taken_ready = hand_ready crew pool v (Free pass) (Holds (record { turn = turn; stage = stage })) ready (record {
     at = at_free crew.hands v pass at;
@@ -141,13 +117,10 @@ module _ (may_answer : ℕ → Bool → Type 0) (crew : Crew) (pool : JobPool) (
         let idle : pool.counts.idle ≡ crew.pool.counts.idle - 1 + growth.started = ap (λ (p : JobPool). p.counts.idle) takes.after_is in
         let arriving : pool.counts.arriving ≡ crew.pool.counts.arriving + growth.started = ap (λ (p : JobPool). p.counts.arriving) takes.after_is in
         omega (arith, some, idle, arriving);
-    others = λ u held apart there. others_run u held there;
+    others = λ u held apart there. (kept held.turn.serial).runs refl held.turn.place (ready.runs u held there);
     own = λ held is.
         ap (λ (n : JobNumber). is_running_as pool.jobs n) (sym (turn_in turn stage held is)) ∙ ap (λ (jobs : Jobs Ticket). is_running_as jobs turn) taken_jobs
         ∙ taken_runs crew.pool.jobs turn takes.job takes.place;
     alone = λ u held other apart is there serial. unheld u other there (ap (λ (n : JobNumber). n.serial) (turn_in turn stage held is) ∙ serial);
-    valued = λ s.
-        rw taken_jobs
-        (ap is_valued (job_put crew.pool.jobs turn.serial (entry_after_take takes.job) s (turn.serial == s) refl)
-        ∙ cond_both (turn.serial == s) (Some (entry_after_take takes.job)) (get crew.pool.jobs s) (λ found. is_valued found ≡ true) (λ is. refl) (λ is. ready.valued s));
+    valued = λ s. (kept s).valued (ready.valued s);
   })
