@@ -13,7 +13,7 @@ use Rattle.blocking_laws.specs.Growth.{IsPlanned}
 use Rattle.blocking_laws.specs.Jobs.{standing, is_woken, is_cancelled, is_marked, is_to_drop, has_ended}
 use Rattle.blocking_laws.specs.Queue.{queue, to_sweep as seen_to_sweep}
 use Rattle.blocking_laws.specs.Seen.{joined, has_timed_out}
-use Rattle.blocking_laws.specs.Turns.{Turn}
+use Rattle.blocking_laws.specs.Turns.{turn}
 use Rattle.blocking_laws.specs.declared.event.Act.TheVariants.{Took}
 use Rattle.blocking_crew.specs.Crews.{Crew, hand_at, may_end, outcome_of, standing_after}
 use Rattle.blocking_crew.specs.Moves.{Move, Adds, Arrives, TakesJob, TakesNone, Works, EndsTurn, Parks, HasWaited, Sweeps, IsWoken, IsCancelled, IsLetGo, Tells, May, call_of, next_start, took_act, parked_act}
@@ -74,9 +74,7 @@ module _ (setting : ℕ) (plan : List Bool) (crew : Crew) (past : List Moment) (
       ap (λ (b : Bool). took_act b s) wanted ∙ took_if (is_to_drop past s) s ∙ ap (take_from past) (sym front.front ∙ h.tied.lined)
 
   ends : (held : Held) (v : ℕ) → hand_at crew.hands v ≡ Holds held → may_end held.stage ≡ true → Ended held.turn.serial (standing_after (outcome_of held.stage)) ≡ end_answer past held.turn.serial
-  ends held v at may =
-      let s = held.turn.serial in
-      end_is held.stage (is_to_drop past s) (is_woken past s) s may ∙ ap (λ (where_is : Turn). end_of where_is (is_to_drop past s) (is_woken past s) s) (sym (h.tied.handed.turn_is v held at))
+  ends held v at may = rw (h.tied.handed.turn_is v held at) (end_is held.stage (is_to_drop past held.turn.serial) (is_woken past held.turn.serial) held.turn.serial may)
 
   -- the end of a run that waits
   parks : (held : Held) (v : ℕ) (ticket : Ticket) (parked : Parking) (pool : JobPool) → hand_at crew.hands v ≡ Holds held → held.stage ≡ stage.Waits → ParksSo crew.pool held.turn ticket parked pool → ticket.is_marked ≡ is_marked past held.turn.serial
@@ -92,15 +90,13 @@ module _ (setting : ℕ) (plan : List Bool) (crew : Crew) (past : List Moment) (
       drop : (so.job.cancelled || ticket.is_marked) ≡ is_to_drop past s
       drop = ap₂ (λ (a b : Bool). a || b) (sym filed.2) marked
 
-      answer : (d w : Bool) → is_to_drop past s ≡ d → is_woken past s ≡ w → end_of (turn_of stage.Waits) d w s ≡ end_answer past s
-      answer d w e f =
-          ap (λ b. end_of (turn_of stage.Waits) b w s) (sym e) ∙ ap (λ b. end_of (turn_of stage.Waits) (is_to_drop past s) b s) (sym f)
-          ∙ ap (λ (where_is : Turn). end_of where_is (is_to_drop past s) (is_woken past s) s) (sym (h.tied.handed.turn_is v held at ∙ ap turn_of waits))
+      waiting : turn past s ≡ turn_of stage.Waits
+      waiting = h.tied.handed.turn_is v held at ∙ ap turn_of waits
 
       by : (p : Parking) → ParksTo crew.pool held.turn ticket so.job p pool → parked_act p s ≡ end_answer past s
-      by (parking.Parked pass) e = answer false false (sym drop ∙ e.0) (filed.1 ∙ e.1)
-      by (parking.Queued pass) e = answer false true (sym drop ∙ e.0) (filed.1 ∙ e.1)
-      by (parking.HandedOut back) e = answer true (is_woken past s) (sym drop ∙ e.0) refl
+      by (parking.Parked pass) e = rw (waiting, sym drop ∙ e.0, filed.1 ∙ e.1) refl
+      by (parking.Queued pass) e = rw (waiting, sym drop ∙ e.0, filed.1 ∙ e.1) refl
+      by (parking.HandedOut back) e = rw (waiting, sym drop ∙ e.0) refl
 
   -- the laws stop a worker where the pool does
   stop_is : (end : WaitEnd) (growth : Growth) (between : JobPool) → SweepsIf (has_timed_out end) (IsPlanned plan) crew.pool growth between

@@ -1,5 +1,5 @@
 -- Each move keeps the counts of a crew what the past tells.
-use Rattle.std.proofs.Common.{[], ◌≡◌, ℕ, ◌<◌, ◌≤◌, ◌+◌, ◌-◌, ◌==◌, min, List, ◌∷◌, Bool, true, false, cond, length, length-append, refl, sym, ap, ◌∙◌, ap₂, arith, if◌then◌else◌, Option, Some, None, zero, suc}
+use Rattle.std.proofs.Common.{[], ◌≡◌, ℕ, ◌<◌, ◌≤◌, ◌+◌, ◌==◌, min, List, ◌∷◌, Bool, true, false, cond, length, length-append, refl, sym, ap, ◌∙◌, ap₂, arith, if◌then◌else◌, Option, Some, None, zero, suc}
 use Rattle.std.specs.Prelude.{◌||◌, filter}
 use Rattle.std.proofs.lemmas.Bool.Decides.{nat_tests}
 use Rattle.blocking_pool.specs.Counts.{limit_of}

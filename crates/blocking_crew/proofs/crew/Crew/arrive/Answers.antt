@@ -1,5 +1,5 @@
 use Rattle.std.proofs.Common.{◌≡◌, ◌∙◌, sym, Some, None}
-use Rattle.blocking_crew.specs.Moves.{NeverAsked, seen}
+use Rattle.blocking_crew.specs.Moves.{NeverAsked}
 use Rattle.blocking_crew.specs.contracts.crew.Crew.{the_view}
 use Rattle.blocking_crew.proofs.calls.Moves.{arrives_by}
 use Rattle.blocking_crew.proofs.ready.Moves.{moved_ready}
