@@ -10,12 +10,12 @@ use Rattle.blocking_laws.specs.Queue.{entered_by, taken_by, ended_by}
 use Rattle.blocking_laws.specs.Seen.{is_of_pool}
 use Rattle.blocking_laws.specs.Steps.{is_there}
 use Rattle.blocking_laws.specs.Turns.{FitsTurn, HoldsOne, turn, hand}
-use Rattle.blocking_laws.specs.declared.event.Act.TheVariants.{Took, Taken as TakenOut, ResultPut}
+use Rattle.blocking_laws.specs.declared.event.Act.TheVariants.{Took, Taken as TakenOut}
 use Rattle.blocking_crew.specs.Crews.{Crew, may_act, stage_after, outcome_of, standing_after}
 use Rattle.blocking_crew.specs.Moves.{is_aside, seen}
 use Rattle.blocking_crew.specs.Ties.{FiledHere, Handed, turn_of}
 use Rattle.blocking_crew.specs.declared.hand.Stage.TheVariants as stage
-use Rattle.blocking_crew.proofs.Types.{NoWorker, Done, Dropped, Act, Made, Asked, OwnerClosed, Got, GotEnd, Filled, FillShut, Back, Replied, Accepted, Refused, JobWoken, JobCancelled, LimitSet, Swept, Waits, HolderDropped, TaskGot, TaskGotNone, TaskCancelled, TaskDetached, Arrived, TookDropped, TookNone, Stays, Stopped, Ended, HandedOut, Answered, RoomFree, RoomShut, JobParked, Put, Lost, Peeked, Drained, JobClosed, Finished, GaveUp, HolderWoken, NoAction, HolderWaker, Moment, Party, Step, Stage, Ticket}
+use Rattle.blocking_crew.proofs.Types.{NoWorker, Done, Dropped, Act, Made, Asked, OwnerClosed, Got, GotEnd, Filled, FillShut, Back, Replied, Accepted, Refused, JobWoken, JobCancelled, LimitSet, Swept, Waits, HolderDropped, TaskGot, TaskGotNone, TaskCancelled, TaskDetached, Arrived, TookDropped, TookNone, Stays, Stopped, Ended, HandedOut, Answered, RoomFree, RoomShut, JobParked, Put, Lost, Peeked, Drained, JobClosed, Finished, GaveUp, HolderWoken, NoAction, HolderWaker, Moment, Party, Step, Stage, Ticket, ResultPut}
 
 -- the moment of an act, as the layer above sees it
 abbrev pub now_with : Step → Option ℕ → Party → Option ℕ → Act → ℕ → Growth → Moment
