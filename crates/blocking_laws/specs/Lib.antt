@@ -23,6 +23,7 @@ pub mod Steps
 pub mod OwnerLaws
 pub mod OwnerWakes
 pub mod Legal
+pub mod Solo
 pub mod Traces
 pub mod OwnerTraces
 pub mod WriteTraces

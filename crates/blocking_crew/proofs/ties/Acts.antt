@@ -10,7 +10,7 @@ use Rattle.blocking_laws.specs.Queue.{entered_by, taken_by, ended_by}
 use Rattle.blocking_laws.specs.Seen.{is_of_pool}
 use Rattle.blocking_laws.specs.Steps.{is_there}
 use Rattle.blocking_laws.specs.Turns.{FitsTurn, HoldsOne, turn, hand}
-use Rattle.blocking_laws.specs.declared.event.Act.TheVariants.{Took, Taken as TakenOut}
+use Rattle.blocking_laws.specs.declared.event.Act.TheVariants.{Took, Taken as TakenOut, ResultPut}
 use Rattle.blocking_crew.specs.Crews.{Crew, may_act, stage_after, outcome_of, standing_after}
 use Rattle.blocking_crew.specs.Moves.{is_aside, seen}
 use Rattle.blocking_crew.specs.Ties.{FiledHere, Handed, turn_of}
