@@ -1,123 +1,272 @@
 -- What one turn of a poll does to its machine.
-use Rattle.std.proofs.Common.{◌≡◌, ◌⊎◌, ◌<◌, ◌≤◌, ℕ, zero, suc, Bool, true, false, List, [], ◌∷◌, ◌++◌, Option, Some, None, inl, inr, refl, sym, ap, ◌∙◌, subst, arith}
+use Rattle.std.proofs.Common.{◌≡◌, if◌then◌else◌, ◌⊎◌, ◌<◌, ◌≤◌, ℕ, zero, suc, Bool, true, false, List, [], ◌∷◌, ◌++◌, Option, Some, None, inl, inr, refl, sym, ap, ◌∙◌, subst, arith}
 use Rattle.std.proofs.lemmas.Bool.{le-leb}
-use Rattle.blocking_core.specs.OwnerCalls.{OwnerMachine, table, begun_by, shut, after_back, new_poll, owner_next, owner_after, after_got}
+use Rattle.blocking_core.specs.OwnerCalls.{OwnerMachine, table, in_own, in_session, stop, at_state, goes_on_in, has_pipe, begun_by, shut, refusal, after_end, after_back, after_seek, sought_by, new_poll, owner_next, owner_after, after_got}
+use Rattle.blocking_core.specs.Positions.{same_position, same_offset}
 use Rattle.blocking_core.specs.declared.io.Fault.{Fault}
 use Rattle.blocking_core.specs.declared.io.Fault.TheVariants as fault
+use Rattle.blocking_core.specs.declared.io.Position.{Position}
+use Rattle.blocking_core.specs.declared.io.Position.TheVariants as position
 use Rattle.blocking_core.specs.declared.unblock.PollCall.{PollCall}
-use Rattle.blocking_core.specs.declared.unblock.PollCall.TheVariants.{Read, GetMut, Write, Flush, Close}
+use Rattle.blocking_core.specs.declared.unblock.PollCall.TheVariants.{Read, Write, Flush, Close, Seek, Next, Operate, GetMut, IntoInner}
+use Rattle.blocking_core.specs.declared.unblock.OwnerEnd.{OwnerEnd}
 use Rattle.blocking_core.specs.declared.unblock.OwnerEnd.TheVariants.{Open, Shut}
+use Rattle.blocking_core.specs.declared.unblock.SessionKind.{SessionKind}
+use Rattle.blocking_core.specs.declared.unblock.SessionKind.TheVariants.{Reading, Writing, Streaming, Seeking, Operating}
 use Rattle.blocking_core.specs.declared.unblock.State.{State}
-use Rattle.blocking_core.specs.declared.unblock.State.TheVariants.{Idle, Reading, Writing, Closed}
+use Rattle.blocking_core.specs.declared.unblock.State.TheVariants.{Idle, Lent, Closed}
 use Rattle.blocking_core.specs.declared.unblock.Reply.{Reply}
-use Rattle.blocking_core.specs.declared.unblock.Reply.TheVariants.{Count, Handle, Failed, Done, Closed as NoHandle}
+use Rattle.blocking_core.specs.declared.unblock.Reply.TheVariants as reply
 use Rattle.blocking_core.specs.declared.unblock.OwnerAction.{OwnerAction}
 use Rattle.blocking_core.specs.declared.unblock.OwnerAction.TheVariants as act
 use Rattle.blocking_core.specs.declared.unblock.OwnerAnswer.{OwnerAnswer}
 use Rattle.blocking_core.specs.declared.unblock.OwnerAnswer.TheVariants as by
-use Rattle.futures.specs.declared.task.Poll.TheVariants.{Ready}
-use Rattle.blocking_unblock.specs.Owners.{AnswersTo, IfRefused, IsAt, IsClosed, IsOfJob, Runs, Reaches, has, wanted, offered}
-use Rattle.blocking_unblock.specs.Polls.{MovesBytes, HasSession, IsLent, SawTheEnd, FitsReply, FitsAction, IsGoing, Stands, KeepsOpen, CanDo, Does, KeepsFirst}
+use Rattle.blocking_pool.specs.declared.pool.answer.Refusal.{Refusal}
+use Rattle.futures.specs.declared.task.Poll.{Poll}
+use Rattle.futures.specs.declared.task.Poll.TheVariants.{Ready, Pending}
+use Rattle.blocking_unblock.specs.Owners.{AnswersTo, BackAt, IfRefused, IsAt, IsClosed, IsOfJob, KeepsRefused, Runs, Reaches, state_of, has, wanted, offered}
+use Rattle.blocking_unblock.specs.Polls.{Kept, Way, Item, Gave, Starts, Operates, HasSession, HasPipe, AtOwnEnd, Onward, FitsReply, IsGoing, Resumes, MayAsk, FitsAction, Stands, CanDo, Brings, KeepsOpen, Drains, Fills, Receives, Does, KeepsFirst, KeepsBrought, last_action}
 use Rattle.blocking_unblock.specs.declared.place.Place.{Place}
-use Rattle.blocking_unblock.specs.declared.place.Place.TheVariants as here
 
-module _ (E : Type 0) (armed : Type 0) where
+-- what a call that begins nothing on its own has to bring: some bytes, or an operation whose session is still to begin
+abbrev Moves : PollCall → Type 0
+Moves (Read most) = 0 < most
+Moves (Write most) = 0 < most
+Moves (Operate true) = ⊥
+Moves call = Unit {0}
+
+-- ---- what is next fits
+
+module _ {B : Type 0} (begins : B → State → Type 0) (keeps : B → Kept → Type 0) (E : Type 0) (armed : Type 0) where
+  -- what a call does first with an idle handle fits
+  idle_fits : (call : PollCall) (brought : B) → begins brought (begun_by call) → FitsAction begins keeps {E = E} armed call Idle (table call Idle) brought
+  idle_fits (Read zero) brought ready = omega arith
+  idle_fits (Read (suc most)) brought ready = (refl, omega arith, ready)
+  idle_fits (Write zero) brought ready = omega arith
+  idle_fits (Write (suc most)) brought ready = (refl, omega arith, ready)
+  idle_fits Flush brought ready = inl refl
+  idle_fits Close brought ready = (refl, refl)
+  idle_fits (Seek to) brought ready = (refl, tt, ready)
+  idle_fits Next brought ready = (refl, tt, ready)
+  idle_fits (Operate begun) brought ready = (refl, tt, ready)
+  idle_fits GetMut brought ready = refl
+  idle_fits IntoInner brought ready = refl
+
+  -- to stop a session fits
+  stop_fits : (call : PollCall) (kind : SessionKind) (end : OwnerEnd) (brought : B) → begins brought (begun_by call)
+      → FitsAction begins keeps {E = E} armed call (Lent kind end) (stop (has_pipe kind) end) brought
+  stop_fits call Reading Open brought ready = (refl, ready)
+  stop_fits call Reading Shut brought ready = (tt, ready)
+  stop_fits call Writing Open brought ready = (refl, ready)
+  stop_fits call Writing Shut brought ready = (tt, ready)
+  stop_fits call Streaming Open brought ready = (refl, ready)
+  stop_fits call Streaming Shut brought ready = (tt, ready)
+  stop_fits call (Seeking to) Open brought ready = (tt, ready)
+  stop_fits call (Seeking to) Shut brought ready = (tt, ready)
+  stop_fits call Operating Open brought ready = (tt, ready)
+  stop_fits call Operating Shut brought ready = (tt, ready)
+
+  -- what a call does in a session fits
+  lent_fits : (kind : SessionKind) (call : PollCall) (end : OwnerEnd) (brought : B) → Moves call → begins brought (begun_by call)
+      → FitsAction begins keeps {E = E} armed call (Lent kind end) (in_session (goes_on_in kind call) call kind end) brought
+  lent_fits Reading (Read most) Open brought moves ready = (refl, refl, moves, ready)
+  lent_fits Writing (Write most) Open brought moves ready = (refl, refl, moves)
+  lent_fits Streaming Next Open brought moves ready = (refl, refl, ready)
+  lent_fits (Seeking from) (Seek to) Open brought moves ready = (tt, ready)
+  lent_fits Operating (Operate true) end brought moves ready = absurd moves
+  lent_fits kind call end brought moves ready = stop_fits call kind end brought ready
+
+  -- what a call does once the handle is gone fits
+  closed_fits : (call : PollCall) (brought : B) → FitsAction begins keeps {E = E} armed call Closed (table call Closed) brought
+  closed_fits (Read zero) brought = omega arith
+  closed_fits (Read (suc most)) brought = refl
+  closed_fits (Write zero) brought = omega arith
+  closed_fits (Write (suc most)) brought = refl
+  closed_fits Flush brought = inr refl
+  closed_fits Close brought = refl
+  closed_fits (Seek to) brought = refl
+  closed_fits Next brought = refl
+  closed_fits (Operate begun) brought = refl
+  closed_fits GetMut brought = refl
+  closed_fits IntoInner brought = refl
+
+  -- what a call does first fits, if it isn't an operation that has begun
+  first_fits : (call : PollCall) (state : State) (brought : B) → Moves call → begins brought (begun_by call)
+      → FitsAction begins keeps {E = E} armed call state (at_state call state) brought
+  first_fits (Read most) Idle brought moves ready = (refl, moves, ready)
+  first_fits (Write most) Idle brought moves ready = (refl, moves, ready)
+  first_fits Flush Idle brought moves ready = inl refl
+  first_fits Close Idle brought moves ready = (refl, refl)
+  first_fits (Seek to) Idle brought moves ready = (refl, tt, ready)
+  first_fits Next Idle brought moves ready = (refl, tt, ready)
+  first_fits (Operate begun) Idle brought moves ready = (refl, tt, ready)
+  first_fits GetMut Idle brought moves ready = refl
+  first_fits IntoInner Idle brought moves ready = refl
+  first_fits call (Lent kind end) brought moves ready = lent_fits kind call end brought moves ready
+  first_fits (Read most) Closed brought moves ready = refl
+  first_fits (Write most) Closed brought moves ready = refl
+  first_fits Flush Closed brought moves ready = inr refl
+  first_fits Close Closed brought moves ready = refl
+  first_fits (Seek to) Closed brought moves ready = refl
+  first_fits Next Closed brought moves ready = refl
+  first_fits (Operate begun) Closed brought moves ready = refl
+  first_fits GetMut Closed brought moves ready = refl
+  first_fits IntoInner Closed brought moves ready = refl
+
   -- what a poll does first fits
-  table_fits : (call : PollCall) (state : State) → FitsAction {E = E} armed call state (table call state)
-  table_fits (Read zero) state = omega arith
-  table_fits (Read (suc most)) Idle = (refl, omega arith)
-  table_fits (Read (suc most)) (Reading Open) = (refl, refl, omega arith)
-  table_fits (Read (suc most)) (Reading Shut) = tt
-  table_fits (Read (suc most)) (Writing Open) = tt
-  table_fits (Read (suc most)) (Writing Shut) = tt
-  table_fits (Read (suc most)) Closed = refl
-  table_fits (Write zero) state = omega arith
-  table_fits (Write (suc most)) Idle = (refl, omega arith)
-  table_fits (Write (suc most)) (Reading Open) = tt
-  table_fits (Write (suc most)) (Reading Shut) = tt
-  table_fits (Write (suc most)) (Writing Open) = (refl, refl, omega arith)
-  table_fits (Write (suc most)) (Writing Shut) = tt
-  table_fits (Write (suc most)) Closed = refl
-  table_fits GetMut Idle = refl
-  table_fits GetMut (Reading Open) = tt
-  table_fits GetMut (Reading Shut) = tt
-  table_fits GetMut (Writing Open) = tt
-  table_fits GetMut (Writing Shut) = tt
-  table_fits GetMut Closed = refl
-  table_fits Flush Idle = inl refl
-  table_fits Flush (Reading Open) = tt
-  table_fits Flush (Reading Shut) = tt
-  table_fits Flush (Writing Open) = tt
-  table_fits Flush (Writing Shut) = tt
-  table_fits Flush Closed = inr refl
-  table_fits Close Idle = (refl, refl)
-  table_fits Close (Reading Open) = tt
-  table_fits Close (Reading Shut) = tt
-  table_fits Close (Writing Open) = tt
-  table_fits Close (Writing Shut) = tt
-  table_fits Close Closed = refl
+  table_fits : (call : PollCall) (state : State) (brought : B) → MayAsk begins keeps call state brought
+      → FitsAction begins keeps {E = E} armed call state (table call state) brought
+  table_fits (Read zero) state brought may = omega arith
+  table_fits (Read (suc most)) state brought may = first_fits (Read (suc most)) state brought (omega arith) may
+  table_fits (Write zero) state brought may = omega arith
+  table_fits (Write (suc most)) state brought may = first_fits (Write (suc most)) state brought (omega arith) may
+  table_fits Flush state brought may = first_fits Flush state brought tt may
+  table_fits Close state brought may = first_fits Close state brought tt may
+  table_fits (Seek to) state brought may = first_fits (Seek to) state brought tt may
+  table_fits Next state brought may = first_fits Next state brought tt may
+  table_fits (Operate true) state brought may =
+      let P : State → Type 0 = λ s. FitsAction begins keeps {E = E} armed (Operate true) s (table (Operate true) s) brought in
+      subst P (sym may.0) (refl, tt, may.1)
+  table_fits (Operate false) state brought may = first_fits (Operate false) state brought tt may
+  table_fits GetMut state brought may = first_fits GetMut state brought tt may
+  table_fits IntoInner state brought may = first_fits IntoInner state brought tt may
+
+  -- what a call does once its session began fits
+  begun_fits : (call : PollCall) (brought : B) → Starts call → Onward (begun_by call) (begins brought (begun_by call)) (keeps brought Way)
+      → FitsAction begins keeps {E = E} armed call (begun_by call) (in_own call) brought
+  begun_fits (Read most) brought starts onward = (refl, refl, starts, onward)
+  begun_fits (Write most) brought starts onward = (refl, refl, starts)
+  begun_fits (Seek to) brought starts onward = (tt, onward)
+  begun_fits Next brought starts onward = (refl, refl, onward)
+  begun_fits (Operate begun) brought starts onward = (refl, tt, onward)
+  begun_fits Flush brought starts onward = absurd starts
+  begun_fits Close brought starts onward = absurd starts
+  begun_fits GetMut brought starts onward = absurd starts
+  begun_fits IntoInner brought starts onward = absurd starts
 
   -- what it does once the handle is back fits
-  back_fits : (call : PollCall) (at_end : Bool) (why : Option (Fault E)) → FitsAction armed call Idle (after_back call at_end why)
-  back_fits (Read most) at_end (Some why) = refl
-  back_fits (Read most) true None = omega arith
-  back_fits (Read most) false None = table_fits (Read most) Idle
-  back_fits GetMut at_end why = refl
-  back_fits (Write most) at_end (Some why) = refl
-  back_fits (Write most) at_end None = table_fits (Write most) Idle
-  back_fits Flush at_end (Some why) = refl
-  back_fits Flush at_end None = inl refl
-  back_fits Close at_end (Some why) = refl
-  back_fits Close at_end None = (refl, refl)
+  end_fits : (call : PollCall) (at_end : Bool) (brought : B) → begins brought (begun_by call)
+      → FitsAction begins keeps {E = E} armed call Idle (after_end call at_end) brought
+  end_fits (Read most) true brought ready = omega arith
+  end_fits Next true brought ready = refl
+  end_fits (Write most) true brought ready = idle_fits (Write most) brought ready
+  end_fits Flush true brought ready = idle_fits Flush brought ready
+  end_fits Close true brought ready = idle_fits Close brought ready
+  end_fits (Seek to) true brought ready = idle_fits (Seek to) brought ready
+  end_fits (Operate begun) true brought ready = idle_fits (Operate begun) brought ready
+  end_fits GetMut true brought ready = idle_fits GetMut brought ready
+  end_fits IntoInner true brought ready = idle_fits IntoInner brought ready
+  end_fits call false brought ready = idle_fits call brought ready
+
+  back_fits : (call : PollCall) (at_end : Bool) (why : Option (Fault E)) (brought : B) → begins brought (begun_by call)
+      → FitsAction begins keeps armed call Idle (after_back call at_end why) brought
+  back_fits call at_end None brought ready = end_fits call at_end brought ready
+  back_fits (Read most) at_end (Some why) brought ready = refl
+  back_fits (Write most) at_end (Some why) brought ready = refl
+  back_fits Flush at_end (Some why) brought ready = refl
+  back_fits Close at_end (Some why) brought ready = refl
+  back_fits (Seek to) at_end (Some why) brought ready = refl
+  back_fits Next at_end (Some why) brought ready = end_fits Next at_end brought ready
+  back_fits (Operate begun) at_end (Some why) brought ready = end_fits (Operate begun) at_end brought ready
+  back_fits GetMut at_end (Some why) brought ready = end_fits GetMut at_end brought ready
+  back_fits IntoInner at_end (Some why) brought ready = end_fits IntoInner at_end brought ready
+
+  sought_fits : (is : Bool) (to : Position) (place : ℕ) (brought : B) → begins brought (begun_by (Seek to))
+      → FitsAction begins keeps {E = E} armed (Seek to) Idle (if is then act.Reply (reply.Position place) else table (Seek to) Idle) brought
+  sought_fits true to place brought ready = refl
+  sought_fits false to place brought ready = idle_fits (Seek to) brought ready
+
+  seek_fits : (kind : SessionKind) (end : OwnerEnd) (call : PollCall) (place : ℕ) (brought : B) → begins brought (begun_by call)
+      → FitsAction begins keeps {E = E} armed call Idle (after_seek (Lent kind end) call place) brought
+  seek_fits (Seeking from) end (Seek to) place brought ready = sought_fits (same_position from to) to place brought ready
+  seek_fits kind end call place brought ready = idle_fits call brought ready
+
+  -- what waits may go on
+  resumes : (call : PollCall) (state : State) (brought : B) → begins brought (begun_by call) → Resumes call state (begins brought (begun_by call)) (keeps brought Way)
+  resumes (Operate begun) state brought ready = inl ready
+  resumes call state brought ready = tt
+
+-- ---- what a reply says
 
 module _ (E : Type 0) where
-  -- a count of no more than was asked for or offered fits
-  read_fits : (call : PollCall) (state : State) (most count : ℕ) → call ≡ Read most → count ≤ most → FitsReply {E = E} call state (Count count)
-  read_fits call state most count is le = let P : PollCall → Type 0 = λ call. FitsReply {E = E} call state (Count count) in subst P (sym is) le
-
-  write_fits : (call : PollCall) (state : State) (most count : ℕ) → call ≡ Write most → count ≤ most → FitsReply {E = E} call state (Count count)
-  write_fits call state most count is le = let P : PollCall → Type 0 = λ call. FitsReply {E = E} call state (Count count) in subst P (sym is) le
+  -- how a call is refused fits
+  refusal_fits : (call : PollCall) (why : Refusal) {B : Type 0} (begins : B → State → Type 0) (keeps : B → Kept → Type 0) (armed : Type 0) (brought : B) → Starts call
+      → FitsAction begins keeps {E = E} armed call Idle (refusal call why) brought
+  refusal_fits (Read most) why begins keeps armed brought starts = refl
+  refusal_fits (Write most) why begins keeps armed brought starts = refl
+  refusal_fits (Seek to) why begins keeps armed brought starts = refl
+  refusal_fits Next why begins keeps armed brought starts = refl
+  refusal_fits (Operate begun) why begins keeps armed brought starts = refl
+  refusal_fits Flush why begins keeps armed brought starts = absurd starts
+  refusal_fits Close why begins keeps armed brought starts = absurd starts
+  refusal_fits GetMut why begins keeps armed brought starts = absurd starts
+  refusal_fits IntoInner why begins keeps armed brought starts = absurd starts
 
 module _ {E : Type 0} where
-  -- who moves bytes may be told of a fault where the handle is idle
-  refused_fits : (call : PollCall) (state : State) (why : Fault E) → state ≡ Idle → MovesBytes call → FitsReply call state (Failed why)
-  refused_fits (Read most) state why idle moves = idle
-  refused_fits (Write most) state why idle moves = idle
-  refused_fits GetMut state why idle moves = absurd moves
-  refused_fits Flush state why idle moves = absurd moves
-  refused_fits Close state why idle moves = absurd moves
-
   -- a poll that moved bytes replies their count
   got_is : (most count : ℕ) (noted : Bool) (poll : OwnerMachine E) → suc count ≤ most
-      → after_got most (suc count) noted poll ≡ record poll { next = act.Reply (Count (suc count)); is_waking = noted }
+      → after_got most (suc count) noted poll ≡ record poll { next = act.Reply (reply.Count (suc count)); is_waking = noted }
   got_is most count noted poll le = rw (le-leb (suc count) most le)
 
   -- runs join
   pub runs_on : (old mid new : OwnerMachine E) (xs ys : List (OwnerAnswer E)) → Runs old xs mid → Runs mid ys new → Runs old (xs ++ ys) new
-  runs_on old mid new [] ys first then = let P : OwnerMachine E → Type 0 = λ m. Runs m ys new in subst P first then
-  runs_on old mid new (x ∷ xs) ys first then = (first.0, runs_on (owner_after old x) mid new xs ys first.1 then)
+  runs_on old mid new [] ys first rest = let P : OwnerMachine E → Type 0 = λ m. Runs m ys new in subst P first rest
+  runs_on old mid new (x ∷ xs) ys first rest = (first.0, runs_on (owner_after old x) mid new xs ys first.1 rest)
 
   pub reaches_on : (old mid new : OwnerMachine E) → Reaches old mid → Reaches mid new → Reaches old new
-  reaches_on old mid new first then = (first.0 ++ then.0, runs_on old mid new first.0 then.0 first.1 then.1)
+  reaches_on old mid new first rest = (first.0 ++ rest.0, runs_on old mid new first.0 rest.0 first.1 rest.1)
 
--- a call begins a session
-begun_session : (call : PollCall) → HasSession (begun_by call)
-begun_session (Read most) = tt
-begun_session (Write most) = tt
-begun_session GetMut = tt
-begun_session Flush = tt
-begun_session Close = tt
+  -- no other answer brings the handle back
+  abbrev IsOther : OwnerAnswer E → Type 0
+  IsOther (by.Back why) = ⊥
+  IsOther (by.Sought place) = ⊥
+  IsOther (by.Waits seat) = ⊥
+  IsOther answer = Unit {0}
 
--- and its end is shut in one
-shut_session : (state : State) → HasSession state → HasSession (shut state)
-shut_session Idle is = absurd is
-shut_session (Reading end) is = tt
-shut_session (Writing end) is = tt
-shut_session Closed is = absurd is
+  not_back : (at : State) (answer : OwnerAnswer E) → IsOther answer → BackAt at answer → ⊥
+  not_back Idle answer other from = from
+  not_back Closed answer other from = from
+  not_back (Lent kind end) (by.Back why) other from = other
+  not_back (Lent kind end) (by.Sought place) other from = other
+  not_back (Lent kind end) (by.Waits seat) other from = other
+  not_back (Lent (Seeking to) end) answer other from = from
+  not_back (Lent Reading end) answer other from = from
+  not_back (Lent Writing end) answer other from = from
+  not_back (Lent Streaming end) answer other from = from
+  not_back (Lent Operating end) answer other from = from
+
+-- a position is the same as itself
+same_refl : (to : Position) → same_position to to ≡ true
+same_refl (position.Start place) = grind (arith)
+same_refl (position.Current offset) = grind (arith)
+same_refl (position.End offset) = grind (arith)
+
+-- ---- what is closed
 
 -- where there is a session nothing is closed
 session_open : (state : State) → HasSession state → state ≡ Closed → ⊥
 session_open state is closed = subst HasSession closed is
+
+pipe_session : (state : State) → HasPipe state → HasSession state
+pipe_session (Lent kind end) is = tt
+pipe_session Idle is = absurd is
+pipe_session Closed is = absurd is
+
+shut_session : (state : State) → HasSession state → HasSession (shut state)
+shut_session (Lent kind end) is = tt
+shut_session Idle is = absurd is
+shut_session Closed is = absurd is
+
+begun_session : (call : PollCall) → Starts call → HasSession (begun_by call)
+begun_session (Read most) starts = tt
+begun_session (Write most) starts = tt
+begun_session (Seek to) starts = tt
+begun_session Next starts = tt
+begun_session (Operate begun) starts = tt
+begun_session Flush starts = absurd starts
+begun_session Close starts = absurd starts
+begun_session GetMut starts = absurd starts
+begun_session IntoInner starts = absurd starts
 
 -- what isn't closed before and after is kept open
 opens : (call : PollCall) (before after : State) → (before ≡ Closed → ⊥) → (after ≡ Closed → ⊥) → KeepsOpen call before after
@@ -127,68 +276,196 @@ pub same_open : (call : PollCall) (state : State) → KeepsOpen call state state
 same_open call state = record { stays = λ e. e; closes = λ e. inl e }
 
 pub open_on : (call : PollCall) (a b c : State) → KeepsOpen call a b → KeepsOpen call b c → KeepsOpen call a c
-open_on call a b c first then = record {
-  stays = λ e. then.stays (first.stays e);
-  closes = λ e. elim (then.closes e) [ inl was ↦ first.closes was | inr asked ↦ inr asked ];
+open_on call a b c first rest = record {
+  stays = λ e. rest.stays (first.stays e);
+  closes = λ e. elim (rest.closes e) [ inl was ↦ first.closes was | inr asked ↦ inr asked ];
 }
 
-stopped_open : (call : PollCall) (state : State) → HasSession state → KeepsOpen call state (shut state)
-stopped_open call state is = opens call state (shut state) (session_open state is) (session_open (shut state) (shut_session state is))
+-- ---- what a poll keeps
 
-module _ {T H : Type 0} where
-  -- where a state is another, the handle is there
-  moved : (place : Place T H) (a b : State) → a ≡ b → IsAt a place → IsAt b place
-  moved place a b is at = let P : State → Type 0 = λ s. IsAt s place in subst P is at
+module _ {T I H : Type 0} (E : Type 0) where
+  -- a session that a call begins gives the handle back at its end alone
+  begun_first : (call : PollCall) (at_end : Bool) (place first : Place T I H) → Starts call → KeepsFirst {E = E} call (begun_by call) (in_own call) at_end place first
+  begun_first (Read most) at_end place first starts = tt
+  begun_first (Write most) at_end place first starts = tt
+  begun_first (Seek to) at_end place first starts = refl
+  begun_first Next at_end place first starts = tt
+  begun_first (Operate begun) at_end place first starts = tt
+  begun_first Flush at_end place first starts = absurd starts
+  begun_first Close at_end place first starts = absurd starts
+  begun_first GetMut at_end place first starts = absurd starts
+  begun_first IntoInner at_end place first starts = absurd starts
 
-  -- the handle of a session is lent
-  lent_at : (state : State) (place : Place T H) → HasSession state → IsAt state place → IsLent place
-  lent_at Idle place is at = absurd is
-  lent_at (Reading end) (here.Idle handle) is at = absurd at
-  lent_at (Reading end) (here.Reading session) is at = tt
-  lent_at (Reading end) (here.Writing session) is at = tt
-  lent_at (Reading end) here.Closed is at = absurd at
-  lent_at (Writing end) (here.Idle handle) is at = absurd at
-  lent_at (Writing end) (here.Reading session) is at = tt
-  lent_at (Writing end) (here.Writing session) is at = tt
-  lent_at (Writing end) here.Closed is at = absurd at
-  lent_at Closed place is at = absurd is
+  refused_first : (call : PollCall) (why : Refusal) (state : State) (at_end : Bool) (place first : Place T I H) → place ≡ first
+      → KeepsFirst {E = E} call state (refusal call why) at_end place first
+  refused_first (Read most) why state at_end place first is = is
+  refused_first (Write most) why state at_end place first is = is
+  refused_first (Seek to) why state at_end place first is = is
+  refused_first Next why state at_end place first is = is
+  refused_first (Operate begun) why state at_end place first is = is
+  refused_first Flush why state at_end place first is = is
+  refused_first Close why state at_end place first is = is
+  refused_first GetMut why state at_end place first is = is
+  refused_first IntoInner why state at_end place first is = is
 
-  -- the state is idle, or closed, where the handle is so
-  idle_at : (state : State) (place : Place T H) → IsAt state place → IsAt Idle place → state ≡ Idle
-  idle_at Idle place at idle = refl
-  idle_at (Reading end) (here.Idle handle) at idle = absurd at
-  idle_at (Reading end) (here.Reading session) at idle = absurd idle
-  idle_at (Reading end) (here.Writing session) at idle = absurd idle
-  idle_at (Reading end) here.Closed at idle = absurd idle
-  idle_at (Writing end) (here.Idle handle) at idle = absurd at
-  idle_at (Writing end) (here.Reading session) at idle = absurd idle
-  idle_at (Writing end) (here.Writing session) at idle = absurd idle
-  idle_at (Writing end) here.Closed at idle = absurd idle
-  idle_at Closed (here.Idle handle) at idle = absurd at
-  idle_at Closed (here.Reading session) at idle = absurd idle
-  idle_at Closed (here.Writing session) at idle = absurd idle
-  idle_at Closed here.Closed at idle = absurd idle
+  -- a fault of a job is no refusal
+  failed_first : (call : PollCall) (why : Fault E) (state : State) (at_end : Bool) (place first : Place T I H) → IsOfJob (Some why)
+      → KeepsFirst call state (act.Reply (reply.Failed why)) at_end place first
+  failed_first call (fault.Io error) state at_end place first own = tt
+  failed_first call fault.WriteZero state at_end place first own = tt
+  failed_first call (fault.Refused why) state at_end place first own = absurd own
 
-  closed_at : (state : State) (place : Place T H) → IsAt state place → IsClosed place → state ≡ Closed
-  closed_at Closed place at closed = refl
-  closed_at Idle (here.Idle handle) at closed = absurd closed
-  closed_at Idle (here.Reading session) at closed = absurd at
-  closed_at Idle (here.Writing session) at closed = absurd at
-  closed_at Idle here.Closed at closed = absurd at
-  closed_at (Reading end) (here.Idle handle) at closed = absurd at
-  closed_at (Reading end) (here.Reading session) at closed = absurd closed
-  closed_at (Reading end) (here.Writing session) at closed = absurd at
-  closed_at (Reading end) here.Closed at closed = absurd at
-  closed_at (Writing end) (here.Idle handle) at closed = absurd at
-  closed_at (Writing end) (here.Reading session) at closed = absurd at
-  closed_at (Writing end) (here.Writing session) at closed = absurd closed
-  closed_at (Writing end) here.Closed at closed = absurd at
+  sought_first : (is : Bool) (call : PollCall) (to : Position) (place : ℕ) (state : State) (at_end : Bool) (new first : Place T I H) → is ≡ true
+      → KeepsFirst {E = E} call state (if is then act.Reply (reply.Position place) else table (Seek to) Idle) at_end new first
+  sought_first true call to place state at_end new first is = tt
+  sought_first false call to place state at_end new first is = absurd (cc)
 
-  at_closed : (place : Place T H) → IsAt Closed place → IsClosed place
-  at_closed (here.Idle handle) at = at
-  at_closed (here.Reading session) at = at
-  at_closed (here.Writing session) at = at
-  at_closed here.Closed at = tt
+  -- at the end of its own session a call has its reply
+  back_first : (call : PollCall) (state : State) (at_end : Bool) (why : Option (Fault E)) (place first : Place T I H) → AtOwnEnd call state at_end
+      → BackAt state (by.Back why) → KeepsFirst call Idle (after_back call at_end why) at_end place first
+  back_first (Read most) state true None place first own from = tt
+  back_first (Read most) state true (Some why) place first own from =
+      let P : State → Type 0 = λ s. BackAt s (by.Back (Some why)) in
+      failed_first (Read most) why Idle true place first (subst P own from)
+  back_first (Read most) state false why place first own from = absurd own
+  back_first Next state true None place first own from = tt
+  back_first Next state true (Some why) place first own from = tt
+  back_first Next state false why place first own from = absurd own
+  back_first (Seek to) state at_end None place first own from =
+      let P : State → Type 0 = λ s. BackAt {E = E} s (by.Back None) in
+      let no : ⊥ = subst P own from in absurd no
+  back_first (Seek to) state at_end (Some (fault.Io error)) place first own from = tt
+  back_first (Seek to) state at_end (Some fault.WriteZero) place first own from = tt
+  back_first (Seek to) state at_end (Some (fault.Refused why)) place first own from =
+      let P : State → Type 0 = λ s. BackAt {E = E} s (by.Back (Some (fault.Refused why))) in
+      let no : ⊥ = subst P own from in absurd no
+  back_first (Write most) state at_end why place first own from = absurd own
+  back_first Flush state at_end why place first own from = absurd own
+  back_first Close state at_end why place first own from = absurd own
+  back_first (Operate begun) state at_end why place first own from = absurd own
+  back_first GetMut state at_end why place first own from = absurd own
+  back_first IntoInner state at_end why place first own from = absurd own
+
+  seek_first : (call : PollCall) (state : State) (at_end : Bool) (came : ℕ) (place first : Place T I H) → AtOwnEnd call state at_end
+      → BackAt {E = E} state (by.Sought came) → KeepsFirst {E = E} call Idle (after_seek state call came) at_end place first
+  seek_first (Read most) state true came place first own from =
+      let P : State → Type 0 = λ s. BackAt {E = E} s (by.Sought came) in let no : ⊥ = subst P own from in absurd no
+  seek_first (Read most) state false came place first own from = absurd own
+  seek_first Next state true came place first own from =
+      let P : State → Type 0 = λ s. BackAt {E = E} s (by.Sought came) in let no : ⊥ = subst P own from in absurd no
+  seek_first Next state false came place first own from = absurd own
+  seek_first (Seek to) state at_end came place first own from =
+      let P : State → Type 0 = λ s. KeepsFirst {E = E} (Seek to) Idle (after_seek s (Seek to) came) at_end place first in
+      subst P (sym own) (sought_first (same_position to to) (Seek to) to came Idle at_end place first (same_refl to))
+  seek_first (Write most) state at_end came place first own from = absurd own
+  seek_first Flush state at_end came place first own from = absurd own
+  seek_first Close state at_end came place first own from = absurd own
+  seek_first (Operate begun) state at_end came place first own from = absurd own
+  seek_first GetMut state at_end came place first own from = absurd own
+  seek_first IntoInner state at_end came place first own from = absurd own
+
+  -- a poll that begins with an idle handle has that
+  idle_first : (call : PollCall) (place : Place T I H) → KeepsFirst {E = E} call Idle (table call Idle) false place place
+  idle_first (Read zero) place = tt
+  idle_first (Read (suc most)) place = refl
+  idle_first (Write zero) place = tt
+  idle_first (Write (suc most)) place = refl
+  idle_first Flush place = tt
+  idle_first Close place = tt
+  idle_first (Seek to) place = refl
+  idle_first Next place = refl
+  idle_first (Operate begun) place = refl
+  idle_first GetMut place = tt
+  idle_first IntoInner place = tt
+
+module _ {B : Type 0} (E : Type 0) (before after first : B) where
+  -- what is brought stays as it was
+  same_brought : (call : PollCall) (next : OwnerAction E) → after ≡ first → KeepsBrought call next after first
+  same_brought (Operate begun) act.Begin is = is
+  same_brought (Operate begun) act.Close is = is
+  same_brought (Operate begun) act.PollSlot is = is
+  same_brought (Operate begun) (act.Reply (reply.NotBegun why)) is = is
+  same_brought call next is = tt
+
+  -- nothing is kept once a session began
+  own_brought : (call : PollCall) → KeepsBrought {E = E} call (in_own call) after first
+  own_brought (Read most) = tt
+  own_brought (Write most) = tt
+  own_brought Flush = tt
+  own_brought Close = tt
+  own_brought (Seek to) = tt
+  own_brought Next = tt
+  own_brought (Operate begun) = tt
+  own_brought GetMut = tt
+  own_brought IntoInner = tt
+
+  -- where the next was to stop or to begin, what was kept is kept
+  on_brought : (call : PollCall) (next : OwnerAction E) → after ≡ before → KeepsBrought {E = E} call act.PollSlot before first → KeepsBrought call next after first
+  on_brought (Operate begun) next same kept = same_brought (Operate begun) next (same ∙ kept)
+  on_brought (Read most) next same kept = tt
+  on_brought (Write most) next same kept = tt
+  on_brought Flush next same kept = tt
+  on_brought Close next same kept = tt
+  on_brought (Seek to) next same kept = tt
+  on_brought Next next same kept = tt
+  on_brought GetMut next same kept = tt
+  on_brought IntoInner next same kept = tt
+
+  begin_brought : (call : PollCall) (next : OwnerAction E) → after ≡ before → KeepsBrought {E = E} call act.Begin before first → KeepsBrought call next after first
+  begin_brought (Operate begun) next same kept = same_brought (Operate begun) next (same ∙ kept)
+  begin_brought (Read most) next same kept = tt
+  begin_brought (Write most) next same kept = tt
+  begin_brought Flush next same kept = tt
+  begin_brought Close next same kept = tt
+  begin_brought (Seek to) next same kept = tt
+  begin_brought Next next same kept = tt
+  begin_brought GetMut next same kept = tt
+  begin_brought IntoInner next same kept = tt
+
+  close_brought : (call : PollCall) (next : OwnerAction E) → after ≡ before → KeepsBrought {E = E} call act.Close before first → KeepsBrought call next after first
+  close_brought (Operate begun) next same kept = same_brought (Operate begun) next (same ∙ kept)
+  close_brought (Read most) next same kept = tt
+  close_brought (Write most) next same kept = tt
+  close_brought Flush next same kept = tt
+  close_brought Close next same kept = tt
+  close_brought (Seek to) next same kept = tt
+  close_brought Next next same kept = tt
+  close_brought GetMut next same kept = tt
+  close_brought IntoInner next same kept = tt
+
+  -- a call that isn't an operation keeps nothing
+  other_brought : (call : PollCall) (next : OwnerAction E) → (Operates call → ⊥) → KeepsBrought call next after first
+  other_brought (Operate begun) next not = absurd (not tt)
+  other_brought (Read most) next not = tt
+  other_brought (Write most) next not = tt
+  other_brought Flush next not = tt
+  other_brought Close next not = tt
+  other_brought (Seek to) next not = tt
+  other_brought Next next not = tt
+  other_brought GetMut next not = tt
+  other_brought IntoInner next not = tt
+
+  pending_brought : (call : PollCall) → KeepsBrought {E = E} call act.Pending after first
+  pending_brought (Operate begun) = tt
+  pending_brought call = tt
+
+  result_brought : (call : PollCall) → KeepsBrought {E = E} call (act.Reply reply.Result) after first
+  result_brought (Operate begun) = tt
+  result_brought call = tt
+
+  done_brought : (call : PollCall) → KeepsBrought {E = E} call (act.Reply reply.Done) after first
+  done_brought (Operate begun) = tt
+  done_brought call = tt
+
+  count_brought : (call : PollCall) (count : ℕ) → KeepsBrought {E = E} call (act.Reply (reply.Count count)) after first
+  count_brought (Operate begun) count = tt
+  count_brought call count = tt
+
+  item_brought : (call : PollCall) → KeepsBrought {E = E} call (act.Reply reply.Item) after first
+  item_brought (Operate begun) = tt
+  item_brought call = tt
+
+-- ---- a turn
 
 -- the machine after an answer, and after the note that came with it was spent
 abbrev pub told : {E : Type 0} → Bool → OwnerMachine E → OwnerAnswer E → OwnerMachine E
@@ -196,395 +473,460 @@ told true poll answer = owner_after (owner_after poll answer) by.Delivered
 told false poll answer = owner_after poll answer
 
 -- one turn from a machine to another
-pub record Turned {T H E : Type 0} (old new : OwnerMachine E) (before place : Place T H) (armed : Type 0) : Type 0 where
-  pub stands : Stands armed new place
+pub record Turned {T I H E B : Type 0} (begins : B → State → Type 0) (keeps : B → Kept → Type 0) (old new : OwnerMachine E) (was place : Place T I H) (before after : B) (armed : Type 0) : Type 0 where
+  pub stands : Stands begins keeps armed new place after
   pub reaches : Reaches old new
   pub call_same : new.call ≡ old.call
   pub kept_open : KeepsOpen old.call old.state new.state
-  pub keeps : (first : Place T H) → KeepsFirst old.call old.next old.is_at_end before first → KeepsFirst new.call new.next new.is_at_end place first
+  pub keeps_first : (first : Place T I H) → KeepsFirst old.call old.state old.next old.is_at_end was first → KeepsFirst new.call new.state new.next new.is_at_end place first
+  pub brings : (first : B) → KeepsBrought old.call old.next before first → KeepsBrought new.call new.next after first
 
--- a session begins with bytes that come or go
-begun_keeps : {T H : Type 0} (E : Type 0) (call : PollCall) (at_end : Bool) (place first : Place T H) → MovesBytes call
-    → KeepsFirst {E = E} call (table call (begun_by call)) at_end place first
-begun_keeps E (Read zero) at_end place first moves = tt
-begun_keeps E (Read (suc m)) at_end place first moves = tt
-begun_keeps E (Write zero) at_end place first moves = tt
-begun_keeps E (Write (suc m)) at_end place first moves = tt
-begun_keeps E GetMut at_end place first moves = absurd moves
-begun_keeps E Flush at_end place first moves = absurd moves
-begun_keeps E Close at_end place first moves = absurd moves
-
--- and at its end a read has its reply
-back_keeps : {T H E : Type 0} (call : PollCall) (at_end : Bool) (why : Option (Fault E)) (place first : Place T H) → SawTheEnd call at_end → IsOfJob why
-    → KeepsFirst call (after_back call at_end why) at_end place first
-back_keeps (Read m) true (Some (fault.Io error)) place first saw own = tt
-back_keeps (Read m) true (Some fault.WriteZero) place first saw own = tt
-back_keeps (Read m) true (Some (fault.Refused why)) place first saw own = absurd own
-back_keeps (Read m) true None place first saw own = tt
-back_keeps (Read m) false why place first saw own = absurd saw
-back_keeps GetMut at_end why place first saw own = absurd saw
-back_keeps (Write m) at_end why place first saw own = absurd saw
-back_keeps Flush at_end why place first saw own = absurd saw
-back_keeps Close at_end why place first saw own = absurd saw
-
--- a poll that begins with an idle handle has that
-idle_keeps : {T H : Type 0} (E : Type 0) (call : PollCall) (place : Place T H) → KeepsFirst {E = E} call (table call Idle) false place place
-idle_keeps E (Read zero) place = tt
-idle_keeps E (Read (suc m)) place = refl
-idle_keeps E (Write zero) place = tt
-idle_keeps E (Write (suc m)) place = refl
-idle_keeps E GetMut place = tt
-idle_keeps E Flush place = tt
-idle_keeps E Close place = tt
-
-first_keeps : {T H : Type 0} (E : Type 0) (call : PollCall) (state : State) (place : Place T H) → IsAt state place → IsAt Idle place
-    → KeepsFirst {E = E} call (table call state) false place place
-first_keeps E call state place at idle =
-    let P : State → Type 0 = λ s. KeepsFirst {E = E} call (table call s) false place place in
-    subst P (sym (idle_at state place at idle)) (idle_keeps E call place)
-
-module _ {T H E : Type 0} (was armed : Type 0) (old new : Place T H) where
-  module _ (begun : State) (call : PollCall) (state : State) (at_end : Bool) (kind : MovesBytes call → begun ≡ begun_by call) where
+module _ {T I H B : Type 0} (E : Type 0) (begins : B → State → Type 0) (keeps : B → Kept → Type 0) (was armed : Type 0) (old new : Place T I H) (before after : B) where
+  module _ (call : PollCall) (state : State) (at_end : Bool) where
     -- a machine between two actions
     abbrev between : OwnerAction E → OwnerMachine E
     between next = record { call = call; state = state; next = next; is_waking = false; is_at_end = at_end }
 
     abbrev Goes : OwnerAction E → OwnerAnswer E → Bool → Type 0
-    Goes next answer noted = FitsAction was call state next → IsAt state old → Does begun next old answer noted new armed
-        → Turned (between next) (told noted (between next) answer) old new armed
+    Goes next answer noted = FitsAction begins keeps was call state next before → IsAt state old → Does (begins before) next old answer noted new armed
+        → Brings begins keeps next answer before after → Turned begins keeps (between next) (told noted (between next) answer) old new before after armed
+
+    -- what was ready is ready still
+    still : after ≡ before → begins before (begun_by call) → begins after (begun_by call)
+    still same ready = let P : B → Type 0 = λ b. begins b (begun_by call) in subst P (sym same) ready
+
+    -- where the handle was the state says, and there it is still
+    stays : IsAt state old → IsAt (state_of old) new → IsAt state new
+    stays at is = is ∙ at
 
     begin_goes : (answer : OwnerAnswer E) (noted : Bool) → Goes act.Begin answer noted
-    begin_goes by.Begun false fits at does = record {
-      stands = record { awake = refl; fits = table_fits E armed call (begun_by call); at = moved new begun (begun_by call) (kind fits.1) does };
-      reaches = (by.Begun ∷ [], (tt, refl));
-      call_same = refl;
-      kept_open = opens call state (begun_by call) (λ e. let i : state ≡ Idle = fits.0 in cc) (session_open (begun_by call) (begun_session call));
-      keeps = λ first kept. begun_keeps E call at_end new first fits.1;
-    }
-    begin_goes (by.Refused why) false fits at does = record {
+    begin_goes by.Begun false fits at does brings = record {
       stands = record {
         awake = refl;
-        fits = refused_fits call state _ fits.0 fits.1;
-        at = let P : Place T H → Type 0 = λ place. IsAt state place in subst P (sym does) at;
+        fits = begun_fits begins keeps E armed call after fits.1 (brings (begun_by call) fits.2);
+        at = does (begun_by call) fits.2;
+      };
+      reaches = (by.Begun ∷ [], (tt, refl));
+      call_same = refl;
+      kept_open = opens call state (begun_by call) (λ e. let i : state ≡ Idle = fits.0 in cc) (session_open (begun_by call) (begun_session call fits.1));
+      keeps_first = λ first kept. begun_first E call at_end new first fits.1;
+      brings = λ first kept. own_brought E before after first call;
+    }
+    begin_goes (by.Refused why) false fits at does brings = record {
+      stands = record {
+        awake = refl;
+        fits = let P : State → Type 0 = λ s. FitsAction begins keeps {E = E} armed call s (refusal call why) after in
+            subst P (sym fits.0) (refusal_fits E call why begins keeps armed after fits.1);
+        at = ap state_of does ∙ at;
       };
       reaches = (by.Refused why ∷ [], (tt, refl));
       call_same = refl;
       kept_open = same_open call state;
-      keeps = λ first kept. does ∙ kept;
+      keeps_first = λ first kept. refused_first E call why state at_end new first (does ∙ kept);
+      brings = λ first kept. begin_brought E before after first call (refusal call why) brings kept;
     }
-    begin_goes by.Begun true fits at does = absurd does
-    begin_goes (by.Refused why) true fits at does = absurd does
-    begin_goes (by.Closed n) noted fits at does = absurd does
-    begin_goes (by.Got n m) noted fits at does = absurd does
-    begin_goes by.Ended noted fits at does = absurd does
-    begin_goes (by.Took n m) noted fits at does = absurd does
-    begin_goes by.Shut noted fits at does = absurd does
-    begin_goes (by.Waits seat) noted fits at does = absurd does
-    begin_goes (by.Back why) noted fits at does = absurd does
-    begin_goes by.Dropped noted fits at does = absurd does
-    begin_goes by.Delivered noted fits at does = absurd does
+    begin_goes by.Begun true fits at does brings = absurd does
+    begin_goes (by.Refused why) true fits at does brings = absurd does
+    begin_goes answer noted fits at does brings = absurd does
 
     -- the machine whose session the owner closed
-    abbrev stopped : OwnerMachine E
-    stopped = record { call = call; state = shut state; next = act.PollSlot; is_waking = false; is_at_end = at_end }
+    stopped : HasPipe state × begins before (begun_by call) → IsAt state old → IsAt (shut (state_of old)) new → after ≡ before
+        → Stands begins keeps {E = E} armed (record { call = call; state = shut state; next = act.PollSlot; is_waking = false; is_at_end = at_end }) new after
+    stopped fits at is same = record {
+      awake = refl;
+      fits = (shut_session state (pipe_session state fits.0), still same fits.1);
+      at = is ∙ ap shut at;
+    }
 
-    stopped_stands : HasSession state → IsAt (shut state) new → Stands armed stopped new
-    stopped_stands is at = record { awake = refl; fits = shut_session state is; at = at }
+    stopped_open : HasPipe state → KeepsOpen call state (shut state)
+    stopped_open is = opens call state (shut state) (session_open state (pipe_session state is)) (session_open (shut state) (shut_session state (pipe_session state is)))
 
     close_goes : (answer : OwnerAnswer E) (noted : Bool) → Goes act.Close answer noted
-    close_goes (by.Closed true) true fits at does = record {
-      stands = stopped_stands fits (does.1 state at);
+    close_goes (by.Closed true) true fits at does brings = record {
+      stands = stopped fits at does.1 brings;
       reaches = (by.Closed true ∷ (by.Delivered ∷ []), (tt, (tt, refl)));
       call_same = refl;
-      kept_open = stopped_open call state fits;
-      keeps = λ first kept. absurd kept;
+      kept_open = stopped_open fits.0;
+      keeps_first = λ first kept. absurd kept;
+      brings = λ first kept. close_brought E before after first call act.PollSlot brings kept;
     }
-    close_goes (by.Closed false) false fits at does = record {
-      stands = stopped_stands fits (does.1 state at);
+    close_goes (by.Closed false) false fits at does brings = record {
+      stands = stopped fits at does.1 brings;
       reaches = (by.Closed false ∷ [], (tt, refl));
       call_same = refl;
-      kept_open = stopped_open call state fits;
-      keeps = λ first kept. absurd kept;
+      kept_open = stopped_open fits.0;
+      keeps_first = λ first kept. absurd kept;
+      brings = λ first kept. close_brought E before after first call act.PollSlot brings kept;
     }
-    close_goes (by.Closed true) false fits at does = let e = does.0 in cc
-    close_goes (by.Closed false) true fits at does = let e = does.0 in cc
-    close_goes by.Begun noted fits at does = absurd does
-    close_goes (by.Refused why) noted fits at does = absurd does
-    close_goes (by.Got n m) noted fits at does = absurd does
-    close_goes by.Ended noted fits at does = absurd does
-    close_goes (by.Took n m) noted fits at does = absurd does
-    close_goes by.Shut noted fits at does = absurd does
-    close_goes (by.Waits seat) noted fits at does = absurd does
-    close_goes (by.Back why) noted fits at does = absurd does
-    close_goes by.Dropped noted fits at does = absurd does
-    close_goes by.Delivered noted fits at does = absurd does
+    close_goes (by.Closed true) false fits at does brings = let e = does.0 in cc
+    close_goes (by.Closed false) true fits at does brings = let e = does.0 in cc
+    close_goes answer noted fits at does brings = absurd does
 
-    -- the machine that moved bytes, before the note is spent and after it
-    abbrev counted : ℕ → Bool → OwnerMachine E
-    counted count noted = record { call = call; state = state; next = act.Reply (Count count); is_waking = noted; is_at_end = at_end }
+    -- the machine that has this reply, before the note is spent and after it
+    abbrev replied : Reply E → Bool → OwnerMachine E
+    replied reply noted = record { call = call; state = state; next = act.Reply reply; is_waking = noted; is_at_end = at_end }
 
-    counted_turn : (next : OwnerAction E) (count : ℕ) (after : OwnerMachine E) → after ≡ counted count false → Reaches (between next) after
-        → FitsReply {E = E} call state (Count count) → IsAt state new → Turned (between next) after old new armed
-    counted_turn next count after is reaches fits at =
-        let Q : OwnerMachine E → Type 0 = λ m. Reaches (between next) m → Turned (between next) m old new armed in
+    reply_turn : (next : OwnerAction E) (reply : Reply E) (end : OwnerMachine E) → end ≡ replied reply false → Reaches (between next) end
+        → FitsReply call state reply (keeps after) → IsAt state new
+        → ((first : Place T I H) → KeepsFirst {E = E} call state (act.Reply reply) at_end new first)
+        → ((first : B) → KeepsBrought {E = E} call (act.Reply reply) after first)
+        → Turned begins keeps (between next) end old new before after armed
+    reply_turn next reply end is reaches fits at first brought =
+        let Q : OwnerMachine E → Type 0 = λ m. Reaches (between next) m → Turned begins keeps (between next) m old new before after armed in
         subst Q (sym is)
         (λ reaches. record {
           stands = record { awake = refl; fits = fits; at = at };
           reaches = reaches;
           call_same = refl;
           kept_open = same_open call state;
-          keeps = λ first kept. tt;
+          keeps_first = λ place kept. first place;
+          brings = λ place kept. brought place;
         })
         reaches
 
-    count_goes : (next : OwnerAction E) (answer : OwnerAnswer E) (count : ℕ) (noted : Bool) → owner_after (between next) answer ≡ counted count noted
-        → AnswersTo (owner_next (between next)) answer → FitsReply {E = E} call state (Count count) → IsAt state new
-        → Turned (between next) (told noted (between next) answer) old new armed
-    count_goes next answer count true is answers fits at =
+    reply_goes : (next : OwnerAction E) (answer : OwnerAnswer E) (reply : Reply E) (noted : Bool) → owner_after (between next) answer ≡ replied reply noted
+        → AnswersTo state (owner_next (between next)) answer → FitsReply call state reply (keeps after) → IsAt state new
+        → ((first : Place T I H) → KeepsFirst {E = E} call state (act.Reply reply) at_end new first)
+        → ((first : B) → KeepsBrought {E = E} call (act.Reply reply) after first)
+        → Turned begins keeps (between next) (told noted (between next) answer) old new before after armed
+    reply_goes next answer reply true is answers fits at first brought =
         let after : OwnerMachine E = told true (between next) answer in
-        let end : after ≡ counted count false = ap (λ m. owner_after m by.Delivered) is in
+        let end : after ≡ replied reply false = ap (λ m. owner_after m by.Delivered) is in
         let P : OwnerMachine E → Type 0 = λ m. Runs m (by.Delivered ∷ []) after in
-        let then : Runs (owner_after (between next) answer) (by.Delivered ∷ []) after = subst P (sym is) (tt, end) in
-        counted_turn next count after end (answer ∷ (by.Delivered ∷ []), (answers, then)) fits at
-    count_goes next answer count false is answers fits at = counted_turn next count (owner_after (between next) answer) is (answer ∷ [], (answers, refl)) fits at
+        let rest : Runs (owner_after (between next) answer) (by.Delivered ∷ []) after = subst P (sym is) (tt, end) in
+        reply_turn next reply after end (answer ∷ (by.Delivered ∷ []), (answers, rest)) fits at first brought
+    reply_goes next answer reply false is answers fits at first brought =
+        reply_turn next reply (owner_after (between next) answer) is (answer ∷ [], (answers, refl)) fits at first brought
 
-    got_goes : (most count : ℕ) (n noted : Bool) → Goes (act.Drain most) (by.Got (suc count) n) noted
-    got_goes most count n noted fits at does =
-        let Q : Bool → Type 0 = λ b. Turned (between (act.Drain most)) (told noted (between (act.Drain most)) (by.Got (suc count) b)) old new armed in
-        subst Q (sym does.0)
-        (count_goes (act.Drain most) (by.Got (suc count) noted) (suc count) noted (got_is most count noted (between (act.Drain most)) does.2) (does.1, does.2)
-        (read_fits E call state most (suc count) fits.1 does.2) (moved new (Reading Open) state (sym fits.0) does.3))
+    -- a count of no more than was asked for or offered fits
+    read_fits : (asked : PollCall) (most count : ℕ) → asked ≡ Read most → count ≤ most → FitsReply {E = E} asked state (reply.Count count) (keeps after)
+    read_fits asked most count is le = let P : PollCall → Type 0 = λ c. FitsReply {E = E} c state (reply.Count count) (keeps after) in subst P (sym is) le
 
-    took_goes : (most count : ℕ) (n noted : Bool) → Goes (act.Fill most) (by.Took (suc count) n) noted
-    took_goes most count n noted fits at does =
-        let Q : Bool → Type 0 = λ b. Turned (between (act.Fill most)) (told noted (between (act.Fill most)) (by.Took (suc count) b)) old new armed in
-        subst Q (sym does.0)
-        (count_goes (act.Fill most) (by.Took (suc count) noted) (suc count) noted (got_is most count noted (between (act.Fill most)) does.2) (does.1, does.2)
-        (write_fits E call state most (suc count) fits.1 does.2) (moved new (Writing Open) state (sym fits.0) does.3))
+    write_fits : (asked : PollCall) (most count : ℕ) → asked ≡ Write most → count ≤ most → FitsReply {E = E} asked state (reply.Count count) (keeps after)
+    write_fits asked most count is le = let P : PollCall → Type 0 = λ c. FitsReply {E = E} c state (reply.Count count) (keeps after) in subst P (sym is) le
+
+    -- a machine whose owner waits at a pipe or in a slot
+    waits_turn : (next : OwnerAction E) (answer : OwnerAnswer E) → owner_after (between next) answer ≡ between act.Pending
+        → AnswersTo state (owner_next (between next)) answer → armed → Resumes call state (begins after (begun_by call)) (keeps after Way) → IsAt state new
+        → Turned begins keeps (between next) (owner_after (between next) answer) old new before after armed
+    waits_turn next answer is answers waits goes at =
+        let end : OwnerMachine E = owner_after (between next) answer in
+        let Q : OwnerMachine E → Type 0 = λ m. Reaches (between next) m → Turned begins keeps (between next) m old new before after armed in
+        subst Q (sym is)
+        (λ reaches. record {
+          stands = record { awake = refl; fits = (waits, goes); at = at };
+          reaches = reaches;
+          call_same = refl;
+          kept_open = same_open call state;
+          keeps_first = λ place kept. tt;
+          brings = λ place kept. pending_brought E before after place call;
+        })
+        (answer ∷ [], (answers, refl))
 
     drain_goes : (most : ℕ) (answer : OwnerAnswer E) (noted : Bool) → Goes (act.Drain most) answer noted
-    drain_goes most (by.Got (suc count) n) noted fits at does = got_goes most count n noted fits at does
-    drain_goes most (by.Got zero n) noted fits at does = let none : 0 < 0 = does.1 in absurd (omega arith)
-    drain_goes most by.Ended false fits at does = record {
+    drain_goes most (by.Got zero n) noted fits at does brings = let none : 0 < 0 = does.0.1 in absurd (omega arith)
+    drain_goes most (by.Got (suc count) n) noted fits at does brings =
+        let Q : Bool → Type 0 = λ b.
+        Turned begins keeps (between (act.Drain most)) (told noted (between (act.Drain most)) (by.Got (suc count) b)) old new before after armed in
+        subst Q (sym does.0.0)
+        (reply_goes (act.Drain most) (by.Got (suc count) noted) (reply.Count (suc count)) noted (got_is most count noted (between (act.Drain most)) does.0.2)
+        (does.0.1, does.0.2) (read_fits call most (suc count) fits.1 does.0.2) (stays at does.1) (λ first. tt) (λ first. count_brought E before after first call (suc count)))
+    drain_goes most by.Ended false fits at does brings = record {
       stands = record {
         awake = refl;
-        fits = let P : State → Type 0 = λ s. HasSession s in subst P (sym fits.0) tt;
-        at = moved new (Reading Open) state (sym fits.0) does;
+        fits = ((let P : State → Type 0 = λ s. HasSession s in subst P (sym fits.0) tt), still brings fits.3);
+        at = stays at does.1;
       };
       reaches = (by.Ended ∷ [], (tt, refl));
       call_same = refl;
       kept_open = same_open call state;
-      keeps = λ first kept. let P : PollCall → Type 0 = λ c. SawTheEnd c true in subst P (sym fits.1) tt;
+      keeps_first = λ first kept. let P : PollCall → Type 0 = λ c. AtOwnEnd c state true in subst P (sym fits.1) fits.0;
+      brings = λ first kept. let P : PollCall → Type 0 = λ c. KeepsBrought {E = E} c act.PollSlot after first in subst P (sym fits.1) tt;
     }
-    drain_goes most (by.Waits seat) false fits at does = record {
-      stands = record { awake = refl; fits = does.1; at = moved new (Reading Open) state (sym fits.0) does.0 };
-      reaches = (by.Waits seat ∷ [], (tt, refl));
-      call_same = refl;
-      kept_open = same_open call state;
-      keeps = λ first kept. tt;
-    }
-    drain_goes most by.Ended true fits at does = absurd does
-    drain_goes most (by.Waits seat) true fits at does = absurd does
-    drain_goes most by.Begun noted fits at does = absurd does
-    drain_goes most (by.Refused why) noted fits at does = absurd does
-    drain_goes most (by.Closed n) noted fits at does = absurd does
-    drain_goes most (by.Took n m) noted fits at does = absurd does
-    drain_goes most by.Shut noted fits at does = absurd does
-    drain_goes most (by.Back why) noted fits at does = absurd does
-    drain_goes most by.Dropped noted fits at does = absurd does
-    drain_goes most by.Delivered noted fits at does = absurd does
+    drain_goes most (by.Waits seat) false fits at does brings =
+        waits_turn (act.Drain most) (by.Waits seat) refl tt does.0
+        (let P : PollCall → Type 0 = λ c. Resumes c state (begins after (begun_by call)) (keeps after Way) in subst P (sym fits.1) tt) (stays at does.1)
+    drain_goes most answer noted fits at does brings = absurd does.0
 
     fill_goes : (most : ℕ) (answer : OwnerAnswer E) (noted : Bool) → Goes (act.Fill most) answer noted
-    fill_goes most (by.Took (suc count) n) noted fits at does = took_goes most count n noted fits at does
-    fill_goes most (by.Took zero n) noted fits at does = let none : 0 < 0 = does.1 in absurd (omega arith)
-    fill_goes most by.Shut false fits at does = record {
+    fill_goes most (by.Took zero n) noted fits at does brings = let none : 0 < 0 = does.0.1 in absurd (omega arith)
+    fill_goes most (by.Took (suc count) n) noted fits at does brings =
+        let Q : Bool → Type 0 = λ b.
+        Turned begins keeps (between (act.Fill most)) (told noted (between (act.Fill most)) (by.Took (suc count) b)) old new before after armed in
+        subst Q (sym does.0.0)
+        (reply_goes (act.Fill most) (by.Took (suc count) noted) (reply.Count (suc count)) noted (got_is most count noted (between (act.Fill most)) does.0.2)
+        (does.0.1, does.0.2) (write_fits call most (suc count) fits.1 does.0.2) (stays at does.1) (λ first. tt) (λ first. count_brought E before after first call (suc count)))
+    fill_goes most by.Shut false fits at does brings =
+        reply_goes (act.Fill most) by.Shut (reply.Count 0) false refl tt (write_fits call most 0 fits.1 (omega arith)) (stays at does.1)
+        (λ first. tt) (λ first. count_brought E before after first call 0)
+    fill_goes most (by.Waits seat) false fits at does brings =
+        waits_turn (act.Fill most) (by.Waits seat) refl tt does.0
+        (let P : PollCall → Type 0 = λ c. Resumes c state (begins after (begun_by call)) (keeps after Way) in subst P (sym fits.1) tt) (stays at does.1)
+    fill_goes most answer noted fits at does brings = absurd does.0
+
+    item_fits : (asked : PollCall) → asked ≡ Next → keeps after Item → FitsReply {E = E} asked state reply.Item (keeps after)
+    item_fits asked is kept = let P : PollCall → Type 0 = λ c. FitsReply {E = E} c state reply.Item (keeps after) in subst P (sym is) kept
+
+    receive_goes : (answer : OwnerAnswer E) (noted : Bool) → Goes act.Receive answer noted
+    receive_goes (by.Received n) noted fits at does brings =
+        let Q : Bool → Type 0 = λ b.
+        Turned begins keeps (between act.Receive) (told noted (between act.Receive) (by.Received b)) old new before after armed in
+        subst Q (sym does.0)
+        (reply_goes act.Receive (by.Received noted) reply.Item noted refl tt (item_fits call fits.1 brings) (stays at does.1)
+        (λ first. tt) (λ first. item_brought E before after first call))
+    receive_goes by.Ended false fits at does brings = record {
       stands = record {
         awake = refl;
-        fits = write_fits E call state most 0 fits.1 (omega arith);
-        at = moved new (Writing Open) state (sym fits.0) does;
+        fits = ((let P : State → Type 0 = λ s. HasSession s in subst P (sym fits.0) tt), still brings fits.2);
+        at = stays at does.1;
       };
-      reaches = (by.Shut ∷ [], (tt, refl));
+      reaches = (by.Ended ∷ [], (tt, refl));
       call_same = refl;
       kept_open = same_open call state;
-      keeps = λ first kept. tt;
+      keeps_first = λ first kept. let P : PollCall → Type 0 = λ c. AtOwnEnd c state true in subst P (sym fits.1) fits.0;
+      brings = λ first kept. let P : PollCall → Type 0 = λ c. KeepsBrought {E = E} c act.PollSlot after first in subst P (sym fits.1) tt;
     }
-    fill_goes most (by.Waits seat) false fits at does = record {
-      stands = record { awake = refl; fits = does.1; at = moved new (Writing Open) state (sym fits.0) does.0 };
-      reaches = (by.Waits seat ∷ [], (tt, refl));
+    receive_goes (by.Waits seat) false fits at does brings =
+        waits_turn act.Receive (by.Waits seat) refl tt does.0
+        (let P : PollCall → Type 0 = λ c. Resumes c state (begins after (begun_by call)) (keeps after Way) in subst P (sym fits.1) tt) (stays at does.1)
+    receive_goes answer noted fits at does brings = absurd does.0
+
+    -- how the handle came back, by the state
+    back_at : (answer : OwnerAnswer E) → IsAt state old → BackAt (state_of old) answer → BackAt state answer
+    back_at answer at from = let P : State → Type 0 = λ s. BackAt s answer in subst P at from
+
+    slot_back : (why : Option (Fault E)) → FitsAction begins keeps {E = E} was call state act.PollSlot before → IsAt Idle new → BackAt state (by.Back why)
+        → after ≡ before → Turned begins keeps (between act.PollSlot) (owner_after (between act.PollSlot) (by.Back why)) old new before after armed
+    slot_back why fits idle from same = record {
+      stands = record { awake = refl; fits = back_fits begins keeps E armed call at_end why after (still same fits.1); at = idle };
+      reaches = (by.Back why ∷ [], (from, refl));
       call_same = refl;
-      kept_open = same_open call state;
-      keeps = λ first kept. tt;
+      kept_open = opens call state Idle (session_open state fits.0) (λ e. cc);
+      keeps_first = λ first kept. back_first E call state at_end why new first kept from;
+      brings = λ first kept. on_brought E before after first call (after_back call at_end why) same kept;
     }
-    fill_goes most by.Shut true fits at does = absurd does
-    fill_goes most (by.Waits seat) true fits at does = absurd does
-    fill_goes most by.Begun noted fits at does = absurd does
-    fill_goes most (by.Refused why) noted fits at does = absurd does
-    fill_goes most (by.Closed n) noted fits at does = absurd does
-    fill_goes most (by.Got n m) noted fits at does = absurd does
-    fill_goes most by.Ended noted fits at does = absurd does
-    fill_goes most (by.Back why) noted fits at does = absurd does
-    fill_goes most by.Dropped noted fits at does = absurd does
-    fill_goes most by.Delivered noted fits at does = absurd does
+
+    sought_on : (at : State) (came : ℕ) → BackAt {E = E} at (by.Sought came) → begins after (begun_by call)
+        → FitsAction begins keeps {E = E} armed call Idle (after_seek at call came) after
+    sought_on (Lent kind end) came from ready = seek_fits begins keeps E armed kind end call came after ready
+    sought_on Idle came from ready = absurd from
+    sought_on Closed came from ready = absurd from
+
+    slot_sought : (came : ℕ) → FitsAction begins keeps {E = E} was call state act.PollSlot before → IsAt Idle new → BackAt {E = E} state (by.Sought came)
+        → after ≡ before → Turned begins keeps (between act.PollSlot) (owner_after (between act.PollSlot) (by.Sought came)) old new before after armed
+    slot_sought came fits idle from same = record {
+      stands = record { awake = refl; fits = sought_on state came from (still same fits.1); at = idle };
+      reaches = (by.Sought came ∷ [], (from, refl));
+      call_same = refl;
+      kept_open = opens call state Idle (session_open state fits.0) (λ e. cc);
+      keeps_first = λ first kept. seek_first E call state at_end came new first kept from;
+      brings = λ first kept. on_brought E before after first call (after_seek state call came) same kept;
+    }
+
+    -- no other answer comes
+    no_other : (answer : OwnerAnswer E) (noted : Bool) → IsOther answer → Does (begins before) act.PollSlot old answer noted new armed → ⊥
+    no_other (by.Waits seat) noted other does = other
+    no_other (by.Back why) noted other does = other
+    no_other (by.Sought came) noted other does = other
+    no_other by.Begun true other does = does
+    no_other by.Begun false other does = not_back (state_of old) by.Begun tt does.1
+    no_other answer true other does = does
+    no_other answer false other does = not_back (state_of old) answer tt does.1
 
     slot_goes : (answer : OwnerAnswer E) (noted : Bool) → Goes act.PollSlot answer noted
-    slot_goes (by.Waits seat) false fits at does = record {
-      stands = record { awake = refl; fits = does.1; at = let P : Place T H → Type 0 = λ place. IsAt state place in subst P (sym does.0) at };
-      reaches = (by.Waits seat ∷ [], (tt, refl));
-      call_same = refl;
-      kept_open = same_open call state;
-      keeps = λ first kept. tt;
-    }
-    slot_goes (by.Back why) false fits at does = record {
-      stands = record { awake = refl; fits = back_fits E armed call at_end why; at = does.0 };
-      reaches = (by.Back why ∷ [], (does.1, refl));
-      call_same = refl;
-      kept_open = opens call state Idle (session_open state fits) (λ e. cc);
-      keeps = λ first kept. back_keeps call at_end why new first kept does.1;
-    }
-    slot_goes (by.Waits seat) true fits at does = absurd does
-    slot_goes (by.Back why) true fits at does = absurd does
-    slot_goes by.Begun noted fits at does = absurd does
-    slot_goes (by.Refused why) noted fits at does = absurd does
-    slot_goes (by.Closed n) noted fits at does = absurd does
-    slot_goes (by.Got n m) noted fits at does = absurd does
-    slot_goes by.Ended noted fits at does = absurd does
-    slot_goes (by.Took n m) noted fits at does = absurd does
-    slot_goes by.Shut noted fits at does = absurd does
-    slot_goes by.Dropped noted fits at does = absurd does
-    slot_goes by.Delivered noted fits at does = absurd does
+    slot_goes (by.Waits seat) false fits at does brings =
+        waits_turn act.PollSlot (by.Waits seat) refl tt does.1 (resumes begins keeps E armed call state after (still brings fits.1)) (ap state_of does.0 ∙ at)
+    slot_goes (by.Back why) false fits at does brings = slot_back why fits does.0 (back_at (by.Back why) at does.1) brings
+    slot_goes (by.Sought came) false fits at does brings = slot_sought came fits does.0 (back_at (by.Sought came) at does.1) brings
+    slot_goes (by.Waits seat) true fits at does brings = absurd does
+    slot_goes (by.Back why) true fits at does brings = absurd does
+    slot_goes (by.Sought came) true fits at does brings = absurd does
+    slot_goes answer noted fits at does brings = absurd (no_other answer noted tt does)
+
+    result_fits : (asked : PollCall) → Operates asked → keeps after Gave → FitsReply {E = E} asked state reply.Result (keeps after)
+    result_fits (Operate begun) is kept = kept
+    result_fits asked is kept = absurd is
+
+    result_resumes : (asked : PollCall) (ready way : Type 0) → state ≡ Lent Operating Open → way → Resumes asked state ready way
+    result_resumes (Operate begun) ready way is here = inr (is, here)
+    result_resumes asked ready way is here = tt
+
+    result_goes : (answer : OwnerAnswer E) (noted : Bool) → Goes act.PollResult answer noted
+    result_goes by.Resulted false fits at does brings =
+        reply_goes act.PollResult by.Resulted reply.Result false refl tt (result_fits call fits.1 brings) (ap state_of does ∙ at)
+        (λ first. tt) (λ first. result_brought E before after first call)
+    result_goes (by.Waits seat) false fits at does brings =
+        waits_turn act.PollResult (by.Waits seat) refl tt does.1
+        (result_resumes call (begins after (begun_by call)) (keeps after Way) fits.0 (let P : B → Type 0 = λ b. keeps b Way in subst P (sym brings) fits.2)) (ap state_of does.0 ∙ at)
+    result_goes answer noted fits at does brings = absurd does
 
     drop_goes : (answer : OwnerAnswer E) (noted : Bool) → Goes act.DropHandle answer noted
-    drop_goes by.Dropped false fits at does = record {
-      stands = record { awake = refl; fits = let P : PollCall → Type 0 = λ c. FitsReply {E = E} c Closed Done in subst P (sym fits.1) refl; at = does };
+    drop_goes by.Dropped false fits at does brings = record {
+      stands = record { awake = refl; fits = let P : PollCall → Type 0 = λ c. FitsReply {E = E} c Closed reply.Done (keeps after) in subst P (sym fits.1) refl; at = does };
       reaches = (by.Dropped ∷ [], (tt, refl));
       call_same = refl;
       kept_open = record { stays = λ e. refl; closes = λ e. inr fits.1 };
-      keeps = λ first kept. tt;
+      keeps_first = λ first kept. tt;
+      brings = λ first kept. done_brought E before after first call;
     }
-    drop_goes by.Dropped true fits at does = absurd does
-    drop_goes by.Begun noted fits at does = absurd does
-    drop_goes (by.Refused why) noted fits at does = absurd does
-    drop_goes (by.Closed n) noted fits at does = absurd does
-    drop_goes (by.Got n m) noted fits at does = absurd does
-    drop_goes by.Ended noted fits at does = absurd does
-    drop_goes (by.Took n m) noted fits at does = absurd does
-    drop_goes by.Shut noted fits at does = absurd does
-    drop_goes (by.Waits seat) noted fits at does = absurd does
-    drop_goes (by.Back why) noted fits at does = absurd does
-    drop_goes by.Delivered noted fits at does = absurd does
+    drop_goes answer noted fits at does brings = absurd does
 
     goes : (next : OwnerAction E) (answer : OwnerAnswer E) (noted : Bool) → IsGoing next → Goes next answer noted
     goes act.Begin answer noted going = begin_goes answer noted
     goes act.Close answer noted going = close_goes answer noted
     goes (act.Drain most) answer noted going = drain_goes most answer noted
     goes (act.Fill most) answer noted going = fill_goes most answer noted
+    goes act.Receive answer noted going = receive_goes answer noted
     goes act.PollSlot answer noted going = slot_goes answer noted
+    goes act.PollResult answer noted going = result_goes answer noted
     goes act.DropHandle answer noted going = drop_goes answer noted
     goes act.Deliver answer noted going = absurd going
     goes (act.Reply reply) answer noted going = absurd going
     goes act.Pending answer noted going = absurd going
 
-    can_by : (next : OwnerAction E) (room given : ℕ) → IsGoing next → FitsAction was call state next → IsAt state old → wanted call ≡ room → offered call ≡ given
-        → CanDo begun next old room given
-    can_by act.Begin room given going fits at is holds = (
-      moved old state Idle fits.0 at,
-      λ e. let P : State → Type 0 = λ s. HasSession s in subst P (sym (kind fits.1) ∙ e) (begun_session call),
-    )
-    can_by act.Close room given going fits at is holds = lent_at state old fits at
+    can_by : (next : OwnerAction E) (room given : ℕ) → IsGoing next → FitsAction begins keeps was call state next before → IsAt state old → wanted call ≡ room → offered call ≡ given
+        → CanDo begins keeps next old room given before
+    can_by act.Begin room given going fits at is holds = (at ∙ fits.0, (begun_by call, fits.2))
+    can_by act.Close room given going fits at is holds = let P : State → Type 0 = λ s. HasPipe s in subst P (sym at) fits.0
     can_by (act.Drain most) room given going fits at is holds =
         let whole : most ≡ room = sym (ap wanted fits.1) ∙ is in
         let some : 0 < most = fits.2 in
-        (moved old state (Reading Open) fits.0 at, whole, omega arith)
+        (at ∙ fits.0, whole, omega arith)
     can_by (act.Fill most) room given going fits at is holds =
         let whole : most ≡ given = sym (ap offered fits.1) ∙ holds in
         let some : 0 < most = fits.2 in
-        (moved old state (Writing Open) fits.0 at, whole, omega arith)
-    can_by act.PollSlot room given going fits at is holds = lent_at state old fits at
-    can_by act.DropHandle room given going fits at is holds = moved old state Idle fits.0 at
+        (at ∙ fits.0, whole, omega arith)
+    can_by act.Receive room given going fits at is holds = at ∙ fits.0
+    can_by act.PollSlot room given going fits at is holds = let P : State → Type 0 = λ s. HasSession s in subst P (sym at) fits.0
+    can_by act.PollResult room given going fits at is holds = fits.2
+    can_by act.DropHandle room given going fits at is holds = at ∙ fits.0
     can_by act.Deliver room given going fits at is holds = absurd going
     can_by (act.Reply reply) room given going fits at is holds = absurd going
     can_by act.Pending room given going fits at is holds = absurd going
 
   -- A turn of a machine that stands: it does what it names, is told of it, and stands again.
-  pub turned : (begun : State) (poll : OwnerMachine E) (answer : OwnerAnswer E) (noted : Bool) → (MovesBytes poll.call → begun ≡ begun_by poll.call) → IsGoing poll.next
-      → Stands was poll old → Does begun poll.next old answer noted new armed → Turned poll (told noted poll answer) old new armed
-  turned begun poll answer noted kind going stands does =
+  pub turned : (poll : OwnerMachine E) (answer : OwnerAnswer E) (noted : Bool) → IsGoing poll.next → Stands begins keeps was poll old before
+      → Does (begins before) poll.next old answer noted new armed → Brings begins keeps poll.next answer before after
+      → Turned begins keeps poll (told noted poll answer) old new before after armed
+  turned poll answer noted going stands does brings =
       let is : record poll { is_waking = false } ≡ poll = rw stands.awake refl in
-      let P : OwnerMachine E → Type 0 = λ m. Turned m (told noted m answer) old new armed in
-      subst P is (goes begun poll.call poll.state poll.is_at_end kind poll.next answer noted going stands.fits stands.at does)
+      let P : OwnerMachine E → Type 0 = λ m. Turned begins keeps m (told noted m answer) old new before after armed in
+      subst P is (goes poll.call poll.state poll.is_at_end poll.next answer noted going stands.fits stands.at does brings)
 
   -- the same where no note was taken, and where one was
-  pub turned_plain : {N : Type 0} (begun : State) (poll after : OwnerMachine E) (action : OwnerAction E) (answer : OwnerAnswer E) (note : Option N)
-      → (MovesBytes poll.call → begun ≡ begun_by poll.call) → IsGoing poll.next → Stands was poll old → action ≡ owner_next poll
-      → Does begun action old answer (has note) new armed → note ≡ None → after ≡ owner_after poll answer → Turned poll after old new armed
-  turned_plain {N} begun poll after action answer note kind going stands is does none end =
+  pub turned_plain : {N : Type 0} (poll end : OwnerMachine E) (action : OwnerAction E) (answer : OwnerAnswer E) (note : Option N)
+      → IsGoing poll.next → Stands begins keeps was poll old before → action ≡ owner_next poll
+      → Does (begins before) action old answer (has note) new armed → Brings begins keeps action answer before after → note ≡ None → end ≡ owner_after poll answer
+      → Turned begins keeps poll end old new before after armed
+  turned_plain {N} poll end action answer note going stands is does brings none came =
       let next : action ≡ poll.next = is ∙ (rw stands.awake refl) in
-      let P : OwnerAction E → Type 0 = λ a. Does begun a old answer (has note) new armed in
-      let Q : Option N → Type 0 = λ n. Does begun poll.next old answer (has n) new armed in
-      let R : OwnerMachine E → Type 0 = λ m. Turned poll m old new armed in
-      subst R (sym end) (turned begun poll answer false kind going stands (subst Q none (subst P next does)))
+      let P : OwnerAction E → Type 0 = λ a. Does (begins before) a old answer (has note) new armed in
+      let Q : Option N → Type 0 = λ n. Does (begins before) poll.next old answer (has n) new armed in
+      let S : OwnerAction E → Type 0 = λ a. Brings begins keeps a answer before after in
+      let R : OwnerMachine E → Type 0 = λ m. Turned begins keeps poll m old new before after armed in
+      subst R (sym came) (turned poll answer false going stands (subst Q none (subst P next does)) (subst S next brings))
 
-  pub turned_noted : {N : Type 0} (begun : State) (poll mid after : OwnerMachine E) (action : OwnerAction E) (answer : OwnerAnswer E) (note : Option N) (taken : N)
-      → (MovesBytes poll.call → begun ≡ begun_by poll.call) → IsGoing poll.next → Stands was poll old → action ≡ owner_next poll
-      → Does begun action old answer (has note) new armed → note ≡ Some taken → mid ≡ owner_after poll answer → after ≡ owner_after mid by.Delivered
-      → Turned poll after old new armed
-  turned_noted {N} begun poll mid after action answer note taken kind going stands is does some first end =
+  pub turned_noted : {N : Type 0} (poll mid end : OwnerMachine E) (action : OwnerAction E) (answer : OwnerAnswer E) (note : Option N) (taken : N)
+      → IsGoing poll.next → Stands begins keeps was poll old before → action ≡ owner_next poll
+      → Does (begins before) action old answer (has note) new armed → Brings begins keeps action answer before after → note ≡ Some taken
+      → mid ≡ owner_after poll answer → end ≡ owner_after mid by.Delivered → Turned begins keeps poll end old new before after armed
+  turned_noted {N} poll mid end action answer note taken going stands is does brings some first came =
       let next : action ≡ poll.next = is ∙ (rw stands.awake refl) in
-      let P : OwnerAction E → Type 0 = λ a. Does begun a old answer (has note) new armed in
-      let Q : Option N → Type 0 = λ n. Does begun poll.next old answer (has n) new armed in
-      let R : OwnerMachine E → Type 0 = λ m. Turned poll m old new armed in
-      let whole : told true poll answer ≡ after = ap (λ m. owner_after m by.Delivered) (sym first) ∙ sym end in
-      subst R whole (turned begun poll answer true kind going stands (subst Q some (subst P next does)))
+      let P : OwnerAction E → Type 0 = λ a. Does (begins before) a old answer (has note) new armed in
+      let Q : Option N → Type 0 = λ n. Does (begins before) poll.next old answer (has n) new armed in
+      let S : OwnerAction E → Type 0 = λ a. Brings begins keeps a answer before after in
+      let R : OwnerMachine E → Type 0 = λ m. Turned begins keeps poll m old new before after armed in
+      let whole : told true poll answer ≡ end = ap (λ m. owner_after m by.Delivered) (sym first) ∙ sym came in
+      subst R whole (turned poll answer true going stands (subst Q some (subst P next does)) (subst S next brings))
 
   -- what such a machine names can be done
-  pub can_do : (begun : State) (poll : OwnerMachine E) (room given : ℕ) → (MovesBytes poll.call → begun ≡ begun_by poll.call) → Stands was poll old → IsGoing poll.next
-      → wanted poll.call ≡ room → offered poll.call ≡ given → CanDo begun (owner_next poll) old room given
-  can_do begun poll room given kind stands going is holds =
-      rw stands.awake (can_by begun poll.call poll.state poll.is_at_end kind poll.next room given going stands.fits stands.at is holds)
+  pub can_do : (poll : OwnerMachine E) (room given : ℕ) → Stands begins keeps was poll old before → IsGoing poll.next
+      → wanted poll.call ≡ room → offered poll.call ≡ given → CanDo begins keeps (owner_next poll) old room given before
+  can_do poll room given stands going is holds =
+      rw stands.awake (can_by poll.call poll.state poll.is_at_end poll.next room given going stands.fits stands.at is holds)
 
-module _ {T H E : Type 0} where
+module _ {T I H E B : Type 0} (begins : B → State → Type 0) (keeps : B → Kept → Type 0) where
   -- a poll that begins stands
-  pub first_stands : (armed : Type 0) (poll : OwnerMachine E) (call : PollCall) (state : State) (place : Place T H) → poll ≡ new_poll call state → IsAt state place
-      → Stands armed poll place
-  first_stands armed poll call state place is at =
-      let P : OwnerMachine E → Type 0 = λ m. Stands armed m place in
-      subst P (sym is) (record { awake = refl; fits = table_fits E armed call state; at = at })
+  pub first_stands : (armed : Type 0) (poll : OwnerMachine E) (call : PollCall) (state : State) (place : Place T I H) (brought : B) → poll ≡ new_poll call state
+      → state ≡ state_of place → MayAsk begins keeps call (state_of place) brought → Stands begins keeps armed poll place brought
+  first_stands armed poll call state place brought is at may =
+      let P : OwnerMachine E → Type 0 = λ m. Stands begins keeps armed m place brought in
+      let Q : State → Type 0 = λ s. MayAsk begins keeps call s brought in
+      subst P (sym is) (record { awake = refl; fits = table_fits begins keeps E armed call state brought (subst Q (sym at) may); at = sym at })
 
-  pub first_kept : (poll : OwnerMachine E) (call : PollCall) (state : State) (place : Place T H) → poll ≡ new_poll call state → IsAt state place → IsAt Idle place
-      → KeepsFirst poll.call poll.next poll.is_at_end place place
+module _ {T I H E : Type 0} where
+  pub first_kept : (poll : OwnerMachine E) (call : PollCall) (state : State) (place : Place T I H) → poll ≡ new_poll call state → state ≡ state_of place → IsAt Idle place
+      → KeepsFirst poll.call poll.state poll.next poll.is_at_end place place
   first_kept poll call state place is at idle =
-      let P : OwnerMachine E → Type 0 = λ m. KeepsFirst m.call m.next m.is_at_end place place in
-      subst P (sym is) (first_keeps E call state place at idle)
+      let P : OwnerMachine E → Type 0 = λ m. KeepsFirst m.call m.state m.next m.is_at_end place place in
+      let Q : State → Type 0 = λ s. KeepsFirst {E = E} call s (table call s) false place place in
+      subst P (sym is) (subst Q (sym (at ∙ idle)) (idle_first E call place))
 
-  -- a refusal leaves the handle as it was
-  refused_at : (call : PollCall) (reply : Reply E) (at_end : Bool) (place first : Place T H) → KeepsFirst call (act.Reply reply) at_end place first
-      → IfRefused (Ready reply) (place ≡ first)
-  refused_at call (Count n) at_end place first kept = tt
-  refused_at call Handle at_end place first kept = tt
-  refused_at call (Failed (fault.Io error)) at_end place first kept = tt
-  refused_at call (Failed fault.WriteZero) at_end place first kept = tt
-  refused_at call (Failed (fault.Refused why)) at_end place first kept = kept
-  refused_at call Done at_end place first kept = tt
-  refused_at call NoHandle at_end place first kept = tt
+module _ {E : Type 0} where
+  pub first_brought : {B : Type 0} (call : PollCall) (next : OwnerAction E) (brought : B) → KeepsBrought call next brought brought
+  first_brought call next brought = same_brought E brought brought brought call next refl
 
-  pub refused_by : (armed : Type 0) (poll : OwnerMachine E) (reply : Reply E) (place first : Place T H) → Stands armed poll place → act.Reply reply ≡ owner_next poll
-      → KeepsFirst poll.call poll.next poll.is_at_end place first → IfRefused (Ready reply) (place ≡ first)
-  refused_by armed poll reply place first stands is kept =
+  -- a poll that is refused leaves the handle with its owner
+  refused_idle : (call : PollCall) (state : State) (reply : Reply E) (kept : Kept → Type 0) → FitsReply call state reply kept → IfRefused (Ready reply) (state ≡ Idle)
+  refused_idle (Read most) state (reply.Failed (fault.Refused why)) kept fits = fits
+  refused_idle (Write most) state (reply.Failed (fault.Refused why)) kept fits = fits
+  refused_idle (Seek to) state (reply.Failed (fault.Refused why)) kept fits = fits
+  refused_idle Flush state (reply.Failed (fault.Refused why)) kept fits = fits
+  refused_idle Close state (reply.Failed (fault.Refused why)) kept fits = fits
+  refused_idle Next state (reply.Failed (fault.Refused why)) kept fits = absurd fits
+  refused_idle (Operate begun) state (reply.Failed (fault.Refused why)) kept fits = absurd fits
+  refused_idle GetMut state (reply.Failed (fault.Refused why)) kept fits = absurd fits
+  refused_idle IntoInner state (reply.Failed (fault.Refused why)) kept fits = absurd fits
+  refused_idle Next state (reply.NotBegun why) kept fits = fits
+  refused_idle (Operate begun) state (reply.NotBegun why) kept fits = fits
+  refused_idle (Read most) state (reply.NotBegun why) kept fits = absurd fits
+  refused_idle (Write most) state (reply.NotBegun why) kept fits = absurd fits
+  refused_idle (Seek to) state (reply.NotBegun why) kept fits = absurd fits
+  refused_idle Flush state (reply.NotBegun why) kept fits = absurd fits
+  refused_idle Close state (reply.NotBegun why) kept fits = absurd fits
+  refused_idle GetMut state (reply.NotBegun why) kept fits = absurd fits
+  refused_idle IntoInner state (reply.NotBegun why) kept fits = absurd fits
+  refused_idle call state reply kept fits = tt
+
+  -- and as it was, where it was there before
+  refused_first_place : {T I H : Type 0} (call : PollCall) (state : State) (reply : Reply E) (at_end : Bool) (place first : Place T I H)
+      → KeepsFirst call state (act.Reply reply) at_end place first → IfRefused (Ready reply) (place ≡ first)
+  refused_first_place call state (reply.Failed (fault.Refused why)) at_end place first kept = kept
+  refused_first_place call state (reply.NotBegun why) at_end place first kept = kept
+  refused_first_place call state reply at_end place first kept = tt
+
+  refused_both : (reply : Reply E) (P Q R : Type 0) → IfRefused (Ready reply) P → (R → IfRefused (Ready reply) Q) → IfRefused (Ready reply) (P × (R → Q))
+  refused_both (reply.Failed (fault.Refused why)) P Q R p q = (p, q)
+  refused_both (reply.NotBegun why) P Q R p q = (p, q)
+  refused_both reply P Q R p q = tt
+
+  refused_moved : (reply : Reply E) (P Q : Type 0) → (P → Q) → IfRefused (Ready reply) P → IfRefused (Ready reply) Q
+  refused_moved (reply.Failed (fault.Refused why)) P Q f p = f p
+  refused_moved (reply.NotBegun why) P Q f p = f p
+  refused_moved reply P Q f p = tt
+
+module _ {T I H E : Type 0} where
+  pub refused_by : {B : Type 0} (begins : B → State → Type 0) (keeps : B → Kept → Type 0) (armed : Type 0) (poll : OwnerMachine E) (reply : Reply E) (place first : Place T I H) (brought : B)
+      → Stands begins keeps armed poll place brought → act.Reply reply ≡ owner_next poll
+      → (IsAt Idle first → KeepsFirst poll.call poll.state poll.next poll.is_at_end place first) → KeepsRefused first (Ready reply) place
+  refused_by {B} begins keeps armed poll reply place first brought stands is kept =
       let next : poll.next ≡ act.Reply reply = sym (is ∙ (rw stands.awake refl)) in
-      let P : OwnerAction E → Type 0 = λ a. KeepsFirst poll.call a poll.is_at_end place first in
-      refused_at poll.call reply poll.is_at_end place first (subst P next kept)
+      let P : OwnerAction E → Type 0 = λ a. KeepsFirst poll.call poll.state a poll.is_at_end place first in
+      let F : OwnerAction E → Type 0 = λ a. FitsAction begins keeps armed poll.call poll.state a brought in
+      let idle : IfRefused (Ready reply) (poll.state ≡ Idle) = refused_idle poll.call poll.state reply (keeps brought) (subst F next stands.fits) in
+      refused_both reply (IsAt Idle place) (place ≡ first) (IsAt Idle first)
+      (refused_moved reply (poll.state ≡ Idle) (IsAt Idle place) (λ e. stands.at ∙ e) idle)
+      (λ was. refused_first_place poll.call poll.state reply poll.is_at_end place first (subst P next (kept was)))
 
   -- where nothing was closed nothing is, but by a close; and what was closed is
-  pub stays_closed : (first poll : OwnerMachine E) (call : PollCall) (state : State) (before place : Place T H) → first ≡ new_poll call state → IsAt state before
+  pub stays_closed : (first poll : OwnerMachine E) (call : PollCall) (state : State) (before place : Place T I H) → first ≡ new_poll call state → state ≡ state_of before
       → IsAt poll.state place → KeepsOpen first.call first.state poll.state → IsClosed before → IsClosed place
-  stays_closed first poll call state before place is was at kept closed =
-      let ended : poll.state ≡ Closed = kept.stays (ap (λ m. m.state) is ∙ closed_at state before was closed) in
-      at_closed place (moved place poll.state Closed ended at)
+  stays_closed first poll call state before place is was at kept closed = at ∙ kept.stays (ap (λ m. m.state) is ∙ (was ∙ closed))
 
-  pub closes_only : (first poll : OwnerMachine E) (call : PollCall) (state : State) (before place : Place T H) → first ≡ new_poll call state → IsAt state before
+  pub closes_only : (first poll : OwnerMachine E) (call : PollCall) (state : State) (before place : Place T I H) → first ≡ new_poll call state → state ≡ state_of before
       → IsAt poll.state place → KeepsOpen first.call first.state poll.state → IsClosed place → IsClosed before ⊎ (call ≡ Close)
   closes_only first poll call state before place is was at kept closed =
-      elim (kept.closes (closed_at poll.state place at closed)) [
-        | inl began ↦ inl (at_closed before (moved before state Closed (sym (ap (λ m. m.state) is) ∙ began) was))
+      elim (kept.closes (sym at ∙ closed)) [
+        | inl began ↦ inl (sym was ∙ (sym (ap (λ m. m.state) is) ∙ began))
         | inr asked ↦ inr (sym (ap (λ m. m.call) is) ∙ asked)
       ]

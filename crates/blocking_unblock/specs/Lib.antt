@@ -1,4 +1,8 @@
+pub mod Iterators
+pub mod Lenders
+pub mod Operators
 pub mod Owners
 pub mod Polls
 pub mod Readers
+pub mod Seekers
 pub mod Writers

@@ -7,13 +7,19 @@ use Rattle.blocking_core.specs.declared.pipe.Drained.{Drained}
 use Rattle.blocking_core.specs.declared.pipe.Drained.TheVariants as drained
 use Rattle.blocking_core.specs.declared.pipe.Filled.{Filled}
 use Rattle.blocking_core.specs.declared.pipe.Filled.TheVariants as filled
+use Rattle.blocking_core.specs.declared.pipe.Received.{Received}
+use Rattle.blocking_core.specs.declared.pipe.Received.TheVariants as received
+use Rattle.blocking_pool.specs.declared.pool.answer.Refusal.{Refusal}
+use Rattle.blocking_pool.specs.declared.pool.answer.Refused.{Refused}
 use Rattle.blocking_pool.specs.declared.pool.token.WakeNote.{WakeNote}
 use Rattle.blocking_core.specs.declared.unblock.PollCall.{PollCall}
 use Rattle.blocking_core.specs.declared.unblock.PollCall.TheVariants.{Read, Write}
+use Rattle.blocking_core.specs.declared.unblock.SessionKind.{SessionKind}
+use Rattle.blocking_core.specs.declared.unblock.SessionKind.TheVariants as kind
 use Rattle.blocking_core.specs.declared.unblock.State.{State}
 use Rattle.blocking_core.specs.declared.unblock.State.TheVariants as state
 use Rattle.blocking_core.specs.declared.unblock.Reply.{Reply}
-use Rattle.blocking_core.specs.declared.unblock.Reply.TheVariants.{Count, Handle, Failed, Done}
+use Rattle.blocking_core.specs.declared.unblock.Reply.TheVariants as reply
 use Rattle.blocking_core.specs.declared.unblock.OwnerAction.{OwnerAction}
 use Rattle.blocking_core.specs.declared.unblock.OwnerAction.TheVariants as act
 use Rattle.blocking_core.specs.declared.unblock.OwnerAnswer.{OwnerAnswer}
@@ -23,6 +29,8 @@ use Rattle.futures.specs.declared.task.Poll.TheVariants.{Ready, Pending}
 use Rattle.std.specs.declared.io.Error.{Error}
 use Rattle.blocking_unblock.specs.declared.place.Place.{Place}
 use Rattle.blocking_unblock.specs.declared.place.Place.TheVariants as place
+use Rattle.blocking_unblock.specs.declared.session.Side.{Side}
+use Rattle.blocking_unblock.specs.declared.session.Side.TheVariants as side
 
 -- whether there is a value
 abbrev pub has : {A : Type 0} → Option A → Bool
@@ -51,21 +59,28 @@ abbrev pub offered : PollCall → ℕ
 offered (Write most) = most
 offered call = 0
 
-module _ {T H : Type 0} where
-  -- the handle was dropped
-  abbrev pub IsClosed : Place T H → Type 0
-  IsClosed (place.Idle handle) = ⊥
-  IsClosed (place.Reading session) = ⊥
-  IsClosed (place.Writing session) = ⊥
-  IsClosed place.Closed = Unit {0}
+module _ {T I H : Type 0} where
+  -- the kind of a session
+  abbrev pub kind_of : Side T I H → SessionKind
+  kind_of (side.Reading end way_back) = kind.Reading
+  kind_of (side.Writing end way_back) = kind.Writing
+  kind_of (side.Streaming end way_back) = kind.Streaming
+  kind_of (side.Seeking to way_back) = kind.Seeking to
+  kind_of (side.Operating way_back) = kind.Operating
 
-  -- the handle is where the state says: with its owner, with the job of a session whose end on the owner's side stands so, or nowhere
-  abbrev pub IsAt : State → Place T H → Type 0
-  IsAt state.Idle (place.Idle handle) = Unit {0}
-  IsAt (state.Reading end) (place.Reading session) = session.owner_end ≡ end
-  IsAt (state.Writing end) (place.Writing session) = session.owner_end ≡ end
-  IsAt state.Closed place.Closed = Unit {0}
-  IsAt _ _ = ⊥
+  -- where the handle is: with its owner, with the job of a session of some kind whose end on the owner's side stands so, or nowhere
+  abbrev pub state_of : Place T I H → State
+  state_of (place.Idle handle) = state.Idle
+  state_of (place.Lent session) = state.Lent (kind_of session.side) session.owner_end
+  state_of place.Closed = state.Closed
+
+  -- the handle is where the state says
+  abbrev pub IsAt : State → Place T I H → Type 0
+  IsAt state place = state_of place ≡ state
+
+  -- the handle was dropped
+  abbrev pub IsClosed : Place T I H → Type 0
+  IsClosed place = IsAt state.Closed place
 
 module _ {E : Type 0} where
   -- A fault that a job gives back with its handle: its handle's own, or that a write got nothing on. It is no refusal.
@@ -75,28 +90,53 @@ module _ {E : Type 0} where
   IsOfJob (Some fault.WriteZero) = Unit {0}
   IsOfJob (Some (fault.Refused why)) = ⊥
 
-  -- This is an answer to that action: what comes out of a pipe, or goes into one, is a byte at least, and no more than was asked for or
-  -- offered.
-  abbrev pub AnswersTo : OwnerAction E → OwnerAnswer E → Type 0
-  AnswersTo act.Begin by.Begun = Unit {0}
-  AnswersTo act.Begin (by.Refused why) = Unit {0}
-  AnswersTo act.Close (by.Closed noted) = Unit {0}
-  AnswersTo (act.Drain most) (by.Got count noted) = (0 < count) × (count ≤ most)
-  AnswersTo (act.Drain most) by.Ended = Unit {0}
-  AnswersTo (act.Drain most) (by.Waits seat) = Unit {0}
-  AnswersTo (act.Fill most) (by.Took count noted) = (0 < count) × (count ≤ most)
-  AnswersTo (act.Fill most) by.Shut = Unit {0}
-  AnswersTo (act.Fill most) (by.Waits seat) = Unit {0}
-  AnswersTo act.PollSlot (by.Waits seat) = Unit {0}
-  AnswersTo act.PollSlot (by.Back why) = IsOfJob why
-  AnswersTo act.DropHandle by.Dropped = Unit {0}
-  AnswersTo act.Deliver by.Delivered = Unit {0}
-  AnswersTo _ _ = ⊥
+  -- the handle is back, with the fault of its job or with none
+  abbrev pub IsBack : OwnerAnswer E → Type 0
+  IsBack (by.Back why) = IsOfJob why
+  IsBack answer = ⊥
+
+  -- the handle is back from a seek: with where it is now, or with its fault
+  abbrev pub IsSought : OwnerAnswer E → Type 0
+  IsSought (by.Sought place) = Unit {0}
+  IsSought (by.Back (Some (fault.Io error))) = Unit {0}
+  IsSought answer = ⊥
+
+  -- how the handle comes back from a session of this kind
+  abbrev pub BackFrom : SessionKind → OwnerAnswer E → Type 0
+  BackFrom (kind.Seeking to) answer = IsSought answer
+  BackFrom kind answer = IsBack answer
+
+  abbrev pub BackAt : State → OwnerAnswer E → Type 0
+  BackAt (state.Lent kind end) answer = BackFrom kind answer
+  BackAt state answer = ⊥
+
+  -- This is an answer to that action, where the handle is there: what comes out of a pipe, or goes into one, is a byte at least, and no more
+  -- than was asked for or offered; and only a seek brings a position.
+  abbrev pub AnswersTo : State → OwnerAction E → OwnerAnswer E → Type 0
+  AnswersTo state act.Begin by.Begun = Unit {0}
+  AnswersTo state act.Begin (by.Refused why) = Unit {0}
+  AnswersTo state act.Close (by.Closed noted) = Unit {0}
+  AnswersTo state (act.Drain most) (by.Got count noted) = (0 < count) × (count ≤ most)
+  AnswersTo state (act.Drain most) by.Ended = Unit {0}
+  AnswersTo state (act.Drain most) (by.Waits seat) = Unit {0}
+  AnswersTo state (act.Fill most) (by.Took count noted) = (0 < count) × (count ≤ most)
+  AnswersTo state (act.Fill most) by.Shut = Unit {0}
+  AnswersTo state (act.Fill most) (by.Waits seat) = Unit {0}
+  AnswersTo state act.Receive (by.Received noted) = Unit {0}
+  AnswersTo state act.Receive by.Ended = Unit {0}
+  AnswersTo state act.Receive (by.Waits seat) = Unit {0}
+  AnswersTo state act.PollSlot (by.Waits seat) = Unit {0}
+  AnswersTo state act.PollSlot answer = BackAt state answer
+  AnswersTo state act.PollResult by.Resulted = Unit {0}
+  AnswersTo state act.PollResult (by.Waits seat) = Unit {0}
+  AnswersTo state act.DropHandle by.Dropped = Unit {0}
+  AnswersTo state act.Deliver by.Delivered = Unit {0}
+  AnswersTo state _ _ = ⊥
 
   -- the machine comes from one to the other by these answers, each to the action that was next
   abbrev pub Runs : OwnerMachine E → List (OwnerAnswer E) → OwnerMachine E → Type 0
   Runs old [] new = new ≡ old
-  Runs old (answer ∷ rest) new = AnswersTo (owner_next old) answer × Runs (owner_after old answer) rest new
+  Runs old (answer ∷ rest) new = AnswersTo old.state (owner_next old) answer × Runs (owner_after old answer) rest new
 
   abbrev pub Reaches : OwnerMachine E → OwnerMachine E → Type 0
   Reaches old new = (answers : List (OwnerAnswer E)) × Runs old answers new
@@ -108,7 +148,8 @@ module _ {E : Type 0} where
 
   -- what holds where no session could begin
   abbrev pub IfRefused : Poll (Reply E) → Type 0 → Type 0
-  IfRefused (Ready (Failed (fault.Refused why))) P = P
+  IfRefused (Ready (reply.Failed (fault.Refused why))) P = P
+  IfRefused (Ready (reply.NotBegun why)) P = P
   IfRefused _ P = Unit {0}
 
   -- what a drain means to the machine: what came out and whether there is a note, the end, or that the owner waits
@@ -125,24 +166,46 @@ module _ {E : Type 0} where
 
   -- what a read or a write answers, as a reply
   abbrev pub reply_of_count : Poll (Result ℕ (Fault E)) → Poll (Reply E)
-  reply_of_count (Ready (Ok count)) = Ready (Count count)
-  reply_of_count (Ready (Err why)) = Ready (Failed why)
+  reply_of_count (Ready (Ok count)) = Ready (reply.Count count)
+  reply_of_count (Ready (Err why)) = Ready (reply.Failed why)
   reply_of_count Pending = Pending
+
+  -- what a seek answers, as a reply
+  abbrev pub reply_of_seek : Poll (Result ℕ (Fault E)) → Poll (Reply E)
+  reply_of_seek (Ready (Ok place)) = Ready (reply.Position place)
+  reply_of_seek (Ready (Err why)) = Ready (reply.Failed why)
+  reply_of_seek Pending = Pending
 
   -- what a flush or a close answers, as a reply
   abbrev pub reply_of_done : {A : Type 0} → Poll (Result A (Fault E)) → Poll (Reply E)
-  reply_of_done (Ready (Ok _)) = Ready Done
-  reply_of_done (Ready (Err why)) = Ready (Failed why)
+  reply_of_done (Ready (Ok _)) = Ready reply.Done
+  reply_of_done (Ready (Err why)) = Ready (reply.Failed why)
   reply_of_done Pending = Pending
 
--- what the call for the handle answers, as a reply
+-- what the call for the next item answers, as a reply
+abbrev pub reply_of_next : {A : Type 0} → Poll (Option (Result A Refusal)) → Poll (Reply Error)
+reply_of_next (Ready (Some (Ok item))) = Ready reply.Item
+reply_of_next (Ready (Some (Err why))) = Ready (reply.NotBegun why)
+reply_of_next (Ready None) = Ready reply.End
+reply_of_next Pending = Pending
+
+-- what an operation answers, as a reply
+abbrev pub reply_of_operate : {A F : Type 0} → Poll (Result A (Refused F)) → Poll (Reply Error)
+reply_of_operate (Ready (Ok gave)) = Ready reply.Result
+reply_of_operate (Ready (Err refused)) = Ready (reply.NotBegun refused.why)
+reply_of_operate Pending = Pending
+
+-- what a call for the handle answers, as a reply
 abbrev pub reply_of_get : {A : Type 0} → Poll A → Poll (Reply Error)
-reply_of_get (Ready handle) = Ready Handle
+reply_of_get (Ready handle) = Ready reply.Handle
 reply_of_get Pending = Pending
 
 -- What a poll does and answers: its machine begins by the call and where the handle is, gets answers, each to the action that was
 -- next, and ends where the handle is then; the reply is the machine's.
-abbrev pub Follows : {T H E : Type 0} → PollCall → Place T H → Poll (Reply E) → Place T H → Type 0
-Follows {T} {H} {E} call old reply new =
-    (begins : State) × IsAt begins old
-    × (end : OwnerMachine E) × Reaches (new_poll call begins) end × EndsWith end reply × IsAt end.state new
+abbrev pub Follows : {T I H E : Type 0} → PollCall → Place T I H → Poll (Reply E) → Place T I H → Type 0
+Follows {T} {I} {H} {E} call old reply new =
+    (end : OwnerMachine E) × Reaches (new_poll call (state_of old)) end × EndsWith end reply × IsAt end.state new
+
+-- Where no session could begin the handle is with its owner, and as it was, where it was there before.
+abbrev pub KeepsRefused : {T I H E : Type 0} → Place T I H → Poll (Reply E) → Place T I H → Type 0
+KeepsRefused old reply new = IfRefused reply (IsAt state.Idle new × (IsAt state.Idle old → new ≡ old))

@@ -1,72 +1,91 @@
 -- What holds of the machine of a poll between two actions. No public clause cites this file.
 use Rattle.std.specs.Prelude.{◌≡◌, ◌⊎◌, ◌<◌, ◌≤◌, ℕ, Bool, true, false}
-use Rattle.blocking_core.specs.OwnerCalls.{OwnerMachine, shut}
+use Rattle.blocking_core.specs.OwnerCalls.{OwnerMachine, begun_by, shut, has_pipe}
 use Rattle.blocking_core.specs.declared.io.Fault.TheVariants as fault
 use Rattle.blocking_core.specs.declared.unblock.PollCall.{PollCall}
 use Rattle.blocking_core.specs.declared.unblock.PollCall.TheVariants as call
 use Rattle.blocking_core.specs.declared.unblock.OwnerEnd.TheVariants.{Open}
+use Rattle.blocking_core.specs.declared.unblock.SessionKind.{SessionKind}
+use Rattle.blocking_core.specs.declared.unblock.SessionKind.TheVariants.{Reading, Writing, Streaming, Seeking, Operating}
 use Rattle.blocking_core.specs.declared.unblock.State.{State}
-use Rattle.blocking_core.specs.declared.unblock.State.TheVariants.{Idle, Reading, Writing, Closed}
+use Rattle.blocking_core.specs.declared.unblock.State.TheVariants.{Idle, Lent, Closed}
 use Rattle.blocking_core.specs.declared.unblock.Reply.{Reply}
 use Rattle.blocking_core.specs.declared.unblock.Reply.TheVariants as reply
 use Rattle.blocking_core.specs.declared.unblock.OwnerAction.{OwnerAction}
 use Rattle.blocking_core.specs.declared.unblock.OwnerAction.TheVariants as act
 use Rattle.blocking_core.specs.declared.unblock.OwnerAnswer.{OwnerAnswer}
 use Rattle.blocking_core.specs.declared.unblock.OwnerAnswer.TheVariants as by
-use Rattle.blocking_unblock.specs.Owners.{IsAt, IsOfJob}
+use Rattle.futures.specs.declared.task.Poll.{Poll}
+use Rattle.futures.specs.declared.task.Poll.TheVariants.{Ready, Pending}
+use Rattle.blocking_unblock.specs.Owners.{state_of, IsAt, BackAt}
 use Rattle.blocking_unblock.specs.declared.place.Place.{Place}
-use Rattle.blocking_unblock.specs.declared.place.Place.TheVariants as place
 
--- it wants some bytes, or has some to write
-abbrev pub MovesBytes : PollCall → Type 0
-MovesBytes (call.Read most) = 0 < most
-MovesBytes (call.Write most) = 0 < most
-MovesBytes _ = ⊥
+-- what a call has beside its buffers: where it waits for a result, the item that came, the result that came
+pub data Kept : Type 0 where
+  Way : Kept
+  Item : Kept
+  Gave : Kept
 
--- there is a session
+-- it begins a session, where the handle is with its owner
+abbrev pub Starts : PollCall → Type 0
+Starts (call.Read most) = 0 < most
+Starts (call.Write most) = 0 < most
+Starts (call.Seek to) = Unit {0}
+Starts call.Next = Unit {0}
+Starts (call.Operate begun) = Unit {0}
+Starts asked = ⊥
+
+-- it is an operation
+abbrev pub Operates : PollCall → Type 0
+Operates (call.Operate begun) = Unit {0}
+Operates asked = ⊥
+
+-- there is a session, or one with a pipe
 abbrev pub HasSession : State → Type 0
-HasSession (Reading end) = Unit {0}
-HasSession (Writing end) = Unit {0}
-HasSession _ = ⊥
+HasSession (Lent kind end) = Unit {0}
+HasSession state = ⊥
 
--- the handle is with a job
-abbrev pub IsLent : {T H : Type 0} → Place T H → Type 0
-IsLent (place.Reading session) = Unit {0}
-IsLent (place.Writing session) = Unit {0}
-IsLent _ = ⊥
+abbrev pub HasPipe : State → Type 0
+HasPipe (Lent kind end) = has_pipe kind ≡ true
+HasPipe state = ⊥
 
--- it is a read that saw the end
-abbrev pub SawTheEnd : PollCall → Bool → Type 0
-SawTheEnd (call.Read most) true = Unit {0}
-SawTheEnd _ _ = ⊥
+-- It is at the end of a session of its own, after which no other begins: a read or a stream that saw the end of the pipe, or a seek.
+abbrev pub AtOwnEnd : PollCall → State → Bool → Type 0
+AtOwnEnd (call.Read most) state true = state ≡ Lent Reading Open
+AtOwnEnd call.Next state true = state ≡ Lent Streaming Open
+AtOwnEnd (call.Seek to) state at_end = state ≡ Lent (Seeking to) Open
+AtOwnEnd asked state at_end = ⊥
+
+-- after a session began that brings the handle here: an operation waits for its result, and another call is as ready as before
+abbrev pub Onward : State → Type 0 → Type 0 → Type 0
+Onward (Lent Operating end) again way = way
+Onward state again way = again
 
 module _ {E : Type 0} where
-  -- A reply fits its call: a read and a write count no more than they wanted or offered, a fault is told with the handle back, who wants
-  -- the handle gets it, and a flush and a close are done once no session is left.
-  abbrev pub FitsReply : PollCall → State → Reply E → Type 0
-  FitsReply (call.Read most) state (reply.Count count) = count ≤ most
-  FitsReply (call.Write most) state (reply.Count count) = count ≤ most
-  FitsReply call.GetMut state reply.Handle = state ≡ Idle
-  FitsReply call.GetMut state (reply.Failed why) = ⊥
-  FitsReply call.Flush state reply.Done = (state ≡ Idle) ⊎ (state ≡ Closed)
-  FitsReply call.Close state reply.Done = state ≡ Closed
-  FitsReply call.Flush state reply.Closed = ⊥
-  FitsReply call.Close state reply.Closed = ⊥
-  FitsReply asked state reply.Closed = state ≡ Closed
-  FitsReply asked state (reply.Failed why) = state ≡ Idle
-  FitsReply _ _ _ = ⊥
-
-  -- what is next fits the call, and where the handle is; who waits has registered
-  abbrev pub FitsAction : Type 0 → PollCall → State → OwnerAction E → Type 0
-  FitsAction armed asked state act.Begin = (state ≡ Idle) × MovesBytes asked
-  FitsAction armed asked state act.Close = HasSession state
-  FitsAction armed asked state (act.Drain most) = (state ≡ Reading Open) × (asked ≡ call.Read most) × (0 < most)
-  FitsAction armed asked state (act.Fill most) = (state ≡ Writing Open) × (asked ≡ call.Write most) × (0 < most)
-  FitsAction armed asked state act.PollSlot = HasSession state
-  FitsAction armed asked state act.DropHandle = (state ≡ Idle) × (asked ≡ call.Close)
-  FitsAction armed asked state act.Deliver = ⊥
-  FitsAction armed asked state (act.Reply reply) = FitsReply asked state reply
-  FitsAction armed asked state act.Pending = armed
+  -- A reply fits its call: a read and a write count no more than they wanted or offered, an item and a result have come, a fault is told
+  -- with the handle back, who wants the handle gets it, and a flush and a close are done once no session is left.
+  abbrev pub FitsReply : PollCall → State → Reply E → (Kept → Type 0) → Type 0
+  FitsReply (call.Read most) state (reply.Count count) kept = count ≤ most
+  FitsReply (call.Write most) state (reply.Count count) kept = count ≤ most
+  FitsReply (call.Seek to) state (reply.Position place) kept = state ≡ Idle
+  FitsReply call.Next state reply.Item kept = kept Item
+  FitsReply call.Next state reply.End kept = state ≡ Idle
+  FitsReply (call.Operate begun) state reply.Result kept = kept Gave
+  FitsReply call.Next state (reply.NotBegun why) kept = state ≡ Idle
+  FitsReply (call.Operate begun) state (reply.NotBegun why) kept = state ≡ Idle
+  FitsReply call.GetMut state reply.Handle kept = state ≡ Idle
+  FitsReply call.IntoInner state reply.Handle kept = state ≡ Idle
+  FitsReply call.Flush state reply.Done kept = (state ≡ Idle) ⊎ (state ≡ Closed)
+  FitsReply call.Close state reply.Done kept = state ≡ Closed
+  FitsReply (call.Read most) state (reply.Failed why) kept = state ≡ Idle
+  FitsReply (call.Write most) state (reply.Failed why) kept = state ≡ Idle
+  FitsReply (call.Seek to) state (reply.Failed why) kept = state ≡ Idle
+  FitsReply call.Flush state (reply.Failed why) kept = state ≡ Idle
+  FitsReply call.Close state (reply.Failed why) kept = state ≡ Idle
+  FitsReply call.Flush state reply.Closed kept = ⊥
+  FitsReply call.Close state reply.Closed kept = ⊥
+  FitsReply asked state reply.Closed kept = state ≡ Closed
+  FitsReply _ _ _ _ = ⊥
 
   -- there is something to do yet
   abbrev pub IsGoing : OwnerAction E → Type 0
@@ -75,51 +94,124 @@ module _ {E : Type 0} where
   IsGoing act.Deliver = ⊥
   IsGoing _ = Unit {0}
 
--- Between two actions: no note is to be spent, what is next fits, and the handle is where the machine says.
-pub record Stands {T H E : Type 0} (armed : Type 0) (poll : OwnerMachine E) (place : Place T H) : Type 0 where
-  pub awake : poll.is_waking ≡ false
-  pub fits : FitsAction armed poll.call poll.state poll.next
-  pub at : IsAt poll.state place
+-- Where an operation may go on from that waits: it is still to begin, or it waits for its result.
+abbrev pub Resumes : PollCall → State → Type 0 → Type 0 → Type 0
+Resumes (call.Operate begun) state ready way = ready ⊎ ((state ≡ Lent Operating Open) × way)
+Resumes asked state ready way = Unit {0}
+
+-- B is what a call brings. It begins sessions that bring the handle to these states, and has these things.
+module _ {B : Type 0} (begins : B → State → Type 0) (keeps : B → Kept → Type 0) where
+  -- A call that may be asked where the handle is: an operation that has begun is in its session and waits for its result, and any other
+  -- call is ready to begin.
+  abbrev pub MayAsk : PollCall → State → B → Type 0
+  MayAsk (call.Operate true) state brought = (state ≡ Lent Operating Open) × keeps brought Way
+  MayAsk asked state brought = begins brought (begun_by asked)
+
+  module _ {E : Type 0} where
+    -- what is next fits the call, and where the handle is; who waits has registered
+    abbrev pub FitsAction : Type 0 → PollCall → State → OwnerAction E → B → Type 0
+    FitsAction armed asked state act.Begin brought = (state ≡ Idle) × Starts asked × begins brought (begun_by asked)
+    FitsAction armed asked state act.Close brought = HasPipe state × begins brought (begun_by asked)
+    FitsAction armed asked state (act.Drain most) brought =
+        (state ≡ Lent Reading Open) × (asked ≡ call.Read most) × (0 < most) × begins brought (begun_by asked)
+    FitsAction armed asked state (act.Fill most) brought =
+        (state ≡ Lent Writing Open) × (asked ≡ call.Write most) × (0 < most)
+    FitsAction armed asked state act.Receive brought = (state ≡ Lent Streaming Open) × (asked ≡ call.Next) × begins brought (begun_by asked)
+    FitsAction armed asked state act.PollSlot brought = HasSession state × begins brought (begun_by asked)
+    FitsAction armed asked state act.PollResult brought = (state ≡ Lent Operating Open) × Operates asked × keeps brought Way
+    FitsAction armed asked state act.DropHandle brought = (state ≡ Idle) × (asked ≡ call.Close)
+    FitsAction armed asked state act.Deliver brought = ⊥
+    FitsAction armed asked state (act.Reply reply) brought = FitsReply asked state reply (keeps brought)
+    FitsAction armed asked state act.Pending brought = armed × Resumes asked state (begins brought (begun_by asked)) (keeps brought Way)
+
+    -- Between two actions: no note is to be spent, what is next fits, and the handle is where the machine says.
+    pub record Stands {T I H : Type 0} (armed : Type 0) (poll : OwnerMachine E) (place : Place T I H) (brought : B) : Type 0 where
+      pub awake : poll.is_waking ≡ false
+      pub fits : FitsAction armed poll.call poll.state poll.next brought
+      pub at : IsAt poll.state place
+
+    -- an action can be done where the handle is so, with a buffer of so many bytes and so many to write
+    abbrev pub CanDo : {T I H : Type 0} → OwnerAction E → Place T I H → ℕ → ℕ → B → Type 0
+    CanDo act.Begin place room given brought = IsAt Idle place × ((state : State) × begins brought state)
+    CanDo act.Close place room given brought = HasPipe (state_of place)
+    CanDo (act.Drain most) place room given brought = IsAt (Lent Reading Open) place × (most ≡ room) × (0 < room)
+    CanDo (act.Fill most) place room given brought = IsAt (Lent Writing Open) place × (most ≡ given) × (0 < given)
+    CanDo act.Receive place room given brought = IsAt (Lent Streaming Open) place
+    CanDo act.PollSlot place room given brought = HasSession (state_of place)
+    CanDo act.PollResult place room given brought = keeps brought Way
+    CanDo act.DropHandle place room given brought = IsAt Idle place
+    CanDo _ place room given brought = ⊥
+
+    -- what becomes of what a call brings: where its session began it goes on, what came it has, and else it is as it was
+    abbrev pub Brings : OwnerAction E → OwnerAnswer E → B → B → Type 0
+    Brings act.Begin by.Begun old new = (state : State) → begins old state → Onward state (begins new state) (keeps new Way)
+    Brings act.Receive (by.Received noted) old new = keeps new Item
+    Brings act.PollResult by.Resulted old new = keeps new Gave
+    Brings _ _ old new = new ≡ old
 
 -- From one moment of a call to a later one: what was closed is closed, and else only a close closes.
 pub record KeepsOpen (asked : PollCall) (before after : State) : Type 0 where
   pub stays : before ≡ Closed → after ≡ Closed
   pub closes : after ≡ Closed → (before ≡ Closed) ⊎ (asked ≡ call.Close)
 
--- An action can be done where the handle is so, with a buffer of so many bytes and so many to write. begun is where the handle is once
--- a session began, and with its owner where none can.
-abbrev pub CanDo : {T H E : Type 0} → State → OwnerAction E → Place T H → ℕ → ℕ → Type 0
-CanDo begun act.Begin place room given = IsAt Idle place × (begun ≡ Idle → ⊥)
-CanDo begun act.Close place room given = IsLent place
-CanDo begun (act.Drain most) place room given = IsAt (Reading Open) place × (most ≡ room) × (0 < room)
-CanDo begun (act.Fill most) place room given = IsAt (Writing Open) place × (most ≡ given) × (0 < given)
-CanDo begun act.PollSlot place room given = IsLent place
-CanDo begun act.DropHandle place room given = IsAt Idle place
-CanDo begun _ place room given = ⊥
+module _ {E : Type 0} where
+  -- bytes came out of a pipe, or it is at its end, or the owner waits and has registered
+  abbrev pub Drains : ℕ → OwnerAnswer E → Bool → Type 0 → Type 0
+  Drains most (by.Got count noted) has_note armed = (noted ≡ has_note) × (0 < count) × (count ≤ most)
+  Drains most by.Ended false armed = Unit {0}
+  Drains most (by.Waits seat) false armed = armed
+  Drains most answer has_note armed = ⊥
 
--- What the doing of an action brings: its answer, whether a note was taken, and where the handle is then. A wait is registered.
-abbrev pub Does : {T H E : Type 0} → State → OwnerAction E → Place T H → OwnerAnswer E → Bool → Place T H → Type 0 → Type 0
-Does begun act.Begin old by.Begun false new armed = IsAt begun new
-Does begun act.Begin old (by.Refused why) false new armed = new ≡ old
-Does begun act.Close old (by.Closed noted) has_note new armed = (noted ≡ has_note) × ((state : State) → IsAt state old → IsAt (shut state) new)
-Does begun (act.Drain most) old (by.Got count noted) has_note new armed =
-    (noted ≡ has_note) × (0 < count) × (count ≤ most) × IsAt (Reading Open) new
-Does begun (act.Drain most) old by.Ended false new armed = IsAt (Reading Open) new
-Does begun (act.Drain most) old (by.Waits seat) false new armed = IsAt (Reading Open) new × armed
-Does begun (act.Fill most) old (by.Took count noted) has_note new armed =
-    (noted ≡ has_note) × (0 < count) × (count ≤ most) × IsAt (Writing Open) new
-Does begun (act.Fill most) old by.Shut false new armed = IsAt (Writing Open) new
-Does begun (act.Fill most) old (by.Waits seat) false new armed = IsAt (Writing Open) new × armed
-Does begun act.PollSlot old (by.Waits seat) false new armed = (new ≡ old) × armed
-Does begun act.PollSlot old (by.Back why) false new armed = IsAt Idle new × IsOfJob why
-Does begun act.DropHandle old by.Dropped false new armed = IsAt Closed new
-Does _ _ _ _ _ _ _ = ⊥
+  -- bytes went into a pipe, or none do any more, or the owner waits and has registered
+  abbrev pub Fills : ℕ → OwnerAnswer E → Bool → Type 0 → Type 0
+  Fills most (by.Took count noted) has_note armed = (noted ≡ has_note) × (0 < count) × (count ≤ most)
+  Fills most by.Shut false armed = Unit {0}
+  Fills most (by.Waits seat) false armed = armed
+  Fills most answer has_note armed = ⊥
 
--- What a poll that began with an idle handle keeps: the handle is as it was where a session is to begin or was refused, and a session
--- gives it back at its end alone, after which no other begins.
-abbrev pub KeepsFirst : {T H E : Type 0} → PollCall → OwnerAction E → Bool → Place T H → Place T H → Type 0
-KeepsFirst asked act.Begin at_end place first = place ≡ first
-KeepsFirst asked act.Close at_end place first = ⊥
-KeepsFirst asked act.PollSlot at_end place first = SawTheEnd asked at_end
-KeepsFirst asked (act.Reply (reply.Failed (fault.Refused why))) at_end place first = place ≡ first
-KeepsFirst asked _ at_end place first = Unit {0}
+  -- an item came out of a pipe, or it is at its end, or the owner waits and has registered
+  abbrev pub Receives : OwnerAnswer E → Bool → Type 0 → Type 0
+  Receives (by.Received noted) has_note armed = noted ≡ has_note
+  Receives by.Ended false armed = Unit {0}
+  Receives (by.Waits seat) false armed = armed
+  Receives answer has_note armed = ⊥
+
+module _ {T I H E : Type 0} where
+  -- What the doing of an action does with the handle: its answer, whether a note was taken, and where the handle is then. A wait is
+  -- registered. begun says where the handle may be once a session began.
+  abbrev pub Does : (State → Type 0) → OwnerAction E → Place T I H → OwnerAnswer E → Bool → Place T I H → Type 0 → Type 0
+  Does begun act.Begin old by.Begun false new armed = (state : State) → begun state → IsAt state new
+  Does begun act.Begin old (by.Refused why) false new armed = new ≡ old
+  Does begun act.Close old (by.Closed noted) has_note new armed = (noted ≡ has_note) × IsAt (shut (state_of old)) new
+  Does begun (act.Drain most) old answer has_note new armed = Drains most answer has_note armed × IsAt (state_of old) new
+  Does begun (act.Fill most) old answer has_note new armed = Fills most answer has_note armed × IsAt (state_of old) new
+  Does begun act.Receive old answer has_note new armed = Receives answer has_note armed × IsAt (state_of old) new
+  Does begun act.PollSlot old (by.Waits seat) false new armed = (new ≡ old) × armed
+  Does begun act.PollSlot old answer false new armed = IsAt Idle new × BackAt (state_of old) answer
+  Does begun act.PollResult old by.Resulted false new armed = new ≡ old
+  Does begun act.PollResult old (by.Waits seat) false new armed = (new ≡ old) × armed
+  Does begun act.DropHandle old by.Dropped false new armed = IsAt Closed new
+  Does _ _ _ _ _ _ _ = ⊥
+
+  -- What a poll that began with an idle handle keeps: the handle is as it was where a session is to begin or was refused, and a session
+  -- gives it back at its end alone, after which no other begins.
+  abbrev pub KeepsFirst : PollCall → State → OwnerAction E → Bool → Place T I H → Place T I H → Type 0
+  KeepsFirst asked state act.Begin at_end place first = place ≡ first
+  KeepsFirst asked state act.Close at_end place first = ⊥
+  KeepsFirst asked state act.PollSlot at_end place first = AtOwnEnd asked state at_end
+  KeepsFirst asked state (act.Reply (reply.Failed (fault.Refused why))) at_end place first = place ≡ first
+  KeepsFirst asked state (act.Reply (reply.NotBegun why)) at_end place first = place ≡ first
+  KeepsFirst asked state _ at_end place first = Unit {0}
+
+-- the last action of a poll that answers so
+abbrev pub last_action : {E : Type 0} → Poll (Reply E) → OwnerAction E
+last_action (Ready reply) = act.Reply reply
+last_action Pending = act.Pending
+
+-- what an operation's poll keeps until a session began, or where none could: what it brought, as it was
+abbrev pub KeepsBrought : {E B : Type 0} → PollCall → OwnerAction E → B → B → Type 0
+KeepsBrought (call.Operate begun) act.Begin brought first = brought ≡ first
+KeepsBrought (call.Operate begun) act.Close brought first = brought ≡ first
+KeepsBrought (call.Operate begun) act.PollSlot brought first = brought ≡ first
+KeepsBrought (call.Operate begun) (act.Reply (reply.NotBegun why)) brought first = brought ≡ first
+KeepsBrought asked next brought first = Unit {0}

@@ -2,21 +2,27 @@
 #![tactic(auto)]
 
 mod io;
+mod item_job;
 mod lend;
 mod link;
+mod op_job;
+mod parts;
 mod place;
 mod read_ext;
 mod read_job;
-mod read_session;
+mod seek_job;
 mod session;
+mod slot;
 mod unblock;
 mod write_ext;
 mod write_job;
-mod write_session;
 
 pub use io::{AsyncRead, AsyncWrite, IoFault};
+pub use item_job::ItemJob;
+pub use op_job::OpJob;
 pub use read_ext::{AsyncReadExt, ReadExact, ReadSome, ReadToEnd};
 pub use read_job::ReadJob;
+pub use seek_job::SeekJob;
 pub use unblock::Unblock;
 pub use write_ext::{AsyncWriteExt, Close, Flush, WriteAll, WriteSome};
 pub use write_job::WriteJob;

@@ -1,80 +1,106 @@
 //! What the owner of a lent handle and its job share beside the pipe: the slot in which the handle comes back, under its lock, and
 //! the mark of a session whose owner is gone.
-ghost use Rattle.blocking_unblock.specs.Owners.{IsOfJob};
+ghost use Rattle.std.specs.Prelude.{OnErr, IfOk};
+ghost use Rattle.futures.specs.Task.{IsArmed, Keeps};
 
-use blocking_core::io::{Fault, JobFault};
-use blocking_core::task::{Looked, Put, Slot, Slotted};
-use futures::task::Waker;
+use crate::slot::{AnyOf, LockedSlot, OwnerWaker};
+use blocking_core::io::JobFault;
+use blocking_core::task::{Put, Seat};
+use futures::task::{Context, Source};
+use std::alloc::{AllocError, AllocGlobal};
 use std::io;
 use std::sync::atomic::{AtomicBool, Ordering};
-use std::sync::{Mutex, Wait};
+use std::sync::{Arc, Wait};
 
-// The owner's waker, or none where none could be registered. Letting it go calls it.
-pub(crate) type OwnerWaker = Option<Waker>;
+/// What a job tells that uses its handle until nobody wants more: its fault, if there was one.
+pub(crate) type MayFail = Option<JobFault<io::Error>>;
 
-/// A handle that its job gives back, with the fault that ended the job, if there was one.
+/// What a seeking job tells: where its handle is now.
+pub(crate) type Sought = io::Result<u64>;
+
+/// A handle that its job gives back, and what the job tells.
 #[derive(Drop)]
-pub(crate) struct Returned<T: Drop> {
+pub(crate) struct Returned<T: Drop, X: Drop> {
     pub handle: T,
-    pub fault: Option<JobFault<io::Error>>,
+    pub told: X,
 }
 
-// What the fault of a job is to the owner.
-pub(crate) fn told_of_fault(fault: Option<JobFault<io::Error>>) -> Option<Fault<io::Error>>
-    ensures { IsOfJob result }
-{
-    match fault {
-        Some(JobFault::Io(error)) => Some(Fault::Io(error)),
-        Some(JobFault::WriteZero) => Some(Fault::WriteZero),
-        None => None,
-    }
-}
-
-/// What the owner and the job share. Each method that takes the slot's lock makes one call of the slot under it.
+/// What the owner and the job share.
 #[derive(Drop)]
-pub(crate) struct Link<T: Drop> {
-    slot: Mutex<Slot<Returned<T>, OwnerWaker>>,
+pub(crate) struct Link<T: Drop, X: Drop> {
+    slot: LockedSlot<AnyOf<Returned<T, X>>>,
     // Whether the owner is gone.
     mark: AtomicBool,
 }
 
-impl<T: Drop> Link<T> {
-    pub(crate) fn new() -> Link<T> {
-        Link {
-            slot: Mutex::new(Slot::new()),
-            mark: AtomicBool::new(false),
-        }
-    }
-
-    /// Sets the mark, which stays set. It takes no lock.
-    pub(crate) fn mark(&self) {
-        self.mark.store(true, Ordering::SeqCst);
-    }
-
+impl<T: Drop, X: Drop> Link<T, X> {
     /// Whether the mark is set. It takes no lock.
     pub(crate) fn is_marked(&self) -> bool {
         self.mark.load(Ordering::SeqCst)
     }
 
-    pub(crate) fn put<R: Wait>(&self, rt: &R, value: Returned<T>) -> Put<Returned<T>, OwnerWaker> {
-        self.slot.lock(rt).put(value)
+    /// Gives the handle back, and answers the waker of an owner who waits.
+    pub(crate) fn give_back<R: Wait>(&self, rt: &R, handle: T, told: X) -> Option<OwnerWaker> {
+        let Put { back, wake } = self.slot.put(rt, Returned { handle, told });
+        // (a handle that nobody wants is dropped under no lock)
+        drop(back);
+        wake
     }
 
+    /// Gives the slot up: no handle will come. Answers the waker of an owner who waits.
     pub(crate) fn give_up<R: Wait>(&self, rt: &R) -> Option<OwnerWaker> {
-        self.slot.lock(rt).give_up()
+        self.slot.give_up(rt)
+    }
+}
+
+/// Where the owner waits for the handle, and says that it is gone.
+#[derive(Drop)]
+pub(crate) struct WayBack<T: Drop, X: Drop, H: Wait + Copy> {
+    link: Arc<Link<T, X>>,
+    source: Source,
+    rt: H,
+}
+
+/// Both sides of a new link: the owner's, and what the job has of it.
+#[derive(Drop)]
+pub(crate) struct Linked<T: Drop, X: Drop, H: Wait + Copy> {
+    pub way_back: WayBack<T, X, H>,
+    pub link: Arc<Link<T, X>>,
+}
+
+impl<T: Drop, X: Drop, H: Wait + AllocGlobal + Copy> Linked<T, X, H> {
+    pub(crate) fn new(rt: H) -> Result<Linked<T, X, H>, AllocError> {
+        let link = Arc::new(
+            rt.alloc(),
+            Link {
+                slot: LockedSlot::new(),
+                mark: AtomicBool::new(false),
+            },
+        )?;
+        let theirs = Arc::try_clone(&link)?;
+        let way_back = WayBack {
+            link,
+            source: Source::new(),
+            rt,
+        };
+        Ok(Linked {
+            way_back,
+            link: theirs,
+        })
+    }
+}
+
+impl<T: Drop, X: Drop, H: Wait + Copy> WayBack<T, X, H> {
+    /// Sets the mark of the session, which stays set and takes no lock: its owner is gone.
+    pub(crate) fn mark(&self) {
+        self.link.mark.store(true, Ordering::SeqCst);
     }
 
-    pub(crate) fn look<R: Wait>(&self, rt: &R) -> Looked<Returned<T>, OwnerWaker> {
-        self.slot.lock(rt).look()
-    }
-
-    /// The answer, and the waker that isn't seated.
-    pub(crate) fn poll<R: Wait>(
-        &self,
-        rt: &R,
-        waker: OwnerWaker,
-    ) -> (Slotted<Returned<T>>, Option<OwnerWaker>) {
-        let polled = self.slot.lock(rt).poll(waker);
-        (polled.answer, polled.spare)
+    /// Takes the handle out of the slot, or waits there for it.
+    pub(crate) fn poll(&self, cx: &mut Context<'_>) -> Result<Returned<T, X>, Seat>
+        ensures armed { OnErr result (IsArmed cx.new) }
+        ensures kept { Keeps cx.old cx.new }
+    {
+        self.link.slot.await_in(self.rt, &self.source, cx)
     }
 }

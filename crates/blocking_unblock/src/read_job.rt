@@ -3,12 +3,12 @@ ghost use Rattle.std.specs.Prelude.{◌≡◌, ◌<◌, ◌≤◌, length, None,
 ghost use Rattle.blocking_core.specs.declared.job.read.ReadAction.TheVariants.{FindRoom, Read as ReadPiece, Put as PutPiece, Close, Finish, Deliver};
 ghost use Rattle.blocking_core.specs.Reading.{new_read, read_next};
 
-use crate::link::{Link, OwnerWaker, Returned};
+use crate::link::{Link, MayFail};
+use crate::slot::OwnerWaker;
 use blocking_core::io::JobFault;
 use blocking_core::job::{ReadAction, ReadAnswer, ReadCore};
 use blocking_core::pipe::{Put, Room};
 use blocking_core::pool::{Carries, Job, JobNo, JobStep};
-use blocking_core::task;
 use blocking_ends::{AnyPlace, SendEnd};
 use std::io::Read;
 use std::marker::Model;
@@ -23,13 +23,13 @@ pub struct ReadJob<T: Drop, H: Wait + Copy> {
     core: ReadCore,
     // The reader, until it is given back.
     reader: Option<T>,
-    fault: Option<JobFault<io::Error>>,
+    fault: MayFail,
     // Where a piece stands between the reader and the pipe.
     piece: Vec<u8>,
     end: SendEnd<u8, AnyPlace, H>,
     // The waker that was taken out of the owner's seat, and has to be called.
     waker: OwnerWaker,
-    link: Arc<Link<T>>,
+    link: Arc<Link<T, MayFail>>,
     rt: H,
 }
 
@@ -64,7 +64,7 @@ impl<T: Drop, H: Wait + Copy> ReadJob<T, H> {
         reader: T,
         piece: Vec<u8>,
         end: SendEnd<u8, AnyPlace, H>,
-        link: Arc<Link<T>>,
+        link: Arc<Link<T, MayFail>>,
     ) -> ReadJob<T, H>
         requires { 0 < vec_len piece }
         ensures { result ≡ record { core = new_read; reader = Some reader; sent = end.sent } }
@@ -152,11 +152,7 @@ impl<T: Drop, H: Wait + Copy> ReadJob<T, H> {
         let Some(handle) = self.reader.take() else {
             unreachable!()
         };
-        let fault = self.fault.take();
-        let returned = Returned { handle, fault };
-        let task::Put { back, wake } = self.link.put(&self.rt, returned);
-        // (a reader that nobody wants is dropped under no lock)
-        drop(back);
+        let wake = self.link.give_back(&self.rt, handle, self.fault.take());
         let woke = wake.is_some();
         self.waker = wake.flatten();
         self.core.answer(ReadAnswer::Finished { woke });

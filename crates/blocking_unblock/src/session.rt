@@ -1,84 +1,227 @@
-//! What every session has beside its pipe.
-ghost use Rattle.std.specs.Prelude.{◌<◌, ◌≤◌, vec_len, IfOk, OnErr};
+//! The owner's side of a session.
+ghost use Rattle.std.specs.Prelude.{◌≡◌, ◌<◌, ◌≤◌, length, true, IfOk, OnErr};
 ghost use Rattle.futures.specs.Task.{IsArmed, Keeps};
+ghost use Rattle.blocking_core.specs.OwnerCalls.{has_pipe};
+ghost use Rattle.blocking_core.specs.declared.unblock.SessionKind.TheVariants.{Reading, Writing, Streaming};
+ghost use Rattle.blocking_core.specs.declared.unblock.OwnerEnd.TheVariants.{Open, Shut};
+ghost use Rattle.blocking_ends.specs.Answers.{IfDrained, OnDrainsWait, IfTook, OnFullWait, OnWait};
+ghost use Rattle.blocking_unblock.specs.Owners.{note_of_drain, answer_of_drain, note_of_fill, answer_of_fill, IsBack, IsSought};
 
-use crate::link::{Link, OwnerWaker, Returned};
-use blocking_core::job::PIECE;
-use blocking_core::task::{Looked, Seat, Slotted};
-use futures::task::{Context, Poll, Source};
-use std::alloc::{AllocError, AllocGlobal};
-use std::sync::{Arc, Wait};
+use crate::link::{MayFail, Returned, Sought, WayBack};
+use blocking_core::io::{Fault, JobFault, Position};
+use blocking_core::pipe::{Drained, Filled, Received};
+use blocking_core::pool::WakeNote;
+use blocking_core::task::Seat;
+use blocking_core::unblock::{OwnerAnswer, OwnerEnd, SessionKind};
+use blocking_ends::{AnyPlace, FillEnd, RecvEnd};
+use futures::task::Context;
+use std::io;
+use std::sync::Wait;
 
-/// Where the owner waits for the handle, and says that it is gone.
+/// What the owner has of a session, by its kind: its end of the pipe, where there is one, and where the handle comes back.
 #[derive(Drop)]
-pub(crate) struct WayBack<T: Drop, H: Wait + Copy> {
-    link: Arc<Link<T>>,
-    source: Source,
-    rt: H,
+pub(crate) enum Side<T: Drop, I: Drop, H: Wait + Copy> {
+    Reading(RecvEnd<u8, AnyPlace, H>, WayBack<T, MayFail, H>),
+    Writing(FillEnd<u8, AnyPlace, H>, WayBack<T, MayFail, H>),
+    Streaming(RecvEnd<I, AnyPlace, H>, WayBack<T, MayFail, H>),
+    Seeking(Position, WayBack<T, Sought, H>),
+    Operating(WayBack<T, MayFail, H>),
 }
 
-impl<T: Drop, H: Wait + Copy> WayBack<T, H> {
-    /// Sets the mark of the session, which takes no lock: its owner is gone.
-    pub(crate) fn mark(&self) {
-        self.link.mark();
-    }
+/// The owner's side of a session. One without a pipe counts as open.
+#[derive(Drop)]
+pub(crate) struct Session<T: Drop, I: Drop, H: Wait + Copy> {
+    side: Side<T, I, H>,
+    owner_end: OwnerEnd,
+}
 
-    // Waits in the slot, unless the handle is there. No slot is given up while its owner is there; one that is would be asked again.
-    fn wait(&self, waker: OwnerWaker) -> Result<Returned<T>, Seat> {
-        let rt = self.rt;
-        let mut waker = waker;
-        for _ in rt.forever() {
-            let (answer, spare) = self.link.poll(&rt, waker);
-            match answer {
-                Slotted::Value(returned) => return Ok(returned),
-                Slotted::Waits(seat) => return Err(seat),
-                Slotted::Gone => waker = spare.flatten(),
-            }
+// What a job tells that came back with its handle.
+fn told_of_fault(fault: MayFail) -> OwnerAnswer<io::Error>
+    ensures { IsBack result }
+{
+    match fault {
+        Some(JobFault::Io(error)) => OwnerAnswer::Back(Some(Fault::Io(error))),
+        Some(JobFault::WriteZero) => OwnerAnswer::Back(Some(Fault::WriteZero)),
+        None => OwnerAnswer::Back(None),
+    }
+}
+
+// What a seek tells that came back with its handle.
+fn told_of_seek(sought: Sought) -> OwnerAnswer<io::Error>
+    ensures { IsSought result }
+{
+    match sought {
+        Ok(place) => OwnerAnswer::Sought(place),
+        Err(error) => OwnerAnswer::Back(Some(Fault::Io(error))),
+    }
+}
+
+// A handle whose job used it until nobody wanted more, and what that is to the machine.
+fn back<T: Drop>(returned: Returned<T, MayFail>) -> (T, OwnerAnswer<io::Error>)
+    ensures { IsBack result.1 }
+{
+    let Returned { handle, told } = returned;
+    (handle, told_of_fault(told))
+}
+
+// What a drain means to the machine, and the note of the job that came with it.
+fn told_of_drain(drained: Drained) -> (OwnerAnswer<io::Error>, Option<WakeNote>)
+    ensures answer { result.0 ≡ answer_of_drain drained }
+    ensures note { result.1 ≡ note_of_drain drained }
+{
+    match drained {
+        Drained::Got(count, note) => {
+            let has_note = note.is_some();
+            (OwnerAnswer::Got { count, has_note }, note)
         }
-        unreachable!()
+        Drained::Ended => (OwnerAnswer::Ended, None),
+        Drained::Waits(seat) => (OwnerAnswer::Waits(seat), None),
+    }
+}
+
+// What a fill means to the machine, and the note of the job that came with it.
+fn told_of_fill(filled: Filled) -> (OwnerAnswer<io::Error>, Option<WakeNote>)
+    ensures answer { result.0 ≡ answer_of_fill filled }
+    ensures note { result.1 ≡ note_of_fill filled }
+{
+    match filled {
+        Filled::Took(count, note) => {
+            let has_note = note.is_some();
+            (OwnerAnswer::Took { count, has_note }, note)
+        }
+        Filled::Shut => (OwnerAnswer::Shut, None),
+        Filled::Waits(seat) => (OwnerAnswer::Waits(seat), None),
+    }
+}
+
+impl<T: Drop, I: Drop, H: Wait + Copy> Session<T, I, H> {
+    ghost use Rattle.blocking_unblock.specs.Owners.{kind_of, has, BackFrom};
+    ghost use Rattle.blocking_unblock.specs.Polls.{Drains, Fills};
+
+    pub(crate) fn new(side: Side<T, I, H>) -> Session<T, I, H>
+        ensures side { result.side ≡ side }
+        ensures open { result.owner_end ≡ Open }
+    {
+        Session {
+            side,
+            owner_end: OwnerEnd::Open,
+        }
     }
 
-    /// Takes the handle out of the slot, or waits there for it.
-    pub(crate) fn poll(&self, cx: &mut Context<'_>) -> Result<Returned<T>, Seat>
+    pub(crate) fn kind(&self) -> SessionKind
+        ensures { result ≡ kind_of self.now.side }
+    {
+        match &self.side {
+            Side::Reading(_, _) => SessionKind::Reading,
+            Side::Writing(_, _) => SessionKind::Writing,
+            Side::Streaming(_, _) => SessionKind::Streaming,
+            Side::Seeking(to, _) => SessionKind::Seeking(*to),
+            Side::Operating(_) => SessionKind::Operating,
+        }
+    }
+
+    pub(crate) fn owner_end(&self) -> OwnerEnd
+        ensures { result ≡ self.now.owner_end }
+    {
+        self.owner_end
+    }
+
+    /// Sets the mark of the session: its owner is gone.
+    pub(crate) fn mark(&self) {
+        match &self.side {
+            Side::Reading(_, way_back)
+            | Side::Writing(_, way_back)
+            | Side::Streaming(_, way_back)
+            | Side::Operating(way_back) => way_back.mark(),
+            Side::Seeking(_, way_back) => way_back.mark(),
+        }
+    }
+
+    /// Closes the owner's end of the pipe. Answers the note of a job that waits, which has to be spent.
+    pub(crate) fn close(&mut self) -> Option<WakeNote>
+        requires { has_pipe (kind_of self.old.side) ≡ true }
+        ensures kind { kind_of self.new.side ≡ kind_of self.old.side }
+        ensures shut { self.new.owner_end ≡ Shut }
+    {
+        self.owner_end = OwnerEnd::Shut;
+        match &mut self.side {
+            Side::Reading(end, _) => end.close(),
+            Side::Writing(end, _) => end.close(),
+            Side::Streaming(end, _) => end.close(),
+            Side::Seeking(_, _) | Side::Operating(_) => unreachable!(),
+        }
+    }
+
+    /// Moves the first bytes out of the pipe, or waits there for some.
+    pub(crate) fn drain(
+        &mut self,
+        cx: &mut Context<'_>,
+        out: &mut [u8],
+    ) -> (OwnerAnswer<io::Error>, Option<WakeNote>)
+        requires reads { kind_of self.old.side ≡ Reading }
+        requires room { 0 < length out.old }
+        ensures does { Drains (length out.old) result.0 (has result.1) (IsArmed cx.new) }
+        ensures kept { Keeps cx.old cx.new }
+        ensures kind { kind_of self.new.side ≡ Reading }
+        ensures end { self.new.owner_end ≡ self.old.owner_end }
+    {
+        let Side::Reading(end, _) = &mut self.side else {
+            unreachable!()
+        };
+        told_of_drain(end.drain_or_seat(cx, out))
+    }
+
+    /// Fills the first bytes into the pipe, or waits there for room.
+    pub(crate) fn fill(
+        &mut self,
+        cx: &mut Context<'_>,
+        bytes: &[u8],
+    ) -> (OwnerAnswer<io::Error>, Option<WakeNote>)
+        requires writes { kind_of self.old.side ≡ Writing }
+        requires some { 0 < length bytes.now }
+        ensures does { Fills (length bytes.now) result.0 (has result.1) (IsArmed cx.new) }
+        ensures kept { Keeps cx.old cx.new }
+        ensures kind { kind_of self.new.side ≡ Writing }
+        ensures end { self.new.owner_end ≡ self.old.owner_end }
+    {
+        let Side::Writing(end, _) = &mut self.side else {
+            unreachable!()
+        };
+        told_of_fill(end.fill_or_seat(cx, bytes))
+    }
+
+    /// Moves the first item out of the pipe, or waits there for one.
+    pub(crate) fn receive(&mut self, cx: &mut Context<'_>) -> Received<I>
+        requires streams { kind_of self.old.side ≡ Streaming }
+        ensures armed { OnWait result (IsArmed cx.new) }
+        ensures kept { Keeps cx.old cx.new }
+        ensures kind { kind_of self.new.side ≡ Streaming }
+        ensures end { self.new.owner_end ≡ self.old.owner_end }
+    {
+        let Side::Streaming(end, _) = &mut self.side else {
+            unreachable!()
+        };
+        end.receive_or_seat(cx)
+    }
+
+    /// Takes the handle out of the slot with what its job tells, or waits there for it.
+    pub(crate) fn poll_back(
+        &self,
+        cx: &mut Context<'_>,
+    ) -> Result<(T, OwnerAnswer<io::Error>), Seat>
+        ensures back { IfOk result (λ came. BackFrom (kind_of self.now.side) came.1) }
         ensures armed { OnErr result (IsArmed cx.new) }
         ensures kept { Keeps cx.old cx.new }
     {
-        // (a handle that is there needs no waker; else that of an earlier poll is used again, since one that is dropped wakes)
-        let mut waker = match self.link.look(&self.rt) {
-            Looked::Value(returned) => return Ok(returned),
-            Looked::Seat(seat) => seat.flatten(),
-        };
-        let _pending: Poll<()> = cx.register(&self.source, &mut waker);
-        self.wait(waker)
-    }
-}
-
-/// All the memory of a session beside its pipe: the owner's way back, what of it the job has, and the job's piece.
-#[derive(Drop)]
-pub(crate) struct Parts<T: Drop, H: Wait + Copy> {
-    pub way_back: WayBack<T, H>,
-    pub job_link: Arc<Link<T>>,
-    pub piece: Vec<u8>,
-}
-
-impl<T: Drop, H: Wait + AllocGlobal + Copy> Parts<T, H> {
-    /// What a session with a pipe of so many bytes needs beside that.
-    pub(crate) fn new(rt: H, capacity: usize) -> Result<Parts<T, H>, AllocError>
-        requires { 0 < capacity }
-        ensures { IfOk result (λ parts. (0 < vec_len parts.piece) × (vec_len parts.piece ≤ 65536)) }
-    {
-        let piece = vec![in rt.alloc(); 0u8; capacity.min(PIECE)]?;
-        let link = Arc::new(rt.alloc(), Link::new())?;
-        let job_link = Arc::try_clone(&link)?;
-        let way_back = WayBack {
-            link,
-            source: Source::new(),
-            rt,
-        };
-        Ok(Parts {
-            way_back,
-            job_link,
-            piece,
-        })
+        match &self.side {
+            Side::Reading(_, way_back)
+            | Side::Writing(_, way_back)
+            | Side::Streaming(_, way_back)
+            | Side::Operating(way_back) => Ok(back(way_back.poll(cx)?)),
+            Side::Seeking(_, way_back) => {
+                let Returned { handle, told } = way_back.poll(cx)?;
+                Ok((handle, told_of_seek(told)))
+            }
+        }
     }
 }

@@ -4,12 +4,11 @@ ghost use Rattle.futures.specs.Poll.{IfReady, OnPending};
 ghost use Rattle.futures.specs.Task.{IsArmed, Keeps};
 
 use crate::io::{AsyncRead, AsyncWrite, IoFault};
-use crate::lend::{Lends, ToNobody, ToRead, ToWrite};
-use crate::link::{Returned, told_of_fault};
+use crate::lend::{Capacity, Lends, ToNobody, ToRead, ToWrite};
 use crate::place::Place;
 use crate::read_job::ReadJob;
 use crate::write_job::WriteJob;
-use blocking_core::pipe::DEFAULT_BYTES;
+use blocking_core::pipe::{DEFAULT_BYTES, DEFAULT_ITEMS, Received};
 use blocking_core::pool::{Carries, Job, Refused, WakeNote};
 use blocking_core::unblock::{OwnerAction, OwnerAnswer, OwnerCall, PollCall, Reply};
 use blocking_executor::{Executor, Runtime};
@@ -20,20 +19,13 @@ use std::marker::PhantomData;
 use std::sync::Wait;
 use std::{fmt, io, mem};
 
-// How many bytes the pipe of a session holds.
-#[derive(Clone, Copy)]
-struct Capacity {
-    bytes: usize,
-    ghost some: { 0 < bytes },
-}
-
 /// The owner of a blocking handle, which it lends to jobs on a pool: polls then use the handle without waiting for it.
 ///
 /// Dropping it while the handle is lent waits for nothing: the session's job is dropped by a worker, and the handle with it.
 ///
 /// `I` is the type of the items of a handle that is an iterator; any type will do for another.
 pub struct Unblock<T: Drop, I: Drop, J: Job, H: Runtime> {
-    place: Place<T, H>,
+    place: Place<T, I, H>,
     capacity: Capacity,
     executor: Executor<J, H>,
     items: PhantomData<I>,
@@ -43,30 +35,30 @@ impl<T: Drop, I: Drop, J: Job, H: Runtime> Unblock<T, I, J, H> {
     ghost use Rattle.blocking_unblock.specs.declared.place.Place.TheVariants.{Idle as AtOwner};
     ghost use Rattle.blocking_unblock.specs.Owners.{IsClosed};
 
-    /// The owner of a handle, whose sessions have pipes for 8,388,608 bytes.
+    /// The owner of a handle, whose sessions have pipes for 8,388,608 bytes or 8192 items.
     pub fn new(executor: Executor<J, H>, handle: T) -> Self
         ensures place { result.place ≡ AtOwner handle }
-        ensures capacity { result.capacity.bytes ≡ 8388608 }
+        ensures bytes { result.capacity.bytes ≡ 8388608 }
+        ensures items { result.capacity.items ≡ 8192 }
     {
         Unblock {
             place: Place::Idle(handle),
-            capacity: Capacity {
-                bytes: DEFAULT_BYTES,
-            },
+            capacity: Capacity::new(DEFAULT_BYTES, DEFAULT_ITEMS),
             executor,
             items: PhantomData,
         }
     }
 
-    /// The owner of a handle, whose sessions have pipes for at most `capacity` bytes.
+    /// The owner of a handle, whose sessions have pipes for at most `capacity` bytes or items.
     pub fn with_capacity(capacity: usize, executor: Executor<J, H>, handle: T) -> Self
         requires { 0 < capacity }
         ensures place { result.place ≡ AtOwner handle }
-        ensures capacity { result.capacity.bytes ≡ capacity }
+        ensures bytes { result.capacity.bytes ≡ capacity }
+        ensures items { result.capacity.items ≡ capacity }
     {
         Unblock {
             place: Place::Idle(handle),
-            capacity: Capacity { bytes: capacity },
+            capacity: Capacity::new(capacity, capacity),
             executor,
             items: PhantomData,
         }
@@ -97,7 +89,7 @@ impl<T: Debug + Drop, I: Drop, J: Job, H: Runtime> Debug for Unblock<T, I, J, H>
     fn fmt<W: fmt::Write>(&self, f: &mut Formatter<W>) -> fmt::Result {
         match &self.place {
             Place::Idle(handle) => f.debug_struct("Unblock").field("io", handle).finish(),
-            Place::Reading(_) | Place::Writing(_) => f.write_str("Unblock { io: <blocked> }"),
+            Place::Lent(_) => f.write_str("Unblock { io: <blocked> }"),
             Place::Closed => f.write_str("Unblock { io: <closed> }"),
         }
     }
@@ -105,25 +97,29 @@ impl<T: Debug + Drop, I: Drop, J: Job, H: Runtime> Debug for Unblock<T, I, J, H>
 
 // What a poll does with the handle, one action each.
 impl<T: Drop, I: Drop, J: Job, H: Runtime> Unblock<T, I, J, H> {
-    ghost use Rattle.blocking_core.specs.OwnerCalls.{begun_by};
     ghost use Rattle.blocking_core.specs.declared.unblock.PollCall.TheVariants.{GetMut as GetMutCall, Close as CloseCall};
     ghost use Rattle.blocking_unblock.specs.declared.place.Place.TheVariants.{Idle as AtOwner};
-    ghost use Rattle.blocking_core.specs.declared.unblock.State.TheVariants.{Idle};
-    ghost use Rattle.blocking_core.specs.declared.unblock.OwnerAction.TheVariants.{Begin as BeginAction, Close as CloseAction, PollSlot as SlotAction};
-    ghost use Rattle.blocking_unblock.specs.Owners.{IsClosed, IsAt, Reaches, Follows, IfRefused, has, reply_of_get, wanted, offered};
-    ghost use Rattle.blocking_unblock.specs.Polls.{CanDo, Does, FitsReply, Stands, IsGoing, KeepsFirst, KeepsOpen, IsLent, MovesBytes};
+    ghost use Rattle.blocking_core.specs.declared.unblock.State.{State as StateSeen};
+    ghost use Rattle.blocking_core.specs.declared.unblock.State.TheVariants.{Idle, Lent};
+    ghost use Rattle.blocking_core.specs.declared.unblock.SessionKind.TheVariants.{Reading, Writing, Streaming};
+    ghost use Rattle.blocking_core.specs.declared.unblock.OwnerEnd.TheVariants.{Open};
+    ghost use Rattle.blocking_core.specs.declared.unblock.OwnerAction.TheVariants.{Begin as BeginAction, Close as CloseAction, Receive as ReceiveAction, PollSlot as SlotAction};
+    ghost use Rattle.blocking_unblock.specs.Owners.{IsClosed, IsAt, Reaches, Follows, KeepsRefused, state_of, has, reply_of_get, wanted, offered};
+    ghost use Rattle.blocking_unblock.specs.Polls.{MayAsk, CanDo, Does, Brings, FitsReply, Stands, IsGoing, KeepsFirst, KeepsBrought, KeepsOpen, HasPipe, HasSession, Drains, Fills, Resumes, Kept, last_action};
+    ghost use Rattle.blocking_core.specs.OwnerCalls.{begun_by};
 
-    fn begin<B: Lends<T, J, H>>(&mut self) -> OwnerAnswer<io::Error>
+    fn begin<B: Lends<T, I, J, H>>(&mut self, brought: &mut B) -> OwnerAnswer<io::Error>
         requires at { IsAt Idle self.old.place }
-        requires kind { B.begun ≡ Idle → ⊥ }
-        ensures { Does B.begun BeginAction self.old.place result false self.new.place (Unit {0}) }
+        requires ready { (state : StateSeen) × B.begins brought.old state }
+        ensures does { Does (B.begins brought.old) BeginAction self.old.place result false self.new.place (Unit {0}) }
+        ensures brings { Brings B.begins B.keeps BeginAction result brought.old brought.new }
     {
         let Place::Idle(handle) = mem::replace(&mut self.place, Place::Closed) else {
             unreachable!()
         };
-        match B::lend(&self.executor, self.capacity.bytes, handle) {
-            Ok(place) => {
-                self.place = place;
+        match brought.lend(&self.executor, self.capacity, handle) {
+            Ok(session) => {
+                self.place = Place::Lent(session);
                 OwnerAnswer::Begun
             }
             Err(Refused { back, why }) => {
@@ -134,48 +130,119 @@ impl<T: Drop, I: Drop, J: Job, H: Runtime> Unblock<T, I, J, H> {
     }
 
     fn close_end(&mut self) -> (OwnerAnswer<io::Error>, Option<WakeNote>)
-        requires { IsLent self.old.place }
-        ensures { Does Idle CloseAction self.old.place result.0 (has result.1) self.new.place (Unit {0}) }
+        requires { HasPipe (state_of self.old.place) }
+        ensures { Does (λ _. Unit {0}) CloseAction self.old.place result.0 (has result.1) self.new.place (Unit {0}) }
     {
-        let note = self.place.close();
+        let Place::Lent(session) = &mut self.place else {
+            unreachable!()
+        };
+        let note = session.close();
         let has_note = note.is_some();
         (OwnerAnswer::Closed { has_note }, note)
     }
 
-    fn poll_slot(&mut self, cx: &mut Context<'_>) -> OwnerAnswer<io::Error>
-        requires { IsLent self.old.place }
-        ensures does { Does Idle SlotAction self.old.place result false self.new.place (IsArmed cx.new) }
+    fn drain(
+        &mut self,
+        cx: &mut Context<'_>,
+        out: &mut [u8],
+    ) -> (OwnerAnswer<io::Error>, Option<WakeNote>)
+        requires at { IsAt (Lent Reading Open) self.old.place }
+        requires room { 0 < length out.old }
+        ensures drains { Drains (length out.old) result.0 (has result.1) (IsArmed cx.new) }
+        ensures at { IsAt (state_of self.old.place) self.new.place }
         ensures kept { Keeps cx.old cx.new }
     {
-        match self.place.poll_back(cx) {
-            Ok(Returned { handle, fault }) => {
+        let Place::Lent(session) = &mut self.place else {
+            unreachable!()
+        };
+        session.drain(cx, out)
+    }
+
+    fn fill(
+        &mut self,
+        cx: &mut Context<'_>,
+        bytes: &[u8],
+    ) -> (OwnerAnswer<io::Error>, Option<WakeNote>)
+        requires at { IsAt (Lent Writing Open) self.old.place }
+        requires some { 0 < length bytes.now }
+        ensures fills { Fills (length bytes.now) result.0 (has result.1) (IsArmed cx.new) }
+        ensures at { IsAt (state_of self.old.place) self.new.place }
+        ensures kept { Keeps cx.old cx.new }
+    {
+        let Place::Lent(session) = &mut self.place else {
+            unreachable!()
+        };
+        session.fill(cx, bytes)
+    }
+
+    fn receive<B: Lends<T, I, J, H>>(
+        &mut self,
+        cx: &mut Context<'_>,
+        brought: &mut B,
+    ) -> (OwnerAnswer<io::Error>, Option<WakeNote>)
+        requires { IsAt (Lent Streaming Open) self.old.place }
+        ensures does { Does (λ _. Unit {0}) ReceiveAction self.old.place result.0 (has result.1) self.new.place (IsArmed cx.new) }
+        ensures brings { Brings B.begins B.keeps ReceiveAction result.0 brought.old brought.new }
+        ensures kept { Keeps cx.old cx.new }
+    {
+        let Place::Lent(session) = &mut self.place else {
+            unreachable!()
+        };
+        match session.receive(cx) {
+            Received::Got(item, note) => {
+                brought.keep(item);
+                let has_note = note.is_some();
+                (OwnerAnswer::Received { has_note }, note)
+            }
+            Received::Ended => (OwnerAnswer::Ended, None),
+            Received::Waits(seat) => (OwnerAnswer::Waits(seat), None),
+        }
+    }
+
+    fn poll_slot(&mut self, cx: &mut Context<'_>) -> OwnerAnswer<io::Error>
+        requires { HasSession (state_of self.old.place) }
+        ensures does { Does (λ _. Unit {0}) SlotAction self.old.place result false self.new.place (IsArmed cx.new) }
+        ensures kept { Keeps cx.old cx.new }
+    {
+        let Place::Lent(session) = &self.place else {
+            unreachable!()
+        };
+        match session.poll_back(cx) {
+            Ok((handle, answer)) => {
                 self.place = Place::Idle(handle);
-                OwnerAnswer::Back(told_of_fault(fault))
+                answer
             }
             Err(seat) => OwnerAnswer::Waits(seat),
         }
     }
 
     // Does what is next, which is something yet.
-    fn act<B: Lends<T, J, H>>(
+    fn act<B: Lends<T, I, J, H>>(
         &mut self,
         action: OwnerAction<io::Error>,
         cx: &mut Context<'_>,
+        brought: &mut B,
         out: &mut [u8],
         bytes: &[u8],
     ) -> (OwnerAnswer<io::Error>, Option<WakeNote>)
         requires going { IsGoing action }
-        requires can { CanDo B.begun action self.old.place (length out.old) (length bytes.now) }
-        ensures does { Does B.begun action self.old.place result.0 (has result.1) self.new.place (IsArmed cx.new) }
+        requires can { CanDo B.begins B.keeps action self.old.place (length out.old) (length bytes.now) brought.old }
+        ensures does { Does (B.begins brought.old) action self.old.place result.0 (has result.1) self.new.place (IsArmed cx.new) }
+        ensures brings { Brings B.begins B.keeps action result.0 brought.old brought.new }
         ensures kept { Keeps cx.old cx.new }
         ensures same_length { length out.new ≡ length out.old }
     {
         match action {
-            OwnerAction::Begin => (self.begin::<B>(), None),
+            OwnerAction::Begin => (self.begin(brought), None),
             OwnerAction::Close => self.close_end(),
-            OwnerAction::Drain(_) => self.place.drain(cx, out),
-            OwnerAction::Fill(_) => self.place.fill(cx, bytes),
+            OwnerAction::Drain(_) => self.drain(cx, out),
+            OwnerAction::Fill(_) => self.fill(cx, bytes),
+            OwnerAction::Receive => self.receive(cx, brought),
             OwnerAction::PollSlot => (self.poll_slot(cx), None),
+            OwnerAction::PollResult => match brought.poll_result(cx) {
+                None => (OwnerAnswer::Resulted, None),
+                Some(seat) => (OwnerAnswer::Waits(seat), None),
+            },
             OwnerAction::DropHandle => {
                 self.place = Place::Closed;
                 (OwnerAnswer::Dropped, None)
@@ -185,29 +252,32 @@ impl<T: Drop, I: Drop, J: Job, H: Runtime> Unblock<T, I, J, H> {
     }
 
     // Does what is next, and tells the machine what came of it. A note that was taken out of the job's seat is spent at once.
-    fn turn<B: Lends<T, J, H>>(
+    fn turn<B: Lends<T, I, J, H>>(
         &mut self,
         poll: &mut OwnerCall<io::Error>,
         cx: &mut Context<'_>,
+        brought: &mut B,
         out: &mut [u8],
         bytes: &[u8],
     )
         requires going { IsGoing poll.old.next }
-        requires stands { Stands (IsArmed cx.old) poll.old self.old.place }
-        requires kind { MovesBytes poll.old.call → B.begun ≡ begun_by poll.old.call }
+        requires stands { Stands B.begins B.keeps (IsArmed cx.old) poll.old self.old.place brought.old }
         requires wants { wanted poll.old.call ≡ length out.old }
         requires offers { offered poll.old.call ≡ length bytes.now }
-        ensures stands { Stands (IsArmed cx.new) poll.new self.new.place }
+        ensures stands { Stands B.begins B.keeps (IsArmed cx.new) poll.new self.new.place brought.new }
         ensures reaches { Reaches poll.old poll.new }
         ensures call_same { poll.new.call ≡ poll.old.call }
         ensures kept_open { KeepsOpen poll.old.call poll.old.state poll.new.state }
         ensures keeps { (first : _)
-            → KeepsFirst poll.old.call poll.old.next poll.old.is_at_end self.old.place first
-            → KeepsFirst poll.new.call poll.new.next poll.new.is_at_end self.new.place first }
+            → KeepsFirst poll.old.call poll.old.state poll.old.next poll.old.is_at_end self.old.place first
+            → KeepsFirst poll.new.call poll.new.state poll.new.next poll.new.is_at_end self.new.place first }
+        ensures brings { (first : _)
+            → KeepsBrought poll.old.call poll.old.next brought.old first
+            → KeepsBrought poll.new.call poll.new.next brought.new first }
         ensures kept { Keeps cx.old cx.new }
         ensures same_length { length out.new ≡ length out.old }
     {
-        let (answer, note) = self.act::<B>(poll.next(), cx, out, bytes);
+        let (answer, note) = self.act(poll.next(), cx, brought, out, bytes);
         poll.answer(answer);
         if let Some(note) = note {
             let _woke = self.executor.wake(note);
@@ -216,20 +286,23 @@ impl<T: Drop, I: Drop, J: Job, H: Runtime> Unblock<T, I, J, H> {
     }
 
     // Polls: the machine of this call is asked what is next until it has a reply or waits.
-    fn poll<B: Lends<T, J, H>>(
+    fn poll<B: Lends<T, I, J, H>>(
         &mut self,
         call: PollCall,
         cx: &mut Context<'_>,
+        brought: &mut B,
         out: &mut [u8],
         bytes: &[u8],
     ) -> Poll<Reply<io::Error>>
-        requires kind { MovesBytes call → B.begun ≡ begun_by call }
+        requires may { MayAsk B.begins B.keeps call (state_of self.old.place) brought.old }
         requires wants { wanted call ≡ length out.old }
         requires offers { offered call ≡ length bytes.now }
         ensures follows { Follows call self.old.place result self.new.place }
-        ensures refused { IsAt Idle self.old.place
-            → IfRefused result (self.new.place ≡ self.old.place) }
-        ensures fits { IfReady result (λ reply. (state : _) × IsAt state self.new.place × FitsReply call state reply) }
+        ensures refused { KeepsRefused self.old.place result self.new.place }
+        ensures fits { IfReady result (λ reply. FitsReply call (state_of self.new.place) reply (B.keeps brought.new)) }
+        ensures resumes { OnPending result
+            (Resumes call (state_of self.new.place) (B.begins brought.new (begun_by call)) (B.keeps brought.new Kept.Way)) }
+        ensures back { KeepsBrought call (last_action result) brought.new brought.old }
         ensures closed { IsClosed self.old.place → IsClosed self.new.place }
         ensures closes { IsClosed self.new.place → IsClosed self.old.place ⊎ (call ≡ CloseCall) }
         ensures armed { OnPending result (IsArmed cx.new) }
@@ -242,7 +315,7 @@ impl<T: Drop, I: Drop, J: Job, H: Runtime> Unblock<T, I, J, H> {
             match poll.next() {
                 OwnerAction::Reply(reply) => return Poll::Ready(reply),
                 OwnerAction::Pending => return Poll::Pending,
-                _ => self.turn::<B>(&mut poll, cx, out, bytes),
+                _ => self.turn(&mut poll, cx, brought, out, bytes),
             }
         }
         unreachable!()
@@ -259,7 +332,7 @@ impl<T: Drop, I: Drop, J: Job, H: Runtime> Unblock<T, I, J, H> {
         ensures armed { OnPending result (IsArmed cx.new) }
         ensures kept { Keeps cx.old cx.new }
     {
-        let polled = self.poll::<ToNobody>(PollCall::GetMut, cx, &mut [], &[]);
+        let polled = self.poll(PollCall::GetMut, cx, &mut ToNobody, &mut [], &[]);
         if let Poll::Pending = polled {
             return Poll::Pending;
         }
@@ -274,14 +347,13 @@ impl<T: Read + Drop, I: Drop, J: Job + Carries<ReadJob<T, H>>, H: Runtime> Async
     for Unblock<T, I, J, H> {
     ghost use Rattle.blocking_core.specs.declared.unblock.PollCall.TheVariants.{Read as ReadCall};
     ghost use Rattle.blocking_core.specs.declared.unblock.State.TheVariants.{Idle};
-    ghost use Rattle.blocking_unblock.specs.Owners.{IsAt, IsClosed, Follows, IfRefused, reply_of_count};
+    ghost use Rattle.blocking_unblock.specs.Owners.{IsClosed, Follows, KeepsRefused, reply_of_count};
 
     ghost closed = { λ owner. IsClosed owner.place };
 
     fn poll_read(&mut self, cx: &mut Context<'_>, buf: &mut [u8]) -> Poll<Result<usize, IoFault>>
         requires { IsClosed self.old.place → ⊥ }
-        ensures refused { IsAt Idle self.old.place
-            → IfRefused (reply_of_count result) (self.new.place ≡ self.old.place) }
+        ensures refused { KeepsRefused self.old.place (reply_of_count result) self.new.place }
         ensures follows { Follows (ReadCall (length buf.old)) self.old.place (reply_of_count result) self.new.place }
         ensures open { IsClosed self.new.place → ⊥ }
         ensures count { IfReady result (λ r. IfOk r (λ n. n ≤ length buf.old)) }
@@ -289,11 +361,11 @@ impl<T: Read + Drop, I: Drop, J: Job + Carries<ReadJob<T, H>>, H: Runtime> Async
         ensures armed { OnPending result (IsArmed cx.new) }
         ensures kept { Keeps cx.old cx.new }
     {
-        match self.poll::<ToRead>(PollCall::Read(buf.len()), cx, buf, &[]) {
+        match self.poll(PollCall::Read(buf.len()), cx, &mut ToRead, buf, &[]) {
             Poll::Pending => Poll::Pending,
             Poll::Ready(Reply::Count(count)) => Poll::Ready(Ok(count)),
             Poll::Ready(Reply::Failed(why)) => Poll::Ready(Err(why)),
-            Poll::Ready(Reply::Handle | Reply::Done | Reply::Closed) => unreachable!(),
+            Poll::Ready(_) => unreachable!(),
         }
     }
 }
@@ -302,25 +374,30 @@ impl<T: Write + Drop, I: Drop, J: Job + Carries<WriteJob<T, H>>, H: Runtime> Asy
     for Unblock<T, I, J, H> {
     ghost use Rattle.blocking_core.specs.declared.unblock.PollCall.TheVariants.{Write as WriteCall, Flush as FlushCall, Close as CloseCall};
     ghost use Rattle.blocking_core.specs.declared.unblock.State.TheVariants.{Idle};
-    ghost use Rattle.blocking_unblock.specs.Owners.{IsAt, IsClosed, Follows, IfRefused, reply_of_count, reply_of_done};
+    ghost use Rattle.blocking_unblock.specs.Owners.{IsAt, IsClosed, Follows, KeepsRefused, reply_of_count, reply_of_done};
 
     ghost closed = { λ owner. IsClosed owner.place };
 
     fn poll_write(&mut self, cx: &mut Context<'_>, bytes: &[u8]) -> Poll<Result<usize, IoFault>>
         requires { IsClosed self.old.place → ⊥ }
-        ensures refused { IsAt Idle self.old.place
-            → IfRefused (reply_of_count result) (self.new.place ≡ self.old.place) }
+        ensures refused { KeepsRefused self.old.place (reply_of_count result) self.new.place }
         ensures follows { Follows (WriteCall (length bytes.now)) self.old.place (reply_of_count result) self.new.place }
         ensures open { IsClosed self.new.place → ⊥ }
         ensures count { IfReady result (λ r. IfOk r (λ n. n ≤ length bytes.now)) }
         ensures armed { OnPending result (IsArmed cx.new) }
         ensures kept { Keeps cx.old cx.new }
     {
-        match self.poll::<ToWrite>(PollCall::Write(bytes.len()), cx, &mut [], bytes) {
+        match self.poll(
+            PollCall::Write(bytes.len()),
+            cx,
+            &mut ToWrite,
+            &mut [],
+            bytes,
+        ) {
             Poll::Pending => Poll::Pending,
             Poll::Ready(Reply::Count(taken)) => Poll::Ready(Ok(taken)),
             Poll::Ready(Reply::Failed(why)) => Poll::Ready(Err(why)),
-            Poll::Ready(Reply::Handle | Reply::Done | Reply::Closed) => unreachable!(),
+            Poll::Ready(_) => unreachable!(),
         }
     }
 
@@ -330,11 +407,11 @@ impl<T: Write + Drop, I: Drop, J: Job + Carries<WriteJob<T, H>>, H: Runtime> Asy
         ensures armed { OnPending result (IsArmed cx.new) }
         ensures kept { Keeps cx.old cx.new }
     {
-        match self.poll::<ToNobody>(PollCall::Flush, cx, &mut [], &[]) {
+        match self.poll(PollCall::Flush, cx, &mut ToNobody, &mut [], &[]) {
             Poll::Pending => Poll::Pending,
             Poll::Ready(Reply::Done) => Poll::Ready(Ok(())),
             Poll::Ready(Reply::Failed(of_job)) => Poll::Ready(Err(of_job)),
-            Poll::Ready(Reply::Count(_) | Reply::Handle | Reply::Closed) => unreachable!(),
+            Poll::Ready(_) => unreachable!(),
         }
     }
 
@@ -345,11 +422,11 @@ impl<T: Write + Drop, I: Drop, J: Job + Carries<WriteJob<T, H>>, H: Runtime> Asy
         ensures armed { OnPending result (IsArmed cx.new) }
         ensures kept { Keeps cx.old cx.new }
     {
-        match self.poll::<ToNobody>(PollCall::Close, cx, &mut [], &[]) {
+        match self.poll(PollCall::Close, cx, &mut ToNobody, &mut [], &[]) {
             Poll::Pending => Poll::Pending,
             Poll::Ready(Reply::Done) => Poll::Ready(Ok(())),
             Poll::Ready(Reply::Failed(fault)) => Poll::Ready(Err(fault)),
-            Poll::Ready(Reply::Count(_) | Reply::Handle | Reply::Closed) => unreachable!(),
+            Poll::Ready(_) => unreachable!(),
         }
     }
 }

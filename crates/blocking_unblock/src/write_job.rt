@@ -5,11 +5,11 @@ ghost use Rattle.std.specs.Io.KnownBytes.{WriteAppends};
 ghost use Rattle.blocking_core.specs.declared.job.write.WriteAction.TheVariants.{Peek, Write as WritePiece, Consume, Flush, Close, Finish, Deliver};
 ghost use Rattle.blocking_core.specs.Writing.{new_write, write_next};
 
-use crate::link::{Link, OwnerWaker, Returned};
+use crate::link::{Link, MayFail};
+use crate::slot::OwnerWaker;
 use blocking_core::job::{WriteAction, WriteAnswer, WriteCore};
 use blocking_core::pipe::Peeked;
 use blocking_core::pool::{Carries, Job, JobNo, JobStep};
-use blocking_core::task;
 use blocking_ends::{AnyPlace, PeekEnd};
 use std::io;
 use std::io::Write;
@@ -30,7 +30,7 @@ pub struct WriteJob<T: Drop, H: Wait + Copy> {
     end: PeekEnd<u8, AnyPlace, H>,
     // The waker that was taken out of the owner's seat, and has to be called.
     waker: OwnerWaker,
-    link: Arc<Link<T>>,
+    link: Arc<Link<T, MayFail>>,
     rt: H,
 }
 
@@ -71,7 +71,7 @@ impl<T: Drop, H: Wait + Copy> WriteJob<T, H> {
         writer: T,
         piece: Vec<u8>,
         end: PeekEnd<u8, AnyPlace, H>,
-        link: Arc<Link<T>>,
+        link: Arc<Link<T, MayFail>>,
     ) -> WriteJob<T, H>
         requires some { 0 < vec_len piece }
         requires within { vec_len piece ≤ 65536 }
@@ -185,11 +185,7 @@ impl<T: Write + Drop, H: Wait + Copy> WriteJob<T, H> {
         let Some(handle) = self.writer.take() else {
             unreachable!()
         };
-        let fault = self.core.fault();
-        let returned = Returned { handle, fault };
-        let task::Put { back, wake } = self.link.put(&self.rt, returned);
-        // (a writer that nobody wants is dropped under no lock)
-        drop(back);
+        let wake = self.link.give_back(&self.rt, handle, self.core.fault());
         let woke = wake.is_some();
         self.waker = wake.flatten();
         self.core.answer(WriteAnswer::Finished { woke });

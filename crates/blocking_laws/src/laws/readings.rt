@@ -45,6 +45,19 @@ ghost use Rattle.blocking_laws.specs.WriteTraces.{writer_drained, flush_asked, u
 ghost use Rattle.blocking_laws.specs.WriteTraces.{none_written, write_failed};
 ghost use Rattle.blocking_laws.specs.declared.event.Act.TheVariants.{Filled, FillShut, Answered, Peeked, JobClosed, Taken as TakenOut};
 ghost use Rattle.blocking_laws.specs.declared.event.HolderWaker.TheVariants.{Taken};
+ghost use Rattle.blocking_core.specs.declared.io.Position.TheVariants.{Start};
+ghost use Rattle.blocking_laws.specs.JobTable.{Streaming, AskItem, SendItem, next_of_job};
+ghost use Rattle.blocking_laws.specs.OwnerSeats.{result_seat};
+ghost use Rattle.blocking_laws.specs.Sessions.{capacity};
+ghost use Rattle.blocking_laws.specs.OwnerTraces.{drops, FirstOwnerPasses};
+ghost use Rattle.blocking_laws.specs.StreamTraces.{item_asked, first_given, second_waits, first_asked, first_got, second_asked};
+ghost use Rattle.blocking_laws.specs.SeekTraces.{old_sought, other_asked, seek_failed};
+ghost use Rattle.blocking_laws.specs.OperationTraces.{operation_begun, operation_taken, nine_put, inner_asked, inner_waits, inner_replied};
+ghost use Rattle.blocking_laws.specs.declared.event.Act.TheVariants.{Made, GotItem, GotEnd, Back, ResultGot, JobParked, Put};
+ghost use Rattle.blocking_laws.specs.declared.event.Reply.TheVariants.{OneItem, NoMore, Handle, Failed as FailedReply};
+ghost use Rattle.blocking_laws.specs.declared.step.Answer.TheVariants.{Item};
+ghost use Rattle.blocking_laws.specs.declared.step.HandleCall.TheVariants.{Seek, Operate, OperateAgain, IntoInner};
+ghost use Rattle.blocking_core.specs.declared.io.Fault.TheVariants.{Refused as FaultRefused};
 
 /// What the pool answers: with the next serial, with the front job and only as it was let go, by how a job stands.
 pub fn answers()
@@ -214,4 +227,62 @@ pub fn jobs_of_writers()
     ensures accepted_in_order { accepted (own (cut 0 (events last_filled))) ≡ 120 ∷ 121 ∷ 122 ∷ [] }
     // answered 1 of 0102, after answered 1 of 0304
     ensures taken_in_order { taken (Answered (Number 1) ∷ Peeked (1 ∷ 2 ∷ []) ∷ Answered (Number 1) ∷ Peeked (3 ∷ 4 ∷ []) ∷ []) ≡ 3 ∷ 1 ∷ [] }
+{}
+
+/// What an owner finds that takes items, what its job does next, and which end it is told.
+pub fn streams()
+    // .. / ended 1 done / asked / replied end
+    ensures refuses_end_beside_item { Refuses FirstOwnerEnds second_asked (polls (Replied NoMore) 2) }
+    // .. / ended 1 done / asked / got end
+    ensures refuses_end_of_filled_pipe { Refuses FirstOwnerLaw second_asked (polls GotEnd 2) }
+    // .. / replied item 0 / .. / asked / got item 0
+    ensures refuses_item_twice { Refuses FirstOwnerLaw second_asked (polls (GotItem 0 None) 2) }
+    // .. / answered item 1 / parked / answered item 2
+    ensures refuses_dropped_item { Refuses FirstOwnerLaw second_waits (given 1 (Item 2)) }
+    ensures refuses_two_in_hand { Refuses (Keeps FirstOwnerPasses) second_waits (given 1 (Item 2)) }
+    // put 1, after answered item 5
+    ensures asks_for_next { next_of_job Streaming (Put 1 Absent ∷ Answered (Item 5) ∷ []) ≡ AskItem }
+    // parked, after answered item 5
+    ensures sends_again { next_of_job Streaming (JobParked ∷ Answered (Item 5) ∷ []) ≡ SendItem 5 }
+    // .. / got item 0 wake 1 / replied item 0
+    ensures refuses_undelivered_note_of_item { Refuses FirstOwnerLaw first_got (polls (Replied (OneItem 0)) 2) }
+    // .. / ended 1 done / asked / got item 1 wake 1
+    ensures refuses_note_of_item_twice { Refuses FirstOwnerLaw second_asked (polls (GotItem 1 (Some 1)) 2) }
+    // .. / answered item 0 / parked: there is room
+    ensures refuses_wait_beside_room { Refuses FirstOwnerLaw first_given (works 1 JobParked) }
+    // .. / ended 1 parked / asked / waits: there is an item
+    ensures refuses_wait_beside_item { Refuses FirstOwnerLaw first_asked (polls Waits 2) }
+    // made 0, with the default
+    ensures default_of_items { capacity Streaming (Made 0 0 ∷ []) ≡ 8192 }
+    // made 0 / asked / refused memory / replied fault refused memory
+    ensures refuses_refusal_as_fault { Refuses FirstOwnerLaw (item_asked ▸ polls (Refused Memory) 1)
+        (polls (Replied (FailedReply (FaultRefused Memory))) 1) }
+{}
+
+/// What a seek tells, what an operation gives, and when the handle is given for good.
+pub fn seeks_and_operations()
+    // .. / answered 7 / .. / ended 1 done / asked (to seek s9) / back / replied ok 7
+    ensures refuses_older_position { Refuses FirstOwnerLaw other_asked (polls (Replied (Count 7)) 2) }
+    // .. / answered 7 / .. / ended 1 done / asked (to seek s7) / back / accepted 2: its answer is there
+    ensures refuses_second_seek { Refuses FirstOwnerLaw (old_sought ▸ asks (Seek (Start 7)) 2 ▸ polls Back 2) (polls (Accepted 2) 2) }
+    // .. / answered fault 5 / .. / ended 1 done / asked (to seek s9) / back / accepted 2
+    ensures refuses_untold_fault { Refuses FirstOwnerLaw (seek_failed ▸ asks (Seek (Start 9)) 2 ▸ polls Back 2) (polls (Accepted 2) 2) }
+    // .. / result wake owner / delivered owner / asked (for an operation) / result 9
+    ensures refuses_older_result { Refuses FirstOwnerLaw (nine_put ▸ asks Operate 2) (polls (ResultGot 9) 2) }
+    // .. / accepted 1 +1 / result 0
+    ensures refuses_early_result { Refuses FirstOwnerLaw operation_begun (polls (ResultGot 0) 2) }
+    // .. / result wake owner / delivered owner
+    ensures result_takes_its_seat { result_seat (cut 0 (events nine_put)) ≡ false }
+    // .. / accepted 1 +1 / waits / ..
+    ensures wait_takes_its_seat { result_seat (cut 0 (events operation_taken)) ≡ true }
+    // .. / delivered owner / asked (to read) / waits / asked (for the result)
+    ensures refuses_result_of_given_up { Refuses FirstOwnerLaw (nine_put ▸ asks (Read 2) 2 ▸ polls Waits 2) (asks OperateAgain 2) }
+    // .. / ended 1 parked / asked (for the handle, for good) / replied handle
+    ensures refuses_lent_handle { Refuses FirstOwnerLaw inner_asked (polls (Replied Handle) 2) }
+    // .. / waits / asked (to read)
+    ensures refuses_read_after_inner { Refuses FirstOwnerLaw inner_waits (asks (Read 2) 2) }
+    // .. / back / replied handle / asked (for the handle, for good)
+    ensures refuses_call_of_gone { Refuses FirstOwnerLaw inner_replied (asks IntoInner 2) }
+    // .. / back / replied handle / dropped
+    ensures refuses_drop_of_gone { Refuses FirstOwnerLaw inner_replied (drops 2) }
 {}

@@ -1,20 +1,21 @@
 use Rattle.std.proofs.Common.{◌∙◌, sym, refl, subst, []}
 use Rattle.blocking_core.specs.declared.unblock.PollCall.{PollCall}
 use Rattle.blocking_unblock.specs.Polls.{KeepsOpen}
-use Rattle.blocking_unblock.proofs.Turns.{closes_only, first_kept, first_stands, open_on, reaches_on, refused_by, same_open, stays_closed}
+use Rattle.blocking_unblock.proofs.Turns.{closes_only, first_brought, first_kept, first_stands, open_on, reaches_on, refused_by, same_open, stays_closed}
 use Rattle.blocking_unblock.proofs.unblock.Unblock.poll.Goals as goal
 
 pub loop-init : goal.loop-init
 loop-init g c = (
   tt,
   tt,
-  first_stands _ _ _ _ _ c.new-poll.ensures c.state.ensures,
+  first_stands _ _ _ _ _ _ _ _ c.new-poll.ensures c.state.ensures c.requires.may,
   ([], refl),
   refl,
   same_open _ _,
   λ fact held. held,
   refl,
   λ idle. first_kept _ _ _ _ c.new-poll.ensures c.state.ensures idle,
+  first_brought _ _ _,
 )
 
 pub loop-preserved : goal.loop-preserved
@@ -29,11 +30,12 @@ loop-preserved g c = (
   λ fact held. c.turn.ensures.kept fact (c.loop.invariant.6 fact held),
   c.turn.ensures.same_length ∙ c.loop.invariant.7,
   λ idle. c.turn.ensures.keeps _ (c.loop.invariant.8 idle),
+  c.turn.ensures.brings _ c.loop.invariant.9,
 )
 
 pub returns-in-Reply-clause-refused : goal.returns-in-Reply-clause-refused
-returns-in-Reply-clause-refused g c = λ idle.
-    refused_by _ _ _ _ _ c.loop.invariant.2 (sym c.in-Reply.is ∙ c.next-in-loop.ensures) (c.loop.invariant.8 idle)
+returns-in-Reply-clause-refused g c =
+    refused_by _ _ _ _ _ _ _ _ c.loop.invariant.2 (sym c.in-Reply.is ∙ c.next-in-loop.ensures) c.loop.invariant.8
 
 pub returns-in-Reply-clause-closed : goal.returns-in-Reply-clause-closed
 returns-in-Reply-clause-closed g c = stays_closed _ c.loop.poll _ _ _ _ c.new-poll.ensures c.state.ensures c.loop.invariant.2.at c.loop.invariant.5

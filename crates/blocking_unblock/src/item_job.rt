@@ -1,0 +1,233 @@
+//! The job that runs an iterator ahead of an owner.
+ghost use Rattle.std.specs.Prelude.{◌≡◌, None, Some};
+ghost use Rattle.blocking_core.specs.declared.job.item.ItemAction.TheVariants.{Next, Send, Close, Finish, Deliver};
+ghost use Rattle.blocking_core.specs.Items.{new_item, item_next};
+
+use crate::link::{Link, MayFail};
+use crate::slot::OwnerWaker;
+use blocking_core::job::{ItemAction, ItemAnswer, ItemCore};
+use blocking_core::pipe::Sending;
+use blocking_core::pool::{Carries, Job, JobNo, JobStep};
+use blocking_ends::{AnyPlace, SendEnd};
+use std::marker::Model;
+use std::sync::{Arc, Wait};
+
+/// The job that runs an iterator ahead of an owner: it asks the iterator for an item and sends it through the pipe, until the iterator
+/// ends or nobody wants more. Then it gives the iterator back. One item at most is out of the iterator and not in the pipe.
+///
+/// One that is dropped before it is done drops the iterator, gives its slot up and calls the owner's waker, with no lock held.
+pub struct ItemJob<T: Iterator<Item = I> + Drop, I: Drop, H: Wait + Copy> {
+    core: ItemCore,
+    // The iterator, until it is given back.
+    iterator: Option<T>,
+    // The item that the iterator gave, until it is sent.
+    hand: Option<I>,
+    end: SendEnd<I, AnyPlace, H>,
+    // The waker that was taken out of the owner's seat, and has to be called.
+    waker: OwnerWaker,
+    link: Arc<Link<T, MayFail>>,
+    rt: H,
+}
+
+impl<T: Iterator<Item = I> + Drop, I: Drop, H: Wait + Copy> Model for ItemJob<T, I, H> {
+    ghost use Rattle.blocking_unblock.specs.Iterators.{ItemSeen, item_code, Fits};
+
+    ghost Value = { ItemSeen T I };
+
+    ghost coded = { item_code T.code I.code };
+
+    ghost view = { λ j. record { core = j.core; iterator = j.iterator; hand = j.hand; sent = j.end.sent } };
+
+    // (nothing is promised of an iterator after its end, so it is one that may always be asked)
+    ghost invariant = { λ j. ((state : T) → T.can_next state) × Fits j.core.next j.hand j.iterator };
+}
+
+impl<T: Iterator<Item = I> + Drop, I: Drop, H: Wait + Copy> ItemJob<T, I, H> {
+    ghost use Rattle.blocking_unblock.specs.Iterators.{ItemSeen, IsSteppedBy};
+
+    pub(crate) fn new(
+        rt: H,
+        iterator: T,
+        end: SendEnd<I, AnyPlace, H>,
+        link: Arc<Link<T, MayFail>>,
+    ) -> ItemJob<T, I, H>
+        requires { (state : T) → T.can_next state }
+        ensures { result ≡ record { core = new_item; iterator = Some iterator; hand = None; sent = end.sent } }
+    {
+        ItemJob {
+            core: ItemCore::new(),
+            iterator: Some(iterator),
+            hand: None,
+            end,
+            waker: None,
+            link,
+            rt,
+        }
+    }
+
+    /// The iterator, if it wasn't given back. The slot stays as it is.
+    pub(crate) fn into_iterator(self) -> Option<T>
+        ensures { result ≡ self.iterator }
+    {
+        let ItemJob {
+            core: _,
+            iterator,
+            hand: _,
+            end: _,
+            waker: _,
+            link: _,
+            rt: _,
+        } = self;
+        iterator
+    }
+
+    fn next_item(&mut self) -> JobStep
+        requires { item_next self.old.core ≡ Next }
+        ensures { IsSteppedBy T.next_gives Next self.old self.new result }
+    {
+        let Some(iterator) = &mut self.iterator else {
+            unreachable!()
+        };
+        match iterator.next() {
+            Some(item) => {
+                self.hand = Some(item);
+                self.core.answer(ItemAnswer::Gave);
+            }
+            None => self.core.answer(ItemAnswer::Ended),
+        }
+        JobStep::Again
+    }
+
+    fn send(&mut self, me: JobNo) -> JobStep
+        requires { item_next self.old.core ≡ Send }
+        ensures { IsSteppedBy T.next_gives Send self.old self.new result }
+    {
+        let Some(item) = self.hand.take() else {
+            unreachable!()
+        };
+        match self.end.send(me, item) {
+            Sending::Sent(seat) => {
+                let woke = seat.is_some();
+                self.waker = seat.flatten();
+                self.core.answer(ItemAnswer::Sent { woke });
+                JobStep::Again
+            }
+            Sending::Parked(item) => {
+                self.hand = Some(item);
+                self.core.answer(ItemAnswer::Parked);
+                JobStep::Waiting
+            }
+            Sending::Shut(_) => {
+                self.core.answer(ItemAnswer::Shut);
+                JobStep::Again
+            }
+        }
+    }
+
+    fn close(&mut self) -> JobStep
+        requires { item_next self.old.core ≡ Close }
+        ensures { IsSteppedBy T.next_gives Close self.old self.new result }
+    {
+        let seat = self.end.close();
+        let woke = seat.is_some();
+        self.waker = seat.flatten();
+        self.core.answer(ItemAnswer::Closed { woke });
+        JobStep::Again
+    }
+
+    fn finish(&mut self) -> JobStep
+        requires { item_next self.old.core ≡ Finish }
+        ensures { IsSteppedBy T.next_gives Finish self.old self.new result }
+    {
+        let Some(handle) = self.iterator.take() else {
+            unreachable!()
+        };
+        let wake = self.link.give_back(&self.rt, handle, None);
+        let woke = wake.is_some();
+        self.waker = wake.flatten();
+        self.core.answer(ItemAnswer::Finished { woke });
+        if woke { JobStep::Again } else { JobStep::Done }
+    }
+
+    fn deliver(&mut self) -> JobStep
+        requires { item_next self.old.core ≡ Deliver }
+        ensures { IsSteppedBy T.next_gives Deliver self.old self.new result }
+    {
+        if let Some(waker) = self.waker.take() {
+            waker.wake();
+        }
+        self.core.answer(ItemAnswer::Delivered);
+        match self.core.next() {
+            ItemAction::Done => JobStep::Done,
+            _ => JobStep::Again,
+        }
+    }
+}
+
+impl<T: Iterator<Item = I> + Drop, I: Drop, H: Wait + Copy> Drop for ItemJob<T, I, H> {
+    fn drop(self) {
+        let ItemJob {
+            core,
+            iterator,
+            hand,
+            end: _,
+            waker,
+            link,
+            rt,
+        } = self;
+        // The iterator is gone before the owner is told. (a waker that is dropped wakes)
+        drop(hand);
+        drop(iterator);
+        drop(waker);
+        if let ItemAction::Done = core.next() {
+            return;
+        }
+        if let Some(Some(waker)) = link.give_up(&rt) {
+            waker.wake();
+        }
+    }
+}
+
+// A pool of one kind of iterator has its job as its job type.
+impl<T: Iterator<Item = I> + Drop, I: Drop, H: Wait + Copy> Carries<ItemJob<T, I, H>>
+    for ItemJob<T, I, H> {
+    ghost use Rattle.std.specs.Prelude.{Some, refl};
+
+    ghost wrapped = { λ job. job };
+
+    ghost opened = { λ job. Some job };
+
+    ghost undoes = { λ job. refl };
+
+    fn wrap(named: ItemJob<T, I, H>) -> ItemJob<T, I, H> {
+        named
+    }
+
+    fn unwrap(self) -> Option<ItemJob<T, I, H>> {
+        Some(self)
+    }
+}
+
+impl<T: Iterator<Item = I> + Drop, I: Drop, H: Wait + Copy> Job for ItemJob<T, I, H> {
+    ghost use Rattle.blocking_unblock.specs.Iterators.{IsStepped};
+
+    // (another thread may set the mark at any time)
+    ghost may_answer = { λ _ _. Unit {0} };
+
+    fn step(&mut self, me: JobNo) -> JobStep
+        ensures { IsStepped T.next_gives self.old self.new result }
+    {
+        match self.core.next() {
+            ItemAction::Next => self.next_item(),
+            ItemAction::Send => self.send(me),
+            ItemAction::Close => self.close(),
+            ItemAction::Finish => self.finish(),
+            ItemAction::Deliver => self.deliver(),
+            ItemAction::Done => JobStep::Done,
+        }
+    }
+
+    fn abandoned(&self) -> bool {
+        self.link.is_marked()
+    }
+}

@@ -1,0 +1,269 @@
+//! The job that makes an operation on a handle.
+ghost use Rattle.std.specs.Prelude.{◌≡◌, None, Some, OnErr, IfOk};
+ghost use Rattle.futures.specs.Task.{IsArmed, Keeps};
+ghost use Rattle.blocking_core.specs.declared.job.operation.OperationAction.TheVariants.{Call, PutResult, Finish, Deliver};
+ghost use Rattle.blocking_core.specs.Operations.{new_operation, operation_next};
+
+use crate::link::{Link, MayFail};
+use crate::slot::{Left, LockedSlot, OwnerWaker};
+use blocking_core::job::{OperationAction, OperationAnswer, OperationCore};
+use blocking_core::pool::{Carries, Job, JobNo, JobStep};
+use blocking_core::task::{CallOn, Put, Seat};
+use futures::task::{Context, Source};
+use std::alloc::{AllocError, AllocGlobal};
+use std::marker::{Model, PhantomData};
+use std::sync::{Arc, Wait};
+
+/// The rule of the place in which an operation's result is left: one that the operation may give.
+pub(crate) struct ResultOf<F, T> {
+    of: PhantomData<(F, T)>,
+}
+
+impl<F: CallOn<T>, T> Left for ResultOf<F, T> {
+    type Value = F::Out;
+
+    ghost may_be = { λ result. F.may_give result };
+}
+
+/// Where the owner of an operation waits for its result.
+#[derive(Drop)]
+pub(crate) struct ResultSeat<F: CallOn<T, Out: Drop>, T, H: Wait + Copy> {
+    place: Arc<LockedSlot<ResultOf<F, T>>>,
+    source: Source,
+    rt: H,
+}
+
+impl<F: CallOn<T, Out: Drop>, T, H: Wait + Copy> ResultSeat<F, T, H> {
+    /// Takes the result out of its place, or waits there for it.
+    pub(crate) fn poll(&self, cx: &mut Context<'_>) -> Result<F::Out, Seat>
+        ensures allowed { IfOk result F.may_give }
+        ensures armed { OnErr result (IsArmed cx.new) }
+        ensures kept { Keeps cx.old cx.new }
+    {
+        self.place.await_in(self.rt, &self.source, cx)
+    }
+}
+
+/// A new place for a result: where its owner waits, and what the job has of it.
+#[derive(Drop)]
+pub(crate) struct ResultPlace<F: CallOn<T, Out: Drop>, T, H: Wait + Copy> {
+    pub seat: ResultSeat<F, T, H>,
+    pub place: Arc<LockedSlot<ResultOf<F, T>>>,
+}
+
+impl<F: CallOn<T, Out: Drop>, T, H: Wait + AllocGlobal + Copy> ResultPlace<F, T, H> {
+    pub(crate) fn new(rt: H) -> Result<ResultPlace<F, T, H>, AllocError> {
+        let place = Arc::new(rt.alloc(), LockedSlot::new())?;
+        let theirs = Arc::try_clone(&place)?;
+        let seat = ResultSeat {
+            place,
+            source: Source::new(),
+            rt,
+        };
+        Ok(ResultPlace {
+            seat,
+            place: theirs,
+        })
+    }
+}
+
+/// The job that makes an operation on a handle, once. It leaves the result in a place of its own, and then gives the handle back.
+///
+/// One that is dropped before it is done drops the handle, gives its slot up and calls the owner's waker, with no lock held.
+pub struct OpJob<F: CallOn<T, Out: Drop> + Drop, T: Drop, H: Wait + Copy> {
+    core: OperationCore,
+    // The operation, until it is called.
+    operation: Option<F>,
+    // The handle, until it is given back.
+    handle: Option<T>,
+    // The result, from the call until it is put.
+    gave: Option<F::Out>,
+    // The waker that was taken out of an owner's seat, and has to be called.
+    waker: OwnerWaker,
+    place: Arc<LockedSlot<ResultOf<F, T>>>,
+    link: Arc<Link<T, MayFail>>,
+    rt: H,
+}
+
+impl<F: CallOn<T, Out: Drop> + Drop, T: Drop, H: Wait + Copy> Model for OpJob<F, T, H> {
+    ghost use Rattle.blocking_unblock.specs.Operators.{OpSeen, op_code, Fits};
+
+    ghost Value = { OpSeen F T F.Out };
+
+    ghost coded = { op_code F.code T.code F.Out.code };
+
+    ghost view = { λ j. record { core = j.core; operation = j.operation; handle = j.handle; gave = j.gave } };
+
+    ghost invariant = { λ j. Fits F.may_give j.core.next j.operation j.handle j.gave };
+}
+
+impl<F: CallOn<T, Out: Drop> + Drop, T: Drop, H: Wait + Copy> OpJob<F, T, H> {
+    ghost use Rattle.blocking_unblock.specs.Operators.{OpSeen, IsSteppedBy};
+
+    pub(crate) fn new(
+        rt: H,
+        operation: F,
+        handle: T,
+        place: Arc<LockedSlot<ResultOf<F, T>>>,
+        link: Arc<Link<T, MayFail>>,
+    ) -> OpJob<F, T, H>
+        ensures { result ≡ record { core = new_operation; operation = Some operation; handle = Some handle; gave = None } }
+    {
+        OpJob {
+            core: OperationCore::new(),
+            operation: Some(operation),
+            handle: Some(handle),
+            gave: None,
+            waker: None,
+            place,
+            link,
+            rt,
+        }
+    }
+
+    /// The operation, if it wasn't called, and the handle, if it wasn't given back. The places stay as they are.
+    pub(crate) fn into_parts(self) -> (Option<F>, Option<T>)
+        ensures { result ≡ (self.operation, self.handle) }
+    {
+        let OpJob {
+            core: _,
+            operation,
+            handle,
+            gave: _,
+            waker: _,
+            place: _,
+            link: _,
+            rt: _,
+        } = self;
+        (operation, handle)
+    }
+
+    fn call(&mut self) -> JobStep
+        requires { operation_next self.old.core ≡ Call }
+        ensures { IsSteppedBy F.may_give Call self.old self.new result }
+    {
+        let Some(operation) = self.operation.take() else {
+            unreachable!()
+        };
+        let Some(handle) = &mut self.handle else {
+            unreachable!()
+        };
+        self.gave = Some(operation.call_on(handle));
+        self.core.answer(OperationAnswer::Returned);
+        JobStep::Again
+    }
+
+    fn put_result(&mut self) -> JobStep
+        requires { operation_next self.old.core ≡ PutResult }
+        ensures { IsSteppedBy F.may_give PutResult self.old self.new result }
+    {
+        let Some(gave) = self.gave.take() else {
+            unreachable!()
+        };
+        let Put { back, wake } = self.place.put(&self.rt, gave);
+        // (a result that nobody wants is dropped under no lock)
+        drop(back);
+        let woke = wake.is_some();
+        self.waker = wake.flatten();
+        self.core.answer(OperationAnswer::ResultPut { woke });
+        JobStep::Again
+    }
+
+    fn finish(&mut self) -> JobStep
+        requires { operation_next self.old.core ≡ Finish }
+        ensures { IsSteppedBy F.may_give Finish self.old self.new result }
+    {
+        let Some(handle) = self.handle.take() else {
+            unreachable!()
+        };
+        let wake = self.link.give_back(&self.rt, handle, None);
+        let woke = wake.is_some();
+        self.waker = wake.flatten();
+        self.core.answer(OperationAnswer::Finished { woke });
+        if woke { JobStep::Again } else { JobStep::Done }
+    }
+
+    fn deliver(&mut self) -> JobStep
+        requires { operation_next self.old.core ≡ Deliver }
+        ensures { IsSteppedBy F.may_give Deliver self.old self.new result }
+    {
+        if let Some(waker) = self.waker.take() {
+            waker.wake();
+        }
+        self.core.answer(OperationAnswer::Delivered);
+        match self.core.next() {
+            OperationAction::Done => JobStep::Done,
+            _ => JobStep::Again,
+        }
+    }
+}
+
+impl<F: CallOn<T, Out: Drop> + Drop, T: Drop, H: Wait + Copy> Drop for OpJob<F, T, H> {
+    fn drop(self) {
+        let OpJob {
+            core,
+            operation,
+            handle,
+            gave,
+            waker,
+            place,
+            link,
+            rt,
+        } = self;
+        // All that it has is gone before the owner is told. (a waker that is dropped wakes)
+        drop(operation);
+        drop(gave);
+        drop(handle);
+        drop(waker);
+        drop(place);
+        if let OperationAction::Done = core.next() {
+            return;
+        }
+        if let Some(Some(waker)) = link.give_up(&rt) {
+            waker.wake();
+        }
+    }
+}
+
+// A pool of one kind of operation has its job as its job type.
+impl<F: CallOn<T, Out: Drop> + Drop, T: Drop, H: Wait + Copy> Carries<OpJob<F, T, H>>
+    for OpJob<F, T, H> {
+    ghost use Rattle.std.specs.Prelude.{Some, refl};
+
+    ghost wrapped = { λ job. job };
+
+    ghost opened = { λ job. Some job };
+
+    ghost undoes = { λ job. refl };
+
+    fn wrap(named: OpJob<F, T, H>) -> OpJob<F, T, H> {
+        named
+    }
+
+    fn unwrap(self) -> Option<OpJob<F, T, H>> {
+        Some(self)
+    }
+}
+
+impl<F: CallOn<T, Out: Drop> + Drop, T: Drop, H: Wait + Copy> Job for OpJob<F, T, H> {
+    ghost use Rattle.blocking_unblock.specs.Operators.{IsStepped};
+
+    // (another thread may set the mark at any time)
+    ghost may_answer = { λ _ _. Unit {0} };
+
+    fn step(&mut self, _me: JobNo) -> JobStep
+        ensures { IsStepped F.may_give self.old self.new result }
+    {
+        match self.core.next() {
+            OperationAction::Call => self.call(),
+            OperationAction::PutResult => self.put_result(),
+            OperationAction::Finish => self.finish(),
+            OperationAction::Deliver => self.deliver(),
+            OperationAction::Done => JobStep::Done,
+        }
+    }
+
+    fn abandoned(&self) -> bool {
+        self.link.is_marked()
+    }
+}
