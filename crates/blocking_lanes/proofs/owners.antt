@@ -1,9 +1,12 @@
 pub mod ReadJobs
 pub mod WriteJobs
+pub mod StreamJobs
 pub mod ReadSessions
 pub mod WriteSessions
+pub mod StreamSessions
 pub mod Drains
 pub mod Fills
+pub mod Goods
 pub mod States
 pub mod Known
 pub mod Cuts

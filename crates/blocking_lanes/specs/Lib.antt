@@ -4,7 +4,9 @@ pub mod Ties
 pub mod Steps
 pub mod Reads
 pub mod Writes
+pub mod Streams
 pub mod SessionJobs
+pub mod Passages
 pub mod Sessions
 pub mod Owners
 pub mod OwnerSteps

@@ -14,7 +14,7 @@ use Rattle.blocking_laws.specs.declared.event.Moment.{Moment}
 use Rattle.blocking_laws.specs.declared.event.Party.TheVariants.{Owner as ByOwner, Task as ByTask, Worker}
 use Rattle.blocking_laws.specs.declared.step.Answer.{Answer}
 use Rattle.blocking_laws.specs.declared.step.HandleCall.{HandleCall}
-use Rattle.blocking_lanes.specs.Owners.{Owner, Did, Worked, capacity_of, rests, may_ask, is_gone, note_at, next_of, did, worked, owner_after_ask, owner_after_begin, owner_after_refusal, owner_after_delivery, owner_after_drop, give_up_act, owner_after_give_up}
+use Rattle.blocking_lanes.specs.Owners.{Owner, Did, Worked, capacity_asked, goods_asked, rests, may_ask, is_gone, note_at, next_of, did, worked, owner_after_ask, owner_after_begin, owner_after_refusal, owner_after_delivery, owner_after_drop, give_up_act, owner_after_give_up}
 use Rattle.blocking_lanes.specs.SessionJobs.{JobAs, kind_of, action_of}
 use Rattle.blocking_lanes.specs.declared.job.SessionJob.{SessionJob}
 use Rattle.blocking_lanes.specs.declared.owner.OwnerNext.TheVariants as next
@@ -89,7 +89,7 @@ act_of CallsWaker owner = Some HolderWoken
 abbrev pub owner_after : OwnerStep → Owner → Owner
 owner_after (IsAsked call) owner = owner_after_ask call owner
 owner_after Acts owner = owner_in (did owner) owner
-owner_after (Begins number) owner = owner_after_begin number (empty_pipe (capacity_of owner)) owner
+owner_after (Begins number) owner = owner_after_begin number (goods_asked owner) (empty_pipe (capacity_asked owner)) owner
 owner_after (IsRefused why) owner = owner_after_refusal why owner
 owner_after (Delivers woke) owner = owner_after_delivery owner
 owner_after IsDropped owner = owner_after_drop owner

@@ -15,7 +15,7 @@ use Rattle.blocking_core.specs.declared.unblock.SessionKind.TheVariants as sessi
 use Rattle.blocking_core.specs.declared.unblock.State.{State}
 use Rattle.blocking_core.specs.declared.unblock.State.TheVariants as state
 use Rattle.blocking_laws.specs.Ends.{handle_answers, has_failure, has_failed_write, has_flush, last_is_end, came_back, IsReadBack, IsFlushedBack}
-use Rattle.blocking_laws.specs.JobTable.{Kind, Reading, Writing, Streaming, Seeking, Operating, JobAction, FindRoom, AskBytes, PutPiece, Peek, OfferBytes, Consume, AskFlush, CloseEnd, Finish, Over, next_but_wake, is_over, fault, has_closed, has_finished, has_given_up}
+use Rattle.blocking_laws.specs.JobTable.{Kind, Reading, Writing, Streaming, Seeking, Operating, JobAction, FindRoom, AskBytes, PutPiece, Peek, OfferBytes, Consume, AskFlush, AskItem, SendItem, CloseEnd, Finish, Over, next_but_wake, is_over, fault, has_closed, has_finished, has_given_up}
 use Rattle.blocking_laws.specs.Jobs.{holder}
 use Rattle.blocking_laws.specs.OwnerLaws.{OwnerLaws}
 use Rattle.blocking_laws.specs.OwnerSeats.{is_job_seated, pipe_seat, slot_seat}
@@ -37,7 +37,7 @@ use Rattle.blocking_laws.specs.declared.event.Reply.TheVariants as told
 use Rattle.blocking_laws.specs.declared.step.HandleCall.{HandleCall}
 use Rattle.blocking_laws.specs.declared.step.HandleCall.TheVariants as handle_call
 use Rattle.blocking_lanes.specs.Owners.{Owner, capacity_of, number_of, note_at, is_gone, poll_call_of, reply_as}
-use Rattle.blocking_lanes.specs.Sessions.{Session}
+use Rattle.blocking_lanes.specs.Sessions.{Session, goods_of}
 use Rattle.blocking_lanes.specs.declared.owner.OwnerStage.{OwnerStage}
 use Rattle.blocking_lanes.specs.declared.owner.OwnerStage.TheVariants as stage
 use Rattle.blocking_pool.specs.Jobs.{JobNumber}
@@ -201,26 +201,30 @@ PassedAs FindRoom room lasts stopped passed = (lasts ≡ true) × IsSound [] pas
 PassedAs (AskBytes most) room lasts stopped passed = (lasts ≡ true) × IsSound [] passed × (most ≤ room)
 PassedAs (PutPiece bytes) room lasts stopped passed =
     (lasts ≡ true) × IsSound bytes passed × (length bytes ≤ room) × (passed.held ≡ bytes)
+PassedAs AskItem room lasts stopped passed = (lasts ≡ true) × IsSound [] passed
+PassedAs (SendItem x) room lasts stopped passed = (lasts ≡ true) × IsSound (x ∷ []) passed × (passed.held ≡ x ∷ [])
 PassedAs CloseEnd room lasts stopped passed = (lasts ≡ true) × GaveAll stopped passed
 PassedAs Finish room lasts stopped passed = (lasts ≡ false) × GaveAll stopped passed
 PassedAs Over room lasts stopped passed = GaveAll stopped passed
 PassedAs _ room lasts stopped passed = ⊥
 
--- Which session it is, and that its pipe holds no more than it may.
+-- Which session it is, what passes through its pipe, and that this holds no more than it may.
 pub record LentAs (s : Session) (kind : Kind) (capacity : ℕ) (last : Option sessions.Session) (shut : Bool) : Type 0 where
   pub begun : last ≡ Some (record { serial = s.number.serial; kind = kind })
+  pub goods : s.goods ≡ goods_of kind
   pub some : 0 < capacity
   pub holds : s.pipe.capacity ≡ capacity
   pub within : length s.pipe.items ≤ capacity
   pub shut_is : shut ≡ not s.pipe.is_owner_open
 
--- What went through the pipe of a session that reads: what the job put is what its owner took and what is inside, and a beginning of what the job was given, which
--- is no more than what its owner took and what the pipe holds.
-pub record FlowAs (s : Session) (shut : Bool) (taken : List ℕ) (next : JobAction) (closed given_up : Bool) (passed : Passed) : Type 0 where
+-- What went through the pipe of a session that reads, or takes items: what the job put is what its owner took and what is inside, and a
+-- beginning of what the job was given, which is no more than what its owner took, what the pipe holds, and so many that the job may have in
+-- hand.
+pub record FlowAs (hand : ℕ) (s : Session) (shut : Bool) (taken : List ℕ) (next : JobAction) (closed given_up : Bool) (passed : Passed) : Type 0 where
   pub closed_is : closed ≡ not s.pipe.is_job_open
   pub inside : passed.put ≡ taken ++ s.pipe.items
   pub put : IsBeginning passed.put passed.given
-  pub bounded : length passed.given ≤ length taken + s.pipe.capacity
+  pub bounded : length passed.given ≤ length taken + s.pipe.capacity + hand
   pub passed_is : PassedAs next (room s.pipe) s.pipe.is_job_open (shut || given_up) passed
   -- a job that reads writes nothing
   pub unwritten : passed.written ≡ []
@@ -288,7 +292,8 @@ pub record WriteFlowAs (s : Session) (shut : Bool) (got accepted : List ℕ) (ne
 
 -- what went through the pipe of a session of this kind
 abbrev pub Flows : Kind → Session → Bool → List ℕ → List ℕ → JobAction → List Act → Type 0
-Flows Reading s shut got accepted next acts = FlowAs s shut got next (has_closed acts) (has_given_up acts) (passed_by acts)
+Flows Reading s shut got accepted next acts = FlowAs 0 s shut got next (has_closed acts) (has_given_up acts) (passed_by acts)
+Flows Streaming s shut got accepted next acts = FlowAs 1 s shut got next (has_closed acts) (has_given_up acts) (passed_by acts)
 Flows Writing s shut got accepted next acts = WriteFlowAs s shut got accepted next (has_closed acts) (has_given_up acts) (wrote_by acts)
 Flows _ s shut got accepted next acts = ⊥
 
@@ -299,13 +304,14 @@ SlotAs (Full found) finished given_up back why = (finished ≡ true) × (given_u
 SlotAs GivenUp finished given_up back why = (finished ≡ false) × (given_up ≡ true) × (back ≡ false)
 SlotAs (Abandoned over) finished given_up back why = ⊥
 
--- whether a job looks for room, or for bytes, by its next action
+-- whether a job looks for room, or for bytes, or sends an item, by its next action
 abbrev pub is_finding : JobAction → Bool
 is_finding FindRoom = true
+is_finding (SendItem x) = true
 is_finding Peek = true
 is_finding _ = false
 
--- a job that reads can't go on at a full pipe, and one that writes not at an empty one
+-- a job that reads or takes items can't go on at a full pipe, and one that writes not at an empty one
 abbrev pub IsStuckIn : Kind → Session → Type 0
 IsStuckIn Writing s = s.pipe.items ≡ []
 IsStuckIn kind s = room s.pipe ≡ 0
@@ -321,7 +327,7 @@ pub record ResultAs (content : Content (Option (Fault ℕ))) (finished given_up 
   pub over_is : finished || given_up ≡ over
   pub let_go : given_up ≡ true → dropped ≡ true
 
--- Who is seated has reason to be: a job that looks for room or for bytes, or gave up, where it can't go on and its owner's end is open; an
+-- Who is seated has reason to be: a job that looks for room or for bytes, or sends an item, or gave up, where it can't go on and its owner's end is open; an
 -- owner at a pipe where it can't go on and the job's end is open; an owner at the slot of a job that isn't over, once an end of the pipe was
 -- closed.
 pub record HaveReason (s : Session) (kind : Kind) (waits : Bool) : Type 0 where
@@ -351,12 +357,12 @@ pub record SessionAs (s : Session) (kind : Kind) (capacity : ℕ) (last : Option
   pub seats : SeatsAs s kind (is_finding (next_but_wake kind acts) || has_given_up acts) job_seated pipe_seated slot_seated
 
 -- the last session, if there was one, by the same of each job
-abbrev pub LastBy : Option Session → ℕ → Option sessions.Session → Bool → Bool → Bool → List ℕ → List ℕ → (ℕ → List Act) → Bool → Bool → Bool → Type 0
+abbrev pub LastBy : Option Session → (Kind → ℕ) → Option sessions.Session → Bool → Bool → Bool → List ℕ → List ℕ → (ℕ → List Act) → Bool → Bool → Bool → Type 0
 LastBy None capacity last shut back dropped got accepted acts job_seated pipe_seated slot_seated = (last ≡ None) × (got ≡ []) × (accepted ≡ [])
 LastBy (Some s) capacity last shut back dropped got accepted acts job_seated pipe_seated slot_seated =
-    SessionAs s (kind_in last) capacity last shut back dropped got accepted (acts s.number.serial) job_seated pipe_seated slot_seated
+    SessionAs s (kind_in last) (capacity (kind_in last)) last shut back dropped got accepted (acts s.number.serial) job_seated pipe_seated slot_seated
 
-abbrev pub LastAs : Option Session → ℕ → List Event → Type 0
+abbrev pub LastAs : Option Session → (Kind → ℕ) → List Event → Type 0
 LastAs held capacity cut =
     LastBy held capacity (last_session (own cut)) (is_shut (own cut)) (is_none (sessions.session (own cut))) (is_dropped (own cut))
     (got (own cut)) (accepted (own cut)) (λ s. acts_of s cut) (is_job_seated cut) (pipe_seat cut) (slot_seat cut)
@@ -388,7 +394,7 @@ pub record OwnerAs (owner : Owner) (cut : List Event) : Type 0 where
   pub gone : is_dropped (own cut) ≡ is_gone owner.stage
   pub asked : call (own cut) ≡ owner.asked
   pub polled : under_way (own cut) ≡ called_at owner.stage owner.asked
-  pub bytes : capacity Reading (own cut) ≡ capacity_of owner
+  pub bytes : (kind : Kind) → capacity kind (own cut) ≡ capacity_of owner kind
   pub calls : AskKnown (own cut)
   pub stage : StageAs owner.stage cut
   pub last : LastAs owner.session (capacity_of owner) cut

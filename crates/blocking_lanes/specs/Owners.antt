@@ -7,6 +7,10 @@ use Rattle.blocking_core.specs.Reading.{read_next}
 use Rattle.blocking_core.specs.Writing.{write_next}
 use Rattle.blocking_core.specs.Slots.{Content, Empty, Full, GivenUp, Abandoned, empty_slot}
 use Rattle.blocking_core.specs.declared.io.Fault.{Fault}
+use Rattle.blocking_core.specs.Items.{item_next}
+use Rattle.blocking_core.specs.declared.job.item.ItemAction.{ItemAction}
+use Rattle.blocking_core.specs.declared.job.item.ItemAction.TheVariants as item
+use Rattle.blocking_core.specs.declared.job.item.ItemAnswer.TheVariants as sent
 use Rattle.blocking_core.specs.declared.job.read.ReadAction.{ReadAction}
 use Rattle.blocking_core.specs.declared.job.read.ReadAction.TheVariants as read
 use Rattle.blocking_core.specs.declared.job.read.ReadAnswer.TheVariants as job_by
@@ -22,7 +26,7 @@ use Rattle.blocking_core.specs.declared.unblock.Reply.{Reply}
 use Rattle.blocking_core.specs.declared.unblock.Reply.TheVariants as reply
 use Rattle.blocking_core.specs.declared.unblock.State.{State}
 use Rattle.blocking_core.specs.declared.unblock.State.TheVariants as state
-use Rattle.blocking_laws.specs.JobTable.{Reading}
+use Rattle.blocking_laws.specs.JobTable.{Kind}
 use Rattle.blocking_laws.specs.Sessions.{default_capacity, kind_of, is_for_closed}
 use Rattle.blocking_laws.specs.Steps.{is_known}
 use Rattle.blocking_laws.specs.Seats.{waker_in}
@@ -32,9 +36,11 @@ use Rattle.blocking_laws.specs.declared.event.Reply.{Reply as Told}
 use Rattle.blocking_laws.specs.declared.event.Reply.TheVariants as told
 use Rattle.blocking_laws.specs.declared.step.HandleCall.{HandleCall}
 use Rattle.blocking_laws.specs.declared.step.HandleCall.TheVariants as handle_call
+use Rattle.blocking_lanes.specs.Passages.{Goods, OfBytes, OfItems, through}
 use Rattle.blocking_lanes.specs.Reads as reads
 use Rattle.blocking_lanes.specs.SessionJobs.{new_job}
-use Rattle.blocking_lanes.specs.Sessions.{Session, Work, serial_of, drained, filled, reach, front, session_after_close, session_after_drain, session_after_fill, session_after_look, session_after_give_up, give_up_wakes, work_by, writer_works}
+use Rattle.blocking_lanes.specs.Sessions.{Session, Work, goods_of, serial_of, drained, filled, reach, front, session_after_close, session_after_drain, session_after_fill, session_after_look, session_after_give_up, give_up_wakes, streamer_works, work_by, writer_works}
+use Rattle.blocking_lanes.specs.Streams as streams
 use Rattle.blocking_lanes.specs.Writes as writes
 use Rattle.blocking_lanes.specs.declared.job.SessionJob.{SessionJob}
 use Rattle.blocking_lanes.specs.declared.job.SessionJob.TheVariants as of_job
@@ -63,9 +69,9 @@ pub record Owner : Type 0 where
 abbrev pub new_owner : ℕ → Owner
 new_owner capacity = record { capacity = capacity; asked = None; stage = stage.Rests state.Idle; session = None }
 
--- how many bytes the pipe of a session holds
-abbrev pub capacity_of : Owner → ℕ
-capacity_of owner = if owner.capacity == 0 then default_capacity Reading else owner.capacity
+-- how many bytes or items the pipe of a session of this kind holds
+abbrev pub capacity_of : Owner → Kind → ℕ
+capacity_of owner kind = if owner.capacity == 0 then default_capacity kind else owner.capacity
 
 -- the number of the last session's job
 abbrev pub number_in : Option Session → Option JobNumber
@@ -259,7 +265,7 @@ fill_did bytes Closed poll session owner = record {
 -- the same, where it was asked to write something and has a session
 abbrev pub fill_did_in : OwnerMachine ℕ → Option HandleCall → Option Session → Owner → Option Did
 fill_did_in poll (Some (handle_call.Write (byte ∷ bytes))) (Some session) owner =
-    Some (fill_did (byte ∷ bytes) (filled (length (byte ∷ bytes)) session) poll session owner)
+    through OfBytes session.goods (Some (fill_did (byte ∷ bytes) (filled (length (byte ∷ bytes)) session) poll session owner))
 fill_did_in poll asked session owner = None
 
 -- it drops the handle, and its poll is over
@@ -282,7 +288,7 @@ reply_did None poll owner = None
 -- what its poll does next at its session
 abbrev pub did_at : OwnerAction ℕ → OwnerMachine ℕ → Session → Owner → Option Did
 did_at action.Close poll session owner = Some (close_did poll session owner)
-did_at (action.Drain most) poll session owner = Some (drain_did (drained (reach most session) session) poll session owner)
+did_at (action.Drain most) poll session owner = through OfBytes session.goods (Some (drain_did (drained (reach most session) session) poll session owner))
 did_at action.PollSlot poll session owner =
     look_did (looked_as session.slot.content) poll (session_after_look session.slot.content session) owner
 did_at _ poll session owner = None
@@ -313,16 +319,23 @@ IsDid (Some done) owner seen new = (seen ≡ Some done.act) × (new ≡ done.own
 abbrev pub new_job_of : Owner → SessionJob
 new_job_of owner = new_job (kind_of owner.asked)
 
--- the owner after a session began, with this job and this pipe
-abbrev pub after_begin : JobNumber → Pipe ℕ (Unit {0}) → OwnerStage → Owner → Owner
-after_begin number pipe (stage.Polls poll) owner = record owner {
-  stage = stage.Polls (owner_after poll by.Begun);
-  session = Some (record { number = number; pipe = pipe; slot = empty_slot });
-}
-after_begin number pipe _ owner = owner
+-- how much the pipe of that session holds, and what passes through it
+abbrev pub capacity_asked : Owner → ℕ
+capacity_asked owner = capacity_of owner (kind_of owner.asked)
 
-abbrev pub owner_after_begin : JobNumber → Pipe ℕ (Unit {0}) → Owner → Owner
-owner_after_begin number pipe owner = after_begin number pipe owner.stage owner
+abbrev pub goods_asked : Owner → Goods
+goods_asked owner = goods_of (kind_of owner.asked)
+
+-- the owner after a session began, with this job and this pipe, through which this passes
+abbrev pub after_begin : JobNumber → Goods → Pipe ℕ (Unit {0}) → OwnerStage → Owner → Owner
+after_begin number goods pipe (stage.Polls poll) owner = record owner {
+  stage = stage.Polls (owner_after poll by.Begun);
+  session = Some (record { number = number; goods = goods; pipe = pipe; slot = empty_slot });
+}
+after_begin number goods pipe _ owner = owner
+
+abbrev pub owner_after_begin : JobNumber → Goods → Pipe ℕ (Unit {0}) → Owner → Owner
+owner_after_begin number goods pipe owner = after_begin number goods pipe owner.stage owner
 
 -- after a session was refused
 abbrev pub stage_after_refusal : Refusal → OwnerStage → OwnerStage
@@ -369,7 +382,7 @@ calls_waker job owner = Some (record { act = HolderWoken; job = job; owner = own
 -- what a job that reads does next at its session
 abbrev pub read_in : ReadAction → Option Session → reads.Progress → Owner → Option Worked
 read_in next None job owner = None
-read_in next (Some session) job owner = worked_by of_job.Read (work_by next job session) owner
+read_in next (Some session) job owner = worked_by of_job.Read (through OfBytes session.goods (work_by next job session)) owner
 
 -- what it does next: it calls the waker that it took, or meets its owner
 abbrev pub read_as : ReadAction → reads.Progress → Owner → Option Worked
@@ -379,16 +392,26 @@ read_as next job owner = read_in next owner.session job owner
 -- the same of a job that writes
 abbrev pub write_in : WriteAction → Option Session → writes.Progress → Owner → Option Worked
 write_in next None job owner = None
-write_in next (Some session) job owner = worked_by of_job.Write (writer_works next job session) owner
+write_in next (Some session) job owner = worked_by of_job.Write (through OfBytes session.goods (writer_works next job session)) owner
 
 abbrev pub write_as : WriteAction → writes.Progress → Owner → Option Worked
 write_as write.Deliver job owner = calls_waker (of_job.Write (writes.progress_with job wrote.Delivered)) owner
 write_as next job owner = write_in next owner.session job owner
 
+-- the same of a job that runs an iterator
+abbrev pub stream_in : ItemAction → Option Session → streams.Progress → Owner → Option Worked
+stream_in doing None job owner = None
+stream_in doing (Some session) job owner = worked_by of_job.Items (through OfItems session.goods (streamer_works doing job session)) owner
+
+abbrev pub stream_as : ItemAction → streams.Progress → Owner → Option Worked
+stream_as item.Deliver job owner = calls_waker (of_job.Items (streams.progress_with job sent.Delivered)) owner
+stream_as doing job owner = stream_in doing owner.session job owner
+
 -- What its job does next, where that is the job's own.
 abbrev pub worked : SessionJob → Owner → Option Worked
 worked (of_job.Read job) owner = read_as (read_next job.core) job owner
 worked (of_job.Write job) owner = write_as (write_next job.core) job owner
+worked (of_job.Items job) owner = stream_as (item_next job.core) job owner
 
 -- the answer of a call by which the job may act, and what it leaves: where it has no such act nothing changes
 abbrev pub IsWorked : Option Worked → SessionJob → Owner → Option Act → SessionJob → Owner → Type 0

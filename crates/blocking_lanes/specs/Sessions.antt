@@ -1,9 +1,13 @@
 -- A session: where an owner meets the job that was lent its handle, and what each act of the owner and of the job does there.
-use Rattle.std.specs.Prelude.{◌≡◌, ℕ, nat_le, min, max, if◌then◌else◌, Bool, true, false, List, ◌++◌, length, take, drop, Option, Some, None, is_some}
+use Rattle.std.specs.Prelude.{◌≡◌, ℕ, nat_le, min, max, if◌then◌else◌, Bool, true, false, List, [], ◌∷◌, ◌++◌, length, take, drop, Option, Some, None, is_some}
 use Rattle.blocking_core.specs.Pipes.{Pipe, empty_pipe, room}
 use Rattle.blocking_core.specs.Places.{Met, Served, Waiting, Closed, drain, fill, find_room, hand_in, peek}
 use Rattle.blocking_core.specs.Slots.{Slot, Content, Empty, Full, GivenUp, Abandoned, empty_slot, after_put, put_in, after_give_up, waker_of_give_up}
 use Rattle.blocking_core.specs.declared.io.Fault.{Fault}
+use Rattle.blocking_core.specs.declared.job.item.ItemAction.{ItemAction}
+use Rattle.blocking_core.specs.declared.job.item.ItemAction.TheVariants as item
+use Rattle.blocking_core.specs.declared.job.item.ItemAnswer.{ItemAnswer}
+use Rattle.blocking_core.specs.declared.job.item.ItemAnswer.TheVariants as sent
 use Rattle.blocking_core.specs.declared.job.read.ReadAction.{ReadAction}
 use Rattle.blocking_core.specs.declared.job.read.ReadAction.TheVariants as read
 use Rattle.blocking_core.specs.declared.job.read.ReadAnswer.{ReadAnswer}
@@ -11,25 +15,33 @@ use Rattle.blocking_core.specs.declared.job.read.ReadAnswer.TheVariants as by
 use Rattle.blocking_core.specs.declared.job.write.WriteAction.{WriteAction}
 use Rattle.blocking_core.specs.declared.job.write.WriteAction.TheVariants as write
 use Rattle.blocking_core.specs.declared.job.write.WriteAnswer.TheVariants as wrote
-use Rattle.blocking_laws.specs.JobTable.{piece as largest_piece}
+use Rattle.blocking_laws.specs.JobTable.{Kind, Streaming, piece as largest_piece}
 use Rattle.blocking_laws.specs.Places.{seen_room, seen_put, seen_peek}
 use Rattle.blocking_laws.specs.Seats.{waker_in}
 use Rattle.blocking_laws.specs.declared.event.Act.{Act}
 use Rattle.blocking_laws.specs.declared.event.Act.TheVariants.{Taken, JobClosed, Finished}
+use Rattle.blocking_lanes.specs.Passages.{Goods, OfBytes, OfItems, closed_by_owner, closed_by_job}
 use Rattle.blocking_lanes.specs.Reads.{Progress, progress_with}
+use Rattle.blocking_lanes.specs.Streams as streams
 use Rattle.blocking_lanes.specs.Writes as writes
 use Rattle.blocking_pool.specs.Jobs.{JobNumber}
 
--- A session: the number of its job, the pipe of bytes, and the slot in which the handle comes back with the fault of the job. Wakers are
--- told as units.
+-- A session: the number of its job, what passes through its pipe, the pipe itself, and the slot in which the handle comes back with the fault
+-- of the job. Wakers are told as units.
 pub record Session : Type 0 where
   pub number : JobNumber
+  pub goods : Goods
   pub pipe : Pipe ℕ (Unit {0})
   pub slot : Slot (Option (Fault ℕ)) (Unit {0})
 
--- a session that begins, with this job and a pipe for so many bytes
-abbrev pub new_session : JobNumber → ℕ → Session
-new_session number capacity = record { number = number; pipe = empty_pipe capacity; slot = empty_slot }
+-- what passes through the pipe of a session of this kind
+abbrev pub goods_of : Kind → Goods
+goods_of Streaming = OfItems
+goods_of kind = OfBytes
+
+-- a session that begins, with this job and a pipe for so many bytes or items
+abbrev pub new_session : JobNumber → Goods → ℕ → Session
+new_session number goods capacity = record { number = number; goods = goods; pipe = empty_pipe capacity; slot = empty_slot }
 
 -- ---- its owner acts
 
@@ -40,7 +52,7 @@ serial_of (Some number) = Some number.serial
 
 -- the session after its owner closed its end of the pipe
 abbrev pub session_after_close : Session → Session
-session_after_close session = record session { pipe = record session.pipe { is_owner_open = false; job_seat = None } }
+session_after_close session = record session { pipe = closed_by_owner session.pipe }
 
 -- how many bytes come out where the owner wants at most so many, one at least: as many as are inside
 abbrev pub reach : ℕ → Session → ℕ
@@ -117,7 +129,7 @@ abbrev pub finish_wakes : Option (Fault ℕ) → Session → Bool
 finish_wakes why session = is_some (put_in session.slot why).wake
 
 abbrev pub session_after_job_close : Session → Session
-session_after_job_close session = record session { pipe = record session.pipe { is_job_open = false; owner_seat = None } }
+session_after_job_close session = record session { pipe = closed_by_job session.pipe }
 
 abbrev pub session_after_finish : Option (Fault ℕ) → Session → Session
 session_after_finish why session = record session { slot = after_put session.slot why }
@@ -234,6 +246,53 @@ writer_works (write.Consume count) job session = if holds count session then Som
 writer_works write.Close job session = Some (writer_closes job session)
 writer_works write.Finish job session = Some (writer_finishes job session)
 writer_works _ job session = None
+
+-- ---- the same of a job that runs an iterator
+
+-- what the job finds that sends an item
+abbrev pub found_send : Session → Met (Option (Unit {0}))
+found_send session = hand_in 1 (room session.pipe) session.pipe.is_owner_open session.pipe.owner_seat
+
+abbrev pub send_answer : Met (Option (Unit {0})) → ItemAnswer
+send_answer (Served waker) = sent.Sent (is_some waker)
+send_answer Waiting = sent.Parked
+send_answer Closed = sent.Shut
+
+abbrev pub session_after_send : ℕ → Met (Option (Unit {0})) → Session → Session
+session_after_send x (Served waker) session =
+    record session { pipe = record session.pipe { items = session.pipe.items ++ x ∷ []; owner_seat = None } }
+session_after_send x Waiting session = record session { pipe = record session.pipe { job_seat = Some session.number } }
+session_after_send x Closed session = session
+
+abbrev pub work_at_send : Met (Option (Unit {0})) → streams.Progress → Session → Work streams.Progress
+work_at_send met job session = record {
+  act = seen_put 1 met;
+  job = streams.progress_with job (send_answer met);
+  session = session_after_send job.item met session;
+}
+
+-- it closes its end of the pipe
+abbrev pub streamer_closes : streams.Progress → Session → Work streams.Progress
+streamer_closes job session = record {
+  act = JobClosed (waker_in (closing_wakes session));
+  job = streams.progress_with job (sent.Closed (closing_wakes session));
+  session = session_after_job_close session;
+}
+
+-- it puts its result, which is never a fault
+abbrev pub streamer_finishes : streams.Progress → Session → Work streams.Progress
+streamer_finishes job session = record {
+  act = Finished (waker_in (finish_wakes None session));
+  job = streams.progress_with job (sent.Finished (finish_wakes None session));
+  session = session_after_finish None session;
+}
+
+-- What it does next at its session, where that is its own to do.
+abbrev pub streamer_works : ItemAction → streams.Progress → Session → Option (Work streams.Progress)
+streamer_works item.Send job session = Some (work_at_send (found_send session) job session)
+streamer_works item.Close job session = Some (streamer_closes job session)
+streamer_works item.Finish job session = Some (streamer_finishes job session)
+streamer_works _ job session = None
 
 -- the answer of a call by which a job may act, and what it leaves: where it has no such act nothing changes
 abbrev pub IsWork : {J : Type 0} → Option (Work J) → J → Session → Option Act → J → Session → Type 0

@@ -1,9 +1,10 @@
 //! The job of a session.
 ghost use Rattle.std.specs.Prelude.{◌≡◌};
 
+use crate::item::ItemProgress;
 use crate::read::ReadProgress;
 use crate::write::WriteProgress;
-use blocking_core::job::{ReadAction, WriteAction};
+use blocking_core::job::{ItemAction, ReadAction, WriteAction};
 use blocking_laws::step::Answer;
 
 /// The job of a session, and how far it is.
@@ -13,6 +14,8 @@ pub enum SessionJob {
     Read(ReadProgress),
     /// It writes behind its owner.
     Write(WriteProgress),
+    /// It takes items ahead of its owner.
+    Items(ItemProgress),
 }
 
 impl SessionJob {
@@ -29,6 +32,7 @@ impl SessionJob {
             SessionJob::Write(write) => {
                 matches!(write.next(), WriteAction::Write(_) | WriteAction::Flush)
             }
+            SessionJob::Items(items) => matches!(items.next(), ItemAction::Next),
         }
     }
 
@@ -39,6 +43,7 @@ impl SessionJob {
         match self {
             SessionJob::Read(read) => matches!(read.next(), ReadAction::Done),
             SessionJob::Write(write) => matches!(write.next(), WriteAction::Done),
+            SessionJob::Items(items) => matches!(items.next(), ItemAction::Done),
         }
     }
 
@@ -49,6 +54,7 @@ impl SessionJob {
         match self {
             SessionJob::Read(read) => read.may_be_answered(answer),
             SessionJob::Write(write) => write.may_be_answered(answer),
+            SessionJob::Items(items) => items.may_be_answered(answer),
         }
     }
 
@@ -59,6 +65,7 @@ impl SessionJob {
         match self {
             SessionJob::Read(read) => read.answer(answer),
             SessionJob::Write(write) => write.answer(answer),
+            SessionJob::Items(items) => items.answer(answer),
         }
     }
 }

@@ -6,17 +6,21 @@
 #![tactic(auto)]
 
 mod call;
+mod item;
 mod job;
 pub mod kept;
 mod owner;
+mod passage;
 mod read;
 mod session;
 mod task;
 mod write;
 
 pub use call::CallProgress;
+pub use item::ItemProgress;
 pub use job::SessionJob;
 pub use owner::{Owner, OwnerNext};
+pub use passage::Passage;
 pub use read::ReadProgress;
 pub use task::{Task, TaskStage};
 pub use write::WriteProgress;

@@ -1,15 +1,17 @@
 //! The machine of an owner who lends its handle to jobs that read ahead of it, or write behind it.
-ghost use Rattle.std.specs.Prelude.{◌≡◌, None};
+ghost use Rattle.std.specs.Prelude.{◌≡◌, ◌<◌, ◌==◌, if◌then◌else◌, None};
 ghost use Rattle.blocking_core.specs.declared.unblock.OwnerAction.TheVariants as action;
 ghost use Rattle.blocking_lanes.specs.Sessions.{serial_of};
 ghost use Rattle.blocking_lanes.specs.Owners.{poll_call_of, reply_as};
 
+use crate::item::ItemProgress;
 use crate::job::SessionJob;
+use crate::passage::Passage;
 use crate::read::ReadProgress;
 use crate::session::{Entered, Found, Looked, Session};
 use crate::write::WriteProgress;
-use blocking_core::job::{ReadAction, WriteAction};
-use blocking_core::pipe::{BytePipe, DEFAULT_BYTES, Pipe};
+use blocking_core::job::{ItemAction, ReadAction, WriteAction};
+use blocking_core::pipe::{DEFAULT_BYTES, DEFAULT_ITEMS, Pipe};
 use blocking_core::pool::{JobNo, Refusal, WakeNote};
 use blocking_core::unblock::{OwnerAction, OwnerAnswer, OwnerCall, PollCall, Reply, State};
 use blocking_laws::event::{Act, HolderWaker, Reply as Told};
@@ -43,12 +45,12 @@ pub enum OwnerNext {
     Acts(usize),
 }
 
-/// An owner: how many bytes the pipes of its sessions hold, the call that it was asked last, where it is in its polls, and its last
+/// An owner: how many bytes or items the pipes of its sessions hold, the call that it was asked last, where it is in its polls, and its last
 /// session. The wakers in its seats are told as units.
 ///
 /// It may hold the note of a job that has to be woken, so it can't be let go: [`Owner::into_note`] takes it apart.
 pub struct Owner {
-    // (0 stands for the default)
+    // (0 stands for the defaults)
     capacity: usize,
     asked: Option<HandleCall>,
     stage: OwnerStage,
@@ -107,16 +109,26 @@ fn told(reply: Reply<u64>) -> Option<Told>
     }
 }
 
+// This number, or the default in the place of 0.
+fn or_default(number: usize, default: usize) -> usize
+    requires { 0 < default }
+    ensures number { result ≡ (if number == 0 then default else number) }
+    ensures some { 0 < result }
+{
+    if number == 0 { default } else { number }
+}
+
 impl Owner {
     ghost use Rattle.std.specs.Prelude.{vec_len, IfOk, OnErr, Some};
     ghost use Rattle.blocking_core.specs.Pipes.{empty_pipe};
-    ghost use Rattle.blocking_lanes.specs.Owners.{new_owner, capacity_of, is_resting, is_gone, note_at, next_of, number_of, bytes_in, rests};
+    ghost use Rattle.blocking_lanes.specs.Passages.{goods_in, pipe_in};
+    ghost use Rattle.blocking_lanes.specs.Owners.{new_owner, capacity_asked, goods_asked, is_resting, is_gone, note_at, next_of, number_of, bytes_in, rests};
     ghost use Rattle.blocking_lanes.specs.Owners.{owner_after_ask, did, did_in, reply_did, IsDid, goes_on, reach_in};
     ghost use Rattle.blocking_lanes.specs.Owners.{owner_after_begin, owner_after_refusal, owner_after_delivery, owner_after_drop};
     ghost use Rattle.blocking_lanes.specs.Owners.{may_ask, may_ask_at, front_in, fill_did_in, drop_did, new_job_of, worked, IsWorked, give_up_act, owner_after_give_up};
     ghost use Rattle.blocking_lanes.specs.declared.job.SessionJob.TheVariants as of_job;
 
-    /// An owner, with an idle handle. The pipes of its sessions hold so many bytes; 0 stands for 8,388,608.
+    /// An owner, with an idle handle. The pipes of its sessions hold so many bytes or items; 0 stands for 8,388,608 bytes and 8,192 items.
     pub fn new(capacity: usize) -> Owner
         ensures { result ≡ new_owner capacity }
     {
@@ -128,16 +140,17 @@ impl Owner {
         }
     }
 
-    /// An empty pipe for a session of this owner. Err where there is no memory for it.
-    pub fn pipe(&self, alloc: Global) -> Result<BytePipe<()>, AllocError>
-        ensures { IfOk result (λ pipe. pipe ≡ empty_pipe (capacity_of self.now)) }
+    /// An empty pipe for the session that its poll begins. Err where there is no memory for it.
+    pub fn passage(&self, alloc: Global) -> Result<Passage, AllocError>
+        ensures goods { IfOk result (λ passage. goods_in passage ≡ goods_asked self.now) }
+        ensures pipe { IfOk result (λ passage. pipe_in passage ≡ empty_pipe (capacity_asked self.now)) }
     {
-        let capacity = if self.capacity == 0 {
-            DEFAULT_BYTES
-        } else {
-            self.capacity
-        };
-        Pipe::new(alloc, capacity)
+        if let Some(HandleCall::Next) = &self.asked {
+            let capacity = or_default(self.capacity, DEFAULT_ITEMS);
+            return Ok(Passage::Items(Pipe::new(alloc, capacity)?));
+        }
+        let capacity = or_default(self.capacity, DEFAULT_BYTES);
+        Ok(Passage::Bytes(Pipe::new(alloc, capacity)?))
     }
 
     /// Whether it may be dropped: it is there, and no poll of it is under way.
@@ -317,6 +330,9 @@ impl Owner {
         let Some(session) = &mut self.session else {
             return None;
         };
+        if !session.is_of_bytes() {
+            return None;
+        }
         let mut poll = poll;
         match session.drain(room) {
             Found::Bytes(bytes, note) => {
@@ -351,7 +367,7 @@ impl Owner {
         let Some(session) = &mut self.session else {
             return None;
         };
-        if bytes.as_slice().is_empty() {
+        if bytes.as_slice().is_empty() || !session.is_of_bytes() {
             return None;
         }
         let mut poll = poll;
@@ -411,12 +427,13 @@ impl Owner {
         }
     }
 
-    /// The job of the session that its poll begins: it reads or writes, as was asked. Takes no memory.
+    /// The job of the session that its poll begins: it reads, writes or takes items, as was asked. Takes no memory.
     pub fn new_job(&self, alloc: Global) -> SessionJob
         ensures { result ≡ new_job_of self.now }
     {
         match &self.asked {
             Some(HandleCall::Write(_)) => SessionJob::Write(WriteProgress::new(alloc)),
+            Some(HandleCall::Next) => SessionJob::Items(ItemProgress::new()),
             _ => SessionJob::Read(ReadProgress::new(alloc)),
         }
     }
@@ -432,12 +449,12 @@ impl Owner {
     }
 
     /// A session began, with this job and this pipe, which is empty.
-    pub fn begin(&mut self, number: JobNo, pipe: BytePipe<()>)
-        ensures { self.new ≡ owner_after_begin number pipe self.old }
+    pub fn begin(&mut self, number: JobNo, passage: Passage)
+        ensures { self.new ≡ owner_after_begin number (goods_in passage) (pipe_in passage) self.old }
     {
         if let OwnerStage::Polls(poll) = &mut self.stage {
             poll.answer(OwnerAnswer::Begun);
-            self.session = Some(Session::new(number, pipe));
+            self.session = Some(Session::new(number, passage));
         }
     }
 
@@ -508,7 +525,22 @@ impl Owner {
         match job {
             SessionJob::Read(read) => Ok(self.read(read)),
             SessionJob::Write(write) => self.write(alloc, write),
+            SessionJob::Items(items) => Ok(self.stream(items)),
         }
+    }
+
+    // A job that runs an iterator takes its next action.
+    fn stream(&mut self, job: &mut ItemProgress) -> Option<Act>
+        ensures { IsWorked (worked (of_job.Items job.old) self.old) (of_job.Items job.old) self.old result (of_job.Items job.new) self.new }
+    {
+        if let ItemAction::Deliver = job.next() {
+            job.wake();
+            return Some(Act::HolderWoken);
+        }
+        let Some(session) = &mut self.session else {
+            return None;
+        };
+        session.stream(job)
     }
 
     // A job that reads takes its next action.

@@ -1,11 +1,15 @@
 //! Where an owner meets the job of its session.
 ghost use Rattle.std.specs.Prelude.{◌≡◌, ◌<◌, ◌≤◌, true, length, []};
 
+use crate::item::ItemProgress;
+use crate::passage::Passage;
 use crate::read::ReadProgress;
 use crate::write::WriteProgress;
 use blocking_core::io::Fault;
-use blocking_core::job::{PIECE, ReadAction, ReadAnswer, WriteAction, WriteAnswer};
-use blocking_core::pipe::{Answered, BytePipe, Drained, Filled, Peeked, Put, Room};
+use blocking_core::job::{
+    ItemAction, ItemAnswer, PIECE, ReadAction, ReadAnswer, WriteAction, WriteAnswer,
+};
+use blocking_core::pipe::{Answered, Drained, Filled, Peeked, Put, Room, Sending};
 use blocking_core::pool::{JobNo, WakeNote};
 use blocking_core::task::{Slot, Slotted};
 use blocking_laws::bytes::Bytes;
@@ -17,7 +21,7 @@ use std::marker::Model;
 #[derive(Drop)]
 pub(crate) struct Session {
     number: JobNo,
-    pipe: BytePipe<()>,
+    passage: Passage,
     slot: Slot<Option<Fault<u64>>, ()>,
 }
 
@@ -52,19 +56,28 @@ pub(crate) enum Looked {
 }
 
 impl Model for Session {
+    ghost use Rattle.blocking_lanes.specs.Passages.{goods_in, pipe_in};
     ghost use Rattle.blocking_lanes.specs.Sessions.{Session as Seen};
 
     ghost Value = { Seen };
 
-    ghost view = { λ s. record { number = s.number; pipe = s.pipe; slot = s.slot } };
+    ghost view = { λ s. record {
+      number = s.number;
+      goods = goods_in s.passage;
+      pipe = pipe_in s.passage;
+      slot = s.slot;
+    } };
 }
 
 impl Session {
     ghost use Rattle.std.specs.Prelude.{vec_len, IfOk, OnErr};
+    ghost use Rattle.blocking_core.specs.Items.{item_next};
     ghost use Rattle.blocking_core.specs.Reading.{read_next};
     ghost use Rattle.blocking_core.specs.Slots.{empty_slot};
     ghost use Rattle.blocking_core.specs.Writing.{write_next};
+    ghost use Rattle.blocking_lanes.specs.Passages.{OfBytes, OfItems, is_bytes, goods_in, pipe_in, through};
     ghost use Rattle.blocking_lanes.specs.Sessions.{filled, session_after_fill, front, found_piece, holds, work_at_peek, work_of_consume};
+    ghost use Rattle.blocking_lanes.specs.Sessions.{found_send, streamer_closes, streamer_finishes, streamer_works, work_at_send};
     ghost use Rattle.blocking_lanes.specs.Sessions.{writer_closes, writer_finishes, writer_works};
     ghost use Rattle.blocking_lanes.specs.Sessions.{reach, drained, session_after_close, session_after_drain, session_after_look};
     ghost use Rattle.blocking_lanes.specs.Sessions.{work_by, work_at_room, work_at_put, work_of_close, work_of_finish, found_room, found_put, fits_in};
@@ -72,12 +85,17 @@ impl Session {
     ghost use Rattle.blocking_lanes.specs.Owners.{found_as, entered_as, looked_as};
 
     /// A session that begins, with this job and this empty pipe.
-    pub(crate) fn new(number: JobNo, pipe: BytePipe<()>) -> Session
-        ensures { result ≡ record { number = number; pipe = pipe; slot = empty_slot } }
+    pub(crate) fn new(number: JobNo, passage: Passage) -> Session
+        ensures { result ≡ record {
+          number = number;
+          goods = goods_in passage;
+          pipe = pipe_in passage;
+          slot = empty_slot;
+        } }
     {
         Session {
             number,
-            pipe,
+            passage,
             slot: Slot::new(),
         }
     }
@@ -89,6 +107,13 @@ impl Session {
         self.number
     }
 
+    /// Whether bytes pass through its pipe.
+    pub(crate) fn is_of_bytes(&self) -> bool
+        ensures { result ≡ is_bytes self.now.goods }
+    {
+        self.passage.is_of_bytes()
+    }
+
     // ---- its owner acts
 
     /// Closes the owner's end of the pipe. Answers the note of a job that waited.
@@ -96,18 +121,19 @@ impl Session {
         ensures session { self.new ≡ session_after_close self.old }
         ensures note { result ≡ self.old.pipe.job_seat }
     {
-        self.pipe.close_owner()
+        self.passage.close_owner()
     }
 
     /// How many bytes come out where the owner wants at most so many, one at least.
     pub(crate) fn reach(&self, most: usize) -> usize
         ensures { result ≡ reach most self.now }
     {
-        most.max(1).min(self.pipe.len())
+        most.max(1).min(self.passage.len())
     }
 
     /// The owner drains the pipe into this room, whose length is how many bytes come out: none where none are inside.
     pub(crate) fn drain(&mut self, room: Vec<u8>) -> Found
+        requires bytes { self.old.goods ≡ OfBytes }
         requires within { vec_len room ≤ length self.old.pipe.items }
         requires some { 0 < length self.old.pipe.items → 0 < vec_len room }
         ensures found { result ≡ found_as (drained (vec_len room) self.old) }
@@ -116,11 +142,14 @@ impl Session {
         if room.is_empty() {
             return self.find_nothing();
         }
+        let Passage::Bytes(pipe) = &mut self.passage else {
+            unreachable!()
+        };
         let mut room = room;
         let Answered {
             answer,
             spare: _spare,
-        } = self.pipe.drain_or_seat((), room.as_mut_slice());
+        } = pipe.drain_or_seat((), room.as_mut_slice());
         match answer {
             Drained::Got(_, note) => Found::Bytes(Bytes::new(room), note),
             Drained::Ended => Found::End,
@@ -130,15 +159,19 @@ impl Session {
 
     // The owner drains the pipe, in which nothing is inside: it is at its end, or the owner is seated.
     fn find_nothing(&mut self) -> Found
-        requires { self.old.pipe.items ≡ [] }
+        requires bytes { self.old.goods ≡ OfBytes }
+        requires empty { self.old.pipe.items ≡ [] }
         ensures found { result ≡ found_as (drained 0 self.old) }
         ensures session { self.new ≡ session_after_drain (drained 0 self.old) self.old }
     {
+        let Passage::Bytes(pipe) = &mut self.passage else {
+            unreachable!()
+        };
         let mut one = [0u8; 1];
         let Answered {
             answer,
             spare: _spare,
-        } = self.pipe.drain_or_seat((), &mut one);
+        } = pipe.drain_or_seat((), &mut one);
         match answer {
             Drained::Got(_, _note) => unreachable!(),
             Drained::Ended => Found::End,
@@ -148,14 +181,18 @@ impl Session {
 
     /// The owner fills the pipe with the first of these bytes, as many as there is room for.
     pub(crate) fn fill(&mut self, bytes: &[u8]) -> Entered
-        requires { 0 < length bytes.now }
+        requires goods { self.old.goods ≡ OfBytes }
+        requires some { 0 < length bytes.now }
         ensures found { result ≡ entered_as (filled (length bytes.now) self.old) }
         ensures session { self.new ≡ session_after_fill bytes.now (filled (length bytes.now) self.old) self.old }
     {
+        let Passage::Bytes(pipe) = &mut self.passage else {
+            unreachable!()
+        };
         let Answered {
             answer,
             spare: _spare,
-        } = self.pipe.fill_or_seat((), bytes);
+        } = pipe.fill_or_seat((), bytes);
         match answer {
             Filled::Took(count, note) => Entered::Bytes(count, note),
             Filled::Shut => Entered::Shut,
@@ -179,10 +216,14 @@ impl Session {
 
     // The job looks for room, and is seated where there is none.
     fn find_room(&mut self, job: &mut ReadProgress) -> Act
+        requires { self.old.goods ≡ OfBytes }
         ensures { work_at_room (found_room self.old) job.old self.old
             ≡ record { act = result; job = job.new; session = self.new } }
     {
-        match self.pipe.room_or_seat(self.number) {
+        let Passage::Bytes(pipe) = &mut self.passage else {
+            unreachable!()
+        };
+        match pipe.room_or_seat(self.number) {
             Room::Free(room) => {
                 job.meet(ReadAnswer::Free(room));
                 Act::RoomFree(room)
@@ -200,12 +241,16 @@ impl Session {
 
     // The job puts what its reader gave, which fits.
     fn put(&mut self, job: &mut ReadProgress) -> Act
-        requires { fits_in job.old.piece self.old ≡ true }
+        requires bytes { self.old.goods ≡ OfBytes }
+        requires fits { fits_in job.old.piece self.old ≡ true }
         ensures { work_at_put (found_put job.old.piece self.old) job.old self.old
             ≡ record { act = result; job = job.new; session = self.new } }
     {
+        let Passage::Bytes(pipe) = &mut self.passage else {
+            unreachable!()
+        };
         let count = job.piece().len();
-        match self.pipe.put(job.piece()) {
+        match pipe.put(job.piece()) {
             Put::In(seat) => {
                 let woke = seat.is_some();
                 job.meet(ReadAnswer::Put { woke });
@@ -223,7 +268,7 @@ impl Session {
         ensures { work_of_close job.old self.old
             ≡ record { act = result; job = job.new; session = self.new } }
     {
-        let woke = self.pipe.close_job().is_some();
+        let woke = self.passage.close_job();
         job.meet(ReadAnswer::Closed { woke });
         Act::JobClosed(HolderWaker::in_seat(woke))
     }
@@ -240,11 +285,14 @@ impl Session {
 
     /// A job that reads takes its next action, where it takes it at its session: what is seen of it.
     pub(crate) fn read(&mut self, job: &mut ReadProgress) -> Option<Act>
-        ensures { IsWork (work_by (read_next job.old.core) job.old self.old) job.old self.old result job.new self.new }
+        ensures { IsWork (through OfBytes self.old.goods (work_by (read_next job.old.core) job.old self.old)) job.old self.old result job.new self.new }
     {
+        if !self.is_of_bytes() {
+            return None;
+        }
         match job.next() {
             ReadAction::FindRoom => Some(self.find_room(job)),
-            ReadAction::Put(_) if job.piece().len() <= self.pipe.room() => Some(self.put(job)),
+            ReadAction::Put(_) if job.piece().len() <= self.passage.room() => Some(self.put(job)),
             ReadAction::Close => Some(self.close_job(job)),
             ReadAction::Finish => Some(self.finish(job)),
             ReadAction::Put(_) | ReadAction::Read(_) | ReadAction::Deliver | ReadAction::Done => {
@@ -259,20 +307,24 @@ impl Session {
     pub(crate) fn front(&self) -> usize
         ensures { result ≡ front self.now }
     {
-        self.pipe.len().min(PIECE)
+        self.passage.len().min(PIECE)
     }
 
     // The job looks at the front of the pipe. The memory for what it finds there is had before it does.
     fn find_piece(&mut self, alloc: Global, job: &mut WriteProgress) -> Result<Act, AllocError>
+        requires { self.old.goods ≡ OfBytes }
         ensures ok { IfOk result (λ act. work_at_peek (found_piece self.old) job.old self.old
             ≡ record { act = act; job = job.new; session = self.new }) }
         ensures err { OnErr result ((job.new ≡ job.old) × (self.new ≡ self.old)) }
     {
-        if self.pipe.len() == 0 {
+        if self.passage.len() == 0 {
             return Ok(self.find_no_piece(job));
         }
         let mut room = vec![in alloc; 0u8; self.front()]?;
-        match self.pipe.peek_or_seat(self.number, room.as_mut_slice()) {
+        let Passage::Bytes(pipe) = &mut self.passage else {
+            unreachable!()
+        };
+        match pipe.peek_or_seat(self.number, room.as_mut_slice()) {
             Peeked::Some(_all_of_it) => {}
             Peeked::Parked | Peeked::Drained => unreachable!(),
         }
@@ -284,12 +336,16 @@ impl Session {
 
     // The job looks at the front of the pipe, in which nothing is inside: it is seated, or the pipe is drained for good.
     fn find_no_piece(&mut self, job: &mut WriteProgress) -> Act
-        requires { self.old.pipe.items ≡ [] }
+        requires bytes { self.old.goods ≡ OfBytes }
+        requires empty { self.old.pipe.items ≡ [] }
         ensures { work_at_peek (found_piece self.old) job.old self.old
             ≡ record { act = result; job = job.new; session = self.new } }
     {
+        let Passage::Bytes(pipe) = &mut self.passage else {
+            unreachable!()
+        };
         let mut one = [0u8; 1];
-        match self.pipe.peek_or_seat(self.number, &mut one) {
+        match pipe.peek_or_seat(self.number, &mut one) {
             Peeked::Some(_) => unreachable!(),
             Peeked::Parked => {
                 job.meet(WriteAnswer::Parked);
@@ -304,11 +360,15 @@ impl Session {
 
     // So many bytes, which the writer took, leave the pipe.
     fn consume(&mut self, job: &mut WriteProgress, count: usize) -> Act
-        requires { holds count self.old ≡ true }
+        requires bytes { self.old.goods ≡ OfBytes }
+        requires inside { holds count self.old ≡ true }
         ensures { work_of_consume count job.old self.old
             ≡ record { act = result; job = job.new; session = self.new } }
     {
-        let woke = self.pipe.consume(count).is_some();
+        let Passage::Bytes(pipe) = &mut self.passage else {
+            unreachable!()
+        };
+        let woke = pipe.consume(count).is_some();
         job.meet(WriteAnswer::Consumed { woke });
         Act::Taken(count, HolderWaker::in_seat(woke))
     }
@@ -318,7 +378,7 @@ impl Session {
         ensures { writer_closes job.old self.old
             ≡ record { act = result; job = job.new; session = self.new } }
     {
-        let woke = self.pipe.close_job().is_some();
+        let woke = self.passage.close_job();
         job.meet(WriteAnswer::Closed { woke });
         Act::JobClosed(HolderWaker::in_seat(woke))
     }
@@ -340,12 +400,16 @@ impl Session {
         alloc: Global,
         job: &mut WriteProgress,
     ) -> Result<Option<Act>, AllocError>
-        ensures ok { IfOk result (λ seen. IsWork (writer_works (write_next job.old.core) job.old self.old) job.old self.old seen job.new self.new) }
+        ensures ok { IfOk result (λ seen. IsWork (through OfBytes self.old.goods (writer_works (write_next job.old.core) job.old self.old)) job.old self.old seen
+            job.new self.new) }
         ensures err { OnErr result ((job.new ≡ job.old) × (self.new ≡ self.old)) }
     {
+        if !self.is_of_bytes() {
+            return Ok(None);
+        }
         Ok(match job.next() {
             WriteAction::Peek => Some(self.find_piece(alloc, job)?),
-            WriteAction::Consume(count) if count <= self.pipe.len() => {
+            WriteAction::Consume(count) if count <= self.passage.len() => {
                 Some(self.consume(job, count))
             }
             WriteAction::Close => Some(self.close_writer(job)),
@@ -356,6 +420,70 @@ impl Session {
             | WriteAction::Deliver
             | WriteAction::Done => None,
         })
+    }
+
+    // ---- a job that runs an iterator
+
+    // The job sends the item that its handle gave, and is seated where there is no room.
+    fn send(&mut self, job: &mut ItemProgress) -> Act
+        requires { self.old.goods ≡ OfItems }
+        ensures { work_at_send (found_send self.old) job.old self.old
+            ≡ record { act = result; job = job.new; session = self.new } }
+    {
+        let Passage::Items(pipe) = &mut self.passage else {
+            unreachable!()
+        };
+        match pipe.send(self.number, job.item()) {
+            Sending::Sent(seat) => {
+                let woke = seat.is_some();
+                job.meet(ItemAnswer::Sent { woke });
+                Act::Put(1, HolderWaker::in_seat(woke))
+            }
+            Sending::Parked(_in_hand) => {
+                job.meet(ItemAnswer::Parked);
+                Act::JobParked
+            }
+            Sending::Shut(_in_hand) => {
+                job.meet(ItemAnswer::Shut);
+                Act::Lost(1)
+            }
+        }
+    }
+
+    // The job closes its end of the pipe.
+    fn close_streamer(&mut self, job: &mut ItemProgress) -> Act
+        ensures { streamer_closes job.old self.old
+            ≡ record { act = result; job = job.new; session = self.new } }
+    {
+        let woke = self.passage.close_job();
+        job.meet(ItemAnswer::Closed { woke });
+        Act::JobClosed(HolderWaker::in_seat(woke))
+    }
+
+    // The job puts its result into the slot.
+    fn finish_streamer(&mut self, job: &mut ItemProgress) -> Act
+        ensures { streamer_finishes job.old self.old
+            ≡ record { act = result; job = job.new; session = self.new } }
+    {
+        let woke = self.slot.put(None).wake.is_some();
+        job.meet(ItemAnswer::Finished { woke });
+        Act::Finished(HolderWaker::in_seat(woke))
+    }
+
+    /// A job that runs an iterator takes its next action, where it takes it at its session: what is seen of it.
+    pub(crate) fn stream(&mut self, job: &mut ItemProgress) -> Option<Act>
+        ensures { IsWork (through OfItems self.old.goods (streamer_works (item_next job.old.core) job.old self.old)) job.old self.old result
+            job.new self.new }
+    {
+        if self.is_of_bytes() {
+            return None;
+        }
+        match job.next() {
+            ItemAction::Send => Some(self.send(job)),
+            ItemAction::Close => Some(self.close_streamer(job)),
+            ItemAction::Finish => Some(self.finish_streamer(job)),
+            ItemAction::Next | ItemAction::Deliver | ItemAction::Done => None,
+        }
     }
 
     // ---- either

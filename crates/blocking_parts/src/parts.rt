@@ -196,7 +196,7 @@ impl Parts {
         ensures err { OnErr result (self.new ≡ self.old) }
     {
         self.rows.reserve(1)?;
-        let Ok(pipe) = self.owners[place].pipe(self.alloc) else {
+        let Ok(passage) = self.owners[place].passage(self.alloc) else {
             return Ok(self.refuse(place));
         };
         let added = self.crew.add(Party::Owner(place), starter);
@@ -204,10 +204,13 @@ impl Parts {
         match added.number {
             Ok(number) => {
                 let job = owner.new_job(self.alloc);
-                owner.begin(number, pipe);
+                owner.begin(number, passage);
                 put(&mut self.rows, Row::of_session(number, place, job));
             }
-            Err(why) => owner.refuse(why),
+            Err(why) => {
+                drop(passage);
+                owner.refuse(why);
+            }
         }
         Ok(added.event)
     }

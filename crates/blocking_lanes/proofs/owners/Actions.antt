@@ -7,13 +7,16 @@ use Rattle.blocking_core.specs.Reading.{read_next}
 use Rattle.blocking_core.specs.Writing.{write_next}
 use Rattle.blocking_core.specs.Slots.{Content, Empty, Full, GivenUp, Abandoned}
 use Rattle.blocking_core.specs.declared.io.Fault.{Fault}
+use Rattle.blocking_core.specs.Items.{item_next}
+use Rattle.blocking_core.specs.declared.job.item.ItemAction.{ItemAction}
+use Rattle.blocking_core.specs.declared.job.item.ItemAction.TheVariants as item
 use Rattle.blocking_core.specs.declared.job.read.ReadAction.{ReadAction}
 use Rattle.blocking_core.specs.declared.job.read.ReadAction.TheVariants as read
 use Rattle.blocking_core.specs.declared.job.write.WriteAction.{WriteAction}
 use Rattle.blocking_core.specs.declared.job.write.WriteAction.TheVariants as write
 use Rattle.blocking_core.specs.declared.unblock.OwnerAction.{OwnerAction}
 use Rattle.blocking_core.specs.declared.unblock.OwnerAction.TheVariants as action
-use Rattle.blocking_laws.specs.JobTable.{Kind, Reading, Writing, JobAction, PutPiece, Consume, next_but_wake, is_asking, is_over, fault, has_finished, has_given_up}
+use Rattle.blocking_laws.specs.JobTable.{Kind, Reading, Writing, Streaming, JobAction, PutPiece, Consume, next_but_wake, is_asking, is_over, fault, has_finished, has_given_up}
 use Rattle.blocking_laws.specs.Passed.{got, accepted, kind_in}
 use Rattle.blocking_laws.specs.Seen.{own, acts_of}
 use Rattle.blocking_laws.specs.Sessions.{jobs_of, kind_of_job, under_way, is_poll_over, is_for_closed}
@@ -25,12 +28,15 @@ use Rattle.blocking_laws.specs.declared.event.Reply.{Reply as Told}
 use Rattle.blocking_laws.specs.declared.step.HandleCall.{HandleCall}
 use Rattle.blocking_laws.specs.declared.step.HandleCall.TheVariants as handle_call
 use Rattle.blocking_pool.specs.Lists.{is_in}
-use Rattle.blocking_lanes.specs.Owners.{Owner, rests, may_ask, may_ask_at, next_of, next_at, next_by, next_to_say, did, did_in, fill_did_in, look_did, looked_as, reply_as, reply_did, worked, worked_by, read_as, read_in, write_as, write_in}
-use Rattle.blocking_lanes.specs.OwnerTies.{OwnerAs, LastAs, SlotAs, Flows}
+use Rattle.blocking_lanes.specs.Owners.{Owner, rests, may_ask, may_ask_at, next_of, next_at, next_by, next_to_say, did, did_in, drain_did, fill_did, fill_did_in, look_did, looked_as, reply_as, reply_did, worked, worked_by, read_as, read_in, stream_as, stream_in, write_as, write_in}
+use Rattle.blocking_lanes.specs.OwnerTies.{OwnerAs, LastAs, SlotAs, Flows, state_as}
+use Rattle.blocking_lanes.specs.Passages.{OfBytes, OfItems}
 use Rattle.blocking_lanes.specs.Reads as reads
 use Rattle.blocking_lanes.specs.Reads.{ReadAs}
 use Rattle.blocking_lanes.specs.SessionJobs.{JobAs, kind_of, action_of}
-use Rattle.blocking_lanes.specs.Sessions.{Session, fits_in, holds, work_at_put, found_put, work_of_consume, session_after_look}
+use Rattle.blocking_lanes.specs.Sessions.{Session, drained, filled, fits_in, found_put, goods_of, holds, reach, session_after_look, streamer_works, work_at_put, work_by, work_of_consume, writer_works}
+use Rattle.blocking_lanes.specs.Streams as streams
+use Rattle.blocking_lanes.specs.Streams.{ItemAs}
 use Rattle.blocking_lanes.specs.Writes as writes
 use Rattle.blocking_lanes.specs.Writes.{WriteAs}
 use Rattle.blocking_lanes.specs.declared.job.SessionJob.{SessionJob}
@@ -40,10 +46,12 @@ use Rattle.blocking_lanes.specs.declared.owner.OwnerNext.TheVariants.{Rests, Act
 use Rattle.blocking_lanes.specs.declared.owner.OwnerStage.{OwnerStage}
 use Rattle.blocking_lanes.specs.declared.owner.OwnerStage.TheVariants as stage
 use Rattle.blocking_lanes.proofs.owners.Cuts.{kind_is}
+use Rattle.blocking_lanes.proofs.owners.Goods.{through_here}
 use Rattle.blocking_lanes.proofs.owners.Known.{gone_known, may_ask_known}
 use Rattle.blocking_lanes.proofs.owners.OwnerActs.{owner_by_parts, bound, doing, fits_at}
-use Rattle.blocking_lanes.proofs.owners.States.{gone_is, is_lent, lent, looks_lent, may_be_asked, open_lent}
+use Rattle.blocking_lanes.proofs.owners.States.{gone_is, is_lent, lent, lent_at, looks_lent, may_be_asked, open_lent}
 use Rattle.blocking_lanes.proofs.owners.ReadJobs as read_job
+use Rattle.blocking_lanes.proofs.owners.StreamJobs as stream_job
 use Rattle.blocking_lanes.proofs.owners.WriteJobs as write_job
 use Rattle.blocking_lanes.proofs.owners.Steps.{its_last}
 
@@ -136,17 +144,24 @@ told_some : (told : Option Told) (p : OwnerMachine ℕ) (owner : Owner) → is_s
 told_some None p owner known = absurd (cc)
 told_some (Some told) p owner known = refl
 
+-- what passes through the pipe of a session, by its kind
+goods_at : (last : Option Session) (bytes : Kind → ℕ) (cut : List Event) (k : Kind) → LastAs last bytes cut → kind_in (sessions.last_session (own cut)) ≡ k → (s : Session) → last ≡ Some s
+    → s.goods ≡ goods_of k
+goods_at None bytes cut k l is s e = absurd (cc)
+goods_at (Some r) bytes cut k l is s e = let same : r ≡ s = cc in subst (λ (x : Session). x.goods ≡ goods_of k) same (l.lent.goods ∙ ap goods_of is)
+
 -- who was asked to write something, and has a session, can fill
 fill_some : (p : OwnerMachine ℕ) (asked : Option HandleCall) (last : Option Session) (owner : Owner) (offered : List ℕ) → asked ≡ Some (handle_call.Write offered) → 0 < length offered
-    → is_some last ≡ true → is_some (fill_did_in p asked last owner) ≡ true
-fill_some p (Some (handle_call.Write (byte ∷ more))) (Some s) owner offered asks some there = refl
-fill_some p (Some (handle_call.Write (byte ∷ more))) None owner offered asks some there = absurd (cc)
-fill_some p (Some (handle_call.Write [])) last owner offered asks some there =
+    → is_some last ≡ true → ((s : Session) → last ≡ Some s → s.goods ≡ OfBytes) → is_some (fill_did_in p asked last owner) ≡ true
+fill_some p (Some (handle_call.Write (byte ∷ more))) (Some s) owner offered asks some there goods =
+    ap is_some (through_here OfBytes s.goods (Some (fill_did (byte ∷ more) (filled (length (byte ∷ more)) s) p s owner)) (goods s refl))
+fill_some p (Some (handle_call.Write (byte ∷ more))) None owner offered asks some there goods = absurd (cc)
+fill_some p (Some (handle_call.Write [])) last owner offered asks some there goods =
     let none : [] ≡ offered = cc in
     let count = ap (λ (l : List ℕ). length l) none in
     absurd (omega (arith, count, some))
-fill_some p (Some _) last owner offered asks some there = absurd (cc)
-fill_some p None last owner offered asks some there = absurd (cc)
+fill_some p (Some _) last owner offered asks some there goods = absurd (cc)
+fill_some p None last owner offered asks some there goods = absurd (cc)
 
 some_by : (bytes : ℕ) (asked : Option HandleCall) (p : OwnerMachine ℕ) (cut : List Event) (a : OwnerAction ℕ) (last : Option Session) → OwnerAs (owner_by_parts bytes asked (stage.Polls p) last) cut
     → p.next ≡ a → (n : ℕ) → next_by a last ≡ Acts n → is_some (did_in a p last (owner_by_parts bytes asked (stage.Polls p) last)) ≡ true
@@ -156,9 +171,13 @@ some_by bytes asked p cut (action.Fill most) last t is n e =
     let fits = fits_at bytes asked p cut last (action.Fill most) t is in
     fill_some p asked last (owner_by_parts bytes asked (stage.Polls p) last) fits.0 (sym t.asked ∙ t.stage.0.asked_is ∙ ap Some fits.1) (subst (λ n. 0 < n) fits.2 fits.3)
     (lent last (bound bytes) cut p.state t.last t.stage.0.at_is (ap is_lent fits.4))
+    (goods_at last (bound bytes) cut Writing t.last (lent_at (own cut) Writing true (t.stage.0.at_is ∙ ap state_as fits.4)).0)
 some_by bytes asked p cut action.DropHandle last t is n e = refl
 some_by bytes asked p cut action.Close (Some s) t is n e = refl
-some_by bytes asked p cut (action.Drain most) (Some s) t is n e = refl
+some_by bytes asked p cut (action.Drain most) (Some s) t is n e =
+    let fits = fits_at bytes asked p cut (Some s) (action.Drain most) t is in
+    let kind = (lent_at (own cut) Reading true (t.stage.0.at_is ∙ ap state_as fits.2)).0 in
+    ap is_some (through_here OfBytes s.goods (Some (drain_did (drained (reach most s) s) p s (owner_by_parts bytes asked (stage.Polls p) (Some s)))) (t.last.lent.goods ∙ ap goods_of kind))
 some_by bytes asked p cut action.PollSlot (Some s) t is n e =
     let works = acts_of s.number.serial cut in
     look_some s.slot.content (has_finished works) (has_given_up works) (is_none (sessions.session (own cut))) (fault (kind_in (sessions.last_session (own cut))) works) p
@@ -197,6 +216,7 @@ acts_some owner cut t n e = some_at owner.capacity owner.asked owner.stage owner
 record Meets (last : Option Session) (kind : Kind) (a : JobAction) (cut : List Event) : Type 0 where
   pub session : Session
   pub here : last ≡ Some session
+  pub goods : session.goods ≡ goods_of kind
   pub flow : Flows kind session (sessions.is_shut (own cut)) (got (own cut)) (accepted (own cut)) a (acts_of session.number.serial cut)
 
 meets : (owner : Owner) (cut : List Event) (n : ℕ) (kind : Kind) (a : JobAction) → OwnerAs owner cut → kind_of_job n (own cut) ≡ kind → is_in n (jobs_of (own cut)) ≡ true
@@ -211,6 +231,7 @@ meets owner cut n kind a t of among table goes =
     record {
       session = s;
       here = l.here;
+      goods = last.lent.goods ∙ ap goods_of same;
       flow = subst (λ b. Flows kind s (sessions.is_shut (own cut)) (got (own cut)) (accepted (own cut)) b works) next
           (subst (λ k. Flows k s (sessions.is_shut (own cut)) (got (own cut)) (accepted (own cut)) (next_but_wake k works) works) same last.flow);
     }
@@ -230,11 +251,12 @@ read_some owner cut n p t of r among asks over = by_next (read_next p.core) refl
   where
     at_last : (a : ReadAction) → read_next p.core ≡ a → (a ≡ read.Deliver → ⊥) → is_over (reads.action_as p.piece a) ≡ false
         → ((s : Session) → Flows Reading s (sessions.is_shut (own cut)) (got (own cut)) (accepted (own cut)) (reads.action_as p.piece a) (acts_of s.number.serial cut)
-        → is_some (read_in a (Some s) p owner) ≡ true)
+        → is_some (worked_by of_job.Read (work_by a p s) owner) ≡ true)
         → is_some (read_in a owner.session p owner) ≡ true
     at_last a is other goes here =
         let m = meets owner cut n Reading (reads.action_as p.piece a) t of among (sym r.next ∙ ap (reads.action_as p.piece) (read_job.awake p a is other).next_is) goes in
-        subst (λ o. is_some (read_in a o p owner) ≡ true) (sym m.here) (here m.session m.flow)
+        subst (λ o. is_some (read_in a o p owner) ≡ true) (sym m.here)
+        (ap (λ w. is_some (worked_by of_job.Read w owner)) (through_here OfBytes m.session.goods (work_by a p m.session) m.goods) ∙ here m.session m.flow)
 
     by_next : (a : ReadAction) → read_next p.core ≡ a → is_asking (reads.action_as p.piece (read_next p.core)) ≡ false → is_over (reads.action_as p.piece (read_next p.core)) ≡ false
         → is_some (read_as (read_next p.core) p owner) ≡ true
@@ -260,11 +282,12 @@ write_some owner cut n p t of r among asks over = by_next (write_next p.core) re
   where
     at_last : (a : WriteAction) → write_next p.core ≡ a → (a ≡ write.Deliver → ⊥) → is_over (writes.action_as p.piece a) ≡ false
         → ((s : Session) → Flows Writing s (sessions.is_shut (own cut)) (got (own cut)) (accepted (own cut)) (writes.action_as p.piece a) (acts_of s.number.serial cut)
-        → is_some (write_in a (Some s) p owner) ≡ true)
+        → is_some (worked_by of_job.Write (writer_works a p s) owner) ≡ true)
         → is_some (write_in a owner.session p owner) ≡ true
     at_last a is other goes here =
         let m = meets owner cut n Writing (writes.action_as p.piece a) t of among (sym r.next ∙ ap (writes.action_as p.piece) (write_job.awake p a is other).next_is) goes in
-        subst (λ o. is_some (write_in a o p owner) ≡ true) (sym m.here) (here m.session m.flow)
+        subst (λ o. is_some (write_in a o p owner) ≡ true) (sym m.here)
+        (ap (λ w. is_some (worked_by of_job.Write w owner)) (through_here OfBytes m.session.goods (writer_works a p m.session) m.goods) ∙ here m.session m.flow)
 
     by_next : (a : WriteAction) → write_next p.core ≡ a → is_asking (writes.action_as p.piece (write_next p.core)) ≡ false → is_over (writes.action_as p.piece (write_next p.core)) ≡ false
         → is_some (write_as (write_next p.core) p owner) ≡ true
@@ -284,8 +307,34 @@ write_some owner cut n p t of r among asks over = by_next (write_next p.core) re
         by_case write.Flush is asks over = absurd (cc)
         by_case write.Done is asks over = absurd (cc)
 
+-- and one that runs an iterator
+stream_some : (owner : Owner) (cut : List Event) (n : ℕ) (p : streams.Progress) → OwnerAs owner cut → kind_of_job n (own cut) ≡ Streaming → ItemAs p (acts_of n cut) → is_in n (jobs_of (own cut)) ≡ true
+    → is_asking (streams.action_of p) ≡ false → is_over (streams.action_of p) ≡ false → is_some (worked (of_job.Items p) owner) ≡ true
+stream_some owner cut n p t of r among asks over = by_next (item_next p.core) refl asks over
+  where
+    at_last : (a : ItemAction) → item_next p.core ≡ a → (a ≡ item.Deliver → ⊥) → is_over (streams.action_as p.item a) ≡ false
+        → ((s : Session) → is_some (worked_by of_job.Items (streamer_works a p s) owner) ≡ true) → is_some (stream_in a owner.session p owner) ≡ true
+    at_last a is other goes here =
+        let m = meets owner cut n Streaming (streams.action_as p.item a) t of among (sym r.next ∙ ap (streams.action_as p.item) (stream_job.awake p a is other).next_is) goes in
+        subst (λ o. is_some (stream_in a o p owner) ≡ true) (sym m.here)
+        (ap (λ w. is_some (worked_by of_job.Items w owner)) (through_here OfItems m.session.goods (streamer_works a p m.session) m.goods) ∙ here m.session)
+
+    by_next : (a : ItemAction) → item_next p.core ≡ a → is_asking (streams.action_as p.item (item_next p.core)) ≡ false → is_over (streams.action_as p.item (item_next p.core)) ≡ false
+        → is_some (stream_as (item_next p.core) p owner) ≡ true
+    by_next a is asks over = subst (λ b. is_some (stream_as b p owner) ≡ true) (sym is)
+        (by_case a is (ap (λ b. is_asking (streams.action_as p.item b)) (sym is) ∙ asks) (ap (λ b. is_over (streams.action_as p.item b)) (sym is) ∙ over))
+      where
+        by_case : (a : ItemAction) → item_next p.core ≡ a → is_asking (streams.action_as p.item a) ≡ false → is_over (streams.action_as p.item a) ≡ false → is_some (stream_as a p owner) ≡ true
+        by_case item.Deliver is asks over = refl
+        by_case item.Send is asks over = at_last item.Send is (λ e. cc) refl (λ s. refl)
+        by_case item.Close is asks over = at_last item.Close is (λ e. cc) refl (λ s. refl)
+        by_case item.Finish is asks over = at_last item.Finish is (λ e. cc) refl (λ s. refl)
+        by_case item.Next is asks over = absurd (cc)
+        by_case item.Done is asks over = absurd (cc)
+
 -- a job whose next action is its own can take it
 pub works_some : (owner : Owner) (cut : List Event) (n : ℕ) (p : SessionJob) → OwnerAs owner cut → kind_of_job n (own cut) ≡ kind_of p → JobAs p (acts_of n cut)
     → is_in n (jobs_of (own cut)) ≡ true → is_asking (action_of p) ≡ false → is_over (action_of p) ≡ false → is_some (worked p owner) ≡ true
 works_some owner cut n (of_job.Read p) t of r among asks over = read_some owner cut n p t of r among asks over
 works_some owner cut n (of_job.Write p) t of r among asks over = write_some owner cut n p t of r among asks over
+works_some owner cut n (of_job.Items p) t of r among asks over = stream_some owner cut n p t of r among asks over

@@ -5,13 +5,13 @@ use Rattle.std.proofs.lemmas.Bool.{eq-eqb}
 use Rattle.std.proofs.Math.Seq.{drop-append_seam}
 use Rattle.blocking_core.specs.Places.{Met, Served, Waiting, Closed, drain}
 use Rattle.blocking_core.specs.Pipes.{room}
-use Rattle.blocking_laws.specs.JobTable.{Kind, Reading, Writing, JobAction, next_but_wake, fault, number, has_closed}
+use Rattle.blocking_laws.specs.JobTable.{Kind, Reading, Writing, Streaming, JobAction, next_but_wake, fault, number, has_closed}
 use Rattle.blocking_laws.specs.OwnerSeats.{note_of, noted, is_job_seated}
 use Rattle.blocking_laws.specs.OwnerTable.{owner_next_but_wake, next_of_owner, next_of_owner_by, deliver_first, at_back, after_back, is_at_end}
 use Rattle.blocking_laws.specs.Passed.{inside, inside_by, last_job, last_kind, kind_in, in_hand, room_in, gave, got, accepted, taken, is_of_session, PassesOn}
 use Rattle.blocking_laws.specs.Places.{seen_drain}
 use Rattle.blocking_laws.specs.Seen.{IsBeginning, own, acts_of, is_of_pool, is_nothing, is_some_worker}
-use Rattle.blocking_laws.specs.Sessions.{call, last_session, is_shut, capacity, default_capacity, kind_of_job}
+use Rattle.blocking_laws.specs.Sessions.{call, last_session, is_shut, capacity, kind_of_job}
 use Rattle.blocking_laws.specs.Sessions as sessions
 use Rattle.blocking_laws.specs.declared.event.Act.{Act}
 use Rattle.blocking_laws.specs.declared.event.Act.TheVariants.{Accepted, Got, GotEnd, Waits, JobWoken, Back}
@@ -20,7 +20,6 @@ use Rattle.blocking_laws.specs.declared.step.HandleCall.{HandleCall}
 use Rattle.blocking_lanes.specs.OwnerTies.{LastAs, Flows, newest_note, seat_of}
 use Rattle.blocking_lanes.specs.Sessions.{Session, serial_of}
 use Rattle.blocking_pool.specs.Jobs.{JobNumber}
-use Rattle.blocking_lanes.proofs.owners.Known.{same_capacity}
 
 -- ---- the last session
 
@@ -46,36 +45,35 @@ not_not a false e = ap not e
 module _ (s : Session) (shut : Bool) (next : JobAction) (owner acts : List Act) where
   inside_at : (kind : Kind) → Flows kind s shut (got owner) (accepted owner) next acts → inside_by kind owner acts ≡ s.pipe.items
   inside_at Reading t = ap (λ l. drop (length (got owner)) l) t.inside ∙ drop-append_seam (got owner) s.pipe.items
+  inside_at Streaming t = ap (λ l. drop (length (got owner)) l) t.inside ∙ drop-append_seam (got owner) s.pipe.items
   inside_at Writing t = ap (λ n. drop n (accepted owner)) t.removed ∙ ap (λ l. drop (length t.out) l) t.inside ∙ drop-append_seam t.out s.pipe.items
   inside_at _ t = absurd t
 
   closed_at : (kind : Kind) → Flows kind s shut (got owner) (accepted owner) next acts → has_closed acts ≡ not s.pipe.is_job_open
   closed_at Reading t = t.closed_is
+  closed_at Streaming t = t.closed_is
   closed_at Writing t = t.closed_is
   closed_at _ t = absurd t
 
   read_at : (kind : Kind) → Flows kind s shut (got owner) (accepted owner) next acts → IsBeginning (got owner) (gave acts)
   read_at Reading t = (s.pipe.items ++ t.put.0, t.put.1 ∙ ap (λ l. l ++ t.put.0) t.inside ∙ append_assoc (got owner) s.pipe.items t.put.0)
+  read_at Streaming t = (s.pipe.items ++ t.put.0, t.put.1 ∙ ap (λ l. l ++ t.put.0) t.inside ∙ append_assoc (got owner) s.pipe.items t.put.0)
   read_at Writing t = (gave acts, ap (λ l. l ++ gave acts) (sym t.ungot))
   read_at _ t = absurd t
 
   written_at : (kind : Kind) → Flows kind s shut (got owner) (accepted owner) next acts → IsBeginning (taken acts) (accepted owner)
   written_at Reading t = (accepted owner, ap (λ l. l ++ accepted owner) (sym t.unwritten))
+  written_at Streaming t = (accepted owner, ap (λ l. l ++ accepted owner) (sym t.unwritten))
   written_at Writing t = t.begun
   written_at _ t = absurd t
 
-  bounded_at : (kind : Kind) → Flows kind s shut (got owner) (accepted owner) next acts → length (gave acts) ≤ length (got owner) + s.pipe.capacity
+  bounded_at : (kind : Kind) → Flows kind s shut (got owner) (accepted owner) next acts → length (gave acts) ≤ length (got owner) + s.pipe.capacity + in_hand kind
   bounded_at Reading t = t.bounded
-  bounded_at Writing t = subst (λ l. length l ≤ length (got owner) + s.pipe.capacity) (sym t.ungiven) (omega arith)
+  bounded_at Streaming t = t.bounded
+  bounded_at Writing t = subst (λ l. length l ≤ length (got owner) + s.pipe.capacity + 0) (sym t.ungiven) (omega arith)
   bounded_at _ t = absurd t
 
-  -- its pipe holds bytes
-  bytes_at : (kind : Kind) → Flows kind s shut (got owner) (accepted owner) next acts → default_capacity kind ≡ default_capacity Reading
-  bytes_at Reading t = refl
-  bytes_at Writing t = refl
-  bytes_at _ t = absurd t
-
-module _ (s : Session) (bytes : ℕ) (cut : List Event) (t : LastAs (Some s) bytes cut) where
+module _ (s : Session) (bytes : Kind → ℕ) (cut : List Event) (t : LastAs (Some s) bytes cut) where
   -- the kind of the session
   abbrev pub its_kind : Kind
   its_kind = kind_in (last_session (own cut))
@@ -96,12 +94,8 @@ module _ (s : Session) (bytes : ℕ) (cut : List Event) (t : LastAs (Some s) byt
   pub inside_is : inside cut ≡ s.pipe.items
   inside_is = ap (λ l. inside_by its_kind (own cut) l) its_job ∙ inside_at s (is_shut (own cut)) next (own cut) acts its_kind t.flow
 
-  -- how much the pipe holds
-  pub capacity_is : capacity Reading (own cut) ≡ bytes → capacity (last_kind cut) (own cut) ≡ bytes
-  capacity_is same = same_capacity its_kind (own cut) (bytes_at s (is_shut (own cut)) next (own cut) acts its_kind t.flow) ∙ same
-
-  pub room_is : capacity Reading (own cut) ≡ bytes → room_in cut ≡ room s.pipe
-  room_is same = ap (λ (l : List ℕ). capacity its_kind (own cut) - length l) inside_is ∙ ap (λ n. n - length s.pipe.items) (capacity_is same ∙ sym t.lent.holds)
+  pub room_is : ((kind : Kind) → capacity kind (own cut) ≡ bytes kind) → room_in cut ≡ room s.pipe
+  room_is same = ap (λ (l : List ℕ). capacity its_kind (own cut) - length l) inside_is ∙ ap (λ n. n - length s.pipe.items) (same its_kind ∙ sym t.lent.holds)
 
   -- which ends are open
   pub closed_is : has_closed acts ≡ not s.pipe.is_job_open
@@ -137,7 +131,7 @@ of_none (e ∷ seen) = no_more (is_of_session None e) e (filter (is_of_session N
     out false false false = refl
 
 -- what passed is what the tie says
-pub passes : (last : Option Session) (bytes : ℕ) (cut : List Event) → capacity Reading (own cut) ≡ bytes → LastAs last bytes cut → PassesOn cut
+pub passes : (last : Option Session) (bytes : Kind → ℕ) (cut : List Event) → ((kind : Kind) → capacity kind (own cut) ≡ bytes kind) → LastAs last bytes cut → PassesOn cut
 passes None bytes cut same t = record {
   read = (gave (last_job cut), ap (λ l. gave (last_job cut)) t.0 ∙ ap (λ l. l ++ gave (last_job cut)) (sym t.1));
   written = (accepted (own cut), ap (λ l. l ++ accepted (own cut)) (sym (ap (λ r. taken (map (λ e. e.act) (filter (is_of_session r) cut))) t.0 ∙ ap (λ l. taken (map (λ e. e.act) l)) (of_none cut))));
@@ -154,7 +148,7 @@ passes (Some s) bytes cut same t =
     let next = next_but_wake kind acts in
     let job = its_job s bytes cut t in
     let bounded = bounded_at s shut next (own cut) acts kind t.flow in
-    let whole = capacity_is s bytes cut t same in
+    let whole = same (kind_in (last_session (own cut))) in
     record {
       read = subst (λ l. IsBeginning (got (own cut)) (gave l)) (sym job) (read_at s shut next (own cut) acts kind t.flow);
       written = subst (λ l. IsBeginning (taken l) (accepted (own cut))) (sym job) (written_at s shut next (own cut) acts kind t.flow);

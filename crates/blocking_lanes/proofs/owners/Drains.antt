@@ -6,11 +6,11 @@ use Rattle.blocking_core.specs.Pipes.{room}
 use Rattle.blocking_core.specs.Places.{Served, Waiting, Closed, drain}
 use Rattle.blocking_core.specs.Slots.{Slot, Empty, Full}
 use Rattle.blocking_core.specs.declared.io.Fault.{Fault}
-use Rattle.blocking_laws.specs.JobTable.{Kind, Reading, Writing, JobAction, FindRoom, AskBytes, PutPiece, Peek, OfferBytes, Consume, AskFlush, CloseEnd, Finish, Over, next_but_wake, fault, has_finished, has_given_up}
+use Rattle.blocking_laws.specs.JobTable.{Kind, Reading, Writing, Streaming, JobAction, FindRoom, AskBytes, PutPiece, Peek, OfferBytes, Consume, AskFlush, AskItem, SendItem, CloseEnd, Finish, Over, next_but_wake, fault, has_finished, has_given_up}
 use Rattle.blocking_laws.specs.Sessions as sessions
 use Rattle.blocking_laws.specs.declared.event.Act.{Act}
 use Rattle.blocking_lanes.specs.OwnerTies.{SessionAs, SlotAs, Flows, IsStuckIn, IsOwnerStuckIn, Passed, passed_by, PassedAs, Wrote, wrote_by, WrittenAs, IsDrained, IsDone}
-use Rattle.blocking_lanes.specs.Sessions.{Session, new_session, session_after_close, session_after_drain, session_after_look}
+use Rattle.blocking_lanes.specs.Sessions.{Session, goods_of, new_session, session_after_close, session_after_drain, session_after_look}
 use Rattle.blocking_pool.specs.Jobs.{JobNumber}
 
 -- ---- what a drain finds
@@ -51,6 +51,8 @@ more_room : (next : JobAction) (old new : ℕ) (lasts stopped : Bool) (g : Passe
 more_room FindRoom old new lasts stopped g more p = p
 more_room (AskBytes most) old new lasts stopped g more p = let fits = p.2 in (p.0, p.1, omega (arith, fits, more))
 more_room (PutPiece bytes) old new lasts stopped g more p = let fits = p.2 in (p.0, p.1, omega (arith, fits, more), p.3)
+more_room AskItem old new lasts stopped g more p = p
+more_room (SendItem x) old new lasts stopped g more p = p
 more_room CloseEnd old new lasts stopped g more p = p
 more_room Finish old new lasts stopped g more p = p
 more_room Over old new lasts stopped g more p = p
@@ -61,6 +63,8 @@ stops : (next : JobAction) (room : ℕ) (lasts stopped : Bool) (g : Passed) → 
 stops FindRoom room lasts stopped g p = p
 stops (AskBytes most) room lasts stopped g p = p
 stops (PutPiece bytes) room lasts stopped g p = p
+stops AskItem room lasts stopped g p = p
+stops (SendItem x) room lasts stopped g p = p
 stops CloseEnd room lasts stopped g p = (p.0, tt)
 stops Finish room lasts stopped g p = (p.0, tt)
 stops Over room lasts stopped g p = tt
@@ -97,6 +101,15 @@ shut_flow s Reading shut took accepted next acts t = record {
   unwritten = t.unwritten;
   unclosed = t.unclosed;
 }
+shut_flow s Streaming shut took accepted next acts t = record {
+  closed_is = t.closed_is;
+  inside = t.inside;
+  put = t.put;
+  bounded = t.bounded;
+  passed_is = stops next (room s.pipe) s.pipe.is_job_open (shut || has_given_up acts) (passed_by acts) t.passed_is;
+  unwritten = t.unwritten;
+  unclosed = t.unclosed;
+}
 shut_flow s Writing shut took accepted next acts t = record {
   closed_is = t.closed_is;
   out = t.out;
@@ -115,6 +128,15 @@ shut_flow s _ shut took accepted next acts t = absurd t
 pub same_flow : (s : Session) (slot : Slot (Option (Fault ℕ)) (Unit {0})) (kind : Kind) (shut : Bool) (took accepted : List ℕ) (next : JobAction) (acts : List Act)
     → Flows kind s shut took accepted next acts → Flows kind (record s { slot = slot }) shut took accepted next acts
 same_flow s slot Reading shut took accepted next acts t = record {
+  closed_is = t.closed_is;
+  inside = t.inside;
+  put = t.put;
+  bounded = t.bounded;
+  passed_is = t.passed_is;
+  unwritten = t.unwritten;
+  unclosed = t.unclosed;
+}
+same_flow s slot Streaming shut took accepted next acts t = record {
   closed_is = t.closed_is;
   inside = t.inside;
   put = t.put;
@@ -161,7 +183,7 @@ module _ (s : Session) (kind : Kind) (capacity : ℕ) (last : Option sessions.Se
   pub shuts : SessionAs s kind capacity last shut back dropped took accepted acts js ps ss
       → SessionAs (session_after_close s) kind capacity last true back dropped took accepted acts false ps ss
   shuts t = record {
-    lent = record { begun = t.lent.begun; some = t.lent.some; holds = t.lent.holds; within = t.lent.within; shut_is = refl };
+    lent = record { begun = t.lent.begun; goods = t.lent.goods; some = t.lent.some; holds = t.lent.holds; within = t.lent.within; shut_is = refl };
     flow = shut_flow s kind shut took accepted (next_but_wake kind acts) acts t.flow;
     result = t.result;
     seats = record {
@@ -183,7 +205,7 @@ module _ (s : Session) (kind : Kind) (capacity : ℕ) (last : Option sessions.Se
       let slot = subst (λ c. SlotAs c (has_finished acts) (has_given_up acts) back (fault kind acts)) found t.result.slot in
       let emptied : Slot (Option (Fault ℕ)) (Unit {0}) = record s.slot { content = Empty } in
       record {
-        lent = record { begun = t.lent.begun; some = t.lent.some; holds = t.lent.holds; within = t.lent.within; shut_is = t.lent.shut_is };
+        lent = record { begun = t.lent.begun; goods = t.lent.goods; some = t.lent.some; holds = t.lent.holds; within = t.lent.within; shut_is = t.lent.shut_is };
         flow = same_flow s emptied kind shut took accepted (next_but_wake kind acts) acts t.flow;
         result = record { slot = (slot.0, slot.1); over_is = t.result.over_is; let_go = t.result.let_go };
         seats = record {
@@ -205,7 +227,7 @@ module _ (s : Session) (kind : Kind) (capacity : ℕ) (last : Option sessions.Se
   waits_for_it found closed t =
       let sat : Slot (Option (Fault ℕ)) (Unit {0}) = record s.slot { seat = Some tt } in
       record {
-        lent = record { begun = t.lent.begun; some = t.lent.some; holds = t.lent.holds; within = t.lent.within; shut_is = t.lent.shut_is };
+        lent = record { begun = t.lent.begun; goods = t.lent.goods; some = t.lent.some; holds = t.lent.holds; within = t.lent.within; shut_is = t.lent.shut_is };
         flow = same_flow s sat kind shut took accepted (next_but_wake kind acts) acts t.flow;
         result = t.result;
         seats = record {
@@ -233,7 +255,7 @@ module _ (s : Session) (capacity : ℕ) (last : Option sessions.Session) (shut b
       let bounded = t.flow.bounded in
       let shorter : length (drop (length got.0) s.pipe.items) ≤ length s.pipe.items = simp length-drop (omega arith) in
       record {
-        lent = record { begun = t.lent.begun; some = t.lent.some; holds = t.lent.holds; within = omega (arith, shorter, within); shut_is = t.lent.shut_is };
+        lent = record { begun = t.lent.begun; goods = t.lent.goods; some = t.lent.some; holds = t.lent.holds; within = omega (arith, shorter, within); shut_is = t.lent.shut_is };
         flow = record {
           closed_is = t.flow.closed_is;
           inside = t.flow.inside ∙ ap (λ l. took ++ l) (sym (rejoined n s.pipe.items got.0 f.0)) ∙ sym (append_assoc took got.0 (drop (length got.0) s.pipe.items));
@@ -267,7 +289,7 @@ module _ (s : Session) (capacity : ℕ) (last : Option sessions.Session) (shut b
   pub waits : (n : ℕ) → drain n s.pipe.items s.pipe.is_job_open s.pipe.job_seat ≡ Waiting
       → SessionAs s Reading capacity last shut back dropped took accepted acts js ps ss → SessionAs (session_after_drain Waiting s) Reading capacity last shut back dropped took accepted acts js true ss
   waits n found t = record {
-    lent = record { begun = t.lent.begun; some = t.lent.some; holds = t.lent.holds; within = t.lent.within; shut_is = t.lent.shut_is };
+    lent = record { begun = t.lent.begun; goods = t.lent.goods; some = t.lent.some; holds = t.lent.holds; within = t.lent.within; shut_is = t.lent.shut_is };
     flow = record { closed_is = t.flow.closed_is; inside = t.flow.inside; put = t.flow.put; bounded = t.flow.bounded; passed_is = t.flow.passed_is; unclosed = t.flow.unclosed; unwritten = t.flow.unwritten };
     result = t.result;
     seats = record {
@@ -284,22 +306,35 @@ module _ (s : Session) (capacity : ℕ) (last : Option sessions.Session) (shut b
 
 -- ---- a session that begins
 
--- jobs that are lent a handle
+-- jobs that are lent a handle, with a pipe
 abbrev pub IsLending : Kind → Type 0
 IsLending Reading = Unit {0}
+IsLending Streaming = Unit {0}
 IsLending Writing = Unit {0}
 IsLending _ = ⊥
 
 -- what goes through a session's pipe tells that it is such a one
 pub lends : (s : Session) (shut : Bool) (got accepted : List ℕ) (next : JobAction) (acts : List Act) (kind : Kind) → Flows kind s shut got accepted next acts → IsLending kind
 lends s shut got accepted next acts Reading flow = tt
+lends s shut got accepted next acts Streaming flow = tt
 lends s shut got accepted next acts Writing flow = tt
 lends s shut got accepted next acts _ flow = absurd flow
 
 pub begins : (number : JobNumber) (kind : Kind) (capacity : ℕ) (dropped : Bool) → IsLending kind → 0 < capacity
-    → SessionAs (new_session number capacity) kind capacity (Some (record { serial = number.serial; kind = kind })) false false dropped [] [] [] false false false
+    → SessionAs (new_session number (goods_of kind) capacity) kind capacity (Some (record { serial = number.serial; kind = kind })) false false dropped [] [] [] false false false
 begins number Reading capacity dropped lending some = record {
-  lent = record { begun = refl; some = some; holds = refl; within = omega arith; shut_is = refl };
+  lent = record { begun = refl; goods = refl; some = some; holds = refl; within = omega arith; shut_is = refl };
+  flow = record { closed_is = refl; inside = refl; put = ([], refl); bounded = omega arith; passed_is = (refl, (refl, refl)); unclosed = λ is. absurd (cc); unwritten = refl };
+  result = record { slot = (refl, refl); over_is = refl; let_go = λ is. absurd (cc) };
+  seats = record {
+    job = refl;
+    owner = refl;
+    slot = refl;
+    reason = record { job = λ seated. absurd (cc); owner = λ seated. absurd (cc); slot = λ seated. absurd (cc) };
+  };
+}
+begins number Streaming capacity dropped lending some = record {
+  lent = record { begun = refl; goods = refl; some = some; holds = refl; within = omega arith; shut_is = refl };
   flow = record { closed_is = refl; inside = refl; put = ([], refl); bounded = omega arith; passed_is = (refl, (refl, refl)); unclosed = λ is. absurd (cc); unwritten = refl };
   result = record { slot = (refl, refl); over_is = refl; let_go = λ is. absurd (cc) };
   seats = record {
@@ -310,7 +345,7 @@ begins number Reading capacity dropped lending some = record {
   };
 }
 begins number Writing capacity dropped lending some = record {
-  lent = record { begun = refl; some = some; holds = refl; within = omega arith; shut_is = refl };
+  lent = record { begun = refl; goods = refl; some = some; holds = refl; within = omega arith; shut_is = refl };
   flow = record {
     closed_is = refl;
     out = [];

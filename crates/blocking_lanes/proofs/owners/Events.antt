@@ -5,6 +5,9 @@ use Rattle.blocking_core.specs.Places.{Met, Served, Waiting, Closed}
 use Rattle.blocking_core.specs.Reading.{read_next}
 use Rattle.blocking_core.specs.Slots.{Content, Empty, Full, GivenUp, Abandoned}
 use Rattle.blocking_core.specs.declared.io.Fault.{Fault}
+use Rattle.blocking_core.specs.Items.{item_next}
+use Rattle.blocking_core.specs.declared.job.item.ItemAction.{ItemAction}
+use Rattle.blocking_core.specs.declared.job.item.ItemAction.TheVariants as item
 use Rattle.blocking_core.specs.declared.job.read.ReadAction.{ReadAction}
 use Rattle.blocking_core.specs.declared.job.read.ReadAction.TheVariants as read
 use Rattle.blocking_core.specs.declared.job.write.WriteAction.{WriteAction}
@@ -21,15 +24,18 @@ use Rattle.blocking_laws.specs.declared.event.Reply.{Reply as Told}
 use Rattle.blocking_laws.specs.declared.step.HandleCall.{HandleCall}
 use Rattle.blocking_laws.specs.declared.step.HandleCall.TheVariants as handle_call
 use Rattle.blocking_pool.specs.Jobs.{JobNumber}
-use Rattle.blocking_lanes.specs.Owners.{Owner, Did, Worked, note_at, drain_did, fill_did, fill_did_in, look_did, looked_as, reply_as, reply_did, did_in, did_by, did, worked_by, read_in, read_as, write_in, write_as, worked}
+use Rattle.blocking_lanes.specs.Owners.{Owner, Did, Worked, note_at, drain_did, fill_did, fill_did_in, look_did, looked_as, reply_as, reply_did, did_in, did_by, did, worked_by, read_in, read_as, stream_in, stream_as, write_in, write_as, worked}
 use Rattle.blocking_lanes.specs.OwnerSteps.{OwnerStep, IsAsked, Acts, Begins, IsRefused, Delivers, IsDropped, Works, IsAnswered, GivesUp, CallsWaker, act_of, act_in, act_of_work, delivered}
+use Rattle.blocking_lanes.specs.Passages.{OfBytes, OfItems, through}
 use Rattle.blocking_lanes.specs.Reads as reads
+use Rattle.blocking_lanes.specs.Streams as streams
 use Rattle.blocking_lanes.specs.Writes as writes
-use Rattle.blocking_lanes.specs.Sessions.{Session, Work, work_by, work_at_put, writer_works, work_of_consume, holds, fits_in, found_room, found_put, found_piece, drained, filled, reach, session_after_look}
+use Rattle.blocking_lanes.specs.Sessions.{Session, Work, found_send, streamer_works, work_by, work_at_put, writer_works, work_of_consume, holds, fits_in, found_room, found_put, found_piece, drained, filled, reach, session_after_look}
 use Rattle.blocking_lanes.specs.declared.job.SessionJob.{SessionJob}
 use Rattle.blocking_lanes.specs.declared.job.SessionJob.TheVariants as of_job
 use Rattle.blocking_lanes.specs.declared.owner.OwnerStage.{OwnerStage}
 use Rattle.blocking_lanes.specs.declared.owner.OwnerStage.TheVariants as stage
+use Rattle.blocking_lanes.proofs.owners.Goods.{through_some}
 use Rattle.blocking_lanes.proofs.owners.OwnerActs.{value_of}
 
 -- Such an act is seen, and accepts these jobs.
@@ -60,7 +66,7 @@ plain_fill bytes Closed p s owner = record { pool = refl; nothing = refl; made =
 
 plain_fills : (p : OwnerMachine ℕ) (asked : Option HandleCall) (last : Option Session) (owner : Owner) (done : Did) → fill_did_in p asked last owner ≡ Some done → IsPlain [] done.act
 plain_fills p (Some (handle_call.Write (byte ∷ bytes))) (Some s) owner done e =
-    moved (λ (d : Did). IsPlain [] d.act) _ done e (plain_fill (byte ∷ bytes) (filled (length (byte ∷ bytes)) s) p s owner)
+    moved (λ (d : Did). IsPlain [] d.act) _ done (through_some OfBytes s.goods _ done e).1 (plain_fill (byte ∷ bytes) (filled (length (byte ∷ bytes)) s) p s owner)
 plain_fills p (Some (handle_call.Write (byte ∷ bytes))) None owner done e = absurd (cc)
 plain_fills p (Some (handle_call.Write [])) last owner done e = absurd (cc)
 plain_fills p (Some _) last owner done e = absurd (cc)
@@ -82,7 +88,7 @@ plain_did (action.Reply r) p last owner done e = by_told (reply_as r) e
 plain_did (action.Fill most) p last owner done e = plain_fills p owner.asked last owner done e
 plain_did action.DropHandle p last owner done e = moved (λ (d : Did). IsPlain [] d.act) _ done e (record { pool = refl; nothing = refl; made = refl; new = refl })
 plain_did action.Close p (Some s) owner done e = moved (λ (d : Did). IsPlain [] d.act) _ done e (record { pool = refl; nothing = refl; made = refl; new = refl })
-plain_did (action.Drain most) p (Some s) owner done e = moved (λ (d : Did). IsPlain [] d.act) _ done e (plain_drain (drained (reach most s) s) p s owner)
+plain_did (action.Drain most) p (Some s) owner done e = moved (λ (d : Did). IsPlain [] d.act) _ done (through_some OfBytes s.goods _ done e).1 (plain_drain (drained (reach most s) s) p s owner)
 plain_did action.PollSlot p (Some s) owner done e = plain_look s.slot.content p (session_after_look s.slot.content s) owner done e
 plain_did _ p None owner done e = absurd (cc)
 plain_did _ p (Some s) owner done e = absurd (cc)
@@ -129,6 +135,14 @@ plain_writer write.Flush p s work e = absurd (cc)
 plain_writer write.Deliver p s work e = absurd (cc)
 plain_writer write.Done p s work e = absurd (cc)
 
+plain_streamer : (a : ItemAction) (p : streams.Progress) (s : Session) (work : Work streams.Progress) → streamer_works a p s ≡ Some work → IsPlain [] work.act
+plain_streamer item.Send p s work e = moved (λ (w : Work streams.Progress). IsPlain [] w.act) _ work e (plain_put 1 (found_send s))
+plain_streamer item.Close p s work e = moved (λ (w : Work streams.Progress). IsPlain [] w.act) _ work e (record { pool = refl; nothing = refl; made = refl; new = refl })
+plain_streamer item.Finish p s work e = moved (λ (w : Work streams.Progress). IsPlain [] w.act) _ work e (record { pool = refl; nothing = refl; made = refl; new = refl })
+plain_streamer item.Next p s work e = absurd (cc)
+plain_streamer item.Deliver p s work e = absurd (cc)
+plain_streamer item.Done p s work e = absurd (cc)
+
 -- what a job does at its session
 plain_by : {J : Type 0} (job_of : J → SessionJob) (o : Option (Work J)) (owner : Owner) (done : Worked) → ((work : Work J) → o ≡ Some work → IsPlain [] work.act)
     → worked_by job_of o owner ≡ Some done → IsPlain [] done.act
@@ -137,7 +151,7 @@ plain_by job_of (Some work) owner done plain e = moved (λ (d : Worked). IsPlain
 
 plain_in : (a : ReadAction) (last : Option Session) (p : reads.Progress) (owner : Owner) (done : Worked) → read_in a last p owner ≡ Some done → IsPlain [] done.act
 plain_in a None p owner done e = absurd (cc)
-plain_in a (Some s) p owner done e = plain_by of_job.Read (work_by a p s) owner done (plain_work a p s) e
+plain_in a (Some s) p owner done e = plain_by of_job.Read (through OfBytes s.goods (work_by a p s)) owner done (λ work does. plain_work a p s work (through_some OfBytes s.goods (work_by a p s) work does).1) e
 
 plain_read : (a : ReadAction) (p : reads.Progress) (owner : Owner) (done : Worked) → read_as a p owner ≡ Some done → IsPlain [] done.act
 plain_read read.Deliver p owner done e = moved (λ (d : Worked). IsPlain [] d.act) _ done e (record { pool = refl; nothing = refl; made = refl; new = refl })
@@ -150,7 +164,7 @@ plain_read read.Done p owner done e = plain_in read.Done owner.session p owner d
 
 plain_out : (a : WriteAction) (last : Option Session) (p : writes.Progress) (owner : Owner) (done : Worked) → write_in a last p owner ≡ Some done → IsPlain [] done.act
 plain_out a None p owner done e = absurd (cc)
-plain_out a (Some s) p owner done e = plain_by of_job.Write (writer_works a p s) owner done (plain_writer a p s) e
+plain_out a (Some s) p owner done e = plain_by of_job.Write (through OfBytes s.goods (writer_works a p s)) owner done (λ work does. plain_writer a p s work (through_some OfBytes s.goods (writer_works a p s) work does).1) e
 
 plain_write : (a : WriteAction) (p : writes.Progress) (owner : Owner) (done : Worked) → write_as a p owner ≡ Some done → IsPlain [] done.act
 plain_write write.Deliver p owner done e = moved (λ (d : Worked). IsPlain [] d.act) _ done e (record { pool = refl; nothing = refl; made = refl; new = refl })
@@ -162,10 +176,24 @@ plain_write (write.Write count) p owner done e = plain_out (write.Write count) o
 plain_write write.Flush p owner done e = plain_out write.Flush owner.session p owner done e
 plain_write write.Done p owner done e = plain_out write.Done owner.session p owner done e
 
+plain_sent : (a : ItemAction) (last : Option Session) (p : streams.Progress) (owner : Owner) (done : Worked) → stream_in a last p owner ≡ Some done → IsPlain [] done.act
+plain_sent a None p owner done e = absurd (cc)
+plain_sent a (Some s) p owner done e =
+    plain_by of_job.Items (through OfItems s.goods (streamer_works a p s)) owner done (λ work does. plain_streamer a p s work (through_some OfItems s.goods (streamer_works a p s) work does).1) e
+
+plain_stream : (a : ItemAction) (p : streams.Progress) (owner : Owner) (done : Worked) → stream_as a p owner ≡ Some done → IsPlain [] done.act
+plain_stream item.Deliver p owner done e = moved (λ (d : Worked). IsPlain [] d.act) _ done e (record { pool = refl; nothing = refl; made = refl; new = refl })
+plain_stream item.Next p owner done e = plain_sent item.Next owner.session p owner done e
+plain_stream item.Send p owner done e = plain_sent item.Send owner.session p owner done e
+plain_stream item.Close p owner done e = plain_sent item.Close owner.session p owner done e
+plain_stream item.Finish p owner done e = plain_sent item.Finish owner.session p owner done e
+plain_stream item.Done p owner done e = plain_sent item.Done owner.session p owner done e
+
 -- an act of a job, whatever it does
 plain_worked : (p : SessionJob) (owner : Owner) (done : Worked) → worked p owner ≡ Some done → IsPlain [] done.act
 plain_worked (of_job.Read p) owner done e = plain_read (read_next p.core) p owner done e
 plain_worked (of_job.Write p) owner done e = plain_write (write_next p.core) p owner done e
+plain_worked (of_job.Items p) owner done e = plain_stream (item_next p.core) p owner done e
 
 -- each step
 pub plain_of : (step : OwnerStep) (owner : Owner) (act : Act) → act_of step owner ≡ Some act → IsPlain (brought step) act

@@ -135,6 +135,7 @@ module _ (s : Session) (capacity : ℕ) (last : Option sessions.Session) (shut b
       record {
         lent = record {
           begun = t.lent.begun;
+          goods = t.lent.goods;
           some = t.lent.some;
           holds = t.lent.holds;
           within = rw length-append (omega (arith, within, holds, entered));
@@ -171,7 +172,7 @@ module _ (s : Session) (capacity : ℕ) (last : Option sessions.Session) (shut b
       → SessionAs s Writing capacity last shut back dropped took accepted acts js ps ss
       → SessionAs (session_after_fill bytes Waiting s) Writing capacity last shut back dropped took accepted acts js true ss
   fill_waits bytes found t = record {
-    lent = record { begun = t.lent.begun; some = t.lent.some; holds = t.lent.holds; within = t.lent.within; shut_is = t.lent.shut_is };
+    lent = record { begun = t.lent.begun; goods = t.lent.goods; some = t.lent.some; holds = t.lent.holds; within = t.lent.within; shut_is = t.lent.shut_is };
     flow = record {
       closed_is = t.flow.closed_is;
       out = t.flow.out;

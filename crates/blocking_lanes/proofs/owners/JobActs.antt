@@ -1,5 +1,5 @@
 -- An act of its job keeps the law of an owner, and the tie of the owner to its cut.
-use Rattle.std.proofs.Common.{◌≡◌, ℕ, suc, zero, ◌==◌, List, ◌∷◌, length, Bool, true, false, refl, sym, ap, ◌∙◌, subst, arith, Option, Some, None, ⊎_elim, inl, inr}
+use Rattle.std.proofs.Common.{◌≡◌, ℕ, suc, zero, ◌==◌, List, [], ◌∷◌, length, Bool, true, false, refl, sym, ap, ◌∙◌, subst, arith, Option, Some, None, ⊎_elim, inl, inr}
 use Rattle.std.specs.Prelude.{◌||◌, ◌⊎◌, ◌++◌, not, drop, is_some, is_none}
 use Rattle.std.proofs.lemmas.Bool.{or_left, or_right, eq-eqb}
 use Rattle.std.proofs.lemmas.Bool.Decides.{nat_tests}
@@ -9,12 +9,15 @@ use Rattle.blocking_core.specs.Reading.{read_next}
 use Rattle.blocking_core.specs.Writing.{write_next}
 use Rattle.blocking_core.specs.Slots.{Slot, slot_after, slot_without_job, answer_of, waker_out_of}
 use Rattle.blocking_core.specs.declared.io.Fault.{Fault}
+use Rattle.blocking_core.specs.Items.{item_next}
+use Rattle.blocking_core.specs.declared.job.item.ItemAction.{ItemAction}
+use Rattle.blocking_core.specs.declared.job.item.ItemAction.TheVariants as item
 use Rattle.blocking_core.specs.declared.job.read.ReadAction.{ReadAction}
 use Rattle.blocking_core.specs.declared.job.read.ReadAction.TheVariants as read
 use Rattle.blocking_core.specs.declared.job.write.WriteAction.{WriteAction}
 use Rattle.blocking_core.specs.declared.job.write.WriteAction.TheVariants as write
 use Rattle.blocking_laws.specs.Ends.{EndsTruly, back_by, came_back}
-use Rattle.blocking_laws.specs.JobTable.{Kind, Reading, Writing, JobAction, AskCall, AskItem, AskSeek, AskResult, FindRoom, AskBytes, PutPiece, Peek, OfferBytes, Consume, AskFlush, piece, CloseEnd, Finish, WakeHolder, Over, next_but_wake, next_of_job, is_over, is_answer, takes_waker, is_taken, fault, number, has_finished, has_given_up}
+use Rattle.blocking_laws.specs.JobTable.{Kind, Reading, Writing, Streaming, JobAction, SendItem, AskCall, AskItem, AskSeek, AskResult, FindRoom, AskBytes, PutPiece, Peek, OfferBytes, Consume, AskFlush, piece, CloseEnd, Finish, WakeHolder, Over, next_but_wake, next_of_job, is_over, is_answer, takes_waker, is_taken, fault, number, has_finished, has_given_up}
 use Rattle.blocking_laws.specs.JobTable as job
 use Rattle.blocking_laws.specs.OwnerLaws.{JobActs, Works}
 use Rattle.blocking_laws.specs.OwnerSeats.{place_of, is_job_seated, job_seated_by, pipe_seat, pipe_seated_by, slot_seat, slot_seated_by}
@@ -37,7 +40,9 @@ use Rattle.blocking_pool.specs.Lists.{is_in}
 use Rattle.blocking_lanes.specs.OwnerSteps.{by_its_job}
 use Rattle.blocking_lanes.specs.OwnerTies.{OwnerAs, StageBy, SessionAs, ResultAs, IsAtEnd, is_seated, newest_note}
 use Rattle.blocking_lanes.specs.Reads.{Progress, ReadAs, action_as, action_of}
-use Rattle.blocking_lanes.specs.Sessions.{Session, Work, found_piece, work_at_peek, work_of_consume, writer_closes, writer_finishes, work_at_room, work_at_put, work_of_close, work_of_finish, found_room, found_put, fits_in, finish_wakes, give_up_wakes, session_after_give_up}
+use Rattle.blocking_lanes.specs.Sessions.{Session, Work, found_piece, found_send, streamer_closes, streamer_finishes, work_at_send, work_at_peek, work_of_consume, writer_closes, writer_finishes, work_at_room, work_at_put, work_of_close, work_of_finish, found_room, found_put, fits_in, finish_wakes, give_up_wakes, session_after_give_up}
+use Rattle.blocking_lanes.specs.Streams as streams
+use Rattle.blocking_lanes.specs.Streams.{ItemAs}
 use Rattle.blocking_lanes.specs.Writes as writes
 use Rattle.blocking_lanes.specs.Writes.{WriteAs}
 use Rattle.blocking_lanes.specs.declared.owner.OwnerStage.{OwnerStage}
@@ -49,6 +54,8 @@ use Rattle.blocking_lanes.proofs.owners.ReadSessions.{At, at, finds, finds_shut,
 use Rattle.blocking_lanes.proofs.owners.ReadSessions as Sessions
 use Rattle.blocking_lanes.proofs.owners.WriteSessions.{peeks, peek_parks, drains, consumes, writer_answers}
 use Rattle.blocking_lanes.proofs.owners.WriteJobs as of_writer
+use Rattle.blocking_lanes.proofs.owners.StreamJobs as of_streamer
+use Rattle.blocking_lanes.proofs.owners.StreamSessions.{item_answers, send_loses, send_parks, sends}
 
 -- ---- seats that acts empty
 
@@ -127,7 +134,7 @@ module _ (bytes : ℕ) (asked : Option HandleCall) (here : OwnerStage) (s : Sess
 
   -- the tie of a session that is then so, of this kind, by the acts of its job and by who is seated
   abbrev pub Tied : Session → Kind → List Act → Bool → Bool → Bool → Type 0
-  Tied now k l job_sits pipe_sits slot_sits = SessionAs now k (bound bytes) began shut over gone took written l job_sits pipe_sits slot_sits
+  Tied now k l job_sits pipe_sits slot_sits = SessionAs now k (bound bytes k) began shut over gone took written l job_sits pipe_sits slot_sits
 
   pub last_as : (k : Kind) → kind ≡ k → Tied s k acts js ps ss
   last_as k same = subst (λ k. Tied s k acts js ps ss) same t.last
@@ -141,11 +148,11 @@ module _ (bytes : ℕ) (asked : Option HandleCall) (here : OwnerStage) (s : Sess
     pub back : (here : List Event) (before : Option (List Event)) → back_by act here before ≡ before
     pub faults : over ≡ true → (any : Kind) → (fault any (act ∷ acts) ≡ fault any acts) × (number (act ∷ acts) ≡ number acts)
     pub session :
-        Tied (record { number = s.number; pipe = pipe; slot = slot }) k (act ∷ acts)
+        Tied (record { number = s.number; goods = s.goods; pipe = pipe; slot = slot }) k (act ∷ acts)
         (job_seated_by act (is_job_seated cut)) (pipe_seated_by act (place_of (next_of_owner cut)) (pipe_seat cut))
         (slot_seated_by act (place_of (next_of_owner cut)) (slot_seat cut))
-    pub ended : IsAtEnd s → IsAtEnd (record { number = s.number; pipe = pipe; slot = slot })
-    pub told : is_seated (Some s) ≡ true → (takes_waker act ≡ true) ⊎ (is_seated (Some (record { number = s.number; pipe = pipe; slot = slot })) ≡ true)
+    pub ended : IsAtEnd s → IsAtEnd (record { number = s.number; goods = s.goods; pipe = pipe; slot = slot })
+    pub told : is_seated (Some s) ≡ true → (takes_waker act ≡ true) ⊎ (is_seated (Some (record { number = s.number; goods = s.goods; pipe = pipe; slot = slot })) ≡ true)
 
   serial_test : (n : ℕ) → is_serial began (Some n) ≡ false → (s.number.serial == n) ≡ false
   serial_test n other =
@@ -153,7 +160,7 @@ module _ (bytes : ℕ) (asked : Option HandleCall) (here : OwnerStage) (s : Sess
       grind (arith, nat_tests)
 
   pub keeps_goes : (of : Kind) → kind ≡ of → (act : Act) (pipe : Pipe ℕ (Unit {0})) (slot : Slot (Option (Fault ℕ)) (Unit {0})) → is_in s.number.serial (jobs_of (own cut)) ≡ true → Keeps of act pipe slot
-      → Goes (owner_by_parts bytes asked here (Some (record { number = s.number; pipe = pipe; slot = slot }))) cut (event act)
+      → Goes (owner_by_parts bytes asked here (Some (record { number = s.number; goods = s.goods; pipe = pipe; slot = slot }))) cut (event act)
   keeps_goes of same act pipe slot among k =
       let e = event act in
       let more = acts_more act k.pool k.nothing in
@@ -172,10 +179,10 @@ module _ (bytes : ℕ) (asked : Option HandleCall) (here : OwnerStage) (s : Sess
           stage = subst (λ n. StageBy here (sessions.call (own cut)) (sessions.state (own cut)) n (law.is_at_end (own cut)) (came_back (e ∷ cut)) (newest_note (own cut))) (sym next)
               (subst (λ b. StageBy here (sessions.call (own cut)) (sessions.state (own cut)) (owner_next_but_wake cut (own cut)) (law.is_at_end (own cut)) b (newest_note (own cut)))
               (sym (k.back (e ∷ cut) (came_back cut))) t.stage);
-          last = subst (λ (l : List Act). Tied (record { number = s.number; pipe = pipe; slot = slot }) kind l
+          last = subst (λ (l : List Act). Tied (record { number = s.number; goods = s.goods; pipe = pipe; slot = slot }) kind l
               (job_seated_by act (is_job_seated cut)) (pipe_seated_by act (place_of (next_of_owner cut)) (pipe_seat cut)) (slot_seated_by act (place_of (next_of_owner cut)) (slot_seat cut)))
               (sym more)
-              (subst (λ any. Tied (record { number = s.number; pipe = pipe; slot = slot }) any (act ∷ acts)
+              (subst (λ any. Tied (record { number = s.number; goods = s.goods; pipe = pipe; slot = slot }) any (act ∷ acts)
               (job_seated_by act (is_job_seated cut)) (pipe_seated_by act (place_of (next_of_owner cut)) (pipe_seat cut)) (slot_seated_by act (place_of (next_of_owner cut)) (slot_seat cut)))
               (sym same) k.session);
           ended = λ is_end. k.ended (t.ended is_end);
@@ -218,8 +225,8 @@ module _ (bytes : ℕ) (asked : Option HandleCall) (here : OwnerStage) (s : Sess
     last : Tied s Reading acts js ps ss
     last = last_as Reading reads
 
-    tied : (next : JobAction) → next_but_wake Reading acts ≡ next → At s Reading (bound bytes) began shut over gone took written acts js ps ss next
-    tied next e = at s Reading (bound bytes) began shut over gone took written acts js ps ss next e last
+    tied : (next : JobAction) → next_but_wake Reading acts ≡ next → At s Reading (bound bytes Reading) began shut over gone took written acts js ps ss next
+    tied next e = at s Reading (bound bytes Reading) began shut over gone took written acts js ps ss next e last
 
     -- it looks for room
     room_found : found_room s ≡ find_room (room_in cut) (not shut)
@@ -238,7 +245,7 @@ module _ (bytes : ℕ) (asked : Option HandleCall) (here : OwnerStage) (s : Sess
           ends = tt;
           back = λ here before. refl;
           faults = λ is kind. (refl, refl);
-          session = finds s (bound bytes) began shut over gone took written acts js ps ss (suc n) found (tied FindRoom (table read.FindRoom a));
+          session = finds s (bound bytes Reading) began shut over gone took written acts js ps ss (suc n) found (tied FindRoom (table read.FindRoom a));
           ended = λ e. e;
           told = λ e. inr e;
         })
@@ -251,7 +258,7 @@ module _ (bytes : ℕ) (asked : Option HandleCall) (here : OwnerStage) (s : Sess
           ends = tt;
           back = λ here before. refl;
           faults = λ is kind. (refl, refl);
-          session = parks s (bound bytes) began shut over gone took written acts js ps ss found (table read.FindRoom a) last;
+          session = parks s (bound bytes Reading) began shut over gone took written acts js ps ss found (table read.FindRoom a) last;
           ended = λ e. e;
           told = λ e. inr e;
         })
@@ -264,7 +271,7 @@ module _ (bytes : ℕ) (asked : Option HandleCall) (here : OwnerStage) (s : Sess
           ends = tt;
           back = λ here before. refl;
           faults = λ is kind. (refl, refl);
-          session = finds_shut s (bound bytes) began shut over gone took written acts js ps ss found (tied FindRoom (table read.FindRoom a));
+          session = finds_shut s (bound bytes Reading) began shut over gone took written acts js ps ss found (tied FindRoom (table read.FindRoom a));
           ended = λ e. e;
           told = λ e. inr e;
         })
@@ -290,7 +297,7 @@ module _ (bytes : ℕ) (asked : Option HandleCall) (here : OwnerStage) (s : Sess
           ends = tt;
           back = λ here before. refl;
           faults = λ is kind. (refl, refl);
-          session = puts s (bound bytes) began shut over gone took written acts js ps ss p.piece (waker_in (is_some seat)) seat found here;
+          session = puts s (bound bytes Reading) began shut over gone took written acts js ps ss p.piece (waker_in (is_some seat)) seat found here;
           ended = λ e. absurd (let closed = e.1 in let lasts = here.flow.passed_is.0 in cc);
           told = λ e. subst (λ o. (is_taken (waker_in (is_some o)) ≡ true) ⊎ (is_some s.slot.seat ≡ true)) (sym took_it) (taken_first (is_some s.pipe.owner_seat) (is_some s.slot.seat) e);
         })
@@ -304,7 +311,7 @@ module _ (bytes : ℕ) (asked : Option HandleCall) (here : OwnerStage) (s : Sess
           ends = tt;
           back = λ here before. refl;
           faults = λ is kind. (refl, refl);
-          session = loses s (bound bytes) began shut over gone took written acts js ps ss p.piece found (tied (PutPiece p.piece) (table (read.Put count) a));
+          session = loses s (bound bytes Reading) began shut over gone took written acts js ps ss p.piece found (tied (PutPiece p.piece) (table (read.Put count) a));
           ended = λ e. e;
           told = λ e. inr e;
         })
@@ -323,7 +330,7 @@ module _ (bytes : ℕ) (asked : Option HandleCall) (here : OwnerStage) (s : Sess
           ends = tt;
           back = λ here before. refl;
           faults = λ is kind. (refl, refl);
-          session = closes s Reading (bound bytes) began shut over gone took written acts js ps ss (waker_in woke) here;
+          session = closes s Reading (bound bytes Reading) began shut over gone took written acts js ps ss (waker_in woke) here;
           ended = λ e. absurd (let closed = e.1 in let lasts = here.flow.passed_is.0 in cc);
           told = λ e. taken_first (is_some s.pipe.owner_seat) (is_some s.slot.seat) e;
         })
@@ -344,7 +351,7 @@ module _ (bytes : ℕ) (asked : Option HandleCall) (here : OwnerStage) (s : Sess
           ends = tt;
           back = λ here before. refl;
           faults = λ is kind. (refl, refl);
-          session = finishes s Reading (bound bytes) began shut over gone took written acts js ps ss (waker_in woke) p.fault r.fault_is here;
+          session = finishes s Reading (bound bytes Reading) began shut over gone took written acts js ps ss (waker_in woke) p.fault r.fault_is here;
           ended = λ e. e;
           told = λ e. taken_last (is_some s.pipe.owner_seat) (is_some s.slot.seat) woke _ sits e;
         })
@@ -363,7 +370,7 @@ module _ (bytes : ℕ) (asked : Option HandleCall) (here : OwnerStage) (s : Sess
           ends = tt;
           back = λ here before. refl;
           faults = λ is. absurd (let lent = going_on.lent in cc);
-          session = Sessions.answers s (bound bytes) began shut over gone took written acts js ps ss q.most answer q.fits q.table last;
+          session = Sessions.answers s (bound bytes Reading) began shut over gone took written acts js ps ss q.most answer q.fits q.table last;
           ended = λ e. absurd (let closed = e.1 in let lasts = here.flow.passed_is.0 in cc);
           told = λ e. inr e;
         })
@@ -383,8 +390,8 @@ module _ (bytes : ℕ) (asked : Option HandleCall) (here : OwnerStage) (s : Sess
     writer_last : Tied s Writing acts js ps ss
     writer_last = last_as Writing writing
 
-    writer_tied : (next : JobAction) → next_but_wake Writing acts ≡ next → At s Writing (bound bytes) began shut over gone took written acts js ps ss next
-    writer_tied next e = at s Writing (bound bytes) began shut over gone took written acts js ps ss next e writer_last
+    writer_tied : (next : JobAction) → next_but_wake Writing acts ≡ next → At s Writing (bound bytes Writing) began shut over gone took written acts js ps ss next
+    writer_tied next e = at s Writing (bound bytes Writing) began shut over gone took written acts js ps ss next e writer_last
 
     -- it looks at the front of the pipe
     piece_found : found_piece s ≡ peek piece (inside cut) (not shut)
@@ -402,7 +409,7 @@ module _ (bytes : ℕ) (asked : Option HandleCall) (here : OwnerStage) (s : Sess
           ends = tt;
           back = λ here before. refl;
           faults = λ is kind. (refl, refl);
-          session = peeks s (bound bytes) began shut over gone took written acts js ps ss found shows (writer_tied Peek (writer_table write.Peek a));
+          session = peeks s (bound bytes Writing) began shut over gone took written acts js ps ss found shows (writer_tied Peek (writer_table write.Peek a));
           ended = λ e. e;
           told = λ e. inr e;
         })
@@ -415,7 +422,7 @@ module _ (bytes : ℕ) (asked : Option HandleCall) (here : OwnerStage) (s : Sess
           ends = tt;
           back = λ here before. refl;
           faults = λ is kind. (refl, refl);
-          session = peek_parks s (bound bytes) began shut over gone took written acts js ps ss shows (writer_table write.Peek a) writer_last;
+          session = peek_parks s (bound bytes Writing) began shut over gone took written acts js ps ss shows (writer_table write.Peek a) writer_last;
           ended = λ e. e;
           told = λ e. inr e;
         })
@@ -428,7 +435,7 @@ module _ (bytes : ℕ) (asked : Option HandleCall) (here : OwnerStage) (s : Sess
           ends = tt;
           back = λ here before. refl;
           faults = λ is kind. (refl, refl);
-          session = drains s (bound bytes) began shut over gone took written acts js ps ss shows (writer_tied Peek (writer_table write.Peek a));
+          session = drains s (bound bytes Writing) began shut over gone took written acts js ps ss shows (writer_tied Peek (writer_table write.Peek a));
           ended = λ e. e;
           told = λ e. inr e;
         })
@@ -447,7 +454,7 @@ module _ (bytes : ℕ) (asked : Option HandleCall) (here : OwnerStage) (s : Sess
           ends = tt;
           back = λ here before. refl;
           faults = λ is kind. (refl, refl);
-          session = consumes s (bound bytes) began shut over gone took written acts js ps ss n (waker_in woke) here;
+          session = consumes s (bound bytes Writing) began shut over gone took written acts js ps ss n (waker_in woke) here;
           ended = λ e. absurd (let closed = e.1 in let lasts = here.flow.written_is.0 in cc);
           told = λ e. taken_first (is_some s.pipe.owner_seat) (is_some s.slot.seat) e;
         })
@@ -466,7 +473,7 @@ module _ (bytes : ℕ) (asked : Option HandleCall) (here : OwnerStage) (s : Sess
           ends = tt;
           back = λ here before. refl;
           faults = λ is kind. (refl, refl);
-          session = closes s Writing (bound bytes) began shut over gone took written acts js ps ss (waker_in woke) here;
+          session = closes s Writing (bound bytes Writing) began shut over gone took written acts js ps ss (waker_in woke) here;
           ended = λ e. absurd (let closed = e.1 in let lasts = here.flow.written_is.0 in cc);
           told = λ e. taken_first (is_some s.pipe.owner_seat) (is_some s.slot.seat) e;
         })
@@ -488,7 +495,7 @@ module _ (bytes : ℕ) (asked : Option HandleCall) (here : OwnerStage) (s : Sess
           ends = tt;
           back = λ here before. refl;
           faults = λ is kind. (refl, refl);
-          session = finishes s Writing (bound bytes) began shut over gone took written acts js ps ss (waker_in woke) why r.fault_is here;
+          session = finishes s Writing (bound bytes Writing) began shut over gone took written acts js ps ss (waker_in woke) why r.fault_is here;
           ended = λ e. e;
           told = λ e. taken_last (is_some s.pipe.owner_seat) (is_some s.slot.seat) woke _ sits e;
         })
@@ -509,12 +516,140 @@ module _ (bytes : ℕ) (asked : Option HandleCall) (here : OwnerStage) (s : Sess
           ends = tt;
           back = λ here before. refl;
           faults = λ is. absurd (let lent = going_on.lent in cc);
-          session = writer_answers s (bound bytes) began shut over gone took written acts js ps ss (writes.action_as p.piece q.now) answer q.fits q.table writer_last;
+          session = writer_answers s (bound bytes Writing) began shut over gone took written acts js ps ss (writes.action_as p.piece q.now) answer q.fits q.table writer_last;
           ended = λ e. e;
           told = λ e. inr e;
         })
 
-  -- ---- what either does
+  -- ---- the acts of a job that runs an iterator, at the session
+
+  abbrev Streams : Work streams.Progress → Type 0
+  Streams work = WorksOn streams.Progress work
+
+  streamer_lawful : (p : streams.Progress) (next : JobAction) (act : Act) → ItemAs p acts → streams.action_of p ≡ next → Works cut next act → Works cut (next_of_job Streaming acts) act
+  streamer_lawful p next act r is law = subst (λ a. Works cut a act) (sym is ∙ of_streamer.action_is p acts r) law
+
+  module _ (p : streams.Progress) (r : ItemAs p acts) (streaming : kind ≡ Streaming) (among : is_in s.number.serial (jobs_of (own cut)) ≡ true) where
+    streamer_table : (now : ItemAction) → of_streamer.Awake p now → next_but_wake Streaming acts ≡ streams.action_as p.item now
+    streamer_table now a = sym r.next ∙ ap (streams.action_as p.item) a.next_is
+
+    streamer_last : Tied s Streaming acts js ps ss
+    streamer_last = last_as Streaming streaming
+
+    streamer_tied : (next : JobAction) → next_but_wake Streaming acts ≡ next → At s Streaming (bound bytes Streaming) began shut over gone took written acts js ps ss next
+    streamer_tied next e = at s Streaming (bound bytes Streaming) began shut over gone took written acts js ps ss next e streamer_last
+
+    -- it sends its item
+    send_found : found_send s ≡ hand_in 1 (room_in cut) (not shut) (seated ps)
+    send_found =
+        ap (λ n. hand_in 1 n s.pipe.is_owner_open s.pipe.owner_seat) (sym (room_is s (bound bytes) cut t.last t.bytes))
+        ∙ ap (λ b. hand_in 1 (room_in cut) b s.pipe.owner_seat) (sym (open_is s (bound bytes) cut t.last))
+        ∙ ap (λ seat. hand_in 1 (room_in cut) (not shut) seat) (seated_is s.pipe.owner_seat ∙ ap seated (sym t.last.seats.owner))
+
+    pub send_works : item_next p.core ≡ item.Send → (met : Met (Option (Unit {0}))) → found_send s ≡ met → Streams (work_at_send met p s)
+    send_works is (Served seat) found =
+        let a = of_streamer.awake p item.Send is (λ e. cc) in
+        let here = streamer_tied (SendItem p.item) (streamer_table item.Send a) in
+        let took_it = (put_is 1 (room s.pipe) s.pipe.is_owner_open s.pipe.owner_seat seat found).0 in
+        let act = Put 1 (waker_in (is_some seat)) in
+        keeps_goes Streaming streaming act (record s.pipe { items = s.pipe.items ++ p.item ∷ []; owner_seat = None }) s.slot among (record {
+          pool = refl;
+          nothing = refl;
+          lawful = streamer_lawful p (SendItem p.item) act r (ap (streams.action_as p.item) is) (ap (seen_put 1) (sym found ∙ send_found));
+          ends = tt;
+          back = λ here before. refl;
+          faults = λ is kind. (refl, refl);
+          session = sends s (bound bytes Streaming) began shut over gone took written acts js ps ss p.item (waker_in (is_some seat)) seat found here;
+          ended = λ e. absurd (let closed = e.1 in let lasts = here.flow.passed_is.0 in cc);
+          told = λ e. subst (λ o. (is_taken (waker_in (is_some o)) ≡ true) ⊎ (is_some s.slot.seat ≡ true)) (sym took_it) (taken_first (is_some s.pipe.owner_seat) (is_some s.slot.seat) e);
+        })
+    send_works is Waiting found =
+        let a = of_streamer.awake p item.Send is (λ e. cc) in
+        keeps_goes Streaming streaming JobParked (record s.pipe { job_seat = Some s.number }) s.slot among (record {
+          pool = refl;
+          nothing = refl;
+          lawful = streamer_lawful p (SendItem p.item) JobParked r (ap (streams.action_as p.item) is) (ap (seen_put 1) (sym found ∙ send_found));
+          ends = tt;
+          back = λ here before. refl;
+          faults = λ is kind. (refl, refl);
+          session = send_parks s (bound bytes Streaming) began shut over gone took written acts js ps ss p.item found (streamer_table item.Send a) streamer_last;
+          ended = λ e. e;
+          told = λ e. inr e;
+        })
+    send_works is Closed found =
+        let a = of_streamer.awake p item.Send is (λ e. cc) in
+        keeps_goes Streaming streaming (Lost 1) s.pipe s.slot among (record {
+          pool = refl;
+          nothing = refl;
+          lawful = streamer_lawful p (SendItem p.item) (Lost 1) r (ap (streams.action_as p.item) is) (ap (seen_put 1) (sym found ∙ send_found));
+          ends = tt;
+          back = λ here before. refl;
+          faults = λ is kind. (refl, refl);
+          session = send_loses s (bound bytes Streaming) began shut over gone took written acts js ps ss p.item found (streamer_tied (SendItem p.item) (streamer_table item.Send a));
+          ended = λ e. e;
+          told = λ e. inr e;
+        })
+
+    -- it closes its end of the pipe
+    pub streamer_close_works : item_next p.core ≡ item.Close → Streams (streamer_closes p s)
+    streamer_close_works is =
+        let a = of_streamer.awake p item.Close is (λ e. cc) in
+        let here = streamer_tied CloseEnd (streamer_table item.Close a) in
+        let woke = is_some s.pipe.owner_seat in
+        let act = JobClosed (waker_in woke) in
+        keeps_goes Streaming streaming act (record s.pipe { is_job_open = false; owner_seat = None }) s.slot among (record {
+          pool = refl;
+          nothing = refl;
+          lawful = streamer_lawful p CloseEnd act r (ap (streams.action_as p.item) is) (ap (λ b. JobClosed (waker_in b)) (sym t.last.seats.owner));
+          ends = tt;
+          back = λ here before. refl;
+          faults = λ is kind. (refl, refl);
+          session = closes s Streaming (bound bytes Streaming) began shut over gone took written acts js ps ss (waker_in woke) here;
+          ended = λ e. absurd (let closed = e.1 in let lasts = here.flow.passed_is.0 in cc);
+          told = λ e. taken_first (is_some s.pipe.owner_seat) (is_some s.slot.seat) e;
+        })
+
+    -- it puts its result
+    pub streamer_finish_works : item_next p.core ≡ item.Finish → Streams (streamer_finishes p s)
+    streamer_finish_works is =
+        let a = of_streamer.awake p item.Finish is (λ e. cc) in
+        let here = streamer_tied Finish (streamer_table item.Finish a) in
+        let empty = (going s.slot.content (has_finished acts) (has_given_up acts) over gone (fault Streaming acts) here.result).empty in
+        let woke = finish_wakes None s in
+        let sits : woke ≡ is_some s.slot.seat = ap (λ c. is_some (answer_of c s.slot.seat None).wake) empty in
+        let act = Finished (waker_in woke) in
+        keeps_goes Streaming streaming act s.pipe (slot_after s.slot.content s.slot.seat None) among (record {
+          pool = refl;
+          nothing = refl;
+          lawful = streamer_lawful p Finish act r (ap (streams.action_as p.item) is) (ap (λ b. Finished (waker_in b)) (sits ∙ sym t.last.seats.slot));
+          ends = tt;
+          back = λ here before. refl;
+          faults = λ is kind. (refl, refl);
+          session = finishes s Streaming (bound bytes Streaming) began shut over gone took written acts js ps ss (waker_in woke) None (sym r.fault_is) here;
+          ended = λ e. e;
+          told = λ e. taken_last (is_some s.pipe.owner_seat) (is_some s.slot.seat) woke _ sits e;
+        })
+
+    -- its handle answers
+    pub item_answer_goes : (answer : Answer) → is_answer (streams.action_of p) answer ≡ true → Goes (owner_by_parts bytes asked here (Some s)) cut (event (Answered answer))
+    item_answer_goes answer is =
+        let q = of_streamer.asks p acts answer r is in
+        let here = streamer_tied AskItem q.table in
+        let next = of_streamer.next_by acts ∙ ap (λ b. job.wake_first b (next_but_wake Streaming acts)) (sym r.waking ∙ q.a.waking) ∙ q.table in
+        let going_on = going s.slot.content (has_finished acts) (has_given_up acts) over gone (fault Streaming acts) here.result in
+        keeps_goes Streaming streaming (Answered answer) s.pipe s.slot among (record {
+          pool = refl;
+          nothing = refl;
+          lawful = subst (λ a. Works cut a (Answered answer)) (sym next) q.fits;
+          ends = tt;
+          back = λ here before. refl;
+          faults = λ is. absurd (let lent = going_on.lent in cc);
+          session = item_answers s (bound bytes Streaming) began shut over gone took written acts js ps ss answer q.fits q.table streamer_last;
+          ended = λ e. absurd (let closed = e.1 in let lasts = here.flow.passed_is.0 in cc);
+          told = λ e. inr e;
+        })
+
+  -- ---- what any does
 
   -- it gives up
   pub give_up_goes : is_in s.number.serial (jobs_of (own cut)) ≡ true → is_over (next_but_wake kind acts) ≡ false → gone ≡ true
@@ -531,7 +666,7 @@ module _ (bytes : ℕ) (asked : Option HandleCall) (here : OwnerStage) (s : Sess
         ends = tt;
         back = λ here before. refl;
         faults = λ is any. (refl, refl);
-        session = gives_up s kind (bound bytes) began shut over gone took written acts js ps ss (waker_in woke) goes dropped t.last;
+        session = gives_up s kind (bound bytes kind) began shut over gone took written acts js ps ss (waker_in woke) goes dropped t.last;
         ended = λ e. e;
         told = λ e. taken_last (is_some s.pipe.owner_seat) (is_some s.slot.seat) woke _ sits e;
       })

@@ -6,6 +6,10 @@ use Rattle.blocking_core.specs.Pipes.{room}
 use Rattle.blocking_core.specs.Places.{Met, Served, Waiting, Closed, hand_in}
 use Rattle.blocking_core.specs.Reading.{read_next}
 use Rattle.blocking_core.specs.Writing.{write_next}
+use Rattle.blocking_core.specs.Items.{item_next}
+use Rattle.blocking_core.specs.declared.job.item.ItemAction.{ItemAction}
+use Rattle.blocking_core.specs.declared.job.item.ItemAction.TheVariants as item
+use Rattle.blocking_core.specs.declared.job.item.ItemAnswer.TheVariants as sent
 use Rattle.blocking_core.specs.declared.job.read.ReadAction.{ReadAction}
 use Rattle.blocking_core.specs.declared.job.read.ReadAction.TheVariants as read
 use Rattle.blocking_core.specs.declared.job.read.ReadAnswer.TheVariants as by
@@ -16,19 +20,24 @@ use Rattle.blocking_laws.specs.JobTable.{piece, is_taken}
 use Rattle.blocking_laws.specs.Seats.{waker_in}
 use Rattle.blocking_laws.specs.declared.event.Act.{Act}
 use Rattle.blocking_laws.specs.declared.event.Act.TheVariants.{RoomFree, RoomShut, JobParked, Put, Lost, Drained, Taken as TakenOut, JobClosed, Finished}
-use Rattle.blocking_lanes.specs.Owners.{Owner, Worked, worked, worked_by, read_in, read_as, write_in, write_as}
+use Rattle.blocking_lanes.specs.Owners.{Owner, Worked, worked, worked_by, read_in, read_as, stream_in, stream_as, write_in, write_as}
+use Rattle.blocking_lanes.specs.Passages.{OfBytes, OfItems, through}
 use Rattle.blocking_lanes.specs.Reads as reads
 use Rattle.blocking_lanes.specs.Reads.{ReadAs}
 use Rattle.blocking_lanes.specs.SessionJobs.{JobAs}
-use Rattle.blocking_lanes.specs.Sessions.{Session, Work, closing_wakes, finish_wakes, found_piece, found_put, found_room, fits_in, holds, work_at_peek, work_at_put, work_at_room, work_by, work_of_close, work_of_consume, work_of_finish, writer_closes, writer_finishes, writer_works}
+use Rattle.blocking_lanes.specs.Sessions.{Session, Work, closing_wakes, finish_wakes, found_piece, found_put, found_room, found_send, streamer_closes, streamer_finishes, streamer_works, work_at_send, fits_in, holds, work_at_peek, work_at_put, work_at_room, work_by, work_of_close, work_of_consume, work_of_finish, writer_closes, writer_finishes, writer_works}
+use Rattle.blocking_lanes.specs.Streams as streams
+use Rattle.blocking_lanes.specs.Streams.{ItemAs}
 use Rattle.blocking_lanes.specs.Writes as writes
 use Rattle.blocking_lanes.specs.Writes.{WriteAs}
 use Rattle.blocking_lanes.specs.declared.job.SessionJob.{SessionJob}
 use Rattle.blocking_lanes.specs.declared.job.SessionJob.TheVariants as of_job
+use Rattle.blocking_lanes.proofs.owners.Goods.{through_some}
 use Rattle.blocking_lanes.proofs.owners.OwnerActs.{value_of}
 use Rattle.blocking_lanes.proofs.owners.ReadJobs as of_reader
 use Rattle.blocking_lanes.proofs.owners.ReadSessions.{some_room}
 use Rattle.blocking_lanes.proofs.owners.WriteSessions.{some_piece}
+use Rattle.blocking_lanes.proofs.owners.StreamJobs as of_streamer
 use Rattle.blocking_lanes.proofs.owners.WriteJobs as of_writer
 
 -- what a job takes of wakers is what is seen
@@ -150,6 +159,43 @@ module _ (p : writes.Progress) (acts : List Act) (s : Session) (r : WriteAs p ac
   writes_on write.Deliver is work does = absurd (cc)
   writes_on write.Done is work does = absurd (cc)
 
+-- ---- a job that runs an iterator, at its session
+
+module _ (p : streams.Progress) (acts : List Act) (s : Session) (r : ItemAs p acts) where
+  abbrev StreamOn : Work streams.Progress → Type 0
+  StreamOn work = ItemAs work.job (work.act ∷ acts)
+
+  send_on : item_next p.core ≡ item.Send → (met : Met (Option (Unit {0}))) → found_send s ≡ met → StreamOn (work_at_send met p s)
+  send_on is (Served seat) found =
+      let woke = is_some seat in
+      of_streamer.meets p acts item.Send item.Next woke (sent.Sent woke) (Put 1 (waker_in woke)) r (of_streamer.awake p item.Send is (λ e. cc)) refl refl (taken_is woke) refl
+  send_on is Waiting found =
+      let a = of_streamer.awake p item.Send is (λ e. cc) in
+      of_streamer.meets p acts item.Send item.Send false sent.Parked JobParked r a refl (ap (streams.action_as p.item) (sym a.next_is) ∙ r.next) refl refl
+  send_on is Closed found = of_streamer.meets p acts item.Send item.Close false sent.Shut (Lost 1) r (of_streamer.awake p item.Send is (λ e. cc)) refl refl refl refl
+
+  streamer_close_on : item_next p.core ≡ item.Close → StreamOn (streamer_closes p s)
+  streamer_close_on is =
+      let woke = closing_wakes s in
+      of_streamer.meets p acts item.Close item.Finish woke (sent.Closed woke) (JobClosed (waker_in woke)) r (of_streamer.awake p item.Close is (λ e. cc)) refl refl (taken_is woke) refl
+
+  streamer_finish_on : item_next p.core ≡ item.Finish → StreamOn (streamer_finishes p s)
+  streamer_finish_on is =
+      let woke = finish_wakes None s in
+      of_streamer.meets p acts item.Finish item.Done woke (sent.Finished woke) (Finished (waker_in woke)) r (of_streamer.awake p item.Finish is (λ e. cc)) refl refl (taken_is woke) refl
+
+  moved_stream : (made work : Work streams.Progress) → Some made ≡ Some work → StreamOn made → StreamOn work
+  moved_stream made work e so = subst StreamOn (ap (value_of made) e) so
+
+  -- what it does next there
+  streams_on : (a : ItemAction) → item_next p.core ≡ a → (work : Work streams.Progress) → streamer_works a p s ≡ Some work → StreamOn work
+  streams_on item.Send is work does = moved_stream (work_at_send (found_send s) p s) work does (send_on is (found_send s) refl)
+  streams_on item.Close is work does = moved_stream (streamer_closes p s) work does (streamer_close_on is)
+  streams_on item.Finish is work does = moved_stream (streamer_finishes p s) work does (streamer_finish_on is)
+  streams_on item.Next is work does = absurd (cc)
+  streams_on item.Deliver is work does = absurd (cc)
+  streams_on item.Done is work does = absurd (cc)
+
 -- ---- a job of an owner
 
 -- what an act at a session leaves of a job, if there is one
@@ -161,12 +207,18 @@ at_work J of acts owner (Some work) so done does = subst (λ (d : Worked). JobAs
 read_goes : (p : reads.Progress) (acts : List Act) (last : Option Session) (owner : Owner) → ReadAs p acts → (a : ReadAction) → read_next p.core ≡ a
     → (done : Worked) → read_in a last p owner ≡ Some done → JobAs done.job (done.act ∷ acts)
 read_goes p acts None owner r a is done does = absurd (cc)
-read_goes p acts (Some s) owner r a is done does = at_work reads.Progress of_job.Read acts owner (work_by a p s) (λ work e. reads_on p acts s r a is work e) done does
+read_goes p acts (Some s) owner r a is done does = at_work reads.Progress of_job.Read acts owner (through OfBytes s.goods (work_by a p s)) (λ work e. reads_on p acts s r a is work (through_some OfBytes s.goods (work_by a p s) work e).1) done does
 
 write_goes : (p : writes.Progress) (acts : List Act) (last : Option Session) (owner : Owner) → WriteAs p acts → (a : WriteAction) → write_next p.core ≡ a
     → (done : Worked) → write_in a last p owner ≡ Some done → JobAs done.job (done.act ∷ acts)
 write_goes p acts None owner r a is done does = absurd (cc)
-write_goes p acts (Some s) owner r a is done does = at_work writes.Progress of_job.Write acts owner (writer_works a p s) (λ work e. writes_on p acts s r a is work e) done does
+write_goes p acts (Some s) owner r a is done does = at_work writes.Progress of_job.Write acts owner (through OfBytes s.goods (writer_works a p s)) (λ work e. writes_on p acts s r a is work (through_some OfBytes s.goods (writer_works a p s) work e).1) done does
+
+stream_goes : (p : streams.Progress) (acts : List Act) (last : Option Session) (owner : Owner) → ItemAs p acts → (a : ItemAction) → item_next p.core ≡ a
+    → (done : Worked) → stream_in a last p owner ≡ Some done → JobAs done.job (done.act ∷ acts)
+stream_goes p acts None owner r a is done does = absurd (cc)
+stream_goes p acts (Some s) owner r a is done does =
+    at_work streams.Progress of_job.Items acts owner (through OfItems s.goods (streamer_works a p s)) (λ work e. streams_on p acts s r a is work (through_some OfItems s.goods (streamer_works a p s) work e).1) done does
 
 -- how far it is after what it does next by itself
 pub worked_on : (p : SessionJob) (acts : List Act) (owner : Owner) (done : Worked) → JobAs p acts → worked p owner ≡ Some done → JobAs done.job (done.act ∷ acts)
@@ -191,3 +243,12 @@ worked_on (of_job.Write p) acts owner done r does = by (write_next p.core) refl 
     by write.Close is does = write_goes p acts owner.session owner r write.Close is done does
     by write.Finish is does = write_goes p acts owner.session owner r write.Finish is done does
     by write.Done is does = write_goes p acts owner.session owner r write.Done is done does
+worked_on (of_job.Items p) acts owner done r does = by (item_next p.core) refl does
+  where
+    by : (a : ItemAction) → item_next p.core ≡ a → stream_as a p owner ≡ Some done → JobAs done.job (done.act ∷ acts)
+    by item.Deliver is does = subst (λ (d : Worked). JobAs d.job (d.act ∷ acts)) (ap (value_of done) does) (of_streamer.wakes p acts r is)
+    by item.Next is does = stream_goes p acts owner.session owner r item.Next is done does
+    by item.Send is does = stream_goes p acts owner.session owner r item.Send is done does
+    by item.Close is does = stream_goes p acts owner.session owner r item.Close is done does
+    by item.Finish is does = stream_goes p acts owner.session owner r item.Finish is done does
+    by item.Done is does = stream_goes p acts owner.session owner r item.Done is done does

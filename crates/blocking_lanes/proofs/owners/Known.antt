@@ -1,11 +1,10 @@
 -- What an owner that is asked only for what owners are asked for yet can't have done.
-use Rattle.std.proofs.Common.{◌≡◌, ◌==◌, ◌&&◌, List, [], ◌∷◌, Bool, true, false, refl, ap, ◌∙◌, Option, Some, None, if◌then◌else◌}
+use Rattle.std.proofs.Common.{◌≡◌, ◌&&◌, List, [], ◌∷◌, Bool, true, false, refl, ap, ◌∙◌, Option, Some, None}
 use Rattle.std.specs.Prelude.{◌||◌, not}
-use Rattle.blocking_laws.specs.JobTable.{Kind, Reading}
-use Rattle.blocking_laws.specs.Sessions.{call, capacity, default_capacity, is_again, is_closed, is_dropped, is_for_closed, is_into_inner, is_owner_gone, is_pending_operation, may_ask, rests, was_asked_inner}
+use Rattle.blocking_laws.specs.Sessions.{call, is_again, is_closed, is_dropped, is_for_closed, is_into_inner, is_owner_gone, is_pending_operation, may_ask, rests, was_asked_inner}
 use Rattle.blocking_laws.specs.Steps.{is_known}
 use Rattle.blocking_laws.specs.declared.event.Act.{Act}
-use Rattle.blocking_laws.specs.declared.event.Act.TheVariants.{Made, Asked, HolderDropped, Replied}
+use Rattle.blocking_laws.specs.declared.event.Act.TheVariants.{Asked, HolderDropped, Replied}
 use Rattle.blocking_laws.specs.declared.step.HandleCall.{HandleCall}
 use Rattle.blocking_laws.specs.declared.step.HandleCall.TheVariants.{OperateAgain, IntoInner}
 use Rattle.blocking_lanes.specs.OwnerTies.{AskKnown}
@@ -62,11 +61,3 @@ pub may_ask_known : (acts : List Act) (c : HandleCall) → AskKnown acts → is_
 may_ask_known acts c known new =
     both (rests acts) (not (is_closed acts) || is_for_closed c) (not (was_asked_inner acts) || is_into_inner (Some c)) (not (is_again c) || is_pending_operation acts)
     (ap (λ b. not b || is_into_inner (Some c)) (never_asked acts known)) (ap (λ b. not b || is_pending_operation acts) (not_again c new))
-
--- ---- the pipes hold bytes
-
--- the pipe of a session of this kind holds as much as that of one that reads, if the default is the same
-pub same_capacity : (kind : Kind) (acts : List Act) → default_capacity kind ≡ default_capacity Reading → capacity kind acts ≡ capacity Reading acts
-same_capacity kind [] same = refl
-same_capacity kind (Made h n ∷ past) same = ap (λ k. if n == 0 then k else n) same
-same_capacity kind (_ ∷ past) same = same_capacity kind past same

@@ -47,6 +47,7 @@ use Rattle.blocking_pool.specs.Jobs.{JobNumber}
 use Rattle.blocking_lanes.specs.Owners.{Owner, Did, capacity_of, note_at, goes_on, close_did, drain_did, fill_did, fill_did_in, drop_did, look_did, looked_as, poll_call_of, reply_as, reply_did, did_in, did_by, did, is_gone}
 use Rattle.blocking_lanes.specs.OwnerSteps.{by_owner}
 use Rattle.blocking_lanes.specs.OwnerTies.{OwnerAs, SlotAs, Passed, passed_by, PassedAs, GaveAll, WrittenAs, wrote_by, PollAs, FitsNext, IsGoneBy, IsLentOpen, LooksFrom, EndAs, StageBy, SessionAs, IsAtEnd, called_at, kind_as, state_as, say, action_as, seat_of}
+use Rattle.blocking_lanes.specs.Passages.{OfBytes}
 use Rattle.blocking_lanes.specs.Sessions.{Session, serial_of, reach, drained, filled, session_after_close, session_after_drain, session_after_fill, session_after_look}
 use Rattle.blocking_lanes.specs.declared.owner.OwnerStage.{OwnerStage}
 use Rattle.blocking_lanes.specs.declared.owner.OwnerStage.TheVariants as stage
@@ -54,15 +55,16 @@ use Rattle.blocking_lanes.proofs.owners.Known.{known_call}
 use Rattle.blocking_lanes.proofs.owners.Cuts.{not_not, next_with, inside_is, room_is, lasts_is, open_is, noted_is, its_job, drain_act, drain_seen}
 use Rattle.blocking_lanes.proofs.owners.Fills.{fills, fill_waits, filled_some, filled_note, fill_act, fill_seen}
 use Rattle.blocking_lanes.proofs.owners.Drains.{shuts, takes, waits, returns, waits_for_it, front, at_end, reached}
+use Rattle.blocking_lanes.proofs.owners.Goods.{through_some}
 use Rattle.blocking_lanes.proofs.owners.States.{IsThere, is_away, gone_is, lent_at, lent_by, is_there, piped}
 
 -- an owner by its parts
 abbrev pub owner_by_parts : ℕ → Option HandleCall → OwnerStage → Option Session → Owner
 owner_by_parts bytes asked here last = record { capacity = bytes; asked = asked; stage = here; session = last }
 
--- how many bytes the pipes of its sessions hold
-abbrev pub bound : ℕ → ℕ
-bound bytes = capacity_of (owner_by_parts bytes None (stage.Rests state.Idle) None)
+-- how much the pipes of its sessions hold, by their kind
+abbrev pub bound : ℕ → Kind → ℕ
+bound bytes kind = capacity_of (owner_by_parts bytes None (stage.Rests state.Idle) None) kind
 
 -- An event keeps the law of its owner but for what passed, and leaves the owner tied.
 pub record Goes (new : Owner) (cut : List Event) (e : Event) : Type 0 where
@@ -208,8 +210,8 @@ module _ (bytes : ℕ) (asked : Option HandleCall) (p : OwnerMachine ℕ) (s : S
   polling = owner_by_parts bytes asked (stage.Polls p) (Some s)
 
   -- the session, where its kind is known
-  of_kind : (k : Kind) → kind ≡ k → Old → SessionAs s k (bound bytes) began shut over gone took written acts js ps ss
-  of_kind k e t = subst (λ k. SessionAs s k (bound bytes) began shut over gone took written acts js ps ss) e t.last
+  of_kind : (k : Kind) → kind ≡ k → Old → SessionAs s k (bound bytes k) began shut over gone took written acts js ps ss
+  of_kind k e t = subst (λ k. SessionAs s k (bound bytes k) began shut over gone took written acts js ps ss) e t.last
 
   -- ---- it closes its end of the pipe
 
@@ -252,7 +254,7 @@ module _ (bytes : ℕ) (asked : Option HandleCall) (p : OwnerMachine ℕ) (s : S
           bytes = t.bytes;
           calls = t.calls;
           stage = goes_on_so q note (sessions.call (own cut)) (sessions.state (own (e ∷ cut))) law.PollSlot false (came_back cut) polled refl;
-          last = shuts s kind (bound bytes) began shut over gone took written acts js ps ss t.last;
+          last = shuts s kind (bound bytes kind) began shut over gone took written acts js ps ss t.last;
           ended = λ is_end. absurd (cc);
           earlier = t.earlier;
           noted = noted_so q note js s.number t.last.seats.job;
@@ -294,7 +296,7 @@ module _ (bytes : ℕ) (asked : Option HandleCall) (p : OwnerMachine ℕ) (s : S
         next_is = refl;
         fits = some_fits c q (length found.0) false (came_back cut) any;
       } in
-      let last = takes s (bound bytes) began shut over gone took written acts js ps ss (max 1 (reach most s)) found e (of_kind Reading lent.0 t) in
+      let last = takes s (bound bytes Reading) began shut over gone took written acts js ps ss (max 1 (reach most s)) found e (of_kind Reading lent.0 t) in
       subst (λ (m : OwnerMachine ℕ). Goes (owner_by_parts bytes asked (goes_on m found.1) (Some (session_after_drain (Served found) s))) cut seen) (sym same)
       (record {
         acts = subst (λ n. Polls cut n (Got found.0 (serial_of found.1))) (sym (lawful bytes asked p cut (Some s) (action.Drain most) t is)) (ap drain_act (sym e) ∙ found_so most wanted t);
@@ -307,7 +309,7 @@ module _ (bytes : ℕ) (asked : Option HandleCall) (p : OwnerMachine ℕ) (s : S
           bytes = t.bytes;
           calls = t.calls;
           stage = goes_on_so q found.1 (sessions.call (own cut)) (sessions.state (own cut)) (law.Say (told.Count (length found.0))) false (came_back cut) polled refl;
-          last = subst (λ k. SessionAs (session_after_drain (Served found) s) k (bound bytes) began shut over gone (took ++ found.0) written acts false ps ss) (sym lent.0) last;
+          last = subst (λ k. SessionAs (session_after_drain (Served found) s) k (bound bytes k) began shut over gone (took ++ found.0) written acts false ps ss) (sym lent.0) last;
           ended = λ is_end. absurd (cc);
           earlier = t.earlier;
           noted = noted_so q found.1 js s.number (here.1 ∙ t.last.seats.job);
@@ -322,7 +324,7 @@ module _ (bytes : ℕ) (asked : Option HandleCall) (p : OwnerMachine ℕ) (s : S
       let fits = fits_at bytes asked p cut (Some s) (action.Drain most) t is in
       let lent = lent_at (own cut) Reading true (t.stage.0.at_is ∙ ap state_as fits.2) in
       let at_pipe = lawful bytes asked p cut (Some s) (action.Drain most) t is in
-      let last = waits s (bound bytes) began shut over gone took written acts js ps ss (max 1 (reach most s)) e (of_kind Reading lent.0 t) in
+      let last = waits s (bound bytes Reading) began shut over gone took written acts js ps ss (max 1 (reach most s)) e (of_kind Reading lent.0 t) in
       record {
         acts = subst (λ n. Polls cut n Waits) (sym at_pipe) (ap drain_act (sym e) ∙ found_so most fits.1 t);
         ends = tt;
@@ -334,8 +336,8 @@ module _ (bytes : ℕ) (asked : Option HandleCall) (p : OwnerMachine ℕ) (s : S
           bytes = t.bytes;
           calls = t.calls;
           stage = (t.stage.0.at_is, refl, refl);
-          last = subst (λ n. SessionAs (session_after_drain Waiting s) kind (bound bytes) began shut over gone took written acts js (pipe_seated_by Waits (place_of n) ps) (slot_seated_by Waits (place_of n) ss)) (sym at_pipe)
-              (subst (λ k. SessionAs (session_after_drain Waiting s) k (bound bytes) began shut over gone took written acts js true ss) (sym lent.0) last);
+          last = subst (λ n. SessionAs (session_after_drain Waiting s) kind (bound bytes kind) began shut over gone took written acts js (pipe_seated_by Waits (place_of n) ps) (slot_seated_by Waits (place_of n) ss)) (sym at_pipe)
+              (subst (λ k. SessionAs (session_after_drain Waiting s) k (bound bytes k) began shut over gone took written acts js true ss) (sym lent.0) last);
           ended = λ is_end. absurd (cc);
           earlier = t.earlier;
           noted = λ number is. absurd (cc);
@@ -440,7 +442,7 @@ module _ (bytes : ℕ) (asked : Option HandleCall) (p : OwnerMachine ℕ) (s : S
         next_is = refl;
         fits = some_fits c q went.0 false (came_back cut) many.0;
       } in
-      let last = fills s (bound bytes) began shut over gone took written acts js ps ss offered went e w.open_is (of_kind Writing w.kind_is t) in
+      let last = fills s (bound bytes Writing) began shut over gone took written acts js ps ss offered went e w.open_is (of_kind Writing w.kind_is t) in
       let offer : offered ≡ data_of (sessions.call (own cut)) = sym (ap data_of t.stage.0.asked_is ∙ ap (λ c. data_of (Some c)) w.call_is) in
       subst (λ (m : OwnerMachine ℕ). Goes (owner_by_parts bytes asked (goes_on m went.1) (Some (session_after_fill offered (Served went) s))) cut seen) (sym same)
       (record {
@@ -454,8 +456,8 @@ module _ (bytes : ℕ) (asked : Option HandleCall) (p : OwnerMachine ℕ) (s : S
           bytes = t.bytes;
           calls = t.calls;
           stage = goes_on_so q went.1 (sessions.call (own cut)) (sessions.state (own cut)) (law.Say (told.Count went.0)) false (came_back cut) polled refl;
-          last = subst (λ k. SessionAs (session_after_fill offered (Served went) s) k (bound bytes) began shut over gone took (accepted (own (seen ∷ cut))) acts false ps ss) (sym w.kind_is)
-              (subst (λ l. SessionAs (session_after_fill offered (Served went) s) Writing (bound bytes) began shut over gone took (written ++ take went.0 l) acts false ps ss) offer last);
+          last = subst (λ k. SessionAs (session_after_fill offered (Served went) s) k (bound bytes k) began shut over gone took (accepted (own (seen ∷ cut))) acts false ps ss) (sym w.kind_is)
+              (subst (λ l. SessionAs (session_after_fill offered (Served went) s) Writing (bound bytes Writing) began shut over gone took (written ++ take went.0 l) acts false ps ss) offer last);
           ended = λ is_end. absurd (cc);
           earlier = t.earlier;
           noted = noted_so q went.1 js s.number ((filled_note (length offered) s went e).0 ∙ t.last.seats.job);
@@ -463,7 +465,7 @@ module _ (bytes : ℕ) (asked : Option HandleCall) (p : OwnerMachine ℕ) (s : S
         };
       })
   fill_goes offered t w Waiting e =
-      let last = fill_waits s (bound bytes) began shut over gone took written acts js ps ss offered e (of_kind Writing w.kind_is t) in
+      let last = fill_waits s (bound bytes Writing) began shut over gone took written acts js ps ss offered e (of_kind Writing w.kind_is t) in
       record {
         acts = subst (λ n. Polls cut n Waits) (sym w.next_is) (ap fill_act (sym e) ∙ entered_so (length offered) t);
         ends = tt;
@@ -475,8 +477,8 @@ module _ (bytes : ℕ) (asked : Option HandleCall) (p : OwnerMachine ℕ) (s : S
           bytes = t.bytes;
           calls = t.calls;
           stage = (t.stage.0.at_is, refl, refl);
-          last = subst (λ n. SessionAs (session_after_fill offered Waiting s) kind (bound bytes) began shut over gone took written acts js (pipe_seated_by Waits (place_of n) ps) (slot_seated_by Waits (place_of n) ss)) (sym w.next_is)
-              (subst (λ k. SessionAs (session_after_fill offered Waiting s) k (bound bytes) began shut over gone took written acts js true ss) (sym w.kind_is) last);
+          last = subst (λ n. SessionAs (session_after_fill offered Waiting s) kind (bound bytes kind) began shut over gone took written acts js (pipe_seated_by Waits (place_of n) ps) (slot_seated_by Waits (place_of n) ss)) (sym w.next_is)
+              (subst (λ k. SessionAs (session_after_fill offered Waiting s) k (bound bytes k) began shut over gone took written acts js true ss) (sym w.kind_is) last);
           ended = λ is_end. absurd (cc);
           earlier = t.earlier;
           noted = λ number is. absurd (cc);
@@ -567,8 +569,8 @@ module _ (bytes : ℕ) (asked : Option HandleCall) (p : OwnerMachine ℕ) (s : S
           bytes = t.bytes;
           calls = t.calls;
           stage = (t.stage.0.at_is, refl, refl);
-          last = subst (λ n. SessionAs (session_after_look Empty s) kind (bound bytes) began shut over gone took written acts js (pipe_seated_by Waits (place_of n) ps) (slot_seated_by Waits (place_of n) ss)) (sym at_slot)
-              (waits_for_it s kind (bound bytes) began shut over gone took written acts js ps ss empty closed t.last);
+          last = subst (λ n. SessionAs (session_after_look Empty s) kind (bound bytes kind) began shut over gone took written acts js (pipe_seated_by Waits (place_of n) ps) (slot_seated_by Waits (place_of n) ss)) (sym at_slot)
+              (waits_for_it s kind (bound bytes kind) began shut over gone took written acts js ps ss empty closed t.last);
           ended = λ is_end. absurd (cc);
           earlier = t.earlier;
           noted = λ number is. absurd (cc);
@@ -593,7 +595,7 @@ module _ (bytes : ℕ) (asked : Option HandleCall) (p : OwnerMachine ℕ) (s : S
 
   reads_end : (c : HandleCall) (st : State) → LooksFrom c st true → (is_read c ≡ true) × (st ≡ state.Lent session_kind.Reading Open)
   reads_end (handle_call.Read most) (state.Lent session_kind.Reading Open) looks = (refl, refl)
-  reads_end c (state.Lent kind Shut) looks = absurd looks
+  reads_end c (state.Lent _ Shut) looks = absurd looks
   reads_end c state.Idle looks = absurd looks
   reads_end c state.Closed looks = absurd looks
   reads_end _ (state.Lent _ Open) looks = absurd looks
@@ -732,7 +734,7 @@ module _ (bytes : ℕ) (asked : Option HandleCall) (p : OwnerMachine ℕ) (s : S
             t.stage.1,
             refl,
           );
-          last = returns s kind (bound bytes) began shut over gone took written acts js ps ss why full t.last;
+          last = returns s kind (bound bytes kind) began shut over gone took written acts js ps ss why full t.last;
           ended = λ is_end. absurd (cc);
           earlier = t.earlier;
           noted = λ number is. absurd (cc);
@@ -857,7 +859,7 @@ own_fills : (bytes : ℕ) (asked : Option HandleCall) (p : OwnerMachine ℕ) (h 
     → Goes done.owner cut (by_owner h done.act first growth)
 own_fills bytes (Some (handle_call.Write (byte ∷ more))) p h first growth cut done most (Some s) is t does =
     let asks = Some (handle_call.Write (byte ∷ more)) in
-    subst (λ (d : Did). Goes d.owner cut (by_owner h d.act first growth)) (ap (value_of done) does)
+    subst (λ (d : Did). Goes d.owner cut (by_owner h d.act first growth)) (ap (value_of done) (through_some OfBytes s.goods _ done does).1)
     (fill_goes bytes asks p s h first growth cut (byte ∷ more) t (fills_so bytes asks p s h first growth cut (byte ∷ more) most refl is t) (filled (length (byte ∷ more)) s) refl)
 own_fills bytes (Some (handle_call.Write (byte ∷ more))) p h first growth cut done most None is t does = absurd (cc)
 own_fills bytes (Some (handle_call.Write [])) p h first growth cut done most last is t does = absurd (cc)
@@ -879,7 +881,7 @@ own_by bytes asked p h first growth cut done action.DropHandle last is t does =
 own_by bytes asked p h first growth cut done action.Close (Some s) is t does =
     subst (λ (d : Did). Goes d.owner cut (by_owner h d.act first growth)) (ap (value_of done) does) (close_goes bytes asked p s h first growth cut is t)
 own_by bytes asked p h first growth cut done (action.Drain most) (Some s) is t does =
-    subst (λ (d : Did). Goes d.owner cut (by_owner h d.act first growth)) (ap (value_of done) does)
+    subst (λ (d : Did). Goes d.owner cut (by_owner h d.act first growth)) (ap (value_of done) (through_some OfBytes s.goods _ done does).1)
     (drain_goes bytes asked p s h first growth cut most is t (drained (reach most s) s) refl)
 own_by bytes asked p h first growth cut done action.PollSlot (Some s) is t does = look_goes bytes asked p s h first growth cut is t s.slot.content refl done does
 own_by bytes asked p h first growth cut done _ None is t does = absurd (cc)

@@ -140,7 +140,7 @@ new_tied h capacity first growth = record {
   gone = refl;
   asked = refl;
   polled = refl;
-  bytes = refl;
+  bytes = λ kind. refl;
   calls = tt;
   stage = (refl, refl, refl);
   last = (refl, refl, refl);
@@ -210,7 +210,7 @@ born row past now capacity makes h =
     law g true test =
         let same : length row ≡ g = grind (arith, nat_tests) in
         subst OwnerLaws (sym (alone g same))
-        (record { acts = refl; ends = tt; passed = passes None (capacity_of (new_owner capacity)) (made ∷ []) refl (refl, refl, refl) }, tt)
+        (record { acts = refl; ends = tt; passed = passes None (capacity_of (new_owner capacity)) (made ∷ []) (λ kind. refl) (refl, refl, refl) }, tt)
     law g false test = subst OwnerLaws (sym (cut_same g now.event (events past) (in_is g ∙ test))) (h.laws g)
 
 -- ---- a step of one owner

@@ -20,7 +20,7 @@ use Rattle.blocking_core.specs.declared.unblock.SessionKind.TheVariants as sessi
 use Rattle.blocking_core.specs.declared.unblock.State.{State}
 use Rattle.blocking_core.specs.declared.unblock.State.TheVariants as state
 use Rattle.blocking_laws.specs.Ends.{came_back}
-use Rattle.blocking_laws.specs.JobTable.{Kind, Reading, Over, next_but_wake, fault, has_finished, has_given_up}
+use Rattle.blocking_laws.specs.JobTable.{Kind, Streaming, Over, next_but_wake, fault, has_finished, has_given_up}
 use Rattle.blocking_laws.specs.OwnerLaws.{Polls}
 use Rattle.blocking_laws.specs.OwnerTable.{owner_next_but_wake, deliver_first}
 use Rattle.blocking_laws.specs.OwnerTable as law
@@ -43,7 +43,7 @@ use Rattle.blocking_pool.specs.declared.pool.answer.Woke.{Woke}
 use Rattle.blocking_lanes.specs.Owners.{poll_call_of, may_call_at}
 use Rattle.blocking_lanes.specs.OwnerSteps.{by_owner}
 use Rattle.blocking_lanes.specs.OwnerTies.{OwnerAs, FitsNext, BeginsBy, LastAs, SessionAs, SlotAs, kind_as, is_end_open, state_as, action_as, newest_note}
-use Rattle.blocking_lanes.specs.Sessions.{Session, new_session}
+use Rattle.blocking_lanes.specs.Sessions.{Session, goods_of, new_session}
 use Rattle.blocking_lanes.specs.declared.owner.OwnerStage.TheVariants as stage
 use Rattle.blocking_lanes.proofs.owners.Cuts.{next_with, next_stays, kind_of_last}
 use Rattle.blocking_lanes.proofs.owners.Known.{gone_known, may_ask_known}
@@ -63,11 +63,11 @@ DoesSo call kind end =
 table_at : (call : HandleCall) (at : State) → is_known call ≡ true → may_call_at at call ≡ true → IsThere at → law.table call (state_as at) ≡ action_as call (machine.table (poll_call_of call) at)
 table_at (handle_call.Read zero) at known may there = refl
 table_at (handle_call.Write []) at known may there = refl
-table_at (handle_call.Read (suc n)) (state.Lent kind end) known may there = of_session (DoesSo (handle_call.Read (suc n))) refl refl refl refl kind end there
-table_at (handle_call.Write (byte ∷ more)) (state.Lent kind end) known may there = of_session (DoesSo (handle_call.Write (byte ∷ more))) refl refl refl refl kind end there
-table_at handle_call.Flush (state.Lent kind end) known may there = of_session (DoesSo handle_call.Flush) refl refl refl refl kind end there
-table_at handle_call.Close (state.Lent kind end) known may there = of_session (DoesSo handle_call.Close) refl refl refl refl kind end there
-table_at handle_call.GetMut (state.Lent kind end) known may there = of_session (DoesSo handle_call.GetMut) refl refl refl refl kind end there
+table_at (handle_call.Read (suc n)) (state.Lent kind end) known may there = of_session (DoesSo (handle_call.Read (suc n))) refl refl refl refl refl refl kind end there
+table_at (handle_call.Write (byte ∷ more)) (state.Lent kind end) known may there = of_session (DoesSo (handle_call.Write (byte ∷ more))) refl refl refl refl refl refl kind end there
+table_at handle_call.Flush (state.Lent kind end) known may there = of_session (DoesSo handle_call.Flush) refl refl refl refl refl refl kind end there
+table_at handle_call.Close (state.Lent kind end) known may there = of_session (DoesSo handle_call.Close) refl refl refl refl refl refl kind end there
+table_at handle_call.GetMut (state.Lent kind end) known may there = of_session (DoesSo handle_call.GetMut) refl refl refl refl refl refl kind end there
 table_at (handle_call.Read (suc n)) state.Closed known may there = absurd (cc)
 table_at (handle_call.Write (byte ∷ more)) state.Closed known may there = absurd (cc)
 table_at handle_call.GetMut state.Closed known may there = absurd (cc)
@@ -193,7 +193,7 @@ ask_goes bytes asked here last h first growth cut call known may t =
 
 -- ---- it is dropped
 
-dropped_last : (last : Option Session) (bytes h first : ℕ) (growth : Growth) (cut : List Event) → LastAs last bytes cut → LastAs last bytes (by_owner h HolderDropped first growth ∷ cut)
+dropped_last : (last : Option Session) (bytes : Kind → ℕ) (h first : ℕ) (growth : Growth) (cut : List Event) → LastAs last bytes cut → LastAs last bytes (by_owner h HolderDropped first growth ∷ cut)
 dropped_last None bytes h first growth cut t = t
 dropped_last (Some s) bytes h first growth cut t = record {
   lent = t.lent;
@@ -338,11 +338,15 @@ deliver_goes bytes asked p note last h first growth cut woke t =
 -- ---- a session begins
 
 -- the pipes of its sessions hold something
-some_bound : (bytes : ℕ) → 0 < bound bytes
-some_bound bytes = at (bytes == 0) refl
+some_default : (kind : Kind) → 0 < default_capacity kind
+some_default Streaming = omega arith
+some_default _ = omega arith
+
+some_bound : (bytes : ℕ) (kind : Kind) → 0 < bound bytes kind
+some_bound bytes kind = at (bytes == 0) refl
   where
-    at : (b : Bool) → (bytes == 0) ≡ b → 0 < (if b then default_capacity Reading else bytes)
-    at true e = omega arith
+    at : (b : Bool) → (bytes == 0) ≡ b → 0 < (if b then default_capacity kind else bytes)
+    at true e = some_default kind
     at false e = grind (arith, nat_tests)
 
 -- the new job is in the list of its jobs, before the others
@@ -350,7 +354,7 @@ in_more : (t s : ℕ) (jobs : List ℕ) → (t == s) ≡ false → is_in t (s �
 in_more t s jobs other e = ap (λ b. b || is_in t jobs) (sym other) ∙ e
 
 -- the handle was back, so the job of the last session is over
-last_over : (last : Option Session) (bytes : ℕ) (cut : List Event) → LastAs last bytes cut → sessions.state_in (sessions.session (own cut)) (sessions.is_shut (own cut)) ≡ sessions.Idle → (t : ℕ)
+last_over : (last : Option Session) (bytes : Kind → ℕ) (cut : List Event) → LastAs last bytes cut → sessions.state_in (sessions.session (own cut)) (sessions.is_shut (own cut)) ≡ sessions.Idle → (t : ℕ)
     → is_serial (sessions.last_session (own cut)) (Some t) ≡ true → next_but_wake (kind_of_job t (own cut)) (acts_of t cut) ≡ Over
 last_over None bytes cut l idle t is = absurd (let none = ap (λ r. is_serial r (Some t)) (sym l.0) ∙ is in cc)
 last_over (Some s) bytes cut l idle t is =
@@ -388,7 +392,7 @@ begins_by _ p back begins end = absurd begins
 
 pub begin_goes : (bytes : ℕ) (asked : Option HandleCall) (p : OwnerMachine ℕ) (last : Option Session) (h first : ℕ) (growth : Growth) (cut : List Event) (number : JobNumber) → p.next ≡ action.Begin
     → is_in number.serial (jobs_of (own cut)) ≡ false → acts_of number.serial cut ≡ [] → OwnerAs (owner_by_parts bytes asked (stage.Polls p) last) cut
-    → Goes (owner_by_parts bytes asked (stage.Polls (owner_after p by.Begun)) (Some (new_session number (bound bytes)))) cut (by_owner h (Accepted number.serial) first growth)
+    → Goes (owner_by_parts bytes asked (stage.Polls (owner_after p by.Begun)) (Some (new_session number (goods_of (kind_of asked)) (bound bytes (kind_of asked))))) cut (by_owner h (Accepted number.serial) first growth)
 begin_goes bytes asked p last h first growth cut number is fresh quiet t =
     let c = t.stage.0.call in
     let fits = fits_at bytes asked p cut last action.Begin t is in
@@ -403,7 +407,8 @@ begin_goes bytes asked p last h first growth cut number is fresh quiet t =
     let opened : sessions.state_by (sessions.is_closed (own cut)) began false ≡ sessions.In (kind_of (Some c)) true =
     ap (λ b. sessions.state_by b began false) (gone_is (own cut) p.state t.stage.0.at_is ∙ there) ∙ ap (λ k. sessions.In k true) kind in
     let idle = lent_by (own cut) p.state there t.stage.0.at_is ∙ ap state_as fits.1 in
-    let s = new_session number (bound bytes) in
+    let s = new_session number (goods_of (kind_of asked)) (bound bytes (kind_of asked)) in
+    let same_kind : kind_of (Some c) ≡ kind_of asked = sym kind ∙ ap kind_of t.asked in
     subst (λ (m : OwnerMachine ℕ). Goes (owner_by_parts bytes asked (stage.Polls m) (Some s)) cut e) (sym same)
     (record {
       acts = subst (λ n. Polls cut n (Accepted number.serial)) (sym (lawful bytes asked p cut last action.Begin t is)) fresh;
@@ -427,9 +432,11 @@ begin_goes bytes asked p last h first growth cut number is fresh quiet t =
           t.stage.1,
           refl,
         );
-        last = subst (λ (k : Kind). SessionAs s k (bound bytes) (Some (record { serial = number.serial; kind = k })) false false (sessions.is_dropped (own cut)) [] [] (acts_of number.serial cut) false false false) (sym kind)
-            (subst (λ (l : List Act). SessionAs s (kind_of (Some c)) (bound bytes) (Some (record { serial = number.serial; kind = kind_of (Some c) })) false false (sessions.is_dropped (own cut)) [] [] l false false false) (sym quiet)
-            (begins number (kind_of (Some c)) (bound bytes) (sessions.is_dropped (own cut)) b.lending (some_bound bytes)));
+        last = subst (λ (k : Kind). SessionAs s k (bound bytes k) (Some (record { serial = number.serial; kind = k })) false false (sessions.is_dropped (own cut)) [] [] (acts_of number.serial cut) false false false) (sym kind)
+            (subst (λ (l : List Act). SessionAs s (kind_of (Some c)) (bound bytes (kind_of (Some c))) (Some (record { serial = number.serial; kind = kind_of (Some c) })) false false (sessions.is_dropped (own cut)) [] [] l false false false) (sym quiet)
+            (subst (λ (k : Kind). SessionAs (new_session number (goods_of k) (bound bytes k)) (kind_of (Some c)) (bound bytes (kind_of (Some c)))
+            (Some (record { serial = number.serial; kind = kind_of (Some c) })) false false (sessions.is_dropped (own cut)) [] [] [] false false false) same_kind
+            (begins number (kind_of (Some c)) (bound bytes (kind_of (Some c))) (sessions.is_dropped (own cut)) b.lending (some_bound bytes (kind_of (Some c))))));
         ended = λ is_end. absurd (cc);
         earlier = λ s among other. ap (λ b. next_but_wake (if b then kind_of (sessions.call (own cut)) else kind_of_job s (own cut)) (acts_of s cut)) (turned_round s number.serial other)
             ∙ earlier s (is_serial (sessions.last_session (own cut)) (Some s)) refl (in_more s number.serial (jobs_of (own cut)) other among) idle;

@@ -10,7 +10,7 @@ use Rattle.blocking_core.specs.Places.{Served, Waiting, Closed, find_room, hand_
 use Rattle.blocking_core.specs.Slots.{Content, Empty, Full, GivenUp, Abandoned, Slot, slot_after, slot_without_job}
 use Rattle.blocking_core.specs.declared.io.Fault.{Fault}
 use Rattle.blocking_laws.specs.Ends.{handle_answers, has_failure}
-use Rattle.blocking_laws.specs.JobTable.{Kind, Reading, Writing, JobAction, FindRoom, AskBytes, PutPiece, CloseEnd, Finish, Over, next_but_wake, is_over, next_after_answer, is_answer, fault, has_finished, has_given_up}
+use Rattle.blocking_laws.specs.JobTable.{Kind, Reading, Writing, Streaming, JobAction, FindRoom, AskBytes, PutPiece, CloseEnd, Finish, Over, next_but_wake, is_over, next_after_answer, is_answer, fault, has_finished, has_given_up}
 use Rattle.blocking_laws.specs.Passed.{gave, got, answered, was_put, carried, peeked, counted}
 use Rattle.blocking_laws.specs.Sessions as sessions
 use Rattle.blocking_laws.specs.declared.event.Act.{Act}
@@ -135,6 +135,7 @@ going content finished given_up back dropped why r = by_slot content (neither fi
 called_flow : (s : Session) (kind : Kind) (shut : Bool) (took accepted : List ℕ) (acts : List Act) → Flows kind s shut took accepted (next_but_wake kind acts) acts
     → Flows kind s shut took accepted (next_but_wake kind acts) (HolderWoken ∷ acts)
 called_flow s Reading shut took accepted acts t = t
+called_flow s Streaming shut took accepted acts t = t
 called_flow s Writing shut took accepted acts t = t
 called_flow s _ shut took accepted acts t = t
 
@@ -142,6 +143,15 @@ called_flow s _ shut took accepted acts t = t
 left_flow : (s : Session) (slot : Slot (Option (Fault ℕ)) (Unit {0})) (kind : Kind) (shut : Bool) (took accepted : List ℕ) (next : JobAction) (acts : List Act) (waker : HolderWaker)
     → Flows kind s shut took accepted next acts → Flows kind (record s { slot = slot }) shut took accepted Over (GaveUp waker ∷ acts)
 left_flow s slot Reading shut took accepted next acts waker t = record {
+  closed_is = t.closed_is;
+  inside = t.inside;
+  put = t.put;
+  bounded = t.bounded;
+  passed_is = subst (λ b. GaveAll b (passed_by acts)) (sym (or_right shut true refl)) tt;
+  unclosed = λ is lasts. refl;
+  unwritten = t.unwritten;
+}
+left_flow s slot Streaming shut took accepted next acts waker t = record {
   closed_is = t.closed_is;
   inside = t.inside;
   put = t.put;
@@ -176,6 +186,15 @@ closed_flow s Reading shut took accepted acts waker t = record {
   unclosed = λ is. absurd (cc);
   unwritten = t.unwritten;
 }
+closed_flow s Streaming shut took accepted acts waker t = record {
+  closed_is = refl;
+  inside = t.inside;
+  put = t.put;
+  bounded = t.bounded;
+  passed_is = (refl, t.passed_is.1);
+  unclosed = λ is. absurd (cc);
+  unwritten = t.unwritten;
+}
 closed_flow s Writing shut took accepted acts waker t = record {
   closed_is = refl;
   out = t.out;
@@ -194,6 +213,15 @@ closed_flow s _ shut took accepted acts waker t = absurd t
 finished_flow : (s : Session) (slot : Slot (Option (Fault ℕ)) (Unit {0})) (kind : Kind) (shut : Bool) (took accepted : List ℕ) (acts : List Act) (waker : HolderWaker)
     → Flows kind s shut took accepted Finish acts → Flows kind (record s { slot = slot }) shut took accepted Over (Finished waker ∷ acts)
 finished_flow s slot Reading shut took accepted acts waker t = record {
+  closed_is = t.closed_is;
+  inside = t.inside;
+  put = t.put;
+  bounded = t.bounded;
+  passed_is = t.passed_is.1;
+  unclosed = λ is lasts. absurd (let closed = t.passed_is.0 in cc);
+  unwritten = t.unwritten;
+}
+finished_flow s slot Streaming shut took accepted acts waker t = record {
   closed_is = t.closed_is;
   inside = t.inside;
   put = t.put;
@@ -228,7 +256,7 @@ module _ (s : Session) (kind : Kind) (capacity : ℕ) (last : Option sessions.Se
   closes waker t =
       let none = (going s.slot.content (has_finished acts) (has_given_up acts) back dropped (fault kind acts) t.result).stays in
       record {
-        lent = record { begun = t.lent.begun; some = t.lent.some; holds = t.lent.holds; within = t.lent.within; shut_is = t.lent.shut_is };
+        lent = record { begun = t.lent.begun; goods = t.lent.goods; some = t.lent.some; holds = t.lent.holds; within = t.lent.within; shut_is = t.lent.shut_is };
         flow = closed_flow s kind shut took accepted acts waker t.flow;
         result = t.result;
         seats = record {
@@ -253,7 +281,7 @@ module _ (s : Session) (kind : Kind) (capacity : ℕ) (last : Option sessions.Se
       let full = ap (λ (l : Slot (Option (Fault ℕ)) (Unit {0})). l.content) put in
       let out = ap (λ (l : Slot (Option (Fault ℕ)) (Unit {0})). l.seat) put in
       record {
-        lent = record { begun = t.lent.begun; some = t.lent.some; holds = t.lent.holds; within = t.lent.within; shut_is = t.lent.shut_is };
+        lent = record { begun = t.lent.begun; goods = t.lent.goods; some = t.lent.some; holds = t.lent.holds; within = t.lent.within; shut_is = t.lent.shut_is };
         flow = finished_flow s (slot_after s.slot.content s.slot.seat why) kind shut took accepted acts waker t.flow;
         result = record {
           slot = subst (λ c. SlotAs c true (has_given_up acts) back (fault kind acts)) (sym full) (refl, none, g.lent, same);
@@ -283,7 +311,7 @@ module _ (s : Session) (kind : Kind) (capacity : ℕ) (last : Option sessions.Se
       let full = ap (λ (l : Slot (Option (Fault ℕ)) (Unit {0})). l.content) given in
       let out = ap (λ (l : Slot (Option (Fault ℕ)) (Unit {0})). l.seat) given in
       record {
-        lent = record { begun = t.lent.begun; some = t.lent.some; holds = t.lent.holds; within = t.lent.within; shut_is = t.lent.shut_is };
+        lent = record { begun = t.lent.begun; goods = t.lent.goods; some = t.lent.some; holds = t.lent.holds; within = t.lent.within; shut_is = t.lent.shut_is };
         flow = left_flow s (slot_without_job s.slot.content s.slot.seat) kind shut took accepted (next_but_wake kind acts) acts waker t.flow;
         result = record {
           slot = subst (λ c. SlotAs c (has_finished acts) true back (fault kind acts)) (sym full) (g.unfinished, refl, g.lent);
@@ -366,7 +394,7 @@ module _ (s : Session) (capacity : ℕ) (last : Option sessions.Session) (shut b
   parks found e t =
       let full = no_room (room s.pipe) s.pipe.is_owner_open found in
       record {
-        lent = record { begun = t.lent.begun; some = t.lent.some; holds = t.lent.holds; within = t.lent.within; shut_is = t.lent.shut_is };
+        lent = record { begun = t.lent.begun; goods = t.lent.goods; some = t.lent.some; holds = t.lent.holds; within = t.lent.within; shut_is = t.lent.shut_is };
         flow = record { closed_is = t.flow.closed_is; inside = t.flow.inside; put = t.flow.put; bounded = t.flow.bounded; passed_is = t.flow.passed_is; unclosed = t.flow.unclosed; unwritten = t.flow.unwritten };
         result = t.result;
         seats = record {
@@ -397,6 +425,10 @@ still content finished given_up back dropped why new r =
 pub longer : (put given more : List ℕ) → (rest : List ℕ) × (given ≡ put ++ rest) → (rest : List ℕ) × (given ++ more ≡ put ++ rest)
 longer put given more found = (found.0 ++ more, ap (λ l. l ++ more) found.1 ∙ append_assoc put found.0 more)
 
+-- a job that reads has nothing in hand
+no_hand : {a b : ℕ} → a ≤ b → a ≤ b + 0
+no_hand within = omega arith
+
 -- what goes into the room that was found is bounded, where all that was given before was taken or is inside
 bounds : (given put taken items more : List ℕ) (capacity : ℕ) → given ≡ put ++ [] → put ≡ taken ++ items → length items ≤ capacity → length more ≤ capacity - length items
     → length (given ++ more) ≤ length taken + capacity
@@ -422,7 +454,7 @@ module _ (s : Session) (capacity : ℕ) (last : Option sessions.Session) (shut b
           closed_is = a.flow.closed_is;
           inside = a.flow.inside;
           put = longer (was_put acts) (gave acts) (carried answer) a.flow.put;
-          bounded = bounds (gave acts) (was_put acts) took s.pipe.items (carried answer) s.pipe.capacity a.flow.passed_is.1.0 a.flow.inside whole fits;
+          bounded = no_hand (bounds (gave acts) (was_put acts) took s.pipe.items (carried answer) s.pipe.capacity a.flow.passed_is.1.0 a.flow.inside whole fits);
           passed_is = passed;
           unclosed = λ is. absurd (cc);
           unwritten = ap (λ l. l ++ counted answer (peeked acts)) a.flow.unwritten ∙ uncounted (peeked acts);
@@ -476,6 +508,7 @@ module _ (s : Session) (capacity : ℕ) (last : Option sessions.Session) (shut b
       record {
         lent = record {
           begun = t.lent.begun;
+          goods = t.lent.goods;
           some = t.lent.some;
           holds = t.lent.holds;
           within = rw length-append (omega (arith, within, holds, fits));

@@ -97,7 +97,7 @@ lent_goes_on acts state.Idle is at = absurd (cc)
 lent_goes_on acts state.Closed is at = absurd (cc)
 
 -- a handle that is lent is lent to the last session's job
-pub lent : (last : Option Session) (bytes : ℕ) (cut : List Event) (st : State) → LastAs last bytes cut → sessions.state (own cut) ≡ state_as st → is_lent st ≡ true → is_some last ≡ true
+pub lent : (last : Option Session) (bytes : Kind → ℕ) (cut : List Event) (st : State) → LastAs last bytes cut → sessions.state (own cut) ≡ state_as st → is_lent st ≡ true → is_some last ≡ true
 lent (Some s) bytes cut st l at is = refl
 lent None bytes cut st l at is = absurd (none (session (own cut)) refl (lent_goes_on (own cut) st is at))
   where
@@ -107,12 +107,12 @@ lent None bytes cut st l at is = absurd (none (session (own cut)) refl (lent_goe
 
 -- ---- the sessions that there are
 
--- a handle that is lent is lent to a job that reads or writes
+-- a handle that is lent is lent to a job with a pipe
 abbrev pub IsThere : State → Type 0
 IsThere (state.Lent kind end) = IsLending (kind_as kind)
 IsThere _ = Unit {0}
 
-pub is_there : (last : Option Session) (bytes : ℕ) (cut : List Event) (st : State) → LastAs last bytes cut → sessions.state (own cut) ≡ state_as st → IsThere st
+pub is_there : (last : Option Session) (bytes : Kind → ℕ) (cut : List Event) (st : State) → LastAs last bytes cut → sessions.state (own cut) ≡ state_as st → IsThere st
 is_there last bytes cut state.Idle l at = tt
 is_there last bytes cut state.Closed l at = tt
 is_there None bytes cut (state.Lent kind end) l at = absurd (let none = lent None bytes cut (state.Lent kind end) l at refl in cc)
@@ -126,13 +126,16 @@ is_there (Some s) bytes cut (state.Lent kind end) l at =
 pub piped : (kind : SessionKind) → IsLending (kind_as kind) → has_pipe kind ≡ true
 piped session_kind.Reading there = refl
 piped session_kind.Writing there = refl
+piped session_kind.Streaming there = refl
 piped _ there = absurd there
 
 -- what holds in each session that there is, with either end, holds where the handle is lent
 pub of_session : (P : SessionKind → OwnerEnd → Type 0) → P session_kind.Reading Open → P session_kind.Reading Shut → P session_kind.Writing Open → P session_kind.Writing Shut
-    → (kind : SessionKind) (end : OwnerEnd) → IsLending (kind_as kind) → P kind end
-of_session P reads read writes written session_kind.Reading Open there = reads
-of_session P reads read writes written session_kind.Reading Shut there = read
-of_session P reads read writes written session_kind.Writing Open there = writes
-of_session P reads read writes written session_kind.Writing Shut there = written
-of_session P reads read writes written _ end there = absurd there
+    → P session_kind.Streaming Open → P session_kind.Streaming Shut → (kind : SessionKind) (end : OwnerEnd) → IsLending (kind_as kind) → P kind end
+of_session P reads read writes written streams streamed session_kind.Reading Open there = reads
+of_session P reads read writes written streams streamed session_kind.Reading Shut there = read
+of_session P reads read writes written streams streamed session_kind.Writing Open there = writes
+of_session P reads read writes written streams streamed session_kind.Writing Shut there = written
+of_session P reads read writes written streams streamed session_kind.Streaming Open there = streams
+of_session P reads read writes written streams streamed session_kind.Streaming Shut there = streamed
+of_session P reads read writes written streams streamed _ end there = absurd there

@@ -5,6 +5,9 @@ use Rattle.std.proofs.lemmas.Bool.Decides.{nat_tests}
 use Rattle.blocking_core.specs.OwnerCalls.{OwnerMachine}
 use Rattle.blocking_core.specs.Reading.{read_next}
 use Rattle.blocking_core.specs.Writing.{write_next}
+use Rattle.blocking_core.specs.Items.{item_next}
+use Rattle.blocking_core.specs.declared.job.item.ItemAction.{ItemAction}
+use Rattle.blocking_core.specs.declared.job.item.ItemAction.TheVariants as item
 use Rattle.blocking_core.specs.declared.job.read.ReadAction.{ReadAction}
 use Rattle.blocking_core.specs.declared.job.read.ReadAction.TheVariants as read
 use Rattle.blocking_core.specs.declared.job.write.WriteAction.{WriteAction}
@@ -12,7 +15,7 @@ use Rattle.blocking_core.specs.declared.job.write.WriteAction.TheVariants as wri
 use Rattle.blocking_core.specs.declared.unblock.OwnerAction.{OwnerAction}
 use Rattle.blocking_core.specs.declared.unblock.OwnerAction.TheVariants as action
 use Rattle.blocking_laws.specs.Ends.{came_back}
-use Rattle.blocking_laws.specs.JobTable.{Kind, Reading, Writing, JobAction, WakeHolder, next_but_wake, next_of_job, is_answer, is_over, fault, number}
+use Rattle.blocking_laws.specs.JobTable.{Kind, Reading, Writing, Streaming, JobAction, WakeHolder, next_but_wake, next_of_job, is_answer, is_over, fault, number}
 use Rattle.blocking_laws.specs.OwnerLaws.{OwnerLaw, Works}
 use Rattle.blocking_laws.specs.OwnerSeats.{is_job_seated, pipe_seat, slot_seat}
 use Rattle.blocking_laws.specs.OwnerTable.{owner_next_but_wake}
@@ -32,13 +35,16 @@ use Rattle.blocking_laws.specs.declared.step.Answer.{Answer}
 use Rattle.blocking_laws.specs.declared.step.HandleCall.{HandleCall}
 use Rattle.blocking_pool.specs.Growth.{Growth}
 use Rattle.blocking_pool.specs.Lists.{is_in}
-use Rattle.blocking_lanes.specs.Owners.{Owner, Did, Worked, capacity_of, may_call_at, is_gone, next_at, next_by, next_to_say, reply_as, did, read_as, read_in, write_as, write_in, worked, worked_by, giving_up_wakes, without_job}
+use Rattle.blocking_lanes.specs.Owners.{Owner, Did, Worked, capacity_of, may_call_at, is_gone, next_at, next_by, next_to_say, reply_as, did, read_as, read_in, stream_as, stream_in, write_as, write_in, worked, worked_by, giving_up_wakes, without_job}
 use Rattle.blocking_lanes.specs.OwnerSteps.{OwnerStep, IsAsked, Acts, Begins, IsRefused, Delivers, IsDropped, Works as DoesWork, IsAnswered, GivesUp, CallsWaker, MayTake, act_in, act_of, act_of_work, owner_in, owner_after, owner_after_work, event_by, by_owner, by_its_job, is_of_its_job}
 use Rattle.blocking_lanes.specs.OwnerTies.{OwnerAs, StageBy, LastAs, SessionAs, newest_note}
+use Rattle.blocking_lanes.specs.Passages.{OfBytes, OfItems, through}
 use Rattle.blocking_lanes.specs.Reads as reads
 use Rattle.blocking_lanes.specs.Reads.{ReadAs}
 use Rattle.blocking_lanes.specs.SessionJobs.{JobAs, action_of, kind_of}
-use Rattle.blocking_lanes.specs.Sessions.{Session, Work, work_by, work_at_put, found_room, found_put, fits_in, writer_works, found_piece, holds, work_of_consume}
+use Rattle.blocking_lanes.specs.Sessions.{Session, Work, found_send, streamer_works, work_by, work_at_put, found_room, found_put, fits_in, writer_works, found_piece, holds, work_of_consume}
+use Rattle.blocking_lanes.specs.Streams as streams
+use Rattle.blocking_lanes.specs.Streams.{ItemAs}
 use Rattle.blocking_lanes.specs.Writes as writes
 use Rattle.blocking_lanes.specs.Writes.{WriteAs}
 use Rattle.blocking_lanes.specs.declared.job.SessionJob.{SessionJob}
@@ -46,12 +52,14 @@ use Rattle.blocking_lanes.specs.declared.job.SessionJob.TheVariants as of_job
 use Rattle.blocking_lanes.specs.declared.owner.OwnerNext.TheVariants as next
 use Rattle.blocking_lanes.specs.declared.owner.OwnerStage.{OwnerStage}
 use Rattle.blocking_lanes.specs.declared.owner.OwnerStage.TheVariants as stage
+use Rattle.blocking_lanes.proofs.owners.Goods.{through_some, through_none}
 use Rattle.blocking_lanes.proofs.owners.Cuts.{its_kind, kind_is, next_stays, passes}
-use Rattle.blocking_lanes.proofs.owners.JobActs.{WorksOn, room_works, put_works, close_works, finish_works, answer_goes, give_up_goes, peek_works, consume_works, writer_close_works, writer_finish_works, writer_answer_goes, asking_goes}
+use Rattle.blocking_lanes.proofs.owners.JobActs.{WorksOn, room_works, put_works, close_works, finish_works, answer_goes, give_up_goes, peek_works, consume_works, writer_close_works, writer_finish_works, writer_answer_goes, item_answer_goes, send_works, streamer_close_works, streamer_finish_works, asking_goes}
 use Rattle.blocking_lanes.proofs.owners.Known.{both_true}
 use Rattle.blocking_lanes.proofs.owners.OwnerActs.{Goes, owner_by_parts, bound, value_of, doing, own_goes}
 use Rattle.blocking_lanes.proofs.owners.PoolAnswers.{ask_goes, drop_goes, refuse_goes, deliver_goes, begin_goes}
 use Rattle.blocking_lanes.proofs.owners.ReadJobs as of_reader
+use Rattle.blocking_lanes.proofs.owners.StreamJobs as of_streamer
 use Rattle.blocking_lanes.proofs.owners.WriteJobs as of_writer
 use Rattle.blocking_lanes.proofs.owners.ReadSessions.{calls}
 
@@ -75,11 +83,11 @@ module _ (bytes : ℕ) (asked : Option HandleCall) (here : OwnerStage) (last : O
     where
       Tied : List Act → Type 0
       Tied l =
-          SessionAs s (kind_in (sessions.last_session (own cut))) (bound bytes) (sessions.last_session (own cut)) (sessions.is_shut (own cut)) (is_none (sessions.session (own cut))) (sessions.is_dropped (own cut))
+          SessionAs s (kind_in (sessions.last_session (own cut))) (bound bytes (kind_in (sessions.last_session (own cut)))) (sessions.last_session (own cut)) (sessions.is_shut (own cut)) (is_none (sessions.session (own cut))) (sessions.is_dropped (own cut))
           (got (own cut)) (accepted (own cut)) l (is_job_seated cut) (pipe_seat cut) (slot_seat cut)
 
       at : (b : Bool) → (n == s.number.serial) ≡ b → Tied (acts_of s.number.serial (woken ∷ cut))
-      at true test = rw test (calls s (kind_in (sessions.last_session (own cut))) (bound bytes) (sessions.last_session (own cut)) (sessions.is_shut (own cut)) (is_none (sessions.session (own cut))) (sessions.is_dropped (own cut))
+      at true test = rw test (calls s (kind_in (sessions.last_session (own cut))) (bound bytes (kind_in (sessions.last_session (own cut)))) (sessions.last_session (own cut)) (sessions.is_shut (own cut)) (is_none (sessions.session (own cut))) (sessions.is_dropped (own cut))
           (got (own cut)) (accepted (own cut)) (acts_of s.number.serial cut) (is_job_seated cut) (pipe_seat cut) (slot_seat cut) t)
       at false test = rw test t
 
@@ -192,6 +200,20 @@ module _ (bytes : ℕ) (asked : Option HandleCall) (here : OwnerStage) (h v firs
   writer_at s t p r of among write.Deliver is work does = absurd (cc)
   writer_at s t p r of among write.Done is work does = absurd (cc)
 
+  -- a job that runs an iterator, at the session
+  streamer_at : (s : Session) (t : OwnerAs (owner_by_parts bytes asked here (Some s)) cut) (p : streams.Progress) (r : ItemAs p (acts_of s.number.serial cut)) → its_kind s (bound bytes) cut t.last ≡ Streaming
+      → is_in s.number.serial (jobs_of (own cut)) ≡ true → (a : ItemAction) → item_next p.core ≡ a → (work : Work streams.Progress) → streamer_works a p s ≡ Some work
+      → WorksOn bytes asked here s h v first growth cut t streams.Progress work
+  streamer_at s t p r of among item.Send is work does =
+      subst (WorksOn bytes asked here s h v first growth cut t streams.Progress) (ap (value_of work) does) (send_works bytes asked here s h v first growth cut t p r of among is (found_send s) refl)
+  streamer_at s t p r of among item.Close is work does =
+      subst (WorksOn bytes asked here s h v first growth cut t streams.Progress) (ap (value_of work) does) (streamer_close_works bytes asked here s h v first growth cut t p r of among is)
+  streamer_at s t p r of among item.Finish is work does =
+      subst (WorksOn bytes asked here s h v first growth cut t streams.Progress) (ap (value_of work) does) (streamer_finish_works bytes asked here s h v first growth cut t p r of among is)
+  streamer_at s t p r of among item.Next is work does = absurd (cc)
+  streamer_at s t p r of among item.Deliver is work does = absurd (cc)
+  streamer_at s t p r of among item.Done is work does = absurd (cc)
+
   -- any act of a job that reads
   read_goes : (last : Option Session) (n : ℕ) → OwnerAs (owner_by_parts bytes asked here last) cut → (p : reads.Progress) → ReadAs p (acts_of n cut) → kind_of_job n (own cut) ≡ Reading
       → is_in n (jobs_of (own cut)) ≡ true → (a : ReadAction) → read_next p.core ≡ a → (done : Worked) → read_as a p (owner_by_parts bytes asked here last) ≡ Some done → WorkGoes n done
@@ -204,14 +226,15 @@ module _ (bytes : ℕ) (asked : Option HandleCall) (here : OwnerStage) (h v firs
           let s = l.session in
           let tied = subst (λ o. OwnerAs (owner_by_parts bytes asked here o) cut) l.here t in
           subst (λ m. WorkGoes m done) (sym l.same)
-          (does_so reads.Progress of_job.Read s tied (work_by a p s)
+          (does_so reads.Progress of_job.Read s tied (through OfBytes s.goods (work_by a p s))
           (λ work works.
           reader_at s tied p (subst (λ m. ReadAs p (acts_of m cut)) l.same r) (kind_at s tied Reading (subst (λ m. kind_of_job m (own cut) ≡ Reading) l.same of))
-          (subst (λ m. is_in m (jobs_of (own cut)) ≡ true) l.same among) a is work works) done (subst (λ o. read_in a o p (owner_by_parts bytes asked here o) ≡ Some done) l.here does))
+          (subst (λ m. is_in m (jobs_of (own cut)) ≡ true) l.same among) a is work (through_some OfBytes s.goods (work_by a p s) work works).1) done (subst (λ o. read_in a o p (owner_by_parts bytes asked here o) ≡ Some done) l.here does))
 
       none_at : (a : ReadAction) (last : Option Session) → ((s : Session) → work_by a p s ≡ None) → read_in a last p (owner_by_parts bytes asked here last) ≡ Some done → WorkGoes n done
       none_at a None none does = absurd (cc)
-      none_at a (Some s) none does = absurd (let never = ap (λ o. worked_by of_job.Read o (owner_by_parts bytes asked here (Some s))) (sym (none s)) ∙ does in cc)
+      none_at a (Some s) none does =
+          absurd (let never = ap (λ o. worked_by of_job.Read o (owner_by_parts bytes asked here (Some s))) (sym (through_none OfBytes s.goods (work_by a p s) (none s))) ∙ does in cc)
 
       by : (a : ReadAction) → read_next p.core ≡ a → read_as a p (owner_by_parts bytes asked here last) ≡ Some done → WorkGoes n done
       by read.FindRoom is does = there read.FindRoom is (λ e. cc) refl does
@@ -237,14 +260,15 @@ module _ (bytes : ℕ) (asked : Option HandleCall) (here : OwnerStage) (h v firs
           let s = l.session in
           let tied = subst (λ o. OwnerAs (owner_by_parts bytes asked here o) cut) l.here t in
           subst (λ m. WorkGoes m done) (sym l.same)
-          (does_so writes.Progress of_job.Write s tied (writer_works a p s)
+          (does_so writes.Progress of_job.Write s tied (through OfBytes s.goods (writer_works a p s))
           (λ work works.
           writer_at s tied p (subst (λ m. WriteAs p (acts_of m cut)) l.same r) (kind_at s tied Writing (subst (λ m. kind_of_job m (own cut) ≡ Writing) l.same of))
-          (subst (λ m. is_in m (jobs_of (own cut)) ≡ true) l.same among) a is work works) done (subst (λ o. write_in a o p (owner_by_parts bytes asked here o) ≡ Some done) l.here does))
+          (subst (λ m. is_in m (jobs_of (own cut)) ≡ true) l.same among) a is work (through_some OfBytes s.goods (writer_works a p s) work works).1) done (subst (λ o. write_in a o p (owner_by_parts bytes asked here o) ≡ Some done) l.here does))
 
       none_at : (a : WriteAction) (last : Option Session) → ((s : Session) → writer_works a p s ≡ None) → write_in a last p (owner_by_parts bytes asked here last) ≡ Some done → WorkGoes n done
       none_at a None none does = absurd (cc)
-      none_at a (Some s) none does = absurd (let never = ap (λ o. worked_by of_job.Write o (owner_by_parts bytes asked here (Some s))) (sym (none s)) ∙ does in cc)
+      none_at a (Some s) none does =
+          absurd (let never = ap (λ o. worked_by of_job.Write o (owner_by_parts bytes asked here (Some s))) (sym (through_none OfBytes s.goods (writer_works a p s) (none s))) ∙ does in cc)
 
       by : (a : WriteAction) → write_next p.core ≡ a → write_as a p (owner_by_parts bytes asked here last) ≡ Some done → WorkGoes n done
       by write.Peek is does = there write.Peek is (λ e. cc) refl does
@@ -259,11 +283,46 @@ module _ (bytes : ℕ) (asked : Option HandleCall) (here : OwnerStage) (h v firs
           (wake_goes bytes asked here last h v n first growth cut t among
           (ap (λ k. next_of_job k (acts_of n cut)) of ∙ sym (of_writer.action_is p (acts_of n cut) r) ∙ ap (writes.action_as p.piece) is))
 
+  -- and of one that runs an iterator
+  stream_goes : (last : Option Session) (n : ℕ) → OwnerAs (owner_by_parts bytes asked here last) cut → (p : streams.Progress) → ItemAs p (acts_of n cut) → kind_of_job n (own cut) ≡ Streaming
+      → is_in n (jobs_of (own cut)) ≡ true → (a : ItemAction) → item_next p.core ≡ a → (done : Worked) → stream_as a p (owner_by_parts bytes asked here last) ≡ Some done → WorkGoes n done
+  stream_goes last n t p r of among a is done does = by a is does
+    where
+      there : (a : ItemAction) → item_next p.core ≡ a → (a ≡ item.Deliver → ⊥) → is_over (streams.action_as p.item a) ≡ false → stream_in a last p (owner_by_parts bytes asked here last) ≡ Some done → WorkGoes n done
+      there a is other goes does =
+          let table = sym r.next ∙ ap (streams.action_as p.item) (of_streamer.awake p a is other).next_is in
+          let l = at_last last n Streaming (streams.action_as p.item a) t among of table goes in
+          let s = l.session in
+          let tied = subst (λ o. OwnerAs (owner_by_parts bytes asked here o) cut) l.here t in
+          subst (λ m. WorkGoes m done) (sym l.same)
+          (does_so streams.Progress of_job.Items s tied (through OfItems s.goods (streamer_works a p s))
+          (λ work works.
+          streamer_at s tied p (subst (λ m. ItemAs p (acts_of m cut)) l.same r) (kind_at s tied Streaming (subst (λ m. kind_of_job m (own cut) ≡ Streaming) l.same of))
+          (subst (λ m. is_in m (jobs_of (own cut)) ≡ true) l.same among) a is work (through_some OfItems s.goods (streamer_works a p s) work works).1) done
+          (subst (λ o. stream_in a o p (owner_by_parts bytes asked here o) ≡ Some done) l.here does))
+
+      none_at : (a : ItemAction) (last : Option Session) → ((s : Session) → streamer_works a p s ≡ None) → stream_in a last p (owner_by_parts bytes asked here last) ≡ Some done → WorkGoes n done
+      none_at a None none does = absurd (cc)
+      none_at a (Some s) none does =
+          absurd (let never = ap (λ o. worked_by of_job.Items o (owner_by_parts bytes asked here (Some s))) (sym (through_none OfItems s.goods (streamer_works a p s) (none s))) ∙ does in cc)
+
+      by : (a : ItemAction) → item_next p.core ≡ a → stream_as a p (owner_by_parts bytes asked here last) ≡ Some done → WorkGoes n done
+      by item.Send is does = there item.Send is (λ e. cc) refl does
+      by item.Close is does = there item.Close is (λ e. cc) refl does
+      by item.Finish is does = there item.Finish is (λ e. cc) refl does
+      by item.Next is does = none_at item.Next last (λ s. refl) does
+      by item.Done is does = none_at item.Done last (λ s. refl) does
+      by item.Deliver is does =
+          subst (WorkGoes n) (ap (value_of done) does)
+          (wake_goes bytes asked here last h v n first growth cut t among
+          (ap (λ k. next_of_job k (acts_of n cut)) of ∙ sym (of_streamer.action_is p (acts_of n cut) r) ∙ ap (streams.action_as p.item) is))
+
   -- any act of its own
   pub works_goes : (last : Option Session) (n : ℕ) → OwnerAs (owner_by_parts bytes asked here last) cut → (job : SessionJob) → JobAs job (acts_of n cut) → kind_of_job n (own cut) ≡ kind_of job
       → is_in n (jobs_of (own cut)) ≡ true → (done : Worked) → worked job (owner_by_parts bytes asked here last) ≡ Some done → WorkGoes n done
   works_goes last n t (of_job.Read p) r of among done does = read_goes last n t p r of among (read_next p.core) refl done does
   works_goes last n t (of_job.Write p) r of among done does = write_goes last n t p r of among (write_next p.core) refl done does
+  works_goes last n t (of_job.Items p) r of among done does = stream_goes last n t p r of among (item_next p.core) refl done does
 
 -- ---- each step
 
@@ -322,6 +381,14 @@ answered bytes asked here last h v n first growth cut t (of_job.Write p) answer 
     (subst (λ o. Goes (owner_by_parts bytes asked here o) cut (by_its_job h v l.session.number.serial (Answered answer) first growth)) (sym l.here)
     (writer_answer_goes bytes asked here l.session h v first growth cut tied p (subst (λ m. WriteAs p (acts_of m cut)) l.same r)
     (kind_at bytes asked here h v first growth cut l.session tied Writing (subst (λ m. kind_of_job m (own cut) ≡ Writing) l.same of)) (subst (λ m. is_in m (jobs_of (own cut)) ≡ true) l.same among) answer is))
+answered bytes asked here last h v n first growth cut t (of_job.Items p) answer of r is among =
+    let q = of_streamer.asks p (acts_of n cut) answer r is in
+    let l = its_last bytes asked here last n cut t among (ap (λ k. is_over (next_but_wake k (acts_of n cut))) of ∙ ap is_over q.table) in
+    let tied = subst (λ o. OwnerAs (owner_by_parts bytes asked here o) cut) l.here t in
+    subst (λ m. Goes (owner_by_parts bytes asked here last) cut (by_its_job h v m (Answered answer) first growth)) (sym l.same)
+    (subst (λ o. Goes (owner_by_parts bytes asked here o) cut (by_its_job h v l.session.number.serial (Answered answer) first growth)) (sym l.here)
+    (item_answer_goes bytes asked here l.session h v first growth cut tied p (subst (λ m. ItemAs p (acts_of m cut)) l.same r)
+    (kind_at bytes asked here h v first growth cut l.session tied Streaming (subst (λ m. kind_of_job m (own cut) ≡ Streaming) l.same of)) (subst (λ m. is_in m (jobs_of (own cut)) ≡ true) l.same among) answer is))
 
 module _ (bytes : ℕ) (asked : Option HandleCall) (last : Option Session) (h v n first : ℕ) (growth : Growth) (cut : List Event) (act : Act) where
   step_by : (step : OwnerStep) (here : OwnerStage) → OwnerAs (owner_by_parts bytes asked here last) cut → IsAllowed step (owner_by_parts bytes asked here last) n cut

@@ -5,7 +5,7 @@ use Rattle.std.proofs.lemmas.Bool.{or_left, or_right, eq-eqb}
 use Rattle.blocking_core.specs.Places.{Served, Waiting, drain, fill}
 use Rattle.blocking_core.specs.Slots.{Content, Empty, Full, GivenUp, Abandoned}
 use Rattle.blocking_core.specs.declared.io.Fault.{Fault}
-use Rattle.blocking_laws.specs.JobTable.{Kind, Reading, Writing, JobAction, FindRoom, Peek, next_but_wake, is_over, fault, has_finished, has_given_up, has_closed}
+use Rattle.blocking_laws.specs.JobTable.{Kind, Reading, Writing, Streaming, JobAction, FindRoom, Peek, SendItem, next_but_wake, is_over, fault, has_finished, has_given_up, has_closed}
 use Rattle.std.specs.Prelude.{not}
 use Rattle.blocking_laws.specs.OwnerLaws.{OwnerActs, Polls}
 use Rattle.blocking_laws.specs.OwnerSeats.{is_job_seated, job_seated_by, note_of, noted}
@@ -24,7 +24,7 @@ use Rattle.blocking_laws.specs.declared.event.Event.{Event}
 use Rattle.blocking_lanes.specs.Owners.{Owner, capacity_of}
 use Rattle.blocking_lanes.specs.OwnerTies.{OwnerAs, LastAs, SlotAs, Flows, IsStuckIn, IsOwnerStuckIn, is_finding, seat_of, is_seated}
 use Rattle.blocking_lanes.specs.Sessions.{Session}
-use Rattle.blocking_lanes.proofs.owners.Cuts.{inside_is, capacity_is}
+use Rattle.blocking_lanes.proofs.owners.Cuts.{inside_is}
 use Rattle.blocking_lanes.proofs.owners.States.{session_is_last}
 
 -- ---- what a job and its owner find, by the kind of the session
@@ -36,13 +36,20 @@ module _ (s : Session) (shut : Bool) (took written : List ℕ) (acts : List Act)
   finding_lasts Reading Peek finding flow = absurd flow.passed_is
   finding_lasts Writing Peek finding flow = flow.written_is.0
   finding_lasts Writing FindRoom finding flow = absurd flow.written_is
+  finding_lasts Streaming (SendItem x) finding flow = flow.passed_is.0
+  finding_lasts Streaming FindRoom finding flow = flow.passed_is.0
+  finding_lasts Streaming Peek finding flow = absurd flow.passed_is
+  finding_lasts Reading (SendItem x) finding flow = flow.passed_is.0
+  finding_lasts Writing (SendItem x) finding flow = absurd flow.written_is
   finding_lasts Reading _ finding flow = absurd (cc)
+  finding_lasts Streaming _ finding flow = absurd (cc)
   finding_lasts Writing _ finding flow = absurd (cc)
   finding_lasts _ a finding flow = absurd flow
 
   -- a job that is over has closed its end, unless it gave up
   over_closed : (kind : Kind) (a : JobAction) → Flows kind s shut took written a acts → is_over a ≡ true → s.pipe.is_job_open ≡ true → has_given_up acts ≡ true
   over_closed Reading a flow over lasts = flow.unclosed over lasts
+  over_closed Streaming a flow over lasts = flow.unclosed over lasts
   over_closed Writing a flow over lasts = flow.unclosed over lasts
   over_closed _ a flow over lasts = absurd flow
 
@@ -52,7 +59,7 @@ not_both s Reading some full none = let empty = ap (λ (l : List ℕ). length l)
 not_both s Writing some none full = let empty = ap (λ (l : List ℕ). length l) none in absurd (omega (arith, full, empty, some))
 not_both s _ some full none = let empty = ap (λ (l : List ℕ). length l) none in absurd (omega (arith, full, empty, some))
 
-module _ (s : Session) (capacity : ℕ) (cut : List Event) (t : LastAs (Some s) capacity cut) where
+module _ (s : Session) (capacity : Kind → ℕ) (cut : List Event) (t : LastAs (Some s) capacity cut) where
   abbrev works : List Act
   works = acts_of s.number.serial cut
 
@@ -100,12 +107,12 @@ module _ (s : Session) (capacity : ℕ) (cut : List Event) (t : LastAs (Some s) 
           ⊎_elim (λ shut. (let open_is = (t.seats.reason.job there).2 in cc)) (λ closed. (let open_is = lasts in cc)) (t.seats.reason.slot sits).1
 
 -- A job that sits in the pipe can't go on, and its owner's end is open.
-pub seated_reason : (s : Session) (bytes : ℕ) (cut : List Event) → sessions.capacity Reading (own cut) ≡ bytes → LastAs (Some s) bytes cut → is_some s.pipe.job_seat ≡ true → HasReason cut
+pub seated_reason : (s : Session) (bytes : Kind → ℕ) (cut : List Event) → ((kind : Kind) → sessions.capacity kind (own cut) ≡ bytes kind) → LastAs (Some s) bytes cut → is_some s.pipe.job_seat ≡ true → HasReason cut
 seated_reason s bytes cut same t seated =
     let reason = t.seats.reason.job seated in
-    (t.lent.shut_is ∙ ap not reason.2, by_kind (kind_in (last_session (own cut))) (capacity_is s bytes cut t same) reason.1)
+    (t.lent.shut_is ∙ ap not reason.2, by_kind (kind_in (last_session (own cut))) (same (kind_in (last_session (own cut)))) reason.1)
   where
-    by_kind : (kind : Kind) → sessions.capacity kind (own cut) ≡ bytes → IsStuckIn kind s → IsStuck kind cut
+    by_kind : (kind : Kind) → sessions.capacity kind (own cut) ≡ bytes (kind_in (last_session (own cut))) → IsStuckIn kind s → IsStuck kind cut
     by_kind Writing whole none = inside_is s bytes cut t ∙ none
     by_kind _ whole full =
         let within = t.lent.within in

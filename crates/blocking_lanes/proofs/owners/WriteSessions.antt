@@ -81,7 +81,7 @@ module _ (s : Session) (capacity : ℕ) (last : Option sessions.Session) (shut b
   peek_parks found e t =
       let none = no_piece 65536 s.pipe.items s.pipe.is_owner_open found in
       record {
-        lent = record { begun = t.lent.begun; some = t.lent.some; holds = t.lent.holds; within = t.lent.within; shut_is = t.lent.shut_is };
+        lent = record { begun = t.lent.begun; goods = t.lent.goods; some = t.lent.some; holds = t.lent.holds; within = t.lent.within; shut_is = t.lent.shut_is };
         flow = record {
           closed_is = t.flow.closed_is;
           out = t.flow.out;
@@ -155,7 +155,7 @@ module _ (s : Session) (capacity : ℕ) (last : Option sessions.Session) (shut b
       let shorter : length rest ≤ length s.pipe.items = simp length-drop (omega arith) in
       let many : length first ≡ n = length-take n s.pipe.items ∙ omega (arith, fits) in
       record {
-        lent = record { begun = t.lent.begun; some = t.lent.some; holds = t.lent.holds; within = omega (arith, shorter, within); shut_is = t.lent.shut_is };
+        lent = record { begun = t.lent.begun; goods = t.lent.goods; some = t.lent.some; holds = t.lent.holds; within = omega (arith, shorter, within); shut_is = t.lent.shut_is };
         flow = record {
           closed_is = t.flow.closed_is;
           out = t.flow.out ++ first;

@@ -22,6 +22,8 @@ use Rattle.blocking_lanes.specs.Calls.{RanAs}
 use Rattle.blocking_lanes.specs.OwnerSteps as owners
 use Rattle.blocking_lanes.specs.OwnerSteps.{act_of_work}
 use Rattle.blocking_lanes.specs.Owners.{Owner, Worked, read_as, read_in, worked, worked_by, write_as, write_in}
+use Rattle.blocking_lanes.specs.Passages.{OfBytes}
+use Rattle.blocking_lanes.proofs.owners.Goods.{through_none}
 use Rattle.blocking_lanes.specs.Reads as reads
 use Rattle.blocking_lanes.specs.SessionJobs as jobs
 use Rattle.blocking_lanes.specs.SessionJobs.{JobAs}
@@ -100,11 +102,11 @@ call_some at k call all row task = by (call_step at call) ∙ call_own at k call
 -- what has no act at a session does nothing there
 read_none : (a : ReadAction) (last : Option Session) (p : reads.Progress) (owner : Owner) → ((s : Session) → work_by a p s ≡ None) → is_some (read_in a last p owner) ≡ false
 read_none a None p owner none = refl
-read_none a (Some s) p owner none = ap (λ o. is_some (worked_by job_of.Read o owner)) (none s)
+read_none a (Some s) p owner none = ap (λ o. is_some (worked_by job_of.Read o owner)) (through_none OfBytes s.goods (work_by a p s) (none s))
 
 write_none : (a : WriteAction) (last : Option Session) (p : writes.Progress) (owner : Owner) → ((s : Session) → writer_works a p s ≡ None) → is_some (write_in a last p owner) ≡ false
 write_none a None p owner none = refl
-write_none a (Some s) p owner none = ap (λ o. is_some (worked_by job_of.Write o owner)) (none s)
+write_none a (Some s) p owner none = ap (λ o. is_some (worked_by job_of.Write o owner)) (through_none OfBytes s.goods (writer_works a p s) (none s))
 
 -- a job of a session does something exactly where that is its own to do: what asks its handle, or is over, doesn't
 read_own : (a : ReadAction) (p : reads.Progress) (owner : Owner) → (is_asking (reads.action_as p.piece a) ≡ false → is_over (reads.action_as p.piece a) ≡ false → is_some (read_as a p owner) ≡ true)

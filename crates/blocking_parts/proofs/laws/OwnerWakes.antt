@@ -10,7 +10,7 @@ use Rattle.blocking_lanes.specs.declared.owner.OwnerStage.{OwnerStage}
 use Rattle.blocking_lanes.specs.declared.owner.OwnerStage.TheVariants as stage
 use Rattle.blocking_lanes.proofs.owners.States.{session_is_last}
 use Rattle.blocking_lanes.proofs.owners.Wakes.{not_lost, seated_reason}
-use Rattle.blocking_laws.specs.JobTable.{Reading, has_finished, has_given_up}
+use Rattle.blocking_laws.specs.JobTable.{Kind, has_finished, has_given_up}
 use Rattle.blocking_laws.specs.Jobs.{holder, standing, is_parked, is_running, is_woken}
 use Rattle.blocking_laws.specs.OwnerSeats.{is_job_seated}
 use Rattle.blocking_laws.specs.OwnerTable.{note_in}
@@ -62,7 +62,7 @@ session_among acts s of = by (session acts) refl of
 -- ---- where the owner meets its job
 
 -- a job that sits in the pipe was seen to be seated
-seated_seen : (last : Option Session) (bytes : ℕ) (X : List Event) (s : ℕ) → LastAs last bytes X → is_number (seated_in last) s ≡ true → is_job_seated X ≡ true
+seated_seen : (last : Option Session) (bytes : Kind → ℕ) (X : List Event) (s : ℕ) → LastAs last bytes X → is_number (seated_in last) s ≡ true → is_job_seated X ≡ true
 seated_seen None bytes X s t is = absurd cc
 seated_seen (Some held) bytes X s t is = by (is_job_seated X) (ap (λ o. is_number o s) (sym t.seats.job) ∙ is)
   where
@@ -89,7 +89,7 @@ waits_met owner X s t waits (inr noted) = absurd (none_noted owner.stage X s t.s
 -- ---- why a job waits
 
 -- a job that sits in the pipe has reason to
-seated_so : (last : Option Session) (bytes : ℕ) (X : List Event) (s : ℕ) → capacity Reading (own X) ≡ bytes → LastAs last bytes X → is_number (seated_in last) s ≡ true → HasReason X
+seated_so : (last : Option Session) (bytes : Kind → ℕ) (X : List Event) (s : ℕ) → ((kind : Kind) → capacity kind (own X) ≡ bytes kind) → LastAs last bytes X → is_number (seated_in last) s ≡ true → HasReason X
 seated_so None bytes X s same t is = absurd cc
 seated_so (Some held) bytes X s same t is = seated_reason held bytes X same t (some_seat held.pipe.job_seat is)
   where

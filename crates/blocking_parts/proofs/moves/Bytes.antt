@@ -45,6 +45,8 @@ use Rattle.blocking_parts.specs.Rows as rows
 use Rattle.blocking_parts.specs.Rows.{Done, call_done, call_step, call_step_by, session_done, session_seen, session_step}
 use Rattle.blocking_parts.specs.declared.row.Core.{Core}
 use Rattle.blocking_parts.specs.declared.row.Core.TheVariants as core
+use Rattle.blocking_lanes.specs.Passages.{OfBytes}
+use Rattle.blocking_lanes.proofs.owners.Goods.{through_by}
 use Rattle.blocking_parts.proofs.moves.Fills.{by_fill}
 use Rattle.blocking_parts.proofs.moves.SessionActs.{DoesSo, carried_at, moved, seen as seen_at, worked_so}
 use Rattle.blocking_parts.proofs.ties.Events.{SaidBy, said}
@@ -87,7 +89,8 @@ replies None p owner n = tt
 
 polls : (a : OwnerAction ℕ) (p : OwnerMachine ℕ) (last : Option Session) (owner : Owner) → Carries (did_in a p last owner) (bytes_in (next_by a last))
 polls (action.Reply reply) p last owner = replies (reply_as reply) p owner _
-polls (action.Drain most) p (Some s) owner = got_within most s.pipe.items s.pipe.is_job_open s.pipe.job_seat p s owner
+polls (action.Drain most) p (Some s) owner =
+    through_by (λ o. Carries o (bytes_in (next_by (action.Drain most) (Some s)))) OfBytes s.goods _ tt (got_within most s.pipe.items s.pipe.is_job_open s.pipe.job_seat p s owner)
 polls (action.Fill most) p last owner = by_fill (λ o. Carries o 0) p owner.asked last owner tt (λ bytes s met here found. fills bytes met p s owner)
 polls action.DropHandle p last owner = omega arith
 polls action.PollSlot p (Some s) owner = looks s.slot.content p (session_after_look s.slot.content s) owner _

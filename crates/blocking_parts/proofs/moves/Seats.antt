@@ -15,6 +15,7 @@ use Rattle.blocking_laws.specs.declared.event.Reply.{Reply as Told}
 use Rattle.blocking_laws.specs.declared.step.HandleCall.{HandleCall}
 use Rattle.blocking_lanes.specs.Owners.{Owner, Did, Worked, after_ask, did, did_by, did_in, drain_did, fill_did, goes_on, is_resting, look_did, looked_as, note_at, number_in, number_of, owner_after_ask, owner_after_delivery, owner_after_drop, owner_after_give_up, owner_after_refusal, reply_as, reply_did, rests, stage_after_delivery, stage_after_drop, stage_after_refusal, without_job, worked}
 use Rattle.blocking_lanes.specs.OwnerTies.{seat_of}
+use Rattle.blocking_lanes.specs.Passages.{OfBytes}
 use Rattle.blocking_lanes.specs.Sessions.{Session, drained, filled, reach, session_after_look}
 use Rattle.blocking_lanes.specs.declared.job.SessionJob.{SessionJob}
 use Rattle.blocking_lanes.specs.declared.owner.OwnerStage.{OwnerStage}
@@ -22,6 +23,7 @@ use Rattle.blocking_lanes.specs.declared.owner.OwnerStage.TheVariants as stage
 use Rattle.blocking_pool.specs.Jobs.{JobNumber}
 use Rattle.blocking_pool.specs.declared.pool.answer.Refusal.{Refusal}
 use Rattle.blocking_parts.specs.Ties.{IsMet, is_number, seated_in}
+use Rattle.blocking_lanes.proofs.owners.Goods.{through_some}
 use Rattle.blocking_parts.proofs.moves.Fills.{by_fill}
 use Rattle.blocking_parts.proofs.moves.SessionActs.{SessionAct, FindsRoom, Puts, Peeks, TakesOut, Closes, Finishes, ActsAt, DoesSo, Fits, after, moved, seen, worked_so}
 
@@ -103,7 +105,7 @@ module _ (owner : Owner) (s : ℕ) (done : Did) (poll : OwnerMachine ℕ) where
       told None does = absurd cc
   acts_met action.Close (Some session) here does seat =
       moved (λ (d : Did). IsMet d.owner s) _ done does (inr (ap (λ o. is_number o s) (noted_on _ session.pipe.job_seat) ∙ seat))
-  acts_met (action.Drain most) (Some session) here does seat = drains (drained (reach most session) session) refl does
+  acts_met (action.Drain most) (Some session) here does seat = drains (drained (reach most session) session) refl (through_some OfBytes session.goods _ done does).1
     where
       drains : (met : Met (List ℕ × Option JobNumber)) → drained (reach most session) session ≡ met → Some (drain_did met poll session owner) ≡ Some done → IsMet done.owner s
       drains (Served got) found does =

@@ -15,12 +15,14 @@ use Rattle.blocking_core.specs.declared.job.write.WriteAction.TheVariants as wri
 use Rattle.blocking_crew.specs.Crews.{may_act}
 use Rattle.blocking_crew.specs.declared.hand.Stage.TheVariants as stage
 use Rattle.blocking_lanes.specs.Owners.{Owner, Worked, number_of, read_as, read_in, worked, worked_by, write_as, write_in}
+use Rattle.blocking_lanes.specs.Passages.{Goods, OfBytes, through}
 use Rattle.blocking_lanes.specs.Reads as reads
 use Rattle.blocking_lanes.specs.SessionJobs.{action_of, kind_of}
 use Rattle.blocking_lanes.specs.Sessions.{Session, Work, closing_wakes, finish_wakes, fits_in, found_piece, found_put, found_room, front, holds, session_after_consume, session_after_finish, session_after_job_close, session_after_peek, session_after_put, session_after_room, work_at_put, work_by, work_of_consume, writer_works}
 use Rattle.blocking_lanes.specs.Writes as writes
 use Rattle.blocking_lanes.specs.declared.job.SessionJob.{SessionJob}
 use Rattle.blocking_lanes.specs.declared.job.SessionJob.TheVariants as job_of
+use Rattle.blocking_lanes.proofs.owners.Goods.{through_some}
 use Rattle.blocking_laws.specs.JobTable.{Reading, Writing, FindRoom, Peek}
 use Rattle.blocking_laws.specs.Places.{seen_peek, seen_put, seen_room}
 use Rattle.blocking_laws.specs.Seats.{waker_in}
@@ -88,6 +90,15 @@ never_waits : (n free : ℕ) (lasts : Bool) (seat : Option (Unit {0})) → nat_l
 never_waits n free false seat fits is = cc
 never_waits n free true seat fits is = let served = ap (λ b. if b then Served seat else Waiting) fits in cc
 
+-- what is done where such things pass as are wanted would be done anyhow
+works_anyhow : (J : Type 0) (of : J → SessionJob) (wanted there : Goods) (work : Option (Work J)) (owner : Owner) (done : Worked) → worked_by of (through wanted there work) owner ≡ Some done
+    → worked_by of work owner ≡ Some done
+works_anyhow J of wanted there work owner done does = by (through wanted there work) refl does
+  where
+    by : (o : Option (Work J)) → through wanted there work ≡ o → worked_by of o owner ≡ Some done → worked_by of work owner ≡ Some done
+    by None is does = absurd cc
+    by (Some some) is does = ap (λ o. worked_by of o owner) (through_some wanted there work some is).1 ∙ does
+
 -- the acts of a job that reads
 read_at : (a : ReadAction) (p : reads.Progress) (owner : Owner) (done : Worked) → read_next p.core ≡ a → (s : Session) → owner.session ≡ Some s → worked_by job_of.Read (work_by a p s) owner ≡ Some done
     → ActsAt (job_of.Read p) owner done
@@ -120,7 +131,7 @@ read_does a p owner done is does = by a is does
   where
     there : (a : ReadAction) → read_next p.core ≡ a → (last : Option Session) → owner.session ≡ last → read_in a last p owner ≡ Some done → DoesSo (job_of.Read p) owner done
     there a is None here does = absurd cc
-    there a is (Some s) here does = inr (read_at a p owner done is s here does)
+    there a is (Some s) here does = inr (read_at a p owner done is s here (works_anyhow reads.Progress job_of.Read OfBytes s.goods (work_by a p s) owner done does))
 
     by : (a : ReadAction) → read_next p.core ≡ a → read_as a p owner ≡ Some done → DoesSo (job_of.Read p) owner done
     by read.Deliver is does = inl (moved (λ (d : Worked). (d.act ≡ HolderWoken) × (d.owner ≡ owner)) _ done does (refl, refl))
@@ -157,7 +168,7 @@ write_does a p owner done is does = by a is does
   where
     there : (a : WriteAction) → write_next p.core ≡ a → (last : Option Session) → owner.session ≡ last → write_in a last p owner ≡ Some done → DoesSo (job_of.Write p) owner done
     there a is None here does = absurd cc
-    there a is (Some s) here does = inr (write_at a p owner done is s here does)
+    there a is (Some s) here does = inr (write_at a p owner done is s here (works_anyhow writes.Progress job_of.Write OfBytes s.goods (writer_works a p s) owner done does))
 
     by : (a : WriteAction) → write_next p.core ≡ a → write_as a p owner ≡ Some done → DoesSo (job_of.Write p) owner done
     by write.Deliver is does = inl (moved (λ (d : Worked). (d.act ≡ HolderWoken) × (d.owner ≡ owner)) _ done does (refl, refl))
@@ -225,7 +236,7 @@ same_kind (job_of.Read p) owner done does = by (read_next p.core) does
 
     there : (a : ReadAction) (last : Option Session) → read_in a last p owner ≡ Some done → kind_of done.job ≡ Reading
     there a None does = absurd cc
-    there a (Some s) does = works (work_by a p s) does
+    there a (Some s) does = works (through OfBytes s.goods (work_by a p s)) does
 
     by : (a : ReadAction) → read_as a p owner ≡ Some done → kind_of done.job ≡ Reading
     by read.Deliver does = moved (λ (d : Worked). kind_of d.job ≡ Reading) _ done does refl
@@ -243,7 +254,7 @@ same_kind (job_of.Write p) owner done does = by (write_next p.core) does
 
     there : (a : WriteAction) (last : Option Session) → write_in a last p owner ≡ Some done → kind_of done.job ≡ Writing
     there a None does = absurd cc
-    there a (Some s) does = works (writer_works a p s) does
+    there a (Some s) does = works (through OfBytes s.goods (writer_works a p s)) does
 
     by : (a : WriteAction) → write_as a p owner ≡ Some done → kind_of done.job ≡ Writing
     by write.Deliver does = moved (λ (d : Worked). kind_of d.job ≡ Writing) _ done does refl

@@ -12,7 +12,8 @@ use Rattle.blocking_crew.specs.declared.hand.Held.{Held}
 use Rattle.blocking_lanes.specs.OwnerSteps as owners
 use Rattle.blocking_core.specs.declared.unblock.OwnerAction.TheVariants as action
 use Rattle.blocking_lanes.specs.OwnerTies.{OwnerAs, BeginsBy}
-use Rattle.blocking_lanes.specs.Owners.{Owner, after_begin, capacity_of, new_job_of, next_at, number_of}
+use Rattle.blocking_lanes.specs.Passages.{Goods}
+use Rattle.blocking_lanes.specs.Owners.{Owner, after_begin, capacity_asked, goods_asked, new_job_of, next_at, number_of}
 use Rattle.blocking_lanes.specs.SessionJobs as jobs
 use Rattle.blocking_lanes.specs.SessionJobs.{JobAs, new_job}
 use Rattle.blocking_lanes.specs.Sessions.{Session}
@@ -190,11 +191,11 @@ accepted_kind : (h s n first started : ℕ) (refused : Bool) (seen : List Event)
 accepted_kind h s n first started refused seen is = rw (eq-eqb h h refl, is) refl
 
 -- where a session begins, it is that of the new job
-begins_with : (number : JobNumber) (pipe : Pipe ℕ (Unit {0})) (here : OwnerStage) (owner : Owner) → next_at here owner.session ≡ next.Begins → number_of (after_begin number pipe here owner) ≡ Some number
-begins_with number pipe (stage.Polls poll) owner is = refl
-begins_with number pipe (stage.Rests at) owner is = absurd cc
-begins_with number pipe (stage.Wakes poll note) owner is = absurd cc
-begins_with number pipe stage.Dropped owner is = absurd cc
+begins_with : (number : JobNumber) (goods : Goods) (pipe : Pipe ℕ (Unit {0})) (here : OwnerStage) (owner : Owner) → next_at here owner.session ≡ next.Begins → number_of (after_begin number goods pipe here owner) ≡ Some number
+begins_with number goods pipe (stage.Polls poll) owner is = refl
+begins_with number goods pipe (stage.Rests at) owner is = absurd cc
+begins_with number goods pipe (stage.Wakes poll note) owner is = absurd cc
+begins_with number goods pipe stage.Dropped owner is = absurd cc
 
 module _ (setting : ℕ) (plan : List Bool) (w : Parts) (past : List Moment) (t : Tied setting plan w past) (e : Event) (new : Parts) (number : JobNumber)
     (numbers : (s : ℕ) (row : Row) → row_of w.rows s ≡ Some row → IsNumberOf new.crew.pool row.number) where
@@ -256,6 +257,6 @@ module _ (setting : ℕ) (plan : List Bool) (w : Parts) (past : List Moment) (t 
           let place = eqb-true h j same in
           let at : slice_get (slice_set w.owners h begun) j ≡ Some begun = ap (slice_get (slice_set w.owners h begun)) (sym place) ∙ got_same w.owners h begun (slice_get_within w.owners h owner may.0) in
           let one : begun ≡ other = cc in
-          let both : Some number ≡ Some last = sym (begins_with number (empty_pipe (capacity_of owner)) owner.stage owner may.1) ∙ ap number_of one ∙ is in
+          let both : Some number ≡ Some last = sym (begins_with number (goods_asked owner) (empty_pipe (capacity_asked owner)) owner.stage owner may.1) ∙ ap number_of one ∙ is in
           inr (cc, ap ByOwner place)
       lent j false apart other last found is = inl (sym (got_other w.owners h j begun (λ place. let this = eq-eqb h j place in absurd cc)) ∙ found)

@@ -11,7 +11,7 @@ use Rattle.blocking_lanes.specs.Owners.{Owner, capacity_of, number_in, number_of
 use Rattle.blocking_lanes.specs.Sessions.{Session}
 use Rattle.blocking_lanes.specs.Tasks.{Task}
 use Rattle.blocking_parts.proofs.rows.SessionJobs.{first_of_table}
-use Rattle.blocking_laws.specs.JobTable.{Over, next_but_wake, has_given_up}
+use Rattle.blocking_laws.specs.JobTable.{Kind, Over, next_but_wake, has_given_up}
 use Rattle.blocking_laws.specs.Jobs.{holder, is_holder, standing, is_marked}
 use Rattle.blocking_laws.specs.Passed.{is_serial}
 use Rattle.blocking_laws.specs.Seen.{events, acts_of, own, cut}
@@ -55,7 +55,7 @@ not_over h (core.Call k call) acts party first stays so over = cc
 not_over h (core.Session g job) acts party first stays so over = let begins = sym (ap is_first over) ∙ first_of_table job acts (so stays) first in cc
 
 -- the last session's job
-number_is : (last : Option Session) (bytes : ℕ) (cut : List Event) (s : ℕ) → LastAs last bytes cut → is_serial (last_session (own cut)) (Some s) ≡ true → is_serial_of (number_in last) s ≡ true
+number_is : (last : Option Session) (bytes : Kind → ℕ) (cut : List Event) (s : ℕ) → LastAs last bytes cut → is_serial (last_session (own cut)) (Some s) ≡ true → is_serial_of (number_in last) s ≡ true
 number_is None bytes cut s t is = absurd (let none = ap (λ r. is_serial r (Some s)) (sym t.0) ∙ is in cc)
 number_is (Some session) bytes cut s t is =
     let same : s ≡ session.number.serial = eqb-true s session.number.serial (ap (λ r. is_serial r (Some s)) (sym t.lent.begun) ∙ is) in

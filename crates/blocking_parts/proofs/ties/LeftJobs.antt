@@ -28,7 +28,7 @@ use Rattle.blocking_lanes.proofs.owners.OwnerActs.{fits_at, owner_by_parts, valu
 use Rattle.blocking_lanes.proofs.owners.ReadSessions.{going}
 use Rattle.blocking_lanes.proofs.owners.Steps.{IsLast, begins_at, its_last}
 use Rattle.blocking_laws.specs.Growth.{IsPlanned}
-use Rattle.blocking_laws.specs.JobTable.{next_but_wake, is_over, fault, has_finished, has_given_up}
+use Rattle.blocking_laws.specs.JobTable.{Kind, next_but_wake, is_over, fault, has_finished, has_given_up}
 use Rattle.blocking_laws.specs.Jobs.{holder, standing, is_woken}
 use Rattle.blocking_laws.specs.Legal.{PoolLaw}
 use Rattle.blocking_laws.specs.OwnerSeats.{is_job_seated}
@@ -66,12 +66,12 @@ use Rattle.blocking_parts.proofs.ties.CrewEvents.{by_no_worker, by_worker}
 -- ---- the last session
 
 -- the seat is empty, or that of its job
-seat_as : (last : Option Session) (bytes : ℕ) (X : List Event) → LastAs last bytes X → SeatAs (is_job_seated X) last
+seat_as : (last : Option Session) (bytes : Kind → ℕ) (X : List Event) → LastAs last bytes X → SeatAs (is_job_seated X) last
 seat_as None bytes X t = tt
 seat_as (Some session) bytes X t = t.seats.job
 
 -- while its job isn't over, the handle isn't back
-still_lent : (session : Session) (bytes : ℕ) (X : List Event) → LastAs (Some session) bytes X → is_over (next_but_wake (kind_of_job session.number.serial (own X)) (acts_of session.number.serial X)) ≡ false
+still_lent : (session : Session) (bytes : Kind → ℕ) (X : List Event) → LastAs (Some session) bytes X → is_over (next_but_wake (kind_of_job session.number.serial (own X)) (acts_of session.number.serial X)) ≡ false
     → is_none (sessions.session (own X)) ≡ false
 still_lent session bytes X t goes =
     let works = acts_of session.number.serial X in

@@ -5,6 +5,7 @@ use Rattle.std.proofs.Math.ListN.{drop_of_length-le}
 use Rattle.blocking_core.specs.Places.{Served, peek}
 use Rattle.blocking_lanes.specs.Sessions.{Session, work_at_peek}
 use Rattle.blocking_lanes.specs.contracts.session.Session.{the_view}
+use Rattle.blocking_lanes.specs.declared.passage.Passage.TheVariants.{Bytes}
 use Rattle.blocking_lanes.proofs.session.Session.find_piece.Goals as goal
 
 -- a look into room for all that a piece has finds that piece, and fills the room
@@ -22,13 +23,16 @@ found (x ∷ xs) out shown lasts n room some count is =
 pub returns-clause-ok : goal.returns-clause-ok
 returns-clause-ok c =
     let e = c.in-Some.ensures in
-    let inner = ap (λ (s : Session). length s.pipe.items) c.self.view_is in
+    let pipe = c.in-Bytes.pipe in
+    let here = the_view (record c.self.inside { passage = Bytes pipe }) in
+    let seen : here ≡ c.args.self.now = sym (ap (λ passage. the_view (record c.self.inside { passage = passage })) c.in-Bytes.is) ∙ c.self.view_is in
+    let inner = ap (λ (s : Session). length s.pipe.items) seen in
     let whole : length c.in_ok-room.room.items ≡ c.in_ok-room.room.len = sym c.in_ok-room.room.ok.0 in
-    let many : c.in_ok-room.room.len ≡ min (length c.self.inside.pipe.items) 65536 = c.in_ok-room.ensures.len ∙ c.front.ensures ∙ ap (λ n. min n 65536) (sym inner) in
+    let many : c.in_ok-room.room.len ≡ min (length pipe.items) 65536 = c.in_ok-room.ensures.len ∙ c.front.ensures ∙ ap (λ n. min n 65536) (sym inner) in
     let is_room = ap (λ (l : List ℕ). length l) c.as_mut_slice.ensures.value ∙ whole in
-    let met = found c.self.inside.pipe.items c.as_mut_slice.result.now c.peek_or_seat.new.out c.self.inside.pipe.is_owner_open c.in-Some._all_of_it (is_room ∙ many) e.0 e.2 e.4 in
+    let met = found pipe.items c.as_mut_slice.result.now c.peek_or_seat.new.out pipe.is_owner_open c.in-Some._all_of_it (is_room ∙ many) e.0 e.2 e.4 in
     let piece : c.new-piece.result ≡ c.peek_or_seat.new.out = c.new-piece.ensures ∙ with_items_is c.in_ok-room.room c.peek_or_seat.new.out (met.1 ∙ is_room) in
     let told : c.in_ok-told.told ≡ c.new-piece.result = c.in_ok-told.ensures in
     let after = c.find.ensures in
     let same = e.3 in
-    rw (sym c.self.view_is) (ap (λ m. work_at_peek m c.args.job.now (the_view c.self.inside)) met.0 ∙ cc)
+    rw (sym seen) (ap (λ m. work_at_peek m c.args.job.now here) met.0 ∙ cc)

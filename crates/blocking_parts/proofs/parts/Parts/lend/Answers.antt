@@ -1,7 +1,8 @@
 use Rattle.std.proofs.Common.{◌≡◌, ◌++◌, ◌∷◌, ◌<◌, [], length, sym, ap, ◌∙◌, subst, Some, IfSome}
 use Rattle.std.specs.Prelude.{slice_get, slice_set}
 use Rattle.blocking_lanes.specs.OwnerSteps as owners_steps
-use Rattle.blocking_lanes.specs.Owners.{Owner, capacity_of, new_job_of, next_of, owner_after_begin}
+use Rattle.blocking_lanes.specs.Owners.{Owner, capacity_asked, goods_asked, new_job_of, next_of, owner_after_begin}
+use Rattle.blocking_lanes.specs.Passages.{pipe_in}
 use Rattle.blocking_core.specs.Pipes.{empty_pipe}
 use Rattle.blocking_lanes.specs.declared.owner.OwnerNext.TheVariants as next
 use Rattle.blocking_laws.specs.declared.step.Step.TheVariants.{Own}
@@ -30,7 +31,8 @@ returns-clause-ok g c =
           (lent may_answer w c.args.place old c.add-added.result.number b.put.new.rows.items (slice_set w.owners c.args.place b.begin.new.self) c.add-added.result.event c.add-added.new.self found begins c.add-added.ensures
           (b.put.ensures ∙ ap (λ l. l ++ b.of_session.result ∷ []) c.reserve.ensures.items ∙ ap (λ row. w.rows ++ row ∷ []) (b.of_session.ensures ∙ ap (session_row b.in-Ok-number.number c.args.place) b.new_job-job.ensures)
           ∙ sym (ap (rows_after_add w.rows (λ number. session_row number c.args.place (new_job_of old))) b.in-Ok-number.is))
-          (ap (slice_set w.owners c.args.place) (b.begin.ensures ∙ ap (λ pipe. owner_after_begin b.in-Ok-number.number pipe old) (c.in-Ok.ensures ∙ ap (λ (o : Owner). empty_pipe (capacity_of o)) same))
+          (ap (slice_set w.owners c.args.place) (b.begin.ensures ∙ ap (λ goods. owner_after_begin b.in-Ok-number.number goods (pipe_in c.in-Ok.passage) old) (c.in-Ok.ensures.goods ∙ ap goods_asked same)
+          ∙ ap (λ pipe. owner_after_begin b.in-Ok-number.number (goods_asked old) pipe old) (c.in-Ok.ensures.pipe ∙ ap (λ (o : Owner). empty_pipe (capacity_asked o)) same))
           ∙ sym (ap (λ a. slice_set w.owners c.args.place (owners_steps.owner_after (lent_step a) old)) b.in-Ok-number.is)))
       | in-Err b ↦
           subst (Moves may_answer (Own c.args.place) w c.add-added.result.event) (sym b.self-is)
