@@ -5,6 +5,10 @@
 #[cfg(test)]
 mod call_core;
 #[cfg(test)]
+mod calls;
+#[cfg(test)]
+mod job_cores;
+#[cfg(test)]
 mod lent;
 #[cfg(test)]
 mod limit;

@@ -1,3 +1,4 @@
+pub mod Types
 pub mod growth
 pub mod jobs
 pub mod hands

@@ -1,4 +1,3 @@
 pub mod Reads
-pub mod Entries
-pub mod Again
+pub mod Calls
 pub mod Sweeps

@@ -7,7 +7,7 @@ use Rattle.blocking_pool.specs.declared.pool.standing.Standing.{Standing}
 use Rattle.blocking_pool.specs.declared.pool.standing.Standing.TheVariants as standing
 use Rattle.blocking_pool.specs.declared.pool.token.WorkerPass.{WorkerPass}
 use Rattle.blocking_laws.specs.declared.event.Act.{Act}
-use Rattle.blocking_laws.specs.declared.event.Act.TheVariants.{Answered, RoomFree, RoomShut, JobParked, Put, Lost, Peeked, Drained, Taken as TakenOut, JobClosed, Finished, GaveUp as GivesUp, HolderWoken}
+use Rattle.blocking_laws.specs.declared.event.Act.TheVariants.{Answered, RoomFree, RoomShut, JobParked, Put, Lost, Peeked, Drained, Taken as TakenOut, JobClosed, ResultPut, Finished, GaveUp as GivesUp, HolderWoken}
 use Rattle.blocking_laws.specs.declared.event.HolderWaker.TheVariants.{Taken, Absent}
 use Rattle.blocking_crew.specs.Tickets.{JobPool, job_pool_code, AreValued}
 use Rattle.blocking_crew.specs.contracts.hand.Hand.{the_row as hands}
@@ -43,6 +43,7 @@ may_act Runs (Peeked bytes) = true
 may_act Runs Drained = true
 may_act Runs (TakenOut n waker) = true
 may_act Runs (JobClosed waker) = true
+may_act Runs (ResultPut waker) = true
 may_act Runs (Finished waker) = true
 may_act Runs HolderWoken = true
 may_act MustGiveUp (GivesUp waker) = true

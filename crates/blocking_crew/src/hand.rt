@@ -58,6 +58,7 @@ impl Stage {
             | Act::Drained
             | Act::Taken(_, _)
             | Act::JobClosed(_)
+            | Act::ResultPut(_)
             | Act::Finished(_) => matches!(self, Stage::Runs),
             Act::GaveUp(_) => matches!(self, Stage::MustGiveUp),
             Act::HolderWoken => matches!(self, Stage::Runs | Stage::MustWake),

@@ -1,4 +1,4 @@
 pub mod Calls
-pub mod Own
-pub mod OfJob
+pub mod TaskActs
+pub mod JobActs
 pub mod Steps

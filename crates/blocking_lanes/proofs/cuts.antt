@@ -1,3 +1,3 @@
 pub mod Acts
 pub mod Events
-pub mod InTime
+pub mod TimelyCalls

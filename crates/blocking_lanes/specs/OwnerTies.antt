@@ -1,18 +1,21 @@
 -- How owners hang together with what was seen: each with its cut.
 use Rattle.std.specs.Prelude.{◌≡◌, ◌<◌, ◌≤◌, ◌+◌, ◌⊎◌, ◌||◌, ℕ, zero, suc, not, Bool, true, false, List, [], ◌∷◌, ◌++◌, length, take, slice_get, Option, Some, None, is_some, is_none}
-use Rattle.blocking_core.specs.OwnerCalls.{OwnerMachine}
+use Rattle.blocking_core.specs.OwnerCalls.{OwnerMachine, has_pipe}
 use Rattle.blocking_core.specs.Pipes.{room}
 use Rattle.blocking_core.specs.Slots.{Content, Empty, Full, GivenUp, Abandoned}
 use Rattle.blocking_core.specs.declared.io.Fault.{Fault}
 use Rattle.blocking_core.specs.declared.unblock.OwnerAction.{OwnerAction}
 use Rattle.blocking_core.specs.declared.unblock.OwnerAction.TheVariants as action
+use Rattle.blocking_core.specs.declared.unblock.OwnerEnd.{OwnerEnd}
 use Rattle.blocking_core.specs.declared.unblock.OwnerEnd.TheVariants.{Open, Shut}
 use Rattle.blocking_core.specs.declared.unblock.Reply.{Reply}
 use Rattle.blocking_core.specs.declared.unblock.Reply.TheVariants as reply
+use Rattle.blocking_core.specs.declared.unblock.SessionKind.{SessionKind}
+use Rattle.blocking_core.specs.declared.unblock.SessionKind.TheVariants as session_kind
 use Rattle.blocking_core.specs.declared.unblock.State.{State}
 use Rattle.blocking_core.specs.declared.unblock.State.TheVariants as state
 use Rattle.blocking_laws.specs.Ends.{handle_answers, has_failure, has_failed_write, has_flush, last_is_end, came_back, IsReadBack, IsFlushedBack}
-use Rattle.blocking_laws.specs.JobTable.{Kind, Calling, Reading, Writing, JobAction, FindRoom, AskBytes, PutPiece, Peek, OfferBytes, Consume, AskFlush, CloseEnd, Finish, Over, next_but_wake, is_over, fault, has_closed, has_finished, has_given_up}
+use Rattle.blocking_laws.specs.JobTable.{Kind, Reading, Writing, Streaming, Seeking, Operating, JobAction, FindRoom, AskBytes, PutPiece, Peek, OfferBytes, Consume, AskFlush, CloseEnd, Finish, Over, next_but_wake, is_over, fault, has_closed, has_finished, has_given_up}
 use Rattle.blocking_laws.specs.Jobs.{holder}
 use Rattle.blocking_laws.specs.OwnerLaws.{OwnerLaws}
 use Rattle.blocking_laws.specs.OwnerSeats.{is_job_seated, pipe_seat, slot_seat}
@@ -22,9 +25,10 @@ use Rattle.blocking_laws.specs.Passed.{gave, got, answered, was_put, data_of, ac
 use Rattle.blocking_laws.specs.Seen.{IsBeginning, events, acts_of, own, cut}
 use Rattle.blocking_laws.specs.Sessions.{call, under_way, is_made, is_dropped, last_session, is_shut, jobs_of, kind_of_job, capacity}
 use Rattle.blocking_laws.specs.Sessions as sessions
-use Rattle.blocking_laws.specs.Steps.{owners}
+use Rattle.blocking_laws.specs.Steps.{owners, is_known}
 use Rattle.blocking_laws.specs.Wakes.{is_waiting, was_woken}
 use Rattle.blocking_laws.specs.declared.event.Act.{Act}
+use Rattle.blocking_laws.specs.declared.event.Act.TheVariants.{Asked}
 use Rattle.blocking_laws.specs.declared.event.Event.{Event}
 use Rattle.blocking_laws.specs.declared.event.Moment.{Moment}
 use Rattle.blocking_laws.specs.declared.event.Party.TheVariants.{Owner as ByOwner}
@@ -47,13 +51,23 @@ called_at (stage.Polls poll) asked = asked
 called_at (stage.Wakes poll note) asked = asked
 called_at _ asked = None
 
+-- what the job of a session is for, in the words of the laws
+abbrev pub kind_as : SessionKind → Kind
+kind_as session_kind.Reading = Reading
+kind_as session_kind.Writing = Writing
+kind_as session_kind.Streaming = Streaming
+kind_as (session_kind.Seeking position) = Seeking position
+kind_as session_kind.Operating = Operating
+
+-- whether the owner's end of the pipe is open
+abbrev pub is_end_open : OwnerEnd → Bool
+is_end_open Open = true
+is_end_open Shut = false
+
 -- where the handle is, in the words of the laws
 abbrev pub state_as : State → sessions.State
 state_as state.Idle = sessions.Idle
-state_as (state.Reading Open) = sessions.In Reading true
-state_as (state.Reading Shut) = sessions.In Reading false
-state_as (state.Writing Open) = sessions.In Writing true
-state_as (state.Writing Shut) = sessions.In Writing false
+state_as (state.Lent kind end) = sessions.In (kind_as kind) (is_end_open end)
 state_as state.Closed = sessions.Closed
 
 -- what a poll does that is over with this reply
@@ -68,7 +82,9 @@ action_as call action.Begin = law.Begin
 action_as call action.Close = law.CloseOwn
 action_as call (action.Drain most) = law.Drain most
 action_as call (action.Fill most) = law.Fill (data_of (Some call))
+action_as call action.Receive = law.Receive
 action_as call action.PollSlot = law.PollSlot
+action_as call action.PollResult = law.PollPlace
 action_as call action.DropHandle = law.Say told.Okay
 action_as call (action.Reply reply) = say (reply_as reply)
 action_as call _ = law.Rest
@@ -81,6 +97,7 @@ newest_note (act ∷ past) = note_in act
 -- a reply that tells the end of the reader, or that all is done, comes after the handle came back so
 abbrev pub EndAs : HandleCall → Reply ℕ → Option (List Event) → Type 0
 EndAs (handle_call.Read (suc n)) (reply.Count zero) back = IsReadBack back
+EndAs handle_call.Next reply.End back = IsReadBack back
 EndAs handle_call.Flush reply.Done back = IsFlushedBack back
 EndAs handle_call.Close reply.Done back = IsFlushedBack back
 EndAs _ _ back = Unit {0}
@@ -90,11 +107,11 @@ abbrev pub IsGoneBy : Reply ℕ → HandleCall → State → Type 0
 IsGoneBy reply.Done handle_call.Close at = at ≡ state.Closed
 IsGoneBy _ _ at = Unit {0}
 
--- who looks for the handle has closed the own end of the pipe; or reads, and saw the other end closed
+-- who looks for the handle has closed the own end of the pipe, if there is one; or reads, and saw the other end closed
 abbrev pub LooksFrom : HandleCall → State → Bool → Type 0
-LooksFrom call (state.Reading Shut) false = Unit {0}
-LooksFrom call (state.Writing Shut) false = Unit {0}
-LooksFrom (handle_call.Read most) (state.Reading Open) true = Unit {0}
+LooksFrom call (state.Lent kind Shut) false = Unit {0}
+LooksFrom call (state.Lent kind Open) false = has_pipe kind ≡ false
+LooksFrom (handle_call.Read most) (state.Lent session_kind.Reading Open) true = Unit {0}
 LooksFrom _ _ _ = ⊥
 
 -- a call that begins a session reads some bytes, or writes some
@@ -103,10 +120,9 @@ BeginsBy (handle_call.Read (suc n)) = Unit {0}
 BeginsBy (handle_call.Write (byte ∷ bytes)) = Unit {0}
 BeginsBy _ = ⊥
 
--- the handle is with a job, and the own end of the pipe is open
+-- the handle is with a job, and there is a pipe, whose own end is open
 abbrev pub IsLentOpen : State → Type 0
-IsLentOpen (state.Reading Open) = Unit {0}
-IsLentOpen (state.Writing Open) = Unit {0}
+IsLentOpen (state.Lent kind Open) = has_pipe kind ≡ true
 IsLentOpen _ = ⊥
 
 -- What is next fits the call, where the handle is, whether the end of the pipe was just seen, and what came back in the poll.
@@ -114,9 +130,10 @@ abbrev pub FitsNext : HandleCall → OwnerMachine ℕ → OwnerAction ℕ → Bo
 FitsNext call poll action.Begin ended back = BeginsBy call × (poll.state ≡ state.Idle) × (poll.is_at_end ≡ false)
 FitsNext call poll action.Close ended back = IsLentOpen poll.state × (poll.is_at_end ≡ false)
 FitsNext call poll (action.Drain most) ended back =
-    (call ≡ handle_call.Read most) × (0 < most) × (poll.state ≡ state.Reading Open) × (poll.is_at_end ≡ false)
+    (call ≡ handle_call.Read most) × (0 < most) × (poll.state ≡ state.Lent session_kind.Reading Open) × (poll.is_at_end ≡ false)
 FitsNext call poll (action.Fill most) ended back =
-    (bytes : List ℕ) × (call ≡ handle_call.Write bytes) × (most ≡ length bytes) × (0 < most) × (poll.state ≡ state.Writing Open) × (poll.is_at_end ≡ false)
+    (bytes : List ℕ) × (call ≡ handle_call.Write bytes) × (most ≡ length bytes) × (0 < most)
+    × (poll.state ≡ state.Lent session_kind.Writing Open) × (poll.is_at_end ≡ false)
 FitsNext call poll action.PollSlot ended back = LooksFrom call poll.state poll.is_at_end × (poll.is_at_end ≡ ended)
 FitsNext call poll action.DropHandle ended back = (call ≡ handle_call.Close) × (poll.state ≡ state.Idle) × IsFlushedBack back
 FitsNext call poll (action.Reply reply) ended back = (is_some (reply_as reply) ≡ true) × EndAs call reply back × IsGoneBy reply call poll.state
@@ -273,7 +290,7 @@ pub record WriteFlowAs (s : Session) (shut : Bool) (got accepted : List ℕ) (ne
 abbrev pub Flows : Kind → Session → Bool → List ℕ → List ℕ → JobAction → List Act → Type 0
 Flows Reading s shut got accepted next acts = FlowAs s shut got next (has_closed acts) (has_given_up acts) (passed_by acts)
 Flows Writing s shut got accepted next acts = WriteFlowAs s shut got accepted next (has_closed acts) (has_given_up acts) (wrote_by acts)
-Flows Calling s shut got accepted next acts = ⊥
+Flows _ s shut got accepted next acts = ⊥
 
 -- what stands in the slot, by whether the job finished or gave up, whether the handle is back, and the job's fault
 abbrev pub SlotAs : Content (Option (Fault ℕ)) → Bool → Bool → Bool → Option (Fault ℕ) → Type 0
@@ -359,13 +376,20 @@ is_seated (Some s) = is_some s.pipe.owner_seat || is_some s.slot.seat
 
 -- ---- one owner
 
+-- the owner was asked only for what owners are asked for yet
+abbrev pub AskKnown : List Act → Type 0
+AskKnown [] = Unit {0}
+AskKnown (Asked call ∷ past) = (is_known call ≡ true) × AskKnown past
+AskKnown (_ ∷ past) = AskKnown past
+
 -- An owner, by its cut: what it did itself, and what its jobs did.
 pub record OwnerAs (owner : Owner) (cut : List Event) : Type 0 where
   pub made : is_made (own cut) ≡ true
   pub gone : is_dropped (own cut) ≡ is_gone owner.stage
   pub asked : call (own cut) ≡ owner.asked
   pub polled : under_way (own cut) ≡ called_at owner.stage owner.asked
-  pub bytes : capacity (own cut) ≡ capacity_of owner
+  pub bytes : capacity Reading (own cut) ≡ capacity_of owner
+  pub calls : AskKnown (own cut)
   pub stage : StageAs owner.stage cut
   pub last : LastAs owner.session (capacity_of owner) cut
   pub ended : is_at_end (own cut) ≡ true → EndedIn owner.session

@@ -1,5 +1,5 @@
 -- The machine of an owner, as contracts see it, and what each call of the owner and each act of its job does to it.
-use Rattle.std.specs.Prelude.{◌≡◌, ℕ, ◌==◌, if◌then◌else◌, Bool, true, false, List, ◌∷◌, length, Option, Some, None, is_some}
+use Rattle.std.specs.Prelude.{◌≡◌, ℕ, ◌==◌, ◌&&◌, if◌then◌else◌, Bool, true, false, List, ◌∷◌, length, Option, Some, None, is_some}
 use Rattle.blocking_core.specs.OwnerCalls.{OwnerMachine, new_poll, owner_next, owner_after}
 use Rattle.blocking_core.specs.Pipes.{Pipe}
 use Rattle.blocking_core.specs.Places.{Met, Served, Waiting, Closed}
@@ -22,7 +22,9 @@ use Rattle.blocking_core.specs.declared.unblock.Reply.{Reply}
 use Rattle.blocking_core.specs.declared.unblock.Reply.TheVariants as reply
 use Rattle.blocking_core.specs.declared.unblock.State.{State}
 use Rattle.blocking_core.specs.declared.unblock.State.TheVariants as state
+use Rattle.blocking_laws.specs.JobTable.{Reading}
 use Rattle.blocking_laws.specs.Sessions.{default_capacity, kind_of, is_for_closed}
+use Rattle.blocking_laws.specs.Steps.{is_known}
 use Rattle.blocking_laws.specs.Seats.{waker_in}
 use Rattle.blocking_laws.specs.declared.event.Act.{Act}
 use Rattle.blocking_laws.specs.declared.event.Act.TheVariants.{OwnerClosed, Got, GotEnd, Filled, FillShut, Waits, Back, Replied, GaveUp, HolderWoken}
@@ -63,7 +65,7 @@ new_owner capacity = record { capacity = capacity; asked = None; stage = stage.R
 
 -- how many bytes the pipe of a session holds
 abbrev pub capacity_of : Owner → ℕ
-capacity_of owner = if owner.capacity == 0 then default_capacity else owner.capacity
+capacity_of owner = if owner.capacity == 0 then default_capacity Reading else owner.capacity
 
 -- the number of the last session's job
 abbrev pub number_in : Option Session → Option JobNumber
@@ -75,21 +77,29 @@ number_of owner = number_in owner.session
 
 -- ---- polls
 
--- a call, in the words of the machine
+-- a call, in the words of the machine; owners aren't asked for the result of an operation again yet, and its session counts as begun
 abbrev pub poll_call_of : HandleCall → PollCall
 poll_call_of (handle_call.Read most) = poll_call.Read most
 poll_call_of (handle_call.Write bytes) = poll_call.Write (length bytes)
 poll_call_of handle_call.Flush = poll_call.Flush
 poll_call_of handle_call.Close = poll_call.Close
+poll_call_of (handle_call.Seek position) = poll_call.Seek position
+poll_call_of handle_call.Next = poll_call.Next
+poll_call_of handle_call.Operate = poll_call.Operate false
+poll_call_of handle_call.OperateAgain = poll_call.Operate true
 poll_call_of handle_call.GetMut = poll_call.GetMut
+poll_call_of handle_call.IntoInner = poll_call.IntoInner
 
--- a reply, in the words of the laws; they have none for a call that isn't asked once the handle is gone
+-- a reply, in the words of the laws; there is none for a call that isn't asked once the handle is gone, and for a position, an item
+-- and a result, which owners aren't asked for yet
 abbrev pub reply_as : Reply ℕ → Option Told
 reply_as (reply.Count count) = Some (told.Count count)
+reply_as reply.End = Some told.NoMore
 reply_as reply.Handle = Some told.Handle
 reply_as (reply.Failed why) = Some (told.Failed why)
+reply_as (reply.NotBegun why) = Some (told.NotBegun why)
 reply_as reply.Done = Some told.Okay
-reply_as reply.Closed = None
+reply_as _ = None
 
 -- whether it is there and no poll of it is under way
 abbrev pub is_resting : OwnerStage → Bool
@@ -108,8 +118,9 @@ abbrev pub may_ask_at : OwnerStage → HandleCall → Bool
 may_ask_at (stage.Rests at) call = may_call_at at call
 may_ask_at _ call = false
 
+-- and owners are asked for it yet
 abbrev pub may_ask : Owner → HandleCall → Bool
-may_ask owner call = may_ask_at owner.stage call
+may_ask owner call = is_known call && may_ask_at owner.stage call
 
 -- whether it was dropped
 abbrev pub is_gone : OwnerStage → Bool

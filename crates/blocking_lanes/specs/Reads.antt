@@ -11,7 +11,7 @@ use Rattle.blocking_core.specs.declared.job.read.ReadAnswer.TheVariants as by
 use Rattle.blocking_laws.specs.JobTable.{Reading, JobAction, AskBytes, FindRoom, PutPiece, CloseEnd, Finish, WakeHolder, Over, next_but_wake, takes_waker, earlier, fault}
 use Rattle.blocking_laws.specs.declared.event.Act.{Act}
 use Rattle.blocking_laws.specs.declared.step.Answer.{Answer}
-use Rattle.blocking_laws.specs.declared.step.Answer.TheVariants.{Number, Gave, Fine, Failed}
+use Rattle.blocking_laws.specs.declared.step.Answer.TheVariants.{Gave, Failed}
 
 -- What the job of a reader does next, what its reader gave last, and its fault, once it met one.
 pub record Progress : Type 0 where
@@ -55,10 +55,9 @@ progress_after_failure job error = record job { core = read_after job.core by.Fa
 
 -- the reader answered so
 abbrev pub progress_after_answer : Progress → Answer → Progress
-progress_after_answer job (Number n) = job
-progress_after_answer job Fine = job
 progress_after_answer job (Gave bytes) = progress_after_gift job bytes
 progress_after_answer job (Failed error) = progress_after_failure job error
+progress_after_answer job _ = job
 
 -- ---- what it has done
 

@@ -11,7 +11,7 @@ use Rattle.blocking_core.specs.declared.job.write.WriteAnswer.TheVariants as by
 use Rattle.blocking_laws.specs.JobTable.{Writing, JobAction, Peek, OfferBytes, Consume, AskFlush, CloseEnd, Finish, WakeHolder, Over, next_but_wake, fault}
 use Rattle.blocking_laws.specs.declared.event.Act.{Act}
 use Rattle.blocking_laws.specs.declared.step.Answer.{Answer}
-use Rattle.blocking_laws.specs.declared.step.Answer.TheVariants.{Number, Gave, Fine, Failed}
+use Rattle.blocking_laws.specs.declared.step.Answer.TheVariants.{Number, Fine, Failed}
 use Rattle.blocking_lanes.specs.Reads.{has_waker}
 
 -- What the job of a writer does next, with its fault, once it met one, and what it found last at the front of the pipe.
@@ -63,7 +63,7 @@ abbrev pub progress_after_answer : Progress → Answer → Progress
 progress_after_answer job (Number taken) = progress_with job (by.Took taken)
 progress_after_answer job Fine = progress_with job by.Flushed
 progress_after_answer job (Failed error) = progress_with job (by.Failed error)
-progress_after_answer job (Gave bytes) = job
+progress_after_answer job _ = job
 
 -- ---- what it has done
 

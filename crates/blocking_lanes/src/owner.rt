@@ -73,7 +73,7 @@ fn serial_of(note: &Option<WakeNote>) -> Option<u64>
     }
 }
 
-// A call, in the words of the machine.
+// A call, in the words of the machine. Owners aren't asked for the result of an operation again yet: its session counts as begun.
 fn poll_call(call: &HandleCall) -> PollCall
     ensures { result ≡ poll_call_of call.now }
 {
@@ -82,20 +82,28 @@ fn poll_call(call: &HandleCall) -> PollCall
         HandleCall::Write(bytes) => PollCall::Write(bytes.as_slice().len()),
         HandleCall::Flush => PollCall::Flush,
         HandleCall::Close => PollCall::Close,
+        HandleCall::Seek(position) => PollCall::Seek(*position),
+        HandleCall::Next => PollCall::Next,
+        HandleCall::Operate => PollCall::Operate { has_begun: false },
+        HandleCall::OperateAgain => PollCall::Operate { has_begun: true },
         HandleCall::GetMut => PollCall::GetMut,
+        HandleCall::IntoInner => PollCall::IntoInner,
     }
 }
 
-// A reply, as it is told. None for the one to a call that isn't asked of an owner whose handle is gone.
+// A reply, as it is told. None for the one to a call that isn't asked of an owner whose handle is gone, and for a position, an item
+// and a result, which owners aren't asked for yet.
 fn told(reply: Reply<u64>) -> Option<Told>
     ensures { result ≡ reply_as reply }
 {
     match reply {
         Reply::Count(count) => Some(Told::Count(count as u64)),
+        Reply::End => Some(Told::NoMore),
         Reply::Handle => Some(Told::Handle),
         Reply::Failed(why) => Some(Told::Failed(why)),
+        Reply::NotBegun(why) => Some(Told::NotBegun(why)),
         Reply::Done => Some(Told::Okay),
-        Reply::Closed => None,
+        Reply::Position(_) | Reply::Item | Reply::Result | Reply::Closed => None,
     }
 }
 
@@ -105,7 +113,7 @@ impl Owner {
     ghost use Rattle.blocking_lanes.specs.Owners.{new_owner, capacity_of, is_resting, is_gone, note_at, next_of, number_of, bytes_in, rests};
     ghost use Rattle.blocking_lanes.specs.Owners.{owner_after_ask, did, did_in, reply_did, IsDid, goes_on, reach_in};
     ghost use Rattle.blocking_lanes.specs.Owners.{owner_after_begin, owner_after_refusal, owner_after_delivery, owner_after_drop};
-    ghost use Rattle.blocking_lanes.specs.Owners.{may_ask, front_in, fill_did_in, drop_did, new_job_of, worked, IsWorked, give_up_act, owner_after_give_up};
+    ghost use Rattle.blocking_lanes.specs.Owners.{may_ask, may_ask_at, front_in, fill_did_in, drop_did, new_job_of, worked, IsWorked, give_up_act, owner_after_give_up};
     ghost use Rattle.blocking_lanes.specs.declared.job.SessionJob.TheVariants as of_job;
 
     /// An owner, with an idle handle. The pipes of its sessions hold so many bytes; 0 stands for 8,388,608.
@@ -139,9 +147,17 @@ impl Owner {
         matches!(self.stage, OwnerStage::Rests(_))
     }
 
-    /// Whether it may be asked for this: it is there, no poll of it is under way, and once its handle is gone it is only flushed and closed.
+    /// Whether it may be asked for this: owners are asked for it yet, it is there, no poll of it is under way, and once its handle is gone it
+    /// is only flushed and closed.
     pub fn may_ask(&self, call: &HandleCall) -> bool
         ensures { result ≡ may_ask self.now call.now }
+    {
+        call.is_known() && self.may_begin(call)
+    }
+
+    // The same of a call that owners are asked for.
+    fn may_begin(&self, call: &HandleCall) -> bool
+        ensures { result ≡ may_ask_at self.now.stage call.now }
     {
         match self.stage {
             OwnerStage::Rests(State::Closed) => {
@@ -187,7 +203,10 @@ impl Owner {
                     Some(_) => OwnerNext::Acts(0),
                     None => OwnerNext::Rests,
                 },
-                OwnerAction::Deliver | OwnerAction::Pending => OwnerNext::Rests,
+                OwnerAction::Receive
+                | OwnerAction::PollResult
+                | OwnerAction::Deliver
+                | OwnerAction::Pending => OwnerNext::Rests,
             },
         }
     }
@@ -252,7 +271,11 @@ impl Owner {
             OwnerAction::PollSlot => self.look(poll),
             OwnerAction::DropHandle => self.drop_handle(poll),
             OwnerAction::Reply(reply) => self.reply(poll, told(reply)),
-            OwnerAction::Begin | OwnerAction::Deliver | OwnerAction::Pending => None,
+            OwnerAction::Begin
+            | OwnerAction::Receive
+            | OwnerAction::PollResult
+            | OwnerAction::Deliver
+            | OwnerAction::Pending => None,
         }
     }
 

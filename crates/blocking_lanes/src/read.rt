@@ -59,14 +59,14 @@ impl ReadProgress {
         }
     }
 
-    /// The reader answered so. A number and a flush are no answers of a reader, and change nothing.
+    /// The reader answered so. A number, a flush and an item are no answers of a reader, and change nothing.
     pub fn answer(&mut self, answer: Answer)
         ensures { self.new ≡ progress_after_answer self.old answer }
     {
         match answer {
             Answer::Gave(bytes) => self.keep(bytes),
             Answer::Failed(error) => self.fail(error),
-            Answer::Number(_) | Answer::Fine => {}
+            Answer::Number(_) | Answer::Fine | Answer::Item(_) | Answer::NoItem => {}
         }
     }
 

@@ -62,7 +62,7 @@ impl WriteProgress {
         }
     }
 
-    /// The writer answered so. Bytes are no answer of a writer, and change nothing.
+    /// The writer answered so. Bytes and items are no answers of a writer, and change nothing.
     pub fn answer(&mut self, answer: Answer)
         ensures { self.new ≡ progress_after_answer self.old answer }
     {
@@ -70,7 +70,7 @@ impl WriteProgress {
             Answer::Number(taken) => self.core.answer(WriteAnswer::Took(taken as usize)),
             Answer::Fine => self.core.answer(WriteAnswer::Flushed),
             Answer::Failed(error) => self.core.answer(WriteAnswer::Failed(error)),
-            Answer::Gave(_) => {}
+            Answer::Gave(_) | Answer::Item(_) | Answer::NoItem => {}
         }
     }
 

@@ -8,11 +8,11 @@ use Rattle.blocking_laws.specs.declared.event.Act.{Act}
 use Rattle.blocking_laws.specs.declared.event.Act.TheVariants.{Asked, Back, Replied, Answered}
 use Rattle.blocking_laws.specs.declared.event.Event.{Event}
 use Rattle.blocking_laws.specs.declared.event.Reply.{Reply}
-use Rattle.blocking_laws.specs.declared.event.Reply.TheVariants.{Okay, Count}
+use Rattle.blocking_laws.specs.declared.event.Reply.TheVariants.{Okay, Count, NoMore}
 use Rattle.blocking_laws.specs.declared.step.Answer.{Answer}
-use Rattle.blocking_laws.specs.declared.step.Answer.TheVariants.{Number, Gave, Fine, Failed}
+use Rattle.blocking_laws.specs.declared.step.Answer.TheVariants.{Number, Gave, Fine, NoItem, Failed}
 use Rattle.blocking_laws.specs.declared.step.HandleCall.{HandleCall}
-use Rattle.blocking_laws.specs.declared.step.HandleCall.TheVariants.{Read, Flush, Close}
+use Rattle.blocking_laws.specs.declared.step.HandleCall.TheVariants.{Read, Flush, Close, Next}
 
 -- the answers of a job's handle, the newest first
 abbrev pub handle_answers : List Act → List Answer
@@ -20,9 +20,10 @@ handle_answers [] = []
 handle_answers (Answered answer ∷ past) = answer ∷ handle_answers past
 handle_answers (_ ∷ past) = handle_answers past
 
--- whether an answer is the end of a reader: no bytes
+-- whether an answer is the end of a handle: no bytes, or no item
 abbrev pub is_end : Answer → Bool
 is_end (Gave []) = true
+is_end NoItem = true
 is_end _ = false
 
 -- whether an answer is a failure
@@ -52,12 +53,12 @@ has_flush [] = false
 has_flush (Fine ∷ more) = true
 has_flush (_ ∷ more) = has_flush more
 
--- whether the last answer was the end of the reader
+-- whether the last answer was the end of the handle
 abbrev pub last_is_end : List Answer → Bool
 last_is_end [] = false
 last_is_end (answer ∷ more) = is_end answer
 
--- The last session gave its owner all that the reader gave, up to its end, and met no failure.
+-- The last session gave its owner all that the handle gave, up to its end, and met no failure.
 pub record IsReadWhole (cut : List Event) : Type 0 where
   pub all : got (own cut) ≡ gave (last_job cut)
   pub ended : last_is_end (handle_answers (last_job cut)) ≡ true
@@ -95,10 +96,12 @@ abbrev pub IsFlushedBack : Option (List Event) → Type 0
 IsFlushedBack (Some cut) = IsFlushedIf (last_kind cut) cut
 IsFlushedBack None = Unit {0}
 
--- a read into a buffer with room replies none only where the handle came back in this poll, from a session that was read whole; a flush
--- and a close reply without a fault only where no handle came back in this poll from a session that writes and wasn't flushed
+-- a read into a buffer with room replies none, and a call for an item that none is left, only where the handle came back in this poll, from a
+-- session that was read whole; a flush and a close reply without a fault only where no handle came back in this poll from a session that
+-- writes and wasn't flushed
 abbrev pub IsTrueEnd : Option HandleCall → Reply → Option (List Event) → Type 0
 IsTrueEnd (Some (Read (suc n))) (Count zero) back = IsReadBack back
+IsTrueEnd (Some Next) NoMore back = IsReadBack back
 IsTrueEnd (Some Flush) Okay back = IsFlushedBack back
 IsTrueEnd (Some Close) Okay back = IsFlushedBack back
 IsTrueEnd _ _ back = Unit {0}

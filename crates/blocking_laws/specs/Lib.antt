@@ -23,8 +23,12 @@ pub mod Steps
 pub mod OwnerLaws
 pub mod OwnerWakes
 pub mod Legal
+pub mod Solo
 pub mod Traces
 pub mod OwnerTraces
 pub mod WriteTraces
+pub mod StreamTraces
+pub mod SeekTraces
+pub mod OperationTraces
 pub mod Served
 pub mod Staffed

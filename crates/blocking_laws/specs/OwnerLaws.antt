@@ -1,19 +1,19 @@
 -- The laws of one owner and of its jobs, over the cut of that owner alone.
 use Rattle.std.specs.Prelude.{◌≡◌, ℕ, Bool, true, false, not, List, [], ◌∷◌, length, Option, Some, None}
 use Rattle.blocking_pool.specs.Lists.{is_in}
-use Rattle.blocking_laws.specs.Core.{drain, fill, find_room, hand_in, peek}
+use Rattle.blocking_laws.specs.Core.{drain, receive, fill, find_room, hand_in, peek}
 use Rattle.blocking_laws.specs.Seen.{EachMayFollow, own, acts_of, is_some_worker}
-use Rattle.blocking_laws.specs.JobTable.{Kind, JobAction, FindRoom, PutPiece, Peek, Consume, piece, CloseEnd, Finish, WakeHolder, Over, IsAnswerTo, next_but_wake, next_of_job, is_over, has_finished, has_closed}
+use Rattle.blocking_laws.specs.JobTable.{Kind, JobAction, FindRoom, PutPiece, Peek, Consume, piece, SendItem, CloseEnd, PutResult, Finish, WakeHolder, Over, IsAnswerTo, next_but_wake, next_of_job, is_over, number, has_result, has_finished, has_closed}
 use Rattle.blocking_laws.specs.Sessions.{jobs_of, kind_of_job, may_ask, rests, is_dropped, is_shut}
 use Rattle.blocking_laws.specs.Passed.{inside, room_in, last_job, PassesOn}
-use Rattle.blocking_laws.specs.Places.{seen_drain, seen_fill, seen_room, seated, seen_put, seen_peek, poll_slot}
+use Rattle.blocking_laws.specs.Places.{seen_drain, seen_receive, seen_fill, seen_room, seated, seen_put, seen_peek, poll_slot, poll_place}
 use Rattle.blocking_laws.specs.Seats.{waker_in}
-use Rattle.blocking_laws.specs.OwnerTable.{OwnerAction, Begin, CloseOwn, WakeJob, Drain, Fill, PollSlot, Say, Rest, next_of_owner}
-use Rattle.blocking_laws.specs.OwnerSeats.{noted, pipe_seat, slot_seat}
+use Rattle.blocking_laws.specs.OwnerTable.{OwnerAction, Begin, CloseOwn, WakeJob, Drain, Fill, Receive, PollSlot, PollPlace, Say, Rest, next_of_owner}
+use Rattle.blocking_laws.specs.OwnerSeats.{noted, pipe_seat, slot_seat, result_seat}
 use Rattle.blocking_laws.specs.Ends.{EndsTruly}
 use Rattle.blocking_laws.specs.Steps.{IsBegun, IsWakeOf}
 use Rattle.blocking_laws.specs.declared.event.Act.{Act}
-use Rattle.blocking_laws.specs.declared.event.Act.TheVariants.{Made, Asked, Accepted, OwnerClosed, Replied, HolderDropped, Taken, JobClosed, Finished, GaveUp, HolderWoken}
+use Rattle.blocking_laws.specs.declared.event.Act.TheVariants.{Made, Asked, Accepted, OwnerClosed, Replied, HolderDropped, Taken, JobClosed, ResultPut, Finished, GaveUp, HolderWoken}
 use Rattle.blocking_laws.specs.declared.event.Event.{Event}
 
 -- a session begins, with a job that the owner had not before, or is refused
@@ -28,12 +28,13 @@ Polls cut (WakeJob s) act = IsWakeOf s act
 Polls cut CloseOwn act = act ≡ OwnerClosed (noted cut)
 Polls cut (Drain n) act = act ≡ seen_drain (drain n (inside cut) (not (has_closed (last_job cut))) (noted cut))
 Polls cut (Fill bytes) act = act ≡ seen_fill (fill (length bytes) (room_in cut) (not (has_closed (last_job cut))) (noted cut))
+Polls cut Receive act = act ≡ seen_receive (receive (inside cut) (not (has_closed (last_job cut))) (noted cut))
 Polls cut PollSlot act = act ≡ poll_slot (has_finished (last_job cut))
+Polls cut PollPlace act = act ≡ poll_place (has_result (last_job cut)) (number (last_job cut))
 Polls cut (Say reply) act = act ≡ Replied reply
 Polls cut Rest act = ⊥
 
--- An owner is made first, asked and dropped only where it rests, once its handle is gone only to flush and to close, and else does what
--- its poll does next.
+-- An owner is made first, asked only where it may be and dropped only where it rests, and else does what its poll does next.
 abbrev pub OwnerActs : List Event → Act → Type 0
 OwnerActs cut (Made h capacity) = cut ≡ []
 OwnerActs cut (Asked call) = may_ask (own cut) call ≡ true
@@ -45,9 +46,11 @@ abbrev pub Works : List Event → JobAction → Act → Type 0
 Works cut FindRoom act = act ≡ seen_room (find_room (room_in cut) (not (is_shut (own cut))))
 Works cut (PutPiece bytes) act =
     act ≡ seen_put (length bytes) (hand_in (length bytes) (room_in cut) (not (is_shut (own cut))) (seated (pipe_seat cut)))
+Works cut (SendItem x) act = act ≡ seen_put 1 (hand_in 1 (room_in cut) (not (is_shut (own cut))) (seated (pipe_seat cut)))
 Works cut Peek act = act ≡ seen_peek (peek piece (inside cut) (not (is_shut (own cut))))
 Works cut (Consume n) act = act ≡ Taken n (waker_in (pipe_seat cut))
 Works cut CloseEnd act = act ≡ JobClosed (waker_in (pipe_seat cut))
+Works cut PutResult act = act ≡ ResultPut (waker_in (result_seat cut))
 Works cut Finish act = act ≡ Finished (waker_in (slot_seat cut))
 Works cut WakeHolder act = act ≡ HolderWoken
 Works cut Over act = ⊥

@@ -33,10 +33,11 @@ abbrev pub IsSessionOf : Option Session → ℕ → Type 0
 IsSessionOf None s = ⊥
 IsSessionOf (Some r) s = r.serial ≡ s
 
--- what is inside where a job of this kind can't go on: nothing for one that writes, all that the pipe holds for one that reads
+-- what is inside where a job of this kind can't go on: nothing for one that writes, all that the pipe holds for one that reads or fetches
+-- items
 abbrev pub IsStuck : Kind → List Event → Type 0
 IsStuck Writing cut = inside cut ≡ []
-IsStuck _ cut = length (inside cut) ≡ capacity (own cut)
+IsStuck kind cut = length (inside cut) ≡ capacity kind (own cut)
 
 -- a job has reason to wait: its owner's end is open, and it can't go on
 abbrev pub HasReason : List Event → Type 0

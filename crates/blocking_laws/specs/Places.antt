@@ -3,7 +3,7 @@ use Rattle.std.specs.Prelude.{ℕ, Bool, true, false, List, Option, Some, None, 
 use Rattle.blocking_laws.specs.Core.{Met, Served, Waiting, Closed}
 use Rattle.blocking_laws.specs.Seats.{waker_in}
 use Rattle.blocking_laws.specs.declared.event.Act.{Act}
-use Rattle.blocking_laws.specs.declared.event.Act.TheVariants.{Waits, TaskGot, TaskGotNone, Got, GotEnd, Filled, FillShut, Back, RoomFree, RoomShut, JobParked, Put, Lost, Peeked, Drained}
+use Rattle.blocking_laws.specs.declared.event.Act.TheVariants.{Waits, TaskGot, TaskGotNone, Got, GotItem, GotEnd, Filled, FillShut, Back, ResultGot, RoomFree, RoomShut, JobParked, Put, Lost, Peeked, Drained}
 
 -- A poll of a task finds the call's answer where the call finished before any cancel; else it finds that none will come,
 -- once the call is over; until then it waits.
@@ -17,6 +17,12 @@ abbrev pub seen_drain : Met (List ℕ × Option ℕ) → Act
 seen_drain (Served found) = Got found.0 found.1
 seen_drain Waiting = Waits
 seen_drain Closed = GotEnd
+
+-- What an owner finds that receives from its pipe: an item, with the job whose note it took; or nothing yet; or the end.
+abbrev pub seen_receive : Met (ℕ × Option ℕ) → Act
+seen_receive (Served found) = GotItem found.0 found.1
+seen_receive Waiting = Waits
+seen_receive Closed = GotEnd
 
 -- What an owner finds that fills its pipe: so many bytes went in, with the job whose note it took; or it waits; or the job's end is
 -- closed.
@@ -36,8 +42,8 @@ abbrev pub seated : Bool → Option (Unit {0})
 seated true = Some tt
 seated false = None
 
--- What a job finds that puts n bytes into the pipe: they are inside, and it took the waker that was seated; or it waits; or they are
--- lost.
+-- What a job finds that puts n bytes into the pipe, or sends one item: they are inside, and it took the waker that was seated; or it
+-- waits; or they are lost.
 abbrev pub seen_put : ℕ → Met (Option (Unit {0})) → Act
 seen_put n (Served waker) = Put n (waker_in (is_some waker))
 seen_put n Waiting = JobParked
@@ -53,3 +59,8 @@ seen_peek Closed = Drained
 abbrev pub poll_slot : Bool → Act
 poll_slot true = Back
 poll_slot false = Waits
+
+-- An owner that looks for the result of its operation finds this number, once the job has put one; until then it waits.
+abbrev pub poll_place : Bool → ℕ → Act
+poll_place true n = ResultGot n
+poll_place false n = Waits

@@ -1,12 +1,12 @@
 -- What an owner is doing, read from its own acts, the newest first.
 use Rattle.std.specs.Prelude.{ℕ, ◌==◌, ◌&&◌, ◌||◌, not, if◌then◌else◌, Bool, true, false, List, [], ◌∷◌, Option, Some, None}
-use Rattle.blocking_laws.specs.JobTable.{Kind, Calling, Reading, Writing}
+use Rattle.blocking_laws.specs.JobTable.{Kind, Calling, Reading, Writing, Streaming, Seeking, Operating}
 use Rattle.blocking_laws.specs.declared.event.Act.{Act}
 use Rattle.blocking_laws.specs.declared.event.Act.TheVariants.{Made, Asked, Accepted, OwnerClosed, Waits, Back, Replied, HolderDropped}
 use Rattle.blocking_laws.specs.declared.event.Reply.{Reply}
 use Rattle.blocking_laws.specs.declared.event.Reply.TheVariants.{Okay}
 use Rattle.blocking_laws.specs.declared.step.HandleCall.{HandleCall}
-use Rattle.blocking_laws.specs.declared.step.HandleCall.TheVariants.{Read, Write, Flush, Close}
+use Rattle.blocking_laws.specs.declared.step.HandleCall.TheVariants.{Read, Write, Flush, Close, Seek, Next, Operate, OperateAgain, IntoInner}
 
 -- ---- polls
 
@@ -43,9 +43,27 @@ is_dropped [] = false
 is_dropped (HolderDropped ∷ past) = true
 is_dropped (_ ∷ past) = is_dropped past
 
+-- whether a call asks for the handle for good
+abbrev pub is_into_inner : Option HandleCall → Bool
+is_into_inner (Some IntoInner) = true
+is_into_inner _ = false
+
+-- whether the handle was ever asked for for good
+abbrev pub was_asked_inner : List Act → Bool
+was_asked_inner [] = false
+was_asked_inner (Asked IntoInner ∷ past) = true
+was_asked_inner (_ ∷ past) = was_asked_inner past
+
+-- whether the owner is no more: it was dropped, or it gave its handle back for good
+abbrev pub is_owner_gone : List Act → Bool
+is_owner_gone [] = false
+is_owner_gone (HolderDropped ∷ past) = true
+is_owner_gone (Replied reply ∷ past) = is_into_inner (call past) || is_owner_gone past
+is_owner_gone (_ ∷ past) = is_owner_gone past
+
 -- whether the owner is there and no poll of it is under way, so that it may be asked or dropped
 abbrev pub rests : List Act → Bool
-rests acts = is_made acts && not (is_dropped acts) && is_poll_over (under_way acts)
+rests acts = is_made acts && not (is_owner_gone acts) && is_poll_over (under_way acts)
 
 -- whether a reply ends a close without a fault, after which the handle is gone
 abbrev pub ends_close : Reply → Option HandleCall → Bool
@@ -64,9 +82,35 @@ is_for_closed Flush = true
 is_for_closed Close = true
 is_for_closed _ = false
 
--- whether the owner may be asked for this
+-- whether a call asks for an operation, or for its result
+abbrev pub is_operation : Option HandleCall → Bool
+is_operation (Some Operate) = true
+is_operation (Some OperateAgain) = true
+is_operation _ = false
+
+-- whether an operation is pending: the owner's last act was a wait for one
+abbrev pub is_pending_operation : List Act → Bool
+is_pending_operation (Waits ∷ past) = is_operation (call past)
+is_pending_operation _ = false
+
+-- whether the operation that was asked last has begun its session
+abbrev pub has_begun : List Act → Bool
+has_begun [] = false
+has_begun (Accepted s ∷ past) = true
+has_begun (Asked Operate ∷ past) = false
+has_begun (_ ∷ past) = has_begun past
+
+-- whether a call asks for the result of a pending operation
+abbrev pub is_again : HandleCall → Bool
+is_again OperateAgain = true
+is_again _ = false
+
+-- whether the owner may be asked for this: once its handle is gone only to flush and to close, once its handle was asked for for good only
+-- for that, and for the result of an operation only where one is pending
 abbrev pub may_ask : List Act → HandleCall → Bool
-may_ask acts c = rests acts && (not (is_closed acts) || is_for_closed c)
+may_ask acts c =
+    rests acts && (not (is_closed acts) || is_for_closed c) && (not (was_asked_inner acts) || is_into_inner (Some c))
+    && (not (is_again c) || is_pending_operation acts)
 
 -- ---- sessions
 
@@ -79,6 +123,10 @@ pub record Session : Type 0 where
 abbrev pub kind_of : Option HandleCall → Kind
 kind_of (Some (Read n)) = Reading
 kind_of (Some (Write bytes)) = Writing
+kind_of (Some Next) = Streaming
+kind_of (Some (Seek position)) = Seeking position
+kind_of (Some Operate) = Operating
+kind_of (Some OperateAgain) = Operating
 kind_of _ = Calling
 
 -- the session that began last
@@ -113,18 +161,19 @@ kind_of_job s [] = Calling
 kind_of_job s (Accepted t ∷ past) = if t == s then kind_of (call past) else kind_of_job s past
 kind_of_job s (_ ∷ past) = kind_of_job s past
 
--- how many bytes the pipe of a session holds, where the owner names no number
-abbrev pub default_capacity : ℕ
-default_capacity = 8388608
+-- how many bytes, or items, the pipe of a session of this kind holds, where the owner names no number
+abbrev pub default_capacity : Kind → ℕ
+default_capacity Streaming = 8192
+default_capacity _ = 8388608
 
--- how many bytes the pipe of a session of this owner holds: the number that it was made with, or the default
-abbrev pub capacity : List Act → ℕ
-capacity [] = 0
-capacity (Made h n ∷ past) = if n == 0 then default_capacity else n
-capacity (_ ∷ past) = capacity past
+-- how many bytes, or items, the pipe of a session of this kind holds: the number that its owner was made with, or the default
+abbrev pub capacity : Kind → List Act → ℕ
+capacity kind [] = 0
+capacity kind (Made h n ∷ past) = if n == 0 then default_capacity kind else n
+capacity kind (_ ∷ past) = capacity kind past
 
 -- Where the handle is: nowhere after a close, with its owner, or with the job of a session of this kind, with the owner's end of the pipe
--- open or not.
+-- open or not. Of a session without a pipe it counts as open.
 pub data State : Type 0 where
   Closed : State
   Idle : State

@@ -11,12 +11,12 @@ use Rattle.blocking_laws.specs.Hex.{hex_text}
 use Rattle.blocking_laws.specs.declared.step.Answer.{Answer}
 use Rattle.blocking_laws.specs.declared.step.Answer.TheVariants as answer
 use Rattle.blocking_laws.specs.declared.event.Act.{Act}
-use Rattle.blocking_laws.specs.declared.event.Act.TheVariants.{Made, Asked, OwnerClosed, Got, GotEnd, Filled, FillShut, Back, Replied, RoomFree, RoomShut, Put, Lost, Peeked, Drained, Taken as TakenOut, JobClosed, Accepted, Refused, JobWoken, JobCancelled, LimitSet, Swept, Waits, TaskGot, TaskGotNone, TaskCancelled, TaskDetached, HolderDropped, Arrived, Took, TookDropped, TookNone, Stays, Stopped, Ended, HandedOut, Answered, JobParked, Finished, GaveUp, HolderWoken, NoAction}
+use Rattle.blocking_laws.specs.declared.event.Act.TheVariants.{Made, Asked, OwnerClosed, Got, GotItem, GotEnd, Filled, FillShut, Back, ResultGot, Replied, RoomFree, RoomShut, Put, Lost, Peeked, Drained, Taken as TakenOut, JobClosed, ResultPut, Accepted, Refused, JobWoken, JobCancelled, LimitSet, Swept, Waits, TaskGot, TaskGotNone, TaskCancelled, TaskDetached, HolderDropped, Arrived, Took, TookDropped, TookNone, Stays, Stopped, Ended, HandedOut, Answered, JobParked, Finished, GaveUp, HolderWoken, NoAction}
 use Rattle.blocking_laws.specs.declared.event.Event.{Event}
 use Rattle.blocking_laws.specs.declared.event.HolderWaker.{HolderWaker}
 use Rattle.blocking_laws.specs.declared.event.HolderWaker.TheVariants.{Taken, Absent}
 use Rattle.blocking_laws.specs.declared.event.Reply.{Reply}
-use Rattle.blocking_laws.specs.declared.event.Reply.TheVariants.{Okay, Count, Handle, Failed}
+use Rattle.blocking_laws.specs.declared.event.Reply.TheVariants.{Okay, Count, OneItem, NoMore, Handle, Failed, NotBegun}
 
 -- why a job is refused
 abbrev pub refusal_text : Refusal → List ℕ
@@ -53,16 +53,21 @@ abbrev pub answer_text : Answer → List ℕ
 answer_text (answer.Number n) = decimal n
 answer_text (answer.Gave bytes) = hex_text bytes
 answer_text answer.Fine = codes "ok"
+answer_text (answer.Item x) = codes "item " ++ decimal x
+answer_text answer.NoItem = codes "none"
 answer_text (answer.Failed e) = codes "fault " ++ decimal e
 
 -- what a poll replies
 abbrev pub reply_text : Reply → List ℕ
 reply_text Okay = codes "ok"
 reply_text (Count n) = codes "ok " ++ decimal n
+reply_text (OneItem x) = codes "item " ++ decimal x
+reply_text NoMore = codes "end"
 reply_text Handle = codes "handle"
 reply_text (Failed (fault.Io e)) = codes "fault io " ++ decimal e
 reply_text (Failed fault.WriteZero) = codes "fault write-zero"
 reply_text (Failed (fault.Refused why)) = codes "fault refused " ++ refusal_text why
+reply_text (NotBegun why) = codes "refused " ++ refusal_text why
 
 -- the text of an act
 abbrev pub act_text : Act → List ℕ
@@ -70,10 +75,12 @@ act_text (Made h capacity) = codes "made " ++ decimal h
 act_text (Asked call) = codes "asked"
 act_text (OwnerClosed note) = codes "closed" ++ note_text note
 act_text (Got bytes note) = codes "got " ++ hex_text bytes ++ note_text note
+act_text (GotItem x note) = codes "got item " ++ decimal x ++ note_text note
 act_text GotEnd = codes "got end"
 act_text (Filled n note) = codes "put " ++ decimal n ++ note_text note
 act_text FillShut = codes "put shut"
 act_text Back = codes "back"
+act_text (ResultGot n) = codes "result " ++ decimal n
 act_text (Replied reply) = codes "replied " ++ reply_text reply
 act_text (Accepted s) = codes "accepted " ++ decimal s
 act_text (Refused why) = codes "refused " ++ refusal_text why
@@ -105,6 +112,7 @@ act_text (Peeked bytes) = codes "peeked " ++ decimal (length bytes)
 act_text Drained = codes "drained"
 act_text (TakenOut n waker) = codes "taken " ++ decimal n ++ wake_text waker
 act_text (JobClosed waker) = codes "closed" ++ wake_text waker
+act_text (ResultPut waker) = codes "result" ++ wake_text waker
 act_text (Finished waker) = codes "finished" ++ wake_text waker
 act_text (GaveUp waker) = codes "gave up" ++ wake_text waker
 act_text HolderWoken = codes "delivered owner"

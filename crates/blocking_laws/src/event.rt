@@ -69,19 +69,26 @@ impl HolderWaker {
 pub enum Reply {
     /// All was written and the writer flushed; or the handle was dropped, after that.
     Okay,
-    /// So many bytes were read, or taken for writing; none for an empty buffer, at the reader's end, and where the job's end is closed.
+    /// So many bytes were read, or taken for writing; none for an empty buffer, at the reader's end, and where the job's end is closed. Or
+    /// this number: the position to which a seek moved the handle, or the result of an operation.
     Count(u64),
+    /// This item.
+    OneItem(u64),
+    /// No item is left.
+    NoMore,
     /// The handle.
     Handle,
     /// A fault; an error of the handle is told by its number.
     Failed(Fault<u64>),
+    /// No job could be lent the handle, for this reason, where an item or an operation was asked for.
+    NotBegun(Refusal),
 }
 
 /// What was done. Jobs go by their serials.
 #[derive(Debug, Drop)]
 pub enum Act {
     // of an owner
-    /// The owner of this number was made, and the pipes of its sessions hold so many bytes; 0 stands for the default.
+    /// The owner of this number was made, and the pipes of its sessions hold so many bytes or items; 0 stands for the defaults.
     Made(usize, usize),
     /// A poll began, and asked for this.
     Asked(HandleCall),
@@ -89,6 +96,8 @@ pub enum Act {
     OwnerClosed(Option<u64>),
     /// These bytes came out of the pipe, one at least; and the note of this job out of its seat, if one was seated.
     Got(Bytes, Option<u64>),
+    /// This item came out of the pipe; and the note of this job out of its seat, if one was seated.
+    GotItem(u64, Option<u64>),
     /// The pipe was found empty, with the job's end closed.
     GotEnd,
     /// So many of the first bytes that it was asked to write went into the pipe, one at least; and the note of this job out of its seat,
@@ -98,6 +107,8 @@ pub enum Act {
     FillShut,
     /// The handle came back.
     Back,
+    /// The operation's result was found, which is this number.
+    ResultGot(u64),
     /// The poll replied so, and is over.
     Replied(Reply),
     // at the pool
@@ -153,9 +164,9 @@ pub enum Act {
     RoomShut,
     /// The job found that it has to wait for a wake.
     JobParked,
-    /// The job put so many bytes into the pipe, and found this in the owner's seat.
+    /// The job put so many bytes into the pipe, or one item, and found this in the owner's seat.
     Put(usize, HolderWaker),
-    /// So many bytes were lost, since the owner's end of the pipe is closed.
+    /// So many bytes were lost, or one item, since the owner's end of the pipe is closed.
     Lost(usize),
     /// The job found these bytes at the front of the pipe, one at least, and left them there.
     Peeked(Bytes),
@@ -165,6 +176,8 @@ pub enum Act {
     Taken(usize, HolderWaker),
     /// The job closed its end of the pipe, and found this in the owner's seat.
     JobClosed(HolderWaker),
+    /// The job put its operation's result where its owner finds it, and found this in the owner's seat there.
+    ResultPut(HolderWaker),
     /// The job put its result where its holder finds it, and found this in the holder's seat.
     Finished(HolderWaker),
     /// The job gave up: no result will come. It found this in the holder's seat.
@@ -190,10 +203,12 @@ impl Act {
             Act::Asked(call) => Act::Asked(call.try_clone()?),
             Act::OwnerClosed(note) => Act::OwnerClosed(*note),
             Act::Got(bytes, note) => Act::Got(bytes.try_clone()?, *note),
+            Act::GotItem(item, note) => Act::GotItem(*item, *note),
             Act::GotEnd => Act::GotEnd,
             Act::Filled(count, note) => Act::Filled(*count, *note),
             Act::FillShut => Act::FillShut,
             Act::Back => Act::Back,
+            Act::ResultGot(number) => Act::ResultGot(*number),
             Act::Replied(reply) => Act::Replied(*reply),
             Act::Accepted(serial) => Act::Accepted(*serial),
             Act::Refused(why) => Act::Refused(*why),
@@ -225,6 +240,7 @@ impl Act {
             Act::Drained => Act::Drained,
             Act::Taken(count, waker) => Act::Taken(*count, *waker),
             Act::JobClosed(waker) => Act::JobClosed(*waker),
+            Act::ResultPut(waker) => Act::ResultPut(*waker),
             Act::Finished(waker) => Act::Finished(*waker),
             Act::GaveUp(waker) => Act::GaveUp(*waker),
             Act::HolderWoken => Act::HolderWoken,

@@ -2,6 +2,7 @@
 ghost use Rattle.std.specs.Prelude.{◌≡◌, IfOk};
 
 use crate::bytes::Bytes;
+use blocking_core::io::Position;
 use std::alloc::AllocError;
 
 /// One step. It may name anyone and ask for anything: a step that has no action then changes nothing.
@@ -10,7 +11,7 @@ use std::alloc::AllocError;
 /// accepted, workers from 1 in the order in which they arrived, and jobs by their serials, from 1.
 #[derive(Debug, Drop)]
 pub enum Step {
-    /// An owner is made, with an idle handle. Its sessions' pipes hold so many bytes; 0 stands for the default.
+    /// An owner is made, with an idle handle. Its sessions' pipes hold so many bytes or items; 0 stands for the defaults.
     New(usize),
     /// A poll of this owner, by its number from 0, begins, and asks for this.
     Ask(usize, HandleCall),
@@ -84,13 +85,25 @@ pub enum HandleCall {
     Flush,
     /// To flush, and then to drop the handle.
     Close,
+    /// To have the handle moved to this position.
+    Seek(Position),
+    /// To have the next item of the handle's.
+    Next,
+    /// To have an operation run on the handle, and its result.
+    Operate,
+    /// To have the result of the operation that was asked last, which hasn't told one yet.
+    OperateAgain,
     /// To have the handle itself.
     GetMut,
+    /// To have the handle itself, for good.
+    IntoInner,
 }
 
 impl HandleCall {
     ghost use Rattle.std.specs.Prelude.{IsOk, true};
     ghost use Rattle.blocking_laws.specs.Bare.{is_bare_call};
+    ghost use Rattle.blocking_laws.specs.Steps.{is_known};
+
     /// The same call once more. Err where there is no memory for its bytes: a call without bytes is always had.
     pub fn try_clone(&self) -> Result<HandleCall, AllocError>
         ensures same { IfOk result (λ call. call ≡ self.now) }
@@ -101,8 +114,27 @@ impl HandleCall {
             HandleCall::Write(bytes) => Ok(HandleCall::Write(bytes.try_clone()?)),
             HandleCall::Flush => Ok(HandleCall::Flush),
             HandleCall::Close => Ok(HandleCall::Close),
+            HandleCall::Seek(position) => Ok(HandleCall::Seek(*position)),
+            HandleCall::Next => Ok(HandleCall::Next),
+            HandleCall::Operate => Ok(HandleCall::Operate),
+            HandleCall::OperateAgain => Ok(HandleCall::OperateAgain),
             HandleCall::GetMut => Ok(HandleCall::GetMut),
+            HandleCall::IntoInner => Ok(HandleCall::IntoInner),
         }
+    }
+
+    /// Whether owners are asked for this yet: not to seek, for an item, for an operation, or for the handle for good.
+    pub fn is_known(&self) -> bool
+        ensures { result ≡ is_known self.now }
+    {
+        matches!(
+            self,
+            HandleCall::Read(_)
+                | HandleCall::Write(_)
+                | HandleCall::Flush
+                | HandleCall::Close
+                | HandleCall::GetMut
+        )
     }
 }
 
@@ -119,15 +151,19 @@ pub enum TaskCall {
     Drop,
 }
 
-/// What a job is answered from outside: by its call, or by the handle that was lent to it.
+/// What a job is answered from outside: by its call or operation, or by the handle that was lent to it.
 #[derive(Debug, Drop)]
 pub enum Answer {
-    /// This number, which a call gave; or so many bytes, which a writer took.
+    /// This number, which a call or an operation gave; so many bytes, which a writer took; or this position, to which a handle moved.
     Number(u64),
     /// These bytes, which a reader gave; none at its end.
     Gave(Bytes),
     /// The writer was flushed.
     Fine,
+    /// This item, which a handle gave that is iterated.
+    Item(u64),
+    /// It has no item left.
+    NoItem,
     /// The handle failed, with the error of this number.
     Failed(u64),
 }
@@ -145,6 +181,8 @@ impl Answer {
             Answer::Number(number) => Ok(Answer::Number(*number)),
             Answer::Gave(bytes) => Ok(Answer::Gave(bytes.try_clone()?)),
             Answer::Fine => Ok(Answer::Fine),
+            Answer::Item(item) => Ok(Answer::Item(*item)),
+            Answer::NoItem => Ok(Answer::NoItem),
             Answer::Failed(error) => Ok(Answer::Failed(*error)),
         }
     }

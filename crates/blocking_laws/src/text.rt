@@ -44,10 +44,12 @@ impl fmt::Display for Act {
             Act::Asked(_) => f.write_str("asked"),
             Act::OwnerClosed(note) => write!(f, "closed{}", Noted(*note)),
             Act::Got(bytes, note) => write!(f, "got {bytes}{}", Noted(*note)),
+            Act::GotItem(item, note) => write!(f, "got item {item}{}", Noted(*note)),
             Act::GotEnd => f.write_str("got end"),
             Act::Filled(count, note) => write!(f, "put {count}{}", Noted(*note)),
             Act::FillShut => f.write_str("put shut"),
             Act::Back => f.write_str("back"),
+            Act::ResultGot(number) => write!(f, "result {number}"),
             Act::Replied(reply) => write!(f, "replied {reply}"),
             Act::Accepted(serial) => write!(f, "accepted {serial}"),
             Act::Refused(why) => write!(f, "refused {}", refusal_word(*why)),
@@ -79,6 +81,7 @@ impl fmt::Display for Act {
             Act::Drained => f.write_str("drained"),
             Act::Taken(count, waker) => write!(f, "taken {count}{}", wake_word(*waker)),
             Act::JobClosed(waker) => write!(f, "closed{}", wake_word(*waker)),
+            Act::ResultPut(waker) => write!(f, "result{}", wake_word(*waker)),
             Act::Finished(waker) => write!(f, "finished{}", wake_word(*waker)),
             Act::GaveUp(waker) => write!(f, "gave up{}", wake_word(*waker)),
             Act::HolderWoken => f.write_str("delivered owner"),
@@ -95,6 +98,8 @@ impl fmt::Display for Answer {
             Answer::Number(number) => write!(f, "{number}"),
             Answer::Gave(bytes) => write!(f, "{bytes}"),
             Answer::Fine => f.write_str("ok"),
+            Answer::Item(item) => write!(f, "item {item}"),
+            Answer::NoItem => f.write_str("none"),
             Answer::Failed(error) => write!(f, "fault {error}"),
         }
     }
@@ -107,10 +112,13 @@ impl fmt::Display for Reply {
         match *self {
             Reply::Okay => f.write_str("ok"),
             Reply::Count(count) => write!(f, "ok {count}"),
+            Reply::OneItem(item) => write!(f, "item {item}"),
+            Reply::NoMore => f.write_str("end"),
             Reply::Handle => f.write_str("handle"),
             Reply::Failed(Fault::Io(error)) => write!(f, "fault io {error}"),
             Reply::Failed(Fault::WriteZero) => f.write_str("fault write-zero"),
             Reply::Failed(Fault::Refused(why)) => write!(f, "fault refused {}", refusal_word(why)),
+            Reply::NotBegun(why) => write!(f, "refused {}", refusal_word(why)),
         }
     }
 }

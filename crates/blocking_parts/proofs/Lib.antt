@@ -1,4 +1,5 @@
 pub mod moves
 pub mod past
+pub mod rows
 pub mod ties
 pub mod laws

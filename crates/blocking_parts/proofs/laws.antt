@@ -1,6 +1,6 @@
-pub mod Next
+pub mod NextActions
 pub mod Actions
-pub mod Own
+pub mod OwnActs
 pub mod Steps
 pub mod Wakes
 pub mod OwnerWakes

@@ -1,9 +1,9 @@
-pub mod Found
+pub mod Lookups
 pub mod SessionActs
 pub mod Fills
 pub mod Asides
 pub mod Steps
 pub mod Jobs
 pub mod Lanes
-pub mod Carried
+pub mod Bytes
 pub mod Seats

@@ -1,6 +1,6 @@
 pub mod Drops
-pub mod Stands
+pub mod Standings
 pub mod Holders
-pub mod Left
+pub mod LeftJobs
 pub mod Marks
-pub mod Parked
+pub mod ParkedJobs

@@ -8,7 +8,7 @@ use Rattle.blocking_laws.specs.Jobs.{accepts, accepted_by, accepted_jobs, is_poo
 use Rattle.blocking_laws.specs.Queue.{times}
 use Rattle.blocking_laws.specs.Turns.{hand}
 use Rattle.blocking_laws.specs.Core.{Met, Served, Waiting, Closed, find_room, hand_in, peek}
-use Rattle.blocking_laws.specs.JobTable.{JobAction, AskCall, AskBytes, FindRoom, PutPiece, Peek, OfferBytes, Consume, AskFlush, piece, CloseEnd, Finish, WakeHolder, Over, next_of_job, Calling}
+use Rattle.blocking_laws.specs.JobTable.{JobAction, AskCall, AskBytes, FindRoom, PutPiece, Peek, OfferBytes, Consume, AskFlush, AskItem, SendItem, AskSeek, AskResult, PutResult, piece, CloseEnd, Finish, WakeHolder, Over, next_of_job, Calling}
 use Rattle.blocking_laws.specs.Sessions.{kind_of_job, is_shut}
 use Rattle.blocking_laws.specs.Passed.{inside, room_in}
 use Rattle.blocking_laws.specs.Places.{seen_room, seated, seen_put, seen_peek}
@@ -206,6 +206,11 @@ works_at_none cut Peek t law = peek_accepts_none (peek piece (inside cut) (not (
 works_at_none cut (OfferBytes bytes) t law = law
 works_at_none cut (Consume n) t law = cc
 works_at_none cut AskFlush t law = law
+works_at_none cut AskItem t law = law
+works_at_none cut (SendItem x) t law = put_accepts_none 1 (hand_in 1 (room_in cut) (not (is_shut (own cut))) (seated (pipe_seat cut))) t law
+works_at_none cut AskSeek t law = law
+works_at_none cut AskResult t law = law
+works_at_none cut PutResult t law = cc
 works_at_none cut CloseEnd t law = cc
 works_at_none cut Finish t law = cc
 works_at_none cut WakeHolder t law = cc

@@ -9,7 +9,7 @@ use Rattle.blocking_laws.specs.Jobs.{tasks, holder}
 use Rattle.blocking_laws.specs.Turns.{Turn, GoesOn, IsWaiting, MustGiveUp, HasGivenUp, turn, hand, is_giving_up, FitsTurn, FitsTurnOf, ActsInTurn, is_job_act, TurnLaw}
 use Rattle.blocking_laws.specs.TaskLaws.{TaskLaw}
 use Rattle.blocking_laws.specs.Sessions.{under_way, is_poll_over}
-use Rattle.blocking_laws.specs.OwnerTable.{OwnerAction, Begin, CloseOwn, WakeJob, Drain, Fill, PollSlot, Say, Rest, next_of_owner}
+use Rattle.blocking_laws.specs.OwnerTable.{OwnerAction, Begin, CloseOwn, WakeJob, Drain, Fill, Receive, PollSlot, PollPlace, Say, Rest, next_of_owner}
 use Rattle.blocking_laws.specs.OwnerLaws.{IsBegunAnew, Polls, OwnerActs, OwnerMayAct}
 use Rattle.blocking_laws.specs.Steps.{StepLaw, Happens, IsBegun, has_action, is_pool_step, is_out_of_memory, may_call, named, party}
 use Rattle.blocking_laws.specs.Legal.{Legal, PoolLaw}
@@ -162,6 +162,8 @@ by_action (WakeJob s) setting plan past now other cut memory act other_act law o
 by_action CloseOwn setting plan past now other cut memory act other_act law other_law = one_line cut CloseOwn now.event.act other.event.act refl act other_act
 by_action (Drain n) setting plan past now other cut memory act other_act law other_law = one_line cut (Drain n) now.event.act other.event.act refl act other_act
 by_action (Fill bytes) setting plan past now other cut memory act other_act law other_law = one_line cut (Fill bytes) now.event.act other.event.act refl act other_act
+by_action Receive setting plan past now other cut memory act other_act law other_law = one_line cut Receive now.event.act other.event.act refl act other_act
+by_action PollPlace setting plan past now other cut memory act other_act law other_law = one_line cut PollPlace now.event.act other.event.act refl act other_act
 by_action PollSlot setting plan past now other cut memory act other_act law other_law = one_line cut PollSlot now.event.act other.event.act refl act other_act
 by_action (Say reply) setting plan past now other cut memory act other_act law other_law = one_line cut (Say reply) now.event.act other.event.act refl act other_act
 by_action Rest setting plan past now other cut memory act other_act law other_law = absurd act

@@ -4,9 +4,9 @@ use Rattle.std.specs.Prelude.{not}
 use mathlib.Core.Path.{subst, sym}
 use Rattle.blocking_laws.specs.Seen.{own, acts_of, is_some_worker}
 use Rattle.blocking_laws.specs.Turns.{is_giving_up}
-use Rattle.blocking_laws.specs.JobTable.{Kind, JobAction, AskCall, AskBytes, FindRoom, PutPiece, Peek, OfferBytes, Consume, AskFlush, CloseEnd, Finish, WakeHolder, Over, IsAnswerTo, next_of_job}
-use Rattle.blocking_laws.specs.Sessions.{kind_of_job, under_way, is_poll_over, is_made, is_dropped, is_closed, is_for_closed}
-use Rattle.blocking_laws.specs.OwnerTable.{OwnerAction, Begin, CloseOwn, WakeJob, Drain, Fill, PollSlot, Say, Rest, next_of_owner}
+use Rattle.blocking_laws.specs.JobTable.{Kind, JobAction, AskCall, AskBytes, FindRoom, PutPiece, Peek, OfferBytes, Consume, AskFlush, AskItem, SendItem, CloseEnd, AskSeek, AskResult, PutResult, Finish, WakeHolder, Over, IsAnswerTo, next_of_job}
+use Rattle.blocking_laws.specs.Sessions.{kind_of_job, under_way, is_poll_over, is_made, is_owner_gone, is_closed, is_for_closed, was_asked_inner, is_into_inner, is_again, is_pending_operation}
+use Rattle.blocking_laws.specs.OwnerTable.{OwnerAction, Begin, CloseOwn, WakeJob, Drain, Fill, Receive, PollSlot, PollPlace, Say, Rest, next_of_owner}
 use Rattle.blocking_laws.specs.OwnerSeats.{slot_seat}
 use Rattle.blocking_laws.specs.OwnerLaws.{OwnerActs, Polls, Works, JobActs, JobMayAct, OwnerMayAct, OwnerLaw, is_of_poll, is_settled}
 use Rattle.blocking_laws.specs.Seats.{waker_in}
@@ -21,16 +21,16 @@ never_over : (over : Bool) → over ≡ false → over ≡ true → ⊥
 never_over over goes is = cc
 
 -- no owner rests while a poll of it goes on
-no_rest : (made dropped over : Bool) → over ≡ false → (made && not dropped && over) ≡ true → ⊥
+no_rest : (made gone over : Bool) → over ≡ false → (made && not gone && over) ≡ true → ⊥
 no_rest true false over goes law = cc
 no_rest true true over goes law = cc
-no_rest false dropped over goes law = cc
+no_rest false gone over goes law = cc
 
 -- nor may it be asked
-no_call : (made dropped over may : Bool) → over ≡ false → ((made && not dropped && over) && may) ≡ true → ⊥
-no_call true false over may goes law = let stopped = ap (λ b. b && may) (sym goes) ∙ law in cc
-no_call true true over may goes law = cc
-no_call false dropped over may goes law = cc
+no_call : (made gone over is_open asked again : Bool) → over ≡ false → ((made && not gone && over) && is_open && asked && again) ≡ true → ⊥
+no_call true false over is_open asked again goes law = let stopped = ap (λ b. b && is_open && asked && again) (sym goes) ∙ law in cc
+no_call true true over is_open asked again goes law = cc
+no_call false gone over is_open asked again goes law = cc
 
 -- an act of a poll that is under way is the one that its next action gives
 pub by_poll : (cut : List Event) (act : Act) → is_of_poll act ≡ true → OwnerActs cut act → Polls cut (next_of_owner cut) act
@@ -46,6 +46,8 @@ one_line cut (WakeJob s) act other settled law other_law = absurd cc
 one_line cut CloseOwn act other settled law other_law = law ∙ sym other_law
 one_line cut (Drain n) act other settled law other_law = law ∙ sym other_law
 one_line cut (Fill bytes) act other settled law other_law = law ∙ sym other_law
+one_line cut Receive act other settled law other_law = law ∙ sym other_law
+one_line cut PollPlace act other settled law other_law = law ∙ sym other_law
 one_line cut PollSlot act other settled law other_law = law ∙ sym other_law
 one_line cut (Say reply) act other settled law other_law = law ∙ sym other_law
 one_line cut Rest act other settled law other_law = absurd law
@@ -60,8 +62,10 @@ one_poll cut now other of_owner of_other polled other_polled settled law other_l
 -- an owner isn't made, asked or dropped while a poll of it is under way
 pub polled : (cut : List Event) (act : Act) → is_poll_over (under_way (own cut)) ≡ false → OwnerActs cut act → is_of_poll act ≡ true
 polled cut (Made h capacity) goes law = absurd (never_over (is_poll_over (under_way (own cut))) goes (ap (λ c. is_poll_over (under_way (own c))) law))
-polled cut (Asked call) goes law = absurd (no_call (is_made (own cut)) (is_dropped (own cut)) (is_poll_over (under_way (own cut))) (not (is_closed (own cut)) || is_for_closed call) goes law)
-polled cut HolderDropped goes law = absurd (no_rest (is_made (own cut)) (is_dropped (own cut)) (is_poll_over (under_way (own cut))) goes law)
+polled cut (Asked call) goes law =
+    absurd (no_call (is_made (own cut)) (is_owner_gone (own cut)) (is_poll_over (under_way (own cut))) (not (is_closed (own cut)) || is_for_closed call)
+    (not (was_asked_inner (own cut)) || is_into_inner (Some call)) (not (is_again call) || is_pending_operation (own cut)) goes law)
+polled cut HolderDropped goes law = absurd (no_rest (is_made (own cut)) (is_owner_gone (own cut)) (is_poll_over (under_way (own cut))) goes law)
 polled cut _ goes law = refl
 
 -- ---- jobs
@@ -83,6 +87,11 @@ one_work cut AskCall act other own law other_law = absurd (unanswered AskCall ac
 one_work cut (AskBytes n) act other own law other_law = absurd (unanswered (AskBytes n) act own law)
 one_work cut (OfferBytes bytes) act other own law other_law = absurd (unanswered (OfferBytes bytes) act own law)
 one_work cut AskFlush act other own law other_law = absurd (unanswered AskFlush act own law)
+one_work cut AskItem act other own law other_law = absurd (unanswered AskItem act own law)
+one_work cut AskSeek act other own law other_law = absurd (unanswered AskSeek act own law)
+one_work cut AskResult act other own law other_law = absurd (unanswered AskResult act own law)
+one_work cut (SendItem x) act other own law other_law = law ∙ sym other_law
+one_work cut PutResult act other own law other_law = law ∙ sym other_law
 one_work cut FindRoom act other own law other_law = law ∙ sym other_law
 one_work cut (PutPiece bytes) act other own law other_law = law ∙ sym other_law
 one_work cut Peek act other own law other_law = law ∙ sym other_law

@@ -1,6 +1,6 @@
 //! The texts of events.
 use crate::row::{Place, agree};
-use blocking_core::io::Fault;
+use blocking_core::io::{Fault, Position};
 use blocking_core::pool::{Refusal, Standing, Woke};
 use blocking_laws::bytes::Bytes;
 use blocking_laws::event::{Act, Event, HolderWaker, Party, Reply, WaitEnd};
@@ -129,6 +129,45 @@ fn texts_of_writing(rt: HostRuntime) -> Result<(), Fail> {
         (Act::Answered(Answer::Fine), "answered ok"),
         (Act::Taken(1, HolderWaker::Absent), "taken 1"),
         (Act::Taken(1, HolderWaker::Taken), "taken 1 wake owner"),
+    ];
+    for (act, text) in rows {
+        shows(rt.alloc(), act, text)?;
+    }
+    Ok(())
+}
+
+#[test]
+fn texts_of_items_seeks_and_operations(rt: HostRuntime) -> Result<(), Fail> {
+    let rows = [
+        (Act::Asked(HandleCall::Seek(Position::Current(-3))), "asked"),
+        (Act::Asked(HandleCall::Next), "asked"),
+        (Act::Asked(HandleCall::Operate), "asked"),
+        (Act::Asked(HandleCall::OperateAgain), "asked"),
+        (Act::Asked(HandleCall::IntoInner), "asked"),
+        (Act::GotItem(5, None), "got item 5"),
+        (Act::GotItem(0, Some(7)), "got item 0 wake 7"),
+        (Act::ResultGot(9), "result 9"),
+        (
+            Act::Replied(Reply::OneItem(u64::MAX)),
+            "replied item 18446744073709551615",
+        ),
+        (Act::Replied(Reply::NoMore), "replied end"),
+        (
+            Act::Replied(Reply::NotBegun(Refusal::Memory)),
+            "replied refused memory",
+        ),
+        (
+            Act::Replied(Reply::NotBegun(Refusal::NoWorker)),
+            "replied refused worker",
+        ),
+        (
+            Act::Replied(Reply::NotBegun(Refusal::Numbers)),
+            "replied refused numbers",
+        ),
+        (Act::Answered(Answer::Item(4)), "answered item 4"),
+        (Act::Answered(Answer::NoItem), "answered none"),
+        (Act::ResultPut(HolderWaker::Absent), "result"),
+        (Act::ResultPut(HolderWaker::Taken), "result wake owner"),
     ];
     for (act, text) in rows {
         shows(rt.alloc(), act, text)?;

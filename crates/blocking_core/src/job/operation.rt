@@ -83,18 +83,15 @@ impl OperationCore {
             return;
         }
         let (next, is_waking) = match (self.next, answer) {
-            (OperationAction::Call, OperationAnswer::Returned) => (
-                OperationAction::PutResult,
-                false,
-            ),
-            (OperationAction::PutResult, OperationAnswer::ResultPut { woke }) => (
-                OperationAction::Finish,
-                woke,
-            ),
-            (OperationAction::Finish, OperationAnswer::Finished { woke }) => (
-                OperationAction::Done,
-                woke,
-            ),
+            (OperationAction::Call, OperationAnswer::Returned) => {
+                (OperationAction::PutResult, false)
+            }
+            (OperationAction::PutResult, OperationAnswer::ResultPut { woke }) => {
+                (OperationAction::Finish, woke)
+            }
+            (OperationAction::Finish, OperationAnswer::Finished { woke }) => {
+                (OperationAction::Done, woke)
+            }
             (same, _) => (same, false),
         };
         *self = OperationCore { next, is_waking };

@@ -1,10 +1,17 @@
 //! The player of the rows of handles that are lent: the two machines, each asked for its next action and told what the pipe, the slot
 //! and the handle answer. It promises nothing.
+mod bytes;
+mod items;
+mod once;
+
 use crate::pipe::bench::Bench as Numbers;
 use crate::stop::stop;
 use blocking_core::io::{Fault, JobFault};
-use blocking_core::job::{ReadAction, ReadAnswer, ReadCore, WriteAction, WriteAnswer, WriteCore};
-use blocking_core::pipe::{self, Answered, BytePipe, Drained, Filled, Peeked, Pipe, Room};
+use blocking_core::job::{
+    ItemAction, ItemCore, OperationAction, OperationCore, ReadAction, ReadCore, SeekAction,
+    SeekCore, WriteAction, WriteCore,
+};
+use blocking_core::pipe::{Answered, BytePipe, Drained, Filled, Pipe, Received};
 use blocking_core::pool::Refusal;
 use blocking_core::task::{Polled, Slot, Slotted};
 use blocking_core::unblock::{OwnerAction, OwnerAnswer, OwnerCall, PollCall, Reply, State};
@@ -27,6 +34,12 @@ pub(super) enum Given {
     /// It takes so many bytes.
     Takes(usize),
     Flushes,
+    Item(u8),
+    NoItem,
+    /// It is at this position after a seek.
+    Moves(u64),
+    /// The operation on it returns this.
+    Returns(u8),
 }
 
 /// What a line of a row makes happen.
@@ -60,6 +73,10 @@ pub(super) enum Seen {
     Back(Option<Fault<u8>>),
     Delivered,
     Replied(Reply<u8>),
+    GotItem(u8, bool),
+    /// The handle is back from a seek, at this position.
+    Sought(u64),
+    GotResult(u8),
     // of the job
     /// These bytes were copied out of the pipe.
     Peeked(u8, usize),
@@ -78,6 +95,14 @@ pub(super) enum Seen {
     JobClosed(bool),
     Finished(bool),
     Called,
+    /// The iterator was asked for an item.
+    AskedNext,
+    Sent(bool),
+    /// The handle was asked to seek.
+    AskedToSeek,
+    /// The operation was called.
+    Operated,
+    ResultPut(bool),
     /// The row asks for more than there is.
     Misplaced,
 }
@@ -98,6 +123,9 @@ pub(super) struct Row {
 enum Next {
     Read(ReadAction),
     Write(WriteAction, Option<JobFault<u8>>),
+    Item(ItemAction),
+    Seek(SeekAction),
+    Operate(OperationAction),
 }
 
 /// What a job decides by.
@@ -105,6 +133,28 @@ enum Next {
 enum Core {
     Reading(ReadCore),
     Writing(WriteCore<u8>),
+    Streaming(ItemCore),
+    Seeking(SeekCore),
+    Operating(OperationCore),
+}
+
+impl Core {
+    fn begun_by(call: PollCall) -> Core {
+        match call {
+            PollCall::Write(_) => Core::Writing(WriteCore::new()),
+            PollCall::Next => Core::Streaming(ItemCore::new()),
+            PollCall::Seek(_) => Core::Seeking(SeekCore::new()),
+            PollCall::Operate { .. } => Core::Operating(OperationCore::new()),
+            _ => Core::Reading(ReadCore::new()),
+        }
+    }
+}
+
+/// What a job leaves in its slot beside the handle.
+#[derive(Clone, Copy)]
+enum Left {
+    Back(Option<Fault<u8>>),
+    Sought(u64),
 }
 
 /// An owner and its job, with the handle in no one's hand: what it answers stands in the row.
@@ -118,9 +168,13 @@ struct Bench {
     state: State,
     core: Core,
     pipe: BytePipe<u8>,
-    slot: Slot<Option<Fault<u8>>, u8>,
+    slot: Slot<Left, u8>,
+    result: Slot<u8, u8>,
     piece: [u8; PIECE],
     fault: Option<Fault<u8>>,
+    // the item or the result in the job's hand, and where its seek came to
+    held: u8,
+    place: u64,
 }
 
 /// Plays rows, each from its beginning on, and tells where one shows something else.
@@ -160,8 +214,11 @@ impl Bench {
             core: Core::Reading(ReadCore::new()),
             pipe: Pipe::new(alloc, row.capacity).ok()?,
             slot: Slot::new(),
+            result: Slot::new(),
             piece: [0; PIECE],
             fault: None,
+            held: 0,
+            place: 0,
         })
     }
 
@@ -202,7 +259,9 @@ impl Bench {
             }
             OwnerAction::Drain(most) => self.drain(poll, most),
             OwnerAction::Fill(most) => self.fill(poll, first, most),
+            OwnerAction::Receive => self.receive(poll),
             OwnerAction::PollSlot => self.poll_slot(poll),
+            OwnerAction::PollResult => self.poll_result(poll),
             OwnerAction::DropHandle => {
                 poll.answer(OwnerAnswer::Dropped);
                 Seen::Dropped
@@ -229,10 +288,8 @@ impl Bench {
         };
         self.pipe = pipe;
         self.slot = Slot::new();
-        self.core = match call {
-            PollCall::Write(_) => Core::Writing(WriteCore::new()),
-            _ => Core::Reading(ReadCore::new()),
-        };
+        self.result = Slot::new();
+        self.core = Core::begun_by(call);
         self.fault = None;
         poll.answer(OwnerAnswer::Begun);
         Seen::Began
@@ -287,12 +344,50 @@ impl Bench {
     fn poll_slot(&mut self, poll: &mut OwnerCall<u8>) -> Seen {
         let Polled { answer, spare: _ } = self.slot.poll(WAKER);
         match answer {
-            Slotted::Value(fault) => {
+            Slotted::Value(Left::Back(fault)) => {
                 poll.answer(OwnerAnswer::Back(fault));
                 Seen::Back(fault)
             }
+            Slotted::Value(Left::Sought(place)) => {
+                poll.answer(OwnerAnswer::Sought(place));
+                Seen::Sought(place)
+            }
             Slotted::Gone => Seen::Misplaced,
             Slotted::Waits(seat) => {
+                poll.answer(OwnerAnswer::Waits(seat));
+                Seen::Waits
+            }
+        }
+    }
+
+    fn poll_result(&mut self, poll: &mut OwnerCall<u8>) -> Seen {
+        let Polled { answer, spare: _ } = self.result.poll(WAKER);
+        match answer {
+            Slotted::Value(result) => {
+                poll.answer(OwnerAnswer::Resulted);
+                Seen::GotResult(result)
+            }
+            Slotted::Gone => Seen::Misplaced,
+            Slotted::Waits(seat) => {
+                poll.answer(OwnerAnswer::Waits(seat));
+                Seen::Waits
+            }
+        }
+    }
+
+    fn receive(&mut self, poll: &mut OwnerCall<u8>) -> Seen {
+        let Answered { answer, spare: _ } = self.pipe.receive_or_seat(WAKER);
+        match answer {
+            Received::Got(item, note) => {
+                let has_note = self.numbers.spend(note).is_some();
+                poll.answer(OwnerAnswer::Received { has_note });
+                Seen::GotItem(item, has_note)
+            }
+            Received::Ended => {
+                poll.answer(OwnerAnswer::Ended);
+                Seen::Ended
+            }
+            Received::Waits(seat) => {
                 poll.answer(OwnerAnswer::Waits(seat));
                 Seen::Waits
             }
@@ -313,6 +408,9 @@ impl Bench {
         let is_done = match &self.core {
             Core::Reading(core) => core.next() == ReadAction::Done,
             Core::Writing(core) => core.next() == WriteAction::Done,
+            Core::Streaming(core) => core.next() == ItemAction::Done,
+            Core::Seeking(core) => core.next() == SeekAction::Done,
+            Core::Operating(core) => core.next() == OperationAction::Done,
         };
         is_done || seen.last() == Some(&Seen::Parked)
     }
@@ -321,151 +419,27 @@ impl Bench {
         match &self.core {
             Core::Reading(core) => Next::Read(core.next()),
             Core::Writing(core) => Next::Write(core.next(), core.fault()),
+            Core::Streaming(core) => Next::Item(core.next()),
+            Core::Seeking(core) => Next::Seek(core.next()),
+            Core::Operating(core) => Next::Operate(core.next()),
         }
     }
 
     fn take_job_action(&mut self) -> Seen {
         match self.next() {
-            Next::Read(action) => {
-                let (answer, seen) = self.take_read_action(action);
-                if let Core::Reading(core) = &mut self.core {
-                    core.answer(answer);
-                }
-                seen
-            }
-            Next::Write(action, fault) => {
-                let (answer, seen) = self.take_write_action(action, fault);
-                if let Core::Writing(core) = &mut self.core {
-                    core.answer(answer);
-                }
-                seen
-            }
+            Next::Read(action) => self.read_on(action),
+            Next::Write(action, fault) => self.write_on(action, fault),
+            Next::Item(action) => self.stream_on(action),
+            Next::Seek(action) => self.seek_on(action),
+            Next::Operate(action) => self.operate_on(action),
         }
     }
 
-    fn take_write_action(
-        &mut self,
-        action: WriteAction,
-        fault: Option<JobFault<u8>>,
-    ) -> (WriteAnswer<u8>, Seen) {
-        match action {
-            WriteAction::Peek => self.peek(),
-            WriteAction::Write(most) => self.answer_write(Seen::Offered(most)),
-            WriteAction::Consume(count) => self.consume(count),
-            WriteAction::Flush => self.answer_write(Seen::Flushed),
-            WriteAction::Close => {
-                let woke = self.pipe.close_job().is_some();
-                (WriteAnswer::Closed { woke }, Seen::JobClosed(woke))
-            }
-            WriteAction::Finish => {
-                let told = fault.map(Fault::from);
-                let woke = self.slot.put(told).wake.is_some();
-                (WriteAnswer::Finished { woke }, Seen::Finished(woke))
-            }
-            WriteAction::Deliver => (WriteAnswer::Delivered, Seen::Called),
-            WriteAction::Done => (WriteAnswer::Delivered, Seen::Misplaced),
-        }
-    }
-
-    fn peek(&mut self) -> (WriteAnswer<u8>, Seen) {
-        let Some(job) = self.numbers.job(JOB) else {
-            return (WriteAnswer::Delivered, Seen::Misplaced);
-        };
-        let mut piece = [0; PIECE];
-        match self.pipe.peek_or_seat(job, &mut piece) {
-            Peeked::Some(count)
-                if count <= PIECE && piece[..count] == bytes_from(piece[0])[..count] => {
-                (WriteAnswer::Peeked(count), Seen::Peeked(piece[0], count))
-            }
-            Peeked::Some(_) => (WriteAnswer::Delivered, Seen::Misplaced),
-            Peeked::Parked => (WriteAnswer::Parked, Seen::Parked),
-            Peeked::Drained => (WriteAnswer::Drained, Seen::Drained),
-        }
-    }
-
-    // The writer's next answer, to a write or a flush.
-    fn answer_write(&mut self, seen: Seen) -> (WriteAnswer<u8>, Seen) {
-        let Some((given, rest)) = self.given.split_first() else {
-            return (WriteAnswer::Delivered, Seen::Misplaced);
-        };
+    // What the handle answers next, if the row has more.
+    fn take_given(&mut self) -> Option<Given> {
+        let (given, rest) = self.given.split_first()?;
         self.given = rest;
-        match *given {
-            Given::Takes(count) => (WriteAnswer::Took(count), seen),
-            Given::Fails(error) => (WriteAnswer::Failed(error), seen),
-            Given::Flushes => (WriteAnswer::Flushed, seen),
-            Given::Bytes(_, _) => (WriteAnswer::Delivered, Seen::Misplaced),
-        }
-    }
-
-    fn consume(&mut self, count: usize) -> (WriteAnswer<u8>, Seen) {
-        if count > self.pipe.len() {
-            return (WriteAnswer::Delivered, Seen::Misplaced);
-        }
-        let woke = self.pipe.consume(count).is_some();
-        (WriteAnswer::Consumed { woke }, Seen::Consumed(count, woke))
-    }
-
-    fn take_read_action(&mut self, action: ReadAction) -> (ReadAnswer, Seen) {
-        match action {
-            ReadAction::FindRoom => self.find_room(),
-            ReadAction::Read(most) => self.read(most),
-            ReadAction::Put(count) => self.put(count),
-            ReadAction::Close => {
-                let woke = self.pipe.close_job().is_some();
-                (ReadAnswer::Closed { woke }, Seen::JobClosed(woke))
-            }
-            ReadAction::Finish => {
-                let woke = self.slot.put(self.fault).wake.is_some();
-                (ReadAnswer::Finished { woke }, Seen::Finished(woke))
-            }
-            ReadAction::Deliver => (ReadAnswer::Delivered, Seen::Called),
-            ReadAction::Done => (ReadAnswer::Delivered, Seen::Misplaced),
-        }
-    }
-
-    fn find_room(&mut self) -> (ReadAnswer, Seen) {
-        let Some(job) = self.numbers.job(JOB) else {
-            return (ReadAnswer::Delivered, Seen::Misplaced);
-        };
-        match self.pipe.room_or_seat(job) {
-            Room::Free(room) => (ReadAnswer::Free(room), Seen::Free(room)),
-            Room::Parked => (ReadAnswer::Parked, Seen::Parked),
-            Room::Shut => (ReadAnswer::Shut, Seen::Shut),
-        }
-    }
-
-    fn read(&mut self, most: usize) -> (ReadAnswer, Seen) {
-        let Some((given, rest)) = self.given.split_first() else {
-            return (ReadAnswer::Delivered, Seen::Misplaced);
-        };
-        self.given = rest;
-        let answer = match *given {
-            Given::Bytes(first, count) => {
-                self.piece = bytes_from(first);
-                ReadAnswer::Gave(count)
-            }
-            Given::Fails(error) => {
-                self.fault = Some(Fault::Io(error));
-                ReadAnswer::Failed
-            }
-            Given::Takes(_) | Given::Flushes => {
-                return (ReadAnswer::Delivered, Seen::Misplaced);
-            }
-        };
-        (answer, Seen::Asked(most))
-    }
-
-    fn put(&mut self, count: usize) -> (ReadAnswer, Seen) {
-        if count > PIECE || count > self.pipe.room() {
-            return (ReadAnswer::Delivered, Seen::Misplaced);
-        }
-        match self.pipe.put(&self.piece[..count]) {
-            pipe::Put::In(waker) => {
-                let woke = waker.is_some();
-                (ReadAnswer::Put { woke }, Seen::Put(count, woke))
-            }
-            pipe::Put::Lost => (ReadAnswer::Lost, Seen::Lost),
-        }
+        Some(*given)
     }
 }
 

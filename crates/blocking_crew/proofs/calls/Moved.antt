@@ -1,31 +1,19 @@
 -- Each call of a crew is a move, by what its parts did.
 use Rattle.std.proofs.Common.{◌≡◌, ◌-◌, ◌<◌, nat_lt, ℕ, Bool, true, false, List, if◌then◌else◌, ap, subst, refl, ◌∙◌, arith, Option, Some, None}
+use Rattle.std.proofs.lemmas.List.{set-set}
 use Rattle.std.proofs.lemmas.Bool.Decides.{nat_tests}
 use Rattle.blocking_pool.specs.Counts.{after_arrival}
 use Rattle.blocking_pool.specs.Growth.{Growth}
 use Rattle.blocking_pool.specs.Pools.{without_job}
 use Rattle.blocking_pool.specs.declared.pool.answer.Took.{Took}
-use Rattle.blocking_pool.specs.declared.pool.answer.Took.TheVariants.{Run, Drop, Idle}
-use Rattle.blocking_pool.specs.declared.pool.answer.Waited.{Waited}
-use Rattle.blocking_pool.specs.declared.pool.token.WorkerPass.{WorkerPass}
 use Rattle.blocking_laws.specs.Answers.{wait_act}
 use Rattle.blocking_laws.specs.Seen.{has_timed_out}
-use Rattle.blocking_laws.specs.declared.event.Act.{Act}
-use Rattle.blocking_laws.specs.declared.event.Act.TheVariants.{Arrived, Ended}
-use Rattle.blocking_laws.specs.declared.event.Event.{Event}
-use Rattle.blocking_laws.specs.declared.event.Party.TheVariants.{Worker, Pool}
-use Rattle.blocking_laws.specs.declared.event.WaitEnd.{WaitEnd}
 use Rattle.blocking_crew.specs.Crews.{Crew, IsReady, Joins, hand_at, hand_of, with_hand, is_free_hand, pass_in, held_if, over_in, waiting_in, is_waiting, may_end, may_act, acting_in, hand_after_act, outcome_of, standing_after}
 use Rattle.blocking_crew.specs.Moves.{Call, Take, Work, End, Park, Wait, Arrive, Idles, Arrives, TakesJob, TakesNone, Works, EndsTurn, Parks, HasWaited, Moves, has_action, named, next_start, seen, nothing, job_of_take, act_of_take, hand_after_take, parked_act, hand_after_park, hand_after_wait, is_stop}
 use Rattle.blocking_crew.specs.Tickets.{JobPool, no_growth, TakesTo, WaitsSo, ParksSo}
-use Rattle.blocking_crew.specs.declared.hand.Hand.{Hand}
-use Rattle.blocking_crew.specs.declared.hand.Hand.TheVariants.{Out, Free, Holds}
-use Rattle.blocking_crew.specs.declared.hand.Held.{Held}
-use Rattle.blocking_crew.specs.declared.hand.Stage.{Stage}
 use Rattle.blocking_crew.specs.declared.hand.Stage.TheVariants as stage
-use Rattle.blocking_crew.specs.declared.ticket.Ticket.{Ticket}
-use Rattle.blocking_crew.specs.declared.tickets.Parking.{Parking}
-use Rattle.blocking_crew.proofs.hands.Lent.{pass_is, held_is, is_out, set_twice}
+use Rattle.blocking_crew.proofs.Types.{Run, Drop, Idle, Waited, WorkerPass, Act, Arrived, Ended, Event, Worker, Pool, WaitEnd, Hand, Out, Free, Holds, Held, Stage, Ticket, Parking}
+use Rattle.blocking_crew.proofs.hands.Lent.{pass_is, held_is, is_out}
 use Rattle.blocking_crew.proofs.hands.Rows.{at_free, at_held}
 use Rattle.blocking_crew.proofs.ready.Hands.{one_free}
 
@@ -51,7 +39,7 @@ no_pass (Holds held) none = refl
 
 module _ (row out : List Hand) (v : ℕ) (outs : out ≡ with_hand row v Out) where
   pub refilled : (hands : List Hand) (hand : Hand) → hands ≡ with_hand out v hand → hands ≡ with_hand row v hand
-  refilled hands hand is = is ∙ ap (λ (r : List Hand). with_hand r v hand) outs ∙ set_twice row (v - 1) Out hand
+  refilled hands hand is = is ∙ ap (λ (r : List Hand). with_hand r v hand) outs ∙ set-set row (v - 1) Out hand
 
   -- a pass was taken out
   pub pass_is_out : (pass : WorkerPass) → Some pass ≡ pass_in (hand_at row v) → hand_of out v ≡ Some Out

@@ -6,9 +6,7 @@ use Rattle.blocking_pool.specs.Pools.{without_job}
 use Rattle.blocking_crew.specs.Closing.{RunsIn, EndsTurn, AreIdle}
 use Rattle.blocking_crew.specs.Crews.{IsReady, one_if_free, free_hands}
 use Rattle.blocking_crew.specs.Tickets.{JobPool, AreValued}
-use Rattle.blocking_crew.specs.declared.hand.Hand.{Hand}
-use Rattle.blocking_crew.specs.declared.hand.Hand.TheVariants.{Out, Free, Holds}
-use Rattle.blocking_crew.specs.declared.hand.Held.{Held}
+use Rattle.blocking_crew.proofs.Types.{Hand, Out, Free, Holds, Held}
 use Rattle.blocking_crew.proofs.hands.Rows.{sum_pushed, hand_from_place}
 use Rattle.blocking_pool.proofs.Places.{got_same, got_other, got_pushed, got_before, set_same}
 use Rattle.blocking_crew.proofs.ready.Hands.{over_ready}

@@ -1,14 +1,12 @@
 -- What is in the hand of a worker, comes out of it and is put into it.
-use Rattle.std.proofs.Common.{◌≡◌, ◌-◌, ◌==◌, ℕ, zero, suc, Bool, true, false, List, [], ◌∷◌, slice_get, slice_set, Option, Some, None, if◌then◌else◌, ap, sym, subst, refl, arith, ◌∙◌}
+use Rattle.std.proofs.Common.{◌≡◌, ◌-◌, ◌==◌, ℕ, Bool, true, false, List, slice_get, Option, Some, None, if◌then◌else◌, ap, sym, subst, refl, arith, ◌∙◌}
+use Rattle.std.proofs.lemmas.Option.{cond_some}
+use Rattle.std.proofs.lemmas.Bool.{cond_both}
 use Rattle.std.specs.Prelude.{OnSome}
 use Rattle.std.proofs.lemmas.Bool.Decides.{nat_tests}
-use Rattle.blocking_pool.specs.declared.pool.token.WorkerPass.{WorkerPass}
 use Rattle.blocking_crew.specs.Crews.{hand_at, hand_in, hand_of, with_hand, pass_in, held_if}
-use Rattle.blocking_crew.specs.declared.hand.Hand.{Hand}
-use Rattle.blocking_crew.specs.declared.hand.Hand.TheVariants.{Out, Free, Holds}
-use Rattle.blocking_crew.specs.declared.hand.Held.{Held}
-use Rattle.blocking_crew.specs.declared.hand.Stage.{Stage}
 use Rattle.blocking_pool.proofs.Places.{got_same, set_same}
+use Rattle.blocking_crew.proofs.Types.{WorkerPass, Hand, Out, Free, Holds, Held, Stage}
 use Rattle.blocking_crew.proofs.hands.Rows.{IsAt}
 
 -- ---- one hand
@@ -23,35 +21,23 @@ pass_is (Holds held) pass is = absurd cc
 pub held_is : (test : Stage → Bool) (hand : Hand) (held : Held) → Some held ≡ held_if test hand → (hand ≡ Holds held) × (test held.stage ≡ true)
 held_is test Out held is = absurd cc
 held_is test (Free pass) held is = absurd cc
-held_is test (Holds h) held is = by (test h.stage) refl is
-  where
-    by : (b : Bool) → test h.stage ≡ b → Some held ≡ (if b then Some h else None) → (Holds h ≡ Holds held) × (test held.stage ≡ true)
-    by true passes same = let e : held ≡ h = cc in (ap Holds (sym e), ap (λ (x : Held). test x.stage) e ∙ passes)
-    by false passes same = absurd cc
+held_is test (Holds h) held is = let e = cond_some (test h.stage) h held (sym is) in (ap Holds e.1, ap (λ (x : Held). test x.stage) (sym e.1) ∙ e.0)
 
 -- ---- the hands
 
-hand_by : (b : Bool) (found : Option Hand) → (if b then Out else hand_in found) ≡ hand_in (if b then None else found)
-hand_by true found = refl
-hand_by false found = refl
-
 -- the hand of a worker is the one that it has, if it is there
 pub hand_is : (row : List Hand) (v : ℕ) → hand_at row v ≡ hand_in (hand_of row v)
-hand_is row v = hand_by (v == 0) (slice_get row (v - 1))
-
-of_by : (b : Bool) (found : Option Hand) (hand : Hand) → (if b then None else found) ≡ Some hand → found ≡ Some hand
-of_by true found hand is = absurd cc
-of_by false found hand is = is
+hand_is row v = cond_both (v == 0) None (slice_get row (v - 1)) (λ found. hand_at row v ≡ hand_in found) (λ none. rw none refl) (λ some. rw some refl)
 
 -- what a worker has in hand, put there again, changes nothing
 pub put_back : (row : List Hand) (v : ℕ) (hand : Hand) → hand_of row v ≡ Some hand → with_hand row v hand ≡ row
-put_back row v hand is = set_same row (v - 1) hand (of_by (v == 0) (slice_get row (v - 1)) hand is)
+put_back row v hand is = set_same row (v - 1) hand (let at : slice_get row (v - 1) ≡ Some hand = grind (arith, is) in at)
 
 -- the hands, where one has changed so or not
-pub changed_if : (row row' : List Hand) (v : ℕ) (taken : Bool) (before after changed : Hand) → Some before ≡ hand_of row v → after ≡ (if taken then changed else before) → row' ≡ with_hand row v after
-    → row' ≡ (if taken then with_hand row v changed else row)
-changed_if row row' v true before after changed at out is = is ∙ ap (with_hand row v) out
-changed_if row row' v false before after changed at out is = is ∙ ap (with_hand row v) out ∙ put_back row v before (sym at)
+pub changed_if : {row' : List Hand} {before after : Hand} (row : List Hand) (v : ℕ) (taken : Bool) (changed : Hand) → Some before ≡ hand_of row v → after ≡ (if taken then changed else before)
+    → row' ≡ with_hand row v after → row' ≡ (if taken then with_hand row v changed else row)
+changed_if row v true changed at out is = is ∙ ap (with_hand row v) out
+changed_if {row'} {before} row v false changed at out is = is ∙ ap (with_hand row v) out ∙ put_back row v before (sym at)
 
 -- a worker whose hand was let out is there, and has nothing in hand
 pub is_out : (row : List Hand) (v : ℕ) (hand : Hand) → IsAt row v hand → hand_of (with_hand row v Out) v ≡ Some Out
@@ -59,12 +45,6 @@ is_out row v hand at =
     let positive = at.positive in
     let there : (v == 0) ≡ false = grind (arith, nat_tests) in
     ap (λ b. if b then None else slice_get (with_hand row v Out) (v - 1)) there ∙ got_same row (v - 1) Out at.within
-
--- a hand that was let out and then filled
-pub set_twice : {X : Type 0} (xs : List X) (i : ℕ) (x y : X) → slice_set (slice_set xs i x) i y ≡ slice_set xs i y
-set_twice [] i x y = refl
-set_twice (z ∷ xs) zero x y = refl
-set_twice (z ∷ xs) (suc i) x y = ap (λ more. z ∷ more) (set_twice xs i x y)
 
 -- ---- a hand that was lent
 

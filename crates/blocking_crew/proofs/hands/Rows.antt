@@ -6,10 +6,8 @@ use Rattle.std.proofs.lemmas.Bool.{eqb-true, eqb-false}
 use Rattle.std.proofs.lemmas.Option.{slice_get_past, slice_get_within}
 use Rattle.blocking_crew.specs.Crews.{hand_at, hand_in, with_hand}
 use Rattle.blocking_crew.specs.Crews.{sum_of}
-use Rattle.blocking_crew.specs.declared.hand.Hand.{Hand}
-use Rattle.blocking_crew.specs.declared.hand.Hand.TheVariants.{Out, Free, Holds}
-use Rattle.blocking_crew.specs.declared.hand.Held.{Held}
 use Rattle.blocking_pool.proofs.Places.{got_same, got_other, got_pushed}
+use Rattle.blocking_crew.proofs.Types.{Hand, Out, Free, Holds, Held}
 
 -- ---- the hand of a worker that is there
 

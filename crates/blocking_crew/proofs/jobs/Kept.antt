@@ -1,18 +1,16 @@
 -- Jobs that run on, and have their tickets, whatever becomes of others.
-use Rattle.std.proofs.Common.{◌≡◌, ℕ, zero, suc, ◌<◌, ◌≤◌, ◌==◌, ◌||◌, cond, Bool, true, false, refl, sym, ap, ◌∙◌, subst, if◌then◌else◌, List, [], ◌∷◌, Option, Some, None, inl, inr, arith}
+use Rattle.std.proofs.Common.{◌+◌, ◌≡◌, ℕ, ◌<◌, ◌≤◌, ◌==◌, ◌||◌, cond, Bool, true, false, refl, sym, ap, ◌∙◌, subst, if◌then◌else◌, List, [], ◌∷◌, Option, Some, None, inl, inr, arith}
+use Rattle.blocking_pool.proofs.SweepLemmas.{stands_below}
 use Rattle.std.specs.Prelude.{option_map, is_some, filter}
 use Rattle.std.specs.FinMap.{get, insert, remove}
 use Rattle.std.proofs.Math.Bool.{or-true}
-use Rattle.std.proofs.lemmas.Bool.{eqb-true, cases_eq, cases_lt, and_parts, and_from}
+use Rattle.std.proofs.lemmas.Bool.{eqb-true, cases_lt, and_parts, and_from, cond_both}
 use Rattle.blocking_pool.specs.Jobs.{Job, Jobs, JobNumber, amend, if_at, is_running, is_parked, is_running_job, is_parked_job, is_running_as, jobs_after_requeue, entry_after_requeue}
 use Rattle.blocking_pool.specs.Lists.{is_in}
 use Rattle.blocking_pool.specs.Sweeps.{serials_below}
-use Rattle.blocking_pool.specs.declared.pool.standing.Standing.{Standing}
-use Rattle.blocking_pool.specs.declared.pool.standing.Standing.TheVariants.{Running, Parked}
-use Rattle.blocking_pool.proofs.Lists.{is_in-last, is_in-push}
 use Rattle.blocking_crew.specs.Tickets.{JobPool, is_valued, AreValued, is_due_to_sweep, is_marked_ticket, to_sweep}
 use Rattle.blocking_crew.specs.Closing.{NoneDue}
-use Rattle.blocking_crew.specs.declared.ticket.Ticket.{Ticket}
+use Rattle.blocking_crew.proofs.Types.{Standing, Running, Parked, Ticket}
 use Rattle.blocking_crew.proofs.jobs.Lookups.{job_put, job_out, job_changed, job_requeued, runs_at, in_filter}
 
 -- ---- one job
@@ -24,10 +22,6 @@ pub record IsKept (old new : Option (Job Ticket)) : Type 0 where
 
 pub same_kept : (found : Option (Job Ticket)) → IsKept found found
 same_kept found = record { runs = λ place runs. runs; valued = λ valued. valued }
-
-kept_if : (b : Bool) (old new : Option (Job Ticket)) → (b ≡ true → IsKept old new) → IsKept old (if b then new else old)
-kept_if true old new kept = kept refl
-kept_if false old new kept = same_kept old
 
 place_alike : (p : ℕ) (job new : Job Ticket) → new.standing ≡ job.standing → new.place ≡ job.place → is_running_job (if_at p (Some new)) ≡ is_running_job (if_at p (Some job))
 place_alike p job new st pl = rw pl (grind (arith, st))
@@ -84,7 +78,7 @@ stay_valued jobs new kept valued s = (kept s).valued (valued s)
 pub amended_kept : (jobs : Jobs Ticket) (t : ℕ) (change : Job Ticket → Job Ticket) → IsKept (get jobs t) (option_map change (get jobs t)) → AreKept jobs (amend jobs t change)
 amended_kept jobs t change kept s =
     subst (IsKept (get jobs s)) (sym (job_changed jobs t change s (t == s) refl))
-    (kept_if (t == s) (get jobs s) (option_map change (get jobs s)) (λ same. subst (λ (n : ℕ). IsKept (get jobs n) (option_map change (get jobs n))) (eqb-true t s same) kept))
+    (cond_both (t == s) (option_map change (get jobs s)) (get jobs s) (IsKept (get jobs s)) (λ same. subst (λ (n : ℕ). IsKept (get jobs n) (option_map change (get jobs n))) (eqb-true t s same) kept) (λ same. same_kept (get jobs s)))
 
 fresh_kept : (found : Option (Job Ticket)) (job : Job Ticket) → found ≡ None → is_valued (Some job) ≡ true → IsKept found (Some job)
 fresh_kept None job none valued = record { runs = λ place runs. absurd cc; valued = λ has. valued }
@@ -94,13 +88,24 @@ fresh_kept (Some other) job none valued = absurd cc
 pub inserted_kept : (jobs : Jobs Ticket) (t : ℕ) (job : Job Ticket) → get jobs t ≡ None → is_valued (Some job) ≡ true → AreKept jobs (insert jobs t job)
 inserted_kept jobs t job fresh valued s =
     subst (IsKept (get jobs s)) (sym (job_put jobs t job s (t == s) refl))
-    (kept_if (t == s) (get jobs s) (Some job) (λ same. fresh_kept (get jobs s) job (ap (get jobs) (sym (eqb-true t s same)) ∙ fresh) valued))
+    (cond_both (t == s) (Some job) (get jobs s) (IsKept (get jobs s)) (λ same. fresh_kept (get jobs s) job (ap (get jobs) (sym (eqb-true t s same)) ∙ fresh) valued) (λ same. same_kept (get jobs s)))
 
 -- after parked ones entered again
 pub requeued_kept : (jobs : Jobs Ticket) (serials : List ℕ) → ((s : ℕ) → is_in s serials ≡ true → is_parked_job (get jobs s) ≡ true) → AreKept jobs (jobs_after_requeue jobs serials)
 requeued_kept jobs serials parked s =
     subst (IsKept (get jobs s)) (sym (job_requeued serials jobs s))
-    (kept_if (is_in s serials) (get jobs s) (option_map entry_after_requeue (get jobs s)) (λ found. parked_kept (get jobs s) (parked s found)))
+    (cond_both (is_in s serials) (option_map entry_after_requeue (get jobs s)) (get jobs s) (IsKept (get jobs s)) (λ found. parked_kept (get jobs s) (parked s found)) (λ found. same_kept (get jobs s)))
+
+-- ---- pools
+
+-- What a change of the pool leaves: jobs run on and have their tickets, and as many idle workers have arrived as before.
+pub record PoolKept (old new : JobPool) : Type 0 where
+  pub jobs : AreKept old.jobs new.jobs
+  pub level : new.counts.idle + old.counts.arriving ≡ old.counts.idle + new.counts.arriving
+
+-- the same pool
+pub same_pool : (old new : JobPool) → new ≡ old → PoolKept old new
+same_pool old new same = rw same (record { jobs = all_kept old.jobs; level = refl })
 
 -- ---- sweeps
 
@@ -112,14 +117,6 @@ due_parked (Some job) due = (and_parts (is_parked job.standing) (is_marked_ticke
 pub swept_parked : (pool : JobPool) (s : ℕ) → is_in s (to_sweep pool) ≡ true → is_parked_job (get pool.jobs s) ≡ true
 swept_parked pool s found =
     due_parked (get pool.jobs s) (and_parts (is_due_to_sweep (get pool.jobs s)) (is_in s (serials_below pool.next_serial)) (sym (in_filter (λ serial. is_due_to_sweep (get pool.jobs serial)) (serials_below pool.next_serial) s) ∙ found)).0
-
-below_in : (s next : ℕ) → s < next → is_in s (serials_below next) ≡ true
-below_in s zero under = absurd (omega (arith, under))
-below_in s (suc next) under =
-    elim (cases_eq s next) [
-      | inl same ↦ is_in-last s next (serials_below next) same
-      | inr far ↦ is_in-push s next (serials_below next) far ∙ below_in s next (omega (arith, far, under))
-    ]
 
 requeued_undue : (found : Option (Job Ticket)) → is_due_to_sweep (option_map entry_after_requeue found) ≡ false
 requeued_undue None = refl
@@ -134,7 +131,7 @@ pub none_due : (pool : JobPool) (jobs : Jobs Ticket) → ((s : ℕ) → pool.nex
 none_due pool jobs unused swept s =
     ap (λ (j : Jobs Ticket). is_due_to_sweep (get j s)) swept ∙ ap is_due_to_sweep (job_requeued (to_sweep pool) pool.jobs s)
     ∙ undue_if (is_in s (to_sweep pool)) (get pool.jobs s) (λ due.
-    in_filter (λ serial. is_due_to_sweep (get pool.jobs serial)) (serials_below pool.next_serial) s ∙ and_from (is_due_to_sweep (get pool.jobs s)) (is_in s (serials_below pool.next_serial)) due (below_in s pool.next_serial (within due)))
+    in_filter (λ serial. is_due_to_sweep (get pool.jobs serial)) (serials_below pool.next_serial) s ∙ and_from (is_due_to_sweep (get pool.jobs s)) (is_in s (serials_below pool.next_serial)) due (stands_below s pool.next_serial (within due)))
   where
     within : is_due_to_sweep (get pool.jobs s) ≡ true → s < pool.next_serial
     within due =
@@ -153,12 +150,8 @@ sweeps_nothing pool none = filter_none (λ serial. is_due_to_sweep (get pool.job
 
 -- ---- after one was taken out
 
-pub valued_if : (b : Bool) (new old : Option (Job Ticket)) → is_valued new ≡ true → is_valued old ≡ true → is_valued (if b then new else old) ≡ true
-valued_if true new old has had = has
-valued_if false new old has had = had
-
 pub removed_valued : (jobs : Jobs Ticket) (t : ℕ) → AreValued jobs → AreValued (remove jobs t)
-removed_valued jobs t valued s = ap is_valued (job_out jobs t s (t == s) refl) ∙ valued_if (t == s) None (get jobs s) refl (valued s)
+removed_valued jobs t valued s = ap is_valued (job_out jobs t s (t == s) refl) ∙ cond_both (t == s) None (get jobs s) (λ found. is_valued found ≡ true) (λ is. refl) (λ is. valued s)
 
 -- the others run on
 pub removed_runs : (jobs : Jobs Ticket) (t : ℕ) (number : JobNumber) → (t == number.serial) ≡ false → is_running_as (remove jobs t) number ≡ is_running_as jobs number

@@ -1,19 +1,17 @@
 -- Look-ups of a job in the pool, after a change of that job or of others.
-use Rattle.std.proofs.Common.{◌≡◌, ℕ, ◌==◌, ◌&&◌, ◌||◌, cond, Bool, true, false, refl, sym, ap, ◌∙◌, subst, if◌then◌else◌, arith, List, [], ◌∷◌, Option, Some, None}
+use Rattle.std.proofs.Common.{◌≡◌, ℕ, ◌==◌, ◌&&◌, ◌||◌, cond, Bool, true, false, refl, sym, ap, ◌∙◌, subst, if◌then◌else◌, arith, List, [], ◌∷◌, Option, Some, None, inl, inr}
+use Rattle.std.proofs.lemmas.Map.Views.{any-filter_same}
+use Rattle.blocking_pool.proofs.Standings.{standing_job}
 use Rattle.std.specs.Prelude.{option_map, filter}
 use Rattle.std.specs.Ordering.{eq_by_cmp, nat_cmp}
 use Rattle.std.specs.Cmp.{nat_cmp_total}
 use Rattle.std.specs.FinMap.{get, insert, remove, get-insert, get-remove}
-use Rattle.std.proofs.Math.Bool.{and-false}
-use Rattle.std.proofs.lemmas.Bool.{eqb-true, eq-eqb}
+use Rattle.std.proofs.lemmas.Bool.{eqb-true, eq-eqb, cases_eq, ne_eqb}
 use Rattle.blocking_pool.specs.Jobs.{Job as Entry, Jobs, JobNumber, jobs_after_change, jobs_after_requeue, amend, if_at, is_running_job, is_running_as, entry_after_take, entry_after_requeue}
 use Rattle.blocking_pool.specs.Lists.{is_in}
 use Rattle.blocking_pool.specs.Wakes.{wake_of, cancel_of}
-use Rattle.blocking_pool.specs.declared.pool.answer.Woke.TheVariants.{Entered}
-use Rattle.blocking_pool.specs.declared.pool.standing.Standing.{Standing}
-use Rattle.blocking_pool.specs.declared.pool.standing.Standing.TheVariants.{Parked}
 use Rattle.blocking_pool.proofs.Lists.{eq_by_nat_cmp, turned}
-use Rattle.blocking_crew.specs.declared.ticket.Ticket.{Ticket}
+use Rattle.blocking_crew.proofs.Types.{Entered, Standing, Parked, Ticket}
 
 -- the order of serials tells whether they are the same
 by_order : (t s : ℕ) → eq_by_cmp nat_cmp s t ≡ (t == s)
@@ -51,11 +49,11 @@ changed_twice jobs t one two s false is = job_changed (amend jobs t one) t two s
 
 -- a fact of every job: of this one, and of each other
 pub each_job : (t : ℕ) (P : ℕ → Type 0) → ((t == t) ≡ true → P t) → ((s : ℕ) → (t == s) ≡ false → P s) → (s : ℕ) → P s
-each_job t P own other s = by (t == s) refl
-  where
-    by : (b : Bool) → (t == s) ≡ b → P s
-    by true is = subst P (eqb-true t s is) (own (eq-eqb t t refl))
-    by false is = other s is
+each_job t P own other s =
+    elim (cases_eq t s) [
+      | inl same ↦ subst P same (own (eq-eqb t t refl))
+      | inr differs ↦ other s (ne_eqb t s differs)
+    ]
 
 -- a job that a wake or a cancel puts back is parked
 pub woken_is : (o : Option Standing) → Entered ≡ wake_of o → o ≡ Some Parked
@@ -74,8 +72,7 @@ found_at place (Some found) entry e = grind (arith, e)
 -- so is one that stands somehow by its number
 pub stands_at : (place : ℕ) (found : Option (Entry Ticket)) (how : Standing) → option_map (λ (job : Entry Ticket). job.standing) (if_at place found) ≡ Some how
     → (entry : Entry Ticket) × (found ≡ Some entry) × (entry.standing ≡ how)
-stands_at place None how is = absurd cc
-stands_at place (Some entry) how is = (entry, refl, grind (arith, is))
+stands_at place found how is = let job = standing_job (if_at place found) how is in (job.0, found_at place found job.0 job.1, job.2)
 
 twice : (b c : Bool) (found : Option (Entry Ticket))
     → (if c then option_map entry_after_requeue (if b then option_map entry_after_requeue found else found) else (if b then option_map entry_after_requeue found else found))
@@ -103,10 +100,6 @@ pub runs_at : (place : ℕ) (found : Option (Entry Ticket)) → is_running_job (
 runs_at place None runs = runs
 runs_at place (Some entry) runs = grind (arith, runs)
 
-filter_by : (b d c m : Bool) (s x : ℕ) (ns : List ℕ) → (s == x) ≡ c → (c ≡ true → d ≡ b) → is_in s ns ≡ (d && m) → is_in s (cond b (x ∷ ns) ns) ≡ (d && (c || m))
-filter_by b d c m s x ns is same e = grind (arith, is, same, e)
-
 -- what a filter leaves is what was there and passes its test
 pub in_filter : (p : ℕ → Bool) (ns : List ℕ) (s : ℕ) → is_in s (filter p ns) ≡ (p s && is_in s ns)
-in_filter p [] s = sym (and-false (p s))
-in_filter p (n ∷ ns) s = filter_by (p n) (p s) (s == n) (is_in s ns) s n (filter p ns) refl (λ is. ap p (eqb-true s n is)) (in_filter p ns s)
+in_filter p ns s = any-filter_same (λ n. s == n) p (p s) (λ n is. ap p (sym (eqb-true s n is))) ns

@@ -1,15 +1,15 @@
 -- A free worker passes over the jobs of a queue.
 use Rattle.std.proofs.Common.{◌≡◌, ◌⊎◌, ℕ, ◌+◌, ◌-◌, ◌<◌, ◌==◌, Bool, true, false, if◌then◌else◌, ap, ◌∙◌, subst, refl, inl, inr, arith, Option, None}
+use Rattle.std.proofs.lemmas.Bool.{cond_both}
 use Rattle.std.specs.FinMap.{get, insert, remove}
 use Rattle.blocking_pool.specs.Counts.{Counts, after_pickup, after_release}
 use Rattle.blocking_pool.specs.Growth.{Growth, after_growth}
 use Rattle.blocking_pool.specs.Jobs.{Job, Jobs, JobNumber, is_running_as, entry_after_take}
 use Rattle.blocking_pool.specs.Pools.{without_job}
 use Rattle.blocking_pool.specs.declared.pool.answer.Took.{Took}
-use Rattle.blocking_pool.specs.declared.pool.answer.Took.TheVariants.{Run, Drop}
 use Rattle.blocking_crew.specs.Closing.{PassesOver}
 use Rattle.blocking_crew.specs.Tickets.{JobPool, AreValued, is_valued, is_due_to_sweep, TakesFront, TakesTo}
-use Rattle.blocking_crew.specs.declared.ticket.Ticket.{Ticket}
+use Rattle.blocking_crew.proofs.Types.{Run, Drop, Ticket}
 use Rattle.blocking_crew.proofs.jobs.Lookups.{job_put, job_out, taken_runs as taken_runs_in}
 
 -- a worker that took a job took the front one
@@ -26,11 +26,7 @@ passed_by jobs t entry s false is = job_out (insert jobs t entry) t s false is �
 -- what a test that nothing passes says of the jobs, it says after one was passed over
 pub passed_at : (test : Option (Job Ticket) → Bool) (b : Bool) (jobs : Jobs Ticket) (t : ℕ) (entry : Job Ticket) (s : ℕ) → test None ≡ b → test (get jobs s) ≡ b
     → test (get (remove (insert jobs t entry) t) s) ≡ b
-passed_at test b jobs t entry s none was = ap test (passed_by jobs t entry s (t == s) refl) ∙ by (t == s)
-  where
-    by : (c : Bool) → test (if c then None else get jobs s) ≡ b
-    by true = none
-    by false = was
+passed_at test b jobs t entry s none was = ap test (passed_by jobs t entry s (t == s) refl) ∙ cond_both (t == s) None (get jobs s) (λ found. test found ≡ b) (λ is. none) (λ is. was)
 
 module _ (may_answer : ℕ → Bool → Type 0) (old between new : JobPool) (number : JobNumber) (value : Ticket) (to_drop : Bool) (seen : Growth)
     (takes : TakesFront may_answer old number value to_drop seen between) where

@@ -1,5 +1,5 @@
 -- Each move is answered as the law of answers says.
-use Rattle.std.proofs.Common.{◌≡◌, ◌<◌, ◌==◌, ◌+◌, ◌&&◌, ◌||◌, nat_lt, ℕ, Bool, true, false, if◌then◌else◌, List, [], ◌∷◌, length, refl, sym, ap, ap₂, ◌∙◌, subst, arith, Option, Some, None, option_map, Ok, Err}
+use Rattle.std.proofs.Common.{[], ◌≡◌, ◌<◌, ◌==◌, ◌+◌, ◌&&◌, ◌||◌, nat_lt, ℕ, Bool, true, false, if◌then◌else◌, List, ◌∷◌, length, refl, sym, ap, ap₂, ◌∙◌, subst, arith, Option, Some, None, option_map, Ok, Err}
 use Rattle.std.proofs.lemmas.Bool.{eq-eqb}
 use Rattle.std.proofs.lemmas.Bool.Decides.{nat_tests}
 use Rattle.std.specs.FinMap.{get}
@@ -8,37 +8,22 @@ use Rattle.blocking_pool.specs.Growth.{Growth, greatest, limit_after}
 use Rattle.blocking_pool.specs.Jobs.{Job as Entry, JobNumber, if_at, standing_of}
 use Rattle.blocking_pool.specs.PoolAnswers.{is_empty, must_stop}
 use Rattle.blocking_pool.specs.Wakes.{wake_of, cancel_of}
-use Rattle.blocking_pool.specs.declared.pool.answer.Refusal.TheVariants.{Memory, NoWorker, Numbers}
-use Rattle.blocking_pool.specs.declared.pool.answer.Waited.TheVariants.{Stay, Stop}
-use Rattle.blocking_pool.specs.declared.pool.answer.Woke.{Woke}
-use Rattle.blocking_pool.specs.declared.pool.standing.Standing.{Standing}
-use Rattle.blocking_pool.specs.declared.pool.standing.Standing.TheVariants.{Queued, Running, Parked, Done, Dropped}
 use Rattle.blocking_laws.specs.Answers.{PoolAnswers, AnswerLaw, take_from, end_of, take_answer, end_answer}
 use Rattle.blocking_laws.specs.Counts.{workers, limit}
 use Rattle.blocking_laws.specs.Growth.{IsPlanned}
 use Rattle.blocking_laws.specs.Jobs.{standing, is_woken, is_cancelled, is_marked, is_to_drop, has_ended}
 use Rattle.blocking_laws.specs.Queue.{queue, to_sweep as seen_to_sweep}
-use Rattle.blocking_laws.specs.Seen.{joined, has_timed_out, is_nothing}
+use Rattle.blocking_laws.specs.Seen.{joined, has_timed_out}
 use Rattle.blocking_laws.specs.Turns.{Turn}
-use Rattle.blocking_laws.specs.declared.event.Act.{Act}
-use Rattle.blocking_laws.specs.declared.event.Act.TheVariants.{Took, TookDropped, Ended}
-use Rattle.blocking_laws.specs.declared.event.Moment.{Moment}
-use Rattle.blocking_laws.specs.declared.event.Party.{Party}
-use Rattle.blocking_laws.specs.declared.event.Party.TheVariants.{Worker}
-use Rattle.blocking_laws.specs.declared.event.WaitEnd.{WaitEnd}
-use Rattle.blocking_laws.specs.declared.step.Step.{Step}
+use Rattle.blocking_laws.specs.declared.event.Act.TheVariants.{Took}
 use Rattle.blocking_crew.specs.Crews.{Crew, hand_at, may_end, outcome_of, standing_after}
-use Rattle.blocking_crew.specs.Moves.{Move, Adds, Arrives, TakesJob, TakesNone, Works, EndsTurn, Parks, HasWaited, Sweeps, IsWoken, IsCancelled, IsLetGo, Tells, May, call_of, next_start, took_act, parked_act, is_aside}
+use Rattle.blocking_crew.specs.Moves.{Move, Adds, Arrives, TakesJob, TakesNone, Works, EndsTurn, Parks, HasWaited, Sweeps, IsWoken, IsCancelled, IsLetGo, Tells, May, call_of, next_start, took_act, parked_act}
 use Rattle.blocking_crew.specs.Tickets.{JobPool, no_growth, is_marked_ticket, TakesFront, SweepsIf, ParksTo, ParksSo}
 use Rattle.blocking_crew.specs.Ties.{FiledAs, FiledHere, ValueAs, IsNumberOf, IsAsked, CrewHolds, turn_of, moment_of}
-use Rattle.blocking_crew.specs.declared.hand.Hand.TheVariants.{Holds}
-use Rattle.blocking_crew.specs.declared.hand.Held.{Held}
-use Rattle.blocking_crew.specs.declared.hand.Stage.{Stage}
 use Rattle.blocking_crew.specs.declared.hand.Stage.TheVariants as stage
-use Rattle.blocking_crew.specs.declared.ticket.Ticket.{Ticket}
-use Rattle.blocking_crew.specs.declared.tickets.Parking.{Parking}
 use Rattle.blocking_crew.specs.declared.tickets.Parking.TheVariants as parking
-use Rattle.blocking_crew.proofs.ties.Acts.{now_with, plain, aside_plain, by_work, by_let_go, aside_or}
+use Rattle.blocking_crew.proofs.Types.{Memory, NoWorker, Numbers, Stay, Stop, Woke, Standing, Queued, Running, Parked, Done, Dropped, TookDropped, Ended, Moment, Worker, WaitEnd, Step, Holds, Held, Stage, Ticket, Parking}
+use Rattle.blocking_crew.proofs.ties.Acts.{plain, aside_plain, by_work, by_let_go}
 use Rattle.blocking_crew.proofs.ties.Counts.{workers_now}
 use Rattle.blocking_crew.proofs.ties.Entered.{swept}
 use Rattle.blocking_crew.proofs.ties.Known.{front_filed}
@@ -151,10 +136,6 @@ module _ (setting : ℕ) (plan : List Bool) (crew : Crew) (past : List Moment) (
   met_rightly answer number done dropped placed =
       met_as answer (get crew.pool.jobs number.serial) number.place (standing past number.serial) _ _ _ _ done dropped placed (h.tied.filed number.serial)
 
-  -- an event that is nothing to the crew needs no answer
-  pub answer_aside : (who : Party) (act : Act) → (is_aside act || is_nothing act) ≡ true → AnswerLaw setting past (now_with step owner who None act (next_start crew) no_growth)
-  answer_aside who act is = (plain setting past step owner who None (next_start crew) no_growth act (aside_plain act is)).answered
-
   -- Each move is answered as the law of answers says.
   pub answer_law : (move : Move) → May (IsPlanned plan) crew move → IsAsked crew past (call_of move) → AnswerLaw setting past (moment_of crew move step owner)
   answer_law (Adds who (Ok number) growth pool) may asked = (may.serial ∙ h.tied.numbered.next, subst (λ (s : ℕ). s < greatest) (sym may.serial) may.left)
@@ -178,5 +159,5 @@ module _ (setting : ℕ) (plan : List Bool) (crew : Crew) (past : List Moment) (
   answer_law (IsWoken who number woke growth pool) may asked = may.answer ∙ met_rightly wake_of number refl refl asked
   answer_law (IsCancelled who number woke growth pool) may asked = may.answer ∙ met_rightly cancel_of number refl refl asked
   answer_law (IsLetGo who act number) may asked = by_let_go (λ act. PoolAnswers setting past (moment_of crew (IsLetGo who act number) step owner) act) tt tt act may
-  answer_law (Tells who act) may asked = answer_aside who act (aside_or act may)
+  answer_law (Tells who act) may asked = (plain setting past step owner who None (next_start crew) no_growth act (aside_plain act may)).answered
   answer_law move may asked = tt

@@ -4,14 +4,11 @@ use Rattle.std.specs.Prelude.{Ok, is_some}
 use Rattle.blocking_pool.specs.Jobs.{JobNumber}
 use Rattle.blocking_laws.specs.Growth.{IsPlanned}
 use Rattle.blocking_laws.specs.Jobs.{standing}
-use Rattle.blocking_laws.specs.declared.event.Event.{Event}
-use Rattle.blocking_laws.specs.declared.event.Moment.{Moment}
-use Rattle.blocking_laws.specs.declared.event.Party.{Party}
-use Rattle.blocking_laws.specs.declared.step.Step.{Step}
 use Rattle.blocking_crew.specs.Crews.{Crew}
 use Rattle.blocking_crew.specs.Moves.{Call, Add, Move, Idles, Adds, May, Moves, call_of, has_action, after}
 use Rattle.blocking_crew.specs.Tickets.{AddsTo}
 use Rattle.blocking_crew.specs.Ties.{CrewHolds, Served, IsAsked, IsNumberOf, seen_as}
+use Rattle.blocking_crew.proofs.Types.{Event, Moment, Party, Step}
 use Rattle.blocking_crew.proofs.ties.Numbers.{number_after, number_of_new}
 use Rattle.blocking_crew.proofs.laws.Service.{served_after}
 

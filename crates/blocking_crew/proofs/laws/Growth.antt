@@ -1,33 +1,24 @@
 -- Each move grows as the law of growth says.
-use Rattle.std.proofs.Common.{◌≡◌, ℕ, ◌+◌, ◌-◌, ◌==◌, ◌||◌, List, [], ◌∷◌, ◌++◌, Bool, true, false, length, length-append, refl, sym, ap, ap₂, ◌∙◌, arith, if◌then◌else◌, Option, Some, None}
+use Rattle.std.proofs.Common.{[], ◌≡◌, ℕ, ◌+◌, ◌-◌, ◌==◌, List, ◌∷◌, ◌++◌, Bool, true, false, length, length-append, refl, sym, ap, ap₂, ◌∙◌, arith, if◌then◌else◌, Option, Some, None}
 use Rattle.std.specs.Prelude.{not, Err}
 use Rattle.blocking_pool.specs.Counts.{limit_of, after_pickup}
 use Rattle.blocking_pool.specs.Growth.{Growth, IsGrowth, StartAnswer}
 use Rattle.blocking_pool.specs.Lists.{without}
-use Rattle.blocking_pool.specs.declared.pool.answer.Refusal.TheVariants.{NoWorker}
-use Rattle.blocking_pool.specs.declared.pool.answer.Waited.TheVariants.{Stop}
-use Rattle.blocking_pool.specs.declared.pool.token.WorkerPass.{WorkerPass}
 use Rattle.blocking_laws.specs.Counts.{workers}
 use Rattle.blocking_laws.specs.Growth.{IsPlanned, StartsRightly, GrowthLaw, HasWorker, grows, turned_away}
 use Rattle.blocking_laws.specs.Queue.{entered_by, queue, running, to_sweep as seen_to_sweep}
-use Rattle.blocking_laws.specs.Seen.{joined, without_all, has_timed_out, is_nothing}
-use Rattle.blocking_laws.specs.declared.event.Act.{Act}
-use Rattle.blocking_laws.specs.declared.event.Act.TheVariants.{Refused, LimitSet, Arrived, Took, TookDropped, Stopped, Ended}
-use Rattle.blocking_laws.specs.declared.event.Moment.{Moment}
-use Rattle.blocking_laws.specs.declared.event.Party.{Party}
-use Rattle.blocking_laws.specs.declared.event.Party.TheVariants.{Worker, Pool}
-use Rattle.blocking_laws.specs.declared.event.WaitEnd.{WaitEnd}
-use Rattle.blocking_laws.specs.declared.step.Step.{Step}
+use Rattle.blocking_laws.specs.Seen.{joined, without_all, has_timed_out}
+use Rattle.blocking_laws.specs.declared.event.Act.TheVariants.{Took}
 use Rattle.blocking_crew.specs.Crews.{Crew, hand_at, outcome_of, standing_after}
-use Rattle.blocking_crew.specs.Moves.{Move, Adds, Arrives, TakesJob, EndsTurn, Parks, HasWaited, SetsLimit, May, after, next_start, is_aside}
+use Rattle.blocking_crew.specs.Moves.{Move, Adds, Arrives, TakesJob, EndsTurn, Parks, HasWaited, SetsLimit, May, after, next_start}
 use Rattle.blocking_crew.specs.Tickets.{JobPool, no_growth, GrowsBy, SweepsIf}
 use Rattle.blocking_crew.specs.Ties.{Lined, CrewHolds, moment_of}
-use Rattle.blocking_crew.specs.declared.hand.Hand.TheVariants.{Free}
 use Rattle.blocking_crew.specs.declared.tickets.Parking.TheVariants as parking
+use Rattle.blocking_crew.proofs.Types.{NoWorker, Stop, WorkerPass, Act, Refused, LimitSet, Arrived, TookDropped, Stopped, Ended, Moment, Party, Worker, Pool, WaitEnd, Step, Free}
 use Rattle.blocking_crew.proofs.ties.Acts.{now_with, enters_so}
 use Rattle.blocking_crew.proofs.ties.Counts.{workers_now, idle_some}
-use Rattle.blocking_crew.proofs.ties.Entered.{growth_in, more_than_none, Entered, Enters, enters, enters_aside, swept}
-use Rattle.blocking_crew.proofs.ties.Queue.{queue_after, queue_aside}
+use Rattle.blocking_crew.proofs.ties.Entered.{growth_in, more_than_none, Entered, Enters, enters, swept}
+use Rattle.blocking_crew.proofs.ties.Queue.{queue_after}
 use Rattle.blocking_crew.proofs.ties.Known.{front_out}
 
 -- a growth by these numbers is one by numbers that are equal to them
@@ -113,10 +104,6 @@ module _ (setting : ℕ) (plan : List Bool) (crew : Crew) (past : List Moment) (
       let entered = swept setting plan crew past step owner h (has_timed_out end) growth between sweeps in
       entering (now (Worker v) None (Stopped v end) growth) between entered refl tt refl refl refl
       (entered.line ∙ ap (λ (ns : List ℕ). joined ns (if has_timed_out end then seen_to_sweep past else [])) h.tied.lined)
-
-  -- an event that is nothing to the crew starts nobody
-  pub growth_aside : (who : Party) (act : Act) → (is_aside act || is_nothing act) ≡ true → GrowthLaw setting plan past (now who None act no_growth)
-  growth_aside who act is = entered (now who None act no_growth) crew (enters_aside setting plan crew past step owner h who act is) (queue_aside setting plan crew past step owner h who act is)
 
   -- Each move grows as the law of growth says.
   pub growth_law : (move : Move) → May (IsPlanned plan) crew move → GrowthLaw setting plan past (moment_of crew move step owner)

@@ -4,24 +4,17 @@ use Rattle.std.proofs.lemmas.Bool.Decides.{nat_tests}
 use Rattle.blocking_pool.specs.Counts.{Counts, limit_of}
 use Rattle.blocking_pool.specs.Growth.{Growth, is_due, limit_after}
 use Rattle.blocking_pool.specs.PoolAnswers.{is_empty}
-use Rattle.blocking_pool.specs.declared.pool.answer.Refusal.TheVariants.{NoWorker}
-use Rattle.blocking_pool.specs.declared.pool.answer.Waited.TheVariants.{Stop}
-use Rattle.blocking_pool.specs.declared.pool.token.WorkerPass.{WorkerPass}
 use Rattle.blocking_laws.specs.Counts.{workers, limit, limit_by}
 use Rattle.blocking_laws.specs.Growth.{IsPlanned}
 use Rattle.blocking_laws.specs.Queue.{entered_by}
 use Rattle.blocking_laws.specs.Seen.{joined, has_timed_out}
 use Rattle.blocking_laws.specs.Served.{last_refused, last_refused_by}
-use Rattle.blocking_laws.specs.declared.event.Moment.{Moment}
-use Rattle.blocking_laws.specs.declared.event.WaitEnd.{WaitEnd}
-use Rattle.blocking_laws.specs.declared.step.Step.{Step}
 use Rattle.blocking_crew.specs.Crews.{Crew, hand_at}
 use Rattle.blocking_crew.specs.Moves.{Move, Adds, Arrives, TakesJob, EndsTurn, Parks, HasWaited, SetsLimit, May, after, call_of, event_of}
 use Rattle.blocking_crew.specs.Tickets.{JobPool, no_growth, GrowsBy}
 use Rattle.blocking_crew.specs.Ties.{CrewHolds, Served, IsAsked, moment_of}
-use Rattle.blocking_crew.specs.declared.hand.Hand.TheVariants.{Free, Holds}
-use Rattle.blocking_crew.specs.declared.hand.Held.{Held}
 use Rattle.blocking_crew.specs.declared.tickets.Parking.TheVariants as parking
+use Rattle.blocking_crew.proofs.Types.{NoWorker, Stop, WorkerPass, Moment, WaitEnd, Step, Free, Holds, Held}
 use Rattle.blocking_crew.proofs.ties.Acts.{enters_so}
 use Rattle.blocking_crew.proofs.ties.Counts.{workers_now, idle_some}
 use Rattle.blocking_crew.proofs.ties.Entered.{growth_in, Enters, enters, swept}
@@ -54,9 +47,6 @@ grew_none : (may_answer : ℕ → Bool → Type 0) (ready : ℕ) (counts : Count
     → counts.workers + growth.started ≡ 0 → growth.refused ≡ true
 grew_none may_answer ready counts growth g some positive fewer nobody =
     sym g.next ∙ due_unstaffed ready counts.idle counts.workers (limit_of counts) growth.started some positive (omega (arith, fewer, nobody)) nobody
-
-last_started : (started : ℕ) (r b : Bool) → r ≡ true → last_refused_by started r b ≡ true
-last_started started r b e = ap (λ c. last_refused_by started c b) e
 
 module _ (setting : ℕ) (plan : List Bool) (crew : Crew) (past : List Moment) (step : Step) (owner : Option ℕ) (h : CrewHolds setting plan crew past) (s : Served setting past) where
   acts : (move : Move) → May (IsPlanned plan) crew move → 0 < limit_by (event_of crew move).act (limit setting past)
@@ -96,18 +86,15 @@ module _ (setting : ℕ) (plan : List Bool) (crew : Crew) (past : List Moment) (
           let line : new.pool.queue ≡ crew.pool.queue ++ n ∷ ns = e.entered.line ∙ ap (joined crew.pool.queue) is in
           let long = length-append crew.pool.queue (n ∷ ns) in
           let ready : 0 < length new.pool.queue = (let same : length new.pool.queue ≡ length (crew.pool.queue ++ n ∷ ns) = ap length line in omega (arith, long, same)) in
-          last_started last.event.started last.event.start_refused (last_refused past)
+          ap (λ c. last_refused_by last.event.started c (last_refused past))
           (grew_none (IsPlanned plan) (length new.pool.queue) crew.pool.counts (growth_in last) (e.entered.starts (λ no. (let bad : n ∷ ns ≡ [] = sym is ∙ no in cc))) ready positive fewer (omega (arith, hired, none)))
 
   -- a worker that is there is counted
   free_there : (v : ℕ) (pass : WorkerPass) → hand_at crew.hands v ≡ Free pass → 0 < crew.pool.counts.workers
   free_there v pass at = let some = idle_some setting plan crew past step owner h v pass at in let few = fewer in omega (arith, some, few)
 
-  held_there : (v : ℕ) (held : Held) → hand_at crew.hands v ≡ Holds held → 0 < crew.pool.counts.workers
-  held_there v held at = let one = held_once setting plan crew past h v held at in let e = h.tied.counted.idle_are in omega (arith, one, e)
-
   still_there : (v : ℕ) (held : Held) (pool : JobPool) → hand_at crew.hands v ≡ Holds held → pool.counts.workers ≡ crew.pool.counts.workers → pool.counts.workers ≡ 0 → ⊥
-  still_there v held pool at hired none = let there = held_there v held at in omega (arith, there, hired, none)
+  still_there v held pool at hired none = let one = held_once setting plan crew past h v held at in let e = h.tied.counted.idle_are in omega (arith, one, e, hired, none)
 
   empty_by : (a late : Bool) (q : List ℕ) → (a || late && is_empty q) ≡ true → (a ≡ true → ⊥) → q ≡ []
   empty_by true late q e never = absurd (never refl)

@@ -6,11 +6,9 @@ use Rattle.blocking_laws.specs.Counts.{workers, idle}
 use Rattle.blocking_laws.specs.Staffed.{count_to, passes, turns, IsStaffed, AreAsSeen}
 use Rattle.blocking_laws.specs.Steps.{is_there, is_free}
 use Rattle.blocking_laws.specs.Turns.{hand}
-use Rattle.blocking_laws.specs.declared.event.Moment.{Moment}
 use Rattle.blocking_crew.specs.Crews.{Crew, IsReady, one_if_free, free_hands, one_if_busy, busy_hands, sum_of}
 use Rattle.blocking_crew.specs.Ties.{HandAs, Crewed, Holding}
-use Rattle.blocking_crew.specs.declared.hand.Hand.{Hand}
-use Rattle.blocking_crew.specs.declared.hand.Hand.TheVariants.{Out}
+use Rattle.blocking_crew.proofs.Types.{Moment, Hand, Out}
 use Rattle.blocking_crew.proofs.hands.Rows.{hand_from_place}
 
 -- ---- what a test of the workers counts is a sum over their hands

@@ -1,31 +1,19 @@
 -- The law of turns holds at each move.
-use Rattle.std.proofs.Common.{◌≡◌, ◌||◌, ℕ, List, Bool, true, false, refl, sym, ap, ◌∙◌, subst, Option, Some, None}
+use Rattle.std.proofs.Common.{◌≡◌, ℕ, List, Bool, true, false, refl, sym, ap, ◌∙◌, subst, Option, Some, None}
 use Rattle.std.specs.Prelude.{Ok, Err, not}
 use Rattle.blocking_pool.specs.Growth.{Growth}
 use Rattle.blocking_pool.specs.Jobs.{JobNumber}
 use Rattle.blocking_pool.specs.Lists.{is_in}
-use Rattle.blocking_pool.specs.declared.pool.answer.Waited.TheVariants.{Stay, Stop}
-use Rattle.blocking_pool.specs.declared.pool.token.WorkerPass.{WorkerPass}
 use Rattle.blocking_laws.specs.Growth.{IsPlanned}
 use Rattle.blocking_laws.specs.Queue.{running}
-use Rattle.blocking_laws.specs.Seen.{is_nothing}
 use Rattle.blocking_laws.specs.Turns.{Turn, turn, hand, TurnLaw, FitsTurn, ActsInTurn}
-use Rattle.blocking_laws.specs.declared.event.Act.{Act}
-use Rattle.blocking_laws.specs.declared.event.Act.TheVariants.{JobParked, GaveUp}
-use Rattle.blocking_laws.specs.declared.event.Moment.{Moment}
-use Rattle.blocking_laws.specs.declared.event.Party.{Party}
-use Rattle.blocking_laws.specs.declared.event.Party.TheVariants.{Worker}
-use Rattle.blocking_laws.specs.declared.step.Step.{Step}
 use Rattle.blocking_crew.specs.Crews.{Crew, hand_at}
-use Rattle.blocking_crew.specs.Moves.{Move, Adds, TakesJob, Works, EndsTurn, Parks, HasWaited, IsLetGo, Tells, May, next_start, is_aside}
+use Rattle.blocking_crew.specs.Moves.{Move, Adds, TakesJob, Works, EndsTurn, Parks, HasWaited, IsLetGo, Tells, May, next_start}
 use Rattle.blocking_crew.specs.Tickets.{JobPool, TakesFront, no_growth}
 use Rattle.blocking_crew.specs.Ties.{turn_of, CrewHolds, moment_of}
-use Rattle.blocking_crew.specs.declared.hand.Hand.TheVariants.{Free, Holds}
-use Rattle.blocking_crew.specs.declared.hand.Held.{Held}
-use Rattle.blocking_crew.specs.declared.hand.Stage.{Stage}
-use Rattle.blocking_crew.specs.declared.ticket.Ticket.{Ticket}
 use Rattle.blocking_crew.specs.declared.tickets.Parking.TheVariants as parking
-use Rattle.blocking_crew.proofs.ties.Acts.{now_with, plain, aside_plain, by_work, by_let_go, aside_or}
+use Rattle.blocking_crew.proofs.Types.{Stay, Stop, WorkerPass, Act, JobParked, GaveUp, Moment, Party, Worker, Step, Free, Holds, Held, Stage, Ticket}
+use Rattle.blocking_crew.proofs.ties.Acts.{now_with, plain, aside_plain, by_work, by_let_go}
 use Rattle.blocking_crew.proofs.ties.Hands.{hand_seen}
 use Rattle.blocking_crew.proofs.ties.Known.{front_rests}
 
@@ -58,11 +46,6 @@ module _ (setting : ℕ) (plan : List Bool) (crew : Crew) (past : List Moment) (
       fits : {st : Stage} (a : Act) → held.stage ≡ st → FitsTurn (turn_of st) a → FitsTurn (turn past held.turn.serial) a
       fits {st} a e f = subst (λ (t : Turn). FitsTurn t a) (sym (h.tied.handed.turn_is v held may.0 ∙ ap turn_of e)) f
 
-  -- and at an event that is nothing to the crew
-  pub turn_aside : (who : Party) (act : Act) → (is_aside act || is_nothing act) ≡ true → TurnLaw past (now who None act no_growth)
-  turn_aside who act is =
-      record { one = (plain setting past step owner who None (next_start crew) no_growth act (aside_plain act is)).one; acts = tt }
-
   -- The law of turns holds at each move.
   pub turn_law : (move : Move) → May (IsPlanned plan) crew move → TurnLaw past (moment_of crew move step owner)
   turn_law (Adds who (Ok number) growth pool) may = record { one = tt; acts = tt }
@@ -76,5 +59,5 @@ module _ (setting : ℕ) (plan : List Bool) (crew : Crew) (past : List Moment) (
   turn_law (HasWaited v pass end (Stay back) growth pool) may = record { one = tt; acts = tt }
   turn_law (HasWaited v pass end Stop growth pool) may = record { one = tt; acts = tt }
   turn_law (IsLetGo who act number) may = by_let_go (λ act. TurnLaw past (now who None act no_growth)) (record { one = tt; acts = tt }) (record { one = tt; acts = tt }) act may
-  turn_law (Tells who act) may = turn_aside who act (aside_or act may)
+  turn_law (Tells who act) may = record { one = (plain setting past step owner who None (next_start crew) no_growth act (aside_plain act may)).one; acts = tt }
   turn_law move may = record { one = tt; acts = tt }

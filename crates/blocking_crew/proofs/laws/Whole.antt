@@ -1,32 +1,35 @@
 -- Whatever a crew does, it hangs together with what was seen, and the law of the pool holds.
-use Rattle.std.proofs.Common.{◌≡◌, ℕ, List, [], ◌∷◌, Bool, true, false, refl, sym, ap, ◌∙◌, subst, if◌then◌else◌, Option, None}
+use Rattle.std.proofs.Common.{[], ◌||◌, ◌≡◌, ℕ, List, ◌∷◌, Bool, true, false, refl, sym, ap, ◌∙◌, subst, Option, None, ◌==◌}
+use Rattle.blocking_crew.proofs.Types.{Act, NoAction, Event, Moment, Step, Out}
+use Rattle.blocking_crew.proofs.ready.Changes.{no_hand, empty_ready}
+use Rattle.std.proofs.lemmas.Bool.{cond_both}
 use Rattle.std.specs.FinMap as map
 use Rattle.std.specs.Ordering.{nat_cmp}
 use Rattle.blocking_pool.specs.Growth.{Narrows}
 use Rattle.blocking_pool.specs.Pools.{empty_pool}
 use Rattle.blocking_laws.specs.Growth.{IsPlanned}
 use Rattle.blocking_laws.specs.Legal.{PoolLaw}
-use Rattle.blocking_laws.specs.declared.event.Event.{Event}
-use Rattle.blocking_laws.specs.declared.event.Moment.{Moment}
-use Rattle.blocking_laws.specs.declared.step.Step.{Step}
+use Rattle.blocking_laws.specs.Seen.{is_nothing}
 use Rattle.blocking_laws.proofs.Queues.{order_after}
-use Rattle.blocking_crew.specs.Crews.{Crew, hand_at, hand_in}
-use Rattle.blocking_crew.specs.Moves.{Call, Move, May, Moves, call_of, after, next_start}
-use Rattle.blocking_crew.specs.Tickets.{no_growth, is_valued}
+use Rattle.blocking_crew.specs.Crews.{Crew}
+use Rattle.blocking_crew.specs.Moves.{Call, Move, Tells, is_aside, May, Moves, call_of, after, next_start}
+use Rattle.blocking_crew.specs.Tickets.{no_growth}
 use Rattle.blocking_crew.specs.Ties.{FiledAs, HandAs, Crewed, CrewHolds, IsAsked, IsAside, seen_as, moment_of}
-use Rattle.blocking_crew.specs.declared.hand.Hand.{Hand}
-use Rattle.blocking_crew.specs.declared.hand.Hand.TheVariants.{Out, Holds}
-use Rattle.blocking_crew.specs.declared.hand.Held.{Held}
 use Rattle.blocking_crew.proofs.ready.Moves.{ready_after}
 use Rattle.blocking_crew.proofs.ties.Acts.{now_with}
-use Rattle.blocking_crew.proofs.ties.Counts.{counts_after, counts_aside}
-use Rattle.blocking_crew.proofs.ties.Hands.{hands_after, hands_aside}
-use Rattle.blocking_crew.proofs.ties.Jobs.{jobs_after, jobs_aside}
-use Rattle.blocking_crew.proofs.ties.Queue.{queue_after, queue_aside, serials_after, serials_aside}
+use Rattle.blocking_crew.proofs.ties.Counts.{counts_after}
+use Rattle.blocking_crew.proofs.ties.Hands.{hands_after}
+use Rattle.blocking_crew.proofs.ties.Jobs.{jobs_after}
+use Rattle.blocking_crew.proofs.ties.Queue.{queue_after, serials_after}
 use Rattle.blocking_crew.proofs.ties.Starts.{may_more}
-use Rattle.blocking_crew.proofs.laws.Answers.{answer_law, answer_aside}
-use Rattle.blocking_crew.proofs.laws.Growth.{growth_law, growth_aside}
-use Rattle.blocking_crew.proofs.laws.Turns.{turn_law, turn_aside}
+use Rattle.blocking_crew.proofs.laws.Answers.{answer_law}
+use Rattle.blocking_crew.proofs.laws.Growth.{growth_law}
+use Rattle.blocking_crew.proofs.laws.Turns.{turn_law}
+
+-- an act that is nothing to the crew, or none at all
+aside_is : (act : Act) → (is_aside act || is_nothing act) ≡ true → is_aside act ≡ true
+aside_is NoAction is = is
+aside_is _ is = is
 
 module _ (setting : ℕ) (plan : List Bool) (crew : Crew) (past : List Moment) (h : CrewHolds setting plan crew past) where
   -- After each move the crew hangs together with what was seen.
@@ -64,29 +67,10 @@ module _ (setting : ℕ) (plan : List Bool) (crew : Crew) (past : List Moment) (
 
   -- and after an event that is nothing to the crew.
   pub holds_aside : (last : Moment) → IsAside crew last.event → CrewHolds setting plan crew (last ∷ past)
-  holds_aside last a = subst (λ (f : Event). CrewHolds setting plan crew (record { step = last.step; event = f } ∷ past)) same plain
+  holds_aside last a =
+      subst (λ (f : Event). CrewHolds setting plan crew (record { step = last.step; event = f } ∷ past)) same
+      (holds_after (Tells last.event.party last.event.act) last.step last.event.owner (aside_is last.event.act a.act) tt)
     where
-      plain : CrewHolds setting plan crew (now_with last.step last.event.owner last.event.party None last.event.act (next_start crew) no_growth ∷ past)
-      plain = record {
-        tied = record {
-          numbered = serials_aside setting plan crew past last.step last.event.owner h last.event.party last.event.act a.act;
-          filed = jobs_aside setting plan crew past last.step last.event.owner h last.event.party last.event.act a.act;
-          lined = queue_aside setting plan crew past last.step last.event.owner h last.event.party last.event.act a.act;
-          counted = counts_aside setting plan crew past last.step last.event.owner h last.event.party last.event.act a.act;
-          handed = hands_aside setting plan crew past last.step last.event.owner h last.event.party last.event.act a.act;
-        };
-        ready = h.ready;
-        laws = (
-          record {
-            growth = growth_aside setting plan crew past last.step last.event.owner h last.event.party last.event.act a.act;
-            answers = answer_aside setting plan crew past last.step last.event.owner h last.event.party last.event.act a.act;
-            turns = turn_aside setting plan crew past last.step last.event.owner h last.event.party last.event.act a.act;
-            order = order_after setting plan past (now_with last.step last.event.owner last.event.party None last.event.act (next_start crew) no_growth) h.laws (answer_aside setting plan crew past last.step last.event.owner h last.event.party last.event.act a.act);
-          },
-          h.laws,
-        );
-      }
-
       same : (now_with last.step last.event.owner last.event.party None last.event.act (next_start crew) no_growth).event ≡ last.event
       same =
           ap (λ (j : Option ℕ). record last.event { job = j; first = next_start crew; started = 0; start_refused = false }) (sym a.job)
@@ -95,19 +79,6 @@ module _ (setting : ℕ) (plan : List Bool) (crew : Crew) (past : List Moment) (
           ∙ ap (λ (b : Bool). record last.event { start_refused = b }) (sym a.refused)
 
 -- ---- a new crew
-
-no_hand : (v : ℕ) → hand_at [] v ≡ Out
-no_hand v = hand_or _
-  where
-    hand_or : (b : Bool) → (if b then Out else hand_in None) ≡ Out
-    hand_or true = refl
-    hand_or false = refl
-
-out_hand : (v : ℕ) (hand : Hand) → hand ≡ Out → HandAs hand false None
-out_hand v hand is = subst (λ h. HandAs h false None) (sym is) (refl, refl)
-
-no_held : (v : ℕ) (held : Held) → hand_at [] v ≡ Holds held → ⊥
-no_held v held there = let out : Out ≡ Holds held = sym (no_hand v) ∙ there in absurd cc
 
 -- A new crew hangs together with what was seen, which is nothing.
 pub begins : (setting : ℕ) (plan : List Bool) → CrewHolds setting plan (record { pool = empty_pool setting 1 1; hands = [] }) []
@@ -127,13 +98,9 @@ begins setting plan = record {
       known_is = refl;
       next_is = refl;
     };
-    handed = record { each = λ v. out_hand v (hand_at [] v) (no_hand v); turn_is = λ v held there. absurd (no_held v held there) };
+    handed =
+        record { each = λ v. cond_both (v == 0) Out Out (λ hand. HandAs hand false None) (λ is. (refl, refl)) (λ is. (refl, refl)); turn_is = λ v held there. absurd (no_hand v held there) };
   };
-  ready = record {
-    idle = refl;
-    runs = λ v held there. absurd (no_held v held there);
-    apart = λ v w one other here there same. absurd (no_held v one here);
-    valued = λ s. ap is_valued (map.get-empty nat_cmp s);
-  };
+  ready = empty_ready setting (empty_pool setting 1 1) [] refl refl;
   laws = tt;
 }

@@ -1,24 +1,15 @@
 -- A crew stays ready where its pool changes, and where one hand changes with it.
 use Rattle.std.proofs.Common.{◌≡◌, ℕ, ◌+◌, ◌-◌, ◌==◌, Bool, true, false, if◌then◌else◌, List, [], ◌∷◌, ◌++◌, length, refl, sym, ap, ◌∙◌, subst, arith}
-use Rattle.std.proofs.lemmas.Bool.{eqb-true}
-use Rattle.std.specs.Prelude.{slice_get}
+use Rattle.std.proofs.lemmas.Bool.{eqb-true, cond_both}
 use Rattle.blocking_pool.specs.Jobs.{is_running_as}
 use Rattle.std.specs.FinMap.{get-empty}
 use Rattle.std.specs.Ordering.{nat_cmp}
 use Rattle.blocking_pool.specs.Pools.{empty_pool}
-use Rattle.blocking_pool.specs.declared.pool.token.WorkerPass.{WorkerPass}
-use Rattle.blocking_crew.specs.Crews.{Crew, IsReady, hand_at, hand_in, with_hand, one_if_free, free_hands}
+use Rattle.blocking_crew.specs.Crews.{Crew, IsReady, hand_at, with_hand, one_if_free, free_hands}
 use Rattle.blocking_crew.specs.Tickets.{JobPool, AreValued, is_valued}
-use Rattle.blocking_crew.specs.declared.hand.Hand.{Hand}
-use Rattle.blocking_crew.specs.declared.hand.Hand.TheVariants.{Out, Free, Holds}
-use Rattle.blocking_crew.specs.declared.hand.Held.{Held}
-use Rattle.blocking_crew.proofs.jobs.Kept.{AreKept, runs_on, stay_valued}
+use Rattle.blocking_crew.proofs.Types.{WorkerPass, Hand, Out, Free, Holds, Held}
+use Rattle.blocking_crew.proofs.jobs.Kept.{PoolKept, runs_on, stay_valued}
 use Rattle.blocking_crew.proofs.hands.Rows.{IsAt, hand_set, hand_pushed, sum_set, sum_pushed}
-
--- What a change of the pool leaves: jobs run on and have their tickets, and as many idle workers have arrived as before.
-pub record PoolKept (old new : JobPool) : Type 0 where
-  pub jobs : AreKept old.jobs new.jobs
-  pub level : new.counts.idle + old.counts.arriving ≡ old.counts.idle + new.counts.arriving
 
 pub pool_ready : (crew : Crew) (pool : JobPool) → IsReady crew → PoolKept crew.pool pool → IsReady (record crew { pool = pool })
 pool_ready crew pool ready kept = record {
@@ -67,12 +58,10 @@ module _ (crew : Crew) (pool : JobPool) (v : ℕ) (old new : Hand) (ready : IsRe
 
 -- ---- one more hand
 
-pushed_by : (crew : Crew) (pass : WorkerPass) (u : ℕ) (held : Held) (b : Bool) → (if b then Free pass else hand_at crew.hands u) ≡ Holds held → hand_at crew.hands u ≡ Holds held
-pushed_by crew pass u held true is = absurd (cc)
-pushed_by crew pass u held false is = is
-
 pushed_at : (crew : Crew) (pass : WorkerPass) (u : ℕ) (held : Held) → hand_at (crew.hands ++ Free pass ∷ []) u ≡ Holds held → hand_at crew.hands u ≡ Holds held
-pushed_at crew pass u held is = pushed_by crew pass u held (length crew.hands + 1 == u) (sym (hand_pushed crew.hands u (Free pass)) ∙ is)
+pushed_at crew pass u held is =
+    cond_both (length crew.hands + 1 == u) (Free pass) (hand_at crew.hands u) (λ hand. hand ≡ Holds held → hand_at crew.hands u ≡ Holds held) (λ new e. absurd cc) (λ old e. e)
+    (sym (hand_pushed crew.hands u (Free pass)) ∙ is)
 
 pub push_ready : (crew : Crew) (pool : JobPool) (pass : WorkerPass) → IsReady crew → pool.jobs ≡ crew.pool.jobs
     → pool.counts.idle + crew.pool.counts.arriving ≡ crew.pool.counts.idle + pool.counts.arriving + 1
@@ -86,9 +75,8 @@ push_ready crew pool pass ready same level = record {
 
 -- ---- a new crew
 
-no_hand : (b : Bool) (v : ℕ) (held : Held) → (if b then Out else hand_in (slice_get [] (v - 1))) ≡ Holds held → ⊥
-no_hand true v held is = cc
-no_hand false v held is = cc
+pub no_hand : (v : ℕ) (held : Held) → hand_at [] v ≡ Holds held → ⊥
+no_hand v held = cond_both (v == 0) Out Out (λ hand. hand ≡ Holds held → ⊥) (λ is e. cc) (λ is e. cc)
 
 pub empty_ready : (setting : ℕ) (pool : JobPool) (hands : List Hand) → pool ≡ empty_pool setting 1 1 → hands ≡ [] → IsReady (record { pool = pool; hands = hands })
 empty_ready setting pool hands empty none =
@@ -96,7 +84,7 @@ empty_ready setting pool hands empty none =
     (subst (λ (row : List Hand). IsReady (record { pool = empty_pool setting 1 1; hands = row })) (sym none)
     (record {
       idle = refl;
-      runs = λ v held is. absurd (no_hand (v == 0) v held is);
-      apart = λ v w one other is there same. absurd (no_hand (v == 0) v one is);
+      runs = λ v held is. absurd (no_hand v held is);
+      apart = λ v w one other is there same. absurd (no_hand v one is);
       valued = λ s. ap is_valued (get-empty nat_cmp s);
     }))

@@ -2,28 +2,18 @@
 use Rattle.std.proofs.Common.{◌≡◌, ℕ, ◌+◌, ◌-◌, ◌<◌, ◌==◌, Bool, true, false, refl, sym, ap, ◌∙◌, subst, arith, Option, Some, None}
 use Rattle.std.specs.Prelude.{option_map}
 use Rattle.std.specs.FinMap.{get, insert}
-use Rattle.std.proofs.lemmas.Bool.{ne_eqb, eqb-false}
+use Rattle.std.proofs.lemmas.Bool.{ne_eqb, eqb-false, cond_both}
 use Rattle.blocking_pool.specs.Counts.{after_stop}
 use Rattle.blocking_pool.specs.Growth.{Growth}
 use Rattle.blocking_pool.specs.Jobs.{Job, Jobs, JobNumber, amend, if_at, is_running_job, is_running_as, entry_after_take, entry_after_park, entry_after_requeue}
 use Rattle.blocking_pool.specs.Pools.{without_job, after_park, after_return}
-use Rattle.blocking_pool.specs.declared.pool.standing.Standing.{Standing}
-use Rattle.blocking_pool.specs.declared.pool.token.WorkerPass.{WorkerPass}
 use Rattle.blocking_crew.specs.Crews.{Crew, IsReady, hand_at, with_hand, one_if_free, free_hands}
 use Rattle.blocking_crew.specs.Tickets.{JobPool, AreValued, is_valued, TakesFront}
-use Rattle.blocking_crew.specs.declared.hand.Hand.{Hand}
-use Rattle.blocking_crew.specs.declared.hand.Hand.TheVariants.{Out, Free, Holds}
-use Rattle.blocking_crew.specs.declared.hand.Held.{Held}
-use Rattle.blocking_crew.specs.declared.hand.Stage.{Stage}
-use Rattle.blocking_crew.specs.declared.ticket.Ticket.{Ticket}
+use Rattle.blocking_crew.proofs.Types.{Standing, WorkerPass, Hand, Out, Free, Holds, Held, Stage, Ticket}
 use Rattle.blocking_crew.proofs.hands.Rows.{IsAt, at_free, at_held, sum_set}
-use Rattle.blocking_crew.proofs.jobs.Kept.{valued_if, removed_valued, removed_runs, with_ticket}
+use Rattle.blocking_crew.proofs.jobs.Kept.{removed_valued, removed_runs, with_ticket}
 use Rattle.blocking_crew.proofs.jobs.Lookups.{job_put, job_changed, changed_twice, taken_runs, runs_at}
 use Rattle.blocking_crew.proofs.ready.Changes.{hand_ready}
-
--- the workers of two numbers that differ are two
-two_workers : (v u : ℕ) → (v == u) ≡ false → v ≡ u → ⊥
-two_workers v u apart same = eqb-false v u apart same
 
 -- a free hand is that of an idle worker that has arrived
 pub one_free : (crew : Crew) (v : ℕ) (pass : WorkerPass) → IsReady crew → hand_at crew.hands v ≡ Free pass → crew.pool.counts.arriving < crew.pool.counts.idle
@@ -47,7 +37,7 @@ module _ (crew : Crew) (v : ℕ) (old new : Hand) (ready : IsReady crew) (at : h
     level = omega (arith, level);
     others = λ u held apart there. ready.runs u held there;
     own = λ held is_new. ap (λ (n : JobNumber). is_running_as crew.pool.jobs n) (sym (same held is_new).2) ∙ ready.runs v (same held is_new).0 (turned held is_new);
-    alone = λ u held other apart is_new there serial. two_workers v u apart
+    alone = λ u held other apart is_new there serial. eqb-false v u apart
         (ready.apart v u (same held is_new).0 other (turned held is_new) there (ap (λ (n : JobNumber). n.serial) (same held is_new).2 ∙ serial));
     valued = ready.valued;
   })
@@ -70,7 +60,7 @@ module _ (crew : Crew) (pool : JobPool) (v : ℕ) (held : Held) (pass : WorkerPa
     (others : (number : JobNumber) → (held.turn.serial == number.serial) ≡ false → is_running_as pool.jobs number ≡ is_running_as crew.pool.jobs number)
     (valued : AreValued pool.jobs) where
   differs : (u : ℕ) (other : Held) → (v == u) ≡ false → hand_at crew.hands u ≡ Holds other → (held.turn.serial == other.turn.serial) ≡ false
-  differs u other apart there = ne_eqb held.turn.serial other.turn.serial (λ same. two_workers v u apart (ready.apart v u held other at there same))
+  differs u other apart there = ne_eqb held.turn.serial other.turn.serial (λ same. eqb-false v u apart (ready.apart v u held other at there same))
 
   -- its worker is free then, and all others run on
   pub ended_ready : IsReady (record { pool = pool; hands = with_hand crew.hands v (Free pass) })
@@ -97,7 +87,7 @@ amended_runs jobs t change number apart = ap (λ (o : Option (Job Ticket)). is_r
 amended_valued : (jobs : Jobs Ticket) (t : ℕ) (change : Job Ticket → Job Ticket) → ((found : Option (Job Ticket)) → is_valued found ≡ true → is_valued (option_map change found) ≡ true)
     → AreValued jobs → AreValued (amend jobs t change)
 amended_valued jobs t change keeps valued s =
-    ap is_valued (job_changed jobs t change s (t == s) refl) ∙ valued_if (t == s) (option_map change (get jobs s)) (get jobs s) (keeps (get jobs s) (valued s)) (valued s)
+    ap is_valued (job_changed jobs t change s (t == s) refl) ∙ cond_both (t == s) (option_map change (get jobs s)) (get jobs s) (λ found. is_valued found ≡ true) (λ is. keeps (get jobs s) (valued s)) (λ is. valued s)
 
 park_valued : (ticket : Ticket) (found : Option (Job Ticket)) → is_valued found ≡ true → is_valued (option_map (entry_after_park ticket) found) ≡ true
 park_valued ticket None has = refl
@@ -118,7 +108,7 @@ return_valued ticket (Some job) = refl
 
 returned_valued : (jobs : Jobs Ticket) (t : ℕ) (ticket : Ticket) → AreValued jobs → AreValued (amend (amend jobs t (entry_after_park ticket)) t entry_after_requeue)
 returned_valued jobs t ticket valued s =
-    ap is_valued (changed_twice jobs t (entry_after_park ticket) entry_after_requeue s (t == s) refl) ∙ valued_if (t == s) _ (get jobs s) (return_valued ticket (get jobs s)) (valued s)
+    ap is_valued (changed_twice jobs t (entry_after_park ticket) entry_after_requeue s (t == s) refl) ∙ cond_both (t == s) _ (get jobs s) (λ found. is_valued found ≡ true) (λ is. return_valued ticket (get jobs s)) (λ is. valued s)
 
 -- the job is queued again
 pub return_ready : (crew : Crew) (v : ℕ) (held : Held) (ticket : Ticket) (pass : WorkerPass) → IsReady crew → hand_at crew.hands v ≡ Holds held
@@ -150,7 +140,7 @@ queued_runs : (found : Option (Job Ticket)) (job : Job Ticket) (place : ℕ) →
 queued_runs found job place there idle runs = let bad : true ≡ false = sym (runs_at place found runs) ∙ ap is_running_job there ∙ idle in cc
 
 taken_valued : (jobs : Jobs Ticket) (t : ℕ) (job : Job Ticket) → AreValued jobs → AreValued (insert jobs t (entry_after_take job))
-taken_valued jobs t job valued s = ap is_valued (job_put jobs t (entry_after_take job) s (t == s) refl) ∙ valued_if (t == s) (Some (entry_after_take job)) (get jobs s) refl (valued s)
+taken_valued jobs t job valued s = ap is_valued (job_put jobs t (entry_after_take job) s (t == s) refl) ∙ cond_both (t == s) (Some (entry_after_take job)) (get jobs s) (λ found. is_valued found ≡ true) (λ is. refl) (λ is. valued s)
 
 module _ (may_answer : ℕ → Bool → Type 0) (crew : Crew) (pool : JobPool) (v : ℕ) (pass : WorkerPass) (turn : JobNumber) (ticket : Ticket) (to_drop : Bool) (stage : Stage) (growth : Growth)
     (ready : IsReady crew) (at : hand_at crew.hands v ≡ Free pass) (takes : TakesFront may_answer crew.pool turn ticket to_drop growth pool) where

@@ -1,19 +1,19 @@
 -- Every move that there may be keeps a crew ready.
-use Rattle.std.proofs.Common.{◌≡◌, ℕ, Bool, not, refl, sym, subst, arith}
+use Rattle.std.proofs.Common.{◌≡◌, ℕ, Bool, true, not, refl, sym, subst, arith}
 use Rattle.blocking_pool.specs.Counts.{after_arrival}
 use Rattle.blocking_pool.specs.PoolAnswers.{is_empty}
-use Rattle.blocking_pool.specs.declared.pool.answer.Waited.TheVariants.{Stay, Stop}
 use Rattle.blocking_laws.specs.Seen.{has_timed_out}
-use Rattle.blocking_laws.specs.declared.event.Event.{Event}
 use Rattle.blocking_crew.specs.Crews.{Crew, IsReady}
 use Rattle.blocking_crew.specs.Moves.{Call, Move, Idles, Adds, Arrives, TakesJob, TakesNone, Works, EndsTurn, Parks, HasWaited, SetsLimit, Sweeps, IsWoken, IsCancelled, IsLetGo, Tells, May, Moves, after, first_stage}
 use Rattle.blocking_crew.specs.Crews.{stage_after}
 use Rattle.blocking_crew.specs.declared.tickets.Parking.TheVariants as parking
 use Rattle.blocking_crew.specs.declared.hand.Stage.TheVariants as stage
+use Rattle.blocking_crew.proofs.Types.{Stay, Stop, Event}
+use Rattle.blocking_crew.proofs.growth.Sweeps.{sweeps_keep}
 use Rattle.blocking_crew.proofs.jobs.Kept.{all_kept}
 use Rattle.blocking_crew.proofs.ready.Changes.{pool_ready, push_ready}
 use Rattle.blocking_crew.proofs.ready.Hands.{pass_ready, turn_ready, over_ready, park_ready, return_ready, stop_ready, taken_ready}
-use Rattle.blocking_crew.proofs.ready.Pools.{adds_keep, wakes_keep, cancels_keep, sweep_keeps_pool, sweep_if_keeps_pool, let_go_keeps_pool}
+use Rattle.blocking_crew.proofs.ready.Pools.{adds_keep, wakes_keep, cancels_keep, let_go_keeps_pool}
 
 -- the crew after a move is ready
 pub ready_after : (may_answer : ℕ → Bool → Type 0) (crew : Crew) (move : Move) → IsReady crew → May may_answer crew move → IsReady (after crew move)
@@ -30,13 +30,13 @@ ready_after may_answer crew (Parks v held ticket (parking.Parked pass) pool) rea
 ready_after may_answer crew (Parks v held ticket (parking.Queued pass) pool) ready may = rw may.2.effect.2 (return_ready crew v held ticket pass ready may.0)
 ready_after may_answer crew (Parks v held ticket (parking.HandedOut turn) pool) ready may = rw may.2.effect.2 (turn_ready crew v held turn stage.MustGiveUp ready may.0 may.2.effect.1)
 ready_after may_answer crew (HasWaited v pass end (Stay back) growth pool) ready may =
-    let swept = pool_ready crew may.1.between ready (sweep_if_keeps_pool (has_timed_out end) may_answer crew.pool may.1.between growth may.1.sweep) in
+    let swept = pool_ready crew may.1.between ready (sweeps_keep (has_timed_out end) may_answer crew.pool may.1.between growth may.1.sweep) in
     rw may.1.answer.1 (pass_ready (record crew { pool = may.1.between }) v pass back swept may.0)
 ready_after may_answer crew (HasWaited v pass end Stop growth pool) ready may =
-    let swept = pool_ready crew may.1.between ready (sweep_if_keeps_pool (has_timed_out end) may_answer crew.pool may.1.between growth may.1.sweep) in
+    let swept = pool_ready crew may.1.between ready (sweeps_keep (has_timed_out end) may_answer crew.pool may.1.between growth may.1.sweep) in
     rw may.1.answer.1 (stop_ready (record crew { pool = may.1.between }) v pass (not (is_empty may.1.between.queue)) swept may.0)
 ready_after may_answer crew (SetsLimit n) ready may = pool_ready crew (after crew (SetsLimit n)).pool ready (record { jobs = all_kept crew.pool.jobs; level = refl })
-ready_after may_answer crew (Sweeps growth pool) ready may = pool_ready crew pool ready (sweep_keeps_pool may_answer crew.pool pool growth may)
+ready_after may_answer crew (Sweeps growth pool) ready may = pool_ready crew pool ready (sweeps_keep true may_answer crew.pool pool growth may)
 ready_after may_answer crew (IsWoken party number woke growth pool) ready may = pool_ready crew pool ready (wakes_keep may_answer crew.pool pool number woke growth may)
 ready_after may_answer crew (IsCancelled party number woke growth pool) ready may = pool_ready crew pool ready (cancels_keep may_answer crew.pool pool number woke growth may)
 ready_after may_answer crew (IsLetGo party act number) ready may = pool_ready crew (after crew (IsLetGo party act number)).pool ready (let_go_keeps_pool crew.pool number)

@@ -1,28 +1,16 @@
 -- What each change of a crew's pool keeps.
-use Rattle.std.proofs.Common.{◌≡◌, ℕ, ◌==◌, ◌||◌, Bool, true, false, refl, ap, ◌∙◌, [], ◌∷◌, Option, Some, None, Result, Ok, Err, arith}
-use Rattle.std.specs.Prelude.{option_map}
+use Rattle.std.proofs.Common.{◌≡◌, ℕ, Bool, true, refl, [], ◌∷◌, Option, Some, None, Result, Ok, Err, arith}
+use Rattle.blocking_pool.proofs.PoolLemmas.{parked_one, cancelled_stands}
 use Rattle.std.specs.FinMap.{get}
-use Rattle.std.proofs.lemmas.Bool.{eqb-true, eq-eqb}
 use Rattle.blocking_pool.specs.Growth.{Growth}
-use Rattle.blocking_pool.specs.Jobs.{Job, Jobs, JobNumber, if_at, is_parked, is_parked_job, standing_of, entry_after_wake, entry_after_cancel, entry_with, new_job, value_at, job_of}
+use Rattle.blocking_pool.specs.Jobs.{Job, JobNumber, is_parked_job, standing_of, entry_after_wake, entry_after_cancel, entry_with, new_job, value_at, job_of}
 use Rattle.blocking_pool.specs.Lists.{is_in}
 use Rattle.blocking_pool.specs.Pools.{with_job}
 use Rattle.blocking_pool.specs.Wakes.{wake_of, cancel_of}
-use Rattle.blocking_pool.specs.declared.pool.answer.Refusal.{Refusal}
-use Rattle.blocking_pool.specs.declared.pool.answer.Refusal.TheVariants.{Memory, NoWorker, Numbers}
-use Rattle.blocking_pool.specs.declared.pool.answer.Woke.{Woke}
-use Rattle.blocking_pool.specs.declared.pool.answer.Woke.TheVariants.{Entered, Marked, Nothing}
-use Rattle.blocking_pool.specs.declared.pool.standing.Standing.TheVariants.{Parked}
-use Rattle.blocking_crew.specs.Tickets.{JobPool, new_ticket, ticket_after_mark, pool_after_mark_of, pool_after_mark, pool_after_let_go, is_valued, AddsTo, Wakes, WakesTo, Cancels, CancelsTo, EntersAgain, SweepsTo, SweepsIf, to_sweep}
-use Rattle.blocking_crew.specs.declared.ticket.Ticket.{Ticket}
-use Rattle.blocking_crew.proofs.growth.Sweeps.{sweep_keeps, left_by, sweeps_if_keeps, sweeps_if_levels}
-use Rattle.blocking_crew.proofs.jobs.Kept.{changed_kept, with_ticket, all_kept, kept_then, amended_kept, inserted_kept, requeued_kept}
-use Rattle.blocking_crew.proofs.jobs.Lookups.{job_changed, woken_is, cancelled_is, stands_at}
-use Rattle.blocking_crew.proofs.ready.Changes.{PoolKept}
-
--- the same pool
-pub same_pool : (old new : JobPool) → new ≡ old → PoolKept old new
-same_pool old new same = rw same (record { jobs = all_kept old.jobs; level = refl })
+use Rattle.blocking_crew.specs.Tickets.{JobPool, new_ticket, ticket_after_mark, pool_after_mark_of, pool_after_mark, pool_after_let_go, is_valued, AddsTo, Wakes, WakesTo, Cancels, CancelsTo, EntersAgain}
+use Rattle.blocking_crew.proofs.Types.{Refusal, Memory, NoWorker, Numbers, Woke, Entered, Marked, Nothing, Parked, Ticket}
+use Rattle.blocking_crew.proofs.jobs.Kept.{PoolKept, same_pool, changed_kept, with_ticket, all_kept, kept_then, amended_kept, inserted_kept, requeued_kept}
+use Rattle.blocking_crew.proofs.jobs.Lookups.{woken_is, cancelled_is}
 
 -- ---- new jobs
 
@@ -35,20 +23,9 @@ adds_keep may_answer old new (Err NoWorker) growth adds = rw adds.after_is (reco
 
 -- ---- wakes and cancels
 
-found_parked : (place : ℕ) (found : Option (Job Ticket)) → option_map (λ (job : Job Ticket). job.standing) (if_at place found) ≡ Some Parked → is_parked_job found ≡ true
-found_parked place found is = let at = stands_at place found Parked is in ap is_parked_job at.1 ∙ ap is_parked at.2
-
--- one parked job alone enters again
-one_parked : (jobs : Jobs Ticket) (t : ℕ) → is_parked_job (get jobs t) ≡ true → (s : ℕ) → is_in s (t ∷ []) ≡ true → is_parked_job (get jobs s) ≡ true
-one_parked jobs t parked s found = by (s == t) refl found
-  where
-    by : (b : Bool) → (s == t) ≡ b → (b || false) ≡ true → is_parked_job (get jobs s) ≡ true
-    by true same is = ap (λ (n : ℕ). is_parked_job (get jobs n)) (eqb-true s t same) ∙ parked
-    by false same is = absurd cc
-
-enters_keep : (may_answer : ℕ → Bool → Type 0) (old new : JobPool) (t : ℕ) (growth : Growth) → is_parked_job (get old.jobs t) ≡ true → EntersAgain may_answer old (t ∷ []) growth new → PoolKept old new
+enters_keep : (may_answer : ℕ → Bool → Type 0) (old new : JobPool) (t : ℕ) (growth : Growth) → ((s : ℕ) → is_in s (t ∷ []) ≡ true → is_parked_job (get old.jobs s) ≡ true) → EntersAgain may_answer old (t ∷ []) growth new → PoolKept old new
 enters_keep may_answer old new t growth parked enters =
-    rw enters.after_is (record { jobs = requeued_kept old.jobs (t ∷ []) (one_parked old.jobs t parked); level = omega arith })
+    rw enters.after_is (record { jobs = requeued_kept old.jobs (t ∷ []) parked; level = omega arith })
 
 -- a flag of a job
 flag_keeps : (old new : JobPool) (t : ℕ) (change : Job Ticket → Job Ticket) → ((job : Job Ticket) → (change job).standing ≡ job.standing) → ((job : Job Ticket) → (change job).place ≡ job.place)
@@ -61,7 +38,7 @@ flag_keeps old new t change standing place value is = rw is (record { jobs = ame
 wake_keeps : (may_answer : ℕ → Bool → Type 0) (old new : JobPool) (number : JobNumber) (woke : Woke) (growth : Growth) → woke ≡ wake_of (standing_of old.jobs number)
     → WakesTo may_answer old number.serial woke growth new → PoolKept old new
 wake_keeps may_answer old new number Entered growth answer effect =
-    enters_keep may_answer old new number.serial growth (found_parked number.place (get old.jobs number.serial) (woken_is (standing_of old.jobs number) answer)) effect
+    enters_keep may_answer old new number.serial growth (parked_one old.jobs number (woken_is (standing_of old.jobs number) answer)) effect
 wake_keeps may_answer old new number Marked growth answer effect = flag_keeps old new number.serial entry_after_wake (λ job. refl) (λ job. refl) (λ job. refl) effect.1
 wake_keeps may_answer old new number Nothing growth answer effect = same_pool old new effect.1
 
@@ -75,33 +52,19 @@ pool_then old between new first second = record {
   level = let one = first.level in let two = second.level in omega (arith, one, two);
 }
 
-flagged_parked : (found : Option (Job Ticket)) → is_parked_job (option_map entry_after_cancel found) ≡ is_parked_job found
-flagged_parked None = refl
-flagged_parked (Some job) = refl
-
 cancel_keeps : (may_answer : ℕ → Bool → Type 0) (old new : JobPool) (number : JobNumber) (woke : Woke) (growth : Growth) → woke ≡ cancel_of (standing_of old.jobs number)
     → CancelsTo may_answer old number.serial woke growth new → PoolKept old new
 cancel_keeps may_answer old new number Entered growth answer effect =
     let between = with_job old number.serial entry_after_cancel in
-    let parked = found_parked number.place (get old.jobs number.serial) (cancelled_is (standing_of old.jobs number) answer) in
-    let still : is_parked_job (get between.jobs number.serial) ≡ true =
-    ap is_parked_job (job_changed old.jobs number.serial entry_after_cancel number.serial true (eq-eqb number.serial number.serial refl)) ∙ flagged_parked (get old.jobs number.serial) ∙ parked in
     pool_then old between new (flag_keeps old between number.serial entry_after_cancel (λ job. refl) (λ job. refl) (λ job. refl) refl)
-    (enters_keep may_answer between new number.serial growth still effect)
+    (enters_keep may_answer between new number.serial growth (parked_one between.jobs number (cancelled_stands old.jobs number Parked (cancelled_is (standing_of old.jobs number) answer))) effect)
 cancel_keeps may_answer old new number Marked growth answer effect = flag_keeps old new number.serial entry_after_cancel (λ job. refl) (λ job. refl) (λ job. refl) effect.1
 cancel_keeps may_answer old new number Nothing growth answer effect = same_pool old new effect.1
 
 pub cancels_keep : (may_answer : ℕ → Bool → Type 0) (old new : JobPool) (number : JobNumber) (woke : Woke) (growth : Growth) → Cancels may_answer old number woke growth new → PoolKept old new
 cancels_keep may_answer old new number woke growth cancels = cancel_keeps may_answer old new number woke growth cancels.answer cancels.effect
 
--- ---- sweeps and marks
-
-pub sweep_keeps_pool : (may_answer : ℕ → Bool → Type 0) (old new : JobPool) (growth : Growth) → SweepsTo may_answer old (to_sweep old) growth new → PoolKept old new
-sweep_keeps_pool may_answer old new growth sweeps = record { jobs = sweep_keeps may_answer old new growth sweeps; level = (left_by may_answer old new (to_sweep old) growth sweeps).level }
-
-pub sweep_if_keeps_pool : (timed_out : Bool) (may_answer : ℕ → Bool → Type 0) (old new : JobPool) (growth : Growth) → SweepsIf timed_out may_answer old growth new → PoolKept old new
-sweep_if_keeps_pool timed_out may_answer old new growth sweeps =
-    record { jobs = sweeps_if_keeps timed_out may_answer old new growth sweeps; level = sweeps_if_levels timed_out may_answer old new growth sweeps }
+-- ---- marks
 
 mark_of_keeps : (pool : JobPool) (number : JobNumber) (value : Option Ticket) → PoolKept pool (pool_after_mark_of pool number value)
 mark_of_keeps pool number None = same_pool pool pool refl

@@ -1,29 +1,21 @@
 -- What holds of each act that a job, a holder or a worker may be seen to do here holds of the one that was seen.
-use Rattle.std.proofs.Common.{◌≡◌, ℕ, ◌==◌, ◌||◌, not, Bool, true, false, List, [], ◌∷◌, length, refl, ap, Option}
+use Rattle.std.proofs.Common.{[], ◌≡◌, ℕ, ◌==◌, not, Bool, true, false, List, ◌∷◌, length, refl, Option}
 use Rattle.blocking_pool.specs.Growth.{Growth}
 use Rattle.blocking_pool.specs.Jobs.{Job as Entry, one_if}
-use Rattle.blocking_pool.specs.declared.pool.answer.Refusal.TheVariants.{NoWorker}
-use Rattle.blocking_pool.specs.declared.pool.standing.Standing.TheVariants.{Done, Dropped}
 use Rattle.blocking_laws.specs.Answers.{PoolAnswers}
 use Rattle.blocking_laws.specs.Counts.{is_arrival, is_stop, limit_by}
 use Rattle.blocking_laws.specs.Growth.{HasWorker, grows, is_limit_set, turned_away}
 use Rattle.blocking_laws.specs.Jobs.{accepted_jobs, lets_go}
 use Rattle.blocking_laws.specs.Queue.{entered_by, taken_by, ended_by}
-use Rattle.blocking_laws.specs.Seen.{is_nothing, is_of_pool}
+use Rattle.blocking_laws.specs.Seen.{is_of_pool}
 use Rattle.blocking_laws.specs.Steps.{is_there}
 use Rattle.blocking_laws.specs.Turns.{FitsTurn, HoldsOne, turn, hand}
-use Rattle.blocking_laws.specs.declared.event.Act.{Act}
-use Rattle.blocking_laws.specs.declared.event.Act.TheVariants.{Made, Asked, OwnerClosed, Got, GotEnd, Filled, FillShut, Back, Replied, Accepted, Refused, JobWoken, JobCancelled, LimitSet, Swept, Waits, HolderDropped, TaskGot, TaskGotNone, TaskCancelled, TaskDetached, Arrived, Took, TookDropped, TookNone, Stays, Stopped, Ended, HandedOut, Answered, RoomFree, RoomShut, JobParked, Put, Lost, Peeked, Drained, Taken as TakenOut, JobClosed, Finished, GaveUp, HolderWoken, NoAction}
-use Rattle.blocking_laws.specs.declared.event.HolderWaker.{HolderWaker}
-use Rattle.blocking_laws.specs.declared.event.Moment.{Moment}
-use Rattle.blocking_laws.specs.declared.event.Party.{Party}
-use Rattle.blocking_laws.specs.declared.step.Step.{Step}
+use Rattle.blocking_laws.specs.declared.event.Act.TheVariants.{Took, Taken as TakenOut, ResultPut}
 use Rattle.blocking_crew.specs.Crews.{Crew, may_act, stage_after, outcome_of, standing_after}
 use Rattle.blocking_crew.specs.Moves.{is_aside, seen}
 use Rattle.blocking_crew.specs.Ties.{FiledHere, Handed, turn_of}
-use Rattle.blocking_crew.specs.declared.hand.Stage.{Stage}
 use Rattle.blocking_crew.specs.declared.hand.Stage.TheVariants as stage
-use Rattle.blocking_crew.specs.declared.ticket.Ticket.{Ticket}
+use Rattle.blocking_crew.proofs.Types.{NoWorker, Done, Dropped, Act, Made, Asked, OwnerClosed, Got, GotEnd, Filled, FillShut, Back, Replied, Accepted, Refused, JobWoken, JobCancelled, LimitSet, Swept, Waits, HolderDropped, TaskGot, TaskGotNone, TaskCancelled, TaskDetached, Arrived, TookDropped, TookNone, Stays, Stopped, Ended, HandedOut, Answered, RoomFree, RoomShut, JobParked, Put, Lost, Peeked, Drained, JobClosed, Finished, GaveUp, HolderWoken, NoAction, HolderWaker, Moment, Party, Step, Stage, Ticket}
 
 -- the moment of an act, as the layer above sees it
 abbrev pub now_with : Step → Option ℕ → Party → Option ℕ → Act → ℕ → Growth → Moment
@@ -136,8 +128,8 @@ module _ (setting : ℕ) (past : List Moment) (step : Step) (owner : Option ℕ)
     handed = λ crew h. record { each = h.each; turn_is = h.turn_is };
   }
 
--- an act that is nothing to the crew, or none at all, is plain
-pub aside_plain : (act : Act) → (is_aside act || is_nothing act) ≡ true → is_plain act ≡ true
+-- an act that is nothing to the crew is plain
+pub aside_plain : (act : Act) → is_aside act ≡ true → is_plain act ≡ true
 aside_plain (Made h capacity) is = refl
 aside_plain (Asked call) is = refl
 aside_plain (OwnerClosed told) is = refl
@@ -154,9 +146,6 @@ aside_plain TaskDetached is = refl
 aside_plain NoAction is = refl
 aside_plain _ is = absurd cc
 
-pub aside_or : (act : Act) → is_aside act ≡ true → (is_aside act || is_nothing act) ≡ true
-aside_or act is = ap (λ b. b || is_nothing act) is
-
 -- an act of a job: it goes on in its turn, or waits from then on, or gives up
 pub by_work : (P : Stage → Act → Type 0) → ((at : Stage) (act : Act) → is_plain act ≡ true → turn_of (stage_after act at) ≡ turn_of at → FitsTurn (turn_of at) act → P at act)
     → P stage.Runs JobParked → ((waker : HolderWaker) → P stage.MustGiveUp (GaveUp waker)) → (at : Stage) (act : Act) → may_act at act ≡ true → P at act
@@ -170,6 +159,7 @@ by_work P goes_on parks gives_up stage.Runs (Peeked bytes) may = goes_on stage.R
 by_work P goes_on parks gives_up stage.Runs Drained may = goes_on stage.Runs Drained refl refl refl
 by_work P goes_on parks gives_up stage.Runs (TakenOut n waker) may = goes_on stage.Runs (TakenOut n waker) refl refl refl
 by_work P goes_on parks gives_up stage.Runs (JobClosed waker) may = goes_on stage.Runs (JobClosed waker) refl refl refl
+by_work P goes_on parks gives_up stage.Runs (ResultPut waker) may = goes_on stage.Runs (ResultPut waker) refl refl refl
 by_work P goes_on parks gives_up stage.Runs (Finished waker) may = goes_on stage.Runs (Finished waker) refl refl refl
 by_work P goes_on parks gives_up stage.Runs HolderWoken may = goes_on stage.Runs HolderWoken refl refl refl
 by_work P goes_on parks gives_up stage.Runs _ may = absurd cc

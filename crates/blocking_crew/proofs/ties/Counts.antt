@@ -1,5 +1,5 @@
 -- Each move keeps the counts of a crew what the past tells.
-use Rattle.std.proofs.Common.{◌≡◌, ℕ, ◌<◌, ◌≤◌, ◌+◌, ◌-◌, ◌==◌, min, List, [], ◌∷◌, ◌++◌, Bool, true, false, cond, length, length-append, length-set, refl, sym, ap, ◌∙◌, ap₂, arith, if◌then◌else◌, Option, Some, None, zero, suc}
+use Rattle.std.proofs.Common.{[], ◌≡◌, ℕ, ◌<◌, ◌≤◌, ◌+◌, ◌-◌, ◌==◌, min, List, ◌∷◌, ◌++◌, Bool, true, false, cond, length, length-append, length-set, refl, sym, ap, ◌∙◌, ap₂, arith, if◌then◌else◌, Option, Some, None, zero, suc}
 use Rattle.std.specs.Prelude.{◌||◌, not, filter, Err}
 use Rattle.std.proofs.lemmas.Bool.Decides.{nat_tests}
 use Rattle.blocking_pool.specs.Counts.{Counts, limit_of, louder, after_pickup, after_release, after_stop}
@@ -7,35 +7,20 @@ use Rattle.blocking_pool.specs.Growth.{greatest, Growth, limit_after, number_aft
 use Rattle.blocking_pool.specs.Jobs.{one_if}
 use Rattle.blocking_pool.specs.PoolAnswers.{is_empty}
 use Rattle.blocking_pool.specs.Pools.{without_job}
-use Rattle.blocking_pool.specs.declared.pool.bell.BellKind.TheVariants.{One}
-use Rattle.blocking_pool.specs.declared.pool.standing.Standing.{Standing}
-use Rattle.blocking_pool.specs.declared.pool.standing.Standing.TheVariants.{Queued, Parked}
-use Rattle.blocking_pool.specs.declared.pool.answer.Refusal.TheVariants.{NoWorker}
-use Rattle.blocking_pool.specs.declared.pool.answer.Waited.TheVariants.{Stop}
-use Rattle.blocking_pool.specs.declared.pool.token.WorkerPass.{WorkerPass}
 use Rattle.blocking_laws.specs.Counts.{added, starts, refused_starts, arrivals, stops as all_stops, workers, limit, is_arrival, is_stop}
 use Rattle.blocking_laws.specs.Growth.{IsPlanned, has_limit, grows}
 use Rattle.blocking_laws.specs.Queue.{running}
-use Rattle.blocking_laws.specs.Seen.{joined, without_all, has_timed_out, is_nothing}
-use Rattle.blocking_laws.specs.declared.event.Act.{Act}
-use Rattle.blocking_laws.specs.declared.event.Act.TheVariants.{Refused, Ended}
-use Rattle.blocking_laws.specs.declared.event.Moment.{Moment}
-use Rattle.blocking_laws.specs.declared.event.Party.{Party}
-use Rattle.blocking_laws.specs.declared.event.Party.TheVariants.{Worker}
-use Rattle.blocking_laws.specs.declared.event.WaitEnd.{WaitEnd}
-use Rattle.blocking_laws.specs.declared.step.Step.{Step}
+use Rattle.blocking_laws.specs.Seen.{joined, without_all, has_timed_out}
 use Rattle.blocking_crew.specs.Crews.{Crew, hand_at, with_hand, outcome_of, standing_after, one_if_free, one_if_busy, busy_hands}
-use Rattle.blocking_crew.specs.Moves.{Move, Adds, Arrives, TakesJob, EndsTurn, Parks, HasWaited, SetsLimit, May, after, next_start, is_aside}
+use Rattle.blocking_crew.specs.Moves.{Move, Adds, Arrives, TakesJob, EndsTurn, Parks, HasWaited, SetsLimit, May, after, next_start}
 use Rattle.blocking_crew.specs.Tickets.{JobPool, no_growth, GrowsBy, FindsNoWorker}
 use Rattle.blocking_crew.specs.Ties.{Counted, CrewHolds, moment_of}
-use Rattle.blocking_crew.specs.declared.hand.Hand.{Hand}
-use Rattle.blocking_crew.specs.declared.hand.Hand.TheVariants.{Out, Free, Holds}
-use Rattle.blocking_crew.specs.declared.hand.Held.{Held}
 use Rattle.blocking_crew.specs.declared.tickets.Parking.TheVariants as parking
+use Rattle.blocking_crew.proofs.Types.{One, Standing, Queued, Parked, NoWorker, Stop, WorkerPass, Act, Refused, Ended, Moment, Party, Worker, WaitEnd, Step, Hand, Out, Free, Holds, Held}
 use Rattle.blocking_crew.proofs.hands.Rows.{at_held, at_free, sum_set, sum_pushed}
 use Rattle.blocking_crew.proofs.ties.Acts.{now_with, Steady, enters_so}
 use Rattle.blocking_crew.proofs.ties.Known.{held_once}
-use Rattle.blocking_crew.proofs.ties.Entered.{GrewBy, ungrown, AreGrown, grew_so, growth_in, Enters, enters, enters_aside, swept}
+use Rattle.blocking_crew.proofs.ties.Entered.{GrewBy, ungrown, AreGrown, grew_so, growth_in, Enters, enters, swept}
 
 -- ---- numbers of a growth
 
@@ -231,10 +216,6 @@ module _ (setting : ℕ) (plan : List Bool) (crew : Crew) (past : List Moment) (
       h.tied.counted.idle_are refl h.tied.counted.busy_are
 
   -- ---- every move
-
-  -- an event that is nothing to the crew keeps them
-  pub counts_aside : (who : Party) (act : Act) → (is_aside act || is_nothing act) ≡ true → Counted setting crew (now who None act no_growth ∷ past)
-  counts_aside who act is = entered (now who None act no_growth) crew (enters_aside setting plan crew past step owner h who act is)
 
   -- Each move keeps the counts what the past tells.
   pub counts_after : (move : Move) → May (IsPlanned plan) crew move → Counted setting (after crew move) (moment_of crew move step owner ∷ past)

@@ -1,36 +1,26 @@
 -- Moves at which jobs enter the queue, or none, and the pool grows by them.
-use Rattle.std.proofs.Common.{◌≡◌, ℕ, suc, ◌≤◌, ◌+◌, ◌-◌, ◌==◌, List, [], ◌∷◌, ◌++◌, Bool, true, false, length, length-append, length-set, refl, sym, ap, ◌∙◌, arith, if◌then◌else◌, Option, Some, None}
-use Rattle.std.specs.Prelude.{◌||◌, not, slice_get, Ok, Err}
+use Rattle.std.proofs.Common.{[], ◌≡◌, ℕ, suc, ◌≤◌, ◌+◌, ◌-◌, ◌==◌, List, ◌∷◌, ◌++◌, Bool, true, false, length, length-append, length-set, refl, sym, ap, ◌∙◌, arith, if◌then◌else◌, Option, Some, None}
+use Rattle.std.specs.Prelude.{not, slice_get, Ok, Err}
 use Rattle.std.proofs.lemmas.Bool.Decides.{nat_tests}
 use Rattle.blocking_pool.specs.Counts.{Counts, limit_of}
 use Rattle.blocking_pool.specs.Growth.{greatest, Growth, after_growth, limit_after, number_after}
 use Rattle.blocking_pool.specs.Jobs.{JobNumber}
 use Rattle.blocking_pool.specs.Sweeps.{serials_below}
-use Rattle.blocking_pool.specs.declared.pool.answer.Refusal.TheVariants.{Memory, NoWorker, Numbers}
-use Rattle.blocking_pool.specs.declared.pool.answer.Waited.TheVariants.{Stay, Stop}
-use Rattle.blocking_pool.specs.declared.pool.answer.Woke.TheVariants.{Entered as PutBack}
 use Rattle.blocking_laws.specs.Counts.{workers}
 use Rattle.blocking_laws.specs.Growth.{IsPlanned, HasWorker}
 use Rattle.blocking_laws.specs.Jobs.{accepted_by, accepted_jobs}
 use Rattle.blocking_laws.specs.Queue.{entered_by, to_sweep as seen_to_sweep}
-use Rattle.blocking_laws.specs.Seen.{joined, has_timed_out, is_nothing}
-use Rattle.blocking_laws.specs.declared.event.Act.{Act}
-use Rattle.blocking_laws.specs.declared.event.Act.TheVariants.{Accepted}
-use Rattle.blocking_laws.specs.declared.event.Moment.{Moment}
-use Rattle.blocking_laws.specs.declared.event.Party.{Party}
-use Rattle.blocking_laws.specs.declared.event.Party.TheVariants.{Worker}
-use Rattle.blocking_laws.specs.declared.step.Step.{Step}
+use Rattle.blocking_laws.specs.Seen.{joined, has_timed_out}
 use Rattle.blocking_crew.specs.Crews.{Crew, with_hand, held_after_act, one_if_busy, busy_hands}
-use Rattle.blocking_crew.specs.Moves.{Move, Idles, Adds, Arrives, TakesJob, TakesNone, Works, EndsTurn, Parks, HasWaited, SetsLimit, Sweeps, IsWoken, IsCancelled, IsLetGo, Tells, May, after, next_start, hand_after_park, is_aside}
+use Rattle.blocking_crew.specs.Moves.{Move, Idles, Adds, Arrives, TakesJob, TakesNone, Works, EndsTurn, Parks, HasWaited, SetsLimit, Sweeps, IsWoken, IsCancelled, IsLetGo, Tells, May, after, next_start, hand_after_park}
 use Rattle.blocking_crew.specs.Tickets.{JobPool, no_growth, GrowsBy, Accepts, SweepsTo, SweepsIf, to_sweep}
 use Rattle.blocking_crew.specs.Ties.{Numbered, CrewHolds, moment_of}
-use Rattle.blocking_crew.specs.declared.hand.Hand.{Hand}
-use Rattle.blocking_crew.specs.declared.hand.Hand.TheVariants.{Free, Holds}
 use Rattle.blocking_crew.specs.declared.tickets.Parking.TheVariants as parking
+use Rattle.blocking_crew.proofs.Types.{Memory, NoWorker, Numbers, Stay, Stop, Entered as PutBack, Act, Accepted, Moment, Party, Worker, Step, Hand, Free, Holds}
 use Rattle.blocking_crew.proofs.growth.Reads.{numbers_last}
 use Rattle.blocking_crew.proofs.hands.Rows.{at_held, at_free, sum_set}
 use Rattle.blocking_crew.proofs.jobs.Marks.{let_go_alone}
-use Rattle.blocking_crew.proofs.ties.Acts.{now_with, enters_only, is_plain, plain, aside_plain, by_work, by_let_go, aside_or}
+use Rattle.blocking_crew.proofs.ties.Acts.{now_with, enters_only, is_plain, plain, aside_plain, by_work, by_let_go}
 use Rattle.blocking_crew.proofs.ties.Sweeps.{sweep_same, is_swept, is_swept_if}
 
 -- ---- how a growth changes the counts
@@ -166,10 +156,6 @@ module _ (setting : ℕ) (plan : List Bool) (crew : Crew) (past : List Moment) (
   level : (v : ℕ) (old new : Hand) → slice_get crew.hands (v - 1) ≡ Some old → one_if_busy old ≡ one_if_busy new → busy_hands (with_hand crew.hands v new) ≡ busy_hands crew.hands
   level v old new at same = (let set = sum_set one_if_busy crew.hands (v - 1) old new at in omega (arith, set, same))
 
-  -- so it is at an event that is nothing to the crew
-  pub enters_aside : (who : Party) (act : Act) → (is_aside act || is_nothing act) ≡ true → Enters (now_with step owner who None act (next_start crew) no_growth) crew
-  enters_aside who act is = still _ crew (quiet who None act (aside_plain act is)) refl refl refl refl refl
-
   -- a job was accepted
   accepted : (who : Party) (number : JobNumber) (growth : Growth) (pool : JobPool) → Accepts (IsPlanned plan) crew.pool number growth pool
       → Numbered pool (now_with step owner who None (Accepted number.serial) (next_start crew) growth ∷ past)
@@ -242,5 +228,5 @@ module _ (setting : ℕ) (plan : List Bool) (crew : Crew) (past : List Moment) (
   enters (IsCancelled who number _ growth pool) may is = still _ (record crew { pool = pool }) (refl, refl, λ n. tt, refl) refl may.effect.0 (rw may.effect.1 refl) refl refl
   enters (IsLetGo who act number) may is =
       still _ (after crew (IsLetGo who act number)) (by_let_go Quiet (refl, refl, λ n. tt, refl) (refl, refl, λ n. tt, refl) act may) refl refl (let_go_alone crew.pool number) refl refl
-  enters (Tells who act) may is = enters_aside who act (aside_or act may)
+  enters (Tells who act) may is = still _ crew (quiet who None act (aside_plain act may)) refl refl refl refl refl
   enters _ may is = absurd cc

@@ -3,13 +3,11 @@ use Rattle.std.proofs.Common.{◌≡◌, Bool, true, false, refl, sym, ap, ◌�
 use Rattle.std.specs.Prelude.{option_map}
 use Rattle.std.proofs.Math.Bool.{and-true}
 use Rattle.blocking_pool.specs.Jobs.{Job as Entry, entry_after_requeue, is_running_job, is_parked as is_parked_so}
-use Rattle.blocking_pool.specs.declared.pool.standing.Standing.{Standing}
-use Rattle.blocking_pool.specs.declared.pool.standing.Standing.TheVariants.{Queued, Running, Parked, Done, Dropped}
 use Rattle.blocking_pool.proofs.Standings.{running_is}
 use Rattle.blocking_laws.specs.Jobs.{is_parked}
 use Rattle.blocking_crew.specs.Tickets.{is_due_to_sweep, is_marked_ticket}
 use Rattle.blocking_crew.specs.Ties.{ValueAs, AbsentAs, FiledAs, has_ticket}
-use Rattle.blocking_crew.specs.declared.ticket.Ticket.{Ticket}
+use Rattle.blocking_crew.proofs.Types.{Standing, Queued, Running, Parked, Done, Dropped, Ticket}
 use Rattle.blocking_crew.proofs.ties.Lookups.{mark_ticket, mark_if}
 
 -- ---- what it tells

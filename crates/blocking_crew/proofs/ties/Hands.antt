@@ -1,54 +1,32 @@
 -- Each move keeps the hands as they were seen.
-use Rattle.std.proofs.Common.{◌≡◌, ℕ, ◌+◌, ◌==◌, List, [], ◌∷◌, ◌++◌, Bool, true, false, length, refl, sym, ap, ◌∙◌, subst, if◌then◌else◌, Option, Some, None, ◌&&◌, ◌||◌, not}
+use Rattle.std.proofs.Common.{[], ◌≡◌, ℕ, ◌+◌, ◌==◌, List, ◌∷◌, ◌++◌, Bool, true, false, length, refl, sym, ap, ◌∙◌, subst, if◌then◌else◌, Option, Some, None, ◌&&◌, ◌||◌, not}
 use Rattle.std.specs.Prelude.{Ok, Err}
-use Rattle.std.proofs.lemmas.Bool.{eqb-true, eqb-false, eq-eqb, ne_eqb}
+use Rattle.std.proofs.lemmas.Bool.{eqb-true, eqb-false, eq-eqb, ne_eqb, cond_both}
 use Rattle.blocking_pool.specs.Growth.{Growth}
 use Rattle.blocking_pool.specs.Jobs.{JobNumber}
-use Rattle.blocking_pool.specs.declared.pool.answer.Waited.TheVariants.{Stay, Stop}
-use Rattle.blocking_pool.specs.declared.pool.standing.Standing.{Standing}
-use Rattle.blocking_pool.specs.declared.pool.standing.Standing.TheVariants.{Queued, Running, Parked}
-use Rattle.blocking_pool.specs.declared.pool.token.WorkerPass.{WorkerPass}
 use Rattle.blocking_laws.specs.Growth.{IsPlanned}
 use Rattle.blocking_laws.specs.Jobs.{standing}
-use Rattle.blocking_laws.specs.Seen.{is_nothing}
 use Rattle.blocking_laws.specs.Steps.{is_there}
 use Rattle.blocking_laws.specs.Turns.{Turn, GoesOn, IsWaiting, MustGiveUp, HasGivenUp, turn, hand}
-use Rattle.blocking_laws.specs.declared.event.Act.{Act}
-use Rattle.blocking_laws.specs.declared.event.Act.TheVariants.{Ended, JobParked, GaveUp}
-use Rattle.blocking_laws.specs.declared.event.HolderWaker.{HolderWaker}
-use Rattle.blocking_laws.specs.declared.event.HolderWaker.TheVariants.{Taken, Absent}
-use Rattle.blocking_laws.specs.declared.event.Moment.{Moment}
-use Rattle.blocking_laws.specs.declared.event.Party.{Party}
-use Rattle.blocking_laws.specs.declared.event.Party.TheVariants.{Worker}
-use Rattle.blocking_laws.specs.declared.step.Step.{Step}
+use Rattle.blocking_laws.specs.declared.event.HolderWaker.TheVariants.{Taken}
 use Rattle.blocking_crew.specs.Crews.{Crew, hand_at, with_hand, may_act, stage_after, held_after_act, outcome_of, standing_after}
-use Rattle.blocking_crew.specs.Moves.{Move, Adds, Arrives, TakesJob, TakesNone, Works, EndsTurn, Parks, HasWaited, IsLetGo, Tells, May, after, next_start, first_stage, is_aside}
+use Rattle.blocking_crew.specs.Moves.{Move, Adds, Arrives, TakesJob, TakesNone, Works, EndsTurn, Parks, HasWaited, IsLetGo, Tells, May, after, next_start, first_stage}
 use Rattle.blocking_crew.specs.Tickets.{JobPool, no_growth}
 use Rattle.blocking_crew.specs.Ties.{HandAs, Handed, turn_of, CrewHolds, moment_of}
-use Rattle.blocking_crew.specs.declared.hand.Hand.{Hand}
-use Rattle.blocking_crew.specs.declared.hand.Hand.TheVariants.{Out, Free, Holds}
-use Rattle.blocking_crew.specs.declared.hand.Held.{Held}
-use Rattle.blocking_crew.specs.declared.hand.Stage.{Stage}
 use Rattle.blocking_crew.specs.declared.hand.Stage.TheVariants as stage
 use Rattle.blocking_crew.specs.declared.tickets.Parking.TheVariants as parking
+use Rattle.blocking_crew.proofs.Types.{Stay, Stop, Standing, Queued, Running, Parked, WorkerPass, Act, Ended, JobParked, GaveUp, HolderWaker, Absent, Moment, Party, Worker, Step, Hand, Out, Free, Holds, Held, Stage}
 use Rattle.blocking_crew.proofs.hands.Rows.{IsAt, at_held, at_free, hand_set, hand_pushed, hand_next}
-use Rattle.blocking_crew.proofs.ties.Acts.{now_with, plain, aside_plain, by_work, by_let_go, aside_or}
+use Rattle.blocking_crew.proofs.ties.Acts.{now_with, plain, aside_plain, by_work, by_let_go}
 use Rattle.blocking_crew.proofs.ties.Known.{held_runs, front_stands}
 
 -- ---- a row of hands in which one has changed
 
-if_case : (b : Bool) (P : Hand → Type 0) (h g : Hand) → (b ≡ true → P h) → (b ≡ false → P g) → P (if b then h else g)
-if_case true P h g same other = same refl
-if_case false P h g same other = other refl
-
 at_set : (row : List Hand) (v u : ℕ) (old h : Hand) → IsAt row v old → (P : Hand → Type 0) → ((v == u) ≡ true → P h) → ((v == u) ≡ false → P (hand_at row u)) → P (hand_at (with_hand row v h) u)
-at_set row v u old h at P same other = subst P (sym (hand_set row v u old h at)) (if_case (v == u) P h (hand_at row u) same other)
+at_set row v u old h at P same other = subst P (sym (hand_set row v u old h at)) (cond_both (v == u) h (hand_at row u) P same other)
 
 at_pushed : (row : List Hand) (u : ℕ) (h : Hand) (P : Hand → Type 0) → ((length row + 1 == u) ≡ true → P h) → ((length row + 1 == u) ≡ false → P (hand_at row u)) → P (hand_at (row ++ h ∷ []) u)
-at_pushed row u h P same other = subst P (sym (hand_pushed row u h)) (if_case (length row + 1 == u) P h (hand_at row u) same other)
-
-queued_not_running : (st : Option Standing) → st ≡ Some Queued → st ≡ Some Running → ⊥
-queued_not_running st one other = cc
+at_pushed row u h P same other = subst P (sym (hand_pushed row u h)) (cond_both (length row + 1 == u) h (hand_at row u) P same other)
 
 module _ (setting : ℕ) (plan : List Bool) (crew : Crew) (past : List Moment) (step : Step) (owner : Option ℕ) (h : CrewHolds setting plan crew past) where
   abbrev now : Party → Option ℕ → Act → Growth → Moment
@@ -108,7 +86,7 @@ module _ (setting : ℕ) (plan : List Bool) (crew : Crew) (past : List Moment) (
       (λ held is. (let same : new ≡ held = cc in
       subst (λ (g : Held). turn (last ∷ past) g.turn.serial ≡ turn_of g.stage) same (turns t ∙ ap (λ b. if b then turn_now else turn past t) (eq-eqb t t refl) ∙ stage_is)))
       (λ u held e is.
-      (let differs = ne_eqb t held.turn.serial (λ same. queued_not_running (standing past held.turn.serial) (subst (λ n. standing past n ≡ Some Queued) same queued) (held_runs setting plan crew past h u held is)) in
+      (let differs = ne_eqb t held.turn.serial (λ same. (let rests = subst (λ n. standing past n ≡ Some Queued) same queued in let runs = held_runs setting plan crew past h u held is in let bad : Some Queued ≡ Some Running = sym rests ∙ runs in cc)) in
       turns held.turn.serial ∙ ap (λ b. if b then turn_now else turn past held.turn.serial) differs))
 
   -- the job in a hand is elsewhere in its turn
@@ -170,11 +148,6 @@ module _ (setting : ℕ) (plan : List Bool) (crew : Crew) (past : List Moment) (
 
   -- ---- every move
 
-  -- an event that is nothing to the crew keeps them
-  pub hands_aside : (who : Party) (act : Act) → (is_aside act || is_nothing act) ≡ true → Handed crew (now who None act no_growth ∷ past)
-  hands_aside who act is =
-      (plain setting past step owner who None (next_start crew) no_growth act (aside_plain act is)).handed crew h.tied.handed
-
   -- Each move keeps the hands as they were seen.
   pub hands_after : (move : Move) → May (IsPlanned plan) crew move → Handed (after crew move) (moment_of crew move step owner ∷ past)
   hands_after (Adds who (Ok number) growth pool) may = record { each = h.tied.handed.each; turn_is = h.tied.handed.turn_is }
@@ -198,5 +171,5 @@ module _ (setting : ℕ) (plan : List Bool) (crew : Crew) (past : List Moment) (
   hands_after (IsLetGo who act number) may =
       by_let_go (λ act. Handed (after crew (IsLetGo who act number)) (now who None act no_growth ∷ past)) (record { each = h.tied.handed.each; turn_is = h.tied.handed.turn_is })
       (record { each = h.tied.handed.each; turn_is = h.tied.handed.turn_is }) act may
-  hands_after (Tells who act) may = hands_aside who act (aside_or act may)
+  hands_after (Tells who act) may = (plain setting past step owner who None (next_start crew) no_growth act (aside_plain act may)).handed crew h.tied.handed
   hands_after move may = record { each = h.tied.handed.each; turn_is = h.tied.handed.turn_is }

@@ -5,30 +5,16 @@ use Rattle.std.specs.FinMap.{get, remove}
 use Rattle.blocking_pool.specs.Growth.{Growth}
 use Rattle.blocking_pool.specs.Jobs.{Job as Entry, Jobs, JobNumber, standing_of, new_job, entry_after_take, entry_after_wake, entry_after_cancel, entry_after_requeue, entry_after_park}
 use Rattle.blocking_pool.specs.Wakes.{wake_of, cancel_of}
-use Rattle.blocking_pool.specs.declared.pool.answer.Refusal.TheVariants.{Memory, NoWorker, Numbers}
-use Rattle.blocking_pool.specs.declared.pool.answer.Waited.TheVariants.{Stay, Stop}
-use Rattle.blocking_pool.specs.declared.pool.answer.Woke.{Woke}
-use Rattle.blocking_pool.specs.declared.pool.answer.Woke.TheVariants.{Entered, Marked, Nothing}
-use Rattle.blocking_pool.specs.declared.pool.standing.Standing.{Standing}
-use Rattle.blocking_pool.specs.declared.pool.standing.Standing.TheVariants.{Queued, Running, Parked, Done, Dropped}
 use Rattle.blocking_laws.specs.Growth.{IsPlanned}
 use Rattle.blocking_laws.specs.Jobs.{standing, holder, is_holder, is_woken, is_cancelled, is_marked, is_parked, has_ended}
-use Rattle.blocking_laws.specs.Seen.{has_timed_out, is_nothing}
-use Rattle.blocking_laws.specs.declared.event.Act.{Act}
-use Rattle.blocking_laws.specs.declared.event.Act.TheVariants.{Accepted, JobWoken, JobCancelled, Ended}
-use Rattle.blocking_laws.specs.declared.event.Moment.{Moment}
-use Rattle.blocking_laws.specs.declared.event.Party.{Party}
-use Rattle.blocking_laws.specs.declared.event.Party.TheVariants.{Worker}
-use Rattle.blocking_laws.specs.declared.step.Step.{Step}
+use Rattle.blocking_laws.specs.Seen.{has_timed_out}
 use Rattle.blocking_crew.specs.Crews.{Crew}
-use Rattle.blocking_crew.specs.Moves.{Move, Adds, TakesJob, Works, EndsTurn, Parks, HasWaited, Sweeps, IsWoken, IsCancelled, IsLetGo, Tells, May, after, call_of, next_start, parked_act, is_aside}
+use Rattle.blocking_crew.specs.Moves.{Move, Adds, TakesJob, Works, EndsTurn, Parks, HasWaited, Sweeps, IsWoken, IsCancelled, IsLetGo, Tells, May, after, call_of, next_start, parked_act}
 use Rattle.blocking_crew.specs.Tickets.{JobPool, new_ticket, no_growth, Accepts, TakesFront, WakesTo, CancelsTo, ParksTo, ParksSo, pool_after_let_go}
 use Rattle.blocking_crew.specs.Ties.{ValueAs, AbsentAs, FiledAs, FiledHere, Filed, IsNumberOf, is_serial_of, HoldsAtRest, IsAsked, CrewHolds, moment_of}
-use Rattle.blocking_crew.specs.declared.hand.Held.{Held}
-use Rattle.blocking_crew.specs.declared.ticket.Ticket.{Ticket}
-use Rattle.blocking_crew.specs.declared.tickets.Parking.{Parking}
 use Rattle.blocking_crew.specs.declared.tickets.Parking.TheVariants as parking
-use Rattle.blocking_crew.proofs.ties.Acts.{now_with, plain, aside_plain, by_work, by_let_go, by_end, aside_or}
+use Rattle.blocking_crew.proofs.Types.{Memory, NoWorker, Numbers, Stay, Stop, Woke, Entered, Marked, Nothing, Standing, Queued, Running, Parked, Done, Dropped, Act, Accepted, JobWoken, JobCancelled, Ended, Moment, Party, Worker, Step, Held, Ticket, Parking}
+use Rattle.blocking_crew.proofs.ties.Acts.{now_with, plain, aside_plain, by_work, by_let_go, by_end}
 use Rattle.blocking_crew.proofs.jobs.Lookups.{job_put, job_out, job_changed, changed_twice, each_job, woken_is, cancelled_is, found_at, stands_at}
 use Rattle.blocking_crew.proofs.ties.Lookups.{job_let_go}
 use Rattle.blocking_crew.proofs.ties.Entries.{unseen, requeued_filed, marked_filed}
@@ -205,11 +191,6 @@ module _ (setting : ℕ) (plan : List Bool) (crew : Crew) (past : List Moment) (
 
   -- ---- every move
 
-  -- an event that is nothing to the crew keeps them
-  pub jobs_aside : (who : Party) (act : Act) → (is_aside act || is_nothing act) ≡ true → Filed crew.pool (now who None act no_growth ∷ past)
-  jobs_aside who act is s =
-      (plain setting past step owner who None (next_start crew) no_growth act (aside_plain act is)).filed (get crew.pool.jobs s) s (h.tied.filed s)
-
   -- Each move keeps the pool's jobs as they were seen.
   pub jobs_after : (move : Move) → May (IsPlanned plan) crew move → IsAsked crew past (call_of move) → Filed (after crew move).pool (moment_of crew move step owner ∷ past)
   jobs_after (Adds who (Ok number) growth pool) may asked s = accepted_filed who number growth pool may s
@@ -236,5 +217,5 @@ module _ (setting : ℕ) (plan : List Bool) (crew : Crew) (past : List Moment) (
   jobs_after (IsLetGo who act number) may asked s =
       by_let_go (λ act. FiledHere (get (pool_after_let_go crew.pool number).jobs s) (now who None act no_growth ∷ past) s)
       (let_go_filed who number s asked.0 asked.1) (let_go_filed who number s asked.0 asked.1) act may
-  jobs_after (Tells who act) may asked s = jobs_aside who act (aside_or act may) s
+  jobs_after (Tells who act) may asked s = (plain setting past step owner who None (next_start crew) no_growth act (aside_plain act may)).filed (get crew.pool.jobs s) s (h.tied.filed s)
   jobs_after move may asked s = h.tied.filed s

@@ -7,22 +7,15 @@ use Rattle.std.proofs.lemmas.Bool.Decides.{nat_tests}
 use Rattle.blocking_pool.specs.Growth.{Growth}
 use Rattle.blocking_pool.specs.Jobs.{JobNumber, is_running_job, one_if}
 use Rattle.blocking_pool.specs.Lists.{is_in, without}
-use Rattle.blocking_pool.specs.declared.pool.standing.Standing.{Standing}
-use Rattle.blocking_pool.specs.declared.pool.standing.Standing.TheVariants.{Queued, Running}
 use Rattle.blocking_pool.proofs.Lists.{without-first, is_in-last, is_in-push}
 use Rattle.blocking_laws.specs.Jobs.{accepted_by, accepted_jobs, accepts, holder, newcomer, standing, is_queued, is_running}
 use Rattle.blocking_laws.specs.Queue.{queue, running, times}
 use Rattle.blocking_laws.specs.Seen.{joined}
-use Rattle.blocking_laws.specs.declared.event.Act.{Act}
-use Rattle.blocking_laws.specs.declared.event.Act.TheVariants.{Accepted}
-use Rattle.blocking_laws.specs.declared.event.Moment.{Moment}
 use Rattle.blocking_laws.proofs.Queues.{queued_so, runs_so, known_so}
 use Rattle.blocking_crew.specs.Crews.{Crew, hand_at}
 use Rattle.blocking_crew.specs.Tickets.{JobPool, TakesFront}
 use Rattle.blocking_crew.specs.Ties.{FiledHere, CrewHolds}
-use Rattle.blocking_crew.specs.declared.hand.Hand.TheVariants.{Holds}
-use Rattle.blocking_crew.specs.declared.hand.Held.{Held}
-use Rattle.blocking_crew.specs.declared.ticket.Ticket.{Ticket}
+use Rattle.blocking_crew.proofs.Types.{Standing, Queued, Running, Act, Accepted, Moment, Holds, Held, Ticket}
 use Rattle.blocking_crew.proofs.ties.Lists.{in_times, front_once, times_below, times_first, without_times}
 use Rattle.blocking_crew.proofs.jobs.Lookups.{runs_at}
 use Rattle.blocking_crew.proofs.ties.Entries.{filed_runs, filed_none}
@@ -54,20 +47,16 @@ module _ (setting : ℕ) (plan : List Bool) (crew : Crew) (past : List Moment) (
   serials : (s : ℕ) → times s (accepted_jobs past) + one_if (0 == s) ≡ one_if (nat_lt s crew.pool.next_serial)
   serials s = times_first s 0 (accepted_jobs past) (one_if (nat_lt s crew.pool.next_serial)) (ap (times s) (sym h.tied.numbered.all_are) ∙ times_below crew.pool.next_serial s)
 
+  nowhere : (s : ℕ) → times s (accepted_jobs past) ≡ 0 → standing past s ≡ None
+  nowhere s none = unknown_is (standing past s) (sym (known_so setting plan past h.laws s) ∙ none)
+
   -- the next job stands nowhere
   pub fresh : standing past crew.pool.next_serial ≡ None
-  fresh =
-      let n = crew.pool.next_serial in
-      let all = serials n in
-      let none : times n (accepted_jobs past) ≡ 0 = grind (arith, nat_tests, all) in
-      unknown_is (standing past n) (sym (known_so setting plan past h.laws n) ∙ none)
+  fresh = nowhere crew.pool.next_serial (let all = serials crew.pool.next_serial in grind (arith, nat_tests, all))
 
   -- nor does a job of the number 0
   pub none_zero : standing past 0 ≡ None
-  none_zero =
-      let all = serials 0 in
-      let none : times 0 (accepted_jobs past) ≡ 0 = grind (arith, nat_tests, all) in
-      unknown_is (standing past 0) (sym (known_so setting plan past h.laws 0) ∙ none)
+  none_zero = nowhere 0 (let all = serials 0 in grind (arith, nat_tests, all))
 
   -- and the pool has none
   pub get_zero : get crew.pool.jobs 0 ≡ None

@@ -1,5 +1,6 @@
 -- Lists of numbers: how often a number stands in one, and what is left without it.
 use Rattle.std.proofs.Common.{◌≡◌, ℕ, ◌+◌, ◌==◌, ◌||◌, cond, Bool, false, List, [], ◌∷◌, length, refl, ap, ◌∙◌, arith, zero, suc}
+use Rattle.std.proofs.lemmas.List.Filters.{length-filter_both}
 use Rattle.std.specs.Prelude.{filter, not, nat_lt}
 use Rattle.std.proofs.lemmas.Bool.{eq-eqb}
 use Rattle.std.proofs.lemmas.Bool.Decides.{nat_tests}
@@ -20,15 +21,9 @@ pub in_times : (s : ℕ) (ns : List ℕ) (b : Bool) → times s ns ≡ one_if b 
 in_times s [] b e = grind (arith, e)
 in_times s (m ∷ ns) b e = ap (λ c. c || is_in s ns) (turned s m) ∙ in_by (m == s) b m s ns (in_times s ns b) e
 
-left_by : (b : Bool) (n : ℕ) (kept gone : List ℕ) (k : ℕ) → length kept + length gone ≡ k → length (cond (not b) (n ∷ kept) kept) + length (cond b (n ∷ gone) gone) ≡ suc k
-left_by b n kept gone k e = grind (arith, e)
-
 -- what is left without a number, and how often it stood there
 pub without_times : (t : ℕ) (ns : List ℕ) → length (without t ns) + times t ns ≡ length ns
-without_times t [] = refl
-without_times t (n ∷ ns) =
-    ap (λ c. length (cond (not c) (n ∷ without t ns) (without t ns)) + times t (n ∷ ns)) (turned t n)
-    ∙ left_by (n == t) n (without t ns) (filter (λ m. m == t) ns) (length ns) (without_times t ns)
+without_times t ns = length-filter_both (λ n. not (t == n)) (λ n. n == t) (λ n. turned n t ∙ (let twice : (t == n) ≡ not (not (t == n)) = grind arith in twice)) ns
 
 -- the first of a list, and the rest
 pub times_first : (s m : ℕ) (ns : List ℕ) (k : ℕ) → times s (m ∷ ns) ≡ k → times s ns + one_if (m == s) ≡ k
@@ -49,10 +44,3 @@ pub times_below : (n s : ℕ) → times s (serials_below n) ≡ one_if (nat_lt s
 times_below zero s = grind (arith, nat_tests)
 times_below (suc n) s =
     times_both s (serials_below n) (n ∷ []) ∙ ap (λ k. k + times s (n ∷ [])) (times_below n s) ∙ ap (λ k. one_if (nat_lt s n) + k) (times_one s n) ∙ grind (arith, nat_tests)
-
--- ---- filters
-
-pub same_filter : (p q : ℕ → Bool) (ns : List ℕ) → ((n : ℕ) → p n ≡ q n) → filter p ns ≡ filter q ns
-same_filter p q [] same = refl
-same_filter p q (n ∷ ns) same =
-    ap (λ (b : Bool). cond b (n ∷ filter p ns) (filter p ns)) (same n) ∙ ap (λ (r : List ℕ). cond (q n) (n ∷ r) r) (same_filter p q ns same)

@@ -6,7 +6,7 @@ use Rattle.std.proofs.lemmas.Bool.{eqb-true, eq-eqb}
 use Rattle.blocking_pool.specs.Jobs.{Job as Entry, JobNumber, if_at, job_of, value_at, entry_with}
 use Rattle.blocking_crew.specs.Tickets.{JobPool, pool_after_mark_of, pool_after_let_go, ticket_after_mark}
 use Rattle.blocking_crew.specs.Ties.{IsNumberOf, is_serial_of}
-use Rattle.blocking_crew.specs.declared.ticket.Ticket.{Ticket}
+use Rattle.blocking_crew.proofs.Types.{Ticket}
 use Rattle.blocking_crew.proofs.jobs.Lookups.{job_changed}
 
 -- a job whose ticket is this, marked, if it has one

@@ -5,19 +5,15 @@ use Rattle.std.specs.FinMap.{get, insert}
 use Rattle.std.proofs.lemmas.Bool.{eqb-true, eq-eqb}
 use Rattle.blocking_pool.specs.Growth.{Growth}
 use Rattle.blocking_pool.specs.Jobs.{Job as Entry, Jobs, JobNumber, amend, new_job, entry_after_take, entry_after_wake, entry_after_cancel, entry_after_requeue, entry_after_park}
-use Rattle.blocking_pool.specs.declared.pool.answer.Refusal.TheVariants.{Memory, NoWorker, Numbers}
-use Rattle.blocking_pool.specs.declared.pool.answer.Waited.TheVariants.{Stay, Stop}
-use Rattle.blocking_pool.specs.declared.pool.answer.Woke.TheVariants.{Entered, Marked, Nothing}
 use Rattle.blocking_laws.specs.Growth.{IsPlanned}
 use Rattle.blocking_laws.specs.Jobs.{standing}
 use Rattle.blocking_laws.specs.Seen.{has_timed_out}
-use Rattle.blocking_laws.specs.declared.event.Moment.{Moment}
 use Rattle.blocking_crew.specs.Crews.{Crew}
 use Rattle.blocking_crew.specs.Moves.{Move, Adds, TakesJob, EndsTurn, Parks, HasWaited, Sweeps, IsWoken, IsCancelled, IsLetGo, May, after, call_of}
 use Rattle.blocking_crew.specs.Tickets.{JobPool, new_ticket, AddsTo}
 use Rattle.blocking_crew.specs.Ties.{IsNumberOf, is_serial_of, IsAsked, CrewHolds}
-use Rattle.blocking_crew.specs.declared.ticket.Ticket.{Ticket}
 use Rattle.blocking_crew.specs.declared.tickets.Parking.TheVariants as parking
+use Rattle.blocking_crew.proofs.Types.{Memory, NoWorker, Numbers, Stay, Stop, Entered, Marked, Nothing, Moment, Ticket}
 use Rattle.blocking_crew.proofs.ties.Known.{fresh}
 use Rattle.blocking_crew.proofs.jobs.Lookups.{job_put, job_out, job_changed}
 use Rattle.blocking_crew.proofs.ties.Lookups.{job_let_go, mark_if}

@@ -1,26 +1,20 @@
 -- Each move keeps the pool's queue that of the past, and the serials those of the jobs that were accepted.
-use Rattle.std.proofs.Common.{◌≡◌, ℕ, if◌then◌else◌, ◌||◌, List, [], ◌∷◌, ◌++◌, Bool, true, false, sym, ap, ◌∙◌, Option, Some, None, refl, ap₂}
+use Rattle.std.proofs.Common.{[], ◌≡◌, ℕ, if◌then◌else◌, List, ◌∷◌, ◌++◌, Bool, true, false, sym, ap, ◌∙◌, Option, Some, refl, ap₂}
 use Rattle.std.specs.Prelude.{Err}
 use Rattle.blocking_pool.specs.Growth.{Growth}
-use Rattle.blocking_pool.specs.declared.pool.answer.Refusal.TheVariants.{NoWorker}
-use Rattle.blocking_pool.specs.declared.pool.answer.Waited.TheVariants.{Stop}
 use Rattle.blocking_laws.specs.Growth.{IsPlanned}
 use Rattle.blocking_laws.specs.Queue.{queue, to_sweep, entered_by}
-use Rattle.blocking_laws.specs.Seen.{has_timed_out, is_nothing, joined, without_all}
-use Rattle.blocking_laws.specs.declared.event.Act.{Act}
-use Rattle.blocking_laws.specs.declared.event.Moment.{Moment}
-use Rattle.blocking_laws.specs.declared.event.Party.{Party}
-use Rattle.blocking_laws.specs.declared.event.Party.TheVariants.{Worker}
-use Rattle.blocking_laws.specs.declared.step.Step.{Step}
+use Rattle.blocking_laws.specs.Seen.{has_timed_out, joined, without_all}
 use Rattle.blocking_crew.specs.Crews.{Crew}
-use Rattle.blocking_crew.specs.Moves.{Move, Adds, Arrives, TakesJob, EndsTurn, Parks, HasWaited, May, after, next_start, is_aside, SetsLimit}
+use Rattle.blocking_crew.specs.Moves.{Move, Adds, Arrives, TakesJob, EndsTurn, Parks, HasWaited, May, after, next_start, SetsLimit}
 use Rattle.blocking_crew.specs.Tickets.{JobPool, no_growth}
 use Rattle.blocking_crew.specs.Ties.{Lined, CrewHolds, moment_of, Numbered}
 use Rattle.blocking_crew.specs.declared.tickets.Parking.TheVariants as parking
+use Rattle.blocking_crew.proofs.Types.{NoWorker, Stop, Act, Moment, Party, Worker, Step}
 use Rattle.blocking_crew.proofs.ties.Acts.{now_with, by_end, enters_so}
 use Rattle.blocking_crew.proofs.ties.Known.{front_out}
 use Rattle.blocking_crew.proofs.ties.Sweeps.{is_swept_if}
-use Rattle.blocking_crew.proofs.ties.Entered.{Enters, enters, enters_aside, kept, swept}
+use Rattle.blocking_crew.proofs.ties.Entered.{Enters, enters, kept, swept}
 
 module _ (setting : ℕ) (plan : List Bool) (crew : Crew) (past : List Moment) (step : Step) (owner : Option ℕ) (h : CrewHolds setting plan crew past) where
   abbrev now : Party → Option ℕ → Act → Growth → Moment
@@ -32,10 +26,6 @@ module _ (setting : ℕ) (plan : List Bool) (crew : Crew) (past : List Moment) (
   entered : (last : Moment) (new : Crew) → Enters setting plan crew past step owner h last new → Lined new.pool (last ∷ past)
   entered last new e =
       e.entered.line ∙ ap₂ (λ (gone ns : List ℕ). joined (without_all gone ns) (entered_by past last.event.act)) (sym (enters_so past last.event.act e.only).taken) h.tied.lined
-
-  -- an event that is nothing to the crew keeps it
-  pub queue_aside : (who : Party) (act : Act) → (is_aside act || is_nothing act) ≡ true → Lined crew.pool (now who None act no_growth ∷ past)
-  queue_aside who act is = entered (now who None act no_growth) crew (enters_aside setting plan crew past step owner h who act is)
 
   -- Each move keeps the pool's queue that of the past.
   pub queue_after : (move : Move) → May (IsPlanned plan) crew move → Lined (after crew move).pool (moment_of crew move step owner ∷ past)
@@ -54,10 +44,6 @@ module _ (setting : ℕ) (plan : List Bool) (crew : Crew) (past : List Moment) (
   queue_after move may = entered (moment_of crew move step owner) (after crew move) (enters setting plan crew past step owner h move may refl)
 
   -- ---- the serials
-
-  -- an event that is nothing to the crew keeps them
-  pub serials_aside : (who : Party) (act : Act) → (is_aside act || is_nothing act) ≡ true → Numbered crew.pool (now who None act no_growth ∷ past)
-  serials_aside who act is = (enters_aside setting plan crew past step owner h who act is).numbered
 
   -- Each move keeps the serials those of the jobs that were accepted.
   pub serials_after : (move : Move) → May (IsPlanned plan) crew move → Numbered (after crew move).pool (moment_of crew move step owner ∷ past)

@@ -4,16 +4,12 @@ use Rattle.std.specs.Prelude.{Result, Ok, Err}
 use Rattle.blocking_pool.specs.Counts.{Counts, after_pickup}
 use Rattle.blocking_pool.specs.Growth.{Growth, Narrows}
 use Rattle.blocking_pool.specs.Jobs.{JobNumber}
-use Rattle.blocking_pool.specs.declared.pool.answer.Refusal.{Refusal}
-use Rattle.blocking_pool.specs.declared.pool.answer.Refusal.TheVariants.{NoWorker}
-use Rattle.blocking_pool.specs.declared.pool.answer.Woke.{Woke}
-use Rattle.blocking_pool.specs.declared.pool.answer.Woke.TheVariants.{Entered}
 use Rattle.blocking_pool.proofs.GrowthLemmas.{answer_before}
 use Rattle.blocking_laws.specs.Seen.{has_timed_out}
 use Rattle.blocking_crew.specs.Crews.{Crew}
 use Rattle.blocking_crew.specs.Moves.{Move, Adds, TakesJob, HasWaited, Sweeps, IsWoken, IsCancelled, May}
 use Rattle.blocking_crew.specs.Tickets.{JobPool, GrowsBy, AddsTo, TakesFront, EntersAgain, WakesTo, CancelsTo, SweepsTo, SweepsIf, to_sweep}
-use Rattle.blocking_crew.specs.declared.ticket.Ticket.{Ticket}
+use Rattle.blocking_crew.proofs.Types.{Refusal, NoWorker, Woke, Entered, Ticket}
 
 module _ (wide narrow : ℕ → Bool → Type 0) (more : Narrows wide narrow) where
   grows : (ready : ℕ) (counts : Counts) (growth : Growth) → GrowsBy narrow ready counts growth → GrowsBy wide ready counts growth

@@ -1,22 +1,19 @@
 -- A sweep puts back what was seen to be parked and marked, in the order in which it was accepted.
 use Rattle.std.proofs.Common.{◌≡◌, ℕ, ◌&&◌, if◌then◌else◌, cond, Bool, true, false, List, [], ◌∷◌, refl, ap, ◌∙◌, Option, Some, None}
+use Rattle.std.proofs.lemmas.List.Elements.{filter_agree}
 use Rattle.std.specs.Prelude.{option_map, is_some, filter}
 use Rattle.std.specs.FinMap.{get}
 use Rattle.blocking_pool.specs.Growth.{Growth}
 use Rattle.blocking_pool.specs.Jobs.{Jobs, entry_after_requeue}
 use Rattle.blocking_pool.specs.Lists.{is_in}
-use Rattle.blocking_pool.specs.declared.pool.standing.Standing.{Standing}
-use Rattle.blocking_pool.specs.declared.pool.standing.Standing.TheVariants.{Queued, Running, Parked}
 use Rattle.blocking_laws.specs.Jobs.{accepted_jobs, standing, is_parked, is_woken, is_cancelled, is_marked, has_ended}
 use Rattle.blocking_laws.specs.Queue.{to_sweep as seen_to_sweep}
 use Rattle.blocking_laws.specs.Seen.{joined}
-use Rattle.blocking_laws.specs.declared.event.Moment.{Moment}
 use Rattle.blocking_crew.specs.Crews.{Crew}
 use Rattle.blocking_crew.specs.Tickets.{JobPool, SweepsTo, SweepsIf, to_sweep, is_due_to_sweep}
 use Rattle.blocking_crew.specs.Ties.{CrewHolds}
-use Rattle.blocking_crew.specs.declared.ticket.Ticket.{Ticket}
+use Rattle.blocking_crew.proofs.Types.{Standing, Queued, Running, Parked, Moment, Ticket}
 use Rattle.blocking_crew.proofs.growth.Sweeps.{left_by}
-use Rattle.blocking_crew.proofs.ties.Lists.{same_filter}
 use Rattle.blocking_crew.proofs.jobs.Lookups.{job_requeued, in_filter}
 use Rattle.blocking_crew.proofs.ties.Entries.{due_filed}
 use Rattle.blocking_crew.proofs.ties.Known.{get_zero, accepted_in}
@@ -44,8 +41,8 @@ module _ (setting : ℕ) (plan : List Bool) (crew : Crew) (past : List Moment) (
       ap (filter (λ serial. is_due_to_sweep (get pool.jobs serial))) h.tied.numbered.all_are
       ∙ ap (λ o. cond (is_due_to_sweep o) (0 ∷ filter (λ serial. is_due_to_sweep (get pool.jobs serial)) (accepted_jobs past)) (filter (λ serial. is_due_to_sweep (get pool.jobs serial)) (accepted_jobs past)))
       (get_zero setting plan crew past h)
-      ∙ same_filter (λ serial. is_due_to_sweep (get pool.jobs serial)) (λ s. is_parked (standing past s) && is_marked past s) (accepted_jobs past)
-      (λ s. due_filed (get pool.jobs s) (standing past s) (is_woken past s) (is_cancelled past s) (is_marked past s) (has_ended past s) (h.tied.filed s))
+      ∙ filter_agree (λ serial. is_due_to_sweep (get pool.jobs serial)) (λ s. is_parked (standing past s) && is_marked past s)
+      (λ s. due_filed (get pool.jobs s) (standing past s) (is_woken past s) (is_cancelled past s) (is_marked past s) (has_ended past s) (h.tied.filed s)) (accepted_jobs past)
 
   due_test : (s : ℕ) → is_in s (to_sweep crew.pool) ≡ (is_parked (standing past s) && is_marked past s)
   due_test s =

@@ -71,15 +71,3 @@ answer_stays task_stage.Attached is = is
 answer_stays task_stage.Cancelled is = refl
 answer_stays task_stage.Gone is = is
 answer_stays task_stage.LetGo is = refl
-
--- a task that is gone isn't detached, nor is a cancelled one
-detaches_attached : (st : TaskStage) → may_be st Detach ≡ true → has_let_go st ≡ true → ⊥
-detaches_attached task_stage.Attached may is = cc
-detaches_attached _ may is = cc
-
--- a task that has let its call go stays so
-pub call_stays : (call : TaskCall) (task : Task) → may_be task.stage call ≡ true → has_let_go task.stage ≡ true → has_let_go (task_after_call call task).stage ≡ true
-call_stays Poll task may is = by_task_after_poll (λ new. has_let_go new.stage ≡ true) task is (answer_stays task.stage is) (answer_stays task.stage is) refl
-call_stays Cancel task may is = refl
-call_stays Detach task may is = absurd (detaches_attached task.stage may is)
-call_stays Drop task may is = refl

@@ -11,8 +11,8 @@ use Rattle.blocking_lanes.specs.Tasks.{Task, task_act}
 use Rattle.blocking_lanes.specs.Ties.{TaskAs}
 use Rattle.blocking_lanes.specs.Steps.{TaskStep, IsCalled, IsAnswered, Finishes, GivesUp, CallsWaker, MayTake, act_of, task_after, event_by}
 use Rattle.blocking_lanes.proofs.acts.Calls.{by_call, call_plainly}
-use Rattle.blocking_lanes.proofs.acts.Own.{Goes, call_goes}
-use Rattle.blocking_lanes.proofs.acts.OfJob.{answer_goes, finish_goes, give_up_goes, wake_goes}
+use Rattle.blocking_lanes.proofs.acts.TaskActs.{Goes, call_goes}
+use Rattle.blocking_lanes.proofs.acts.JobActs.{answer_goes, finish_goes, give_up_goes, wake_goes}
 
 -- each step that there may be
 pub step_goes : (step : TaskStep) (task : Task) (k v s first : ℕ) (growth : Growth) (cut : List Event) → MayTake step task (acts_of s cut)

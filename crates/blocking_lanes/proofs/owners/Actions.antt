@@ -13,22 +13,20 @@ use Rattle.blocking_core.specs.declared.job.write.WriteAction.{WriteAction}
 use Rattle.blocking_core.specs.declared.job.write.WriteAction.TheVariants as write
 use Rattle.blocking_core.specs.declared.unblock.OwnerAction.{OwnerAction}
 use Rattle.blocking_core.specs.declared.unblock.OwnerAction.TheVariants as action
-use Rattle.blocking_core.specs.declared.unblock.OwnerEnd.TheVariants.{Open, Shut}
-use Rattle.blocking_core.specs.declared.unblock.State.{State}
-use Rattle.blocking_core.specs.declared.unblock.State.TheVariants as state
 use Rattle.blocking_laws.specs.JobTable.{Kind, Reading, Writing, JobAction, PutPiece, Consume, next_but_wake, is_asking, is_over, fault, has_finished, has_given_up}
 use Rattle.blocking_laws.specs.Passed.{got, accepted, kind_in}
 use Rattle.blocking_laws.specs.Seen.{own, acts_of}
 use Rattle.blocking_laws.specs.Sessions.{jobs_of, kind_of_job, under_way, is_poll_over, is_for_closed}
 use Rattle.blocking_laws.specs.Sessions as sessions
+use Rattle.blocking_laws.specs.Steps.{is_known}
 use Rattle.blocking_laws.specs.declared.event.Act.{Act}
 use Rattle.blocking_laws.specs.declared.event.Event.{Event}
 use Rattle.blocking_laws.specs.declared.event.Reply.{Reply as Told}
 use Rattle.blocking_laws.specs.declared.step.HandleCall.{HandleCall}
 use Rattle.blocking_laws.specs.declared.step.HandleCall.TheVariants as handle_call
 use Rattle.blocking_pool.specs.Lists.{is_in}
-use Rattle.blocking_lanes.specs.Owners.{Owner, rests, may_ask, next_of, next_at, next_by, next_to_say, did, did_in, fill_did_in, look_did, looked_as, reply_as, reply_did, worked, worked_by, read_as, read_in, write_as, write_in}
-use Rattle.blocking_lanes.specs.OwnerTies.{OwnerAs, LastAs, SlotAs, Flows, IsLentOpen, LooksFrom, state_as}
+use Rattle.blocking_lanes.specs.Owners.{Owner, rests, may_ask, may_ask_at, next_of, next_at, next_by, next_to_say, did, did_in, fill_did_in, look_did, looked_as, reply_as, reply_did, worked, worked_by, read_as, read_in, write_as, write_in}
+use Rattle.blocking_lanes.specs.OwnerTies.{OwnerAs, LastAs, SlotAs, Flows}
 use Rattle.blocking_lanes.specs.Reads as reads
 use Rattle.blocking_lanes.specs.Reads.{ReadAs}
 use Rattle.blocking_lanes.specs.SessionJobs.{JobAs, kind_of, action_of}
@@ -42,12 +40,12 @@ use Rattle.blocking_lanes.specs.declared.owner.OwnerNext.TheVariants.{Rests, Act
 use Rattle.blocking_lanes.specs.declared.owner.OwnerStage.{OwnerStage}
 use Rattle.blocking_lanes.specs.declared.owner.OwnerStage.TheVariants as stage
 use Rattle.blocking_lanes.proofs.owners.Cuts.{kind_is}
-use Rattle.blocking_lanes.proofs.owners.Own.{owner_by_parts, bound, doing, fits_at, gone_is, lent_at}
-use Rattle.blocking_lanes.proofs.owners.Pooled.{may_be_asked}
-use Rattle.blocking_lanes.proofs.owners.Reads as read_job
-use Rattle.blocking_lanes.proofs.owners.Writes as write_job
+use Rattle.blocking_lanes.proofs.owners.Known.{gone_known, may_ask_known}
+use Rattle.blocking_lanes.proofs.owners.OwnerActs.{owner_by_parts, bound, doing, fits_at}
+use Rattle.blocking_lanes.proofs.owners.States.{gone_is, is_lent, lent, looks_lent, may_be_asked, open_lent}
+use Rattle.blocking_lanes.proofs.owners.ReadJobs as read_job
+use Rattle.blocking_lanes.proofs.owners.WriteJobs as write_job
 use Rattle.blocking_lanes.proofs.owners.Steps.{its_last}
-use Rattle.blocking_lanes.proofs.owners.Wakes.{session_is_last}
 
 -- ---- its poll
 
@@ -85,6 +83,8 @@ rest_at bytes asked (stage.Polls p) last cut t = ap is_poll_over (polled_is byte
     by_next action.PollSlot is = sym (ap (λ a. is_rest (next_by a last)) (doing p t.stage.1 ∙ is))
     by_next action.DropHandle is = sym (ap (λ a. is_rest (next_by a last)) (doing p t.stage.1 ∙ is))
     by_next (action.Reply r) is = sym (ap (λ a. is_rest (next_by a last)) (doing p t.stage.1 ∙ is) ∙ to_say (reply_as r) (fits_at bytes asked p cut last (action.Reply r) t is).0)
+    by_next action.Receive is = absurd (fits_at bytes asked p cut last action.Receive t is)
+    by_next action.PollResult is = absurd (fits_at bytes asked p cut last action.PollResult t is)
     by_next action.Deliver is = absurd (fits_at bytes asked p cut last action.Deliver t is)
     by_next action.Pending is = absurd (fits_at bytes asked p cut last action.Pending t is)
 
@@ -94,17 +94,17 @@ rests_next owner cut t = rest_at owner.capacity owner.asked owner.stage owner.se
 
 rests_at : (bytes : ℕ) (asked : Option HandleCall) (here : OwnerStage) (last : Option Session) (cut : List Event) → OwnerAs (owner_by_parts bytes asked here last) cut
     → sessions.rests (own cut) ≡ rests (owner_by_parts bytes asked here last)
-rests_at bytes asked (stage.Rests st) last cut t = rw (t.made, t.gone, t.polled) refl
-rests_at bytes asked (stage.Polls p) last cut t = rw (t.made, t.gone, polled_is bytes asked p last cut t) refl
-rests_at bytes asked (stage.Wakes p note) last cut t = rw (t.made, t.gone, woken_is bytes asked p note last cut t) refl
-rests_at bytes asked stage.Dropped last cut t = rw (t.made, t.gone) refl
+rests_at bytes asked (stage.Rests st) last cut t = rw (t.made, gone_known (own cut) t.calls ∙ t.gone, t.polled) refl
+rests_at bytes asked (stage.Polls p) last cut t = rw (t.made, gone_known (own cut) t.calls ∙ t.gone, polled_is bytes asked p last cut t) refl
+rests_at bytes asked (stage.Wakes p note) last cut t = rw (t.made, gone_known (own cut) t.calls ∙ t.gone, woken_is bytes asked p note last cut t) refl
+rests_at bytes asked stage.Dropped last cut t = rw (t.made, gone_known (own cut) t.calls ∙ t.gone) refl
 
 -- and it rests where the law says
 pub rests_is : (owner : Owner) (cut : List Event) → OwnerAs owner cut → sessions.rests (own cut) ≡ rests owner
 rests_is owner cut t = rests_at owner.capacity owner.asked owner.stage owner.session cut t
 
 asked_at : (bytes : ℕ) (asked : Option HandleCall) (here : OwnerStage) (last : Option Session) (cut : List Event) (call : HandleCall) → OwnerAs (owner_by_parts bytes asked here last) cut
-    → sessions.may_ask (own cut) call ≡ may_ask (owner_by_parts bytes asked here last) call
+    → (sessions.rests (own cut) && (not (sessions.is_closed (own cut)) || is_for_closed call)) ≡ may_ask_at here call
 asked_at bytes asked (stage.Rests st) last cut call t =
     ap (λ b. b && (not (sessions.is_closed (own cut)) || is_for_closed call)) (rests_at bytes asked (stage.Rests st) last cut t)
     ∙ ap (λ b. not b || is_for_closed call) (gone_is (own cut) st t.stage.0) ∙ may_be_asked st call
@@ -115,34 +115,15 @@ asked_at bytes asked (stage.Wakes p note) last cut call t =
 asked_at bytes asked stage.Dropped last cut call t =
     ap (λ b. b && (not (sessions.is_closed (own cut)) || is_for_closed call)) (rests_at bytes asked stage.Dropped last cut t)
 
--- and there it may be asked for what the law says
-pub may_ask_is : (owner : Owner) (cut : List Event) (call : HandleCall) → OwnerAs owner cut → sessions.may_ask (own cut) call ≡ may_ask owner call
-may_ask_is owner cut call t = asked_at owner.capacity owner.asked owner.stage owner.session cut call t
+-- and there it may be asked for what the law says, of what owners are asked for
+pub may_ask_is : (owner : Owner) (cut : List Event) (call : HandleCall) → OwnerAs owner cut → (is_known call && sessions.may_ask (own cut) call) ≡ may_ask owner call
+may_ask_is owner cut call t = by (is_known call) refl
+  where
+    by : (b : Bool) → is_known call ≡ b → (b && sessions.may_ask (own cut) call) ≡ (b && may_ask_at owner.stage call)
+    by false is = refl
+    by true is = may_ask_known (own cut) call t.calls is ∙ asked_at owner.capacity owner.asked owner.stage owner.session cut call t
 
 -- ---- what it does is there to be done
-
--- whether the handle is with a job
-abbrev is_lent : State → Bool
-is_lent (state.Reading end) = true
-is_lent (state.Writing end) = true
-is_lent _ = false
-
-lent_goes_on : (acts : List Act) (st : State) → is_lent st ≡ true → sessions.state acts ≡ state_as st → is_none (sessions.session acts) ≡ false
-lent_goes_on acts (state.Reading Open) is at = (lent_at acts Reading true at).2
-lent_goes_on acts (state.Reading Shut) is at = (lent_at acts Reading false at).2
-lent_goes_on acts (state.Writing Open) is at = (lent_at acts Writing true at).2
-lent_goes_on acts (state.Writing Shut) is at = (lent_at acts Writing false at).2
-lent_goes_on acts state.Idle is at = absurd (cc)
-lent_goes_on acts state.Closed is at = absurd (cc)
-
--- a handle that is lent is lent to the last session's job
-lent : (last : Option Session) (bytes : ℕ) (cut : List Event) (st : State) → LastAs last bytes cut → sessions.state (own cut) ≡ state_as st → is_lent st ≡ true → is_some last ≡ true
-lent (Some s) bytes cut st l at is = refl
-lent None bytes cut st l at is = absurd (none (sessions.session (own cut)) refl (lent_goes_on (own cut) st is at))
-  where
-    none : (r : Option sessions.Session) → sessions.session (own cut) ≡ r → is_none (sessions.session (own cut)) ≡ false → ⊥
-    none (Some r) is goes = let began = sym (session_is_last (own cut) r is) ∙ l.0 in cc
-    none None is goes = let over = ap is_none is in cc
 
 look_some : (content : Content (Option (Fault ℕ))) (finished given_up back : Bool) (why : Option (Fault ℕ)) (p : OwnerMachine ℕ) (s : Session) (owner : Owner)
     → SlotAs content finished given_up back why → given_up ≡ false → is_some (look_did (looked_as content) p s owner) ≡ true
@@ -150,17 +131,6 @@ look_some Empty finished given_up back why p s owner slot stays = refl
 look_some (Full found) finished given_up back why p s owner slot stays = refl
 look_some GivenUp finished given_up back why p s owner slot stays = absurd (let gave = slot.1 in cc)
 look_some (Abandoned over) finished given_up back why p s owner slot stays = absurd slot
-
-looks_lent : (c : HandleCall) (st : State) (ended : Bool) → LooksFrom c st ended → is_lent st ≡ true
-looks_lent c state.Idle ended looks = absurd looks
-looks_lent c (state.Reading end) ended looks = refl
-looks_lent c (state.Writing end) ended looks = refl
-looks_lent c state.Closed ended looks = absurd looks
-
-open_lent : (st : State) → IsLentOpen st → is_lent st ≡ true
-open_lent (state.Reading Open) opened = refl
-open_lent (state.Writing Open) opened = refl
-open_lent _ opened = absurd opened
 
 told_some : (told : Option Told) (p : OwnerMachine ℕ) (owner : Owner) → is_some told ≡ true → is_some (reply_did told p owner) ≡ true
 told_some None p owner known = absurd (cc)
@@ -175,10 +145,7 @@ fill_some p (Some (handle_call.Write [])) last owner offered asks some there =
     let none : [] ≡ offered = cc in
     let count = ap (λ (l : List ℕ). length l) none in
     absurd (omega (arith, count, some))
-fill_some p (Some (handle_call.Read n)) last owner offered asks some there = absurd (cc)
-fill_some p (Some handle_call.Flush) last owner offered asks some there = absurd (cc)
-fill_some p (Some handle_call.Close) last owner offered asks some there = absurd (cc)
-fill_some p (Some handle_call.GetMut) last owner offered asks some there = absurd (cc)
+fill_some p (Some _) last owner offered asks some there = absurd (cc)
 fill_some p None last owner offered asks some there = absurd (cc)
 
 some_by : (bytes : ℕ) (asked : Option HandleCall) (p : OwnerMachine ℕ) (cut : List Event) (a : OwnerAction ℕ) (last : Option Session) → OwnerAs (owner_by_parts bytes asked (stage.Polls p) last) cut
@@ -209,9 +176,7 @@ some_by bytes asked p cut (action.Drain most) None t is n e =
 some_by bytes asked p cut action.PollSlot None t is n e =
     let fits = fits_at bytes asked p cut None action.PollSlot t is in
     lent None (bound bytes) cut p.state t.last t.stage.0.at_is (looks_lent t.stage.0.call p.state p.is_at_end fits.0)
-some_by bytes asked p cut action.Begin last t is n e = absurd (cc)
-some_by bytes asked p cut action.Deliver last t is n e = absurd (cc)
-some_by bytes asked p cut action.Pending last t is n e = absurd (cc)
+some_by bytes asked p cut _ last t is n e = absurd (cc)
 
 some_at : (bytes : ℕ) (asked : Option HandleCall) (here : OwnerStage) (last : Option Session) (cut : List Event) → OwnerAs (owner_by_parts bytes asked here last) cut → (n : ℕ)
     → next_at here last ≡ Acts n → is_some (did (owner_by_parts bytes asked here last)) ≡ true

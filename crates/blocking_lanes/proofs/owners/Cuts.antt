@@ -5,44 +5,22 @@ use Rattle.std.proofs.lemmas.Bool.{eq-eqb}
 use Rattle.std.proofs.Math.Seq.{drop-append_seam}
 use Rattle.blocking_core.specs.Places.{Met, Served, Waiting, Closed, drain}
 use Rattle.blocking_core.specs.Pipes.{room}
-use Rattle.blocking_core.specs.declared.unblock.OwnerEnd.TheVariants.{Open, Shut}
-use Rattle.blocking_core.specs.declared.unblock.State.{State}
-use Rattle.blocking_core.specs.declared.unblock.State.TheVariants as state
-use Rattle.blocking_laws.specs.JobTable.{Kind, Calling, Reading, Writing, JobAction, next_but_wake, fault, has_closed}
+use Rattle.blocking_laws.specs.JobTable.{Kind, Reading, Writing, JobAction, next_but_wake, fault, number, has_closed}
 use Rattle.blocking_laws.specs.OwnerSeats.{note_of, noted, is_job_seated}
 use Rattle.blocking_laws.specs.OwnerTable.{owner_next_but_wake, next_of_owner, next_of_owner_by, deliver_first, at_back, after_back, is_at_end}
-use Rattle.blocking_laws.specs.Passed.{inside, inside_by, last_job, kind_in, room_in, gave, got, accepted, taken, is_of_session, PassesOn}
+use Rattle.blocking_laws.specs.Passed.{inside, inside_by, last_job, last_kind, kind_in, in_hand, room_in, gave, got, accepted, taken, is_of_session, PassesOn}
 use Rattle.blocking_laws.specs.Places.{seen_drain}
 use Rattle.blocking_laws.specs.Seen.{IsBeginning, own, acts_of, is_of_pool, is_nothing, is_some_worker}
-use Rattle.blocking_laws.specs.Sessions.{call, last_session, is_shut, capacity, kind_of_job}
+use Rattle.blocking_laws.specs.Sessions.{call, last_session, is_shut, capacity, default_capacity, kind_of_job}
 use Rattle.blocking_laws.specs.Sessions as sessions
 use Rattle.blocking_laws.specs.declared.event.Act.{Act}
 use Rattle.blocking_laws.specs.declared.event.Act.TheVariants.{Accepted, Got, GotEnd, Waits, JobWoken, Back}
 use Rattle.blocking_laws.specs.declared.event.Event.{Event}
 use Rattle.blocking_laws.specs.declared.step.HandleCall.{HandleCall}
-use Rattle.blocking_lanes.specs.OwnerTies.{LastAs, Flows, newest_note, seat_of, state_as}
+use Rattle.blocking_lanes.specs.OwnerTies.{LastAs, Flows, newest_note, seat_of}
 use Rattle.blocking_lanes.specs.Sessions.{Session, serial_of}
 use Rattle.blocking_pool.specs.Jobs.{JobNumber}
-
--- ---- where the handle is
-
-open_by : (b : Bool) (r : Option sessions.Session) (shut : Bool) (st : State) → sessions.state_by b r shut ≡ state_as st → (st ≡ state.Closed → ⊥) → b ≡ false
-open_by false r shut st e other = refl
-open_by true r shut state.Idle e other = absurd (cc)
-open_by true r shut (state.Reading Open) e other = absurd (cc)
-open_by true r shut (state.Reading Shut) e other = absurd (cc)
-open_by true r shut (state.Writing Open) e other = absurd (cc)
-open_by true r shut (state.Writing Shut) e other = absurd (cc)
-open_by true r shut state.Closed e other = absurd (other refl)
-
--- the handle wasn't closed, where the owner's machine says where it is and doesn't say that it is gone
-pub is_open : (acts : List Act) (st : State) → sessions.state acts ≡ state_as st → (st ≡ state.Closed → ⊥) → sessions.is_closed acts ≡ false
-is_open acts st e other = open_by (sessions.is_closed acts) (sessions.session acts) (is_shut acts) st e other
-
--- so it is with its owner, or with a job
-pub state_is : (acts : List Act) (st : State) → sessions.state acts ≡ state_as st → (st ≡ state.Closed → ⊥)
-    → sessions.state acts ≡ sessions.state_in (sessions.session acts) (is_shut acts)
-state_is acts st e other = ap (λ b. sessions.state_by b (sessions.session acts) (is_shut acts)) (is_open acts st e other)
+use Rattle.blocking_lanes.proofs.owners.Known.{same_capacity}
 
 -- ---- the last session
 
@@ -69,27 +47,33 @@ module _ (s : Session) (shut : Bool) (next : JobAction) (owner acts : List Act) 
   inside_at : (kind : Kind) → Flows kind s shut (got owner) (accepted owner) next acts → inside_by kind owner acts ≡ s.pipe.items
   inside_at Reading t = ap (λ l. drop (length (got owner)) l) t.inside ∙ drop-append_seam (got owner) s.pipe.items
   inside_at Writing t = ap (λ n. drop n (accepted owner)) t.removed ∙ ap (λ l. drop (length t.out) l) t.inside ∙ drop-append_seam t.out s.pipe.items
-  inside_at Calling t = absurd t
+  inside_at _ t = absurd t
 
   closed_at : (kind : Kind) → Flows kind s shut (got owner) (accepted owner) next acts → has_closed acts ≡ not s.pipe.is_job_open
   closed_at Reading t = t.closed_is
   closed_at Writing t = t.closed_is
-  closed_at Calling t = absurd t
+  closed_at _ t = absurd t
 
   read_at : (kind : Kind) → Flows kind s shut (got owner) (accepted owner) next acts → IsBeginning (got owner) (gave acts)
   read_at Reading t = (s.pipe.items ++ t.put.0, t.put.1 ∙ ap (λ l. l ++ t.put.0) t.inside ∙ append_assoc (got owner) s.pipe.items t.put.0)
   read_at Writing t = (gave acts, ap (λ l. l ++ gave acts) (sym t.ungot))
-  read_at Calling t = absurd t
+  read_at _ t = absurd t
 
   written_at : (kind : Kind) → Flows kind s shut (got owner) (accepted owner) next acts → IsBeginning (taken acts) (accepted owner)
   written_at Reading t = (accepted owner, ap (λ l. l ++ accepted owner) (sym t.unwritten))
   written_at Writing t = t.begun
-  written_at Calling t = absurd t
+  written_at _ t = absurd t
 
   bounded_at : (kind : Kind) → Flows kind s shut (got owner) (accepted owner) next acts → length (gave acts) ≤ length (got owner) + s.pipe.capacity
   bounded_at Reading t = t.bounded
   bounded_at Writing t = subst (λ l. length l ≤ length (got owner) + s.pipe.capacity) (sym t.ungiven) (omega arith)
-  bounded_at Calling t = absurd t
+  bounded_at _ t = absurd t
+
+  -- its pipe holds bytes
+  bytes_at : (kind : Kind) → Flows kind s shut (got owner) (accepted owner) next acts → default_capacity kind ≡ default_capacity Reading
+  bytes_at Reading t = refl
+  bytes_at Writing t = refl
+  bytes_at _ t = absurd t
 
 module _ (s : Session) (bytes : ℕ) (cut : List Event) (t : LastAs (Some s) bytes cut) where
   -- the kind of the session
@@ -112,8 +96,12 @@ module _ (s : Session) (bytes : ℕ) (cut : List Event) (t : LastAs (Some s) byt
   pub inside_is : inside cut ≡ s.pipe.items
   inside_is = ap (λ l. inside_by its_kind (own cut) l) its_job ∙ inside_at s (is_shut (own cut)) next (own cut) acts its_kind t.flow
 
-  pub room_is : capacity (own cut) ≡ bytes → room_in cut ≡ room s.pipe
-  room_is same = ap (λ (l : List ℕ). capacity (own cut) - length l) inside_is ∙ ap (λ n. n - length s.pipe.items) (same ∙ sym t.lent.holds)
+  -- how much the pipe holds
+  pub capacity_is : capacity Reading (own cut) ≡ bytes → capacity (last_kind cut) (own cut) ≡ bytes
+  capacity_is same = same_capacity its_kind (own cut) (bytes_at s (is_shut (own cut)) next (own cut) acts its_kind t.flow) ∙ same
+
+  pub room_is : capacity Reading (own cut) ≡ bytes → room_in cut ≡ room s.pipe
+  room_is same = ap (λ (l : List ℕ). capacity its_kind (own cut) - length l) inside_is ∙ ap (λ n. n - length s.pipe.items) (capacity_is same ∙ sym t.lent.holds)
 
   -- which ends are open
   pub closed_is : has_closed acts ≡ not s.pipe.is_job_open
@@ -149,12 +137,12 @@ of_none (e ∷ seen) = no_more (is_of_session None e) e (filter (is_of_session N
     out false false false = refl
 
 -- what passed is what the tie says
-pub passes : (last : Option Session) (bytes : ℕ) (cut : List Event) → capacity (own cut) ≡ bytes → LastAs last bytes cut → PassesOn cut
+pub passes : (last : Option Session) (bytes : ℕ) (cut : List Event) → capacity Reading (own cut) ≡ bytes → LastAs last bytes cut → PassesOn cut
 passes None bytes cut same t = record {
   read = (gave (last_job cut), ap (λ l. gave (last_job cut)) t.0 ∙ ap (λ l. l ++ gave (last_job cut)) (sym t.1));
   written = (accepted (own cut), ap (λ l. l ++ accepted (own cut)) (sym (ap (λ r. taken (map (λ e. e.act) (filter (is_of_session r) cut))) t.0 ∙ ap (λ l. taken (map (λ e. e.act) l)) (of_none cut))));
-  within = subst (λ l. length l ≤ capacity (own cut)) (sym (ap (λ l. inside_by (kind_in l) (own cut) (last_job cut)) t.0)) (omega arith);
-  bounded = subst (λ l. length (gave l) ≤ length (got (own cut)) + capacity (own cut))
+  within = subst (λ l. length l ≤ capacity (last_kind cut) (own cut)) (sym (ap (λ l. inside_by (kind_in l) (own cut) (last_job cut)) t.0)) (omega arith);
+  bounded = subst (λ l. length (gave l) ≤ length (got (own cut)) + capacity (last_kind cut) (own cut) + in_hand (last_kind cut))
       (sym (ap (λ l. map (λ e. e.act) (filter (is_of_session l) cut)) t.0 ∙ ap (λ l. map (λ e. e.act) l) (of_none cut))) (omega arith);
 }
 passes (Some s) bytes cut same t =
@@ -166,11 +154,12 @@ passes (Some s) bytes cut same t =
     let next = next_but_wake kind acts in
     let job = its_job s bytes cut t in
     let bounded = bounded_at s shut next (own cut) acts kind t.flow in
+    let whole = capacity_is s bytes cut t same in
     record {
       read = subst (λ l. IsBeginning (got (own cut)) (gave l)) (sym job) (read_at s shut next (own cut) acts kind t.flow);
       written = subst (λ l. IsBeginning (taken l) (accepted (own cut))) (sym job) (written_at s shut next (own cut) acts kind t.flow);
-      within = subst (λ l. length l ≤ capacity (own cut)) (sym (inside_is s bytes cut t)) (omega (arith, within, same));
-      bounded = subst (λ l. length (gave l) ≤ length (got (own cut)) + capacity (own cut)) (sym job) (omega (arith, bounded, holds, same));
+      within = subst (λ l. length l ≤ capacity kind (own cut)) (sym (inside_is s bytes cut t)) (omega (arith, within, whole));
+      bounded = subst (λ l. length (gave l) ≤ length (got (own cut)) + capacity kind (own cut) + in_hand kind) (sym job) (omega (arith, bounded, holds, whole));
     }
 
 -- ---- what comes next
@@ -183,8 +172,9 @@ next_with cut = by_acts (own cut)
     by_acts [] = refl
     by_acts (act ∷ past) = refl
 
--- What is next stays where the faults of jobs do: they matter once the handle is back.
-pub next_stays : (new old : List Event) (acts : List Act) → (is_none (sessions.session acts) ≡ true → (k : Kind) (s : ℕ) → fault k (acts_of s new) ≡ fault k (acts_of s old))
+-- What is next stays where the faults of jobs and their numbers do: they matter once the handle is back.
+pub next_stays : (new old : List Event) (acts : List Act)
+    → (is_none (sessions.session acts) ≡ true → (k : Kind) (s : ℕ) → (fault k (acts_of s new) ≡ fault k (acts_of s old)) × (number (acts_of s new) ≡ number (acts_of s old)))
     → owner_next_but_wake new acts ≡ owner_next_but_wake old acts
 next_stays new old [] same = refl
 next_stays new old (Back ∷ past) same = back (call past) (last_session past)
@@ -192,7 +182,9 @@ next_stays new old (Back ∷ past) same = back (call past) (last_session past)
     back : (asked : Option HandleCall) (r : Option sessions.Session) → at_back asked r (is_at_end past) new ≡ at_back asked r (is_at_end past) old
     back None r = refl
     back (Some c) None = refl
-    back (Some c) (Some r) = ap (λ f. after_back c f (is_at_end past)) (same refl r.kind r.serial)
+    back (Some c) (Some r) =
+        ap (λ f. after_back c f (is_at_end past) r.kind (number (acts_of r.serial new))) (same refl r.kind r.serial).0
+        ∙ ap (λ n. after_back c (fault r.kind (acts_of r.serial old)) (is_at_end past) r.kind n) (same refl r.kind r.serial).1
 next_stays new old (JobWoken s woke ∷ past) same = next_stays new old past same
 next_stays new old (_ ∷ past) same = refl
 

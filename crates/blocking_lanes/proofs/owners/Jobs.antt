@@ -25,11 +25,11 @@ use Rattle.blocking_lanes.specs.Writes as writes
 use Rattle.blocking_lanes.specs.Writes.{WriteAs}
 use Rattle.blocking_lanes.specs.declared.job.SessionJob.{SessionJob}
 use Rattle.blocking_lanes.specs.declared.job.SessionJob.TheVariants as of_job
-use Rattle.blocking_lanes.proofs.owners.Own.{value_of}
-use Rattle.blocking_lanes.proofs.owners.Reads as of_reader
-use Rattle.blocking_lanes.proofs.owners.Sessions.{some_room}
-use Rattle.blocking_lanes.proofs.owners.Writers.{some_piece}
-use Rattle.blocking_lanes.proofs.owners.Writes as of_writer
+use Rattle.blocking_lanes.proofs.owners.OwnerActs.{value_of}
+use Rattle.blocking_lanes.proofs.owners.ReadJobs as of_reader
+use Rattle.blocking_lanes.proofs.owners.ReadSessions.{some_room}
+use Rattle.blocking_lanes.proofs.owners.WriteSessions.{some_piece}
+use Rattle.blocking_lanes.proofs.owners.WriteJobs as of_writer
 
 -- what a job takes of wakers is what is seen
 taken_is : (b : Bool) → b ≡ is_taken (waker_in b)

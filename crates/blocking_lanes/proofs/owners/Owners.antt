@@ -27,8 +27,8 @@ use Rattle.blocking_lanes.specs.declared.job.SessionJob.{SessionJob}
 use Rattle.blocking_pool.proofs.Places.{got_same, got_other, in_pushed}
 use Rattle.blocking_lanes.proofs.owners.Cuts.{passes}
 use Rattle.blocking_lanes.proofs.owners.Jobs.{worked_on}
-use Rattle.blocking_lanes.proofs.owners.Own.{Goes}
-use Rattle.blocking_lanes.proofs.owners.Plain.{IsPlain, brought, plain_of}
+use Rattle.blocking_lanes.proofs.owners.OwnerActs.{Goes}
+use Rattle.blocking_lanes.proofs.owners.Events.{IsPlain, brought, plain_of}
 use Rattle.blocking_lanes.proofs.owners.Steps.{IsNewTo, step_goes, law_of}
 
 -- ---- one more event
@@ -141,6 +141,7 @@ new_tied h capacity first growth = record {
   asked = refl;
   polled = refl;
   bytes = refl;
+  calls = tt;
   stage = (refl, refl, refl);
   last = (refl, refl, refl);
   ended = λ is_end. absurd (cc);

@@ -12,7 +12,7 @@ use Rattle.blocking_core.specs.declared.job.write.WriteAction.TheVariants as wri
 use Rattle.blocking_core.specs.declared.unblock.OwnerAction.{OwnerAction}
 use Rattle.blocking_core.specs.declared.unblock.OwnerAction.TheVariants as action
 use Rattle.blocking_laws.specs.Ends.{came_back}
-use Rattle.blocking_laws.specs.JobTable.{Kind, Reading, Writing, JobAction, WakeHolder, next_but_wake, next_of_job, is_answer, is_over, fault}
+use Rattle.blocking_laws.specs.JobTable.{Kind, Reading, Writing, JobAction, WakeHolder, next_but_wake, next_of_job, is_answer, is_over, fault, number}
 use Rattle.blocking_laws.specs.OwnerLaws.{OwnerLaw, Works}
 use Rattle.blocking_laws.specs.OwnerSeats.{is_job_seated, pipe_seat, slot_seat}
 use Rattle.blocking_laws.specs.OwnerTable.{owner_next_but_wake}
@@ -22,6 +22,7 @@ use Rattle.blocking_laws.specs.Seats.{waker_in}
 use Rattle.blocking_laws.specs.Seen.{own, acts_of}
 use Rattle.blocking_laws.specs.Sessions.{jobs_of, kind_of_job}
 use Rattle.blocking_laws.specs.Sessions as sessions
+use Rattle.blocking_laws.specs.Steps.{is_known}
 use Rattle.std.specs.Prelude.{is_none}
 use Rattle.blocking_laws.specs.declared.event.Act.{Act}
 use Rattle.blocking_laws.specs.declared.event.Act.TheVariants.{Answered, GaveUp, HolderWoken}
@@ -31,7 +32,7 @@ use Rattle.blocking_laws.specs.declared.step.Answer.{Answer}
 use Rattle.blocking_laws.specs.declared.step.HandleCall.{HandleCall}
 use Rattle.blocking_pool.specs.Growth.{Growth}
 use Rattle.blocking_pool.specs.Lists.{is_in}
-use Rattle.blocking_lanes.specs.Owners.{Owner, Did, Worked, capacity_of, is_gone, next_at, next_by, next_to_say, reply_as, did, read_as, read_in, write_as, write_in, worked, worked_by, giving_up_wakes, without_job}
+use Rattle.blocking_lanes.specs.Owners.{Owner, Did, Worked, capacity_of, may_call_at, is_gone, next_at, next_by, next_to_say, reply_as, did, read_as, read_in, write_as, write_in, worked, worked_by, giving_up_wakes, without_job}
 use Rattle.blocking_lanes.specs.OwnerSteps.{OwnerStep, IsAsked, Acts, Begins, IsRefused, Delivers, IsDropped, Works as DoesWork, IsAnswered, GivesUp, CallsWaker, MayTake, act_in, act_of, act_of_work, owner_in, owner_after, owner_after_work, event_by, by_owner, by_its_job, is_of_its_job}
 use Rattle.blocking_lanes.specs.OwnerTies.{OwnerAs, StageBy, LastAs, SessionAs, newest_note}
 use Rattle.blocking_lanes.specs.Reads as reads
@@ -46,12 +47,13 @@ use Rattle.blocking_lanes.specs.declared.owner.OwnerNext.TheVariants as next
 use Rattle.blocking_lanes.specs.declared.owner.OwnerStage.{OwnerStage}
 use Rattle.blocking_lanes.specs.declared.owner.OwnerStage.TheVariants as stage
 use Rattle.blocking_lanes.proofs.owners.Cuts.{its_kind, kind_is, next_stays, passes}
-use Rattle.blocking_lanes.proofs.owners.OfJob.{WorksOn, room_works, put_works, close_works, finish_works, answer_goes, give_up_goes, peek_works, consume_works, writer_close_works, writer_finish_works, writer_answer_goes, asking_goes}
-use Rattle.blocking_lanes.proofs.owners.Own.{Goes, owner_by_parts, bound, value_of, doing, own_goes}
-use Rattle.blocking_lanes.proofs.owners.Pooled.{ask_goes, drop_goes, refuse_goes, deliver_goes, begin_goes}
-use Rattle.blocking_lanes.proofs.owners.Reads as of_reader
-use Rattle.blocking_lanes.proofs.owners.Writes as of_writer
-use Rattle.blocking_lanes.proofs.owners.Sessions.{calls}
+use Rattle.blocking_lanes.proofs.owners.JobActs.{WorksOn, room_works, put_works, close_works, finish_works, answer_goes, give_up_goes, peek_works, consume_works, writer_close_works, writer_finish_works, writer_answer_goes, asking_goes}
+use Rattle.blocking_lanes.proofs.owners.Known.{both_true}
+use Rattle.blocking_lanes.proofs.owners.OwnerActs.{Goes, owner_by_parts, bound, value_of, doing, own_goes}
+use Rattle.blocking_lanes.proofs.owners.PoolAnswers.{ask_goes, drop_goes, refuse_goes, deliver_goes, begin_goes}
+use Rattle.blocking_lanes.proofs.owners.ReadJobs as of_reader
+use Rattle.blocking_lanes.proofs.owners.WriteJobs as of_writer
+use Rattle.blocking_lanes.proofs.owners.ReadSessions.{calls}
 
 -- ---- a waker is called
 
@@ -91,8 +93,9 @@ module _ (bytes : ℕ) (asked : Option HandleCall) (here : OwnerStage) (last : O
       asked = t.asked;
       polled = t.polled;
       bytes = t.bytes;
+      calls = t.calls;
       stage = subst (λ next. StageBy here (sessions.call (own cut)) (sessions.state (own cut)) next (law.is_at_end (own cut)) (came_back cut) (newest_note (own cut)))
-          (sym (next_stays (woken ∷ cut) cut (own cut) (λ back k m. same_of (fault k) (λ l. refl) m))) t.stage;
+          (sym (next_stays (woken ∷ cut) cut (own cut) (λ back k m. (same_of (fault k) (λ l. refl) m, same_of number (λ l. refl) m)))) t.stage;
       last = woken_last last t.last;
       ended = t.ended;
       earlier = λ m of other. same_of (next_but_wake (kind_of_job m (own cut))) (λ l. refl) m ∙ t.earlier m of other;
@@ -277,18 +280,12 @@ pub record IsAllowed (step : OwnerStep) (owner : Owner) (n : ℕ) (cut : List Ev
 
 begins_by : (a : OwnerAction ℕ) (last : Option Session) → next_by a last ≡ next.Begins → a ≡ action.Begin
 begins_by action.Begin last e = refl
-begins_by action.Close last e = absurd (cc)
-begins_by (action.Drain most) last e = absurd (cc)
-begins_by action.PollSlot last e = absurd (cc)
-begins_by action.Deliver last e = absurd (cc)
 begins_by (action.Reply r) last e = absurd (never (reply_as r) e)
   where
     never : (told : Option Told) → next_to_say told ≡ next.Begins → ⊥
     never None e = cc
     never (Some told) e = cc
-begins_by action.Pending last e = absurd (cc)
-begins_by (action.Fill most) last e = absurd (cc)
-begins_by action.DropHandle last e = absurd (cc)
+begins_by _ last e = absurd (cc)
 
 pub begins_at : (bytes : ℕ) (asked : Option HandleCall) (p : OwnerMachine ℕ) (last : Option Session) (cut : List Event) → OwnerAs (owner_by_parts bytes asked (stage.Polls p) last) cut
     → next_at (stage.Polls p) last ≡ next.Begins → p.next ≡ action.Begin
@@ -330,10 +327,11 @@ module _ (bytes : ℕ) (asked : Option HandleCall) (last : Option Session) (h v 
   step_by : (step : OwnerStep) (here : OwnerStage) → OwnerAs (owner_by_parts bytes asked here last) cut → IsAllowed step (owner_by_parts bytes asked here last) n cut
       → act_of step (owner_by_parts bytes asked here last) ≡ Some act → Goes (owner_after step (owner_by_parts bytes asked here last)) cut (event_by step h v n act first growth)
   step_by (IsAsked call) (stage.Rests st) t w seen =
-      subst (λ a. Goes (owner_after (IsAsked call) (owner_by_parts bytes asked (stage.Rests st) last)) cut (by_owner h a first growth)) (ap (value_of act) seen) (ask_goes bytes asked st last h first growth cut call w.may t)
-  step_by (IsAsked call) (stage.Polls p) t w seen = absurd (let no = w.may in cc)
-  step_by (IsAsked call) (stage.Wakes p note) t w seen = absurd (let no = w.may in cc)
-  step_by (IsAsked call) stage.Dropped t w seen = absurd (let no = w.may in cc)
+      let may = both_true (is_known call) (may_call_at st call) w.may in
+      subst (λ a. Goes (owner_after (IsAsked call) (owner_by_parts bytes asked (stage.Rests st) last)) cut (by_owner h a first growth)) (ap (value_of act) seen) (ask_goes bytes asked st last h first growth cut call may.0 may.1 t)
+  step_by (IsAsked call) (stage.Polls p) t w seen = absurd (let no = (both_true (is_known call) false w.may).1 in cc)
+  step_by (IsAsked call) (stage.Wakes p note) t w seen = absurd (let no = (both_true (is_known call) false w.may).1 in cc)
+  step_by (IsAsked call) stage.Dropped t w seen = absurd (let no = (both_true (is_known call) false w.may).1 in cc)
   step_by Acts here t w seen = by_did (did (owner_by_parts bytes asked here last)) refl seen
     where
       by_did : (o : Option Did) → did (owner_by_parts bytes asked here last) ≡ o → act_in o ≡ Some act → Goes (owner_in o (owner_by_parts bytes asked here last)) cut (by_owner h act first growth)

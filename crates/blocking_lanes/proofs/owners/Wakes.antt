@@ -5,7 +5,7 @@ use Rattle.std.proofs.lemmas.Bool.{or_left, or_right, eq-eqb}
 use Rattle.blocking_core.specs.Places.{Served, Waiting, drain, fill}
 use Rattle.blocking_core.specs.Slots.{Content, Empty, Full, GivenUp, Abandoned}
 use Rattle.blocking_core.specs.declared.io.Fault.{Fault}
-use Rattle.blocking_laws.specs.JobTable.{Kind, Calling, Reading, Writing, JobAction, FindRoom, Peek, next_but_wake, is_over, fault, has_finished, has_given_up, has_closed}
+use Rattle.blocking_laws.specs.JobTable.{Kind, Reading, Writing, JobAction, FindRoom, Peek, next_but_wake, is_over, fault, has_finished, has_given_up, has_closed}
 use Rattle.std.specs.Prelude.{not}
 use Rattle.blocking_laws.specs.OwnerLaws.{OwnerActs, Polls}
 use Rattle.blocking_laws.specs.OwnerSeats.{is_job_seated, job_seated_by, note_of, noted}
@@ -24,38 +24,33 @@ use Rattle.blocking_laws.specs.declared.event.Event.{Event}
 use Rattle.blocking_lanes.specs.Owners.{Owner, capacity_of}
 use Rattle.blocking_lanes.specs.OwnerTies.{OwnerAs, LastAs, SlotAs, Flows, IsStuckIn, IsOwnerStuckIn, is_finding, seat_of, is_seated}
 use Rattle.blocking_lanes.specs.Sessions.{Session}
-use Rattle.blocking_lanes.proofs.owners.Cuts.{inside_is}
-
--- the session that isn't over is the last one
-pub session_is_last : (acts : List Act) (r : sessions.Session) → session acts ≡ Some r → last_session acts ≡ Some r
-session_is_last [] r e = absurd (cc)
-session_is_last (Back ∷ past) r e = absurd (cc)
-session_is_last (Accepted s ∷ past) r e = e
-session_is_last (_ ∷ past) r e = session_is_last past r e
+use Rattle.blocking_lanes.proofs.owners.Cuts.{inside_is, capacity_is}
+use Rattle.blocking_lanes.proofs.owners.States.{session_is_last}
 
 -- ---- what a job and its owner find, by the kind of the session
 
 module _ (s : Session) (shut : Bool) (took written : List ℕ) (acts : List Act) where
   -- a job that looks for room, or for bytes, has its end of the pipe open
   finding_lasts : (kind : Kind) (a : JobAction) → is_finding a ≡ true → Flows kind s shut took written a acts → s.pipe.is_job_open ≡ true
-  finding_lasts Calling a finding flow = absurd flow
   finding_lasts Reading FindRoom finding flow = flow.passed_is.0
   finding_lasts Reading Peek finding flow = absurd flow.passed_is
   finding_lasts Writing Peek finding flow = flow.written_is.0
   finding_lasts Writing FindRoom finding flow = absurd flow.written_is
-  finding_lasts kind _ finding flow = absurd (cc)
+  finding_lasts Reading _ finding flow = absurd (cc)
+  finding_lasts Writing _ finding flow = absurd (cc)
+  finding_lasts _ a finding flow = absurd flow
 
   -- a job that is over has closed its end, unless it gave up
   over_closed : (kind : Kind) (a : JobAction) → Flows kind s shut took written a acts → is_over a ≡ true → s.pipe.is_job_open ≡ true → has_given_up acts ≡ true
-  over_closed Calling a flow over lasts = absurd flow
   over_closed Reading a flow over lasts = flow.unclosed over lasts
   over_closed Writing a flow over lasts = flow.unclosed over lasts
+  over_closed _ a flow over lasts = absurd flow
 
 -- not both can't go on at a pipe that holds something
 not_both : (s : Session) (kind : Kind) → 0 < s.pipe.capacity → IsStuckIn kind s → IsOwnerStuckIn kind s → ⊥
 not_both s Reading some full none = let empty = ap (λ (l : List ℕ). length l) none in absurd (omega (arith, full, empty, some))
-not_both s Calling some full none = let empty = ap (λ (l : List ℕ). length l) none in absurd (omega (arith, full, empty, some))
 not_both s Writing some none full = let empty = ap (λ (l : List ℕ). length l) none in absurd (omega (arith, full, empty, some))
+not_both s _ some full none = let empty = ap (λ (l : List ℕ). length l) none in absurd (omega (arith, full, empty, some))
 
 module _ (s : Session) (capacity : ℕ) (cut : List Event) (t : LastAs (Some s) capacity cut) where
   abbrev works : List Act
@@ -105,21 +100,17 @@ module _ (s : Session) (capacity : ℕ) (cut : List Event) (t : LastAs (Some s) 
           ⊎_elim (λ shut. (let open_is = (t.seats.reason.job there).2 in cc)) (λ closed. (let open_is = lasts in cc)) (t.seats.reason.slot sits).1
 
 -- A job that sits in the pipe can't go on, and its owner's end is open.
-pub seated_reason : (s : Session) (bytes : ℕ) (cut : List Event) → sessions.capacity (own cut) ≡ bytes → LastAs (Some s) bytes cut → is_some s.pipe.job_seat ≡ true → HasReason cut
+pub seated_reason : (s : Session) (bytes : ℕ) (cut : List Event) → sessions.capacity Reading (own cut) ≡ bytes → LastAs (Some s) bytes cut → is_some s.pipe.job_seat ≡ true → HasReason cut
 seated_reason s bytes cut same t seated =
     let reason = t.seats.reason.job seated in
-    (t.lent.shut_is ∙ ap not reason.2, by_kind (kind_in (last_session (own cut))) reason.1)
+    (t.lent.shut_is ∙ ap not reason.2, by_kind (kind_in (last_session (own cut))) (capacity_is s bytes cut t same) reason.1)
   where
-    by_kind : (kind : Kind) → IsStuckIn kind s → IsStuck kind cut
-    by_kind Writing none = inside_is s bytes cut t ∙ none
-    by_kind Reading full =
+    by_kind : (kind : Kind) → sessions.capacity kind (own cut) ≡ bytes → IsStuckIn kind s → IsStuck kind cut
+    by_kind Writing whole none = inside_is s bytes cut t ∙ none
+    by_kind _ whole full =
         let within = t.lent.within in
         let holds = t.lent.holds in
-        ap (λ (l : List ℕ). length l) (inside_is s bytes cut t) ∙ omega (arith, full, within, holds, same)
-    by_kind Calling full =
-        let within = t.lent.within in
-        let holds = t.lent.holds in
-        ap (λ (l : List ℕ). length l) (inside_is s bytes cut t) ∙ omega (arith, full, within, holds, same)
+        ap (λ (l : List ℕ). length l) (inside_is s bytes cut t) ∙ omega (arith, full, within, holds, whole)
 
 -- An owner that waits in a session whose job is over, or sits in its own seat, was woken.
 pub not_lost : (owner : Owner) (cut : List Event) → OwnerAs owner cut → (s : ℕ) → IsSessionOf (session (own cut)) s → is_waiting (own cut) ≡ true
@@ -160,93 +151,3 @@ not_lost owner cut t s of waits rests =
 -- the job is seated, or a wake of it is under way
 abbrev pub IsTold : ℕ → List Event → Type 0
 IsTold s cut = (is_job_seated cut ≡ true) ⊎ (is_waking s (own cut) ≡ true)
-
-drain_told : (n : ℕ) (items : List ℕ) (lasts : Bool) (seat told : Option ℕ) (bytes : List ℕ) → Got bytes told ≡ seen_drain (drain n items lasts seat) → told ≡ seat
-drain_told n [] true seat told bytes e = absurd (cc)
-drain_told n [] false seat told bytes e = absurd (cc)
-drain_told n (x ∷ xs) lasts seat told bytes e = cc
-
-not_drained : (n : ℕ) (items : List ℕ) (lasts : Bool) (seat told : Option ℕ) → OwnerClosed told ≡ seen_drain (drain n items lasts seat) → ⊥
-not_drained n [] true seat told e = cc
-not_drained n [] false seat told e = cc
-not_drained n (x ∷ xs) lasts seat told e = cc
-
-not_looked : (act : Act) (b : Bool) → (act ≡ Back → ⊥) → (act ≡ Waits → ⊥) → act ≡ poll_slot b → ⊥
-not_looked act true back waits e = back e
-not_looked act false back waits e = waits e
-
-drain_fills_none : (n : ℕ) (items : List ℕ) (lasts : Bool) (seat told : Option ℕ) (m : ℕ) → Filled m told ≡ seen_drain (drain n items lasts seat) → ⊥
-drain_fills_none n [] true seat told m e = cc
-drain_fills_none n [] false seat told m e = cc
-drain_fills_none n (x ∷ xs) lasts seat told m e = cc
-
-fill_told : (n free : ℕ) (lasts : Bool) (seat told : Option ℕ) (m : ℕ) → Filled m told ≡ seen_fill (fill n free lasts seat) → told ≡ seat
-fill_told n free false seat told m e = absurd (cc)
-fill_told n free true seat told m e = at (free == 0) e
-  where
-    at : (b : Bool) → Filled m told ≡ seen_fill (if b then Waiting else Served (min n free, seat)) → told ≡ seat
-    at true e = absurd (cc)
-    at false e = cc
-
-not_filled : (act : Act) (n free : ℕ) (lasts : Bool) (seat : Option ℕ) → ((m : ℕ) (told : Option ℕ) → act ≡ Filled m told → ⊥) → (act ≡ Waits → ⊥) → (act ≡ FillShut → ⊥)
-    → act ≡ seen_fill (fill n free lasts seat) → ⊥
-not_filled act n free false seat filled waits shut e = shut e
-not_filled act n free true seat filled waits shut e = at (free == 0) e
-  where
-    at : (b : Bool) → act ≡ seen_fill (if b then Waiting else Served (min n free, seat)) → ⊥
-    at true e = waits e
-    at false e = filled (min n free) seat e
-
--- an act that takes a note takes that of the job which is seated
-got_told : (cut : List Event) (action : OwnerAction) (bytes : List ℕ) (told : Option ℕ) → Polls cut action (Got bytes told) → told ≡ noted cut
-got_told cut (Drain n) bytes told law = drain_told n (inside cut) (not (has_closed (last_job cut))) (noted cut) told bytes law
-got_told cut PollSlot bytes told law = absurd (not_looked (Got bytes told) (has_finished (last_job cut)) (λ e. cc) (λ e. cc) law)
-got_told cut (Fill offered) bytes told law =
-    absurd (not_filled (Got bytes told) (length offered) (room_in cut) (not (has_closed (last_job cut))) (noted cut) (λ m note e. cc) (λ e. cc) (λ e. cc) law)
-got_told cut CloseOwn bytes told law = absurd (cc)
-got_told cut (Say reply) bytes told law = absurd (cc)
-got_told cut _ bytes told law = absurd law
-
-closed_told : (cut : List Event) (action : OwnerAction) (told : Option ℕ) → Polls cut action (OwnerClosed told) → told ≡ noted cut
-closed_told cut (Drain n) told law = absurd (not_drained n (inside cut) (not (has_closed (last_job cut))) (noted cut) told law)
-closed_told cut PollSlot told law = absurd (not_looked (OwnerClosed told) (has_finished (last_job cut)) (λ e. cc) (λ e. cc) law)
-closed_told cut (Fill offered) told law =
-    absurd (not_filled (OwnerClosed told) (length offered) (room_in cut) (not (has_closed (last_job cut))) (noted cut) (λ m note e. cc) (λ e. cc) (λ e. cc) law)
-closed_told cut CloseOwn told law = cc
-closed_told cut (Say reply) told law = absurd (cc)
-closed_told cut _ told law = absurd law
-
-filled_told : (cut : List Event) (action : OwnerAction) (m : ℕ) (told : Option ℕ) → Polls cut action (Filled m told) → told ≡ noted cut
-filled_told cut (Drain n) m told law = absurd (drain_fills_none n (inside cut) (not (has_closed (last_job cut))) (noted cut) told m law)
-filled_told cut PollSlot m told law = absurd (not_looked (Filled m told) (has_finished (last_job cut)) (λ e. cc) (λ e. cc) law)
-filled_told cut (Fill offered) m told law = fill_told (length offered) (room_in cut) (not (has_closed (last_job cut))) (noted cut) told m law
-filled_told cut CloseOwn m told law = absurd (cc)
-filled_told cut (Say reply) m told law = absurd (cc)
-filled_told cut _ m told law = absurd law
-
--- Whatever its owner does, but for beginning anew or delivering a note, a job that is seated stays so, or its wake is under way.
-pub stays_told : (cut : List Event) (act : Act) (r : sessions.Session) → OwnerActs cut act → last_session (own cut) ≡ Some r → ((s : ℕ) → act ≡ Accepted s → ⊥)
-    → ((s : ℕ) (woke : Woke) → act ≡ JobWoken s woke → ⊥) → IsTold r.serial cut
-    → (job_seated_by act (is_job_seated cut) ≡ true) ⊎ (is_waking r.serial (act ∷ own cut) ≡ true)
-stays_told cut act r law begun new wakes (inr waking) = inr (still act wakes)
-  where
-    still : (act : Act) → ((s : ℕ) (woke : Woke) → act ≡ JobWoken s woke → ⊥) → is_waking r.serial (act ∷ own cut) ≡ true
-    still (JobWoken s woke) none = absurd (none s woke refl)
-    still (Got bytes told) none = or_right (is_this r.serial told) (is_waking r.serial (own cut)) waking
-    still (Filled m told) none = or_right (is_this r.serial told) (is_waking r.serial (own cut)) waking
-    still (OwnerClosed told) none = or_right (is_this r.serial told) (is_waking r.serial (own cut)) waking
-    still _ none = waking
-stays_told cut act r law begun new wakes (inl seated) = by_act act law new
-  where
-    taken : (told : Option ℕ) → told ≡ noted cut → is_waking_by r.serial (OwnerClosed told) (is_waking r.serial (own cut)) ≡ true
-    taken told e =
-        let its : told ≡ Some r.serial = e ∙ ap (λ l. note_of l (is_job_seated cut)) begun ∙ ap (note_of (Some r)) seated in
-        or_left (is_this r.serial told) (is_waking r.serial (own cut)) (ap (is_this r.serial) its ∙ eq-eqb r.serial r.serial refl)
-
-    by_act : (act : Act) → OwnerActs cut act → ((s : ℕ) → act ≡ Accepted s → ⊥) → (job_seated_by act (is_job_seated cut) ≡ true) ⊎ (is_waking r.serial (act ∷ own cut) ≡ true)
-    by_act (Accepted s) law none = absurd (none s refl)
-    by_act (Got bytes told) law none = inr (taken told (got_told cut (next_of_owner cut) bytes told law))
-    by_act (Filled m told) law none = inr (taken told (filled_told cut (next_of_owner cut) m told law))
-    by_act (OwnerClosed told) law none = inr (taken told (closed_told cut (next_of_owner cut) told law))
-    by_act JobParked law none = inl refl
-    by_act _ law none = inl seated

@@ -19,11 +19,11 @@ use Rattle.blocking_lanes.specs.Tasks.{Task, new_task}
 use Rattle.blocking_lanes.specs.Ties.{TaskAs, Tasked, TasksHold}
 use Rattle.blocking_lanes.specs.Steps.{IsAside, IsBeside, MakesTask, TakesStep, MayTake, task_after}
 use Rattle.blocking_pool.proofs.Places.{got_same, got_other, in_pushed}
-use Rattle.blocking_lanes.proofs.acts.Own.{Goes}
+use Rattle.blocking_lanes.proofs.acts.TaskActs.{Goes}
 use Rattle.blocking_lanes.proofs.acts.Steps.{step_goes, is_call, in_cut, accepts_none}
 use Rattle.blocking_lanes.proofs.cuts.Acts.{acts_cut}
 use Rattle.blocking_lanes.proofs.cuts.Events.{cut_same, cut_more}
-use Rattle.blocking_lanes.proofs.cuts.InTime.{timely}
+use Rattle.blocking_lanes.proofs.cuts.TimelyCalls.{timely}
 use Rattle.blocking_lanes.proofs.ties.Holders.{accepts_no_job, holder_stays, tasks_stay, holder_grows, tasks_grow}
 
 -- ---- an event of no task

@@ -3,6 +3,7 @@ ghost use Rattle.std.specs.Prelude.{◌≡◌, ◌↔◌, ℕ, ◌-◌, ◌++◌
 ghost use Rattle.blocking_laws.specs.Jobs.{standing, is_queued, is_running};
 ghost use Rattle.blocking_laws.specs.Queue.{AreThose, entries, takes, queue, running};
 ghost use Rattle.blocking_laws.specs.Legal.{Legal, IsLegalThroughout};
+ghost use Rattle.blocking_laws.specs.Solo.{AreIndependent};
 ghost use Rattle.blocking_laws.specs.Traces.{◌▸◌, IsPooled};
 ghost use Rattle.blocking_laws.specs.declared.event.Moment.{Moment};
 
@@ -30,4 +31,9 @@ pub fn queue_and_running()
     ensures running { (setting : ℕ) (plan : List Bool) (past : List Moment) →
         IsPooled setting plan past →
         AreThose (λ s. is_running (standing past s)) (running past) }
+{}
+
+/// What an owner sees depends on no other owner: where no new job was refused, the cut of each owner is what it might have seen alone.
+pub fn independence()
+    ensures { (setting : ℕ) (plan : List Bool) (past : List Moment) → Legal setting plan past → AreIndependent past }
 {}

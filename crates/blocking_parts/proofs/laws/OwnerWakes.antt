@@ -8,8 +8,9 @@ use Rattle.blocking_lanes.specs.Owners.{Owner, capacity_of, note_at}
 use Rattle.blocking_lanes.specs.Sessions.{Session}
 use Rattle.blocking_lanes.specs.declared.owner.OwnerStage.{OwnerStage}
 use Rattle.blocking_lanes.specs.declared.owner.OwnerStage.TheVariants as stage
-use Rattle.blocking_lanes.proofs.owners.Wakes.{not_lost, session_is_last, seated_reason}
-use Rattle.blocking_laws.specs.JobTable.{has_finished, has_given_up}
+use Rattle.blocking_lanes.proofs.owners.States.{session_is_last}
+use Rattle.blocking_lanes.proofs.owners.Wakes.{not_lost, seated_reason}
+use Rattle.blocking_laws.specs.JobTable.{Reading, has_finished, has_given_up}
 use Rattle.blocking_laws.specs.Jobs.{holder, standing, is_parked, is_running, is_woken}
 use Rattle.blocking_laws.specs.OwnerSeats.{is_job_seated}
 use Rattle.blocking_laws.specs.OwnerTable.{note_in}
@@ -20,7 +21,7 @@ use Rattle.blocking_laws.specs.Sessions.{capacity, jobs_of, last_session, sessio
 use Rattle.blocking_laws.specs.Turns.{turn}
 use Rattle.blocking_laws.specs.Wakes.{is_at_rest, is_waiting, was_woken}
 use Rattle.blocking_laws.specs.declared.event.Act.{Act}
-use Rattle.blocking_laws.specs.declared.event.Act.TheVariants.{Accepted, Filled, Got, OwnerClosed, Waits}
+use Rattle.blocking_laws.specs.declared.event.Act.TheVariants.{Accepted, Filled, Got, GotItem, OwnerClosed, Waits}
 use Rattle.blocking_laws.specs.declared.event.Event.{Event}
 use Rattle.blocking_laws.specs.declared.event.Moment.{Moment}
 use Rattle.blocking_laws.specs.declared.event.Party.TheVariants.{Owner as ByOwner}
@@ -31,7 +32,7 @@ use Rattle.blocking_parts.specs.Rows.{is_at_first}
 use Rattle.blocking_parts.specs.Ties.{IsMet, Tied, is_left, is_number, is_waiting_in, seated_in}
 use Rattle.blocking_parts.proofs.laws.Wakes.{rests_over}
 use Rattle.blocking_parts.proofs.ties.Jobs.{held_row}
-use Rattle.blocking_parts.proofs.ties.LetGo.{owner_there}
+use Rattle.blocking_parts.proofs.ties.Releases.{owner_there}
 
 never : (b : Bool) → b ≡ false → b ≡ true → ⊥
 never b none some = cc
@@ -88,7 +89,7 @@ waits_met owner X s t waits (inr noted) = absurd (none_noted owner.stage X s t.s
 -- ---- why a job waits
 
 -- a job that sits in the pipe has reason to
-seated_so : (last : Option Session) (bytes : ℕ) (X : List Event) (s : ℕ) → capacity (own X) ≡ bytes → LastAs last bytes X → is_number (seated_in last) s ≡ true → HasReason X
+seated_so : (last : Option Session) (bytes : ℕ) (X : List Event) (s : ℕ) → capacity Reading (own X) ≡ bytes → LastAs last bytes X → is_number (seated_in last) s ≡ true → HasReason X
 seated_so None bytes X s same t is = absurd cc
 seated_so (Some held) bytes X s same t is = seated_reason held bytes X same t (some_seat held.pipe.job_seat is)
   where
@@ -100,6 +101,7 @@ seated_so (Some held) bytes X s same t is = seated_reason held bytes X same t (s
 waking_by : (s : ℕ) (act : Act) (before : Bool) (n : ℕ) → note_in act ≡ Some n → is_this s (Some n) ≡ true → is_waking_by s act before ≡ true
 waking_by s (OwnerClosed told) before n is same = or_left (is_this s told) before (ap (is_this s) is ∙ same)
 waking_by s (Got bytes told) before n is same = or_left (is_this s told) before (ap (is_this s) is ∙ same)
+waking_by s (GotItem x told) before n is same = or_left (is_this s told) before (ap (is_this s) is ∙ same)
 waking_by s (Filled k told) before n is same = or_left (is_this s told) before (ap (is_this s) is ∙ same)
 waking_by s _ before n is same = absurd cc
 

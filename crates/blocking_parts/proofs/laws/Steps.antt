@@ -24,7 +24,7 @@ use Rattle.blocking_lanes.specs.declared.owner.OwnerStage.{OwnerStage}
 use Rattle.blocking_lanes.specs.declared.owner.OwnerStage.TheVariants as owner_stage
 use Rattle.blocking_lanes.proofs.acts.Calls.{call_plainly, poll_so}
 use Rattle.blocking_lanes.proofs.owners.Actions.{is_rest}
-use Rattle.blocking_lanes.proofs.owners.Plain.{plain_of}
+use Rattle.blocking_lanes.proofs.owners.Events.{plain_of}
 use Rattle.blocking_laws.specs.Counts.{arrivals}
 use Rattle.blocking_laws.specs.Growth.{IsPlanned}
 use Rattle.blocking_laws.specs.Jobs.{holder, as_owner}
@@ -57,11 +57,11 @@ use Rattle.blocking_parts.specs.declared.row.Core.{Core}
 use Rattle.blocking_parts.specs.declared.row.Core.TheVariants as core
 use Rattle.blocking_parts.specs.declared.row.Row.{Row}
 use Rattle.blocking_parts.proofs.laws.Actions.{has_is}
-use Rattle.blocking_parts.proofs.laws.Own.{own_act, same_owner}
-use Rattle.blocking_parts.proofs.moves.Found.{row_set}
+use Rattle.blocking_parts.proofs.laws.OwnActs.{own_act, same_owner}
+use Rattle.blocking_parts.proofs.moves.Lookups.{row_set}
 use Rattle.blocking_parts.proofs.ties.Jobs.{job_here, next_here, has_row, holder_stands}
-use Rattle.blocking_parts.proofs.ties.Said.{SaidBy, said}
-use Rattle.blocking_parts.proofs.ties.Told.{Told}
+use Rattle.blocking_parts.proofs.ties.Events.{SaidBy, said}
+use Rattle.blocking_parts.proofs.ties.CrewEvents.{Told}
 
 -- ---- what is done fits the step
 

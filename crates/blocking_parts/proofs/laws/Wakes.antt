@@ -25,9 +25,9 @@ use Rattle.blocking_parts.specs.Rows.{party_of, call_action, is_first, is_at_fir
 use Rattle.blocking_parts.specs.Ties.{Tied, CoreAs, PlaceAs}
 use Rattle.blocking_parts.specs.declared.row.Core.{Core}
 use Rattle.blocking_parts.specs.declared.row.Core.TheVariants as core
-use Rattle.blocking_parts.proofs.past.Parked.{parked_acted}
+use Rattle.blocking_parts.proofs.past.ParkedJobs.{parked_acted}
 use Rattle.blocking_parts.proofs.ties.Jobs.{held_row}
-use Rattle.blocking_parts.proofs.ties.LetGo.{task_there}
+use Rattle.blocking_parts.proofs.ties.Releases.{task_there}
 
 -- the job of a call that is at its first action hasn't acted
 ran_none : (next : Action) (n : ℕ) (acts : List Act) → is_first (call_action next) ≡ true → RanAs next n acts → acts ≡ []

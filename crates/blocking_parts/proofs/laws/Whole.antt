@@ -32,20 +32,20 @@ use Rattle.blocking_parts.specs.Moves.{Move, Idles, Lends, Begins, Works, IsAnsw
 use Rattle.blocking_parts.specs.Parts.{Parts, row_of, owner_of, next_at}
 use Rattle.blocking_parts.specs.Ties.{Tied, Rowed, IsLawful, moment}
 use Rattle.blocking_parts.specs.declared.row.Row.{Row}
-use Rattle.blocking_parts.proofs.laws.Next.{next_agrees, unseen}
+use Rattle.blocking_parts.proofs.laws.NextActions.{next_agrees, unseen}
 use Rattle.blocking_parts.proofs.laws.OwnerWakes.{no_lost_owner_wake}
 use Rattle.blocking_parts.proofs.laws.Steps.{step_law}
 use Rattle.blocking_parts.proofs.laws.Wakes.{no_lost_wake}
-use Rattle.blocking_parts.proofs.moves.Carried as bytes
-use Rattle.blocking_parts.proofs.ties.Asked.{asked}
-use Rattle.blocking_parts.proofs.ties.Begins.{rows_begun, rows_lent}
-use Rattle.blocking_parts.proofs.ties.Crossed.{crossed_after}
+use Rattle.blocking_parts.proofs.moves.Bytes as bytes
+use Rattle.blocking_parts.proofs.ties.CrewDemands.{asked}
+use Rattle.blocking_parts.proofs.rows.NewJobs.{rows_begun, rows_lent}
+use Rattle.blocking_parts.proofs.ties.LeftJobs.{crossed_after}
 use Rattle.blocking_parts.proofs.ties.Jobs.{owner_tie, row_known}
 use Rattle.blocking_parts.proofs.ties.Marks.{marks_after}
 use Rattle.blocking_parts.proofs.ties.Owners.{owners_after_move}
-use Rattle.blocking_parts.proofs.ties.Stays.{rows_stay}
+use Rattle.blocking_parts.proofs.rows.OtherMoves.{rows_stay}
 use Rattle.blocking_parts.proofs.ties.Tasks.{tasks_after_move}
-use Rattle.blocking_parts.proofs.ties.Worked.{rows_worked, rows_answered}
+use Rattle.blocking_parts.proofs.rows.JobMoves.{rows_worked, rows_answered}
 
 module _ (setting : ℕ) (plan : List Bool) (w : Parts) (past : List Moment) (lawful : IsLawful setting plan w past) (new : Parts) (e : Event) where
   t : Tied setting plan w past

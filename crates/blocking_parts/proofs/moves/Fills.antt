@@ -15,8 +15,5 @@ pub by_fill : (P : Option Did → Type 0) (poll : OwnerMachine ℕ) (asked : Opt
 by_fill P poll (Some (handle_call.Write (byte ∷ bytes))) (Some session) owner none some = some (byte ∷ bytes) session (filled (length (byte ∷ bytes)) session) refl refl
 by_fill P poll (Some (handle_call.Write (byte ∷ bytes))) None owner none some = none
 by_fill P poll (Some (handle_call.Write [])) last owner none some = none
-by_fill P poll (Some (handle_call.Read n)) last owner none some = none
-by_fill P poll (Some handle_call.Flush) last owner none some = none
-by_fill P poll (Some handle_call.Close) last owner none some = none
-by_fill P poll (Some handle_call.GetMut) last owner none some = none
+by_fill P poll (Some _) last owner none some = none
 by_fill P poll None last owner none some = none

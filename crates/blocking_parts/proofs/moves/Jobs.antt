@@ -26,7 +26,7 @@ use Rattle.blocking_parts.specs.Parts.{Parts, InHand, row_of, job_at, job_in, jo
 use Rattle.blocking_parts.specs.declared.parts.JobAt.{JobAt}
 use Rattle.blocking_parts.specs.declared.row.Core.{Core}
 use Rattle.blocking_parts.specs.declared.row.Row.{Row}
-use Rattle.blocking_parts.proofs.moves.Found.{row_found, one_found}
+use Rattle.blocking_parts.proofs.moves.Lookups.{row_found, one_found}
 
 -- ---- the job in a hand
 

@@ -25,9 +25,6 @@ use Rattle.blocking_parts.proofs.past.Holders.{holder_is}
 lets_something : (act : Act) → lets_go act ≡ true → is_nothing act ≡ false
 lets_something act lets = by_let_go (λ a. is_nothing a ≡ false) refl refl act lets
 
-lets_outside : (act : Act) → lets_go act ≡ true → is_of_pool act ≡ false
-lets_outside act lets = by_let_go (λ a. is_of_pool a ≡ false) refl refl act lets
-
 lets_none_in : (act : Act) (s : ℕ) → lets_go act ≡ true → accepts s act ≡ false
 lets_none_in act s lets = by_let_go (λ a. accepts s a ≡ false) refl refl act lets
 

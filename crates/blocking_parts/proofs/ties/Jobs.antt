@@ -24,7 +24,7 @@ use Rattle.blocking_parts.specs.Parts.{Parts, InHand, next_at, next_in, row_of, 
 use Rattle.blocking_parts.specs.Rows.{party_of, is_at_first, next_of}
 use Rattle.blocking_parts.specs.Ties.{Tied, PlaceAs}
 use Rattle.blocking_parts.specs.declared.row.Row.{Row}
-use Rattle.blocking_parts.proofs.moves.Found.{there, row_found, row_at}
+use Rattle.blocking_parts.proofs.moves.Lookups.{there, row_found, row_at}
 use Rattle.blocking_parts.proofs.past.Holders.{holder_known}
 
 -- ---- the job in a hand

@@ -8,7 +8,7 @@ use Rattle.blocking_crew.specs.Ties.{CrewHolds}
 use Rattle.blocking_crew.specs.declared.hand.Stage.{Stage}
 use Rattle.blocking_crew.specs.declared.tickets.Parking.{Parking}
 use Rattle.blocking_crew.specs.declared.tickets.Parking.TheVariants as parking
-use Rattle.blocking_crew.proofs.ties.Acts.{aside_or, aside_plain, by_work}
+use Rattle.blocking_crew.proofs.ties.Acts.{aside_plain, by_work}
 use Rattle.blocking_lanes.specs.Owners.{Owner, Did, IsDid, did, is_gone, next_at}
 use Rattle.blocking_lanes.specs.Sessions.{Session}
 use Rattle.blocking_lanes.specs.declared.owner.OwnerNext.TheVariants as next
@@ -37,9 +37,9 @@ use Rattle.blocking_parts.specs.declared.row.Row.{Row}
 use Rattle.blocking_parts.proofs.moves.Asides.{told_aside}
 use Rattle.blocking_parts.proofs.past.Marks.{KeepsMarks, IsQuiet, quiet_keeps, plain_quiet, marks_kept}
 use Rattle.blocking_parts.proofs.ties.Jobs.{next_free}
-use Rattle.blocking_parts.proofs.ties.LetGo.{let_go_is}
-use Rattle.blocking_parts.proofs.ties.Said.{SaidBy, said, done_fits}
-use Rattle.blocking_parts.proofs.ties.Told.{IsPlain}
+use Rattle.blocking_parts.proofs.ties.Releases.{let_go_is}
+use Rattle.blocking_parts.proofs.ties.Events.{SaidBy, said, done_fits}
+use Rattle.blocking_parts.proofs.ties.CrewEvents.{IsPlain}
 
 -- ---- quiet acts
 
@@ -53,7 +53,7 @@ work_quiet at act may =
 own_quiet : (owner : Owner) (done : Did) → did owner ≡ Some done → IsQuiet done.act
 own_quiet owner done is =
     let aside = told_aside owner done.owner done.act (subst (λ o. IsDid o owner (Some done.act) done.owner) (sym is) (refl, refl)) in
-    plain_quiet done.act (aside_plain done.act (aside_or done.act aside))
+    plain_quiet done.act (aside_plain done.act aside)
 
 -- the end of a run that waits
 parked_quiet : (how : Parking) (s : ℕ) → IsQuiet (parked_act how s)

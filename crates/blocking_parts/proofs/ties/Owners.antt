@@ -19,13 +19,13 @@ use Rattle.blocking_lanes.specs.declared.job.SessionJob.{SessionJob}
 use Rattle.blocking_lanes.specs.Tasks.{Task, task_act}
 use Rattle.blocking_pool.proofs.Places.{set_same}
 use Rattle.blocking_lanes.proofs.acts.Calls.{by_call}
-use Rattle.blocking_lanes.proofs.owners.Own.{value_of}
+use Rattle.blocking_lanes.proofs.owners.OwnerActs.{value_of}
 use Rattle.blocking_lanes.proofs.owners.Owners.{aside, born, stepped}
-use Rattle.blocking_lanes.proofs.owners.Plain.{IsPlain}
-use Rattle.blocking_parts.proofs.ties.SessionJobs.{first_of_table}
+use Rattle.blocking_lanes.proofs.owners.Events.{IsPlain}
+use Rattle.blocking_parts.proofs.rows.SessionJobs.{first_of_table}
 use Rattle.blocking_lanes.proofs.ties.Holders.{accepts_no_job}
 use Rattle.blocking_laws.specs.Growth.{IsPlanned}
-use Rattle.blocking_laws.specs.JobTable.{Kind, JobAction, Over, AskCall, AskBytes, OfferBytes, AskFlush, next_but_wake, is_answer, is_over, has_given_up}
+use Rattle.blocking_laws.specs.JobTable.{Kind, JobAction, Over, AskCall, AskBytes, OfferBytes, AskFlush, AskItem, AskSeek, AskResult, next_but_wake, is_answer, is_over, has_given_up}
 use Rattle.blocking_laws.specs.Jobs.{accepted_by, accepts, holder}
 use Rattle.blocking_laws.specs.OwnerLaws.{OwnerLaws}
 use Rattle.blocking_laws.specs.Seen.{events, acts_of, own, cut, is_in_cut, is_of_pool, is_nothing, is_some_worker, is_of_job, is_by_task}
@@ -52,11 +52,11 @@ use Rattle.blocking_parts.specs.Rows.{Done, done, session_step, core_after_answe
 use Rattle.blocking_parts.specs.Ties.{CoreAs, GaveAs, PlaceAs, Tied, moment}
 use Rattle.blocking_parts.specs.declared.row.Core.{Core}
 use Rattle.blocking_parts.specs.declared.row.Core.TheVariants as core
-use Rattle.blocking_parts.proofs.ties.Acted.{call_acts, session_acts, may_plain, seen_in, seen_is, its_owner, let_go_here, asks_here}
+use Rattle.blocking_parts.proofs.ties.JobSteps.{call_acts, session_acts, may_plain, seen_in, seen_is, its_owner, let_go_here, asks_here}
 use Rattle.blocking_parts.proofs.ties.Jobs.{IsHere, job_here, job_place, next_free}
-use Rattle.blocking_parts.proofs.ties.Said.{SaidBy, done_fits, said}
-use Rattle.blocking_parts.proofs.ties.LetGo.{owner_there}
-use Rattle.blocking_parts.proofs.ties.Told.{Told, added_of, by_no_worker, by_worker}
+use Rattle.blocking_parts.proofs.ties.Events.{SaidBy, done_fits, said}
+use Rattle.blocking_parts.proofs.ties.Releases.{owner_there}
+use Rattle.blocking_parts.proofs.ties.CrewEvents.{Told, added_of, by_no_worker, by_worker}
 
 -- ---- what the job of a session may do
 
@@ -98,6 +98,9 @@ answer_of AskCall answer is = is
 answer_of (AskBytes n) answer is = is
 answer_of (OfferBytes bytes) answer is = is
 answer_of AskFlush answer is = is
+answer_of AskItem answer is = is
+answer_of AskSeek answer is = is
+answer_of AskResult answer is = is
 answer_of _ answer is = absurd cc
 
 -- ---- what is seen where no owner takes a step

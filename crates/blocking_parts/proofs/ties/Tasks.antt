@@ -19,8 +19,8 @@ use Rattle.blocking_lanes.specs.Ties.{AllLaws, TasksHold}
 use Rattle.blocking_pool.proofs.Places.{set_same}
 use Rattle.blocking_lanes.proofs.acts.Steps.{is_call}
 use Rattle.blocking_lanes.proofs.cuts.Acts.{own_cut}
-use Rattle.blocking_lanes.proofs.owners.Own.{value_of}
-use Rattle.blocking_lanes.proofs.owners.Plain.{IsPlain}
+use Rattle.blocking_lanes.proofs.owners.OwnerActs.{value_of}
+use Rattle.blocking_lanes.proofs.owners.Events.{IsPlain}
 use Rattle.blocking_lanes.proofs.ties.Holders.{accepts_no_job}
 use Rattle.blocking_lanes.proofs.ties.Tasks.{beside, born, stepped, aside_beside}
 use Rattle.blocking_laws.specs.Growth.{IsPlanned}
@@ -50,11 +50,11 @@ use Rattle.blocking_parts.specs.Rows.{Done, done, action_of, call_step, call_ste
 use Rattle.blocking_parts.specs.Ties.{CoreAs, GaveAs, PlaceAs, Tied, moment}
 use Rattle.blocking_parts.specs.declared.row.Core.{Core}
 use Rattle.blocking_parts.specs.declared.row.Core.TheVariants as core
-use Rattle.blocking_parts.proofs.moves.Found.{there}
-use Rattle.blocking_parts.proofs.ties.Acted.{call_acts, session_acts, may_plain, seen_in, seen_is, its_owner, let_go_here, asks_here}
+use Rattle.blocking_parts.proofs.moves.Lookups.{there}
+use Rattle.blocking_parts.proofs.ties.JobSteps.{call_acts, session_acts, may_plain, seen_in, seen_is, its_owner, let_go_here, asks_here}
 use Rattle.blocking_parts.proofs.ties.Jobs.{IsHere, job_here, job_place, next_free, task_holds}
-use Rattle.blocking_parts.proofs.ties.Said.{SaidBy, done_fits, said}
-use Rattle.blocking_parts.proofs.ties.Told.{Told, added_of, by_no_worker, by_worker}
+use Rattle.blocking_parts.proofs.ties.Events.{SaidBy, done_fits, said}
+use Rattle.blocking_parts.proofs.ties.CrewEvents.{Told, added_of, by_no_worker, by_worker}
 
 -- ---- what the job of a call may do
 

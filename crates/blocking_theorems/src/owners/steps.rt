@@ -4,11 +4,12 @@ ghost use Rattle.blocking_laws.specs.Steps.{StepLaw};
 ghost use Rattle.blocking_laws.specs.Traces.{moment, of_owner, Refuses};
 ghost use Rattle.blocking_laws.specs.OwnerTraces.{asks, polls, drops, works};
 ghost use Rattle.blocking_laws.specs.OwnerTraces.{one_made, one_asked, reader_waits, reader_taken, reader_dropped};
+ghost use Rattle.blocking_core.specs.declared.io.Position.TheVariants.{Start};
 ghost use Rattle.blocking_pool.specs.declared.pool.answer.Woke.TheVariants.{Entered};
 ghost use Rattle.blocking_laws.specs.declared.event.Act.TheVariants.{Made, Asked, JobCancelled, Replied, RoomFree, NoAction};
 ghost use Rattle.blocking_laws.specs.declared.event.Party.TheVariants.{Owner, Pool};
 ghost use Rattle.blocking_laws.specs.declared.event.Reply.TheVariants.{Handle};
-ghost use Rattle.blocking_laws.specs.declared.step.HandleCall.TheVariants.{Read, GetMut};
+ghost use Rattle.blocking_laws.specs.declared.step.HandleCall.TheVariants.{Read, GetMut, Seek, Next, Operate, IntoInner};
 ghost use Rattle.blocking_laws.specs.declared.step.Step.TheVariants.{New, Ask, Own, Strike};
 
 /// An owner may be made at any time, is numbered in order, and keeps the capacity that it was made with.
@@ -66,4 +67,15 @@ pub fn jobs()
     // .. / waits / .. / took 1 / cancelled 1 entered: its owner is there
     ensures refuses_cancel { Refuses StepLaw reader_taken
         (moment (Strike 1) Pool None (JobCancelled 1 Entered) 2) }
+{}
+
+/// Owners aren't asked yet to seek, for an item, for an operation, or for the handle for good.
+pub fn not_yet()
+    // made 0 / nothing
+    ensures accepts_nothing_for_seek { StepLaw one_made (moment (Ask 0 (Seek (Start 7))) (Owner 0) None NoAction 1) }
+    ensures accepts_nothing_for_item { StepLaw one_made (moment (Ask 0 Next) (Owner 0) None NoAction 1) }
+    ensures accepts_nothing_for_operation { StepLaw one_made (moment (Ask 0 Operate) (Owner 0) None NoAction 1) }
+    ensures accepts_nothing_for_handle { StepLaw one_made (moment (Ask 0 IntoInner) (Owner 0) None NoAction 1) }
+    // made 0 / asked (for an item)
+    ensures refuses_item { Refuses StepLaw one_made (asks Next 1) }
 {}

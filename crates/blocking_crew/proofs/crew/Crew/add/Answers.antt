@@ -1,6 +1,6 @@
 use Rattle.std.proofs.Common.{◌≡◌, ap, ◌∙◌, sym, refl}
-use Rattle.blocking_laws.specs.declared.event.Act.TheVariants.{Accepted}
 use Rattle.blocking_crew.specs.Moves.{Add, Adds, added_act, next_start}
+use Rattle.blocking_crew.proofs.Types.{Accepted}
 use Rattle.blocking_crew.proofs.ready.Moves.{moved_ready}
 use Rattle.blocking_crew.proofs.crew.Crew.add.Goals as goal
 use Rattle.blocking_crew.proofs.crew.Crew.add.Goals.{in-Ok, in-Err}

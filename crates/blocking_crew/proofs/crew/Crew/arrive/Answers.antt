@@ -1,9 +1,8 @@
 use Rattle.std.proofs.Common.{◌≡◌, ap, ◌∙◌, sym, ℕ, Some, None}
-use Rattle.blocking_laws.specs.declared.event.Party.TheVariants.{Worker}
-use Rattle.blocking_laws.specs.declared.event.Act.TheVariants.{Arrived}
 use Rattle.blocking_crew.specs.Moves.{NeverAsked, next_start, seen}
 use Rattle.blocking_crew.specs.Tickets.{no_growth}
 use Rattle.blocking_crew.specs.contracts.crew.Crew.{the_view}
+use Rattle.blocking_crew.proofs.Types.{Worker, Arrived}
 use Rattle.blocking_crew.proofs.calls.Moved.{arrives_so}
 use Rattle.blocking_crew.proofs.ready.Moves.{moved_ready}
 use Rattle.blocking_crew.proofs.crew.Crew.arrive.Goals as goal

@@ -1,10 +1,9 @@
 use Rattle.std.proofs.Common.{is_some, ap, ◌∙◌, sym}
 use Rattle.blocking_crew.specs.contracts.crew.Crew.{the_view}
+use Rattle.blocking_crew.proofs.Types.{Standing, Ended}
 use Rattle.blocking_crew.proofs.calls.Moved.{idles, ends_so, held_is_out, held_runs}
 use Rattle.blocking_crew.specs.Crews.{may_end, standing_after}
 use Rattle.blocking_pool.specs.Jobs.{JobNumber}
-use Rattle.blocking_pool.specs.declared.pool.standing.Standing.{Standing}
-use Rattle.blocking_laws.specs.declared.event.Act.TheVariants.{Ended}
 use Rattle.blocking_crew.specs.Moves.{NeverAsked, End, next_start}
 use Rattle.blocking_crew.proofs.ready.Moves.{moved_ready}
 use Rattle.blocking_crew.proofs.crew.Crew.end.Goals as goal

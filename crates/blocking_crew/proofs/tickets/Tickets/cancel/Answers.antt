@@ -1,25 +1,23 @@
-use Rattle.std.proofs.Common.{◌≡◌, ap, ◌∙◌, arith}
-use Rattle.blocking_crew.specs.Tickets.{JobPool}
+use Rattle.std.proofs.Common.{◌≡◌, [], ◌∷◌, arith}
+use Rattle.blocking_pool.specs.Jobs.{entry_after_cancel}
+use Rattle.blocking_pool.specs.Pools.{with_job}
 use Rattle.blocking_pool.specs.Starters.{asked}
-use Rattle.blocking_crew.proofs.growth.Reads.{read_as}
-use Rattle.blocking_crew.proofs.growth.Again.{cancelled_grew, cancelled_so}
+use Rattle.blocking_crew.proofs.growth.Reads.{numbers_last}
+use Rattle.blocking_crew.proofs.growth.Calls.{enters_again}
 use Rattle.blocking_crew.proofs.tickets.Tickets.cancel.Goals as goal
 
 pub next_after-self-inside-requires : goal.next_after-self-inside-requires
 next_after-self-inside-requires g c =
-    let read =
-    read_as c.cancel-woke.new.self.counts c.growth_since-growth.result c.queue_len-ready.ensures.value c.before-before.ensures.workers c.before-before.ensures.limit
-    c.growth_since-growth.ensures.started c.growth_since-growth.ensures.refused in
-    let grew =
-    cancelled_grew (asked g.S.Starter c.args.starter.now c.cancel-woke.new.starter)
-    c.self.inside.pool c.args.self.now c.cancel-woke.new.self c.args.number c.cancel-woke.result c.growth_since-growth.result c.self.view_is c.in-Entered.is read c.cancel-woke.ensures.answer in
-    let next : c.self.inside.next_start ≡ c.args.self.now.counts.next_worker = c.self.invariant.1 ∙ ap (λ (p : JobPool). p.counts.next_worker) c.self.view_is in
-    omega (arith, grew.numbers, next)
+    let entered =
+    enters_again (asked g.S.Starter c.args.starter.now c.cancel-woke.new.starter) (with_job c.args.self.now c.args.number.serial entry_after_cancel) c.cancel-woke.new.self (c.args.number.serial ∷ []) c.growth_since-growth.result
+    (rw (c.self.view_is, c.in-Entered.is) at c.cancel-woke.ensures.answer).effect (cc, cc) in
+    let next : c.self.inside.next_start ≡ c.args.self.now.counts.next_worker = cc in
+    omega (arith, numbers_last _ _ _ _ _ _ _ entered.starts, next)
 
 pub returns : goal.returns
 returns g c =
-    let read =
-    read_as c.cancel-woke.new.self.counts c.growth_since-growth.result c.queue_len-ready.ensures.value c.before-before.ensures.workers c.before-before.ensures.limit
-    c.growth_since-growth.ensures.started c.growth_since-growth.ensures.refused in
-    (cancelled_so (asked g.S.Starter c.args.starter.now c.cancel-woke.new.starter)
-    c.self.inside.pool c.args.self.now c.cancel-woke.new.self c.args.number c.cancel-woke.result c.growth_since-growth.result c.self.view_is c.in-Entered.is read c.cancel-woke.ensures.answer)
+    let woken = rw (c.self.view_is, c.in-Entered.is) at c.cancel-woke.ensures.answer in
+    record {
+      answer = woken.answer;
+      effect = enters_again (asked g.S.Starter c.args.starter.now c.cancel-woke.new.starter) (with_job c.args.self.now c.args.number.serial entry_after_cancel) c.cancel-woke.new.self (c.args.number.serial ∷ []) c.growth_since-growth.result woken.effect (cc, cc);
+    }

@@ -1,6 +1,6 @@
 use Rattle.std.proofs.Common.{is_some, ap, ◌∙◌, sym, if◌then◌else◌}
 use Rattle.blocking_crew.specs.Crews.{hand_in, with_hand, hand_after_act}
-use Rattle.blocking_crew.specs.declared.hand.Hand.{Hand}
+use Rattle.blocking_crew.proofs.Types.{Hand}
 use Rattle.blocking_crew.proofs.hands.Lent.{hand_is, lent_hand, changed_if}
 use Rattle.blocking_crew.proofs.workers.Workers.work.Goals as goal
 
@@ -10,6 +10,5 @@ returns-clause-after c =
     let v = c.args.worker in
     let hand = c.in_ok-at.field-0.now in
     let same = hand_is row v ∙ sym (ap hand_in c.in_ok-at.ensures.hand) in
-    changed_if row (c.at.follows.lender c.work.new.self) v (is_some c.work.result) hand c.work.new.self (hand_after_act hand c.args.act.now)
-    c.in_ok-at.ensures.hand c.work.ensures.after (lent_hand c.in_ok-at.was (c.at.follows.holds c.work.new.self))
+    changed_if row v (is_some c.work.result) (hand_after_act hand c.args.act.now) c.in_ok-at.ensures.hand c.work.ensures.after (lent_hand c.in_ok-at.was (c.at.follows.holds c.work.new.self))
     ∙ ap (λ (h : Hand). if is_some c.work.result then with_hand row v (hand_after_act h c.args.act.now) else row) (sym same)

@@ -10,7 +10,7 @@ use Rattle.blocking_parts.specs.Rows.{session_row}
 use Rattle.blocking_parts.specs.Parts.{Parts}
 use Rattle.blocking_parts.specs.contracts.parts.Parts.{the_view}
 use Rattle.blocking_parts.proofs.moves.Steps.{lent, found_at}
-use Rattle.blocking_parts.proofs.moves.Found.{one_found}
+use Rattle.blocking_parts.proofs.moves.Lookups.{one_found}
 use Rattle.blocking_parts.proofs.parts.Parts.lend.Goals as goal
 use Rattle.blocking_parts.proofs.parts.Parts.lend.Goals.{in-Ok-number, in-Err}
 

@@ -131,7 +131,7 @@ is_empty _ = false
 
 abbrev is_stuck : Kind → List Event → Bool
 is_stuck Writing cut = is_empty (inside cut)
-is_stuck _ cut = length (inside cut) == capacity (own cut)
+is_stuck kind cut = length (inside cut) == capacity kind (own cut)
 
 abbrev has_reason : List Moment → Bool
 has_reason past =

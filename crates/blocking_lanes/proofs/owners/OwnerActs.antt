@@ -1,0 +1,900 @@
+-- An act of an owner itself, which asks no pool, keeps the law of the owner and its tie.
+use Rattle.std.proofs.Common.{◌≡◌, ℕ, suc, zero, ◌<◌, List, [], ◌∷◌, ◌++◌, length, Bool, true, false, refl, sym, ap, ◌∙◌, subst, arith, Option, Some, None, inl, inr}
+use Rattle.std.specs.Prelude.{◌≤◌, ◌||◌, ◌⊎◌, not, nat_le, max, take, is_some, is_none, if◌then◌else◌}
+use Rattle.std.proofs.lemmas.Bool.{or_from, or_left, or_right}
+use Rattle.std.proofs.lemmas.Bool.Decides.{nat_tests}
+use Rattle.std.proofs.lemmas.List.{append-nil, length-take}
+use Rattle.blocking_core.specs.Machines.{wake_first}
+use Rattle.blocking_core.specs.OwnerCalls.{OwnerMachine, owner_next, owner_after, owner_by, owner_in, new_poll}
+use Rattle.blocking_core.specs.OwnerCalls as machine
+use Rattle.blocking_core.specs.Pipes.{room}
+use Rattle.blocking_core.specs.Places.{Met, Served, Waiting, Closed, drain, fill}
+use Rattle.blocking_core.specs.Slots.{Content, Empty, Full, GivenUp, Abandoned}
+use Rattle.blocking_core.specs.declared.io.Fault.{Fault}
+use Rattle.blocking_core.specs.declared.unblock.OwnerAction.{OwnerAction}
+use Rattle.blocking_core.specs.declared.unblock.OwnerAction.TheVariants as action
+use Rattle.blocking_core.specs.declared.unblock.OwnerAnswer.{OwnerAnswer}
+use Rattle.blocking_core.specs.declared.unblock.OwnerAnswer.TheVariants as by
+use Rattle.blocking_core.specs.declared.unblock.OwnerEnd.TheVariants.{Open, Shut}
+use Rattle.blocking_core.specs.declared.unblock.Reply.{Reply}
+use Rattle.blocking_core.specs.declared.unblock.Reply.TheVariants as reply
+use Rattle.blocking_core.specs.declared.unblock.SessionKind.{SessionKind}
+use Rattle.blocking_core.specs.declared.unblock.SessionKind.TheVariants as session_kind
+use Rattle.blocking_core.specs.declared.unblock.State.{State}
+use Rattle.blocking_core.specs.declared.unblock.State.TheVariants as state
+use Rattle.blocking_laws.specs.Ends.{EndsTruly, IsTrueEnd, came_back, IsReadBack, IsReadWhole, IsFlushed, IsFlushedIf, IsFlushedBack, handle_answers, has_failure, has_failed_write, has_flush, is_failure, last_is_end}
+use Rattle.blocking_laws.specs.JobTable.{Kind, Reading, Writing, JobAction, Over, next_but_wake, is_over, earlier, fault, fault_in, number, has_closed, has_finished, has_given_up}
+use Rattle.blocking_laws.specs.OwnerLaws.{OwnerMayAct, Polls}
+use Rattle.blocking_laws.specs.OwnerTable.{next_of_owner, deliver_first, owner_next_but_wake}
+use Rattle.blocking_laws.specs.OwnerTable as law
+use Rattle.blocking_laws.specs.OwnerSeats.{noted, place_of, is_job_seated, pipe_seat, pipe_seated_by, slot_seat, slot_seated_by}
+use Rattle.blocking_laws.specs.Passed.{gave, got, accepted, data_of, taken as taken_by, inside, room_in, last_job, kind_in}
+use Rattle.blocking_laws.specs.Places.{seen_drain, seen_fill, poll_slot}
+use Rattle.blocking_laws.specs.Seen.{own, acts_of, is_some_worker}
+use Rattle.blocking_laws.specs.Sessions as sessions
+use Rattle.blocking_laws.specs.Steps.{is_known}
+use Rattle.blocking_laws.specs.declared.event.Act.{Act}
+use Rattle.blocking_laws.specs.declared.event.Act.TheVariants.{OwnerClosed, Got, GotEnd, Filled, FillShut, Waits, Back, Replied, Answered}
+use Rattle.blocking_laws.specs.declared.event.Event.{Event}
+use Rattle.blocking_laws.specs.declared.event.Reply.{Reply as Told}
+use Rattle.blocking_laws.specs.declared.event.Reply.TheVariants as told
+use Rattle.blocking_laws.specs.declared.step.Answer.{Answer}
+use Rattle.blocking_laws.specs.declared.step.Answer.TheVariants.{Failed}
+use Rattle.blocking_laws.specs.declared.step.HandleCall.{HandleCall}
+use Rattle.blocking_laws.specs.declared.step.HandleCall.TheVariants as handle_call
+use Rattle.blocking_pool.specs.Growth.{Growth}
+use Rattle.blocking_pool.specs.Jobs.{JobNumber}
+use Rattle.blocking_lanes.specs.Owners.{Owner, Did, capacity_of, note_at, goes_on, close_did, drain_did, fill_did, fill_did_in, drop_did, look_did, looked_as, poll_call_of, reply_as, reply_did, did_in, did_by, did, is_gone}
+use Rattle.blocking_lanes.specs.OwnerSteps.{by_owner}
+use Rattle.blocking_lanes.specs.OwnerTies.{OwnerAs, SlotAs, Passed, passed_by, PassedAs, GaveAll, WrittenAs, wrote_by, PollAs, FitsNext, IsGoneBy, IsLentOpen, LooksFrom, EndAs, StageBy, SessionAs, IsAtEnd, called_at, kind_as, state_as, say, action_as, seat_of}
+use Rattle.blocking_lanes.specs.Sessions.{Session, serial_of, reach, drained, filled, session_after_close, session_after_drain, session_after_fill, session_after_look}
+use Rattle.blocking_lanes.specs.declared.owner.OwnerStage.{OwnerStage}
+use Rattle.blocking_lanes.specs.declared.owner.OwnerStage.TheVariants as stage
+use Rattle.blocking_lanes.proofs.owners.Known.{known_call}
+use Rattle.blocking_lanes.proofs.owners.Cuts.{not_not, next_with, inside_is, room_is, lasts_is, open_is, noted_is, its_job, drain_act, drain_seen}
+use Rattle.blocking_lanes.proofs.owners.Fills.{fills, fill_waits, filled_some, filled_note, fill_act, fill_seen}
+use Rattle.blocking_lanes.proofs.owners.Drains.{shuts, takes, waits, returns, waits_for_it, front, at_end, reached}
+use Rattle.blocking_lanes.proofs.owners.States.{IsThere, is_away, gone_is, lent_at, lent_by, is_there, piped}
+
+-- an owner by its parts
+abbrev pub owner_by_parts : ℕ → Option HandleCall → OwnerStage → Option Session → Owner
+owner_by_parts bytes asked here last = record { capacity = bytes; asked = asked; stage = here; session = last }
+
+-- how many bytes the pipes of its sessions hold
+abbrev pub bound : ℕ → ℕ
+bound bytes = capacity_of (owner_by_parts bytes None (stage.Rests state.Idle) None)
+
+-- An event keeps the law of its owner but for what passed, and leaves the owner tied.
+pub record Goes (new : Owner) (cut : List Event) (e : Event) : Type 0 where
+  pub acts : OwnerMayAct (is_some_worker e.party) cut e
+  pub ends : EndsTruly cut e.act
+  pub tie : OwnerAs new (e ∷ cut)
+
+-- the value that is there, or another one
+abbrev pub value_of : {A : Type 0} → A → Option A → A
+value_of other None = other
+value_of other (Some value) = value
+
+-- ---- the machine of a poll
+
+-- an answer to what a poll does next, where it has no note to deliver
+pub turned : (p : OwnerMachine ℕ) (next : OwnerAction ℕ) (answer : OwnerAnswer ℕ) → p.is_waking ≡ false → p.next ≡ next → owner_after p answer ≡ owner_by next answer p
+turned p next answer waking is = ap (λ b. owner_in b answer p) waking ∙ ap (λ n. owner_by n answer p) is
+
+-- what it does next
+pub doing : (p : OwnerMachine ℕ) → p.is_waking ≡ false → owner_next p ≡ p.next
+doing p waking = ap (λ b. wake_first b action.Deliver p.next) waking
+
+-- a poll that goes on, first by a note that it took
+pub goes_on_so : (q : OwnerMachine ℕ) (note : Option JobNumber) (asked : Option HandleCall) (at : sessions.State) (next : law.OwnerAction) (ended : Bool) (back : Option (List Event))
+    → PollAs q asked at next ended back → q.is_waking ≡ is_some note → StageBy (goes_on q note) asked at next ended back (serial_of note)
+goes_on_so q None asked at next ended back p waking = (p, waking, refl)
+goes_on_so q (Some number) asked at next ended back p waking = (p, waking, refl)
+
+pub not_gone : (q : OwnerMachine ℕ) (note : Option JobNumber) → false ≡ is_gone (goes_on q note)
+not_gone q None = refl
+not_gone q (Some number) = refl
+
+pub still_called : (q : OwnerMachine ℕ) (note : Option JobNumber) (asked : Option HandleCall) → asked ≡ called_at (goes_on q note) asked
+still_called q None asked = refl
+still_called q (Some number) asked = refl
+
+-- what its poll does next is what the law says, and fits
+pub lawful : (bytes : ℕ) (asked : Option HandleCall) (p : OwnerMachine ℕ) (cut : List Event) (last : Option Session) (next : OwnerAction ℕ)
+    → (t : OwnerAs (owner_by_parts bytes asked (stage.Polls p) last) cut) → p.next ≡ next → next_of_owner cut ≡ action_as t.stage.0.call next
+lawful bytes asked p cut last next t is =
+    next_with cut ∙ ap (λ n. deliver_first n (owner_next_but_wake cut (own cut))) t.stage.2 ∙ t.stage.0.next_is ∙ ap (action_as t.stage.0.call) is
+
+pub fits_at : (bytes : ℕ) (asked : Option HandleCall) (p : OwnerMachine ℕ) (cut : List Event) (last : Option Session) (next : OwnerAction ℕ)
+    → (t : OwnerAs (owner_by_parts bytes asked (stage.Polls p) last) cut) → p.next ≡ next → FitsNext t.stage.0.call p next (law.is_at_end (own cut)) (came_back cut)
+fits_at bytes asked p cut last next t is = subst (λ n. FitsNext t.stage.0.call p n (law.is_at_end (own cut)) (came_back cut)) is t.stage.0.fits
+
+-- the note that it took is of the job in the seat
+noted_so : (q : OwnerMachine ℕ) (note : Option JobNumber) (sits : Bool) (seated : JobNumber) → note ≡ seat_of sits seated → (number : JobNumber) → note_at (goes_on q note) ≡ Some number
+    → Some seated ≡ Some number
+noted_so q None sits seated e number is = absurd (cc)
+noted_so q (Some note) true seated e number is = sym e ∙ is
+noted_so q (Some note) false seated e number is = absurd (cc)
+
+-- a reply that isn't that all is done leaves the handle where it is
+pub failed_fits : (c : HandleCall) (p : OwnerMachine ℕ) (why : Fault ℕ) (ended : Bool) (back : Option (List Event)) → FitsNext c p (action.Reply (reply.Failed why)) ended back
+failed_fits (handle_call.Read zero) p why ended back = (refl, tt, tt)
+failed_fits (handle_call.Read (suc n)) p why ended back = (refl, tt, tt)
+failed_fits _ p why ended back = (refl, tt, tt)
+
+some_fits : (c : HandleCall) (p : OwnerMachine ℕ) (count : ℕ) (ended : Bool) (back : Option (List Event)) → 0 < count → FitsNext c p (action.Reply (reply.Count count)) ended back
+some_fits c p zero ended back some = absurd (omega arith)
+some_fits (handle_call.Read zero) p (suc count) ended back some = (refl, tt, tt)
+some_fits (handle_call.Read (suc n)) p (suc count) ended back some = (refl, tt, tt)
+some_fits _ p (suc count) ended back some = (refl, tt, tt)
+
+-- some bytes that came out or went in are told
+got_machine : (p : OwnerMachine ℕ) (most count : ℕ) (noted : Bool) → 0 < count → count ≤ most
+    → machine.after_got most count noted p ≡ record p { next = action.Reply (reply.Count count); is_waking = noted }
+got_machine p most zero noted some fits = absurd (omega arith)
+got_machine p most (suc count) noted some fits =
+    let test : nat_le (suc count) most ≡ true = grind (arith, nat_tests) in
+    ap (λ b. if b then record p { next = action.Reply (reply.Count (suc count)); is_waking = noted } else p) test
+
+-- ---- a session that was read whole, or flushed
+
+earlier_none : (a b : Option (Fault ℕ)) → earlier a b ≡ None → (a ≡ None) × (b ≡ None)
+earlier_none None b e = (refl, e)
+earlier_none (Some why) b e = absurd (cc)
+
+no_failure : (past : List Act) → fault Reading past ≡ None → has_failure (handle_answers past) ≡ false
+no_failure [] e = refl
+no_failure (Answered answer ∷ past) e =
+    let both = earlier_none (fault Reading past) (fault_in (next_but_wake Reading past) answer) e in
+    or_from (is_failure answer) (has_failure (handle_answers past)) (sound (next_but_wake Reading past) answer both.1) (no_failure past both.0)
+  where
+    sound : (action : JobAction) (answer : Answer) → fault_in action answer ≡ None → is_failure answer ≡ false
+    sound action (Failed error) e = absurd (cc)
+    sound action _ e = refl
+no_failure (_ ∷ past) e = no_failure past e
+
+pub last_is : (a : JobAction) → is_over a ≡ true → a ≡ Over
+last_is Over e = refl
+last_is _ e = absurd (cc)
+
+-- what ended, with nothing left inside, and met no fault, was read whole
+whole_by : (g : Passed) (stopped : Bool) (took : List ℕ) → stopped ≡ false → GaveAll stopped g → g.put ≡ took → g.failed ≡ false → (took ≡ g.given) × (g.ended ≡ true)
+whole_by g true took goes all put sound = absurd (cc)
+whole_by g false took goes all put sound = (sym put ∙ sym all.0, ended g.failed g.ended sound all.1)
+  where
+    ended : (a b : Bool) → a ≡ false → a || b ≡ true → b ≡ true
+    ended false b none e = e
+    ended true b none e = absurd (cc)
+
+module _ (bytes : ℕ) (asked : Option HandleCall) (p : OwnerMachine ℕ) (s : Session) (h first : ℕ) (growth : Growth) (cut : List Event) where
+  -- what the tie of the session is about
+  abbrev began : Option sessions.Session
+  began = sessions.last_session (own cut)
+
+  abbrev kind : Kind
+  kind = kind_in began
+
+  abbrev shut : Bool
+  shut = sessions.is_shut (own cut)
+
+  abbrev over : Bool
+  over = is_none (sessions.session (own cut))
+
+  abbrev gone : Bool
+  gone = sessions.is_dropped (own cut)
+
+  abbrev took : List ℕ
+  took = got (own cut)
+
+  abbrev written : List ℕ
+  written = accepted (own cut)
+
+  abbrev acts : List Act
+  acts = acts_of s.number.serial cut
+
+  abbrev js : Bool
+  js = is_job_seated cut
+
+  abbrev ps : Bool
+  ps = pipe_seat cut
+
+  abbrev ss : Bool
+  ss = slot_seat cut
+
+  abbrev Old : Type 0
+  Old = OwnerAs (owner_by_parts bytes asked (stage.Polls p) (Some s)) cut
+
+  abbrev polling : Owner
+  polling = owner_by_parts bytes asked (stage.Polls p) (Some s)
+
+  -- the session, where its kind is known
+  of_kind : (k : Kind) → kind ≡ k → Old → SessionAs s k (bound bytes) began shut over gone took written acts js ps ss
+  of_kind k e t = subst (λ k. SessionAs s k (bound bytes) began shut over gone took written acts js ps ss) e t.last
+
+  -- ---- it closes its end of the pipe
+
+  shut_state : (closed : Bool) (r : Option sessions.Session) (shut : Bool) (st : State) → IsLentOpen st → sessions.state_by closed r shut ≡ state_as st
+      → sessions.state_by closed r true ≡ state_as (machine.shut st)
+  shut_state true r shut (state.Lent kind Open) opened e = absurd (cc)
+  shut_state false None shut (state.Lent kind Open) opened e = absurd (cc)
+  shut_state false (Some r) shut (state.Lent kind Open) opened e = let same : r.kind ≡ kind_as kind = cc in ap (λ k. sessions.In k false) same
+  shut_state closed r shut _ opened e = absurd opened
+
+  shut_looks : (c : HandleCall) (st : State) (ended : Bool) → IsLentOpen st → ended ≡ false → LooksFrom c (machine.shut st) ended
+  shut_looks c (state.Lent kind Open) ended opened e = subst (λ b. LooksFrom c (state.Lent kind Shut) b) (sym e) tt
+  shut_looks c _ ended opened e = absurd opened
+
+  close_goes : p.next ≡ action.Close → Old → Goes (close_did p s polling).owner cut (by_owner h (OwnerClosed (serial_of s.pipe.job_seat)) first growth)
+  close_goes is t =
+      let note = s.pipe.job_seat in
+      let e = by_owner h (OwnerClosed (serial_of note)) first growth in
+      let c = t.stage.0.call in
+      let q : OwnerMachine ℕ = record p { state = machine.shut p.state; next = action.PollSlot; is_waking = is_some note } in
+      let fits = fits_at bytes asked p cut (Some s) action.Close t is in
+      let same : owner_after p (by.Closed (is_some note)) ≡ q = turned p action.Close (by.Closed (is_some note)) t.stage.1 is in
+      let polled : PollAs q (sessions.call (own cut)) (sessions.state (own (e ∷ cut))) law.PollSlot false (came_back cut) = record {
+        call = c;
+        asked_is = t.stage.0.asked_is;
+        call_is = t.stage.0.call_is;
+        at_is = shut_state (sessions.is_closed (own cut)) (sessions.session (own cut)) shut p.state fits.0 t.stage.0.at_is;
+        next_is = refl;
+        fits = (shut_looks c p.state p.is_at_end fits.0 fits.1, fits.1);
+      } in
+      subst (λ (m : OwnerMachine ℕ). Goes (owner_by_parts bytes asked (goes_on m note) (Some (session_after_close s))) cut e) (sym same)
+      (record {
+        acts = subst (λ n. Polls cut n (OwnerClosed (serial_of note))) (sym (lawful bytes asked p cut (Some s) action.Close t is)) (ap OwnerClosed (noted_is s (bound bytes) cut t.last));
+        ends = tt;
+        tie = record {
+          made = t.made;
+          gone = t.gone ∙ not_gone q note;
+          asked = t.asked;
+          polled = t.polled ∙ still_called q note asked;
+          bytes = t.bytes;
+          calls = t.calls;
+          stage = goes_on_so q note (sessions.call (own cut)) (sessions.state (own (e ∷ cut))) law.PollSlot false (came_back cut) polled refl;
+          last = shuts s kind (bound bytes) began shut over gone took written acts js ps ss t.last;
+          ended = λ is_end. absurd (cc);
+          earlier = t.earlier;
+          noted = noted_so q note js s.number t.last.seats.job;
+          told = λ waits. absurd (cc);
+        };
+      })
+
+  -- ---- it drains the pipe
+
+  -- what it finds is what the law says
+  found_so : (most : ℕ) → 0 < most → Old
+      → drain_act (drained (reach most s) s) ≡ seen_drain (drain most (inside cut) (not (has_closed (last_job cut))) (noted cut))
+  found_so most some t =
+      ap drain_act (reached most s.pipe.items s.pipe.is_job_open s.pipe.job_seat some) ∙ drain_seen most s.pipe.items s.pipe.is_job_open s.pipe.job_seat
+      ∙ ap (λ l. seen_drain (drain most l s.pipe.is_job_open (serial_of s.pipe.job_seat))) (sym (inside_is s (bound bytes) cut t.last))
+      ∙ ap (λ b. seen_drain (drain most (inside cut) b (serial_of s.pipe.job_seat))) (sym (lasts_is s (bound bytes) cut t.last))
+      ∙ ap (λ n. seen_drain (drain most (inside cut) (not (has_closed (last_job cut))) n)) (noted_is s (bound bytes) cut t.last)
+
+  drain_goes : (most : ℕ) → p.next ≡ action.Drain most → Old → (met : Met (List ℕ × Option JobNumber)) → drained (reach most s) s ≡ met
+      → Goes (drain_did met p s polling).owner cut (by_owner h (drain_did met p s polling).act first growth)
+  drain_goes most is t (Served found) e =
+      let c = t.stage.0.call in
+      let fits = fits_at bytes asked p cut (Some s) (action.Drain most) t is in
+      let lent = lent_at (own cut) Reading true (t.stage.0.at_is ∙ ap state_as fits.2) in
+      let seen = by_owner h (Got found.0 (serial_of found.1)) first growth in
+      let here = front (max 1 (reach most s)) s.pipe.items s.pipe.is_job_open s.pipe.job_seat found e in
+      let count = ap (λ (l : List ℕ). length l) here.0 ∙ length-take (max 1 (reach most s)) s.pipe.items in
+      let some : 0 < length s.pipe.items = some_in s.pipe.items here.2 in
+      let wanted = fits.1 in
+      let q : OwnerMachine ℕ = record p { next = action.Reply (reply.Count (length found.0)); is_waking = is_some found.1 } in
+      let any : 0 < length found.0 = omega (arith, count, some) in
+      let same : owner_after p (by.Got (length found.0) (is_some found.1)) ≡ q =
+      turned p (action.Drain most) (by.Got (length found.0) (is_some found.1)) t.stage.1 is ∙ got_machine p most (length found.0) (is_some found.1) any (omega (arith, count, wanted)) in
+      let polled : PollAs q (sessions.call (own cut)) (sessions.state (own cut)) (law.Say (told.Count (length found.0))) false (came_back cut) = record {
+        call = c;
+        asked_is = t.stage.0.asked_is;
+        call_is = t.stage.0.call_is;
+        at_is = t.stage.0.at_is;
+        next_is = refl;
+        fits = some_fits c q (length found.0) false (came_back cut) any;
+      } in
+      let last = takes s (bound bytes) began shut over gone took written acts js ps ss (max 1 (reach most s)) found e (of_kind Reading lent.0 t) in
+      subst (λ (m : OwnerMachine ℕ). Goes (owner_by_parts bytes asked (goes_on m found.1) (Some (session_after_drain (Served found) s))) cut seen) (sym same)
+      (record {
+        acts = subst (λ n. Polls cut n (Got found.0 (serial_of found.1))) (sym (lawful bytes asked p cut (Some s) (action.Drain most) t is)) (ap drain_act (sym e) ∙ found_so most wanted t);
+        ends = tt;
+        tie = record {
+          made = t.made;
+          gone = t.gone ∙ not_gone q found.1;
+          asked = t.asked;
+          polled = t.polled ∙ still_called q found.1 asked;
+          bytes = t.bytes;
+          calls = t.calls;
+          stage = goes_on_so q found.1 (sessions.call (own cut)) (sessions.state (own cut)) (law.Say (told.Count (length found.0))) false (came_back cut) polled refl;
+          last = subst (λ k. SessionAs (session_after_drain (Served found) s) k (bound bytes) began shut over gone (took ++ found.0) written acts false ps ss) (sym lent.0) last;
+          ended = λ is_end. absurd (cc);
+          earlier = t.earlier;
+          noted = noted_so q found.1 js s.number (here.1 ∙ t.last.seats.job);
+          told = λ waits. absurd (cc);
+        };
+      })
+    where
+      some_in : (l : List ℕ) → (l ≡ [] → ⊥) → 0 < length l
+      some_in [] none = absurd (none refl)
+      some_in (x ∷ xs) none = omega arith
+  drain_goes most is t Waiting e =
+      let fits = fits_at bytes asked p cut (Some s) (action.Drain most) t is in
+      let lent = lent_at (own cut) Reading true (t.stage.0.at_is ∙ ap state_as fits.2) in
+      let at_pipe = lawful bytes asked p cut (Some s) (action.Drain most) t is in
+      let last = waits s (bound bytes) began shut over gone took written acts js ps ss (max 1 (reach most s)) e (of_kind Reading lent.0 t) in
+      record {
+        acts = subst (λ n. Polls cut n Waits) (sym at_pipe) (ap drain_act (sym e) ∙ found_so most fits.1 t);
+        ends = tt;
+        tie = record {
+          made = t.made;
+          gone = t.gone;
+          asked = t.asked;
+          polled = refl;
+          bytes = t.bytes;
+          calls = t.calls;
+          stage = (t.stage.0.at_is, refl, refl);
+          last = subst (λ n. SessionAs (session_after_drain Waiting s) kind (bound bytes) began shut over gone took written acts js (pipe_seated_by Waits (place_of n) ps) (slot_seated_by Waits (place_of n) ss)) (sym at_pipe)
+              (subst (λ k. SessionAs (session_after_drain Waiting s) k (bound bytes) began shut over gone took written acts js true ss) (sym lent.0) last);
+          ended = λ is_end. absurd (cc);
+          earlier = t.earlier;
+          noted = λ number is. absurd (cc);
+          told = λ waits. (refl, inr refl);
+        };
+      }
+  drain_goes most is t Closed e =
+      let c = t.stage.0.call in
+      let fits = fits_at bytes asked p cut (Some s) (action.Drain most) t is in
+      let lent = lent_at (own cut) Reading true (t.stage.0.at_is ∙ ap state_as fits.2) in
+      let seen = by_owner h GotEnd first growth in
+      let q : OwnerMachine ℕ = record p { next = action.PollSlot; is_at_end = true } in
+      let same : owner_after p by.Ended ≡ q = turned p (action.Drain most) by.Ended t.stage.1 is in
+      let closed = at_end (max 1 (reach most s)) s.pipe.items s.pipe.is_job_open s.pipe.job_seat e in
+      subst (λ (m : OwnerMachine ℕ). Goes (owner_by_parts bytes asked (stage.Polls m) (Some s)) cut seen) (sym same)
+      (record {
+        acts = subst (λ n. Polls cut n GotEnd) (sym (lawful bytes asked p cut (Some s) (action.Drain most) t is)) (ap drain_act (sym e) ∙ found_so most fits.1 t);
+        ends = tt;
+        tie = record {
+          made = t.made;
+          gone = t.gone;
+          asked = t.asked;
+          polled = t.polled;
+          bytes = t.bytes;
+          calls = t.calls;
+          stage = (
+            record {
+              call = c;
+              asked_is = t.stage.0.asked_is;
+              call_is = t.stage.0.call_is;
+              at_is = t.stage.0.at_is;
+              next_is = refl;
+              fits = (subst (λ c. LooksFrom c p.state true) (sym fits.0) (subst (λ st. LooksFrom (handle_call.Read most) st true) (sym fits.2) tt), refl);
+            },
+            t.stage.1,
+            refl,
+          );
+          last = t.last;
+          ended = λ is_end. (closed.0, closed.1, sym (open_is s (bound bytes) cut t.last) ∙ lent.1);
+          earlier = t.earlier;
+          noted = λ number is. absurd (cc);
+          told = λ waits. absurd (cc);
+        };
+      })
+
+  -- ---- it fills the pipe
+
+  -- what it finds is what the law says
+  entered_so : (n : ℕ) → Old → fill_act (filled n s) ≡ seen_fill (fill n (room_in cut) (not (has_closed (last_job cut))) (noted cut))
+  entered_so n t =
+      fill_seen n (room s.pipe) s.pipe.is_job_open s.pipe.job_seat
+      ∙ ap (λ r. seen_fill (fill n r s.pipe.is_job_open (serial_of s.pipe.job_seat))) (sym (room_is s (bound bytes) cut t.last t.bytes))
+      ∙ ap (λ b. seen_fill (fill n (room_in cut) b (serial_of s.pipe.job_seat))) (sym (lasts_is s (bound bytes) cut t.last))
+      ∙ ap (λ n'. seen_fill (fill n (room_in cut) (not (has_closed (last_job cut))) n')) (noted_is s (bound bytes) cut t.last)
+
+  -- it was asked to write these bytes, and the handle is with a job that writes
+  pub record Writes (offered : List ℕ) (t : Old) : Type 0 where
+    pub call_is : t.stage.0.call ≡ handle_call.Write offered
+    pub some : 0 < length offered
+    pub at : p.state ≡ state.Lent session_kind.Writing Open
+    pub kind_is : kind ≡ Writing
+    pub open_is : shut ≡ false
+    pub next_is : next_of_owner cut ≡ law.Fill offered
+    pub most_is : p.next ≡ action.Fill (length offered)
+
+  fills_so : (offered : List ℕ) (most : ℕ) → asked ≡ Some (handle_call.Write offered) → p.next ≡ action.Fill most → (t : Old) → Writes offered t
+  fills_so offered most asks is t =
+      let fits = fits_at bytes asked p cut (Some s) (action.Fill most) t is in
+      let called : Some t.stage.0.call ≡ Some (handle_call.Write offered) = sym t.stage.0.asked_is ∙ t.asked ∙ asks in
+      let call : t.stage.0.call ≡ handle_call.Write offered = ap (value_of t.stage.0.call) called in
+      let same : fits.0 ≡ offered = ap (λ c. data_of (Some c)) (sym fits.1 ∙ call) in
+      let many : most ≡ length offered = fits.2 ∙ ap (λ (l : List ℕ). length l) same in
+      let lent = lent_at (own cut) Writing true (t.stage.0.at_is ∙ ap state_as fits.4) in
+      record {
+        call_is = call;
+        some = subst (λ n. 0 < n) many fits.3;
+        at = fits.4;
+        kind_is = lent.0;
+        open_is = shuts_not shut lent.1;
+        next_is = lawful bytes asked p cut (Some s) (action.Fill most) t is ∙ ap (λ c. law.Fill (data_of (Some c))) call;
+        most_is = is ∙ ap action.Fill many;
+      }
+    where
+      shuts_not : (b : Bool) → not b ≡ true → b ≡ false
+      shuts_not false e = refl
+      shuts_not true e = absurd (cc)
+
+  fill_goes : (offered : List ℕ) (t : Old) → Writes offered t → (met : Met (ℕ × Option JobNumber)) → filled (length offered) s ≡ met
+      → Goes (fill_did offered met p s polling).owner cut (by_owner h (fill_did offered met p s polling).act first growth)
+  fill_goes offered t w (Served went) e =
+      let c = t.stage.0.call in
+      let seen = by_owner h (Filled went.0 (serial_of went.1)) first growth in
+      let many = filled_some (length offered) s went e w.some in
+      let q : OwnerMachine ℕ = record p { next = action.Reply (reply.Count went.0); is_waking = is_some went.1 } in
+      let same : owner_after p (by.Took went.0 (is_some went.1)) ≡ q =
+      turned p (action.Fill (length offered)) (by.Took went.0 (is_some went.1)) t.stage.1 w.most_is ∙ got_machine p (length offered) went.0 (is_some went.1) many.0 many.1 in
+      let polled : PollAs q (sessions.call (own cut)) (sessions.state (own cut)) (law.Say (told.Count went.0)) false (came_back cut) = record {
+        call = c;
+        asked_is = t.stage.0.asked_is;
+        call_is = t.stage.0.call_is;
+        at_is = t.stage.0.at_is;
+        next_is = refl;
+        fits = some_fits c q went.0 false (came_back cut) many.0;
+      } in
+      let last = fills s (bound bytes) began shut over gone took written acts js ps ss offered went e w.open_is (of_kind Writing w.kind_is t) in
+      let offer : offered ≡ data_of (sessions.call (own cut)) = sym (ap data_of t.stage.0.asked_is ∙ ap (λ c. data_of (Some c)) w.call_is) in
+      subst (λ (m : OwnerMachine ℕ). Goes (owner_by_parts bytes asked (goes_on m went.1) (Some (session_after_fill offered (Served went) s))) cut seen) (sym same)
+      (record {
+        acts = subst (λ n. Polls cut n (Filled went.0 (serial_of went.1))) (sym w.next_is) (ap fill_act (sym e) ∙ entered_so (length offered) t);
+        ends = tt;
+        tie = record {
+          made = t.made;
+          gone = t.gone ∙ not_gone q went.1;
+          asked = t.asked;
+          polled = t.polled ∙ still_called q went.1 asked;
+          bytes = t.bytes;
+          calls = t.calls;
+          stage = goes_on_so q went.1 (sessions.call (own cut)) (sessions.state (own cut)) (law.Say (told.Count went.0)) false (came_back cut) polled refl;
+          last = subst (λ k. SessionAs (session_after_fill offered (Served went) s) k (bound bytes) began shut over gone took (accepted (own (seen ∷ cut))) acts false ps ss) (sym w.kind_is)
+              (subst (λ l. SessionAs (session_after_fill offered (Served went) s) Writing (bound bytes) began shut over gone took (written ++ take went.0 l) acts false ps ss) offer last);
+          ended = λ is_end. absurd (cc);
+          earlier = t.earlier;
+          noted = noted_so q went.1 js s.number ((filled_note (length offered) s went e).0 ∙ t.last.seats.job);
+          told = λ waits. absurd (cc);
+        };
+      })
+  fill_goes offered t w Waiting e =
+      let last = fill_waits s (bound bytes) began shut over gone took written acts js ps ss offered e (of_kind Writing w.kind_is t) in
+      record {
+        acts = subst (λ n. Polls cut n Waits) (sym w.next_is) (ap fill_act (sym e) ∙ entered_so (length offered) t);
+        ends = tt;
+        tie = record {
+          made = t.made;
+          gone = t.gone;
+          asked = t.asked;
+          polled = refl;
+          bytes = t.bytes;
+          calls = t.calls;
+          stage = (t.stage.0.at_is, refl, refl);
+          last = subst (λ n. SessionAs (session_after_fill offered Waiting s) kind (bound bytes) began shut over gone took written acts js (pipe_seated_by Waits (place_of n) ps) (slot_seated_by Waits (place_of n) ss)) (sym w.next_is)
+              (subst (λ k. SessionAs (session_after_fill offered Waiting s) k (bound bytes) began shut over gone took written acts js true ss) (sym w.kind_is) last);
+          ended = λ is_end. absurd (cc);
+          earlier = t.earlier;
+          noted = λ number is. absurd (cc);
+          told = λ waits. (refl, inr refl);
+        };
+      }
+  fill_goes offered t w Closed e =
+      let c = t.stage.0.call in
+      let seen = by_owner h FillShut first growth in
+      let q : OwnerMachine ℕ = record p { next = action.Reply (reply.Count 0) } in
+      let same : owner_after p by.Shut ≡ q = turned p (action.Fill (length offered)) by.Shut t.stage.1 w.most_is in
+      subst (λ (m : OwnerMachine ℕ). Goes (owner_by_parts bytes asked (stage.Polls m) (Some s)) cut seen) (sym same)
+      (record {
+        acts = subst (λ n. Polls cut n FillShut) (sym w.next_is) (ap fill_act (sym e) ∙ entered_so (length offered) t);
+        ends = tt;
+        tie = record {
+          made = t.made;
+          gone = t.gone;
+          asked = t.asked;
+          polled = t.polled;
+          bytes = t.bytes;
+          calls = t.calls;
+          stage = (
+            record {
+              call = c;
+              asked_is = t.stage.0.asked_is;
+              call_is = t.stage.0.call_is;
+              at_is = t.stage.0.at_is;
+              next_is = refl;
+              fits = subst (λ c. FitsNext c q (action.Reply (reply.Count 0)) false (came_back cut)) (sym w.call_is) (refl, tt, tt);
+            },
+            t.stage.1,
+            refl,
+          );
+          last = t.last;
+          ended = λ is_end. absurd (cc);
+          earlier = t.earlier;
+          noted = λ number is. absurd (cc);
+          told = λ waits. absurd (cc);
+        };
+      })
+
+  -- ---- it looks into the slot
+
+  -- a session whose handle isn't back goes on
+  looks_away : (c : HandleCall) (st : State) (ended : Bool) → LooksFrom c st ended → is_away st ≡ false
+  looks_away c state.Closed ended looks = absurd looks
+  looks_away c _ ended looks = refl
+
+  lent_state : (c : HandleCall) (st : State) (ended : Bool) → LooksFrom c st ended → (r : Option sessions.Session) (b : Bool) → sessions.state_in r b ≡ state_as st → is_none r ≡ false
+  lent_state c (state.Lent kind end) ended looks None b e = absurd (cc)
+  lent_state c (state.Lent kind end) ended looks (Some r) b e = refl
+  lent_state c state.Idle ended looks r b e = absurd looks
+  lent_state c state.Closed ended looks r b e = absurd looks
+
+  shut_now : (k : Kind) (r : Option sessions.Session) (b : Bool) → sessions.state_in r b ≡ sessions.In k false → not b ≡ false
+  shut_now k None b e = absurd (cc)
+  shut_now k (Some r) b e = cc
+
+  -- one end of its pipe was closed
+  closed_end : (c : HandleCall) (st : State) (ended : Bool) → LooksFrom c st ended → IsThere st → sessions.state_in (sessions.session (own cut)) shut ≡ state_as st
+      → shut ≡ not s.pipe.is_owner_open → (ended ≡ true → IsAtEnd s) → (s.pipe.is_owner_open ≡ false) ⊎ (s.pipe.is_job_open ≡ false)
+  closed_end c (state.Lent kind Shut) false looks there at lent ends = inl (sym (not_not shut s.pipe.is_owner_open lent) ∙ shut_now (kind_as kind) (sessions.session (own cut)) shut at)
+  closed_end c (state.Lent kind Open) false looks there at lent ends = absurd (let pipe = piped kind there in cc)
+  closed_end (handle_call.Read most) (state.Lent session_kind.Reading Open) true looks there at lent ends = inr (ends refl).1
+  closed_end _ _ _ looks there at lent ends = absurd looks
+
+  -- it finds nothing yet, and is seated
+  slot_waits : p.next ≡ action.PollSlot → Old → s.slot.content ≡ Empty
+      → Goes (owner_by_parts bytes asked (stage.Rests p.state) (Some (session_after_look Empty s))) cut (by_owner h Waits first growth)
+  slot_waits is t empty =
+      let c = t.stage.0.call in
+      let fits = fits_at bytes asked p cut (Some s) action.PollSlot t is in
+      let at_slot = lawful bytes asked p cut (Some s) action.PollSlot t is in
+      let slot = subst (λ c. SlotAs c (has_finished acts) (has_given_up acts) over (fault kind acts)) empty t.last.result.slot in
+      let at = lent_by (own cut) p.state (looks_away c p.state p.is_at_end fits.0) t.stage.0.at_is in
+      let going_on = lent_state c p.state p.is_at_end fits.0 (sessions.session (own cut)) shut at in
+      let unfinished = ap has_finished (its_job s (bound bytes) cut t.last) ∙ slot.0 ∙ going_on in
+      let closed = closed_end c p.state p.is_at_end fits.0 (is_there (Some s) (bound bytes) cut p.state t.last t.stage.0.at_is) at t.last.lent.shut_is (λ is_end. t.ended (sym fits.1 ∙ is_end)) in
+      record {
+        acts = subst (λ n. Polls cut n Waits) (sym at_slot) (ap poll_slot (sym unfinished));
+        ends = tt;
+        tie = record {
+          made = t.made;
+          gone = t.gone;
+          asked = t.asked;
+          polled = refl;
+          bytes = t.bytes;
+          calls = t.calls;
+          stage = (t.stage.0.at_is, refl, refl);
+          last = subst (λ n. SessionAs (session_after_look Empty s) kind (bound bytes) began shut over gone took written acts js (pipe_seated_by Waits (place_of n) ps) (slot_seated_by Waits (place_of n) ss)) (sym at_slot)
+              (waits_for_it s kind (bound bytes) began shut over gone took written acts js ps ss empty closed t.last);
+          ended = λ is_end. absurd (cc);
+          earlier = t.earlier;
+          noted = λ number is. absurd (cc);
+          told = λ waits. (refl, inr (or_right (is_some s.pipe.owner_seat) true refl));
+        };
+      }
+
+  -- what the law says once the handle is back, by the call that is asked, the fault that the job met, its kind and its last number
+  abbrev once_back : Option HandleCall → Option (Fault ℕ) → Bool → Kind → ℕ → law.OwnerAction
+  once_back None why ended of n = law.Rest
+  once_back (Some call) why ended of n = law.after_back call why ended of n
+
+  at_back_is : (asked : Option HandleCall) (r : sessions.Session) (ended : Bool) (seen : List Event)
+      → law.at_back asked (Some r) ended seen ≡ once_back asked (fault r.kind (acts_of r.serial seen)) ended r.kind (number (acts_of r.serial seen))
+  at_back_is None r ended seen = refl
+  at_back_is (Some call) r ended seen = refl
+
+  -- only a read sees the end
+  abbrev is_read : HandleCall → Bool
+  is_read (handle_call.Read most) = true
+  is_read _ = false
+
+  reads_end : (c : HandleCall) (st : State) → LooksFrom c st true → (is_read c ≡ true) × (st ≡ state.Lent session_kind.Reading Open)
+  reads_end (handle_call.Read most) (state.Lent session_kind.Reading Open) looks = (refl, refl)
+  reads_end c (state.Lent kind Shut) looks = absurd looks
+  reads_end c state.Idle looks = absurd looks
+  reads_end c state.Closed looks = absurd looks
+  reads_end _ (state.Lent _ Open) looks = absurd looks
+
+  -- what follows once the handle is back
+  after_back_is : (c : HandleCall) (st : State) (ended : Bool) (why : Option (Fault ℕ)) (of : Kind) (last : ℕ) → is_known c ≡ true → LooksFrom c st ended
+      → law.after_back c why ended of last ≡ action_as c (machine.after_back (poll_call_of c) ended why)
+  after_back_is (handle_call.Read most) st ended (Some why) of last known looks = refl
+  after_back_is (handle_call.Read most) st true None of last known looks = refl
+  after_back_is (handle_call.Read zero) st false None of last known looks = refl
+  after_back_is (handle_call.Read (suc n)) st false None of last known looks = refl
+  after_back_is (handle_call.Write offered) st ended (Some why) of last known looks = refl
+  after_back_is (handle_call.Write []) st false None of last known looks = refl
+  after_back_is (handle_call.Write (byte ∷ more)) st false None of last known looks = refl
+  after_back_is (handle_call.Write offered) st true None of last known looks = absurd (let reads = (reads_end (handle_call.Write offered) st looks).0 in cc)
+  after_back_is handle_call.Flush st ended (Some why) of last known looks = refl
+  after_back_is handle_call.Flush st false None of last known looks = refl
+  after_back_is handle_call.Flush st true None of last known looks = absurd (let reads = (reads_end handle_call.Flush st looks).0 in cc)
+  after_back_is handle_call.Close st ended (Some why) of last known looks = refl
+  after_back_is handle_call.Close st false None of last known looks = refl
+  after_back_is handle_call.Close st true None of last known looks = absurd (let reads = (reads_end handle_call.Close st looks).0 in cc)
+  after_back_is handle_call.GetMut st false None of last known looks = refl
+  after_back_is handle_call.GetMut st false (Some why) of last known looks = refl
+  after_back_is handle_call.GetMut st true why of last known looks = absurd (let reads = (reads_end handle_call.GetMut st looks).0 in cc)
+  after_back_is _ st ended why of last known looks = absurd (cc)
+
+  -- and it fits
+  back_fits : (q : OwnerMachine ℕ) (c : HandleCall) (st : State) (ended : Bool) (why : Option (Fault ℕ)) (back : Option (List Event)) → is_known c ≡ true → LooksFrom c st ended → q.state ≡ state.Idle → q.is_at_end ≡ ended
+      → (ended ≡ true → why ≡ None → IsReadBack back) → (why ≡ None → IsFlushedBack back) → FitsNext c q (machine.after_back (poll_call_of c) ended why) false back
+  back_fits q (handle_call.Read most) st ended (Some why) back known looks at end whole flushed = failed_fits (handle_call.Read most) q why false back
+  back_fits q (handle_call.Read zero) st true None back known looks at end whole flushed = (refl, tt, tt)
+  back_fits q (handle_call.Read (suc n)) st true None back known looks at end whole flushed = (refl, whole refl refl, tt)
+  back_fits q (handle_call.Read zero) st false None back known looks at end whole flushed = (refl, tt, tt)
+  back_fits q (handle_call.Read (suc n)) st false None back known looks at end whole flushed = (tt, at, end)
+  back_fits q (handle_call.Write offered) st ended (Some why) back known looks at end whole flushed = (refl, tt, tt)
+  back_fits q (handle_call.Write []) st false None back known looks at end whole flushed = (refl, tt, tt)
+  back_fits q (handle_call.Write (byte ∷ more)) st false None back known looks at end whole flushed = (tt, at, end)
+  back_fits q (handle_call.Write offered) st true None back known looks at end whole flushed = absurd (let reads = (reads_end (handle_call.Write offered) st looks).0 in cc)
+  back_fits q handle_call.Flush st ended (Some why) back known looks at end whole flushed = (refl, tt, tt)
+  back_fits q handle_call.Flush st true None back known looks at end whole flushed = (refl, flushed refl, tt)
+  back_fits q handle_call.Flush st false None back known looks at end whole flushed = (refl, flushed refl, tt)
+  back_fits q handle_call.Close st ended (Some why) back known looks at end whole flushed = (refl, tt, tt)
+  back_fits q handle_call.Close st true None back known looks at end whole flushed = (refl, at, flushed refl)
+  back_fits q handle_call.Close st false None back known looks at end whole flushed = (refl, at, flushed refl)
+  back_fits q handle_call.GetMut st true None back known looks at end whole flushed = (refl, tt, tt)
+  back_fits q handle_call.GetMut st true (Some why) back known looks at end whole flushed = (refl, tt, tt)
+  back_fits q handle_call.GetMut st false None back known looks at end whole flushed = (refl, tt, tt)
+  back_fits q handle_call.GetMut st false (Some why) back known looks at end whole flushed = (refl, tt, tt)
+  back_fits q _ st ended why back known looks at end whole flushed = absurd (cc)
+
+  -- a job that finished is over
+  over_now : Old → has_finished acts ≡ true → next_but_wake kind acts ≡ Over
+  over_now t finished = last_is (next_but_wake kind acts) (sym t.last.result.over_is ∙ or_left (has_finished acts) (has_given_up acts) finished)
+
+  -- a session whose end was seen, and whose job met no fault, was read whole
+  read_whole : (t : Old) → kind ≡ Reading → IsAtEnd s → has_finished acts ≡ true → has_given_up acts ≡ false → fault kind acts ≡ None → IsReadWhole (by_owner h Back first growth ∷ cut)
+  read_whole t reads ends finished stays sound =
+      let job = its_job s (bound bytes) cut t.last in
+      let l = of_kind Reading reads t in
+      let next : next_but_wake Reading acts ≡ Over = subst (λ k. next_but_wake k acts ≡ Over) reads (over_now t finished) in
+      let all = subst (λ a. PassedAs a (room s.pipe) s.pipe.is_job_open (shut || has_given_up acts) (passed_by acts)) next l.flow.passed_is in
+      let put = l.flow.inside ∙ ap (λ l. took ++ l) ends.0 ∙ append-nil took in
+      let failed = no_failure acts (subst (λ k. fault k acts ≡ None) reads sound) in
+      let whole = whole_by (passed_by acts) (shut || has_given_up acts) took (or_from shut (has_given_up acts) (l.lent.shut_is ∙ ap not ends.2) stays) all put failed in
+      record {
+        all = whole.0 ∙ sym (ap gave job);
+        ended = ap (λ l. last_is_end (handle_answers l)) job ∙ whole.1;
+        sound = ap (λ l. has_failure (handle_answers l)) job ∙ failed;
+      }
+
+  -- a session that writes, and whose job met no fault, was flushed
+  flushed_whole : (t : Old) → kind ≡ Writing → has_finished acts ≡ true → has_given_up acts ≡ false → fault kind acts ≡ None → IsFlushed (by_owner h Back first growth ∷ cut)
+  flushed_whole t writes finished stays sound =
+      let job = its_job s (bound bytes) cut t.last in
+      let l = of_kind Writing writes t in
+      let next : next_but_wake Writing acts ≡ Over = subst (λ k. next_but_wake k acts ≡ Over) writes (over_now t finished) in
+      let none : fault Writing acts ≡ None = subst (λ k. fault k acts ≡ None) writes sound in
+      let all = subst (λ a. WrittenAs a l.flow.out s.pipe.items s.pipe.is_job_open shut (has_given_up acts) (wrote_by acts)) next l.flow.written_is stays in
+      let empty = (all.1.0 none).0 in
+      let inside = l.flow.inside ∙ ap (λ i. l.flow.out ++ i) empty ∙ append-nil l.flow.out in
+      record {
+        all = ap taken_by job ∙ all.0 ∙ sym inside;
+        sound = ap (λ l. has_failed_write (handle_answers l)) job ∙ l.flow.sound none;
+        flushed = ap (λ l. has_flush (handle_answers l)) job ∙ all.1.1 none;
+      }
+
+  flushed_if : (k : Kind) → (k ≡ Writing → IsFlushed (by_owner h Back first growth ∷ cut)) → IsFlushedIf k (by_owner h Back first growth ∷ cut)
+  flushed_if Writing flushed = flushed refl
+  flushed_if Reading flushed = tt
+  flushed_if _ flushed = tt
+
+  back_goes : p.next ≡ action.PollSlot → Old → (why : Option (Fault ℕ)) → s.slot.content ≡ Full why
+      → Goes (owner_by_parts bytes asked (stage.Polls (owner_after p (by.Back why))) (Some (session_after_look (Full why) s))) cut (by_owner h Back first growth)
+  back_goes is t why full =
+      let c = t.stage.0.call in
+      let fits = fits_at bytes asked p cut (Some s) action.PollSlot t is in
+      let e = by_owner h Back first growth in
+      let slot = subst (λ c. SlotAs c (has_finished acts) (has_given_up acts) over (fault kind acts)) full t.last.result.slot in
+      let q : OwnerMachine ℕ = record p { state = state.Idle; next = machine.after_back (poll_call_of c) p.is_at_end why } in
+      let same : owner_after p (by.Back why) ≡ q =
+      turned p action.PollSlot (by.Back why) t.stage.1 is ∙ ap (λ k. record p { state = state.Idle; next = machine.after_back k p.is_at_end why }) t.stage.0.call_is in
+      let finished = ap has_finished (its_job s (bound bytes) cut t.last) ∙ slot.0 in
+      let known = known_call (own cut) c t.calls t.stage.0.asked_is in
+      let last_number = number acts in
+      let table : law.at_back (sessions.call (own cut)) began (law.is_at_end (own cut)) (e ∷ cut) ≡ law.after_back c why p.is_at_end kind last_number =
+      ap (λ c. law.at_back c began (law.is_at_end (own cut)) (e ∷ cut)) t.stage.0.asked_is
+      ∙ ap (λ r. law.at_back (Some c) r (law.is_at_end (own cut)) (e ∷ cut)) t.last.lent.begun
+      ∙ at_back_is (Some c) (record { serial = s.number.serial; kind = kind }) (law.is_at_end (own cut)) (e ∷ cut)
+      ∙ ap (λ f. once_back (Some c) f (law.is_at_end (own cut)) kind last_number) (sym slot.3)
+      ∙ ap (λ b. once_back (Some c) why b kind last_number) (sym fits.1) in
+      let there = looks_away c p.state p.is_at_end fits.0 in
+      let whole = λ (is_end : p.is_at_end ≡ true) (none : why ≡ None).
+      (let here = reads_end c p.state (subst (λ b. LooksFrom c p.state b) is_end fits.0) in
+      read_whole t (lent_at (own cut) Reading true (t.stage.0.at_is ∙ ap state_as here.1)).0 (t.ended (sym fits.1 ∙ is_end)) slot.0 slot.1 (sym slot.3 ∙ none)) in
+      let flushed = λ (none : why ≡ None). flushed_if kind (λ writes. flushed_whole t writes slot.0 slot.1 (sym slot.3 ∙ none)) in
+      subst (λ (m : OwnerMachine ℕ). Goes (owner_by_parts bytes asked (stage.Polls m) (Some (session_after_look (Full why) s))) cut e) (sym same)
+      (record {
+        acts = subst (λ n. Polls cut n Back) (sym (lawful bytes asked p cut (Some s) action.PollSlot t is)) (ap poll_slot (sym finished));
+        ends = tt;
+        tie = record {
+          made = t.made;
+          gone = t.gone;
+          asked = t.asked;
+          polled = t.polled;
+          bytes = t.bytes;
+          calls = t.calls;
+          stage = (
+            record {
+              call = c;
+              asked_is = t.stage.0.asked_is;
+              call_is = t.stage.0.call_is;
+              at_is = ap (λ b. sessions.state_by b None shut) (gone_is (own cut) p.state t.stage.0.at_is ∙ there);
+              next_is = table ∙ after_back_is c p.state p.is_at_end why kind last_number known fits.0;
+              fits = back_fits q c p.state p.is_at_end why (Some (e ∷ cut)) known fits.0 refl refl whole flushed;
+            },
+            t.stage.1,
+            refl,
+          );
+          last = returns s kind (bound bytes) began shut over gone took written acts js ps ss why full t.last;
+          ended = λ is_end. absurd (cc);
+          earlier = t.earlier;
+          noted = λ number is. absurd (cc);
+          told = λ waits. absurd (cc);
+        };
+      })
+
+  look_goes : p.next ≡ action.PollSlot → Old → (content : Content (Option (Fault ℕ))) → s.slot.content ≡ content → (done : Did)
+      → look_did (looked_as content) p (session_after_look content s) polling ≡ Some done → Goes done.owner cut (by_owner h done.act first growth)
+  look_goes is t Empty e done does =
+      subst (λ (d : Did). Goes d.owner cut (by_owner h d.act first growth)) (ap (value_of done) does) (slot_waits is t e)
+  look_goes is t (Full why) e done does =
+      subst (λ (d : Did). Goes d.owner cut (by_owner h d.act first growth)) (ap (value_of done) does) (back_goes is t why e)
+  look_goes is t GivenUp e done does = absurd (cc)
+  look_goes is t (Abandoned was) e done does = absurd (subst (λ c. SlotAs c (has_finished acts) (has_given_up acts) over (fault kind acts)) e t.last.result.slot)
+
+-- ---- it replies
+
+end_is : (c : HandleCall) (r : Reply ℕ) (back : Option (List Event)) (said : Told) → reply_as r ≡ Some said → EndAs c r back → IsTrueEnd (Some c) said back
+end_is c r back said same e = subst (λ told. IsTrueEnd (Some c) (value_of said told) back) same (by_reply c r same e)
+  where
+    by_reply : (c : HandleCall) (r : Reply ℕ) → reply_as r ≡ Some said → EndAs c r back → IsTrueEnd (Some c) (value_of said (reply_as r)) back
+    by_reply (handle_call.Read (suc n)) (reply.Count zero) same e = e
+    by_reply handle_call.Flush reply.Done same e = e
+    by_reply handle_call.Close reply.Done same e = e
+    by_reply (handle_call.Read (suc n)) (reply.Count (suc k)) same e = tt
+    by_reply c (reply.Position place) same e = absurd (cc)
+    by_reply c reply.Item same e = absurd (cc)
+    by_reply handle_call.Next reply.End same e = e
+    by_reply c reply.Result same e = absurd (cc)
+    by_reply c reply.Closed same e = absurd (cc)
+    by_reply _ _ same e = tt
+
+-- where the handle is after a reply: a close that is all done has none
+after_reply : (c : HandleCall) (r : Reply ℕ) (said : Told) (closed : Bool) (last : Option sessions.Session) (shut : Bool) (st : State) → reply_as r ≡ Some said → IsGoneBy r c st
+    → sessions.state_by closed last shut ≡ state_as st → sessions.state_by (sessions.ends_close said (Some c) || closed) last shut ≡ state_as st
+after_reply c r (told.Count n) closed last shut st same away e = e
+after_reply c r told.Handle closed last shut st same away e = e
+after_reply c r (told.OneItem x) closed last shut st same away e = e
+after_reply c r told.NoMore closed last shut st same away e = e
+after_reply c r (told.Failed why) closed last shut st same away e = e
+after_reply c r (told.NotBegun why) closed last shut st same away e = e
+after_reply handle_call.Close reply.Done told.Okay closed last shut st same away e = sym (ap state_as away)
+after_reply (handle_call.Read n) reply.Done told.Okay closed last shut st same away e = e
+after_reply (handle_call.Write l) reply.Done told.Okay closed last shut st same away e = e
+after_reply handle_call.Flush reply.Done told.Okay closed last shut st same away e = e
+after_reply handle_call.GetMut reply.Done told.Okay closed last shut st same away e = e
+after_reply (handle_call.Seek position) reply.Done told.Okay closed last shut st same away e = e
+after_reply handle_call.Next reply.Done told.Okay closed last shut st same away e = e
+after_reply handle_call.Operate reply.Done told.Okay closed last shut st same away e = e
+after_reply handle_call.OperateAgain reply.Done told.Okay closed last shut st same away e = e
+after_reply handle_call.IntoInner reply.Done told.Okay closed last shut st same away e = e
+after_reply c _ told.Okay closed last shut st same away e = absurd (cc)
+
+reply_goes : (bytes : ℕ) (asked : Option HandleCall) (p : OwnerMachine ℕ) (last : Option Session) (h first : ℕ) (growth : Growth) (cut : List Event) (r : Reply ℕ) (said : Told)
+    → p.next ≡ action.Reply r → reply_as r ≡ Some said → OwnerAs (owner_by_parts bytes asked (stage.Polls p) last) cut
+    → Goes (owner_by_parts bytes asked (stage.Rests p.state) last) cut (by_owner h (Replied said) first growth)
+reply_goes bytes asked p last h first growth cut r said is same t =
+    let c = t.stage.0.call in
+    let fits = fits_at bytes asked p cut last (action.Reply r) t is in
+    record {
+      acts = subst (λ n. Polls cut n (Replied said)) (sym (lawful bytes asked p cut last (action.Reply r) t is ∙ ap say same)) refl;
+      ends = subst (λ c. IsTrueEnd c said (came_back cut)) (sym t.stage.0.asked_is) (end_is c r (came_back cut) said same fits.1);
+      tie = record {
+        made = t.made;
+        gone = t.gone;
+        asked = t.asked;
+        polled = refl;
+        bytes = t.bytes;
+        calls = t.calls;
+        stage = (
+          ap (λ c. sessions.state_by (sessions.ends_close said c || sessions.is_closed (own cut)) (sessions.session (own cut)) (sessions.is_shut (own cut))) t.stage.0.asked_is
+              ∙ after_reply c r said (sessions.is_closed (own cut)) (sessions.session (own cut)) (sessions.is_shut (own cut)) p.state same fits.2 t.stage.0.at_is,
+          refl,
+          refl,
+        );
+        last = t.last;
+        ended = λ is_end. absurd (cc);
+        earlier = t.earlier;
+        noted = λ number is. absurd (cc);
+        told = λ waits. absurd (cc);
+      };
+    }
+
+-- it drops the handle: of a close all is done
+drops_goes : (bytes : ℕ) (asked : Option HandleCall) (p : OwnerMachine ℕ) (last : Option Session) (h first : ℕ) (growth : Growth) (cut : List Event) → p.next ≡ action.DropHandle
+    → OwnerAs (owner_by_parts bytes asked (stage.Polls p) last) cut
+    → Goes (drop_did p (owner_by_parts bytes asked (stage.Polls p) last)).owner cut (by_owner h (Replied told.Okay) first growth)
+drops_goes bytes asked p last h first growth cut is t =
+    let fits = fits_at bytes asked p cut last action.DropHandle t is in
+    let called : sessions.call (own cut) ≡ Some handle_call.Close = t.stage.0.asked_is ∙ ap Some fits.0 in
+    let same : owner_after p by.Dropped ≡ record p { state = state.Closed; next = action.Reply reply.Done } = turned p action.DropHandle by.Dropped t.stage.1 is in
+    subst (λ (m : OwnerMachine ℕ). Goes (owner_by_parts bytes asked (stage.Rests m.state) last) cut (by_owner h (Replied told.Okay) first growth)) (sym same)
+    (record {
+      acts = subst (λ n. Polls cut n (Replied told.Okay)) (sym (lawful bytes asked p cut last action.DropHandle t is)) refl;
+      ends = subst (λ c. IsTrueEnd c told.Okay (came_back cut)) (sym called) fits.2;
+      tie = record {
+        made = t.made;
+        gone = t.gone;
+        asked = t.asked;
+        polled = refl;
+        bytes = t.bytes;
+        calls = t.calls;
+        stage = (
+          ap (λ c. sessions.state_by (sessions.ends_close told.Okay c || sessions.is_closed (own cut)) (sessions.session (own cut)) (sessions.is_shut (own cut))) called,
+          refl,
+          refl,
+        );
+        last = t.last;
+        ended = λ is_end. absurd (cc);
+        earlier = t.earlier;
+        noted = λ number is. absurd (cc);
+        told = λ waits. absurd (cc);
+      };
+    })
+
+-- ---- what its poll does next
+
+-- where it fills, it was asked to write something, and has a session
+own_fills : (bytes : ℕ) (asked : Option HandleCall) (p : OwnerMachine ℕ) (h first : ℕ) (growth : Growth) (cut : List Event) (done : Did) (most : ℕ) (last : Option Session) → p.next ≡ action.Fill most
+    → OwnerAs (owner_by_parts bytes asked (stage.Polls p) last) cut → fill_did_in p asked last (owner_by_parts bytes asked (stage.Polls p) last) ≡ Some done
+    → Goes done.owner cut (by_owner h done.act first growth)
+own_fills bytes (Some (handle_call.Write (byte ∷ more))) p h first growth cut done most (Some s) is t does =
+    let asks = Some (handle_call.Write (byte ∷ more)) in
+    subst (λ (d : Did). Goes d.owner cut (by_owner h d.act first growth)) (ap (value_of done) does)
+    (fill_goes bytes asks p s h first growth cut (byte ∷ more) t (fills_so bytes asks p s h first growth cut (byte ∷ more) most refl is t) (filled (length (byte ∷ more)) s) refl)
+own_fills bytes (Some (handle_call.Write (byte ∷ more))) p h first growth cut done most None is t does = absurd (cc)
+own_fills bytes (Some (handle_call.Write [])) p h first growth cut done most last is t does = absurd (cc)
+own_fills bytes (Some _) p h first growth cut done most last is t does = absurd (cc)
+own_fills bytes None p h first growth cut done most last is t does = absurd (cc)
+
+own_by : (bytes : ℕ) (asked : Option HandleCall) (p : OwnerMachine ℕ) (h first : ℕ) (growth : Growth) (cut : List Event) (done : Did) (next : OwnerAction ℕ) (last : Option Session) → p.next ≡ next
+    → OwnerAs (owner_by_parts bytes asked (stage.Polls p) last) cut → did_in next p last (owner_by_parts bytes asked (stage.Polls p) last) ≡ Some done
+    → Goes done.owner cut (by_owner h done.act first growth)
+own_by bytes asked p h first growth cut done (action.Reply r) last is t does = replies (reply_as r) refl does
+  where
+    replies : (told : Option Told) → reply_as r ≡ told → reply_did told p (owner_by_parts bytes asked (stage.Polls p) last) ≡ Some done → Goes done.owner cut (by_owner h done.act first growth)
+    replies (Some said) same does =
+        subst (λ (d : Did). Goes d.owner cut (by_owner h d.act first growth)) (ap (value_of done) does) (reply_goes bytes asked p last h first growth cut r said is same t)
+    replies None same does = absurd (cc)
+own_by bytes asked p h first growth cut done (action.Fill most) last is t does = own_fills bytes asked p h first growth cut done most last is t does
+own_by bytes asked p h first growth cut done action.DropHandle last is t does =
+    subst (λ (d : Did). Goes d.owner cut (by_owner h d.act first growth)) (ap (value_of done) does) (drops_goes bytes asked p last h first growth cut is t)
+own_by bytes asked p h first growth cut done action.Close (Some s) is t does =
+    subst (λ (d : Did). Goes d.owner cut (by_owner h d.act first growth)) (ap (value_of done) does) (close_goes bytes asked p s h first growth cut is t)
+own_by bytes asked p h first growth cut done (action.Drain most) (Some s) is t does =
+    subst (λ (d : Did). Goes d.owner cut (by_owner h d.act first growth)) (ap (value_of done) does)
+    (drain_goes bytes asked p s h first growth cut most is t (drained (reach most s) s) refl)
+own_by bytes asked p h first growth cut done action.PollSlot (Some s) is t does = look_goes bytes asked p s h first growth cut is t s.slot.content refl done does
+own_by bytes asked p h first growth cut done _ None is t does = absurd (cc)
+own_by bytes asked p h first growth cut done _ (Some s) is t does = absurd (cc)
+
+own_at : (bytes : ℕ) (asked : Option HandleCall) (here : OwnerStage) (last : Option Session) (h first : ℕ) (growth : Growth) (cut : List Event) (done : Did)
+    → OwnerAs (owner_by_parts bytes asked here last) cut → did_by here (owner_by_parts bytes asked here last) ≡ Some done → Goes done.owner cut (by_owner h done.act first growth)
+own_at bytes asked (stage.Polls p) last h first growth cut done t does =
+    own_by bytes asked p h first growth cut done p.next last refl t
+    (ap (λ n. did_in n p last (owner_by_parts bytes asked (stage.Polls p) last)) (sym (doing p t.stage.1)) ∙ does)
+own_at bytes asked (stage.Rests here) last h first growth cut done t does = absurd (cc)
+own_at bytes asked (stage.Wakes p note) last h first growth cut done t does = absurd (cc)
+own_at bytes asked stage.Dropped last h first growth cut done t does = absurd (cc)
+
+-- an act of its poll that asks no pool
+pub own_goes : (owner : Owner) (h first : ℕ) (growth : Growth) (cut : List Event) (done : Did) → did owner ≡ Some done → OwnerAs owner cut
+    → Goes done.owner cut (by_owner h done.act first growth)
+own_goes owner h first growth cut done does t = own_at owner.capacity owner.asked owner.stage owner.session h first growth cut done t does

@@ -1,0 +1,447 @@
+-- An owner is asked and dropped, and the pool answers it: each keeps its law and its tie.
+use Rattle.std.proofs.Common.{◌≡◌, ℕ, suc, zero, ◌<◌, ◌==◌, List, [], ◌∷◌, length, Bool, true, false, refl, sym, ap, ◌∙◌, subst, arith, Option, Some, None, if◌then◌else◌}
+use Rattle.std.specs.Prelude.{◌||◌, ◌&&◌, not, is_none}
+use Rattle.std.proofs.lemmas.Bool.{or_left}
+use Rattle.std.proofs.lemmas.Bool.Decides.{nat_tests}
+use Rattle.blocking_core.specs.OwnerCalls.{OwnerMachine, owner_next, owner_after, owner_by, owner_in, new_poll}
+use Rattle.blocking_core.specs.OwnerCalls as machine
+use Rattle.blocking_core.specs.Slots.{Content, Empty, Full, GivenUp, Abandoned}
+use Rattle.blocking_core.specs.declared.io.Fault.{Fault}
+use Rattle.blocking_core.specs.declared.io.Fault.TheVariants as why
+use Rattle.blocking_core.specs.declared.unblock.OwnerAction.{OwnerAction}
+use Rattle.blocking_core.specs.declared.unblock.OwnerAction.TheVariants as action
+use Rattle.blocking_core.specs.declared.unblock.OwnerAnswer.TheVariants as by
+use Rattle.blocking_core.specs.declared.unblock.OwnerEnd.{OwnerEnd}
+use Rattle.blocking_core.specs.declared.unblock.OwnerEnd.TheVariants.{Open, Shut}
+use Rattle.blocking_core.specs.declared.unblock.PollCall.TheVariants as poll_call
+use Rattle.blocking_core.specs.declared.unblock.Reply.TheVariants as reply
+use Rattle.blocking_core.specs.declared.unblock.SessionKind.{SessionKind}
+use Rattle.blocking_core.specs.declared.unblock.SessionKind.TheVariants as session_kind
+use Rattle.blocking_core.specs.declared.unblock.State.{State}
+use Rattle.blocking_core.specs.declared.unblock.State.TheVariants as state
+use Rattle.blocking_laws.specs.Ends.{came_back}
+use Rattle.blocking_laws.specs.JobTable.{Kind, Reading, Over, next_but_wake, fault, has_finished, has_given_up}
+use Rattle.blocking_laws.specs.OwnerLaws.{Polls}
+use Rattle.blocking_laws.specs.OwnerTable.{owner_next_but_wake, deliver_first}
+use Rattle.blocking_laws.specs.OwnerTable as law
+use Rattle.blocking_laws.specs.Passed.{is_serial, kind_in}
+use Rattle.blocking_laws.specs.Seen.{own, acts_of}
+use Rattle.blocking_laws.specs.Sessions.{jobs_of, kind_of, kind_of_job, default_capacity, is_for_closed}
+use Rattle.blocking_laws.specs.Sessions as sessions
+use Rattle.blocking_laws.specs.Steps.{is_known}
+use Rattle.blocking_laws.specs.declared.event.Act.{Act}
+use Rattle.blocking_laws.specs.declared.event.Act.TheVariants.{Asked, Accepted, Refused, JobWoken, HolderDropped, GotEnd}
+use Rattle.blocking_laws.specs.declared.event.Event.{Event}
+use Rattle.blocking_laws.specs.declared.event.Reply.TheVariants as told
+use Rattle.blocking_laws.specs.declared.step.HandleCall.{HandleCall}
+use Rattle.blocking_laws.specs.declared.step.HandleCall.TheVariants as handle_call
+use Rattle.blocking_pool.specs.Growth.{Growth}
+use Rattle.blocking_pool.specs.Jobs.{JobNumber}
+use Rattle.blocking_pool.specs.Lists.{is_in}
+use Rattle.blocking_pool.specs.declared.pool.answer.Refusal.{Refusal}
+use Rattle.blocking_pool.specs.declared.pool.answer.Woke.{Woke}
+use Rattle.blocking_lanes.specs.Owners.{poll_call_of, may_call_at}
+use Rattle.blocking_lanes.specs.OwnerSteps.{by_owner}
+use Rattle.blocking_lanes.specs.OwnerTies.{OwnerAs, FitsNext, BeginsBy, LastAs, SessionAs, SlotAs, kind_as, is_end_open, state_as, action_as, newest_note}
+use Rattle.blocking_lanes.specs.Sessions.{Session, new_session}
+use Rattle.blocking_lanes.specs.declared.owner.OwnerStage.TheVariants as stage
+use Rattle.blocking_lanes.proofs.owners.Cuts.{next_with, next_stays, kind_of_last}
+use Rattle.blocking_lanes.proofs.owners.Known.{gone_known, may_ask_known}
+use Rattle.blocking_lanes.proofs.owners.OwnerActs.{Goes, owner_by_parts, bound, turned, lawful, fits_at, failed_fits, last_is}
+use Rattle.blocking_lanes.proofs.owners.States.{IsThere, is_away, gone_is, lent_by, may_be_asked, is_there, of_session}
+use Rattle.blocking_lanes.proofs.owners.Drains.{IsLending, begins}
+
+-- ---- it is asked
+
+-- in each session the machine does what the law says
+abbrev DoesSo : HandleCall → SessionKind → OwnerEnd → Type 0
+DoesSo call kind end =
+    law.table call (sessions.In (kind_as kind) (is_end_open end))
+    ≡ action_as call (machine.in_session (machine.goes_on_in kind (poll_call_of call)) (poll_call_of call) kind end)
+
+-- the machine's table is that of the laws, wherever the call may be asked
+table_at : (call : HandleCall) (at : State) → is_known call ≡ true → may_call_at at call ≡ true → IsThere at → law.table call (state_as at) ≡ action_as call (machine.table (poll_call_of call) at)
+table_at (handle_call.Read zero) at known may there = refl
+table_at (handle_call.Write []) at known may there = refl
+table_at (handle_call.Read (suc n)) (state.Lent kind end) known may there = of_session (DoesSo (handle_call.Read (suc n))) refl refl refl refl kind end there
+table_at (handle_call.Write (byte ∷ more)) (state.Lent kind end) known may there = of_session (DoesSo (handle_call.Write (byte ∷ more))) refl refl refl refl kind end there
+table_at handle_call.Flush (state.Lent kind end) known may there = of_session (DoesSo handle_call.Flush) refl refl refl refl kind end there
+table_at handle_call.Close (state.Lent kind end) known may there = of_session (DoesSo handle_call.Close) refl refl refl refl kind end there
+table_at handle_call.GetMut (state.Lent kind end) known may there = of_session (DoesSo handle_call.GetMut) refl refl refl refl kind end there
+table_at (handle_call.Read (suc n)) state.Closed known may there = absurd (cc)
+table_at (handle_call.Write (byte ∷ more)) state.Closed known may there = absurd (cc)
+table_at handle_call.GetMut state.Closed known may there = absurd (cc)
+table_at handle_call.Flush state.Closed known may there = refl
+table_at handle_call.Close state.Closed known may there = refl
+table_at (handle_call.Read (suc n)) state.Idle known may there = refl
+table_at (handle_call.Write (byte ∷ more)) state.Idle known may there = refl
+table_at handle_call.Flush state.Idle known may there = refl
+table_at handle_call.Close state.Idle known may there = refl
+table_at handle_call.GetMut state.Idle known may there = refl
+table_at _ at known may there = absurd (cc)
+
+-- a call that was just asked goes by the table
+asked_by_table : (call : HandleCall) (begun : Bool) (here : sessions.State) → is_known call ≡ true → law.at_asked call begun here ≡ law.table call here
+asked_by_table handle_call.OperateAgain begun here known = absurd (cc)
+asked_by_table _ begun here known = refl
+
+table_is : (call : HandleCall) (begun : Bool) (at : State) (here : sessions.State) → is_known call ≡ true → may_call_at at call ≡ true → IsThere at → here ≡ state_as at
+    → law.at_asked call begun here ≡ action_as call (machine.table (poll_call_of call) at)
+table_is call begun at here known may there e = asked_by_table call begun here known ∙ ap (law.table call) e ∙ table_at call at known may there
+
+-- who stops a session closes the own end of its pipe, or looks for the handle
+stop_fits : (call : HandleCall) (kind : SessionKind) (end : OwnerEnd) → FitsNext call (new_poll (poll_call_of call) (state.Lent kind end)) (machine.stop (machine.has_pipe kind) end) false None
+stop_fits call kind end = by (machine.has_pipe kind) end refl
+  where
+    by : (pipe : Bool) (end : OwnerEnd) → machine.has_pipe kind ≡ pipe → FitsNext call (new_poll (poll_call_of call) (state.Lent kind end)) (machine.stop pipe end) false None
+    by true Open is = (is, refl)
+    by true Shut is = (tt, refl)
+    by false Open is = (is, refl)
+    by false Shut is = (tt, refl)
+
+-- so what is done in a session fits, if what is done in a session of the call's own does
+session_fits : (call : HandleCall) (kind : SessionKind) (end : OwnerEnd) (own : Bool) → machine.goes_on_in kind (poll_call_of call) ≡ own
+    → (machine.goes_on_in kind (poll_call_of call) ≡ true → FitsNext call (new_poll (poll_call_of call) (state.Lent kind Open)) (machine.in_own (poll_call_of call)) false None)
+    → FitsNext call (new_poll (poll_call_of call) (state.Lent kind end)) (machine.in_session own (poll_call_of call) kind end) false None
+session_fits call kind Open true is fits = fits is
+session_fits call kind Shut true is fits = stop_fits call kind Shut
+session_fits call kind Open false is fits = stop_fits call kind Open
+session_fits call kind Shut false is fits = stop_fits call kind Shut
+
+-- a flush, a close and the call for the handle have no session of their own
+flush_stops : (kind : SessionKind) → machine.goes_on_in kind poll_call.Flush ≡ true → ⊥
+flush_stops session_kind.Reading own = cc
+flush_stops _ own = cc
+
+close_stops : (kind : SessionKind) → machine.goes_on_in kind poll_call.Close ≡ true → ⊥
+close_stops session_kind.Reading own = cc
+close_stops _ own = cc
+
+get_stops : (kind : SessionKind) → machine.goes_on_in kind poll_call.GetMut ≡ true → ⊥
+get_stops session_kind.Reading own = cc
+get_stops _ own = cc
+
+table_fits : (call : HandleCall) (at : State) → is_known call ≡ true → may_call_at at call ≡ true → FitsNext call (new_poll (poll_call_of call) at) (machine.table (poll_call_of call) at) false None
+table_fits (handle_call.Read zero) at known may = (refl, tt, tt)
+table_fits (handle_call.Read (suc n)) state.Idle known may = (tt, refl, refl)
+table_fits (handle_call.Read (suc n)) (state.Lent kind end) known may = session_fits (handle_call.Read (suc n)) kind end (machine.goes_on_in kind (poll_call.Read (suc n))) refl (own kind)
+  where
+    own : (kind : SessionKind) → machine.goes_on_in kind (poll_call.Read (suc n)) ≡ true
+        → FitsNext (handle_call.Read (suc n)) (new_poll (poll_call.Read (suc n)) (state.Lent kind Open)) (action.Drain (suc n)) false None
+    own session_kind.Reading is = (refl, omega arith, refl, refl)
+    own _ is = absurd (cc)
+table_fits (handle_call.Read (suc n)) state.Closed known may = absurd (cc)
+table_fits (handle_call.Write []) at known may = (refl, tt, tt)
+table_fits (handle_call.Write (byte ∷ more)) state.Idle known may = (tt, refl, refl)
+table_fits (handle_call.Write (byte ∷ more)) (state.Lent kind end) known may = session_fits (handle_call.Write (byte ∷ more)) kind end (machine.goes_on_in kind (poll_call.Write (length (byte ∷ more)))) refl (own kind)
+  where
+    own : (kind : SessionKind) → machine.goes_on_in kind (poll_call.Write (length (byte ∷ more))) ≡ true
+        → FitsNext (handle_call.Write (byte ∷ more)) (new_poll (poll_call.Write (length (byte ∷ more))) (state.Lent kind Open)) (action.Fill (length (byte ∷ more))) false None
+    own session_kind.Writing is = (byte ∷ more, refl, refl, omega arith, refl, refl)
+    own _ is = absurd (cc)
+table_fits (handle_call.Write (byte ∷ more)) state.Closed known may = absurd (cc)
+table_fits handle_call.Flush state.Idle known may = (refl, tt, tt)
+table_fits handle_call.Flush (state.Lent kind end) known may = session_fits handle_call.Flush kind end (machine.goes_on_in kind poll_call.Flush) refl (λ own. absurd (flush_stops kind own))
+table_fits handle_call.Flush state.Closed known may = (refl, tt, tt)
+table_fits handle_call.Close state.Idle known may = (refl, refl, tt)
+table_fits handle_call.Close (state.Lent kind end) known may = session_fits handle_call.Close kind end (machine.goes_on_in kind poll_call.Close) refl (λ own. absurd (close_stops kind own))
+table_fits handle_call.Close state.Closed known may = (refl, tt, refl)
+table_fits handle_call.GetMut state.Idle known may = (refl, tt, tt)
+table_fits handle_call.GetMut (state.Lent kind end) known may = session_fits handle_call.GetMut kind end (machine.goes_on_in kind poll_call.GetMut) refl (λ own. absurd (get_stops kind own))
+table_fits handle_call.GetMut state.Closed known may = absurd (cc)
+table_fits _ at known may = absurd (cc)
+
+-- it rests, by the law
+rests_so : (bytes : ℕ) (asked : Option HandleCall) (here : State) (last : Option Session) (cut : List Event) → OwnerAs (owner_by_parts bytes asked (stage.Rests here) last) cut → sessions.rests (own cut) ≡ true
+rests_so bytes asked here last cut t = rw (t.made, gone_known (own cut) t.calls ∙ t.gone, t.polled) refl
+
+pub ask_goes : (bytes : ℕ) (asked : Option HandleCall) (here : State) (last : Option Session) (h first : ℕ) (growth : Growth) (cut : List Event) (call : HandleCall)
+    → is_known call ≡ true → may_call_at here call ≡ true → OwnerAs (owner_by_parts bytes asked (stage.Rests here) last) cut
+    → Goes (owner_by_parts bytes (Some call) (stage.Polls (new_poll (poll_call_of call) here)) last) cut (by_owner h (Asked call) first growth)
+ask_goes bytes asked here last h first growth cut call known may t =
+    record {
+      acts = may_ask_known (own cut) call t.calls known
+          ∙ ap (λ b. b && (not (sessions.is_closed (own cut)) || is_for_closed call)) (rests_so bytes asked here last cut t)
+          ∙ ap (λ b. not b || is_for_closed call) (gone_is (own cut) here t.stage.0) ∙ may_be_asked here call ∙ may;
+      ends = tt;
+      tie = record {
+        made = t.made;
+        gone = t.gone;
+        asked = refl;
+        polled = refl;
+        bytes = t.bytes;
+        calls = (known, t.calls);
+        stage = (
+          record {
+            call = call;
+            asked_is = refl;
+            call_is = refl;
+            at_is = t.stage.0;
+            next_is = table_is call (sessions.has_begun (own cut)) here (sessions.state (own cut)) known may (is_there last (bound bytes) cut here t.last t.stage.0) t.stage.0;
+            fits = table_fits call here known may;
+          },
+          refl,
+          refl,
+        );
+        last = t.last;
+        ended = λ is_end. absurd (cc);
+        earlier = t.earlier;
+        noted = λ number is. absurd (cc);
+        told = λ waits. absurd (cc);
+      };
+    }
+
+-- ---- it is dropped
+
+dropped_last : (last : Option Session) (bytes h first : ℕ) (growth : Growth) (cut : List Event) → LastAs last bytes cut → LastAs last bytes (by_owner h HolderDropped first growth ∷ cut)
+dropped_last None bytes h first growth cut t = t
+dropped_last (Some s) bytes h first growth cut t = record {
+  lent = t.lent;
+  flow = t.flow;
+  result = record { slot = t.result.slot; over_is = t.result.over_is; let_go = λ is. refl };
+  seats = t.seats;
+}
+
+pub drop_goes : (bytes : ℕ) (asked : Option HandleCall) (here : State) (last : Option Session) (h first : ℕ) (growth : Growth) (cut : List Event)
+    → OwnerAs (owner_by_parts bytes asked (stage.Rests here) last) cut → Goes (owner_by_parts bytes asked stage.Dropped last) cut (by_owner h HolderDropped first growth)
+drop_goes bytes asked here last h first growth cut t = record {
+  acts = rests_so bytes asked here last cut t;
+  ends = tt;
+  tie = record {
+    made = t.made;
+    gone = refl;
+    asked = t.asked;
+    polled = refl;
+    bytes = t.bytes;
+    calls = t.calls;
+    stage = (refl, refl);
+    last = dropped_last last (bound bytes) h first growth cut t.last;
+    ended = λ is_end. absurd (cc);
+    earlier = t.earlier;
+    noted = λ number is. absurd (cc);
+    told = λ waits. absurd (cc);
+  };
+}
+
+-- ---- a session is refused
+
+-- a call tells by a fault that its session was refused
+refused : (call : HandleCall) (reason : Refusal) → BeginsBy call → machine.refusal {E = ℕ} (poll_call_of call) reason ≡ action.Reply (reply.Failed (why.Refused reason))
+refused (handle_call.Read (suc n)) reason begins = refl
+refused (handle_call.Write (byte ∷ more)) reason begins = refl
+refused _ reason begins = absurd begins
+
+refused_so : (call : HandleCall) (reason : Refusal) → BeginsBy call → law.refusal (Some call) reason ≡ told.Failed (why.Refused reason)
+refused_so (handle_call.Read (suc n)) reason begins = refl
+refused_so (handle_call.Write (byte ∷ more)) reason begins = refl
+refused_so _ reason begins = absurd begins
+
+pub refuse_goes : (bytes : ℕ) (asked : Option HandleCall) (p : OwnerMachine ℕ) (last : Option Session) (h first : ℕ) (growth : Growth) (cut : List Event) (reason : Refusal) → p.next ≡ action.Begin
+    → OwnerAs (owner_by_parts bytes asked (stage.Polls p) last) cut
+    → Goes (owner_by_parts bytes asked (stage.Polls (owner_after p (by.Refused reason))) last) cut (by_owner h (Refused reason) first growth)
+refuse_goes bytes asked p last h first growth cut reason is t =
+    let c = t.stage.0.call in
+    let begins = (fits_at bytes asked p cut last action.Begin t is).0 in
+    let q : OwnerMachine ℕ = record p { next = action.Reply (reply.Failed (why.Refused reason)) } in
+    let same : owner_after p (by.Refused reason) ≡ q =
+    turned p action.Begin (by.Refused reason) t.stage.1 is ∙ ap (λ k. record p { next = machine.refusal k reason }) t.stage.0.call_is
+    ∙ ap (λ (n : OwnerAction ℕ). record p { next = n }) (refused c reason begins) in
+    subst (λ (m : OwnerMachine ℕ). Goes (owner_by_parts bytes asked (stage.Polls m) last) cut (by_owner h (Refused reason) first growth)) (sym same)
+    (record {
+      acts = subst (λ n. Polls cut n (Refused reason)) (sym (lawful bytes asked p cut last action.Begin t is)) tt;
+      ends = tt;
+      tie = record {
+        made = t.made;
+        gone = t.gone;
+        asked = t.asked;
+        polled = t.polled;
+        bytes = t.bytes;
+        calls = t.calls;
+        stage = (
+          record {
+            call = c;
+            asked_is = t.stage.0.asked_is;
+            call_is = t.stage.0.call_is;
+            at_is = t.stage.0.at_is;
+            next_is = ap law.Say (ap (λ o. law.refusal o reason) t.stage.0.asked_is ∙ refused_so c reason begins);
+            fits = failed_fits c q (why.Refused reason) false (came_back cut);
+          },
+          t.stage.1,
+          refl,
+        );
+        last = t.last;
+        ended = λ is_end. absurd (cc);
+        earlier = t.earlier;
+        noted = λ number is. absurd (cc);
+        told = λ waits. absurd (cc);
+      };
+    })
+
+-- ---- a note is delivered
+
+fits_then : (c : HandleCall) (p : OwnerMachine ℕ) (next : OwnerAction ℕ) (ended : Bool) (back : Option (List Event)) → ended ≡ false → FitsNext c p next ended back
+    → FitsNext c (record p { is_waking = false }) next false back
+fits_then c p action.Begin ended back e f = f
+fits_then c p action.Close ended back e f = f
+fits_then c p (action.Drain most) ended back e f = f
+fits_then c p (action.Fill most) ended back e f = f
+fits_then c p action.PollSlot ended back e f = (f.0, f.1 ∙ e)
+fits_then c p action.DropHandle ended back e f = f
+fits_then c p (action.Reply r) ended back e f = f
+fits_then c p _ ended back e f = absurd f
+
+-- an act that took a note didn't see the end
+noted_goes_on : (acts : List Act) (n : ℕ) → newest_note acts ≡ Some n → law.is_at_end acts ≡ false
+noted_goes_on [] n e = refl
+noted_goes_on (GotEnd ∷ past) n e = absurd (cc)
+noted_goes_on (_ ∷ past) n e = refl
+
+pub deliver_goes : (bytes : ℕ) (asked : Option HandleCall) (p : OwnerMachine ℕ) (note : JobNumber) (last : Option Session) (h first : ℕ) (growth : Growth) (cut : List Event) (woke : Woke)
+    → OwnerAs (owner_by_parts bytes asked (stage.Wakes p note) last) cut
+    → Goes (owner_by_parts bytes asked (stage.Polls (owner_after p by.Delivered)) last) cut (by_owner h (JobWoken note.serial woke) first growth)
+deliver_goes bytes asked p note last h first growth cut woke t =
+    let e = by_owner h (JobWoken note.serial woke) first growth in
+    let q : OwnerMachine ℕ = record p { is_waking = false } in
+    let same : owner_after p by.Delivered ≡ q = ap (λ b. owner_in b by.Delivered p) t.stage.1 in
+    let wakes = next_with cut ∙ ap (λ n. deliver_first n (owner_next_but_wake cut (own cut))) t.stage.2 in
+    subst (λ (m : OwnerMachine ℕ). Goes (owner_by_parts bytes asked (stage.Polls m) last) cut e) (sym same)
+    (record {
+      acts = subst (λ n. Polls cut n (JobWoken note.serial woke)) (sym wakes) refl;
+      ends = tt;
+      tie = record {
+        made = t.made;
+        gone = t.gone;
+        asked = t.asked;
+        polled = t.polled;
+        bytes = t.bytes;
+        calls = t.calls;
+        stage = (
+          record {
+            call = t.stage.0.call;
+            asked_is = t.stage.0.asked_is;
+            call_is = t.stage.0.call_is;
+            at_is = t.stage.0.at_is;
+            next_is = next_stays (e ∷ cut) cut (own cut) (λ back k s. (refl, refl)) ∙ t.stage.0.next_is;
+            fits = fits_then t.stage.0.call p p.next (law.is_at_end (own cut)) (came_back cut) (noted_goes_on (own cut) note.serial t.stage.2) t.stage.0.fits;
+          },
+          refl,
+          refl,
+        );
+        last = t.last;
+        ended = λ is_end. absurd (cc);
+        earlier = t.earlier;
+        noted = λ number is. absurd (cc);
+        told = λ waits. absurd (cc);
+      };
+    })
+
+-- ---- a session begins
+
+-- the pipes of its sessions hold something
+some_bound : (bytes : ℕ) → 0 < bound bytes
+some_bound bytes = at (bytes == 0) refl
+  where
+    at : (b : Bool) → (bytes == 0) ≡ b → 0 < (if b then default_capacity Reading else bytes)
+    at true e = omega arith
+    at false e = grind (arith, nat_tests)
+
+-- the new job is in the list of its jobs, before the others
+in_more : (t s : ℕ) (jobs : List ℕ) → (t == s) ≡ false → is_in t (s ∷ jobs) ≡ true → is_in t jobs ≡ true
+in_more t s jobs other e = ap (λ b. b || is_in t jobs) (sym other) ∙ e
+
+-- the handle was back, so the job of the last session is over
+last_over : (last : Option Session) (bytes : ℕ) (cut : List Event) → LastAs last bytes cut → sessions.state_in (sessions.session (own cut)) (sessions.is_shut (own cut)) ≡ sessions.Idle → (t : ℕ)
+    → is_serial (sessions.last_session (own cut)) (Some t) ≡ true → next_but_wake (kind_of_job t (own cut)) (acts_of t cut) ≡ Over
+last_over None bytes cut l idle t is = absurd (let none = ap (λ r. is_serial r (Some t)) (sym l.0) ∙ is in cc)
+last_over (Some s) bytes cut l idle t is =
+    let test : (t == s.number.serial) ≡ true = ap (λ r. is_serial r (Some t)) (sym l.lent.begun) ∙ is in
+    let same : t ≡ s.number.serial = grind (arith, nat_tests) in
+    let kind = kind_in (sessions.last_session (own cut)) in
+    let of_it : kind_of_job s.number.serial (own cut) ≡ kind = kind_of_last (own cut) (record { serial = s.number.serial; kind = kind }) l.lent.begun in
+    let works = acts_of s.number.serial cut in
+    let finished = back_finished s.slot.content (has_finished works) (has_given_up works) (is_none (sessions.session (own cut))) (fault kind works) (back (sessions.session (own cut)) (sessions.is_shut (own cut)) idle) l.result.slot in
+    ap (λ n. next_but_wake (kind_of_job n (own cut)) (acts_of n cut)) same ∙ ap (λ k. next_but_wake k works) of_it
+    ∙ last_is (next_but_wake kind works) (sym l.result.over_is ∙ or_left (has_finished works) (has_given_up works) finished)
+  where
+    back : (r : Option sessions.Session) (shut : Bool) → sessions.state_in r shut ≡ sessions.Idle → is_none r ≡ true
+    back None shut e = refl
+    back (Some r) shut e = absurd (cc)
+
+    back_finished : (content : Content (Option (Fault ℕ))) (finished given_up back : Bool) (found : Option (Fault ℕ)) → back ≡ true → SlotAs content finished given_up back found → finished ≡ true
+    back_finished Empty finished given_up back found is slot = slot.0 ∙ is
+    back_finished (Full w) finished given_up back found is slot = slot.0
+    back_finished GivenUp finished given_up back found is slot = absurd (let not_back = slot.2 in cc)
+    back_finished (Abandoned over) finished given_up back found is slot = absurd slot
+
+-- Where the handle is once a session of a call began, and that the call goes on there.
+record Began (c : HandleCall) (p : OwnerMachine ℕ) (back : Option (List Event)) : Type 0 where
+  pub lending : IsLending (kind_of (Some c))
+  pub at_is : sessions.In (kind_of (Some c)) true ≡ state_as (machine.begun_by (poll_call_of c))
+  pub next_is : law.at_accepted (Some c) (sessions.In (kind_of (Some c)) true) ≡ action_as c (machine.in_own (poll_call_of c))
+  pub fits : FitsNext c (record p { state = machine.begun_by (poll_call_of c); next = machine.in_own (poll_call_of c) })
+      (machine.in_own (poll_call_of c)) false back
+
+begins_by : (c : HandleCall) (p : OwnerMachine ℕ) (back : Option (List Event)) → BeginsBy c → p.is_at_end ≡ false → Began c p back
+begins_by (handle_call.Read (suc n)) p back begins end = record { lending = tt; at_is = refl; next_is = refl; fits = (refl, omega arith, refl, end) }
+begins_by (handle_call.Write (byte ∷ more)) p back begins end = record { lending = tt; at_is = refl; next_is = refl; fits = (byte ∷ more, refl, refl, omega arith, refl, end) }
+begins_by _ p back begins end = absurd begins
+
+pub begin_goes : (bytes : ℕ) (asked : Option HandleCall) (p : OwnerMachine ℕ) (last : Option Session) (h first : ℕ) (growth : Growth) (cut : List Event) (number : JobNumber) → p.next ≡ action.Begin
+    → is_in number.serial (jobs_of (own cut)) ≡ false → acts_of number.serial cut ≡ [] → OwnerAs (owner_by_parts bytes asked (stage.Polls p) last) cut
+    → Goes (owner_by_parts bytes asked (stage.Polls (owner_after p by.Begun)) (Some (new_session number (bound bytes)))) cut (by_owner h (Accepted number.serial) first growth)
+begin_goes bytes asked p last h first growth cut number is fresh quiet t =
+    let c = t.stage.0.call in
+    let fits = fits_at bytes asked p cut last action.Begin t is in
+    let e = by_owner h (Accepted number.serial) first growth in
+    let b = begins_by c p (came_back cut) fits.0 fits.2 in
+    let q : OwnerMachine ℕ = record p { state = machine.begun_by (poll_call_of c); next = machine.in_own (poll_call_of c) } in
+    let turn : owner_after p by.Begun ≡ record p { state = machine.begun_by p.call; next = machine.in_own p.call } = turned p action.Begin by.Begun t.stage.1 is in
+    let same : owner_after p by.Begun ≡ q = turn ∙ ap (λ k. record p { state = machine.begun_by k; next = machine.in_own k }) t.stage.0.call_is in
+    let there : is_away p.state ≡ false = ap is_away fits.1 in
+    let kind : kind_of (sessions.call (own cut)) ≡ kind_of (Some c) = ap kind_of t.stage.0.asked_is in
+    let began : Option sessions.Session = Some (record { serial = number.serial; kind = kind_of (sessions.call (own cut)) }) in
+    let opened : sessions.state_by (sessions.is_closed (own cut)) began false ≡ sessions.In (kind_of (Some c)) true =
+    ap (λ b. sessions.state_by b began false) (gone_is (own cut) p.state t.stage.0.at_is ∙ there) ∙ ap (λ k. sessions.In k true) kind in
+    let idle = lent_by (own cut) p.state there t.stage.0.at_is ∙ ap state_as fits.1 in
+    let s = new_session number (bound bytes) in
+    subst (λ (m : OwnerMachine ℕ). Goes (owner_by_parts bytes asked (stage.Polls m) (Some s)) cut e) (sym same)
+    (record {
+      acts = subst (λ n. Polls cut n (Accepted number.serial)) (sym (lawful bytes asked p cut last action.Begin t is)) fresh;
+      ends = tt;
+      tie = record {
+        made = t.made;
+        gone = t.gone;
+        asked = t.asked;
+        polled = t.polled;
+        bytes = t.bytes;
+        calls = t.calls;
+        stage = (
+          record {
+            call = c;
+            asked_is = t.stage.0.asked_is;
+            call_is = t.stage.0.call_is;
+            at_is = opened ∙ b.at_is;
+            next_is = ap (λ st. law.at_accepted (sessions.call (own cut)) st) opened ∙ ap (λ o. law.at_accepted o (sessions.In (kind_of (Some c)) true)) t.stage.0.asked_is ∙ b.next_is;
+            fits = b.fits;
+          },
+          t.stage.1,
+          refl,
+        );
+        last = subst (λ (k : Kind). SessionAs s k (bound bytes) (Some (record { serial = number.serial; kind = k })) false false (sessions.is_dropped (own cut)) [] [] (acts_of number.serial cut) false false false) (sym kind)
+            (subst (λ (l : List Act). SessionAs s (kind_of (Some c)) (bound bytes) (Some (record { serial = number.serial; kind = kind_of (Some c) })) false false (sessions.is_dropped (own cut)) [] [] l false false false) (sym quiet)
+            (begins number (kind_of (Some c)) (bound bytes) (sessions.is_dropped (own cut)) b.lending (some_bound bytes)));
+        ended = λ is_end. absurd (cc);
+        earlier = λ s among other. ap (λ b. next_but_wake (if b then kind_of (sessions.call (own cut)) else kind_of_job s (own cut)) (acts_of s cut)) (turned_round s number.serial other)
+            ∙ earlier s (is_serial (sessions.last_session (own cut)) (Some s)) refl (in_more s number.serial (jobs_of (own cut)) other among) idle;
+        noted = λ number is. absurd (cc);
+        told = λ waits. absurd (cc);
+      };
+    })
+  where
+    turned_round : (s n : ℕ) → (s == n) ≡ false → (n == s) ≡ false
+    turned_round s n test = grind (arith, nat_tests)
+
+    earlier : (s : ℕ) (b : Bool) → is_serial (sessions.last_session (own cut)) (Some s) ≡ b → is_in s (jobs_of (own cut)) ≡ true → sessions.state_in (sessions.session (own cut)) (sessions.is_shut (own cut)) ≡ sessions.Idle
+        → next_but_wake (kind_of_job s (own cut)) (acts_of s cut) ≡ Over
+    earlier s true of among idle = last_over last (bound bytes) cut t.last idle s of
+    earlier s false of among idle = t.earlier s among of

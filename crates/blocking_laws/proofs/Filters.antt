@@ -1,0 +1,30 @@
+-- The cut of a cut, and what a cut keeps.
+use Rattle.std.proofs.Common.{◌≡◌, refl, Bool, true, false, List, [], ◌∷◌, cond, not, ◌&&◌}
+use Rattle.std.specs.List.{filter}
+use Rattle.blocking_laws.specs.Solo.{is_refusal, is_without_refusal}
+use Rattle.blocking_laws.specs.declared.event.Event.{Event}
+
+-- an element that passed once passes again
+both : {X : Type 0} (test : X → Bool) (x : X) (ys : List X) (b : Bool) → test x ≡ b → filter test ys ≡ ys
+    → filter test (cond b (x ∷ ys) ys) ≡ cond b (x ∷ ys) ys
+both test x ys true e h = rw (e, h) refl
+both test x ys false e h = h
+
+-- what passed a filter passes it again
+pub filter_again : {X : Type 0} (test : X → Bool) (xs : List X) → filter test (filter test xs) ≡ filter test xs
+filter_again test [] = refl
+filter_again test (x ∷ xs) = both test x (filter test xs) (test x) refl (filter_again test xs)
+
+kept : (e : Event) (b : Bool) (xs ys : List Event) → (not (is_refusal e.act) && is_without_refusal xs) ≡ true
+    → (is_without_refusal xs ≡ true → is_without_refusal ys ≡ true) → is_without_refusal (cond b (e ∷ ys) ys) ≡ true
+kept e b xs ys h next = by (is_refusal e.act) refl b h
+  where
+    by : (r : Bool) → is_refusal e.act ≡ r → (b : Bool) → (not r && is_without_refusal xs) ≡ true → is_without_refusal (cond b (e ∷ ys) ys) ≡ true
+    by true is b h = absurd cc
+    by false is true h = rw (is) (next h)
+    by false is false h = next h
+
+-- where no new job was refused, none was in a part of it
+pub without_refusal : (test : Event → Bool) (xs : List Event) → is_without_refusal xs ≡ true → is_without_refusal (filter test xs) ≡ true
+without_refusal test [] h = h
+without_refusal test (x ∷ xs) h = kept x (test x) xs (filter test xs) h (without_refusal test xs)

@@ -1,0 +1,215 @@
+-- What the worker of a job does next is the same in the parts and by what was seen; and what is its job's own to do can be done.
+use Rattle.std.proofs.Common.{◌≡◌, inl, inr, ⊎_elim, ℕ, ◌≤◌, List, [], length, Bool, true, false, refl, sym, ap, ◌∙◌, subst, Option, Some, None}
+use Rattle.std.specs.Prelude.{slice_get, is_some}
+use Rattle.std.proofs.lemmas.Option.{slice_get_cases}
+use Rattle.blocking_core.specs.Reading.{read_next}
+use Rattle.blocking_core.specs.declared.job.Action.{Action}
+use Rattle.blocking_core.specs.declared.job.Action.TheVariants as action
+use Rattle.blocking_core.specs.declared.job.read.ReadAction.{ReadAction}
+use Rattle.blocking_core.specs.declared.job.read.ReadAction.TheVariants as read
+use Rattle.blocking_core.specs.declared.job.write.WriteAction.{WriteAction}
+use Rattle.blocking_core.specs.declared.job.write.WriteAction.TheVariants as write
+use Rattle.blocking_core.specs.Writing.{write_next}
+use Rattle.blocking_crew.specs.Crews.{hand_at}
+use Rattle.blocking_crew.specs.Ties.{HandAs, turn_of}
+use Rattle.blocking_crew.specs.declared.hand.Hand.{Hand}
+use Rattle.blocking_crew.specs.declared.hand.Hand.TheVariants.{Out, Free, Holds}
+use Rattle.blocking_crew.specs.declared.hand.Held.{Held}
+use Rattle.blocking_crew.specs.declared.hand.Stage.{Stage}
+use Rattle.blocking_crew.specs.declared.hand.Stage.TheVariants as stage
+use Rattle.blocking_lanes.specs.Calls as calls
+use Rattle.blocking_lanes.specs.Calls.{RanAs}
+use Rattle.blocking_lanes.specs.OwnerSteps as owners
+use Rattle.blocking_lanes.specs.OwnerSteps.{act_of_work}
+use Rattle.blocking_lanes.specs.Owners.{Owner, Worked, read_as, read_in, worked, worked_by, write_as, write_in}
+use Rattle.blocking_lanes.specs.Reads as reads
+use Rattle.blocking_lanes.specs.SessionJobs as jobs
+use Rattle.blocking_lanes.specs.SessionJobs.{JobAs}
+use Rattle.blocking_lanes.specs.Writes as writes
+use Rattle.blocking_lanes.specs.declared.job.SessionJob.{SessionJob}
+use Rattle.blocking_lanes.specs.declared.job.SessionJob.TheVariants as job_of
+use Rattle.blocking_lanes.specs.Sessions.{Session, work_by, writer_works}
+use Rattle.blocking_lanes.specs.Steps.{TaskStep}
+use Rattle.blocking_lanes.specs.Tasks.{Task}
+use Rattle.blocking_lanes.proofs.owners.Actions.{works_some}
+use Rattle.blocking_parts.proofs.rows.SessionJobs.{job_action_is}
+use Rattle.blocking_laws.specs.JobTable.{Calling, is_asking, is_over, next_of_job, has_given_up}
+use Rattle.blocking_laws.specs.Jobs.{holder}
+use Rattle.blocking_laws.specs.Seen.{events, acts_of, cut}
+use Rattle.blocking_laws.specs.Steps.{is_there, kind_by, next_in_turn, next_with, next_of_worker, is_job_action}
+use Rattle.blocking_laws.specs.Turns.{GoesOn, turn, hand}
+use Rattle.blocking_laws.specs.declared.event.Act.{Act}
+use Rattle.blocking_laws.specs.declared.event.Moment.{Moment}
+use Rattle.blocking_pool.specs.declared.pool.standing.Standing.TheVariants.{Running}
+use Rattle.blocking_parts.specs.Parts.{Parts, InHand, row_of, job_at, job_in, next_at, next_in, done_by, done_in}
+use Rattle.blocking_parts.specs.Rows.{call_action, action_of, call_done, call_step, call_step_by, done, is_at_first, kind_of, next_of, party_of, session_done, session_seen, session_step}
+use Rattle.blocking_parts.specs.Ties.{Tied, CoreAs, PlaceAs, GaveAs}
+use Rattle.blocking_parts.specs.declared.row.Core.{Core}
+use Rattle.blocking_parts.specs.declared.row.Core.TheVariants as core
+use Rattle.blocking_parts.specs.declared.row.Row.{Row}
+use Rattle.blocking_parts.proofs.ties.Jobs.{IsHere, job_here, job_place, hand_job, next_here}
+use Rattle.blocking_parts.proofs.ties.Releases.{owner_there, task_there}
+
+-- ---- what a job does next
+
+call_next : (next : Action) (n : ℕ) (acts : List Act) → RanAs next n acts → next_of_job Calling acts ≡ call_action next
+call_next action.Call n acts ran = ap (next_of_job Calling) ran
+call_next action.Finish n acts ran = ap (next_of_job Calling) ran
+call_next action.Deliver n acts ran = ap (next_of_job Calling) ran
+call_next action.Done n acts ran = by ran
+  where
+    by : RanAs action.Done n acts → next_of_job Calling acts ≡ call_action action.Done
+    by (inl is) = ap (next_of_job Calling) is
+    by (inr is) = ap (next_of_job Calling) is
+
+job_next : (c : Core) (acts : List Act) → CoreAs c acts → has_given_up acts ≡ false → next_of_job (kind_of c) acts ≡ action_of c
+job_next (core.Call k call) acts tie stays = call_next call.next call.number acts (tie stays)
+job_next (core.Session h job) acts tie stays = sym (job_action_is job acts (tie stays))
+
+-- and so its worker, by where the job is in its turn
+stage_next : (at : Stage) (c : Core) (acts : List Act) → CoreAs c acts → PlaceAs (Some Running) (turn_of at) (is_at_first c) acts → GaveAs at acts
+    → next_in_turn (turn_of at) (next_of_job (kind_of c) acts) ≡ next_of at c
+stage_next stage.Runs c acts tie place gave = ap (next_in_turn GoesOn) (job_next c acts tie place)
+stage_next stage.Waits c acts tie place gave = refl
+stage_next stage.MustGiveUp c acts tie place gave = refl
+stage_next stage.MustWake c acts tie place gave = ap (next_in_turn (turn_of stage.MustWake)) (gave (kind_of c)).0
+stage_next stage.GaveUp c acts tie place gave = ap (next_in_turn (turn_of stage.GaveUp)) (gave (kind_of c))
+
+-- ---- what is its job's own
+
+call_own : (at : Stage) (k : ℕ) (call : calls.Progress) → is_some (call_step at call) ≡ is_job_action (next_of at (core.Call k call))
+call_own stage.Runs k call = by call.next
+  where
+    by : (next : Action) → is_some (call_step_by next call.number) ≡ is_job_action (next_in_turn GoesOn (call_action next))
+    by action.Call = refl
+    by action.Finish = refl
+    by action.Deliver = refl
+    by action.Done = refl
+call_own stage.Waits k call = refl
+call_own stage.MustGiveUp k call = refl
+call_own stage.MustWake k call = refl
+call_own stage.GaveUp k call = refl
+
+call_some : (at : Stage) (k : ℕ) (call : calls.Progress) (all : List Task) (row : List Owner) (task : Task) → is_some (call_done k call at all row (Some task) (call_step at call)) ≡ is_job_action (next_of at (core.Call k call))
+call_some at k call all row task = by (call_step at call) ∙ call_own at k call
+  where
+    by : (step : Option TaskStep) → is_some (call_done k call at all row (Some task) step) ≡ is_some step
+    by None = refl
+    by (Some step) = refl
+
+-- what has no act at a session does nothing there
+read_none : (a : ReadAction) (last : Option Session) (p : reads.Progress) (owner : Owner) → ((s : Session) → work_by a p s ≡ None) → is_some (read_in a last p owner) ≡ false
+read_none a None p owner none = refl
+read_none a (Some s) p owner none = ap (λ o. is_some (worked_by job_of.Read o owner)) (none s)
+
+write_none : (a : WriteAction) (last : Option Session) (p : writes.Progress) (owner : Owner) → ((s : Session) → writer_works a p s ≡ None) → is_some (write_in a last p owner) ≡ false
+write_none a None p owner none = refl
+write_none a (Some s) p owner none = ap (λ o. is_some (worked_by job_of.Write o owner)) (none s)
+
+-- a job of a session does something exactly where that is its own to do: what asks its handle, or is over, doesn't
+read_own : (a : ReadAction) (p : reads.Progress) (owner : Owner) → (is_asking (reads.action_as p.piece a) ≡ false → is_over (reads.action_as p.piece a) ≡ false → is_some (read_as a p owner) ≡ true)
+    → is_some (read_as a p owner) ≡ is_job_action (next_in_turn GoesOn (reads.action_as p.piece a))
+read_own read.FindRoom p owner some = some refl refl
+read_own (read.Put count) p owner some = some refl refl
+read_own read.Close p owner some = some refl refl
+read_own read.Finish p owner some = some refl refl
+read_own read.Deliver p owner some = some refl refl
+read_own (read.Read most) p owner some = read_none (read.Read most) owner.session p owner (λ s. refl)
+read_own read.Done p owner some = read_none read.Done owner.session p owner (λ s. refl)
+
+write_own : (a : WriteAction) (p : writes.Progress) (owner : Owner) → (is_asking (writes.action_as p.piece a) ≡ false → is_over (writes.action_as p.piece a) ≡ false → is_some (write_as a p owner) ≡ true)
+    → is_some (write_as a p owner) ≡ is_job_action (next_in_turn GoesOn (writes.action_as p.piece a))
+write_own write.Peek p owner some = some refl refl
+write_own (write.Consume count) p owner some = some refl refl
+write_own write.Close p owner some = some refl refl
+write_own write.Finish p owner some = some refl refl
+write_own write.Deliver p owner some = some refl refl
+write_own (write.Write count) p owner some = write_none (write.Write count) owner.session p owner (λ s. refl)
+write_own write.Flush p owner some = write_none write.Flush owner.session p owner (λ s. refl)
+write_own write.Done p owner some = write_none write.Done owner.session p owner (λ s. refl)
+
+-- so it is of a job of either kind
+worked_own : (job : SessionJob) (owner : Owner) → (is_asking (jobs.action_of job) ≡ false → is_over (jobs.action_of job) ≡ false → is_some (worked job owner) ≡ true)
+    → is_some (worked job owner) ≡ is_job_action (next_in_turn GoesOn (jobs.action_of job))
+worked_own (job_of.Read p) owner some = read_own (read_next p.core) p owner some
+worked_own (job_of.Write p) owner some = write_own (write_next p.core) p owner some
+
+-- and so by where the job is in its turn
+session_some : (at : Stage) (h : ℕ) (p : SessionJob) (all : List Task) (row : List Owner) (owner : Owner) → (at ≡ stage.Runs → is_some (worked p owner) ≡ is_job_action (next_in_turn GoesOn (jobs.action_of p)))
+    → is_some (session_done h p all row (Some owner) (session_step at p)) ≡ is_job_action (next_of at (core.Session h p))
+session_some stage.Runs h p all row owner works = by (worked p owner) ∙ works refl
+  where
+    by : (o : Option Worked) → is_some (session_seen h p all row owner (owners.Works p) (act_of_work o)) ≡ is_some o
+    by None = refl
+    by (Some did) = refl
+session_some stage.Waits h p all row owner works = refl
+session_some stage.MustGiveUp h p all row owner works = refl
+session_some stage.MustWake h p all row owner works = refl
+session_some stage.GaveUp h p all row owner works = refl
+
+-- ---- in the parts
+
+-- where nothing stands, the list is over
+pub missing : {X : Type 0} (xs : List X) (k : ℕ) → slice_get xs k ≡ None → length xs ≤ k
+missing xs k none = ⊎_elim (λ found. absurd (let some = found.2 in cc)) (λ past. past.0) (slice_get_cases xs k).1
+
+module _ (setting : ℕ) (plan : List Bool) (w : Parts) (past : List Moment) (t : Tied setting plan w past) where
+  -- nothing was seen of an owner that isn't there
+  pub unseen : (h : ℕ) → slice_get w.owners h ≡ None → cut h (events past) ≡ []
+  unseen h none = t.owned.unborn h (missing w.owners h none)
+
+  -- the kind of a job is that of its row
+  kind_is : (s : ℕ) (row : Row) → row_of w.rows s ≡ Some row → kind_by (holder past s) past s ≡ kind_of row.core
+  kind_is s row found = (t.rowed.each s row found).kind_is
+
+  next_by_hand : (v : ℕ) (h : Hand) → hand_at w.crew.hands v ≡ h → HandAs h (is_there past v) (hand past v) → next_of_worker past v ≡ next_at w v
+  next_by_hand v Out at tie = ap (λ j. next_with j past) tie.1 ∙ sym (ap (λ h. next_in (job_in w.rows h)) at)
+  next_by_hand v (Free pass) at tie = ap (λ j. next_with j past) tie.1 ∙ sym (ap (λ h. next_in (job_in w.rows h)) at)
+  next_by_hand v (Holds held) at tie =
+      let found = hand_job setting plan w past t v held at in
+      let job = found.0 in
+      let here = found.1 in
+      let s = job.held.turn.serial in
+      ap (λ j. next_with j past) (tie.1 ∙ ap (λ (h : Held). Some h.turn.serial) (sym found.2))
+      ∙ ap (λ kind. next_in_turn (turn past s) (next_of_job kind (acts_of s (events past)))) (kind_is s job.row here.has_row)
+      ∙ ap (λ u. next_in_turn u (next_of_job (kind_of job.row.core) (acts_of s (events past)))) (t.crewed.tied.handed.turn_is v job.held here.holds)
+      ∙ stage_next job.held.stage job.row.core (acts_of s (events past)) (t.rowed.each s job.row here.has_row).core (job_place setting plan w past t v job here) (t.rowed.in_hand v job.held here.holds)
+      ∙ sym (next_here w v job here)
+
+  -- A worker does next what the law says.
+  pub next_agrees : (v : ℕ) → next_of_worker past v ≡ next_at w v
+  next_agrees v = next_by_hand v (hand_at w.crew.hands v) refl (t.crewed.tied.handed.each v)
+
+  job_own : (v : ℕ) (job : InHand) → IsHere w v job → is_some (done_by w job) ≡ is_job_action (next_of job.held.stage job.row.core)
+  job_own v job here = by job.row.core refl
+    where
+      s : ℕ
+      s = job.held.turn.serial
+
+      acts : List Act
+      acts = acts_of s (events past)
+
+      by : (c : Core) → job.row.core ≡ c → is_some (done job.held.stage c w.tasks w.owners) ≡ is_job_action (next_of job.held.stage c)
+      by (core.Call k call) is =
+          let task = task_there setting plan w past t k s ((t.rowed.each s job.row here.has_row).held_by ∙ ap (λ c. Some (party_of c)) is) in
+          ap (λ o. is_some (call_done k call job.held.stage w.tasks w.owners o (call_step job.held.stage call))) task.1 ∙ call_some job.held.stage k call w.tasks w.owners task.0
+      by (core.Session h p) is =
+          let held = (t.rowed.each s job.row here.has_row).held_by ∙ ap (λ c. Some (party_of c)) is in
+          let owner = owner_there setting plan w past t h s held in
+          ap (λ o. is_some (session_done h p w.tasks w.owners o (session_step job.held.stage p))) owner.1
+          ∙ session_some job.held.stage h p w.tasks w.owners owner.0
+          (λ runs.
+          let stays : has_given_up acts ≡ false = subst (λ at. PlaceAs (Some Running) (turn_of at) (is_at_first job.row.core) acts) runs (job_place setting plan w past t v job here) in
+          let tie : CoreAs (core.Session h p) acts = subst (λ c. CoreAs c acts) is (t.rowed.each s job.row here.has_row).core in
+          worked_own p owner.0
+          (works_some owner.0 (cut h (events past)) s p (t.owned.each h owner.0 owner.1)
+          (ap (λ who. kind_by who past s) (sym held) ∙ (t.rowed.each s job.row here.has_row).kind_is ∙ ap kind_of is)
+          (subst (JobAs p) (sym (t.owned.acts h s held)) (tie stays)) (t.owned.begun h s held)))
+
+  -- And a job does something exactly where that is its own to do.
+  pub own_is : (v : ℕ) → is_some (done_in w (job_at w v)) ≡ is_job_action (next_at w v)
+  own_is v = by (job_at w v) refl
+    where
+      by : (o : Option InHand) → job_at w v ≡ o → is_some (done_in w o) ≡ is_job_action (next_in o)
+      by None is = refl
+      by (Some job) is = job_own v job (job_here w v job is)

@@ -1,0 +1,11 @@
+pub mod OtherMoves
+pub mod JobMoves
+pub mod NewJobs
+pub mod Places
+pub mod OtherEvents
+pub mod Ends
+pub mod Numbers
+pub mod JobActs
+pub mod Kinds
+pub mod SessionJobs
+pub mod Readers

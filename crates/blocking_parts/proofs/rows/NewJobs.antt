@@ -1,0 +1,261 @@
+-- A new job keeps the rows: where it is accepted, it gets the next one.
+use Rattle.std.proofs.Common.{◌≡◌, ◌⊎◌, inl, inr, ⊎_elim, ℕ, ◌+◌, ◌==◌, ◌++◌, List, [], ◌∷◌, length, length-append, Bool, true, false, refl, sym, ap, ◌∙◌, subst, Some, if◌then◌else◌, suc, zero, Option, None}
+use Rattle.std.specs.Prelude.{slice_get, slice_set, Ok}
+use Rattle.std.proofs.lemmas.Bool.{eqb-true, eq-eqb}
+use Rattle.std.proofs.lemmas.Option.{slice_get_within}
+use Rattle.blocking_core.specs.Pipes.{Pipe, empty_pipe}
+use Rattle.blocking_crew.specs.Crews.{hand_at}
+use Rattle.blocking_crew.specs.Moves as crew
+use Rattle.blocking_crew.specs.Ties.{CrewHolds, IsNumberOf}
+use Rattle.blocking_crew.specs.declared.hand.Hand.TheVariants.{Holds}
+use Rattle.blocking_crew.specs.declared.hand.Held.{Held}
+use Rattle.blocking_lanes.specs.OwnerSteps as owners
+use Rattle.blocking_core.specs.declared.unblock.OwnerAction.TheVariants as action
+use Rattle.blocking_lanes.specs.OwnerTies.{OwnerAs, BeginsBy}
+use Rattle.blocking_lanes.specs.Owners.{Owner, after_begin, capacity_of, new_job_of, next_at, number_of}
+use Rattle.blocking_lanes.specs.SessionJobs as jobs
+use Rattle.blocking_lanes.specs.SessionJobs.{JobAs, new_job}
+use Rattle.blocking_lanes.specs.Sessions.{Session}
+use Rattle.blocking_lanes.proofs.owners.OwnerActs.{owner_by_parts, fits_at}
+use Rattle.blocking_lanes.proofs.owners.Steps.{begins_at}
+use Rattle.blocking_laws.specs.JobTable.{Kind, Reading, Writing}
+use Rattle.blocking_laws.specs.Sessions as sessions
+use Rattle.blocking_laws.specs.Sessions.{kind_of_job}
+use Rattle.blocking_laws.specs.Steps.{kind_by}
+use Rattle.blocking_laws.specs.declared.step.HandleCall.{HandleCall}
+use Rattle.blocking_laws.specs.declared.step.HandleCall.TheVariants as handle_call
+use Rattle.blocking_lanes.specs.Tasks.{Task, new_task}
+use Rattle.blocking_lanes.specs.declared.owner.OwnerNext.TheVariants as next
+use Rattle.blocking_lanes.specs.declared.owner.OwnerStage.{OwnerStage}
+use Rattle.blocking_lanes.specs.declared.owner.OwnerStage.TheVariants as stage
+use Rattle.blocking_pool.proofs.Places.{got_before, got_other, got_same, in_pushed}
+use Rattle.blocking_lanes.proofs.cuts.Acts.{acts_more}
+use Rattle.blocking_laws.specs.Growth.{IsPlanned}
+use Rattle.blocking_laws.specs.Jobs.{accepted_by, accepted_jobs, accepts, ends_for_good, holder, newcomer, standing}
+use Rattle.blocking_laws.specs.Seen.{events, acts_of, acts_of_owner, own, cut, is_some_worker, joined}
+use Rattle.blocking_laws.specs.Turns.{turn}
+use Rattle.blocking_laws.specs.declared.event.Act.TheVariants.{Accepted}
+use Rattle.blocking_laws.specs.declared.event.Event.{Event}
+use Rattle.blocking_laws.specs.declared.event.Moment.{Moment}
+use Rattle.blocking_laws.specs.declared.event.Party.TheVariants.{Owner as ByOwner, Task as ByTask, Pool}
+use Rattle.blocking_pool.specs.Jobs.{JobNumber}
+use Rattle.blocking_pool.specs.declared.pool.standing.Standing.TheVariants.{Queued}
+use Rattle.blocking_parts.specs.Moves.{Begins, Lends, May, CrewMoves, step_of, rows_after, tasks_after, owners_after}
+use Rattle.blocking_parts.specs.Parts.{Parts, row_of}
+use Rattle.blocking_parts.specs.Rows.{call_row, session_row, is_at_first, is_first, kind_of, party_of}
+use Rattle.blocking_parts.specs.Ties.{Tied, Rowed, RowAs, HasRow, CoreAs, PlaceAs, GaveAs, moment}
+use Rattle.blocking_parts.specs.declared.row.Core.{Core}
+use Rattle.blocking_parts.specs.declared.row.Row.{Row}
+use Rattle.blocking_parts.proofs.moves.Lookups.{row_found, row_at, row_pushed}
+use Rattle.blocking_parts.proofs.ties.Hands.{IsOldOrBegins, hands_moved}
+use Rattle.blocking_parts.proofs.ties.Jobs.{next_row, next_free}
+use Rattle.blocking_parts.proofs.rows.OtherEvents.{row_kept}
+use Rattle.blocking_parts.proofs.ties.JobSteps.{seen_is}
+use Rattle.blocking_parts.proofs.ties.CrewEvents.{told, by_no_worker, added_of}
+
+-- an older row stays
+row_stays : (rows : List Row) (new row : Row) (s : ℕ) → row_of rows s ≡ Some row → row_of (rows ++ new ∷ []) s ≡ Some row
+row_stays rows new row s found =
+    let at = row_found rows s row found in
+    row_at (rows ++ new ∷ []) s row at.0 (got_before rows new _ (slice_get_within rows _ row at.1) ∙ at.1)
+
+-- What a new job makes of the parts, which gets this row: each task, and each owner's last session, has the number of one that was there, or
+-- is that of the new job.
+record IsBorn (w new : Parts) (past : List Moment) (now : Moment) (row : Row) : Type 0 where
+  accepted : now.event.act ≡ Accepted row.number.serial
+  by_none : is_some_worker now.event.party ≡ false
+  brings : newcomer past now.event.party ≡ party_of row.core
+  serial : row.number.serial ≡ w.crew.pool.next_serial
+  number_is : IsNumberOf new.crew.pool row.number
+  first : is_at_first row.core ≡ true
+  core : CoreAs row.core []
+  kind : (s : ℕ) → (row.number.serial == s) ≡ true → kind_by (Some (party_of row.core)) (now ∷ past) s ≡ kind_of row.core
+  hands : (v : ℕ) (held : Held) → hand_at new.crew.hands v ≡ Holds held → IsOldOrBegins w.crew.hands v held
+  rows : new.rows ≡ w.rows ++ row ∷ []
+  tasks : (k : ℕ) (task : Task) → slice_get new.tasks k ≡ Some task → (slice_get w.tasks k ≡ Some task) ⊎ ((row.number ≡ task.number) × (party_of row.core ≡ ByTask k))
+  owners : (h : ℕ) (owner : Owner) (number : JobNumber) → slice_get new.owners h ≡ Some owner → number_of owner ≡ Some number
+      → (slice_get w.owners h ≡ Some owner) ⊎ ((row.number ≡ number) × (party_of row.core ≡ ByOwner h))
+
+module _ (setting : ℕ) (plan : List Bool) (w : Parts) (past : List Moment) (t : Tied setting plan w past) (new : Parts) (now : Moment) (row : Row) (b : IsBorn w new past now row)
+    (later : CrewHolds setting plan new.crew (now ∷ past)) (numbers : (s : ℕ) (row : Row) → row_of w.rows s ≡ Some row → IsNumberOf new.crew.pool row.number) where
+  none_acts : (s : ℕ) → acts_of s (events (now ∷ past)) ≡ acts_of s (events past)
+  none_acts s = acts_more s now.event (events past) false (by_no_worker s now.event b.by_none)
+
+  last : row.number.serial ≡ length w.rows + 1
+  last = b.serial ∙ next_row setting plan w past t
+
+  -- nothing was seen of the new job
+  unseen : acts_of row.number.serial (events past) ≡ []
+  unseen = t.owned.unheld row.number.serial (ap (holder past) b.serial ∙ next_free setting plan w past t)
+
+  -- a row is an older one, or the new one of this serial
+  which : (s : ℕ) (found : Row) → row_of new.rows s ≡ Some found → ((row.number.serial == s) ≡ false) × (row_of w.rows s ≡ Some found) ⊎ ((row.number.serial == s) ≡ true) × (row ≡ found)
+  which s found is =
+      by (row.number.serial == s) refl (ap (λ n. if n == s then Some row else row_of w.rows s) last ∙ sym (row_pushed w.rows s row) ∙ sym (ap (λ l. row_of l s) b.rows) ∙ is)
+    where
+      by : (c : Bool) → (row.number.serial == s) ≡ c → (if c then Some row else row_of w.rows s) ≡ Some found
+          → ((row.number.serial == s) ≡ false) × (row_of w.rows s ≡ Some found) ⊎ ((row.number.serial == s) ≡ true) × (row ≡ found)
+      by true at is = inr (at, cc)
+      by false at is = inl (at, is)
+
+  held_by : (s : ℕ) (c : Bool) → (row.number.serial == s) ≡ c → holder (now ∷ past) s ≡ (if c then Some (party_of row.core) else holder past s)
+  held_by s c is =
+      ap (λ act. if accepts s act then Some (newcomer past now.event.party) else holder past s) b.accepted ∙ ap (λ who. if row.number.serial == s then Some who else holder past s) b.brings
+      ∙ ap (λ d. if d then Some (party_of row.core) else holder past s) is
+
+  older : (s : ℕ) (found : Row) → (row.number.serial == s) ≡ false → row_of w.rows s ≡ Some found → RowAs new (now ∷ past) s found
+  older s found other is =
+      row_kept setting plan w new past now later s found (t.rowed.each s found is) (ap (accepts s) b.accepted ∙ other) (by_no_worker s now.event b.by_none)
+      (λ ends. let none = ap (λ a. ends_for_good a s) b.accepted in absurd cc) (held_by s false other) (numbers s found is)
+
+  newest : (s : ℕ) → (row.number.serial == s) ≡ true → RowAs new (now ∷ past) s row
+  newest s here =
+      let same = eqb-true row.number.serial s here in
+      let acts : acts_of s (events (now ∷ past)) ≡ [] = none_acts s ∙ ap (λ n. acts_of n (events past)) (sym same) ∙ unseen in
+      let queued : standing (now ∷ past) s ≡ Some Queued = rw b.accepted (ap (λ c. if c then Some Queued else standing past s) here) in
+      record {
+        serial = same;
+        number = b.number_is;
+        held_by = held_by s true here;
+        kind_is = ap (λ who. kind_by who (now ∷ past) s) (held_by s true here) ∙ b.kind s here;
+        core = subst (CoreAs row.core) (sym acts) b.core;
+        place = subst (λ o. PlaceAs o (turn (now ∷ past) s) (is_at_first row.core) (acts_of s (events (now ∷ past)))) (sym queued)
+            (subst (λ l. PlaceAs (Some Queued) (turn (now ∷ past) s) (is_at_first row.core) l) (sym acts) (b.first, refl));
+      }
+
+  -- a job that had its row still has it, and the new one has its own
+  still : (number : JobNumber) (of : Core → Type 0) → HasRow w number of → HasRow new number of
+  still number of has = record { row = has.row; found = ap (λ l. row_of l number.serial) b.rows ∙ row_stays w.rows row has.row number.serial has.found; same = has.same; its = has.its }
+
+  has_new : (number : JobNumber) (of : Core → Type 0) → row.number ≡ number → of row.core → HasRow new number of
+  has_new number of same its =
+      record {
+        row = row;
+        found = ap (λ l. row_of l number.serial) b.rows ∙ row_pushed w.rows number.serial row
+            ∙ ap (λ c. if c then Some row else row_of w.rows number.serial) (eq-eqb (length w.rows + 1) number.serial (sym last ∙ ap (λ (n : JobNumber). n.serial) same));
+        same = same;
+        its = its;
+      }
+
+  rows_born : Rowed new (now ∷ past)
+  rows_born = record {
+    count =
+        ap length b.rows ∙ length-append w.rows (row ∷ []) ∙ ap (λ n. n + 1) t.rowed.count
+        ∙ sym (ap length (ap (λ a. joined (accepted_jobs past) (accepted_by a)) b.accepted) ∙ length-append (accepted_jobs past) (row.number.serial ∷ []));
+    each = λ s found is. ⊎_elim (λ old. older s found old.0 old.1) (λ one. subst (RowAs new (now ∷ past) s) one.1 (newest s one.0)) (which s found is);
+    of_task = λ k task found.
+        ⊎_elim (λ before. still task.number (λ c. party_of c ≡ ByTask k) (t.rowed.of_task k task before)) (λ is. has_new task.number (λ c. party_of c ≡ ByTask k) is.0 is.1) (b.tasks k task found);
+    of_owner = λ h owner number found is.
+        ⊎_elim (λ before. still number (λ c. party_of c ≡ ByOwner h) (t.rowed.of_owner h owner number before is)) (λ one. has_new number (λ c. party_of c ≡ ByOwner h) one.0 one.1) (b.owners h owner number found is);
+    in_hand = λ v held at.
+        subst (GaveAs held.stage) (sym (none_acts held.turn.serial))
+        (⊎_elim (λ same. t.rowed.in_hand v held same) (λ is. is (acts_of held.turn.serial (events past))) (b.hands v held at));
+  }
+
+-- ---- the moves
+
+-- its job has done nothing yet, and is at its first action
+new_so : (kind : Kind) → JobAs (new_job kind) []
+new_so Writing = record { next = refl; offered = tt; waking = refl; fault_is = refl }
+new_so Reading = record { next = refl; waking = refl; fault_is = refl }
+new_so _ = record { next = refl; waking = refl; fault_is = refl }
+
+new_first : (kind : Kind) → is_first (jobs.action_of (new_job kind)) ≡ true
+new_first Writing = refl
+new_first Reading = refl
+new_first _ = refl
+
+-- it is of the kind that the call asks for which begins the session
+kind_begun : (c : HandleCall) → BeginsBy c → sessions.kind_of (Some c) ≡ jobs.kind_of (new_job (sessions.kind_of (Some c)))
+kind_begun (handle_call.Read zero) begins = absurd begins
+kind_begun (handle_call.Read (suc n)) begins = refl
+kind_begun (handle_call.Write []) begins = absurd begins
+kind_begun (handle_call.Write (byte ∷ bytes)) begins = refl
+kind_begun _ begins = absurd begins
+
+begins_kind : (bytes : ℕ) (asked : Option HandleCall) (here : OwnerStage) (last : Option Session) (cut : List Event) → OwnerAs (owner_by_parts bytes asked here last) cut → next_at here last ≡ next.Begins
+    → sessions.kind_of (sessions.call (own cut)) ≡ jobs.kind_of (new_job (sessions.kind_of asked))
+begins_kind bytes asked (stage.Polls poll) last cut t begins =
+    let c = t.stage.0.call in
+    let fits = fits_at bytes asked poll cut last action.Begin t (begins_at bytes asked poll last cut t begins) in
+    ap sessions.kind_of t.stage.0.asked_is ∙ kind_begun c fits.0 ∙ ap (λ o. jobs.kind_of (new_job (sessions.kind_of o))) (sym t.stage.0.asked_is ∙ t.asked)
+begins_kind bytes asked (stage.Rests at) last cut t begins = absurd cc
+begins_kind bytes asked (stage.Wakes poll note) last cut t begins = absurd cc
+begins_kind bytes asked stage.Dropped last cut t begins = absurd cc
+
+-- and that its acceptance tells
+accepted_kind : (h s n first started : ℕ) (refused : Bool) (seen : List Event) → (n == s) ≡ true
+    → kind_of_job s (acts_of_owner h (record { party = ByOwner h; owner = None; job = None; act = Accepted n; first = first; started = started; start_refused = refused } ∷ seen))
+    ≡ sessions.kind_of (sessions.call (acts_of_owner h seen))
+accepted_kind h s n first started refused seen is = rw (eq-eqb h h refl, is) refl
+
+-- where a session begins, it is that of the new job
+begins_with : (number : JobNumber) (pipe : Pipe ℕ (Unit {0})) (here : OwnerStage) (owner : Owner) → next_at here owner.session ≡ next.Begins → number_of (after_begin number pipe here owner) ≡ Some number
+begins_with number pipe (stage.Polls poll) owner is = refl
+begins_with number pipe (stage.Rests at) owner is = absurd cc
+begins_with number pipe (stage.Wakes poll note) owner is = absurd cc
+begins_with number pipe stage.Dropped owner is = absurd cc
+
+module _ (setting : ℕ) (plan : List Bool) (w : Parts) (past : List Moment) (t : Tied setting plan w past) (e : Event) (new : Parts) (number : JobNumber)
+    (numbers : (s : ℕ) (row : Row) → row_of w.rows s ≡ Some row → IsNumberOf new.crew.pool row.number) where
+  -- a new call
+  pub rows_begun : CrewMoves (IsPlanned plan) (Begins (Ok number)) w e new → new.rows ≡ rows_after w (Begins (Ok number)) → new.tasks ≡ tasks_after w (Begins (Ok number)) → new.owners ≡ owners_after w (Begins (Ok number))
+      → CrewHolds setting plan new.crew (moment new (step_of (Begins (Ok number))) e ∷ past) → Rowed new (moment new (step_of (Begins (Ok number))) e ∷ past)
+  rows_begun does rows tasks owners later =
+      let said = told (IsPlanned plan) (crew.Add Pool (Ok number)) w.crew new.crew e does in
+      let added = added_of plan Pool w.crew new.crew e number does in
+      rows_born setting plan w past t new (moment new (step_of (Begins (Ok number))) e) (call_row number (length w.tasks))
+      (record {
+        accepted = said.act_is;
+        by_none = ap is_some_worker said.party;
+        brings = ap (newcomer past) said.party ∙ ap ByTask (sym t.tasked.count);
+        serial = added.0;
+        number_is = added.1;
+        first = refl;
+        core = λ going. refl;
+        kind = λ s here. refl;
+        hands = hands_moved (IsPlanned plan) (crew.Add Pool (Ok number)) w.crew new.crew e refl does;
+        rows = rows;
+        tasks = λ k task found.
+            ⊎_elim (λ old. inl old) (λ is. inr (ap (λ (x : Task). x.number) is.1, ap ByTask (sym is.0))) (in_pushed w.tasks (new_task number) k task (ap (λ (l : List Task). slice_get l k) (sym tasks) ∙ found));
+        owners = λ h owner last found is. inl (ap (λ (l : List Owner). slice_get l h) (sym owners) ∙ found);
+      }) later numbers
+
+  -- a new session
+  pub rows_lent : (h : ℕ) (owner : Owner) → May w (Lends h owner (Ok number)) → CrewMoves (IsPlanned plan) (Lends h owner (Ok number)) w e new
+      → new.rows ≡ rows_after w (Lends h owner (Ok number)) → new.tasks ≡ tasks_after w (Lends h owner (Ok number)) → new.owners ≡ owners_after w (Lends h owner (Ok number))
+      → CrewHolds setting plan new.crew (moment new (step_of (Lends h owner (Ok number))) e ∷ past) → Rowed new (moment new (step_of (Lends h owner (Ok number))) e ∷ past)
+  rows_lent h owner may does rows tasks theirs later =
+      let said = told (IsPlanned plan) (crew.Add (ByOwner h) (Ok number)) w.crew new.crew e does in
+      let added = added_of plan (ByOwner h) w.crew new.crew e number does in
+      rows_born setting plan w past t new (moment new (step_of (Lends h owner (Ok number))) e) (session_row number h (new_job_of owner))
+      (record {
+        accepted = said.act_is;
+        by_none = ap is_some_worker said.party;
+        brings = ap (newcomer past) said.party;
+        serial = added.0;
+        number_is = added.1;
+        first = new_first (sessions.kind_of owner.asked);
+        core = λ going. new_so (sessions.kind_of owner.asked);
+        kind = λ s here.
+            subst (λ (x : Event). kind_of_job s (acts_of_owner h (x ∷ events past)) ≡ jobs.kind_of (new_job_of owner)) (sym (seen_is new (ByOwner h) None None (Accepted number.serial) e said refl))
+            (accepted_kind h s number.serial e.first e.started e.start_refused (events past) here
+            ∙ begins_kind owner.capacity owner.asked owner.stage owner.session (cut h (events past)) (t.owned.each h owner may.0) may.1);
+        hands = hands_moved (IsPlanned plan) (crew.Add (ByOwner h) (Ok number)) w.crew new.crew e refl does;
+        rows = rows;
+        tasks = λ k task found. inl (ap (λ (l : List Task). slice_get l k) (sym tasks) ∙ found);
+        owners = λ j other last found is. lent j (h == j) refl other last (ap (λ (l : List Owner). slice_get l j) (sym theirs) ∙ found) is;
+      }) later numbers
+    where
+      begun : Owner
+      begun = owners.owner_after (owners.Begins number) owner
+
+      lent : (j : ℕ) (c : Bool) → (h == j) ≡ c → (other : Owner) (last : JobNumber) → slice_get (slice_set w.owners h begun) j ≡ Some other → number_of other ≡ Some last
+          → (slice_get w.owners j ≡ Some other) ⊎ ((number ≡ last) × (ByOwner h ≡ ByOwner j))
+      lent j true same other last found is =
+          let place = eqb-true h j same in
+          let at : slice_get (slice_set w.owners h begun) j ≡ Some begun = ap (slice_get (slice_set w.owners h begun)) (sym place) ∙ got_same w.owners h begun (slice_get_within w.owners h owner may.0) in
+          let one : begun ≡ other = cc in
+          let both : Some number ≡ Some last = sym (begins_with number (empty_pipe (capacity_of owner)) owner.stage owner may.1) ∙ ap number_of one ∙ is in
+          inr (cc, ap ByOwner place)
+      lent j false apart other last found is = inl (sym (got_other w.owners h j begun (λ place. let this = eq-eqb h j place in absurd cc)) ∙ found)

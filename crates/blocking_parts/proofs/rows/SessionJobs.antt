@@ -1,0 +1,42 @@
+-- The job of a session, of whatever kind: what it does next, and how far it is once it was answered.
+use Rattle.std.proofs.Common.{◌≡◌, List, [], ◌∷◌, Bool, true, false, refl, sym, ap, ◌∙◌}
+use Rattle.blocking_lanes.specs.Reads.{has_waker}
+use Rattle.blocking_lanes.specs.SessionJobs.{JobAs, action_of, job_after_answer, kind_of}
+use Rattle.blocking_lanes.specs.declared.job.SessionJob.{SessionJob}
+use Rattle.blocking_lanes.specs.declared.job.SessionJob.TheVariants as job_of
+use Rattle.blocking_lanes.proofs.owners.ReadJobs as reads
+use Rattle.blocking_lanes.proofs.owners.WriteJobs as writes
+use Rattle.blocking_laws.specs.JobTable.{Kind, JobAction, is_answer, next_but_wake, next_of_job, wake_first}
+use Rattle.blocking_laws.specs.declared.event.Act.{Act}
+use Rattle.blocking_laws.specs.declared.event.Act.TheVariants.{Answered}
+use Rattle.blocking_laws.specs.declared.step.Answer.{Answer}
+use Rattle.blocking_parts.specs.Rows.{is_first}
+
+-- what it does next is what the table says
+pub job_action_is : (job : SessionJob) (acts : List Act) → JobAs job acts → action_of job ≡ next_of_job (kind_of job) acts
+job_action_is (job_of.Read p) acts r = reads.action_is p acts r
+job_action_is (job_of.Write p) acts r = writes.action_is p acts r
+
+-- how far it is once it was answered
+pub job_answers : (job : SessionJob) (acts : List Act) (answer : Answer) → JobAs job acts → is_answer (action_of job) answer ≡ true → JobAs (job_after_answer job answer) (Answered answer ∷ acts)
+job_answers (job_of.Read p) acts answer r is = reads.answers p acts answer r is
+job_answers (job_of.Write p) acts answer r is = writes.answers p acts answer r is
+
+-- and of what kind it stays
+pub kind_answered : (job : SessionJob) (answer : Answer) → kind_of (job_after_answer job answer) ≡ kind_of job
+kind_answered (job_of.Read p) answer = refl
+kind_answered (job_of.Write p) answer = refl
+
+-- a job is at its first action only where no waker has to be called
+pub first_but_wake : (waking : Bool) (action : JobAction) → is_first (wake_first waking action) ≡ true → is_first action ≡ true
+first_but_wake true action is = absurd cc
+first_but_wake false action is = is
+
+pub next_by : (kind : Kind) (acts : List Act) → next_of_job kind acts ≡ wake_first (has_waker acts) (next_but_wake kind acts)
+next_by kind [] = refl
+next_by kind (act ∷ past) = refl
+
+-- the table of a job that is at its first action says so, also were no waker to be called
+pub first_of_table : (job : SessionJob) (acts : List Act) → JobAs job acts → is_first (action_of job) ≡ true → is_first (next_but_wake (kind_of job) acts) ≡ true
+first_of_table job acts tied first =
+    first_but_wake (has_waker acts) (next_but_wake (kind_of job) acts) (sym (ap is_first (job_action_is job acts tied ∙ next_by (kind_of job) acts)) ∙ first)

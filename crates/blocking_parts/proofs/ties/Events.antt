@@ -1,0 +1,153 @@
+-- What is seen of each move: whose it is, of which job, and what.
+use Rattle.std.proofs.Common.{◌≡◌, ⊎_elim, ℕ, List, length, Bool, true, false, refl, sym, ap, ◌∙◌, subst, Option, Some, None}
+use Rattle.std.specs.Prelude.{slice_get}
+use Rattle.blocking_core.specs.declared.job.Action.{Action}
+use Rattle.blocking_core.specs.declared.job.Action.TheVariants as action
+use Rattle.blocking_crew.specs.Crews.{Crew, hand_at, may_act}
+use Rattle.blocking_crew.specs.Moves as crew
+use Rattle.blocking_crew.specs.Moves.{added_act, parked_act, nothing, next_start}
+use Rattle.blocking_crew.specs.declared.hand.Hand.TheVariants.{Holds}
+use Rattle.blocking_crew.specs.declared.hand.Held.{Held}
+use Rattle.blocking_crew.specs.declared.hand.Stage.{Stage}
+use Rattle.blocking_crew.specs.declared.hand.Stage.TheVariants as stage
+use Rattle.blocking_crew.specs.declared.ticket.Ticket.{Ticket}
+use Rattle.blocking_crew.specs.declared.tickets.Parking.{Parking}
+use Rattle.blocking_lanes.specs.Calls as calls
+use Rattle.blocking_lanes.specs.OwnerSteps as owners
+use Rattle.blocking_lanes.specs.OwnerSteps.{OwnerStep}
+use Rattle.blocking_lanes.specs.Owners.{Owner, Worked, worked}
+use Rattle.blocking_lanes.specs.declared.job.SessionJob.{SessionJob}
+use Rattle.blocking_lanes.specs.Tasks.{Task, task_act}
+use Rattle.blocking_laws.specs.Growth.{IsPlanned}
+use Rattle.blocking_laws.specs.Steps.{named, is_answered_action}
+use Rattle.blocking_laws.specs.declared.event.Act.{Act}
+use Rattle.blocking_laws.specs.declared.event.Act.TheVariants.{Made, Asked, JobWoken, JobCancelled, HolderDropped, Answered, NoAction}
+use Rattle.blocking_laws.specs.declared.event.Event.{Event}
+use Rattle.blocking_laws.specs.declared.event.Party.TheVariants.{Owner as ByOwner, Task as ByTask, Worker, Pool}
+use Rattle.blocking_laws.specs.declared.step.Answer.{Answer}
+use Rattle.blocking_laws.specs.declared.step.TaskCall.{TaskCall}
+use Rattle.blocking_laws.specs.declared.step.TaskCall.TheVariants.{Poll, Cancel, Detach, Drop}
+use Rattle.blocking_pool.specs.declared.pool.answer.Woke.{Woke}
+use Rattle.blocking_parts.specs.Moves.{Move, Idles, Makes, Asks, Owns, Lends, Delivers, IsDropped, Begins, Calls, Works, IsAnswered, Parks, Passes, IsWoken, IsStruck, May, CrewMoves, task_call}
+use Rattle.blocking_parts.specs.Parts.{Parts}
+use Rattle.blocking_parts.specs.Rows.{Done, done, call_done, call_step, call_step_by, session_done, session_seen, session_step, next_of}
+use Rattle.blocking_parts.specs.declared.row.Core.{Core}
+use Rattle.blocking_parts.specs.declared.row.Core.TheVariants as core
+use Rattle.blocking_parts.proofs.moves.SessionActs.{fits_turn, moved, worked_so}
+use Rattle.blocking_parts.proofs.ties.Jobs.{job_here, next_here}
+use Rattle.blocking_parts.proofs.ties.CrewEvents.{Told, ToldBy, IsPlain, told, worked as works_so, plain}
+
+-- ---- what a job does fits its turn
+
+-- a job may do this where it is in its turn
+abbrev MaySo : Stage → Act → Type 0
+MaySo at act = may_act at act ≡ true
+
+module _ (d : Done) where
+  -- the job of a call
+  call_so : (at : Stage) (k : ℕ) (call : calls.Progress) (all : List Task) (row : List Owner) (task : Option Task) → call_done k call at all row task (call_step at call) ≡ Some d → MaySo at d.act
+  call_so at k call all row None e = absurd cc
+  call_so stage.Runs k call all row (Some task) e = by call.next e
+    where
+      by : (next : Action) → call_done k call stage.Runs all row (Some task) (call_step_by next call.number) ≡ Some d → MaySo stage.Runs d.act
+      by action.Finish e = moved (λ (x : Done). MaySo stage.Runs x.act) _ d e refl
+      by action.Deliver e = moved (λ (x : Done). MaySo stage.Runs x.act) _ d e refl
+      by action.Call e = absurd cc
+      by action.Done e = absurd cc
+  call_so stage.MustGiveUp k call all row (Some task) e = moved (λ (x : Done). MaySo stage.MustGiveUp x.act) _ d e refl
+  call_so stage.MustWake k call all row (Some task) e = moved (λ (x : Done). MaySo stage.MustWake x.act) _ d e refl
+  call_so stage.Waits k call all row (Some task) e = absurd cc
+  call_so stage.GaveUp k call all row (Some task) e = absurd cc
+
+  -- the job of a session
+  session_so : (at : Stage) (h : ℕ) (job : SessionJob) (all : List Task) (row : List Owner) (owner : Option Owner) → session_done h job all row owner (session_step at job) ≡ Some d → MaySo at d.act
+  session_so at h job all row None e = absurd cc
+  session_so stage.Runs h job all row (Some owner) e = by (worked job owner) refl e
+    where
+      by : (o : Option Worked) → worked job owner ≡ o → session_seen h job all row owner (owners.Works job) (owners.act_of_work o) ≡ Some d → MaySo stage.Runs d.act
+      by None is e = absurd cc
+      by (Some did) is e =
+          moved (λ (x : Done). MaySo stage.Runs x.act) _ d e
+          (⊎_elim (λ wakes. ap (may_act stage.Runs) wakes.0) (λ at. ap (may_act stage.Runs) at.act_is ∙ fits_turn at.act) (worked_so job owner did is))
+  session_so stage.MustGiveUp h job all row (Some owner) e = moved (λ (x : Done). MaySo stage.MustGiveUp x.act) _ d e refl
+  session_so stage.MustWake h job all row (Some owner) e = moved (λ (x : Done). MaySo stage.MustWake x.act) _ d e refl
+  session_so stage.Waits h job all row (Some owner) e = absurd cc
+  session_so stage.GaveUp h job all row (Some owner) e = absurd cc
+
+  pub done_fits : (at : Stage) (c : Core) (all : List Task) (row : List Owner) → done at c all row ≡ Some d → may_act at d.act ≡ true
+  done_fits at (core.Call k call) all row e = call_so at k call all row (slice_get all k) e
+  done_fits at (core.Session h job) all row e = session_so at h job all row (slice_get row h) e
+
+-- a job is answered only while its turn goes on
+pub answer_fits : (at : Stage) (c : Core) (answer : Answer) → is_answered_action (next_of at c) answer ≡ true → at ≡ stage.Runs
+answer_fits stage.Runs c answer is = refl
+answer_fits stage.Waits c answer is = absurd cc
+answer_fits stage.MustGiveUp c answer is = absurd cc
+answer_fits stage.MustWake c answer is = absurd cc
+answer_fits stage.GaveUp c answer is = absurd cc
+
+-- ---- moves
+
+-- What is seen of a move.
+abbrev pub SaidBy : Parts → Move → Event → Type 0
+SaidBy w (Idles step) e = Told (named step) None NoAction e
+SaidBy w (Makes capacity) e = Told (ByOwner (length w.owners)) None (Made (length w.owners) capacity) e
+SaidBy w (Asks h call owner) e = Told (ByOwner h) None (Asked call) e
+SaidBy w (Owns h owner did) e = Told (ByOwner h) None did.act e
+SaidBy w (Lends h owner added) e = Told (ByOwner h) None (added_act added) e
+SaidBy w (Delivers h owner number) e = (woke : Woke) × Told (ByOwner h) None (JobWoken number.serial woke) e
+SaidBy w (IsDropped h owner) e = Told (ByOwner h) None HolderDropped e
+SaidBy w (Begins added) e = Told Pool None (added_act added) e
+SaidBy w (Calls k call task) e = Told (ByTask k) None (task_act call task) e
+SaidBy w (Works v job did) e = Told (Worker v) (Some job.held.turn.serial) did.act e
+SaidBy w (IsAnswered v job answer) e = Told (Worker v) (Some job.held.turn.serial) (Answered answer) e
+SaidBy w (Parks v job) e = (how : Parking) × Told (Worker v) (Some job.held.turn.serial) (parked_act how job.held.turn.serial) e
+SaidBy w (Passes call) e = IsPlain e
+SaidBy w (IsWoken s row) e = (woke : Woke) × Told Pool None (JobWoken row.number.serial woke) e
+SaidBy w (IsStruck s row) e = (woke : Woke) × Told Pool None (JobCancelled row.number.serial woke) e
+
+call_said : (k : ℕ) (call : TaskCall) (task : Task) (e : Event) → ToldBy (task_call k call task) e → Told (ByTask k) None (task_act call task) e
+call_said k Poll task e told = told
+call_said k Cancel task e told = told
+call_said k Detach task e told = told
+call_said k Drop task e told = told
+
+-- the run of a job that waits ends so
+parks_so : (may_answer : ℕ → Bool → Type 0) (v : ℕ) (held : Held) (ticket : Ticket) (crew_now new : Crew) (e : Event) → hand_at crew_now.hands v ≡ Holds held → held.stage ≡ stage.Waits
+    → crew.Moves may_answer (crew.Park v ticket) crew_now e new → (how : Parking) × Told (Worker v) (Some held.turn.serial) (parked_act how held.turn.serial) e
+parks_so may_answer v held ticket crew_now new e at waits m = by m.move m.may m.call_is m.event_is
+  where
+    by : (move : crew.Move) → crew.May may_answer crew_now move → crew.Park v ticket ≡ crew.call_of move → e ≡ crew.event_of crew_now move
+        → (how : Parking) × Told (Worker v) (Some held.turn.serial) (parked_act how held.turn.serial) e
+    by (crew.Idles call) may is event =
+        let none : crew.has_action crew_now (crew.Park v ticket) ≡ false = subst (λ (c : crew.Call). crew.has_action crew_now c ≡ false) (sym is) may in
+        absurd (let some = at in let is_so = waits in cc)
+    by (crew.Parks u other mark how pool) may is event =
+        let who : v ≡ u = cc in
+        let both : Holds held ≡ Holds other = sym at ∙ ap (hand_at crew_now.hands) who ∙ may.0 in
+        let one : held ≡ other = cc in
+        let seen = event ∙ ap (λ n. crew.event_of crew_now (crew.Parks n other mark how pool)) (sym who) ∙ ap (λ x. crew.event_of crew_now (crew.Parks v x mark how pool)) (sym one) in
+        (how, record { party = ap (λ (f : Event). f.party) seen; owner = ap (λ (f : Event). f.owner) seen; job_is = ap (λ (f : Event). f.job) seen; act_is = ap (λ (f : Event). f.act) seen })
+    by _ may is event = absurd cc
+
+pub said : (plan : List Bool) (w : Parts) (move : Move) (e : Event) (new : Parts) → May w move → CrewMoves (IsPlanned plan) move w e new → SaidBy w move e
+said plan w (Idles step) e new may does = record { party = ap (λ (f : Event). f.party) does.0; owner = ap (λ (f : Event). f.owner) does.0; job_is = ap (λ (f : Event). f.job) does.0; act_is = ap (λ (f : Event). f.act) does.0 }
+said plan w (Makes capacity) e new may does = told (IsPlanned plan) _ w.crew new.crew e does
+said plan w (Asks h call owner) e new may does = told (IsPlanned plan) _ w.crew new.crew e does
+said plan w (Owns h owner did) e new may does = told (IsPlanned plan) _ w.crew new.crew e does
+said plan w (Lends h owner added) e new may does = told (IsPlanned plan) _ w.crew new.crew e does
+said plan w (Delivers h owner number) e new may does = told (IsPlanned plan) _ w.crew new.crew e does
+said plan w (IsDropped h owner) e new may does = told (IsPlanned plan) _ w.crew new.crew e does
+said plan w (Begins added) e new may does = told (IsPlanned plan) _ w.crew new.crew e does
+said plan w (Calls k call task) e new may does = call_said k call task e (told (IsPlanned plan) _ w.crew new.crew e does)
+said plan w (Works v job did) e new may does =
+    let here = job_here w v job may.0 in
+    (works_so (IsPlanned plan) v job.held did.act w.crew new.crew e here.holds (done_fits did job.held.stage job.row.core w.tasks w.owners may.1) does).0
+said plan w (IsAnswered v job answer) e new may does =
+    let here = job_here w v job may.0 in
+    let runs = answer_fits job.held.stage job.row.core answer (sym (ap (λ n. is_answered_action n answer) (next_here w v job here)) ∙ may.1) in
+    (works_so (IsPlanned plan) v job.held (Answered answer) w.crew new.crew e here.holds (ap (λ s. may_act s (Answered answer)) runs) does).0
+said plan w (Parks v job) e new may does = parks_so (IsPlanned plan) v job.held _ w.crew new.crew e (job_here w v job may.0).holds may.1 does
+said plan w (Passes call) e new may does = plain (IsPlanned plan) call w.crew new.crew e may.0 does
+said plan w (IsWoken s row) e new may does = told (IsPlanned plan) _ w.crew new.crew e does
+said plan w (IsStruck s row) e new may does = told (IsPlanned plan) _ w.crew new.crew e does

@@ -1,0 +1,150 @@
+-- What the job in a hand does to its task or its owner where it acts, and how that is seen.
+use Rattle.std.proofs.Common.{◌≡◌, ℕ, ◌-◌, List, [], Bool, true, false, refl, sym, ap, ◌∙◌, subst, Option, Some, None, if◌then◌else◌}
+use Rattle.std.specs.Prelude.{slice_get, slice_set}
+use Rattle.std.proofs.lemmas.Bool.{eq-eqb}
+use Rattle.blocking_crew.specs.Crews.{may_act}
+use Rattle.blocking_crew.specs.Ties.{turn_of}
+use Rattle.blocking_crew.specs.declared.hand.Stage.{Stage}
+use Rattle.blocking_crew.specs.declared.hand.Stage.TheVariants as stage
+use Rattle.blocking_lanes.specs.Calls as calls
+use Rattle.blocking_lanes.specs.OwnerSteps as owners
+use Rattle.blocking_lanes.specs.OwnerSteps.{OwnerStep}
+use Rattle.blocking_lanes.specs.Owners.{Owner}
+use Rattle.blocking_lanes.specs.declared.job.SessionJob.{SessionJob}
+use Rattle.blocking_lanes.specs.Steps as tasks
+use Rattle.blocking_lanes.specs.Steps.{TaskStep}
+use Rattle.blocking_lanes.specs.Tasks.{Task}
+use Rattle.blocking_lanes.proofs.owners.OwnerActs.{value_of}
+use Rattle.blocking_lanes.proofs.owners.Events.{IsPlain}
+use Rattle.blocking_laws.specs.JobTable.{has_given_up}
+use Rattle.blocking_laws.specs.Jobs.{holder}
+use Rattle.blocking_laws.specs.Seen.{events, acts_of}
+use Rattle.blocking_laws.specs.Steps.{may_cancel, is_answered_action, next_in_turn}
+use Rattle.blocking_laws.specs.Turns.{GoesOn}
+use Rattle.blocking_laws.specs.declared.event.Act.{Act}
+use Rattle.blocking_laws.specs.declared.event.Act.TheVariants.{Answered, RoomFree, RoomShut, JobParked, Put, Lost, Peeked, Drained, Taken as TakenOut, JobClosed, ResultPut, Finished, GaveUp, HolderWoken}
+use Rattle.blocking_laws.specs.declared.event.Event.{Event}
+use Rattle.blocking_laws.specs.declared.event.Moment.{Moment}
+use Rattle.blocking_laws.specs.declared.event.Party.{Party}
+use Rattle.blocking_laws.specs.declared.step.Answer.{Answer}
+use Rattle.blocking_pool.specs.declared.pool.standing.Standing.TheVariants.{Running}
+use Rattle.blocking_parts.specs.Parts.{Parts, InHand, next_at, owner_by, owner_of, row_of}
+use Rattle.blocking_parts.specs.Rows.{Done, action_of, done, is_at_first, next_of, owner_in, call_done, call_step, call_after, session_done, session_seen, session_step, job_after}
+use Rattle.blocking_parts.specs.Ties.{PlaceAs, Tied}
+use Rattle.blocking_parts.specs.declared.row.Core.{Core}
+use Rattle.blocking_parts.specs.declared.row.Core.TheVariants as core
+use Rattle.blocking_parts.specs.declared.row.Row.{Row}
+use Rattle.blocking_parts.proofs.moves.Lookups.{row_set}
+use Rattle.blocking_parts.proofs.past.Drops.{must_drop}
+use Rattle.blocking_parts.proofs.ties.Jobs.{IsHere, job_place, next_here}
+use Rattle.blocking_parts.proofs.ties.Events.{answer_fits}
+use Rattle.blocking_parts.proofs.ties.CrewEvents.{Told, told_is}
+
+-- ---- what it does
+
+-- The job of a call took this step of its task, and left the owners as they were.
+pub record CallActs (w : Parts) (at : Stage) (k : ℕ) (call : calls.Progress) (did : Done) : Type 0 where
+  pub step : TaskStep
+  pub task : Task
+  pub next : call_step at call ≡ Some step
+  pub there : slice_get w.tasks k ≡ Some task
+  pub act_is : did.act ≡ tasks.act_of step task
+  pub core_is : did.core ≡ core.Call k (call_after step at task call)
+  pub tasks_are : did.tasks ≡ slice_set w.tasks k (tasks.task_after step task)
+  pub owners_are : did.owners ≡ w.owners
+
+-- The job of a session took this step of its owner, and left the tasks as they were.
+pub record SessionActs (w : Parts) (at : Stage) (h : ℕ) (read : SessionJob) (did : Done) : Type 0 where
+  pub step : OwnerStep
+  pub owner : Owner
+  pub next : session_step at read ≡ Some step
+  pub there : slice_get w.owners h ≡ Some owner
+  pub act_is : owners.act_of step owner ≡ Some did.act
+  pub core_is : did.core ≡ core.Session h (job_after step owner read)
+  pub tasks_are : did.tasks ≡ w.tasks
+  pub owners_are : did.owners ≡ slice_set w.owners h (owners.owner_after step owner)
+
+pub call_acts : (w : Parts) (at : Stage) (k : ℕ) (call : calls.Progress) (did : Done) → done at (core.Call k call) w.tasks w.owners ≡ Some did → CallActs w at k call did
+call_acts w at k call did does = by (slice_get w.tasks k) (call_step at call) refl refl does
+  where
+    by : (found : Option Task) (step : Option TaskStep) → slice_get w.tasks k ≡ found → call_step at call ≡ step → call_done k call at w.tasks w.owners found step ≡ Some did → CallActs w at k call did
+    by (Some task) (Some step) found next does =
+        subst (CallActs w at k call) (ap (value_of did) does)
+        (record { step = step; task = task; next = next; there = found; act_is = refl; core_is = refl; tasks_are = refl; owners_are = refl })
+    by (Some task) None found next does = absurd cc
+    by None step found next does = absurd cc
+
+pub session_acts : (w : Parts) (at : Stage) (h : ℕ) (read : SessionJob) (did : Done) → done at (core.Session h read) w.tasks w.owners ≡ Some did → SessionActs w at h read did
+session_acts w at h read did does = by (slice_get w.owners h) (session_step at read) refl refl does
+  where
+    seen : (owner : Owner) (step : OwnerStep) (act : Option Act) → slice_get w.owners h ≡ Some owner → session_step at read ≡ Some step → owners.act_of step owner ≡ act
+        → session_seen h read w.tasks w.owners owner step act ≡ Some did → SessionActs w at h read did
+    seen owner step (Some act) found next is does =
+        subst (SessionActs w at h read) (ap (value_of did) does)
+        (record { step = step; owner = owner; next = next; there = found; act_is = is; core_is = refl; tasks_are = refl; owners_are = refl })
+    seen owner step None found next is does = absurd cc
+
+    by : (found : Option Owner) (step : Option OwnerStep) → slice_get w.owners h ≡ found → session_step at read ≡ step → session_done h read w.tasks w.owners found step ≡ Some did → SessionActs w at h read did
+    by (Some owner) (Some step) found next does = seen owner step (owners.act_of step owner) found next refl does
+    by (Some owner) None found next does = absurd cc
+    by None step found next does = absurd cc
+
+-- ---- how that is seen
+
+-- what a job may do where it is in its turn is seen, and no pool decides it; it makes no owner, and no job is accepted
+pub may_plain : (at : Stage) (act : Act) → may_act at act ≡ true → IsPlain [] act
+may_plain stage.Runs (Answered answer) may = record { pool = refl; nothing = refl; made = refl; new = refl }
+may_plain stage.Runs (RoomFree n) may = record { pool = refl; nothing = refl; made = refl; new = refl }
+may_plain stage.Runs RoomShut may = record { pool = refl; nothing = refl; made = refl; new = refl }
+may_plain stage.Runs JobParked may = record { pool = refl; nothing = refl; made = refl; new = refl }
+may_plain stage.Runs (Put n waker) may = record { pool = refl; nothing = refl; made = refl; new = refl }
+may_plain stage.Runs (Lost n) may = record { pool = refl; nothing = refl; made = refl; new = refl }
+may_plain stage.Runs (Peeked bytes) may = record { pool = refl; nothing = refl; made = refl; new = refl }
+may_plain stage.Runs Drained may = record { pool = refl; nothing = refl; made = refl; new = refl }
+may_plain stage.Runs (TakenOut n waker) may = record { pool = refl; nothing = refl; made = refl; new = refl }
+may_plain stage.Runs (JobClosed waker) may = record { pool = refl; nothing = refl; made = refl; new = refl }
+may_plain stage.Runs (ResultPut waker) may = record { pool = refl; nothing = refl; made = refl; new = refl }
+may_plain stage.Runs (Finished waker) may = record { pool = refl; nothing = refl; made = refl; new = refl }
+may_plain stage.Runs HolderWoken may = record { pool = refl; nothing = refl; made = refl; new = refl }
+may_plain stage.MustGiveUp (GaveUp waker) may = record { pool = refl; nothing = refl; made = refl; new = refl }
+may_plain stage.MustWake HolderWoken may = record { pool = refl; nothing = refl; made = refl; new = refl }
+may_plain _ _ may = absurd cc
+
+-- the event of a moment: the crew's, with the owner whose job it is of
+abbrev pub seen_in : Parts → Event → Event
+seen_in new e = record e { owner = owner_of new.rows e.job }
+
+pub seen_is : (new : Parts) (who : Party) (job owner : Option ℕ) (act : Act) (e : Event) → Told who job act e → owner_of new.rows job ≡ owner
+    → seen_in new e ≡ record { party = who; owner = owner; job = job; act = act; first = e.first; started = e.started; start_refused = e.start_refused }
+seen_is new who job owner act e told whose =
+    ap (seen_in new) (told_is who job act e told) ∙ ap (λ o. record { party = who; owner = o; job = job; act = act; first = e.first; started = e.started; start_refused = e.start_refused }) whose
+
+-- for the job in a hand, that is the owner whom its row tells
+pub its_owner : (w : Parts) (v : ℕ) (job : InHand) (new : Core) (rows : List Row) → IsHere w v job → rows ≡ slice_set w.rows (job.held.turn.serial - 1) (record job.row { core = new })
+    → owner_of rows (Some job.held.turn.serial) ≡ owner_in new
+its_owner w v job new rows here is =
+    let s = job.held.turn.serial in
+    let row = record job.row { core = new } in
+    ap (λ all. owner_of all (Some s)) is ∙ ap owner_by (row_set w.rows s s job.row row here.has_row ∙ ap (λ b. if b then Some row else row_of w.rows s) (eq-eqb s s refl))
+
+-- ---- a job that has to give up
+
+-- its holder let it go
+pub let_go_here : (setting : ℕ) (plan : List Bool) (w : Parts) (past : List Moment) → Tied setting plan w past → (v : ℕ) (job : InHand) → IsHere w v job → job.held.stage ≡ stage.MustGiveUp
+    → may_cancel (holder past job.held.turn.serial) past ≡ true
+let_go_here setting plan w past t v job here must =
+    let s = job.held.turn.serial in
+    t.marks.let_go s (must_drop setting plan past t.crewed.laws s (t.crewed.tied.handed.turn_is v job.held here.holds ∙ ap turn_of must))
+
+-- ---- a job that is answered
+
+-- its turn goes on, it hasn't given up, and it asks for such an answer
+pub asks_here : (setting : ℕ) (plan : List Bool) (w : Parts) (past : List Moment) → Tied setting plan w past → (v : ℕ) (job : InHand) (answer : Answer) → IsHere w v job → is_answered_action (next_at w v) answer ≡ true
+    → (has_given_up (acts_of job.held.turn.serial (events past)) ≡ false) × (is_answered_action (next_in_turn GoesOn (action_of job.row.core)) answer ≡ true)
+asks_here setting plan w past t v job answer here may =
+    let acts = acts_of job.held.turn.serial (events past) in
+    let asks = sym (ap (λ n. is_answered_action n answer) (next_here w v job here)) ∙ may in
+    let runs = answer_fits job.held.stage job.row.core answer asks in (
+      subst (λ at. PlaceAs (Some Running) (turn_of at) (is_at_first job.row.core) acts) runs (job_place setting plan w past t v job here),
+      ap (λ at. is_answered_action (next_of at job.row.core) answer) (sym runs) ∙ asks,
+    )

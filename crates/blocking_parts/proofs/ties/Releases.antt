@@ -1,0 +1,74 @@
+-- Who let a job go: the parts have it as it was seen, and so has the ticket of a job that parks.
+use Rattle.std.proofs.Common.{◌≡◌, ℕ, ◌<◌, List, [], length, Bool, true, false, refl, sym, ap, ◌∙◌, subst, arith, Option, Some, None}
+use Rattle.std.specs.Cmp.{both_ways}
+use Rattle.std.specs.Prelude.{nat_lt, slice_get}
+use Rattle.std.specs.FinMap.{get}
+use Rattle.std.proofs.lemmas.Bool.{or_right}
+use Rattle.std.proofs.lemmas.Bool.Decides.{nat_tests}
+use Rattle.blocking_pool.specs.Jobs.{Job as Entry}
+use Rattle.blocking_pool.specs.Lists.{is_in}
+use Rattle.blocking_pool.specs.declared.pool.standing.Standing.{Standing}
+use Rattle.blocking_pool.specs.declared.pool.standing.Standing.TheVariants.{Running}
+use Rattle.blocking_crew.specs.Ties.{AbsentAs, FiledAs}
+use Rattle.blocking_crew.specs.declared.ticket.Ticket.{Ticket}
+use Rattle.blocking_crew.proofs.ties.Known.{held_runs}
+use Rattle.blocking_lanes.specs.Owners.{Owner}
+use Rattle.blocking_lanes.specs.Tasks.{Task}
+use Rattle.blocking_lanes.proofs.cuts.Acts.{own_cut}
+use Rattle.blocking_laws.specs.Jobs.{holder, standing, has_ended, is_cancelled, is_marked}
+use Rattle.blocking_laws.specs.Seen.{events, own, cut}
+use Rattle.blocking_laws.specs.Sessions.{jobs_of}
+use Rattle.blocking_laws.specs.Steps.{may_cancel}
+use Rattle.blocking_laws.specs.TaskLaws.{is_let_go}
+use Rattle.blocking_laws.specs.declared.event.Moment.{Moment}
+use Rattle.blocking_laws.specs.declared.event.Party.TheVariants.{Owner as ByOwner, Task as ByTask}
+use Rattle.blocking_parts.specs.Parts.{Parts, InHand, row_of, let_go_of, task_let_go, owner_let_go}
+use Rattle.blocking_parts.specs.Rows.{party_of}
+use Rattle.blocking_parts.specs.Ties.{Tied}
+use Rattle.blocking_parts.specs.declared.row.Core.{Core}
+use Rattle.blocking_parts.specs.declared.row.Core.TheVariants as core
+use Rattle.blocking_parts.specs.declared.row.Row.{Row}
+use Rattle.blocking_parts.proofs.moves.Lookups.{there}
+use Rattle.blocking_parts.proofs.ties.Jobs.{IsHere}
+
+-- a job that runs isn't over
+goes_on : (found : Option (Entry Ticket)) (stand : Option Standing) (wake cancel mark ended : Bool) → stand ≡ Some Running → FiledAs found stand wake cancel mark ended → ended ≡ false
+goes_on None stand wake cancel mark ended runs filed = absurd (subst (λ o. AbsentAs o wake cancel mark ended) runs filed)
+goes_on (Some entry) stand wake cancel mark ended runs filed = filed.3
+
+module _ (setting : ℕ) (plan : List Bool) (w : Parts) (past : List Moment) (t : Tied setting plan w past) where
+  -- who holds a job is there
+  pub owner_there : (h s : ℕ) → holder past s ≡ Some (ByOwner h) → (owner : Owner) × (slice_get w.owners h ≡ Some owner)
+  owner_there h s held = there w.owners h (by (nat_lt h (length w.owners)) refl)
+    where
+      by : (b : Bool) → nat_lt h (length w.owners) ≡ b → h < length w.owners
+      by true within = grind (arith, nat_tests)
+      by false beyond =
+          let none : cut h (events past) ≡ [] = t.owned.unborn h (grind (arith, nat_tests)) in
+          let among : is_in s (jobs_of (own [])) ≡ true = ap (λ c. is_in s (jobs_of (own c))) (sym none) ∙ t.owned.begun h s held in
+          absurd cc
+
+  pub task_there : (k s : ℕ) → holder past s ≡ Some (ByTask k) → (task : Task) × (slice_get w.tasks k ≡ Some task)
+  task_there k s held = there w.tasks k (t.tasked.there k s held)
+
+  -- and has let go of it, as it was seen
+  pub let_go_is : (s : ℕ) (row : Row) → row_of w.rows s ≡ Some row → let_go_of w row.core ≡ may_cancel (holder past s) past
+  let_go_is s row found = by row.core (t.rowed.each s row found).held_by
+    where
+      by : (c : Core) → holder past s ≡ Some (party_of c) → let_go_of w c ≡ may_cancel (holder past s) past
+      by (core.Call k call) held =
+          let task = task_there k s held in
+          let tie = t.tasked.each k s task.0 held task.1 in
+          ap task_let_go task.1 ∙ sym tie.let_go ∙ ap is_let_go (own_cut k s (events past)) ∙ sym (ap (λ o. may_cancel o past) held)
+      by (core.Session h read) held =
+          let owner = owner_there h s held in
+          ap owner_let_go owner.1 ∙ sym (t.owned.each h owner.0 owner.1).gone ∙ sym (ap (λ o. may_cancel o past) held)
+
+  -- the job in a hand is marked exactly if its holder let it go
+  pub mark_is : (v : ℕ) (job : InHand) → IsHere w v job → let_go_of w job.row.core ≡ is_marked past job.held.turn.serial
+  mark_is v job here =
+      let s = job.held.turn.serial in
+      let goes : has_ended past s ≡ false =
+      goes_on (get w.crew.pool.jobs s) (standing past s) _ _ _ _ (held_runs setting plan w.crew past t.crewed v job.held here.holds) (t.crewed.tied.filed s) in
+      let_go_is s job.row here.has_row
+      ∙ both_ways (may_cancel (holder past s) past) (is_marked past s) (λ may. t.marks.marked s may goes) (λ marked. t.marks.let_go s (or_right (is_cancelled past s) (is_marked past s) marked))
