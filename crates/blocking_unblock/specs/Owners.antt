@@ -78,6 +78,12 @@ module _ {T I H : Type 0} where
   abbrev pub IsAt : State → Place T I H → Type 0
   IsAt state place = state_of place ≡ state
 
+  -- the handle, where it is with its owner
+  abbrev pub handle_in : Place T I H → Option T
+  handle_in (place.Idle handle) = Some handle
+  handle_in (place.Lent session) = None
+  handle_in place.Closed = None
+
   -- the handle was dropped
   abbrev pub IsClosed : Place T I H → Type 0
   IsClosed place = IsAt state.Closed place

@@ -294,6 +294,17 @@ pub(crate) struct ToOperate<F: CallOn<T, Out: Drop> + Drop, T: Drop, H: Wait + C
     pub stage: Stage<F, ResultSeat<F, T, H>, F::Out>,
 }
 
+impl<F: CallOn<T, Out: Drop> + Drop, T: Drop, H: Wait + Copy> ToOperate<F, T, H> {
+    ghost use Rattle.blocking_unblock.specs.Lenders.{has_begun};
+
+    /// Whether its session began, and its result is waited for.
+    pub(crate) fn has_begun(&self) -> bool
+        ensures { result ≡ has_begun self.now.stage }
+    {
+        matches!(self.stage, Stage::Begun(_))
+    }
+}
+
 impl<
     F: CallOn<T, Out: Drop> + Drop,
     T: Drop,
