@@ -14,8 +14,8 @@ use crate::seek_job::SeekJob;
 use crate::take_back::IntoInner;
 use crate::with_mut::WithMut;
 use crate::write_job::WriteJob;
-use blocking_core::pipe::{DEFAULT_BYTES, DEFAULT_ITEMS, Received};
 use blocking_core::io::Position;
+use blocking_core::pipe::{DEFAULT_BYTES, DEFAULT_ITEMS, Received};
 use blocking_core::pool::{Carries, Job, Refusal, Refused, WakeNote};
 use blocking_core::task::CallOn;
 use blocking_core::unblock::{OwnerAction, OwnerAnswer, OwnerCall, PollCall, Reply};
@@ -486,12 +486,8 @@ impl<T: Write + Drop, I: Drop, J: Job + Carries<WriteJob<T, H>>, H: Runtime> Asy
     }
 }
 
-impl<
-    T: Iterator<Item = I> + Drop,
-    I: Drop,
-    J: Job + Carries<ItemJob<T, I, H>>,
-    H: Runtime,
-> Stream for Unblock<T, I, J, H> {
+impl<T: Iterator<Item = I> + Drop, I: Drop, J: Job + Carries<ItemJob<T, I, H>>, H: Runtime> Stream
+    for Unblock<T, I, J, H> {
     ghost use Rattle.std.specs.Prelude.{OnSome};
     ghost use Rattle.blocking_core.specs.declared.unblock.PollCall.TheVariants.{Next as NextCall};
     ghost use Rattle.blocking_unblock.specs.Owners.{IsClosed, Follows, KeepsRefused, reply_of_next};

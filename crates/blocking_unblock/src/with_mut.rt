@@ -1,7 +1,7 @@
 //! The future of an operation on a lent handle.
 ghost use Rattle.std.specs.Prelude.{◌≡◌, ◌↔◌, true, Some};
 ghost use Rattle.futures.specs.Poll.{IfReady, OnPending};
-ghost use Rattle.futures.specs.Task.{IsArmed, Keeps};
+ghost use Rattle.futures.specs.Task.{Covers, Keeps};
 ghost use Rattle.blocking_unblock.specs.Owners.{IsClosed};
 ghost use Rattle.blocking_unblock.specs.Lenders.{CanGoOn, IsTaken, given_in, OperationGives};
 
@@ -84,7 +84,7 @@ impl<
         ensures again { OnPending result (CanGoOn self.new.operation.stage self.new.owner.now.place) }
         ensures same { OnPending result ((out : _) → OperationGives F.may_give self.new.operation.stage out
             → OperationGives F.may_give self.old.operation.stage out) }
-        ensures armed { OnPending result (IsArmed cx.new) }
+        ensures registered { OnPending result (Covers cx.new (λ _. ⊥)) }
         ensures kept { Keeps cx.old cx.new }
     {
         let owner = &mut *self.owner;
