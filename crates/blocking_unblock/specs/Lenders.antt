@@ -1,11 +1,6 @@
 -- What a call that streams and an operation have got.
 use Rattle.std.specs.Prelude.{◌≡◌, Bool, true, false, Option, Some, None, IsSome, Result, Ok, Err}
-use Rattle.blocking_core.specs.declared.unblock.OwnerEnd.TheVariants.{Open}
-use Rattle.blocking_core.specs.declared.unblock.SessionKind.TheVariants.{Operating}
-use Rattle.blocking_core.specs.declared.unblock.State.TheVariants.{Lent}
 use Rattle.blocking_pool.specs.declared.pool.answer.Refused.{Refused}
-use Rattle.blocking_unblock.specs.Owners.{IsAt, IsClosed}
-use Rattle.blocking_unblock.specs.declared.place.Place.{Place}
 use Rattle.blocking_unblock.specs.Polls.{Kept, Way, Item, Gave}
 use Rattle.blocking_unblock.specs.declared.lend.Stage.{Stage}
 use Rattle.blocking_unblock.specs.declared.lend.Stage.TheVariants as stage
@@ -39,16 +34,12 @@ module _ {F S R : Type 0} where
   given_in (stage.Given operation) = Some operation
   given_in now = None
 
-  -- nothing is left of an operation
-  abbrev pub IsTaken : Stage F S R → Type 0
-  IsTaken stage.Taken = Unit {0}
-  IsTaken now = ⊥
-
-  -- an operation that may be polled: it is still to begin and the handle is there, or the handle is with its job
-  abbrev pub CanGoOn : {T I H : Type 0} → Stage F S R → Place T I H → Type 0
-  CanGoOn (stage.Given operation) place = IsClosed place → ⊥
-  CanGoOn (stage.Begun seat) place = IsAt (Lent Operating Open) place
-  CanGoOn now place = ⊥
+  -- whether an operation is over: its result is there or was taken, or it was handed back
+  abbrev pub is_over : Stage F S R → Bool
+  is_over (stage.Given operation) = false
+  is_over (stage.Begun seat) = false
+  is_over (stage.Gave gave) = true
+  is_over stage.Taken = true
 
   -- what an operation may answer: a result that it may give, or itself back
   abbrev pub OperationGives : (R → Type 0) → Stage F S R → Result R (Refused F) → Type 0

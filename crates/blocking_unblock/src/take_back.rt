@@ -1,5 +1,5 @@
 //! The future of a handle that its owner takes back for good.
-ghost use Rattle.std.specs.Prelude.{◌≡◌, ◌↔◌, true, IsSome, IsNone};
+ghost use Rattle.std.specs.Prelude.{◌≡◌, ◌↔◌, true, Some, IsNone};
 ghost use Rattle.std.specs.Option.{ForSome};
 ghost use Rattle.blocking_unblock.specs.Owners.{IsClosed};
 
@@ -22,7 +22,7 @@ pub struct IntoInner<T: Drop, I: Drop, J: Job, H: Runtime> {
 impl<T: Drop, I: Drop, J: Job, H: Runtime> IntoInner<T, I, J, H> {
     pub(crate) fn new(owner: Unblock<T, I, J, H>) -> IntoInner<T, I, J, H>
         requires { IsClosed owner.place → ⊥ }
-        ensures { IsSome result.owner }
+        ensures { result.owner ≡ Some owner }
     {
         IntoInner { owner: Some(owner) }
     }
@@ -38,7 +38,10 @@ impl<T: Drop, I: Drop, J: Job, H: Runtime> IntoInner<T, I, J, H> {
 impl<T: Drop, I: Drop, J: Job, H: Runtime> Future for IntoInner<T, I, J, H> {
     ghost use Rattle.futures.specs.Poll.{IfReady, OnPending};
     ghost use Rattle.futures.specs.Task.{IsArmed, Keeps};
-    ghost use Rattle.std.specs.Prelude.{IsSome, IsNone};
+    ghost use Rattle.std.specs.Prelude.{IsSome, IsNone, IfSome};
+    ghost use Rattle.blocking_core.specs.declared.unblock.PollCall.TheVariants.{IntoInner as TakeBackCall};
+    ghost use Rattle.blocking_unblock.specs.declared.place.Place.TheVariants.{Idle as AtOwner};
+    ghost use Rattle.blocking_unblock.specs.Owners.{Follows, reply_of_get};
 
     type Output = T;
 
@@ -46,6 +49,9 @@ impl<T: Drop, I: Drop, J: Job, H: Runtime> Future for IntoInner<T, I, J, H> {
 
     fn poll(&mut self, cx: &mut Context<'_>) -> Poll<T>
         requires { IsSome self.old.owner }
+        ensures follows { IfSome self.old.owner (λ owner. (place : _) × Follows TakeBackCall owner.place (reply_of_get result) place
+            × IfReady result (λ handle. place ≡ AtOwner handle)
+            × OnPending result (IfSome self.new.owner (λ owner. owner.place ≡ place))) }
         ensures taken { IfReady result (λ _. IsNone self.new.owner) }
         ensures again { OnPending result (IsSome self.new.owner) }
         ensures armed { OnPending result (IsArmed cx.new) }

@@ -1,5 +1,5 @@
 //! The owner of a handle that is lent to jobs.
-ghost use Rattle.std.specs.Prelude.{IsSome, ◌≡◌, ◌⊎◌, ◌<◌, ◌≤◌, ◌↔◌, true, false, length, None, Some, IfOk, IfErr, IfSome};
+ghost use Rattle.std.specs.Prelude.{◌≡◌, ◌⊎◌, ◌<◌, ◌≤◌, ◌↔◌, true, false, length, None, Some, IfOk, IfErr, IfSome};
 ghost use Rattle.futures.specs.Poll.{IfReady, OnPending};
 ghost use Rattle.futures.specs.Task.{IsArmed, Keeps};
 ghost use Rattle.blocking_unblock.specs.Seekers.{position_of};
@@ -84,7 +84,7 @@ impl<T: Drop, I: Drop, J: Job, H: Runtime> Unblock<T, I, J, H> {
 // What comes of a handle where nobody waits for it.
 impl<T: Drop, I: Drop, J: Job, H: Runtime> Unblock<T, I, J, H> {
     ghost use Rattle.blocking_unblock.specs.Owners.{handle_in, IsClosed};
-    ghost use Rattle.blocking_unblock.specs.Lenders.{CanGoOn, given_in};
+    ghost use Rattle.blocking_unblock.specs.Lenders.{is_over, given_in};
 
     /// The handle, where it is with its owner.
     pub(crate) fn into_handle(self) -> Option<T>
@@ -103,7 +103,7 @@ impl<T: Drop, I: Drop, J: Job, H: Runtime> Unblock<T, I, J, H> {
     /// is written and flushed, and its fault isn't told. Until the handle was taken it may be polled.
     pub fn into_inner(self) -> IntoInner<T, I, J, H>
         requires { IsClosed self.place → ⊥ }
-        ensures { IsSome result.owner }
+        ensures { result.owner ≡ Some self }
     {
         IntoInner::new(self)
     }
@@ -120,7 +120,7 @@ impl<T: Drop, I: Drop, J: Job, H: Runtime> Unblock<T, I, J, H> {
         J: Carries<OpJob<F, T, H>>,
         requires { IsClosed self.old.place → ⊥ }
         ensures owner { result.owner.ghost_name ≡ self.entry.ghost_name }
-        ensures may { CanGoOn result.operation.stage result.owner.now.place }
+        ensures fresh { is_over result.operation.stage ≡ false }
         ensures given { given_in result.operation.stage ≡ Some operation }
     {
         WithMut::new(self, operation)

@@ -1,9 +1,9 @@
 //! The future of an operation on a lent handle.
-ghost use Rattle.std.specs.Prelude.{◌≡◌, ◌↔◌, true, Some};
+ghost use Rattle.std.specs.Prelude.{◌≡◌, true, false, Some};
 ghost use Rattle.futures.specs.Poll.{IfReady, OnPending};
 ghost use Rattle.futures.specs.Task.{Covers, Keeps};
-ghost use Rattle.blocking_unblock.specs.Owners.{IsClosed};
-ghost use Rattle.blocking_unblock.specs.Lenders.{CanGoOn, IsTaken, given_in, OperationGives};
+ghost use Rattle.blocking_unblock.specs.Owners.{IsClosed, is_operating};
+ghost use Rattle.blocking_unblock.specs.Lenders.{has_begun, is_over, given_in, OperationGives};
 
 use crate::lend::{Stage, ToOperate};
 use crate::op_job::OpJob;
@@ -28,6 +28,8 @@ pub struct WithMut<
 > {
     owner: &'a mut Unblock<T, I, J, H>,
     operation: ToOperate<F, T, H>,
+    ghost open: { IsClosed owner.now.place → ⊥ },
+    ghost begun: { has_begun operation.stage ≡ true → is_operating owner.now.place ≡ true },
 }
 
 impl<
@@ -44,7 +46,7 @@ impl<
     ) -> WithMut<'a, F, T, I, J, H>
         requires { IsClosed owner.old.place → ⊥ }
         ensures owner { result.owner.ghost_name ≡ owner.entry.ghost_name }
-        ensures may { CanGoOn result.operation.stage result.owner.now.place }
+        ensures fresh { is_over result.operation.stage ≡ false }
         ensures given { given_in result.operation.stage ≡ Some operation }
     {
         WithMut {
@@ -57,9 +59,9 @@ impl<
 
     /// Whether what it gives was taken. It may be polled as long as it wasn't.
     pub fn is_taken(&self) -> bool
-        ensures { (result ≡ true) ↔ IsTaken self.now.operation.stage }
+        ensures { result ≡ is_over self.now.operation.stage }
     {
-        matches!(self.operation.stage, Stage::Taken)
+        self.operation.is_over()
     }
 }
 
@@ -71,17 +73,23 @@ impl<
     J: Job + Carries<OpJob<F, T, H>>,
     H: Runtime,
 > Future for WithMut<'a, F, T, I, J, H> {
+    ghost use Rattle.blocking_core.specs.declared.unblock.PollCall.TheVariants.{Operate as OperateCall};
+    ghost use Rattle.blocking_unblock.specs.Owners.{Follows, KeepsRefused, reply_of_operate};
+
     type Output = Result<F::Out, Refused<F>>;
 
-    ghost can_poll = { λ with. CanGoOn with.operation.stage with.owner.now.place };
+    ghost can_poll = { λ with. is_over with.operation.stage ≡ false };
 
     ghost gives = { λ with out. OperationGives F.may_give with.operation.stage out };
 
     fn poll(&mut self, cx: &mut Context<'_>) -> Poll<Result<F::Out, Refused<F>>>
-        requires { CanGoOn self.old.operation.stage self.old.owner.now.place }
+        requires { is_over self.old.operation.stage ≡ false }
+        ensures follows { Follows (OperateCall (has_begun self.old.operation.stage)) self.old.owner.now.place
+            (reply_of_operate result) self.new.owner.now.place }
+        ensures refused { KeepsRefused self.old.owner.now.place (reply_of_operate result) self.new.owner.now.place }
         ensures value { IfReady result (OperationGives F.may_give self.old.operation.stage) }
-        ensures taken { IfReady result (λ _. IsTaken self.new.operation.stage) }
-        ensures again { OnPending result (CanGoOn self.new.operation.stage self.new.owner.now.place) }
+        ensures taken { IfReady result (λ _. is_over self.new.operation.stage ≡ true) }
+        ensures again { OnPending result (is_over self.new.operation.stage ≡ false) }
         ensures same { OnPending result ((out : _) → OperationGives F.may_give self.new.operation.stage out
             → OperationGives F.may_give self.old.operation.stage out) }
         ensures registered { OnPending result (Covers cx.new (λ _. ⊥)) }
