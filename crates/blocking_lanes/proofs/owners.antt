@@ -1,9 +1,11 @@
 pub mod ReadJobs
 pub mod WriteJobs
 pub mod StreamJobs
+pub mod SeekJobs
 pub mod ReadSessions
 pub mod WriteSessions
 pub mod StreamSessions
+pub mod SeekSessions
 pub mod Drains
 pub mod Fills
 pub mod Goods

@@ -5,6 +5,7 @@ pub mod Steps
 pub mod Reads
 pub mod Writes
 pub mod Streams
+pub mod Seeks
 pub mod SessionJobs
 pub mod Passages
 pub mod Sessions

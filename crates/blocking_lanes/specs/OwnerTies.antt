@@ -15,7 +15,7 @@ use Rattle.blocking_core.specs.declared.unblock.SessionKind.TheVariants as sessi
 use Rattle.blocking_core.specs.declared.unblock.State.{State}
 use Rattle.blocking_core.specs.declared.unblock.State.TheVariants as state
 use Rattle.blocking_laws.specs.Ends.{handle_answers, has_failure, has_failed_write, has_flush, last_is_end, came_back, IsReadBack, IsFlushedBack}
-use Rattle.blocking_laws.specs.JobTable.{Kind, Reading, Writing, Streaming, Seeking, Operating, JobAction, FindRoom, AskBytes, PutPiece, Peek, OfferBytes, Consume, AskFlush, AskItem, SendItem, CloseEnd, Finish, Over, next_but_wake, is_over, fault, has_closed, has_finished, has_given_up}
+use Rattle.blocking_laws.specs.JobTable.{Kind, Reading, Writing, Streaming, Seeking, Operating, JobAction, FindRoom, AskBytes, PutPiece, Peek, OfferBytes, Consume, AskFlush, AskItem, SendItem, CloseEnd, Finish, Over, next_but_wake, is_over, fault, has_closed, has_finished, has_given_up, AskSeek, number}
 use Rattle.blocking_laws.specs.Jobs.{holder}
 use Rattle.blocking_laws.specs.OwnerLaws.{OwnerLaws}
 use Rattle.blocking_laws.specs.OwnerSeats.{is_job_seated, pipe_seat, slot_seat}
@@ -94,9 +94,11 @@ abbrev pub newest_note : List Act → Option ℕ
 newest_note [] = None
 newest_note (act ∷ past) = note_in act
 
--- a reply that tells the end of the reader, or that all is done, comes after the handle came back so
+-- a reply that tells the end of the reader, or that all is done, comes after the handle came back so; one that tells a position answers a seek
 abbrev pub EndAs : HandleCall → Reply ℕ → Option (List Event) → Type 0
 EndAs (handle_call.Read (suc n)) (reply.Count zero) back = IsReadBack back
+EndAs (handle_call.Seek goal) (reply.Position place) back = Unit {0}
+EndAs call (reply.Position place) back = ⊥
 EndAs handle_call.Next reply.End back = IsReadBack back
 EndAs handle_call.Flush reply.Done back = IsFlushedBack back
 EndAs handle_call.Close reply.Done back = IsFlushedBack back
@@ -107,6 +109,12 @@ abbrev pub IsGoneBy : Reply ℕ → HandleCall → State → Type 0
 IsGoneBy reply.Done handle_call.Close at = at ≡ state.Closed
 IsGoneBy _ _ at = Unit {0}
 
+-- whether a session of this kind has a pipe
+abbrev pub is_piped_kind : Kind → Bool
+is_piped_kind (Seeking goal) = false
+is_piped_kind Operating = false
+is_piped_kind kind = true
+
 -- who looks for the handle has closed the own end of the pipe, if there is one; or reads, and saw the other end closed
 abbrev pub LooksFrom : HandleCall → State → Bool → Type 0
 LooksFrom call (state.Lent kind Shut) false = Unit {0}
@@ -114,10 +122,11 @@ LooksFrom call (state.Lent kind Open) false = has_pipe kind ≡ false
 LooksFrom (handle_call.Read most) (state.Lent session_kind.Reading Open) true = Unit {0}
 LooksFrom _ _ _ = ⊥
 
--- a call that begins a session reads some bytes, or writes some
+-- a call that begins a session reads some bytes, or writes some, or seeks
 abbrev pub BeginsBy : HandleCall → Type 0
 BeginsBy (handle_call.Read (suc n)) = Unit {0}
 BeginsBy (handle_call.Write (byte ∷ bytes)) = Unit {0}
+BeginsBy (handle_call.Seek goal) = Unit {0}
 BeginsBy _ = ⊥
 
 -- the handle is with a job, and there is a pipe, whose own end is open
@@ -290,11 +299,36 @@ pub record WriteFlowAs (s : Session) (shut : Bool) (got accepted : List ℕ) (ne
   -- a job that is over has closed its end, unless it gave up
   pub unclosed : is_over next ≡ true → s.pipe.is_job_open ≡ true → given_up ≡ true
 
+-- Through the pipe that a session without one has nothing went, and nobody sits there.
+pub record PlainFlow (s : Session) (got accepted : List ℕ) (closed : Bool) (given found written : List ℕ) : Type 0 where
+  pub closed_is : closed ≡ not s.pipe.is_job_open
+  pub inside : s.pipe.items ≡ []
+  pub unseated : s.pipe.owner_seat ≡ None
+  pub ungot : got ≡ []
+  pub unfilled : accepted ≡ []
+  pub ungiven : given ≡ []
+  pub unfound : found ≡ []
+  pub unwritten : written ≡ []
+
+-- A job that seeks seeks, puts its result, or is over.
+abbrev pub IsSeekAction : JobAction → Type 0
+IsSeekAction AskSeek = Unit {0}
+IsSeekAction Finish = Unit {0}
+IsSeekAction Over = Unit {0}
+IsSeekAction _ = ⊥
+
+-- A session that seeks has no pipe, and once its job finished it tells where that found the handle.
+pub record SeekFlowAs (s : Session) (got accepted : List ℕ) (next : JobAction) (acts : List Act) : Type 0 where
+  pub plain : PlainFlow s got accepted (has_closed acts) (gave acts) (peeked acts) (taken_by acts)
+  pub next_is : IsSeekAction next
+  pub place : has_finished acts ≡ true → s.left ≡ number acts
+
 -- what went through the pipe of a session of this kind
 abbrev pub Flows : Kind → Session → Bool → List ℕ → List ℕ → JobAction → List Act → Type 0
 Flows Reading s shut got accepted next acts = FlowAs 0 s shut got next (has_closed acts) (has_given_up acts) (passed_by acts)
 Flows Streaming s shut got accepted next acts = FlowAs 1 s shut got next (has_closed acts) (has_given_up acts) (passed_by acts)
 Flows Writing s shut got accepted next acts = WriteFlowAs s shut got accepted next (has_closed acts) (has_given_up acts) (wrote_by acts)
+Flows (Seeking goal) s shut got accepted next acts = SeekFlowAs s got accepted next acts
 Flows _ s shut got accepted next acts = ⊥
 
 -- what stands in the slot, by whether the job finished or gave up, whether the handle is back, and the job's fault
@@ -329,11 +363,13 @@ pub record ResultAs (content : Content (Option (Fault ℕ))) (finished given_up 
 
 -- Who is seated has reason to be: a job that looks for room or for bytes, or sends an item, or gave up, where it can't go on and its owner's end is open; an
 -- owner at a pipe where it can't go on and the job's end is open; an owner at the slot of a job that isn't over, once an end of the pipe was
--- closed.
+-- closed, if there is a pipe.
 pub record HaveReason (s : Session) (kind : Kind) (waits : Bool) : Type 0 where
   pub job : is_some s.pipe.job_seat ≡ true → (waits ≡ true) × IsStuckIn kind s × (s.pipe.is_owner_open ≡ true)
   pub owner : is_some s.pipe.owner_seat ≡ true → IsOwnerStuckIn kind s × (s.pipe.is_job_open ≡ true)
-  pub slot : is_some s.slot.seat ≡ true → (s.slot.content ≡ Empty) × ((s.pipe.is_owner_open ≡ false) ⊎ (s.pipe.is_job_open ≡ false))
+  pub slot :
+      is_some s.slot.seat ≡ true
+      → (s.slot.content ≡ Empty) × ((s.pipe.is_owner_open ≡ false) ⊎ ((s.pipe.is_job_open ≡ false) ⊎ (is_piped_kind kind ≡ false)))
 
 -- the job's seat, by whether it is seated
 abbrev pub seat_of : Bool → JobNumber → Option JobNumber

@@ -5,6 +5,7 @@ use Rattle.blocking_core.specs.Pipes.{Pipe}
 use Rattle.blocking_core.specs.Places.{Met, Served, Waiting, Closed}
 use Rattle.blocking_core.specs.Reading.{read_next}
 use Rattle.blocking_core.specs.Writing.{write_next}
+use Rattle.blocking_core.specs.Seeks.{seek_next}
 use Rattle.blocking_core.specs.Slots.{Content, Empty, Full, GivenUp, Abandoned, empty_slot}
 use Rattle.blocking_core.specs.declared.io.Fault.{Fault}
 use Rattle.blocking_core.specs.Items.{item_next}
@@ -17,13 +18,18 @@ use Rattle.blocking_core.specs.declared.job.read.ReadAnswer.TheVariants as job_b
 use Rattle.blocking_core.specs.declared.job.write.WriteAction.{WriteAction}
 use Rattle.blocking_core.specs.declared.job.write.WriteAction.TheVariants as write
 use Rattle.blocking_core.specs.declared.job.write.WriteAnswer.TheVariants as wrote
+use Rattle.blocking_core.specs.declared.job.seek.SeekAction.{SeekAction}
+use Rattle.blocking_core.specs.declared.job.seek.SeekAction.TheVariants as seek
+use Rattle.blocking_core.specs.declared.job.seek.SeekAnswer.TheVariants as sought
 use Rattle.blocking_core.specs.declared.unblock.OwnerAction.{OwnerAction}
 use Rattle.blocking_core.specs.declared.unblock.OwnerAction.TheVariants as action
+use Rattle.blocking_core.specs.declared.unblock.OwnerAnswer.{OwnerAnswer}
 use Rattle.blocking_core.specs.declared.unblock.OwnerAnswer.TheVariants as by
 use Rattle.blocking_core.specs.declared.unblock.PollCall.{PollCall}
 use Rattle.blocking_core.specs.declared.unblock.PollCall.TheVariants as poll_call
 use Rattle.blocking_core.specs.declared.unblock.Reply.{Reply}
 use Rattle.blocking_core.specs.declared.unblock.Reply.TheVariants as reply
+use Rattle.blocking_core.specs.declared.unblock.SessionKind.TheVariants as session_kind
 use Rattle.blocking_core.specs.declared.unblock.State.{State}
 use Rattle.blocking_core.specs.declared.unblock.State.TheVariants as state
 use Rattle.blocking_laws.specs.JobTable.{Kind}
@@ -36,12 +42,13 @@ use Rattle.blocking_laws.specs.declared.event.Reply.{Reply as Told}
 use Rattle.blocking_laws.specs.declared.event.Reply.TheVariants as told
 use Rattle.blocking_laws.specs.declared.step.HandleCall.{HandleCall}
 use Rattle.blocking_laws.specs.declared.step.HandleCall.TheVariants as handle_call
-use Rattle.blocking_lanes.specs.Passages.{Goods, OfBytes, OfItems, through}
+use Rattle.blocking_lanes.specs.Passages.{Goods, OfBytes, OfItems, through, if_piped}
 use Rattle.blocking_lanes.specs.Reads as reads
 use Rattle.blocking_lanes.specs.SessionJobs.{new_job}
-use Rattle.blocking_lanes.specs.Sessions.{Session, Work, goods_of, serial_of, drained, filled, reach, front, session_after_close, session_after_drain, session_after_fill, session_after_look, session_after_give_up, give_up_wakes, streamer_works, work_by, writer_works}
+use Rattle.blocking_lanes.specs.Sessions.{Session, Work, goods_of, serial_of, drained, filled, reach, front, session_after_close, session_after_drain, session_after_fill, session_after_look, session_after_give_up, give_up_wakes, streamer_works, work_by, writer_works, seek_works}
 use Rattle.blocking_lanes.specs.Streams as streams
 use Rattle.blocking_lanes.specs.Writes as writes
+use Rattle.blocking_lanes.specs.Seeks as seeks
 use Rattle.blocking_lanes.specs.declared.job.SessionJob.{SessionJob}
 use Rattle.blocking_lanes.specs.declared.job.SessionJob.TheVariants as of_job
 use Rattle.blocking_lanes.specs.declared.owner.OwnerNext.{OwnerNext}
@@ -96,11 +103,12 @@ poll_call_of handle_call.OperateAgain = poll_call.Operate true
 poll_call_of handle_call.GetMut = poll_call.GetMut
 poll_call_of handle_call.IntoInner = poll_call.IntoInner
 
--- a reply, in the words of the laws; there is none for a call that isn't asked once the handle is gone, and for a position, an item
--- and a result, which owners aren't asked for yet
+-- a reply, in the words of the laws; there is none for a call that isn't asked once the handle is gone, and for an item and a result,
+-- which owners aren't asked for yet
 abbrev pub reply_as : Reply ℕ → Option Told
 reply_as (reply.Count count) = Some (told.Count count)
 reply_as reply.End = Some told.NoMore
+reply_as (reply.Position place) = Some (told.Count place)
 reply_as reply.Handle = Some told.Handle
 reply_as (reply.Failed why) = Some (told.Failed why)
 reply_as (reply.NotBegun why) = Some (told.NotBegun why)
@@ -272,10 +280,15 @@ fill_did_in poll asked session owner = None
 abbrev pub drop_did : OwnerMachine ℕ → Owner → Did
 drop_did poll owner = record { act = Replied told.Okay; owner = record owner { stage = stage.Rests (owner_after poll by.Dropped).state } }
 
+-- how the machine is told that the handle is back: of a seek that went well with where it is
+abbrev pub back_answer : State → Option (Fault ℕ) → ℕ → OwnerAnswer ℕ
+back_answer (state.Lent (session_kind.Seeking goal) end) None left = by.Sought left
+back_answer at why left = by.Back why
+
 -- it looks into the slot, and finds this; where the job gave up there is nothing to be found, and nothing is done
 abbrev pub look_did : Looked → OwnerMachine ℕ → Session → Owner → Option Did
 look_did (looked.Handle why) poll session owner =
-    Some (record { act = Back; owner = record owner { stage = stage.Polls (owner_after poll (by.Back why)); session = Some session } })
+    Some (record { act = Back; owner = record owner { stage = stage.Polls (owner_after poll (back_answer poll.state why session.left)); session = Some session } })
 look_did looked.Nothing poll session owner =
     Some (record { act = Waits; owner = record owner { stage = stage.Rests poll.state; session = Some session } })
 look_did looked.Gone poll session owner = None
@@ -287,7 +300,7 @@ reply_did None poll owner = None
 
 -- what its poll does next at its session
 abbrev pub did_at : OwnerAction ℕ → OwnerMachine ℕ → Session → Owner → Option Did
-did_at action.Close poll session owner = Some (close_did poll session owner)
+did_at action.Close poll session owner = if_piped session.goods (Some (close_did poll session owner))
 did_at (action.Drain most) poll session owner = through OfBytes session.goods (Some (drain_did (drained (reach most session) session) poll session owner))
 did_at action.PollSlot poll session owner =
     look_did (looked_as session.slot.content) poll (session_after_look session.slot.content session) owner
@@ -330,7 +343,7 @@ goods_asked owner = goods_of (kind_of owner.asked)
 abbrev pub after_begin : JobNumber → Goods → Pipe ℕ (Unit {0}) → OwnerStage → Owner → Owner
 after_begin number goods pipe (stage.Polls poll) owner = record owner {
   stage = stage.Polls (owner_after poll by.Begun);
-  session = Some (record { number = number; goods = goods; pipe = pipe; slot = empty_slot });
+  session = Some (record { number = number; goods = goods; pipe = pipe; slot = empty_slot; left = 0 });
 }
 after_begin number goods pipe _ owner = owner
 
@@ -407,11 +420,21 @@ abbrev pub stream_as : ItemAction → streams.Progress → Owner → Option Work
 stream_as item.Deliver job owner = calls_waker (of_job.Items (streams.progress_with job sent.Delivered)) owner
 stream_as doing job owner = stream_in doing owner.session job owner
 
+-- the same of a job that seeks
+abbrev pub seek_in : SeekAction → Option Session → seeks.Progress → Owner → Option Worked
+seek_in next None job owner = None
+seek_in next (Some session) job owner = worked_by of_job.Seek (seek_works next job session) owner
+
+abbrev pub seek_as : SeekAction → seeks.Progress → Owner → Option Worked
+seek_as seek.Deliver job owner = calls_waker (of_job.Seek (seeks.progress_with job sought.Delivered)) owner
+seek_as next job owner = seek_in next owner.session job owner
+
 -- What its job does next, where that is the job's own.
 abbrev pub worked : SessionJob → Owner → Option Worked
 worked (of_job.Read job) owner = read_as (read_next job.core) job owner
 worked (of_job.Write job) owner = write_as (write_next job.core) job owner
 worked (of_job.Items job) owner = stream_as (item_next job.core) job owner
+worked (of_job.Seek job) owner = seek_as (seek_next job.core) job owner
 
 -- the answer of a call by which the job may act, and what it leaves: where it has no such act nothing changes
 abbrev pub IsWorked : Option Worked → SessionJob → Owner → Option Act → SessionJob → Owner → Type 0

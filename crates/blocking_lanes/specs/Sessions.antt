@@ -15,33 +15,39 @@ use Rattle.blocking_core.specs.declared.job.read.ReadAnswer.TheVariants as by
 use Rattle.blocking_core.specs.declared.job.write.WriteAction.{WriteAction}
 use Rattle.blocking_core.specs.declared.job.write.WriteAction.TheVariants as write
 use Rattle.blocking_core.specs.declared.job.write.WriteAnswer.TheVariants as wrote
-use Rattle.blocking_laws.specs.JobTable.{Kind, Streaming, piece as largest_piece}
+use Rattle.blocking_laws.specs.JobTable.{Kind, Streaming, piece as largest_piece, Seeking}
+use Rattle.blocking_core.specs.declared.job.seek.SeekAction.{SeekAction}
+use Rattle.blocking_core.specs.declared.job.seek.SeekAction.TheVariants as seek
+use Rattle.blocking_core.specs.declared.job.seek.SeekAnswer.TheVariants as sought
 use Rattle.blocking_laws.specs.Places.{seen_room, seen_put, seen_peek}
 use Rattle.blocking_laws.specs.Seats.{waker_in}
 use Rattle.blocking_laws.specs.declared.event.Act.{Act}
 use Rattle.blocking_laws.specs.declared.event.Act.TheVariants.{Taken, JobClosed, Finished}
-use Rattle.blocking_lanes.specs.Passages.{Goods, OfBytes, OfItems, closed_by_owner, closed_by_job}
+use Rattle.blocking_lanes.specs.Passages.{Goods, OfBytes, OfItems, closed_by_owner, closed_by_job, OfNothing}
 use Rattle.blocking_lanes.specs.Reads.{Progress, progress_with}
 use Rattle.blocking_lanes.specs.Streams as streams
 use Rattle.blocking_lanes.specs.Writes as writes
+use Rattle.blocking_lanes.specs.Seeks as seeks
 use Rattle.blocking_pool.specs.Jobs.{JobNumber}
 
--- A session: the number of its job, what passes through its pipe, the pipe itself, and the slot in which the handle comes back with the fault
--- of the job. Wakers are told as units.
+-- A session: the number of its job, what passes through its pipe, the pipe itself, the slot in which the handle comes back with the fault
+-- of the job, and beside it where a seek left the handle. Wakers are told as units.
 pub record Session : Type 0 where
   pub number : JobNumber
   pub goods : Goods
   pub pipe : Pipe ℕ (Unit {0})
   pub slot : Slot (Option (Fault ℕ)) (Unit {0})
+  pub left : ℕ
 
 -- what passes through the pipe of a session of this kind
 abbrev pub goods_of : Kind → Goods
 goods_of Streaming = OfItems
+goods_of (Seeking goal) = OfNothing
 goods_of kind = OfBytes
 
 -- a session that begins, with this job and a pipe for so many bytes or items
 abbrev pub new_session : JobNumber → Goods → ℕ → Session
-new_session number goods capacity = record { number = number; goods = goods; pipe = empty_pipe capacity; slot = empty_slot }
+new_session number goods capacity = record { number = number; goods = goods; pipe = empty_pipe capacity; slot = empty_slot; left = 0 }
 
 -- ---- its owner acts
 
@@ -293,6 +299,21 @@ streamer_works item.Send job session = Some (work_at_send (found_send session) j
 streamer_works item.Close job session = Some (streamer_closes job session)
 streamer_works item.Finish job session = Some (streamer_finishes job session)
 streamer_works _ job session = None
+
+-- ---- the same of a job that seeks
+
+-- it puts its result, and leaves where the handle is
+abbrev pub seek_finishes : seeks.Progress → Session → Work seeks.Progress
+seek_finishes job session = record {
+  act = Finished (waker_in (finish_wakes job.fault session));
+  job = seeks.progress_with job (sought.Finished (finish_wakes job.fault session));
+  session = record (session_after_finish job.fault session) { left = job.place };
+}
+
+-- What it does next at its session, where that is its own to do.
+abbrev pub seek_works : SeekAction → seeks.Progress → Session → Option (Work seeks.Progress)
+seek_works seek.Finish job session = Some (seek_finishes job session)
+seek_works _ job session = None
 
 -- the answer of a call by which a job may act, and what it leaves: where it has no such act nothing changes
 abbrev pub IsWork : {J : Type 0} → Option (Work J) → J → Session → Option Act → J → Session → Type 0

@@ -3,8 +3,9 @@ ghost use Rattle.std.specs.Prelude.{◌≡◌};
 
 use crate::item::ItemProgress;
 use crate::read::ReadProgress;
+use crate::seek::SeekProgress;
 use crate::write::WriteProgress;
-use blocking_core::job::{ItemAction, ReadAction, WriteAction};
+use blocking_core::job::{ItemAction, ReadAction, SeekAction, WriteAction};
 use blocking_laws::step::Answer;
 
 /// The job of a session, and how far it is.
@@ -16,6 +17,8 @@ pub enum SessionJob {
     Write(WriteProgress),
     /// It takes items ahead of its owner.
     Items(ItemProgress),
+    /// It moves the handle to a position.
+    Seek(SeekProgress),
 }
 
 impl SessionJob {
@@ -33,6 +36,7 @@ impl SessionJob {
                 matches!(write.next(), WriteAction::Write(_) | WriteAction::Flush)
             }
             SessionJob::Items(items) => matches!(items.next(), ItemAction::Next),
+            SessionJob::Seek(seek) => matches!(seek.next(), SeekAction::Seek),
         }
     }
 
@@ -44,6 +48,7 @@ impl SessionJob {
             SessionJob::Read(read) => matches!(read.next(), ReadAction::Done),
             SessionJob::Write(write) => matches!(write.next(), WriteAction::Done),
             SessionJob::Items(items) => matches!(items.next(), ItemAction::Done),
+            SessionJob::Seek(seek) => matches!(seek.next(), SeekAction::Done),
         }
     }
 
@@ -55,6 +60,7 @@ impl SessionJob {
             SessionJob::Read(read) => read.may_be_answered(answer),
             SessionJob::Write(write) => write.may_be_answered(answer),
             SessionJob::Items(items) => items.may_be_answered(answer),
+            SessionJob::Seek(seek) => seek.may_be_answered(answer),
         }
     }
 
@@ -66,6 +72,7 @@ impl SessionJob {
             SessionJob::Read(read) => read.answer(answer),
             SessionJob::Write(write) => write.answer(answer),
             SessionJob::Items(items) => items.answer(answer),
+            SessionJob::Seek(seek) => seek.answer(answer),
         }
     }
 }

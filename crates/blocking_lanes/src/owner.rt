@@ -2,18 +2,22 @@
 ghost use Rattle.std.specs.Prelude.{◌≡◌, ◌<◌, ◌==◌, if◌then◌else◌, None};
 ghost use Rattle.blocking_core.specs.declared.unblock.OwnerAction.TheVariants as action;
 ghost use Rattle.blocking_lanes.specs.Sessions.{serial_of};
-ghost use Rattle.blocking_lanes.specs.Owners.{poll_call_of, reply_as};
+ghost use Rattle.blocking_lanes.specs.Owners.{poll_call_of, reply_as, back_answer};
 
 use crate::item::ItemProgress;
 use crate::job::SessionJob;
 use crate::passage::Passage;
 use crate::read::ReadProgress;
+use crate::seek::SeekProgress;
 use crate::session::{Entered, Found, Looked, Session};
 use crate::write::WriteProgress;
-use blocking_core::job::{ItemAction, ReadAction, WriteAction};
+use blocking_core::io::Fault;
+use blocking_core::job::{ItemAction, ReadAction, SeekAction, WriteAction};
 use blocking_core::pipe::{DEFAULT_BYTES, DEFAULT_ITEMS, Pipe};
 use blocking_core::pool::{JobNo, Refusal, WakeNote};
-use blocking_core::unblock::{OwnerAction, OwnerAnswer, OwnerCall, PollCall, Reply, State};
+use blocking_core::unblock::{
+    OwnerAction, OwnerAnswer, OwnerCall, PollCall, Reply, SessionKind, State,
+};
 use blocking_laws::event::{Act, HolderWaker, Reply as Told};
 use blocking_laws::step::HandleCall;
 use std::alloc::{AllocError, Global};
@@ -93,19 +97,30 @@ fn poll_call(call: &HandleCall) -> PollCall
     }
 }
 
-// A reply, as it is told. None for the one to a call that isn't asked of an owner whose handle is gone, and for a position, an item
-// and a result, which owners aren't asked for yet.
+// A reply, as it is told. None for the one to a call that isn't asked of an owner whose handle is gone, and for an item and a result,
+// which owners aren't asked for yet.
 fn told(reply: Reply<u64>) -> Option<Told>
     ensures { result ≡ reply_as reply }
 {
     match reply {
         Reply::Count(count) => Some(Told::Count(count as u64)),
+        Reply::Position(place) => Some(Told::Count(place)),
         Reply::End => Some(Told::NoMore),
         Reply::Handle => Some(Told::Handle),
         Reply::Failed(why) => Some(Told::Failed(why)),
         Reply::NotBegun(why) => Some(Told::NotBegun(why)),
         Reply::Done => Some(Told::Okay),
-        Reply::Position(_) | Reply::Item | Reply::Result | Reply::Closed => None,
+        Reply::Item | Reply::Result | Reply::Closed => None,
+    }
+}
+
+// How the machine is told that the handle is back, with this fault, from here: of a seek that went well with where it is.
+fn back(from: State, fault: Option<Fault<u64>>, left: u64) -> OwnerAnswer<u64>
+    ensures { result ≡ back_answer from fault left }
+{
+    match (from, fault) {
+        (State::Lent(SessionKind::Seeking(_), _), None) => OwnerAnswer::Sought(left),
+        _ => OwnerAnswer::Back(fault),
     }
 }
 
@@ -140,7 +155,7 @@ impl Owner {
         }
     }
 
-    /// An empty pipe for the session that its poll begins. Err where there is no memory for it.
+    /// An empty pipe for the session that its poll begins, or none for one without. Err where there is no memory for it.
     pub fn passage(&self, alloc: Global) -> Result<Passage, AllocError>
         ensures goods { IfOk result (λ passage. goods_in passage ≡ goods_asked self.now) }
         ensures pipe { IfOk result (λ passage. pipe_in passage ≡ empty_pipe (capacity_asked self.now)) }
@@ -150,6 +165,9 @@ impl Owner {
             return Ok(Passage::Items(Pipe::new(alloc, capacity)?));
         }
         let capacity = or_default(self.capacity, DEFAULT_BYTES);
+        if let Some(HandleCall::Seek(_)) = &self.asked {
+            return Ok(Passage::Without(capacity));
+        }
         Ok(Passage::Bytes(Pipe::new(alloc, capacity)?))
     }
 
@@ -310,6 +328,9 @@ impl Owner {
         let Some(session) = &mut self.session else {
             return None;
         };
+        if !session.is_piped() {
+            return None;
+        }
         let note = session.close();
         let serial = serial_of(&note);
         let mut poll = poll;
@@ -415,7 +436,7 @@ impl Owner {
         match session.look() {
             Looked::Handle(fault) => {
                 let mut poll = poll;
-                poll.answer(OwnerAnswer::Back(fault));
+                poll.answer(back(poll.state(), fault, session.left()));
                 self.turn(OwnerStage::Polls(poll));
                 Some(Act::Back)
             }
@@ -427,13 +448,14 @@ impl Owner {
         }
     }
 
-    /// The job of the session that its poll begins: it reads, writes or takes items, as was asked. Takes no memory.
+    /// The job of the session that its poll begins, as was asked. Takes no memory.
     pub fn new_job(&self, alloc: Global) -> SessionJob
         ensures { result ≡ new_job_of self.now }
     {
         match &self.asked {
             Some(HandleCall::Write(_)) => SessionJob::Write(WriteProgress::new(alloc)),
             Some(HandleCall::Next) => SessionJob::Items(ItemProgress::new()),
+            Some(HandleCall::Seek(goal)) => SessionJob::Seek(SeekProgress::new(*goal)),
             _ => SessionJob::Read(ReadProgress::new(alloc)),
         }
     }
@@ -526,6 +548,7 @@ impl Owner {
             SessionJob::Read(read) => Ok(self.read(read)),
             SessionJob::Write(write) => self.write(alloc, write),
             SessionJob::Items(items) => Ok(self.stream(items)),
+            SessionJob::Seek(seek) => Ok(self.seek(seek)),
         }
     }
 
@@ -571,6 +594,20 @@ impl Owner {
             return Ok(None);
         };
         session.write(alloc, job)
+    }
+
+    // A job that seeks takes its next action.
+    fn seek(&mut self, job: &mut SeekProgress) -> Option<Act>
+        ensures { IsWorked (worked (of_job.Seek job.old) self.old) (of_job.Seek job.old) self.old result (of_job.Seek job.new) self.new }
+    {
+        if let SeekAction::Deliver = job.next() {
+            job.wake();
+            return Some(Act::HolderWoken);
+        }
+        let Some(session) = &mut self.session else {
+            return None;
+        };
+        session.seek(job)
     }
 
     /// The job of its session gives up: the handle won't come back. What is seen of that.

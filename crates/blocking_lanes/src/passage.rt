@@ -1,7 +1,7 @@
 //! The pipe between an owner and the job of its session.
-ghost use Rattle.std.specs.Prelude.{◌≡◌, length, is_some};
+ghost use Rattle.std.specs.Prelude.{◌≡◌, length, is_some, true};
 ghost use Rattle.blocking_core.specs.Pipes.{room};
-ghost use Rattle.blocking_lanes.specs.Passages.{is_bytes, goods_in, pipe_in, closed_by_owner, closed_by_job};
+ghost use Rattle.blocking_lanes.specs.Passages.{is_bytes, is_items, is_piped, goods_in, pipe_in, closed_by_owner, closed_by_job};
 
 use blocking_core::pipe::{BytePipe, ItemPipe};
 use blocking_core::pool::WakeNote;
@@ -13,6 +13,8 @@ pub enum Passage {
     Bytes(BytePipe<()>),
     /// Items pass, each told by its number.
     Items(ItemPipe<u64, ()>),
+    /// Nothing passes: there is no pipe, and takes no memory. One would hold so many.
+    Without(usize),
 }
 
 impl Passage {
@@ -23,6 +25,20 @@ impl Passage {
         matches!(self, Passage::Bytes(_))
     }
 
+    /// Whether items pass.
+    pub(crate) fn is_of_items(&self) -> bool
+        ensures { result ≡ is_items (goods_in self.now) }
+    {
+        matches!(self, Passage::Items(_))
+    }
+
+    /// Whether there is a pipe.
+    pub(crate) fn is_piped(&self) -> bool
+        ensures { result ≡ is_piped (goods_in self.now) }
+    {
+        !matches!(self, Passage::Without(_))
+    }
+
     /// How many bytes or items are inside.
     pub(crate) fn len(&self) -> usize
         ensures { let pipe = pipe_in self.now in result ≡ length pipe.items }
@@ -30,6 +46,7 @@ impl Passage {
         match self {
             Passage::Bytes(pipe) => pipe.len(),
             Passage::Items(pipe) => pipe.len(),
+            Passage::Without(_) => 0,
         }
     }
 
@@ -40,11 +57,13 @@ impl Passage {
         match self {
             Passage::Bytes(pipe) => pipe.room(),
             Passage::Items(pipe) => pipe.room(),
+            Passage::Without(capacity) => *capacity,
         }
     }
 
-    /// Closes the owner's end. Answers the note of a job that waited.
+    /// Closes the owner's end of the pipe. Answers the note of a job that waited.
     pub(crate) fn close_owner(&mut self) -> Option<WakeNote>
+        requires { is_piped (goods_in self.old) ≡ true }
         ensures goods { goods_in self.new ≡ goods_in self.old }
         ensures pipe { pipe_in self.new ≡ closed_by_owner (pipe_in self.old) }
         ensures note { let pipe = pipe_in self.old in result ≡ pipe.job_seat }
@@ -52,11 +71,13 @@ impl Passage {
         match self {
             Passage::Bytes(pipe) => pipe.close_owner(),
             Passage::Items(pipe) => pipe.close_owner(),
+            Passage::Without(_) => unreachable!(),
         }
     }
 
-    /// Closes the job's end. Whether it took the waker of an owner who waited.
+    /// Closes the job's end of the pipe. Whether it took the waker of an owner who waited.
     pub(crate) fn close_job(&mut self) -> bool
+        requires { is_piped (goods_in self.old) ≡ true }
         ensures goods { goods_in self.new ≡ goods_in self.old }
         ensures pipe { pipe_in self.new ≡ closed_by_job (pipe_in self.old) }
         ensures wake { let pipe = pipe_in self.old in result ≡ is_some pipe.owner_seat }
@@ -64,6 +85,7 @@ impl Passage {
         match self {
             Passage::Bytes(pipe) => pipe.close_job().is_some(),
             Passage::Items(pipe) => pipe.close_job().is_some(),
+            Passage::Without(_) => unreachable!(),
         }
     }
 }

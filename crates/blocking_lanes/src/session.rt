@@ -4,10 +4,12 @@ ghost use Rattle.std.specs.Prelude.{◌≡◌, ◌<◌, ◌≤◌, true, length,
 use crate::item::ItemProgress;
 use crate::passage::Passage;
 use crate::read::ReadProgress;
+use crate::seek::SeekProgress;
 use crate::write::WriteProgress;
 use blocking_core::io::Fault;
 use blocking_core::job::{
-    ItemAction, ItemAnswer, PIECE, ReadAction, ReadAnswer, WriteAction, WriteAnswer,
+    ItemAction, ItemAnswer, PIECE, ReadAction, ReadAnswer, SeekAction, SeekAnswer, WriteAction,
+    WriteAnswer,
 };
 use blocking_core::pipe::{Answered, Drained, Filled, Peeked, Put, Room, Sending};
 use blocking_core::pool::{JobNo, WakeNote};
@@ -17,12 +19,14 @@ use blocking_laws::event::{Act, HolderWaker};
 use std::alloc::{AllocError, Global};
 use std::marker::Model;
 
-/// A session of an owner: the number of its job, the pipe between the two, and the slot in which the handle comes back.
+/// A session of an owner: the number of its job, the pipe between the two, the slot in which the handle comes back, and where a seek left
+/// the handle.
 #[derive(Drop)]
 pub(crate) struct Session {
     number: JobNo,
     passage: Passage,
     slot: Slot<Option<Fault<u64>>, ()>,
+    left: u64,
 }
 
 /// What an owner finds in the pipe.
@@ -66,6 +70,7 @@ impl Model for Session {
       goods = goods_in s.passage;
       pipe = pipe_in s.passage;
       slot = s.slot;
+      left = s.left;
     } };
 }
 
@@ -75,10 +80,11 @@ impl Session {
     ghost use Rattle.blocking_core.specs.Reading.{read_next};
     ghost use Rattle.blocking_core.specs.Slots.{empty_slot};
     ghost use Rattle.blocking_core.specs.Writing.{write_next};
-    ghost use Rattle.blocking_lanes.specs.Passages.{OfBytes, OfItems, is_bytes, goods_in, pipe_in, through};
+    ghost use Rattle.blocking_lanes.specs.Passages.{OfBytes, OfItems, is_bytes, is_items, goods_in, pipe_in, through, is_piped};
+    ghost use Rattle.blocking_core.specs.Seeks.{seek_next};
     ghost use Rattle.blocking_lanes.specs.Sessions.{filled, session_after_fill, front, found_piece, holds, work_at_peek, work_of_consume};
-    ghost use Rattle.blocking_lanes.specs.Sessions.{found_send, streamer_closes, streamer_finishes, streamer_works, work_at_send};
-    ghost use Rattle.blocking_lanes.specs.Sessions.{writer_closes, writer_finishes, writer_works};
+    ghost use Rattle.blocking_lanes.specs.Sessions.{found_send, streamer_closes, streamer_finishes, streamer_works, work_at_send, seek_finishes, seek_works};
+    ghost use Rattle.blocking_lanes.specs.Sessions.{writer_closes, writer_finishes, writer_works, seek_finishes, seek_works};
     ghost use Rattle.blocking_lanes.specs.Sessions.{reach, drained, session_after_close, session_after_drain, session_after_look};
     ghost use Rattle.blocking_lanes.specs.Sessions.{work_by, work_at_room, work_at_put, work_of_close, work_of_finish, found_room, found_put, fits_in};
     ghost use Rattle.blocking_lanes.specs.Sessions.{give_up_wakes, session_after_give_up, IsWork};
@@ -91,12 +97,14 @@ impl Session {
           goods = goods_in passage;
           pipe = pipe_in passage;
           slot = empty_slot;
+          left = 0;
         } }
     {
         Session {
             number,
             passage,
             slot: Slot::new(),
+            left: 0,
         }
     }
 
@@ -114,10 +122,32 @@ impl Session {
         self.passage.is_of_bytes()
     }
 
+    /// Whether items pass through its pipe.
+    pub(crate) fn is_of_items(&self) -> bool
+        ensures { result ≡ is_items self.now.goods }
+    {
+        self.passage.is_of_items()
+    }
+
+    /// Whether it has a pipe.
+    pub(crate) fn is_piped(&self) -> bool
+        ensures { result ≡ is_piped self.now.goods }
+    {
+        self.passage.is_piped()
+    }
+
+    /// Where the handle was left, after a seek that went well.
+    pub(crate) fn left(&self) -> u64
+        ensures { result ≡ self.now.left }
+    {
+        self.left
+    }
+
     // ---- its owner acts
 
     /// Closes the owner's end of the pipe. Answers the note of a job that waited.
     pub(crate) fn close(&mut self) -> Option<WakeNote>
+        requires { is_piped self.old.goods ≡ true }
         ensures session { self.new ≡ session_after_close self.old }
         ensures note { result ≡ self.old.pipe.job_seat }
     {
@@ -265,6 +295,7 @@ impl Session {
 
     // The job closes its end of the pipe.
     fn close_job(&mut self, job: &mut ReadProgress) -> Act
+        requires { is_piped self.old.goods ≡ true }
         ensures { work_of_close job.old self.old
             ≡ record { act = result; job = job.new; session = self.new } }
     {
@@ -375,6 +406,7 @@ impl Session {
 
     // The job closes its end of the pipe.
     fn close_writer(&mut self, job: &mut WriteProgress) -> Act
+        requires { is_piped self.old.goods ≡ true }
         ensures { writer_closes job.old self.old
             ≡ record { act = result; job = job.new; session = self.new } }
     {
@@ -452,6 +484,7 @@ impl Session {
 
     // The job closes its end of the pipe.
     fn close_streamer(&mut self, job: &mut ItemProgress) -> Act
+        requires { is_piped self.old.goods ≡ true }
         ensures { streamer_closes job.old self.old
             ≡ record { act = result; job = job.new; session = self.new } }
     {
@@ -475,7 +508,7 @@ impl Session {
         ensures { IsWork (through OfItems self.old.goods (streamer_works (item_next job.old.core) job.old self.old)) job.old self.old result
             job.new self.new }
     {
-        if self.is_of_bytes() {
+        if !self.is_of_items() {
             return None;
         }
         match job.next() {
@@ -483,6 +516,29 @@ impl Session {
             ItemAction::Close => Some(self.close_streamer(job)),
             ItemAction::Finish => Some(self.finish_streamer(job)),
             ItemAction::Next | ItemAction::Deliver | ItemAction::Done => None,
+        }
+    }
+
+    // ---- a job that seeks
+
+    // The job puts its result into the slot, and leaves where the handle is.
+    fn finish_seek(&mut self, job: &mut SeekProgress) -> Act
+        ensures { seek_finishes job.old self.old
+            ≡ record { act = result; job = job.new; session = self.new } }
+    {
+        let woke = self.slot.put(job.fault()).wake.is_some();
+        self.left = job.place();
+        job.meet(SeekAnswer::Finished { woke });
+        Act::Finished(HolderWaker::in_seat(woke))
+    }
+
+    /// A job that seeks takes its next action, where it takes it at its session: what is seen of it.
+    pub(crate) fn seek(&mut self, job: &mut SeekProgress) -> Option<Act>
+        ensures { IsWork (seek_works (seek_next job.old.core) job.old self.old) job.old self.old result job.new self.new }
+    {
+        match job.next() {
+            SeekAction::Finish => Some(self.finish_seek(job)),
+            SeekAction::Seek | SeekAction::Deliver | SeekAction::Done => None,
         }
     }
 

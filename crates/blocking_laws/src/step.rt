@@ -123,7 +123,7 @@ impl HandleCall {
         }
     }
 
-    /// Whether owners are asked for this yet: not to seek, for an item, for an operation, or for the handle for good.
+    /// Whether owners are asked for this yet: not for an item, for an operation, or for the handle for good.
     pub fn is_known(&self) -> bool
         ensures { result ≡ is_known self.now }
     {
@@ -133,6 +133,7 @@ impl HandleCall {
                 | HandleCall::Write(_)
                 | HandleCall::Flush
                 | HandleCall::Close
+                | HandleCall::Seek(_)
                 | HandleCall::GetMut
         )
     }

@@ -5,6 +5,7 @@ use Rattle.std.proofs.lemmas.Bool.Decides.{nat_tests}
 use Rattle.blocking_core.specs.OwnerCalls.{OwnerMachine, owner_next}
 use Rattle.blocking_core.specs.Reading.{read_next}
 use Rattle.blocking_core.specs.Writing.{write_next}
+use Rattle.blocking_core.specs.Seeks.{seek_next}
 use Rattle.blocking_core.specs.Slots.{Content, Empty, Full, GivenUp, Abandoned}
 use Rattle.blocking_core.specs.declared.io.Fault.{Fault}
 use Rattle.blocking_core.specs.Items.{item_next}
@@ -14,9 +15,11 @@ use Rattle.blocking_core.specs.declared.job.read.ReadAction.{ReadAction}
 use Rattle.blocking_core.specs.declared.job.read.ReadAction.TheVariants as read
 use Rattle.blocking_core.specs.declared.job.write.WriteAction.{WriteAction}
 use Rattle.blocking_core.specs.declared.job.write.WriteAction.TheVariants as write
+use Rattle.blocking_core.specs.declared.job.seek.SeekAction.{SeekAction}
+use Rattle.blocking_core.specs.declared.job.seek.SeekAction.TheVariants as seek
 use Rattle.blocking_core.specs.declared.unblock.OwnerAction.{OwnerAction}
 use Rattle.blocking_core.specs.declared.unblock.OwnerAction.TheVariants as action
-use Rattle.blocking_laws.specs.JobTable.{Kind, Reading, Writing, Streaming, JobAction, PutPiece, Consume, next_but_wake, is_asking, is_over, fault, has_finished, has_given_up}
+use Rattle.blocking_laws.specs.JobTable.{Kind, Reading, Writing, Streaming, JobAction, PutPiece, Consume, next_but_wake, is_asking, is_over, fault, has_finished, has_given_up, Seeking}
 use Rattle.blocking_laws.specs.Passed.{got, accepted, kind_in}
 use Rattle.blocking_laws.specs.Seen.{own, acts_of}
 use Rattle.blocking_laws.specs.Sessions.{jobs_of, kind_of_job, under_way, is_poll_over, is_for_closed}
@@ -28,9 +31,9 @@ use Rattle.blocking_laws.specs.declared.event.Reply.{Reply as Told}
 use Rattle.blocking_laws.specs.declared.step.HandleCall.{HandleCall}
 use Rattle.blocking_laws.specs.declared.step.HandleCall.TheVariants as handle_call
 use Rattle.blocking_pool.specs.Lists.{is_in}
-use Rattle.blocking_lanes.specs.Owners.{Owner, rests, may_ask, may_ask_at, next_of, next_at, next_by, next_to_say, did, did_in, drain_did, fill_did, fill_did_in, look_did, looked_as, reply_as, reply_did, worked, worked_by, read_as, read_in, stream_as, stream_in, write_as, write_in}
+use Rattle.blocking_lanes.specs.Owners.{Owner, rests, may_ask, may_ask_at, next_of, next_at, next_by, next_to_say, did, did_in, drain_did, fill_did, fill_did_in, look_did, looked_as, reply_as, reply_did, worked, worked_by, read_as, read_in, stream_as, stream_in, write_as, write_in, close_did, seek_as, seek_in}
 use Rattle.blocking_lanes.specs.OwnerTies.{OwnerAs, LastAs, SlotAs, Flows, state_as}
-use Rattle.blocking_lanes.specs.Passages.{OfBytes, OfItems}
+use Rattle.blocking_lanes.specs.Passages.{OfBytes, OfItems, is_piped}
 use Rattle.blocking_lanes.specs.Reads as reads
 use Rattle.blocking_lanes.specs.Reads.{ReadAs}
 use Rattle.blocking_lanes.specs.SessionJobs.{JobAs, kind_of, action_of}
@@ -39,6 +42,8 @@ use Rattle.blocking_lanes.specs.Streams as streams
 use Rattle.blocking_lanes.specs.Streams.{ItemAs}
 use Rattle.blocking_lanes.specs.Writes as writes
 use Rattle.blocking_lanes.specs.Writes.{WriteAs}
+use Rattle.blocking_lanes.specs.Seeks as seeks
+use Rattle.blocking_lanes.specs.Seeks.{SeekAs}
 use Rattle.blocking_lanes.specs.declared.job.SessionJob.{SessionJob}
 use Rattle.blocking_lanes.specs.declared.job.SessionJob.TheVariants as of_job
 use Rattle.blocking_lanes.specs.declared.owner.OwnerNext.{OwnerNext}
@@ -46,13 +51,14 @@ use Rattle.blocking_lanes.specs.declared.owner.OwnerNext.TheVariants.{Rests, Act
 use Rattle.blocking_lanes.specs.declared.owner.OwnerStage.{OwnerStage}
 use Rattle.blocking_lanes.specs.declared.owner.OwnerStage.TheVariants as stage
 use Rattle.blocking_lanes.proofs.owners.Cuts.{kind_is}
-use Rattle.blocking_lanes.proofs.owners.Goods.{through_here}
+use Rattle.blocking_lanes.proofs.owners.Goods.{piped_here, through_here}
 use Rattle.blocking_lanes.proofs.owners.Known.{gone_known, may_ask_known}
 use Rattle.blocking_lanes.proofs.owners.OwnerActs.{owner_by_parts, bound, doing, fits_at}
-use Rattle.blocking_lanes.proofs.owners.States.{gone_is, is_lent, lent, lent_at, looks_lent, may_be_asked, open_lent}
+use Rattle.blocking_lanes.proofs.owners.States.{gone_is, is_lent, lent, lent_at, looks_lent, may_be_asked, open_lent, open_piped}
 use Rattle.blocking_lanes.proofs.owners.ReadJobs as read_job
 use Rattle.blocking_lanes.proofs.owners.StreamJobs as stream_job
 use Rattle.blocking_lanes.proofs.owners.WriteJobs as write_job
+use Rattle.blocking_lanes.proofs.owners.SeekJobs as seek_job
 use Rattle.blocking_lanes.proofs.owners.Steps.{its_last}
 
 -- ---- its poll
@@ -173,7 +179,10 @@ some_by bytes asked p cut (action.Fill most) last t is n e =
     (lent last (bound bytes) cut p.state t.last t.stage.0.at_is (ap is_lent fits.4))
     (goods_at last (bound bytes) cut Writing t.last (lent_at (own cut) Writing true (t.stage.0.at_is ∙ ap state_as fits.4)).0)
 some_by bytes asked p cut action.DropHandle last t is n e = refl
-some_by bytes asked p cut action.Close (Some s) t is n e = refl
+some_by bytes asked p cut action.Close (Some s) t is n e =
+    let fits = fits_at bytes asked p cut (Some s) action.Close t is in
+    ap is_some (piped_here s.goods (Some (close_did p s (owner_by_parts bytes asked (stage.Polls p) (Some s))))
+    (ap is_piped t.last.lent.goods ∙ open_piped (own cut) p.state fits.0 t.stage.0.at_is))
 some_by bytes asked p cut (action.Drain most) (Some s) t is n e =
     let fits = fits_at bytes asked p cut (Some s) (action.Drain most) t is in
     let kind = (lent_at (own cut) Reading true (t.stage.0.at_is ∙ ap state_as fits.2)).0 in
@@ -332,9 +341,23 @@ stream_some owner cut n p t of r among asks over = by_next (item_next p.core) re
         by_case item.Next is asks over = absurd (cc)
         by_case item.Done is asks over = absurd (cc)
 
+-- and one that seeks
+seek_some : (owner : Owner) (cut : List Event) (n : ℕ) (p : seeks.Progress) → OwnerAs owner cut → kind_of_job n (own cut) ≡ Seeking p.goal → SeekAs p (acts_of n cut) → is_in n (jobs_of (own cut)) ≡ true
+    → is_asking (seeks.action_of p) ≡ false → is_over (seeks.action_of p) ≡ false → is_some (worked (of_job.Seek p) owner) ≡ true
+seek_some owner cut n p t of r among asks over = by_next (seek_next p.core) refl asks over
+  where
+    by_next : (a : SeekAction) → seek_next p.core ≡ a → is_asking (seeks.action_as a) ≡ false → is_over (seeks.action_as a) ≡ false → is_some (seek_as a p owner) ≡ true
+    by_next seek.Deliver is asks over = refl
+    by_next seek.Finish is asks over =
+        let m = meets owner cut n (Seeking p.goal) (seeks.action_as seek.Finish) t of among (sym r.next ∙ ap seeks.action_as (seek_job.awake p seek.Finish is (λ e. cc)).next_is) refl in
+        subst (λ o. is_some (seek_in seek.Finish o p owner) ≡ true) (sym m.here) refl
+    by_next seek.Seek is asks over = absurd (cc)
+    by_next seek.Done is asks over = absurd (cc)
+
 -- a job whose next action is its own can take it
 pub works_some : (owner : Owner) (cut : List Event) (n : ℕ) (p : SessionJob) → OwnerAs owner cut → kind_of_job n (own cut) ≡ kind_of p → JobAs p (acts_of n cut)
     → is_in n (jobs_of (own cut)) ≡ true → is_asking (action_of p) ≡ false → is_over (action_of p) ≡ false → is_some (worked p owner) ≡ true
 works_some owner cut n (of_job.Read p) t of r among asks over = read_some owner cut n p t of r among asks over
 works_some owner cut n (of_job.Write p) t of r among asks over = write_some owner cut n p t of r among asks over
 works_some owner cut n (of_job.Items p) t of r among asks over = stream_some owner cut n p t of r among asks over
+works_some owner cut n (of_job.Seek p) t of r among asks over = seek_some owner cut n p t of r among asks over

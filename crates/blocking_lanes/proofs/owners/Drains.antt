@@ -6,10 +6,11 @@ use Rattle.blocking_core.specs.Pipes.{room}
 use Rattle.blocking_core.specs.Places.{Served, Waiting, Closed, drain}
 use Rattle.blocking_core.specs.Slots.{Slot, Empty, Full}
 use Rattle.blocking_core.specs.declared.io.Fault.{Fault}
-use Rattle.blocking_laws.specs.JobTable.{Kind, Reading, Writing, Streaming, JobAction, FindRoom, AskBytes, PutPiece, Peek, OfferBytes, Consume, AskFlush, AskItem, SendItem, CloseEnd, Finish, Over, next_but_wake, fault, has_finished, has_given_up}
+use Rattle.blocking_laws.specs.JobTable.{Kind, Reading, Writing, Streaming, JobAction, FindRoom, AskBytes, PutPiece, Peek, OfferBytes, Consume, AskFlush, AskItem, SendItem, CloseEnd, Finish, Over, next_but_wake, fault, has_finished, has_given_up, Seeking, has_closed}
+use Rattle.blocking_laws.specs.Passed.{gave, peeked, taken as taken_by}
 use Rattle.blocking_laws.specs.Sessions as sessions
 use Rattle.blocking_laws.specs.declared.event.Act.{Act}
-use Rattle.blocking_lanes.specs.OwnerTies.{SessionAs, SlotAs, Flows, IsStuckIn, IsOwnerStuckIn, Passed, passed_by, PassedAs, Wrote, wrote_by, WrittenAs, IsDrained, IsDone}
+use Rattle.blocking_lanes.specs.OwnerTies.{SessionAs, SlotAs, Flows, PlainFlow, is_piped_kind, IsStuckIn, IsOwnerStuckIn, Passed, passed_by, PassedAs, Wrote, wrote_by, WrittenAs, IsDrained, IsDone}
 use Rattle.blocking_lanes.specs.Sessions.{Session, goods_of, new_session, session_after_close, session_after_drain, session_after_look}
 use Rattle.blocking_pool.specs.Jobs.{JobNumber}
 
@@ -89,6 +90,34 @@ stops_writing _ out items lasts shut given_up w p = absurd p
 
 -- ---- what depends on the kind of the session
 
+-- through the pipe of a session without one nothing went, be its end closed
+shut_plain : (s : Session) (took accepted : List ℕ) (acts : List Act) → PlainFlow s took accepted (has_closed acts) (gave acts) (peeked acts) (taken_by acts)
+    → PlainFlow (session_after_close s) took accepted (has_closed acts) (gave acts) (peeked acts) (taken_by acts)
+shut_plain s took accepted acts t = record {
+  closed_is = t.closed_is;
+  inside = t.inside;
+  unseated = t.unseated;
+  ungot = t.ungot;
+  unfilled = t.unfilled;
+  ungiven = t.ungiven;
+  unfound = t.unfound;
+  unwritten = t.unwritten;
+}
+
+-- be the slot another
+pub same_plain : (s : Session) (slot : Slot (Option (Fault ℕ)) (Unit {0})) (left : ℕ) (took accepted : List ℕ) (closed : Bool) (given found written : List ℕ)
+    → PlainFlow s took accepted closed given found written → PlainFlow (record s { slot = slot; left = left }) took accepted closed given found written
+same_plain s slot left took accepted closed given found written t = record {
+  closed_is = t.closed_is;
+  inside = t.inside;
+  unseated = t.unseated;
+  ungot = t.ungot;
+  unfilled = t.unfilled;
+  ungiven = t.ungiven;
+  unfound = t.unfound;
+  unwritten = t.unwritten;
+}
+
 -- what went through its pipe, where its owner's end was closed
 shut_flow : (s : Session) (kind : Kind) (shut : Bool) (took accepted : List ℕ) (next : JobAction) (acts : List Act)
     → Flows kind s shut took accepted next acts → Flows kind (session_after_close s) true took accepted next acts
@@ -122,6 +151,7 @@ shut_flow s Writing shut took accepted next acts t = record {
   ungiven = t.ungiven;
   unclosed = t.unclosed;
 }
+shut_flow s (Seeking goal) shut took accepted next acts t = record { plain = shut_plain s took accepted acts t.plain; next_is = t.next_is; place = t.place }
 shut_flow s _ shut took accepted next acts t = absurd t
 
 -- where the slot is another, what went through the pipe is the same
@@ -156,6 +186,11 @@ same_flow s slot Writing shut took accepted next acts t = record {
   ungot = t.ungot;
   ungiven = t.ungiven;
   unclosed = t.unclosed;
+}
+same_flow s slot (Seeking goal) shut took accepted next acts t = record {
+  plain = same_plain s slot s.left took accepted (has_closed acts) (gave acts) (peeked acts) (taken_by acts) t.plain;
+  next_is = t.next_is;
+  place = t.place;
 }
 same_flow s slot _ shut took accepted next acts t = absurd t
 
@@ -221,7 +256,7 @@ module _ (s : Session) (kind : Kind) (capacity : ℕ) (last : Option sessions.Se
       }
 
   -- and where it isn't, and is seated there
-  pub waits_for_it : s.slot.content ≡ Empty → (s.pipe.is_owner_open ≡ false) ⊎ (s.pipe.is_job_open ≡ false)
+  pub waits_for_it : s.slot.content ≡ Empty → (s.pipe.is_owner_open ≡ false) ⊎ ((s.pipe.is_job_open ≡ false) ⊎ (is_piped_kind kind ≡ false))
       → SessionAs s kind capacity last shut back dropped took accepted acts js ps ss
       → SessionAs (session_after_look Empty s) kind capacity last shut back dropped took accepted acts js ps true
   waits_for_it found closed t =
@@ -311,6 +346,7 @@ abbrev pub IsLending : Kind → Type 0
 IsLending Reading = Unit {0}
 IsLending Streaming = Unit {0}
 IsLending Writing = Unit {0}
+IsLending (Seeking goal) = Unit {0}
 IsLending _ = ⊥
 
 -- what goes through a session's pipe tells that it is such a one
@@ -318,6 +354,7 @@ pub lends : (s : Session) (shut : Bool) (got accepted : List ℕ) (next : JobAct
 lends s shut got accepted next acts Reading flow = tt
 lends s shut got accepted next acts Streaming flow = tt
 lends s shut got accepted next acts Writing flow = tt
+lends s shut got accepted next acts (Seeking goal) flow = tt
 lends s shut got accepted next acts _ flow = absurd flow
 
 pub begins : (number : JobNumber) (kind : Kind) (capacity : ℕ) (dropped : Bool) → IsLending kind → 0 < capacity
@@ -357,6 +394,21 @@ begins number Writing capacity dropped lending some = record {
     ungot = refl;
     ungiven = refl;
     unclosed = λ is. absurd (cc);
+  };
+  result = record { slot = (refl, refl); over_is = refl; let_go = λ is. absurd (cc) };
+  seats = record {
+    job = refl;
+    owner = refl;
+    slot = refl;
+    reason = record { job = λ seated. absurd (cc); owner = λ seated. absurd (cc); slot = λ seated. absurd (cc) };
+  };
+}
+begins number (Seeking goal) capacity dropped lending some = record {
+  lent = record { begun = refl; goods = refl; some = some; holds = refl; within = omega arith; shut_is = refl };
+  flow = record {
+    plain = record { closed_is = refl; inside = refl; unseated = refl; ungot = refl; unfilled = refl; ungiven = refl; unfound = refl; unwritten = refl };
+    next_is = tt;
+    place = λ is. absurd (cc);
   };
   result = record { slot = (refl, refl); over_is = refl; let_go = λ is. absurd (cc) };
   seats = record {

@@ -13,6 +13,9 @@ use Rattle.blocking_core.specs.declared.job.read.ReadAction.TheVariants as read
 use Rattle.blocking_core.specs.declared.job.write.WriteAction.{WriteAction}
 use Rattle.blocking_core.specs.declared.job.write.WriteAction.TheVariants as write
 use Rattle.blocking_core.specs.Writing.{write_next}
+use Rattle.blocking_core.specs.Seeks.{seek_next}
+use Rattle.blocking_core.specs.declared.job.seek.SeekAction.{SeekAction}
+use Rattle.blocking_core.specs.declared.job.seek.SeekAction.TheVariants as seek
 use Rattle.blocking_core.specs.declared.unblock.OwnerAction.{OwnerAction}
 use Rattle.blocking_core.specs.declared.unblock.OwnerAction.TheVariants as action
 use Rattle.blocking_laws.specs.Jobs.{accepted_by}
@@ -24,18 +27,19 @@ use Rattle.blocking_laws.specs.declared.event.Reply.{Reply as Told}
 use Rattle.blocking_laws.specs.declared.step.HandleCall.{HandleCall}
 use Rattle.blocking_laws.specs.declared.step.HandleCall.TheVariants as handle_call
 use Rattle.blocking_pool.specs.Jobs.{JobNumber}
-use Rattle.blocking_lanes.specs.Owners.{Owner, Did, Worked, note_at, drain_did, fill_did, fill_did_in, look_did, looked_as, reply_as, reply_did, did_in, did_by, did, worked_by, read_in, read_as, stream_in, stream_as, write_in, write_as, worked}
+use Rattle.blocking_lanes.specs.Owners.{Owner, Did, Worked, note_at, drain_did, fill_did, fill_did_in, look_did, looked_as, reply_as, reply_did, did_in, did_by, did, worked_by, read_in, read_as, stream_in, stream_as, write_in, write_as, worked, seek_in, seek_as}
 use Rattle.blocking_lanes.specs.OwnerSteps.{OwnerStep, IsAsked, Acts, Begins, IsRefused, Delivers, IsDropped, Works, IsAnswered, GivesUp, CallsWaker, act_of, act_in, act_of_work, delivered}
 use Rattle.blocking_lanes.specs.Passages.{OfBytes, OfItems, through}
 use Rattle.blocking_lanes.specs.Reads as reads
 use Rattle.blocking_lanes.specs.Streams as streams
 use Rattle.blocking_lanes.specs.Writes as writes
 use Rattle.blocking_lanes.specs.Sessions.{Session, Work, found_send, streamer_works, work_by, work_at_put, writer_works, work_of_consume, holds, fits_in, found_room, found_put, found_piece, drained, filled, reach, session_after_look}
+use Rattle.blocking_lanes.specs.Seeks as seeks
 use Rattle.blocking_lanes.specs.declared.job.SessionJob.{SessionJob}
 use Rattle.blocking_lanes.specs.declared.job.SessionJob.TheVariants as of_job
 use Rattle.blocking_lanes.specs.declared.owner.OwnerStage.{OwnerStage}
 use Rattle.blocking_lanes.specs.declared.owner.OwnerStage.TheVariants as stage
-use Rattle.blocking_lanes.proofs.owners.Goods.{through_some}
+use Rattle.blocking_lanes.proofs.owners.Goods.{piped_some, through_some}
 use Rattle.blocking_lanes.proofs.owners.OwnerActs.{value_of}
 
 -- Such an act is seen, and accepts these jobs.
@@ -87,7 +91,7 @@ plain_did (action.Reply r) p last owner done e = by_told (reply_as r) e
     by_told None e = absurd (cc)
 plain_did (action.Fill most) p last owner done e = plain_fills p owner.asked last owner done e
 plain_did action.DropHandle p last owner done e = moved (λ (d : Did). IsPlain [] d.act) _ done e (record { pool = refl; nothing = refl; made = refl; new = refl })
-plain_did action.Close p (Some s) owner done e = moved (λ (d : Did). IsPlain [] d.act) _ done e (record { pool = refl; nothing = refl; made = refl; new = refl })
+plain_did action.Close p (Some s) owner done e = moved (λ (d : Did). IsPlain [] d.act) _ done (piped_some s.goods _ done e) (record { pool = refl; nothing = refl; made = refl; new = refl })
 plain_did (action.Drain most) p (Some s) owner done e = moved (λ (d : Did). IsPlain [] d.act) _ done (through_some OfBytes s.goods _ done e).1 (plain_drain (drained (reach most s) s) p s owner)
 plain_did action.PollSlot p (Some s) owner done e = plain_look s.slot.content p (session_after_look s.slot.content s) owner done e
 plain_did _ p None owner done e = absurd (cc)
@@ -189,11 +193,25 @@ plain_stream item.Close p owner done e = plain_sent item.Close owner.session p o
 plain_stream item.Finish p owner done e = plain_sent item.Finish owner.session p owner done e
 plain_stream item.Done p owner done e = plain_sent item.Done owner.session p owner done e
 
+plain_sought : (a : SeekAction) (last : Option Session) (p : seeks.Progress) (owner : Owner) (done : Worked) → seek_in a last p owner ≡ Some done → IsPlain [] done.act
+plain_sought a None p owner done e = absurd (cc)
+plain_sought seek.Finish (Some s) p owner done e = moved (λ (d : Worked). IsPlain [] d.act) _ done e (record { pool = refl; nothing = refl; made = refl; new = refl })
+plain_sought seek.Seek (Some s) p owner done e = absurd (cc)
+plain_sought seek.Deliver (Some s) p owner done e = absurd (cc)
+plain_sought seek.Done (Some s) p owner done e = absurd (cc)
+
+plain_seek : (a : SeekAction) (p : seeks.Progress) (owner : Owner) (done : Worked) → seek_as a p owner ≡ Some done → IsPlain [] done.act
+plain_seek seek.Deliver p owner done e = moved (λ (d : Worked). IsPlain [] d.act) _ done e (record { pool = refl; nothing = refl; made = refl; new = refl })
+plain_seek seek.Seek p owner done e = plain_sought seek.Seek owner.session p owner done e
+plain_seek seek.Finish p owner done e = plain_sought seek.Finish owner.session p owner done e
+plain_seek seek.Done p owner done e = plain_sought seek.Done owner.session p owner done e
+
 -- an act of a job, whatever it does
 plain_worked : (p : SessionJob) (owner : Owner) (done : Worked) → worked p owner ≡ Some done → IsPlain [] done.act
 plain_worked (of_job.Read p) owner done e = plain_read (read_next p.core) p owner done e
 plain_worked (of_job.Write p) owner done e = plain_write (write_next p.core) p owner done e
 plain_worked (of_job.Items p) owner done e = plain_stream (item_next p.core) p owner done e
+plain_worked (of_job.Seek p) owner done e = plain_seek (seek_next p.core) p owner done e
 
 -- each step
 pub plain_of : (step : OwnerStep) (owner : Owner) (act : Act) → act_of step owner ≡ Some act → IsPlain (brought step) act

@@ -7,6 +7,7 @@ use Rattle.blocking_core.specs.Pipes.{Pipe, room}
 use Rattle.blocking_core.specs.Places.{Met, Served, Waiting, Closed, find_room, hand_in, peek}
 use Rattle.blocking_core.specs.Reading.{read_next}
 use Rattle.blocking_core.specs.Writing.{write_next}
+use Rattle.blocking_core.specs.Seeks.{seek_next}
 use Rattle.blocking_core.specs.Slots.{Slot, slot_after, slot_without_job, answer_of, waker_out_of}
 use Rattle.blocking_core.specs.declared.io.Fault.{Fault}
 use Rattle.blocking_core.specs.Items.{item_next}
@@ -16,8 +17,9 @@ use Rattle.blocking_core.specs.declared.job.read.ReadAction.{ReadAction}
 use Rattle.blocking_core.specs.declared.job.read.ReadAction.TheVariants as read
 use Rattle.blocking_core.specs.declared.job.write.WriteAction.{WriteAction}
 use Rattle.blocking_core.specs.declared.job.write.WriteAction.TheVariants as write
+use Rattle.blocking_core.specs.declared.job.seek.SeekAction.TheVariants as seek
 use Rattle.blocking_laws.specs.Ends.{EndsTruly, back_by, came_back}
-use Rattle.blocking_laws.specs.JobTable.{Kind, Reading, Writing, Streaming, JobAction, SendItem, AskCall, AskItem, AskSeek, AskResult, FindRoom, AskBytes, PutPiece, Peek, OfferBytes, Consume, AskFlush, piece, CloseEnd, Finish, WakeHolder, Over, next_but_wake, next_of_job, is_over, is_answer, takes_waker, is_taken, fault, number, has_finished, has_given_up}
+use Rattle.blocking_laws.specs.JobTable.{Kind, Reading, Writing, Streaming, JobAction, SendItem, AskCall, AskItem, AskSeek, AskResult, FindRoom, AskBytes, PutPiece, Peek, OfferBytes, Consume, AskFlush, piece, CloseEnd, Finish, WakeHolder, Over, next_but_wake, next_of_job, is_over, is_answer, takes_waker, is_taken, fault, number, has_finished, has_given_up, Seeking}
 use Rattle.blocking_laws.specs.JobTable as job
 use Rattle.blocking_laws.specs.OwnerLaws.{JobActs, Works}
 use Rattle.blocking_laws.specs.OwnerSeats.{place_of, is_job_seated, job_seated_by, pipe_seat, pipe_seated_by, slot_seat, slot_seated_by}
@@ -40,11 +42,13 @@ use Rattle.blocking_pool.specs.Lists.{is_in}
 use Rattle.blocking_lanes.specs.OwnerSteps.{by_its_job}
 use Rattle.blocking_lanes.specs.OwnerTies.{OwnerAs, StageBy, SessionAs, ResultAs, IsAtEnd, is_seated, newest_note}
 use Rattle.blocking_lanes.specs.Reads.{Progress, ReadAs, action_as, action_of}
-use Rattle.blocking_lanes.specs.Sessions.{Session, Work, found_piece, found_send, streamer_closes, streamer_finishes, work_at_send, work_at_peek, work_of_consume, writer_closes, writer_finishes, work_at_room, work_at_put, work_of_close, work_of_finish, found_room, found_put, fits_in, finish_wakes, give_up_wakes, session_after_give_up}
+use Rattle.blocking_lanes.specs.Sessions.{Session, Work, found_piece, found_send, streamer_closes, streamer_finishes, work_at_send, work_at_peek, work_of_consume, writer_closes, writer_finishes, work_at_room, work_at_put, work_of_close, work_of_finish, found_room, found_put, fits_in, finish_wakes, give_up_wakes, session_after_give_up, seek_finishes}
 use Rattle.blocking_lanes.specs.Streams as streams
 use Rattle.blocking_lanes.specs.Streams.{ItemAs}
 use Rattle.blocking_lanes.specs.Writes as writes
 use Rattle.blocking_lanes.specs.Writes.{WriteAs}
+use Rattle.blocking_lanes.specs.Seeks as seeks
+use Rattle.blocking_lanes.specs.Seeks.{SeekAs}
 use Rattle.blocking_lanes.specs.declared.owner.OwnerStage.{OwnerStage}
 use Rattle.blocking_lanes.proofs.owners.Jobs.{no_wait}
 use Rattle.blocking_lanes.proofs.owners.Cuts.{its_kind, kind_is, inside_is, next_stays, room_is, open_is}
@@ -56,6 +60,8 @@ use Rattle.blocking_lanes.proofs.owners.WriteSessions.{peeks, peek_parks, drains
 use Rattle.blocking_lanes.proofs.owners.WriteJobs as of_writer
 use Rattle.blocking_lanes.proofs.owners.StreamJobs as of_streamer
 use Rattle.blocking_lanes.proofs.owners.StreamSessions.{item_answers, send_loses, send_parks, sends}
+use Rattle.blocking_lanes.proofs.owners.SeekJobs as of_seeker
+use Rattle.blocking_lanes.proofs.owners.SeekSessions.{seek_answers, seek_puts}
 
 -- ---- seats that acts empty
 
@@ -139,8 +145,12 @@ module _ (bytes : ℕ) (asked : Option HandleCall) (here : OwnerStage) (s : Sess
   pub last_as : (k : Kind) → kind ≡ k → Tied s k acts js ps ss
   last_as k same = subst (λ k. Tied s k acts js ps ss) same t.last
 
+  -- the session with this pipe, slot and number
+  abbrev now_at : Pipe ℕ (Unit {0}) → Slot (Option (Fault ℕ)) (Unit {0}) → ℕ → Session
+  now_at pipe slot left = record { number = s.number; goods = s.goods; pipe = pipe; slot = slot; left = left }
+
   -- What an act of the job, which is of this kind, has to keep, so that the tie and the law do.
-  pub record Keeps (k : Kind) (act : Act) (pipe : Pipe ℕ (Unit {0})) (slot : Slot (Option (Fault ℕ)) (Unit {0})) : Type 0 where
+  pub record KeepsLeft (k : Kind) (act : Act) (pipe : Pipe ℕ (Unit {0})) (slot : Slot (Option (Fault ℕ)) (Unit {0})) (left : ℕ) : Type 0 where
     pub pool : is_of_pool act ≡ false
     pub nothing : is_nothing act ≡ false
     pub lawful : JobActs cut s.number.serial k act
@@ -148,20 +158,25 @@ module _ (bytes : ℕ) (asked : Option HandleCall) (here : OwnerStage) (s : Sess
     pub back : (here : List Event) (before : Option (List Event)) → back_by act here before ≡ before
     pub faults : over ≡ true → (any : Kind) → (fault any (act ∷ acts) ≡ fault any acts) × (number (act ∷ acts) ≡ number acts)
     pub session :
-        Tied (record { number = s.number; goods = s.goods; pipe = pipe; slot = slot }) k (act ∷ acts)
+        Tied (now_at pipe slot left) k (act ∷ acts)
         (job_seated_by act (is_job_seated cut)) (pipe_seated_by act (place_of (next_of_owner cut)) (pipe_seat cut))
         (slot_seated_by act (place_of (next_of_owner cut)) (slot_seat cut))
-    pub ended : IsAtEnd s → IsAtEnd (record { number = s.number; goods = s.goods; pipe = pipe; slot = slot })
-    pub told : is_seated (Some s) ≡ true → (takes_waker act ≡ true) ⊎ (is_seated (Some (record { number = s.number; goods = s.goods; pipe = pipe; slot = slot })) ≡ true)
+    pub ended : IsAtEnd s → IsAtEnd (now_at pipe slot left)
+    pub told : is_seated (Some s) ≡ true → (takes_waker act ≡ true) ⊎ (is_seated (Some (now_at pipe slot left)) ≡ true)
+
+  -- where it leaves no number
+  abbrev pub Keeps : Kind → Act → Pipe ℕ (Unit {0}) → Slot (Option (Fault ℕ)) (Unit {0}) → Type 0
+  Keeps k act pipe slot = KeepsLeft k act pipe slot s.left
 
   serial_test : (n : ℕ) → is_serial began (Some n) ≡ false → (s.number.serial == n) ≡ false
   serial_test n other =
       let test : (n == s.number.serial) ≡ false = ap (λ r. is_serial r (Some n)) (sym t.last.lent.begun) ∙ other in
       grind (arith, nat_tests)
 
-  pub keeps_goes : (of : Kind) → kind ≡ of → (act : Act) (pipe : Pipe ℕ (Unit {0})) (slot : Slot (Option (Fault ℕ)) (Unit {0})) → is_in s.number.serial (jobs_of (own cut)) ≡ true → Keeps of act pipe slot
-      → Goes (owner_by_parts bytes asked here (Some (record { number = s.number; goods = s.goods; pipe = pipe; slot = slot }))) cut (event act)
-  keeps_goes of same act pipe slot among k =
+  pub keeps_left : (of : Kind) → kind ≡ of → (act : Act) (pipe : Pipe ℕ (Unit {0})) (slot : Slot (Option (Fault ℕ)) (Unit {0})) (left : ℕ) → is_in s.number.serial (jobs_of (own cut)) ≡ true
+      → KeepsLeft of act pipe slot left
+      → Goes (owner_by_parts bytes asked here (Some (now_at pipe slot left))) cut (event act)
+  keeps_left of same act pipe slot left among k =
       let e = event act in
       let more = acts_more act k.pool k.nothing in
       let faults = λ (is : over ≡ true) (any : Kind) (n : ℕ). same_fault is any n (s.number.serial == n) refl in
@@ -179,10 +194,10 @@ module _ (bytes : ℕ) (asked : Option HandleCall) (here : OwnerStage) (s : Sess
           stage = subst (λ n. StageBy here (sessions.call (own cut)) (sessions.state (own cut)) n (law.is_at_end (own cut)) (came_back (e ∷ cut)) (newest_note (own cut))) (sym next)
               (subst (λ b. StageBy here (sessions.call (own cut)) (sessions.state (own cut)) (owner_next_but_wake cut (own cut)) (law.is_at_end (own cut)) b (newest_note (own cut)))
               (sym (k.back (e ∷ cut) (came_back cut))) t.stage);
-          last = subst (λ (l : List Act). Tied (record { number = s.number; goods = s.goods; pipe = pipe; slot = slot }) kind l
+          last = subst (λ (l : List Act). Tied (now_at pipe slot left) kind l
               (job_seated_by act (is_job_seated cut)) (pipe_seated_by act (place_of (next_of_owner cut)) (pipe_seat cut)) (slot_seated_by act (place_of (next_of_owner cut)) (slot_seat cut)))
               (sym more)
-              (subst (λ any. Tied (record { number = s.number; goods = s.goods; pipe = pipe; slot = slot }) any (act ∷ acts)
+              (subst (λ any. Tied (now_at pipe slot left) any (act ∷ acts)
               (job_seated_by act (is_job_seated cut)) (pipe_seated_by act (place_of (next_of_owner cut)) (pipe_seat cut)) (slot_seated_by act (place_of (next_of_owner cut)) (slot_seat cut)))
               (sym same) k.session);
           ended = λ is_end. k.ended (t.ended is_end);
@@ -204,6 +219,10 @@ module _ (bytes : ℕ) (asked : Option HandleCall) (here : OwnerStage) (s : Sess
           subst (λ m. (fault any (acts_of m (event act ∷ cut)) ≡ fault any (acts_of m cut)) × (number (acts_of m (event act ∷ cut)) ≡ number (acts_of m cut))) same
           (ap (fault any) more ∙ (k.faults is any).0, ap number more ∙ (k.faults is any).1)
       same_fault is any n false test = let other = acts_other act n k.pool k.nothing test in (ap (fault any) other, ap number other)
+
+  pub keeps_goes : (of : Kind) → kind ≡ of → (act : Act) (pipe : Pipe ℕ (Unit {0})) (slot : Slot (Option (Fault ℕ)) (Unit {0})) → is_in s.number.serial (jobs_of (own cut)) ≡ true
+      → Keeps of act pipe slot → Goes (owner_by_parts bytes asked here (Some (now_at pipe slot s.left))) cut (event act)
+  keeps_goes of same act pipe slot among k = keeps_left of same act pipe slot s.left among k
 
   -- ---- the acts of a job that reads, at the session
 
@@ -351,7 +370,7 @@ module _ (bytes : ℕ) (asked : Option HandleCall) (here : OwnerStage) (s : Sess
           ends = tt;
           back = λ here before. refl;
           faults = λ is kind. (refl, refl);
-          session = finishes s Reading (bound bytes Reading) began shut over gone took written acts js ps ss (waker_in woke) p.fault r.fault_is here;
+          session = finishes s Reading (bound bytes Reading) began shut over gone took written acts js ps ss (waker_in woke) p.fault r.fault_is tt here;
           ended = λ e. e;
           told = λ e. taken_last (is_some s.pipe.owner_seat) (is_some s.slot.seat) woke _ sits e;
         })
@@ -495,7 +514,7 @@ module _ (bytes : ℕ) (asked : Option HandleCall) (here : OwnerStage) (s : Sess
           ends = tt;
           back = λ here before. refl;
           faults = λ is kind. (refl, refl);
-          session = finishes s Writing (bound bytes Writing) began shut over gone took written acts js ps ss (waker_in woke) why r.fault_is here;
+          session = finishes s Writing (bound bytes Writing) began shut over gone took written acts js ps ss (waker_in woke) why r.fault_is tt here;
           ended = λ e. e;
           told = λ e. taken_last (is_some s.pipe.owner_seat) (is_some s.slot.seat) woke _ sits e;
         })
@@ -625,7 +644,7 @@ module _ (bytes : ℕ) (asked : Option HandleCall) (here : OwnerStage) (s : Sess
           ends = tt;
           back = λ here before. refl;
           faults = λ is kind. (refl, refl);
-          session = finishes s Streaming (bound bytes Streaming) began shut over gone took written acts js ps ss (waker_in woke) None (sym r.fault_is) here;
+          session = finishes s Streaming (bound bytes Streaming) began shut over gone took written acts js ps ss (waker_in woke) None (sym r.fault_is) tt here;
           ended = λ e. e;
           told = λ e. taken_last (is_some s.pipe.owner_seat) (is_some s.slot.seat) woke _ sits e;
         })
@@ -646,6 +665,56 @@ module _ (bytes : ℕ) (asked : Option HandleCall) (here : OwnerStage) (s : Sess
           faults = λ is. absurd (let lent = going_on.lent in cc);
           session = item_answers s (bound bytes Streaming) began shut over gone took written acts js ps ss answer q.fits q.table streamer_last;
           ended = λ e. absurd (let closed = e.1 in let lasts = here.flow.passed_is.0 in cc);
+          told = λ e. inr e;
+        })
+
+  -- ---- the acts of a job that seeks, at the session
+
+  abbrev Seeks : Work seeks.Progress → Type 0
+  Seeks work = WorksOn seeks.Progress work
+
+  module _ (p : seeks.Progress) (r : SeekAs p acts) (seeking : kind ≡ Seeking p.goal) (among : is_in s.number.serial (jobs_of (own cut)) ≡ true) where
+    seek_tied : (next : JobAction) → next_but_wake (Seeking p.goal) acts ≡ next → At s (Seeking p.goal) (bound bytes (Seeking p.goal)) began shut over gone took written acts js ps ss next
+    seek_tied next e = at s (Seeking p.goal) (bound bytes (Seeking p.goal)) began shut over gone took written acts js ps ss next e (last_as (Seeking p.goal) seeking)
+
+    -- it puts its result
+    pub seek_finish_works : seek_next p.core ≡ seek.Finish → Seeks (seek_finishes p s)
+    seek_finish_works is =
+        let a = of_seeker.awake p seek.Finish is (λ e. cc) in
+        let here = seek_tied Finish (sym r.next ∙ ap seeks.action_as a.next_is) in
+        let empty = (going s.slot.content (has_finished acts) (has_given_up acts) over gone (fault (Seeking p.goal) acts) here.result).empty in
+        let woke = finish_wakes p.fault s in
+        let sits : woke ≡ is_some s.slot.seat = ap (λ c. is_some (answer_of c s.slot.seat p.fault).wake) empty in
+        let act = Finished (waker_in woke) in
+        let lawful = subst (λ a. Works cut a act) (sym (ap seeks.action_as is) ∙ of_seeker.action_is p acts r) (ap (λ b. Finished (waker_in b)) (sits ∙ sym t.last.seats.slot)) in
+        keeps_left (Seeking p.goal) seeking act s.pipe (slot_after s.slot.content s.slot.seat p.fault) p.place among (record {
+          pool = refl;
+          nothing = refl;
+          lawful = lawful;
+          ends = tt;
+          back = λ here before. refl;
+          faults = λ is kind. (refl, refl);
+          session = seek_puts s p.goal (bound bytes (Seeking p.goal)) began shut over gone took written acts js ps ss (waker_in woke) p.fault p.place r.fault_is r.place_is here;
+          ended = λ e. e;
+          told = λ e. taken_last (is_some s.pipe.owner_seat) (is_some s.slot.seat) woke _ sits e;
+        })
+
+    -- its handle answers
+    pub seek_answer_goes : (answer : Answer) → is_answer (seeks.action_of p) answer ≡ true → Goes (owner_by_parts bytes asked here (Some s)) cut (event (Answered answer))
+    seek_answer_goes answer is =
+        let q = of_seeker.asks p acts answer r is in
+        let here = seek_tied AskSeek q.table in
+        let next = of_seeker.next_by p.goal acts ∙ ap (λ b. job.wake_first b (next_but_wake (Seeking p.goal) acts)) (sym r.waking ∙ q.a.waking) ∙ q.table in
+        let going_on = going s.slot.content (has_finished acts) (has_given_up acts) over gone (fault (Seeking p.goal) acts) here.result in
+        keeps_goes (Seeking p.goal) seeking (Answered answer) s.pipe s.slot among (record {
+          pool = refl;
+          nothing = refl;
+          lawful = subst (λ a. Works cut a (Answered answer)) (sym next) q.fits;
+          ends = tt;
+          back = λ here before. refl;
+          faults = λ is. absurd (let lent = going_on.lent in cc);
+          session = seek_answers s p.goal (bound bytes (Seeking p.goal)) began shut over gone took written acts js ps ss answer q.fits q.table here;
+          ended = λ e. e;
           told = λ e. inr e;
         })
 

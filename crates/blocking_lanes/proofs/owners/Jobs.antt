@@ -10,26 +10,32 @@ use Rattle.blocking_core.specs.Items.{item_next}
 use Rattle.blocking_core.specs.declared.job.item.ItemAction.{ItemAction}
 use Rattle.blocking_core.specs.declared.job.item.ItemAction.TheVariants as item
 use Rattle.blocking_core.specs.declared.job.item.ItemAnswer.TheVariants as sent
+use Rattle.blocking_core.specs.Seeks.{seek_next}
 use Rattle.blocking_core.specs.declared.job.read.ReadAction.{ReadAction}
 use Rattle.blocking_core.specs.declared.job.read.ReadAction.TheVariants as read
 use Rattle.blocking_core.specs.declared.job.read.ReadAnswer.TheVariants as by
 use Rattle.blocking_core.specs.declared.job.write.WriteAction.{WriteAction}
 use Rattle.blocking_core.specs.declared.job.write.WriteAction.TheVariants as write
 use Rattle.blocking_core.specs.declared.job.write.WriteAnswer.TheVariants as wrote
+use Rattle.blocking_core.specs.declared.job.seek.SeekAction.{SeekAction}
+use Rattle.blocking_core.specs.declared.job.seek.SeekAction.TheVariants as seek
+use Rattle.blocking_core.specs.declared.job.seek.SeekAnswer.TheVariants as sought
 use Rattle.blocking_laws.specs.JobTable.{piece, is_taken}
 use Rattle.blocking_laws.specs.Seats.{waker_in}
 use Rattle.blocking_laws.specs.declared.event.Act.{Act}
 use Rattle.blocking_laws.specs.declared.event.Act.TheVariants.{RoomFree, RoomShut, JobParked, Put, Lost, Drained, Taken as TakenOut, JobClosed, Finished}
-use Rattle.blocking_lanes.specs.Owners.{Owner, Worked, worked, worked_by, read_in, read_as, stream_in, stream_as, write_in, write_as}
+use Rattle.blocking_lanes.specs.Owners.{Owner, Worked, worked, worked_by, read_in, read_as, stream_in, stream_as, write_in, write_as, seek_in, seek_as}
 use Rattle.blocking_lanes.specs.Passages.{OfBytes, OfItems, through}
 use Rattle.blocking_lanes.specs.Reads as reads
 use Rattle.blocking_lanes.specs.Reads.{ReadAs}
 use Rattle.blocking_lanes.specs.SessionJobs.{JobAs}
-use Rattle.blocking_lanes.specs.Sessions.{Session, Work, closing_wakes, finish_wakes, found_piece, found_put, found_room, found_send, streamer_closes, streamer_finishes, streamer_works, work_at_send, fits_in, holds, work_at_peek, work_at_put, work_at_room, work_by, work_of_close, work_of_consume, work_of_finish, writer_closes, writer_finishes, writer_works}
+use Rattle.blocking_lanes.specs.Sessions.{Session, Work, closing_wakes, finish_wakes, found_piece, found_put, found_room, found_send, streamer_closes, streamer_finishes, streamer_works, work_at_send, fits_in, holds, work_at_peek, work_at_put, work_at_room, work_by, work_of_close, work_of_consume, work_of_finish, writer_closes, writer_finishes, writer_works, seek_works}
 use Rattle.blocking_lanes.specs.Streams as streams
 use Rattle.blocking_lanes.specs.Streams.{ItemAs}
 use Rattle.blocking_lanes.specs.Writes as writes
 use Rattle.blocking_lanes.specs.Writes.{WriteAs}
+use Rattle.blocking_lanes.specs.Seeks as seeks
+use Rattle.blocking_lanes.specs.Seeks.{SeekAs}
 use Rattle.blocking_lanes.specs.declared.job.SessionJob.{SessionJob}
 use Rattle.blocking_lanes.specs.declared.job.SessionJob.TheVariants as of_job
 use Rattle.blocking_lanes.proofs.owners.Goods.{through_some}
@@ -39,6 +45,7 @@ use Rattle.blocking_lanes.proofs.owners.ReadSessions.{some_room}
 use Rattle.blocking_lanes.proofs.owners.WriteSessions.{some_piece}
 use Rattle.blocking_lanes.proofs.owners.StreamJobs as of_streamer
 use Rattle.blocking_lanes.proofs.owners.WriteJobs as of_writer
+use Rattle.blocking_lanes.proofs.owners.SeekJobs as of_seeker
 
 -- what a job takes of wakers is what is seen
 taken_is : (b : Bool) → b ≡ is_taken (waker_in b)
@@ -196,6 +203,19 @@ module _ (p : streams.Progress) (acts : List Act) (s : Session) (r : ItemAs p ac
   streams_on item.Deliver is work does = absurd (cc)
   streams_on item.Done is work does = absurd (cc)
 
+-- ---- a job that seeks, at its session
+
+-- what it does next there
+seeks_on : (p : seeks.Progress) (acts : List Act) (s : Session) → SeekAs p acts → (a : SeekAction) → seek_next p.core ≡ a → (work : Work seeks.Progress) → seek_works a p s ≡ Some work
+    → SeekAs work.job (work.act ∷ acts)
+seeks_on p acts s r seek.Finish is work does =
+    let woke = finish_wakes p.fault s in
+    subst (λ (w : Work seeks.Progress). SeekAs w.job (w.act ∷ acts)) (ap (value_of work) does)
+    (of_seeker.meets p acts seek.Finish seek.Done woke (sought.Finished woke) (Finished (waker_in woke)) r (of_seeker.awake p seek.Finish is (λ e. cc)) refl refl (taken_is woke) refl refl)
+seeks_on p acts s r seek.Seek is work does = absurd (cc)
+seeks_on p acts s r seek.Deliver is work does = absurd (cc)
+seeks_on p acts s r seek.Done is work does = absurd (cc)
+
 -- ---- a job of an owner
 
 -- what an act at a session leaves of a job, if there is one
@@ -219,6 +239,11 @@ stream_goes : (p : streams.Progress) (acts : List Act) (last : Option Session) (
 stream_goes p acts None owner r a is done does = absurd (cc)
 stream_goes p acts (Some s) owner r a is done does =
     at_work streams.Progress of_job.Items acts owner (through OfItems s.goods (streamer_works a p s)) (λ work e. streams_on p acts s r a is work (through_some OfItems s.goods (streamer_works a p s) work e).1) done does
+
+seek_goes : (p : seeks.Progress) (acts : List Act) (last : Option Session) (owner : Owner) → SeekAs p acts → (a : SeekAction) → seek_next p.core ≡ a
+    → (done : Worked) → seek_in a last p owner ≡ Some done → JobAs done.job (done.act ∷ acts)
+seek_goes p acts None owner r a is done does = absurd (cc)
+seek_goes p acts (Some s) owner r a is done does = at_work seeks.Progress of_job.Seek acts owner (seek_works a p s) (λ work e. seeks_on p acts s r a is work e) done does
 
 -- how far it is after what it does next by itself
 pub worked_on : (p : SessionJob) (acts : List Act) (owner : Owner) (done : Worked) → JobAs p acts → worked p owner ≡ Some done → JobAs done.job (done.act ∷ acts)
@@ -252,3 +277,10 @@ worked_on (of_job.Items p) acts owner done r does = by (item_next p.core) refl d
     by item.Close is does = stream_goes p acts owner.session owner r item.Close is done does
     by item.Finish is does = stream_goes p acts owner.session owner r item.Finish is done does
     by item.Done is does = stream_goes p acts owner.session owner r item.Done is done does
+worked_on (of_job.Seek p) acts owner done r does = by (seek_next p.core) refl does
+  where
+    by : (a : SeekAction) → seek_next p.core ≡ a → seek_as a p owner ≡ Some done → JobAs done.job (done.act ∷ acts)
+    by seek.Deliver is does = subst (λ (d : Worked). JobAs d.job (d.act ∷ acts)) (ap (value_of done) does) (of_seeker.wakes p acts r is)
+    by seek.Seek is does = seek_goes p acts owner.session owner r seek.Seek is done does
+    by seek.Finish is does = seek_goes p acts owner.session owner r seek.Finish is done does
+    by seek.Done is does = seek_goes p acts owner.session owner r seek.Done is done does

@@ -10,11 +10,14 @@ use Rattle.blocking_core.specs.OwnerCalls as machine
 use Rattle.blocking_core.specs.Pipes.{room}
 use Rattle.blocking_core.specs.Places.{Met, Served, Waiting, Closed, drain, fill}
 use Rattle.blocking_core.specs.Slots.{Content, Empty, Full, GivenUp, Abandoned}
+use Rattle.blocking_core.specs.Positions.{same_position}
 use Rattle.blocking_core.specs.declared.io.Fault.{Fault}
+use Rattle.blocking_core.specs.declared.io.Position.{Position}
 use Rattle.blocking_core.specs.declared.unblock.OwnerAction.{OwnerAction}
 use Rattle.blocking_core.specs.declared.unblock.OwnerAction.TheVariants as action
 use Rattle.blocking_core.specs.declared.unblock.OwnerAnswer.{OwnerAnswer}
 use Rattle.blocking_core.specs.declared.unblock.OwnerAnswer.TheVariants as by
+use Rattle.blocking_core.specs.declared.unblock.OwnerEnd.{OwnerEnd}
 use Rattle.blocking_core.specs.declared.unblock.OwnerEnd.TheVariants.{Open, Shut}
 use Rattle.blocking_core.specs.declared.unblock.Reply.{Reply}
 use Rattle.blocking_core.specs.declared.unblock.Reply.TheVariants as reply
@@ -23,7 +26,7 @@ use Rattle.blocking_core.specs.declared.unblock.SessionKind.TheVariants as sessi
 use Rattle.blocking_core.specs.declared.unblock.State.{State}
 use Rattle.blocking_core.specs.declared.unblock.State.TheVariants as state
 use Rattle.blocking_laws.specs.Ends.{EndsTruly, IsTrueEnd, came_back, IsReadBack, IsReadWhole, IsFlushed, IsFlushedIf, IsFlushedBack, handle_answers, has_failure, has_failed_write, has_flush, is_failure, last_is_end}
-use Rattle.blocking_laws.specs.JobTable.{Kind, Reading, Writing, JobAction, Over, next_but_wake, is_over, earlier, fault, fault_in, number, has_closed, has_finished, has_given_up}
+use Rattle.blocking_laws.specs.JobTable.{Kind, Reading, Writing, Seeking, JobAction, Over, next_but_wake, is_over, earlier, fault, fault_in, number, has_closed, has_finished, has_given_up}
 use Rattle.blocking_laws.specs.OwnerLaws.{OwnerMayAct, Polls}
 use Rattle.blocking_laws.specs.OwnerTable.{next_of_owner, deliver_first, owner_next_but_wake}
 use Rattle.blocking_laws.specs.OwnerTable as law
@@ -44,9 +47,9 @@ use Rattle.blocking_laws.specs.declared.step.HandleCall.{HandleCall}
 use Rattle.blocking_laws.specs.declared.step.HandleCall.TheVariants as handle_call
 use Rattle.blocking_pool.specs.Growth.{Growth}
 use Rattle.blocking_pool.specs.Jobs.{JobNumber}
-use Rattle.blocking_lanes.specs.Owners.{Owner, Did, capacity_of, note_at, goes_on, close_did, drain_did, fill_did, fill_did_in, drop_did, look_did, looked_as, poll_call_of, reply_as, reply_did, did_in, did_by, did, is_gone}
+use Rattle.blocking_lanes.specs.Owners.{Owner, Did, capacity_of, note_at, goes_on, close_did, drain_did, fill_did, fill_did_in, drop_did, back_answer, look_did, looked_as, poll_call_of, reply_as, reply_did, did_in, did_by, did, is_gone}
 use Rattle.blocking_lanes.specs.OwnerSteps.{by_owner}
-use Rattle.blocking_lanes.specs.OwnerTies.{OwnerAs, SlotAs, Passed, passed_by, PassedAs, GaveAll, WrittenAs, wrote_by, PollAs, FitsNext, IsGoneBy, IsLentOpen, LooksFrom, EndAs, StageBy, SessionAs, IsAtEnd, called_at, kind_as, state_as, say, action_as, seat_of}
+use Rattle.blocking_lanes.specs.OwnerTies.{OwnerAs, SlotAs, Passed, passed_by, PassedAs, GaveAll, WrittenAs, wrote_by, PollAs, FitsNext, IsGoneBy, IsLentOpen, LooksFrom, EndAs, StageBy, SessionAs, IsAtEnd, called_at, is_piped_kind, kind_as, is_end_open, state_as, say, action_as, seat_of}
 use Rattle.blocking_lanes.specs.Passages.{OfBytes}
 use Rattle.blocking_lanes.specs.Sessions.{Session, serial_of, reach, drained, filled, session_after_close, session_after_drain, session_after_fill, session_after_look}
 use Rattle.blocking_lanes.specs.declared.owner.OwnerStage.{OwnerStage}
@@ -55,8 +58,8 @@ use Rattle.blocking_lanes.proofs.owners.Known.{known_call}
 use Rattle.blocking_lanes.proofs.owners.Cuts.{not_not, next_with, inside_is, room_is, lasts_is, open_is, noted_is, its_job, drain_act, drain_seen}
 use Rattle.blocking_lanes.proofs.owners.Fills.{fills, fill_waits, filled_some, filled_note, fill_act, fill_seen}
 use Rattle.blocking_lanes.proofs.owners.Drains.{shuts, takes, waits, returns, waits_for_it, front, at_end, reached}
-use Rattle.blocking_lanes.proofs.owners.Goods.{through_some}
-use Rattle.blocking_lanes.proofs.owners.States.{IsThere, is_away, gone_is, lent_at, lent_by, is_there, piped}
+use Rattle.blocking_lanes.proofs.owners.Goods.{piped_some, through_some}
+use Rattle.blocking_lanes.proofs.owners.States.{is_away, gone_is, lent_at, lent_by, piped_is}
 
 -- an owner by its parts
 abbrev pub owner_by_parts : ℕ → Option HandleCall → OwnerStage → Option Session → Owner
@@ -538,12 +541,12 @@ module _ (bytes : ℕ) (asked : Option HandleCall) (p : OwnerMachine ℕ) (s : S
   shut_now k None b e = absurd (cc)
   shut_now k (Some r) b e = cc
 
-  -- one end of its pipe was closed
-  closed_end : (c : HandleCall) (st : State) (ended : Bool) → LooksFrom c st ended → IsThere st → sessions.state_in (sessions.session (own cut)) shut ≡ state_as st
-      → shut ≡ not s.pipe.is_owner_open → (ended ≡ true → IsAtEnd s) → (s.pipe.is_owner_open ≡ false) ⊎ (s.pipe.is_job_open ≡ false)
-  closed_end c (state.Lent kind Shut) false looks there at lent ends = inl (sym (not_not shut s.pipe.is_owner_open lent) ∙ shut_now (kind_as kind) (sessions.session (own cut)) shut at)
-  closed_end c (state.Lent kind Open) false looks there at lent ends = absurd (let pipe = piped kind there in cc)
-  closed_end (handle_call.Read most) (state.Lent session_kind.Reading Open) true looks there at lent ends = inr (ends refl).1
+  -- one end of its pipe was closed, if there is one
+  closed_end : (c : HandleCall) (st : State) (ended : Bool) → LooksFrom c st ended → sessions.state (own cut) ≡ state_as st → sessions.state_in (sessions.session (own cut)) shut ≡ state_as st
+      → shut ≡ not s.pipe.is_owner_open → (ended ≡ true → IsAtEnd s) → (s.pipe.is_owner_open ≡ false) ⊎ ((s.pipe.is_job_open ≡ false) ⊎ (is_piped_kind kind ≡ false))
+  closed_end c (state.Lent of Shut) false looks there at lent ends = inl (sym (not_not shut s.pipe.is_owner_open lent) ∙ shut_now (kind_as of) (sessions.session (own cut)) shut at)
+  closed_end c (state.Lent of Open) false looks there at lent ends = inr (inr (ap is_piped_kind (lent_at (own cut) (kind_as of) true there).0 ∙ sym (piped_is of) ∙ looks))
+  closed_end (handle_call.Read most) (state.Lent session_kind.Reading Open) true looks there at lent ends = inr (inl (ends refl).1)
   closed_end _ _ _ looks there at lent ends = absurd looks
 
   -- it finds nothing yet, and is seated
@@ -557,7 +560,7 @@ module _ (bytes : ℕ) (asked : Option HandleCall) (p : OwnerMachine ℕ) (s : S
       let at = lent_by (own cut) p.state (looks_away c p.state p.is_at_end fits.0) t.stage.0.at_is in
       let going_on = lent_state c p.state p.is_at_end fits.0 (sessions.session (own cut)) shut at in
       let unfinished = ap has_finished (its_job s (bound bytes) cut t.last) ∙ slot.0 ∙ going_on in
-      let closed = closed_end c p.state p.is_at_end fits.0 (is_there (Some s) (bound bytes) cut p.state t.last t.stage.0.at_is) at t.last.lent.shut_is (λ is_end. t.ended (sym fits.1 ∙ is_end)) in
+      let closed = closed_end c p.state p.is_at_end fits.0 t.stage.0.at_is at t.last.lent.shut_is (λ is_end. t.ended (sym fits.1 ∙ is_end)) in
       record {
         acts = subst (λ n. Polls cut n Waits) (sym at_slot) (ap poll_slot (sym unfinished));
         ends = tt;
@@ -600,27 +603,54 @@ module _ (bytes : ℕ) (asked : Option HandleCall) (p : OwnerMachine ℕ) (s : S
   reads_end c state.Closed looks = absurd looks
   reads_end _ (state.Lent _ Open) looks = absurd looks
 
+  -- it came back from no seek that went well
+  abbrev IsNoSeek : Kind → Option (Fault ℕ) → Type 0
+  IsNoSeek (Seeking goal) None = ⊥
+  IsNoSeek of why = Unit {0}
+
   -- what follows once the handle is back
-  after_back_is : (c : HandleCall) (st : State) (ended : Bool) (why : Option (Fault ℕ)) (of : Kind) (last : ℕ) → is_known c ≡ true → LooksFrom c st ended
+  after_back_is : (c : HandleCall) (st : State) (ended : Bool) (why : Option (Fault ℕ)) (of : Kind) (last : ℕ) → is_known c ≡ true → LooksFrom c st ended → IsNoSeek of why
       → law.after_back c why ended of last ≡ action_as c (machine.after_back (poll_call_of c) ended why)
-  after_back_is (handle_call.Read most) st ended (Some why) of last known looks = refl
-  after_back_is (handle_call.Read most) st true None of last known looks = refl
-  after_back_is (handle_call.Read zero) st false None of last known looks = refl
-  after_back_is (handle_call.Read (suc n)) st false None of last known looks = refl
-  after_back_is (handle_call.Write offered) st ended (Some why) of last known looks = refl
-  after_back_is (handle_call.Write []) st false None of last known looks = refl
-  after_back_is (handle_call.Write (byte ∷ more)) st false None of last known looks = refl
-  after_back_is (handle_call.Write offered) st true None of last known looks = absurd (let reads = (reads_end (handle_call.Write offered) st looks).0 in cc)
-  after_back_is handle_call.Flush st ended (Some why) of last known looks = refl
-  after_back_is handle_call.Flush st false None of last known looks = refl
-  after_back_is handle_call.Flush st true None of last known looks = absurd (let reads = (reads_end handle_call.Flush st looks).0 in cc)
-  after_back_is handle_call.Close st ended (Some why) of last known looks = refl
-  after_back_is handle_call.Close st false None of last known looks = refl
-  after_back_is handle_call.Close st true None of last known looks = absurd (let reads = (reads_end handle_call.Close st looks).0 in cc)
-  after_back_is handle_call.GetMut st false None of last known looks = refl
-  after_back_is handle_call.GetMut st false (Some why) of last known looks = refl
-  after_back_is handle_call.GetMut st true why of last known looks = absurd (let reads = (reads_end handle_call.GetMut st looks).0 in cc)
-  after_back_is _ st ended why of last known looks = absurd (cc)
+  after_back_is (handle_call.Read most) st ended (Some why) of last known looks kept = refl
+  after_back_is (handle_call.Read most) st true None of last known looks kept = refl
+  after_back_is (handle_call.Read zero) st false None of last known looks kept = refl
+  after_back_is (handle_call.Read (suc n)) st false None of last known looks kept = refl
+  after_back_is (handle_call.Write offered) st ended (Some why) of last known looks kept = refl
+  after_back_is (handle_call.Write []) st false None of last known looks kept = refl
+  after_back_is (handle_call.Write (byte ∷ more)) st false None of last known looks kept = refl
+  after_back_is (handle_call.Write offered) st true None of last known looks kept = absurd (let reads = (reads_end (handle_call.Write offered) st looks).0 in cc)
+  after_back_is handle_call.Flush st ended (Some why) of last known looks kept = refl
+  after_back_is handle_call.Flush st false None of last known looks kept = refl
+  after_back_is handle_call.Flush st true None of last known looks kept = absurd (let reads = (reads_end handle_call.Flush st looks).0 in cc)
+  after_back_is handle_call.Close st ended (Some why) of last known looks kept = refl
+  after_back_is handle_call.Close st false None of last known looks kept = refl
+  after_back_is handle_call.Close st true None of last known looks kept = absurd (let reads = (reads_end handle_call.Close st looks).0 in cc)
+  after_back_is handle_call.GetMut st false None of last known looks kept = refl
+  after_back_is handle_call.GetMut st false (Some why) of last known looks kept = refl
+  after_back_is handle_call.GetMut st true why of last known looks kept = absurd (let reads = (reads_end handle_call.GetMut st looks).0 in cc)
+  after_back_is (handle_call.Seek goal) st ended (Some why) of last known looks kept = refl
+  after_back_is (handle_call.Seek goal) st false None (Seeking from) last known looks kept = absurd kept
+  after_back_is (handle_call.Seek goal) st false None _ last known looks kept = refl
+  after_back_is (handle_call.Seek goal) st true None of last known looks kept = absurd (let reads = (reads_end (handle_call.Seek goal) st looks).0 in cc)
+  after_back_is _ st ended why of last known looks kept = absurd (cc)
+
+  -- and once it is back from a seek that went well
+  sought_is : (c : HandleCall) (goal : Position) (end : OwnerEnd) (place : ℕ) → is_known c ≡ true
+      → law.after_back c None false (Seeking goal) place ≡ action_as c (machine.after_seek (state.Lent (session_kind.Seeking goal) end) (poll_call_of c) place)
+  sought_is (handle_call.Seek to) goal end place known = by (same_position goal to)
+    where
+      by : (b : Bool) → (if b then law.Say (told.Count place) else law.Begin)
+          ≡ action_as (handle_call.Seek to) (if b then action.Reply (reply.Position place) else action.Begin)
+      by true = refl
+      by false = refl
+  sought_is (handle_call.Read zero) goal end place known = refl
+  sought_is (handle_call.Read (suc n)) goal end place known = refl
+  sought_is (handle_call.Write []) goal end place known = refl
+  sought_is (handle_call.Write (byte ∷ more)) goal end place known = refl
+  sought_is handle_call.Flush goal end place known = refl
+  sought_is handle_call.Close goal end place known = refl
+  sought_is handle_call.GetMut goal end place known = refl
+  sought_is _ goal end place known = absurd (cc)
 
   -- and it fits
   back_fits : (q : OwnerMachine ℕ) (c : HandleCall) (st : State) (ended : Bool) (why : Option (Fault ℕ)) (back : Option (List Event)) → is_known c ≡ true → LooksFrom c st ended → q.state ≡ state.Idle → q.is_at_end ≡ ended
@@ -644,7 +674,26 @@ module _ (bytes : ℕ) (asked : Option HandleCall) (p : OwnerMachine ℕ) (s : S
   back_fits q handle_call.GetMut st true (Some why) back known looks at end whole flushed = (refl, tt, tt)
   back_fits q handle_call.GetMut st false None back known looks at end whole flushed = (refl, tt, tt)
   back_fits q handle_call.GetMut st false (Some why) back known looks at end whole flushed = (refl, tt, tt)
+  back_fits q (handle_call.Seek goal) st ended (Some why) back known looks at end whole flushed = (refl, tt, tt)
+  back_fits q (handle_call.Seek goal) st false None back known looks at end whole flushed = (tt, at, end)
+  back_fits q (handle_call.Seek goal) st true None back known looks at end whole flushed = absurd (let reads = (reads_end (handle_call.Seek goal) st looks).0 in cc)
   back_fits q _ st ended why back known looks at end whole flushed = absurd (cc)
+
+  sought_fits : (q : OwnerMachine ℕ) (c : HandleCall) (goal : Position) (end : OwnerEnd) (place : ℕ) (back : Option (List Event)) → is_known c ≡ true → q.state ≡ state.Idle → q.is_at_end ≡ false
+      → IsFlushedBack back → FitsNext c q (machine.after_seek (state.Lent (session_kind.Seeking goal) end) (poll_call_of c) place) false back
+  sought_fits q (handle_call.Seek to) goal end place back known at ended flushed = by (same_position goal to)
+    where
+      by : (b : Bool) → FitsNext (handle_call.Seek to) q (if b then action.Reply (reply.Position place) else action.Begin) false back
+      by true = (refl, tt, tt)
+      by false = (tt, at, ended)
+  sought_fits q (handle_call.Read zero) goal end place back known at ended flushed = (refl, tt, tt)
+  sought_fits q (handle_call.Read (suc n)) goal end place back known at ended flushed = (tt, at, ended)
+  sought_fits q (handle_call.Write []) goal end place back known at ended flushed = (refl, tt, tt)
+  sought_fits q (handle_call.Write (byte ∷ more)) goal end place back known at ended flushed = (tt, at, ended)
+  sought_fits q handle_call.Flush goal end place back known at ended flushed = (refl, flushed, tt)
+  sought_fits q handle_call.Close goal end place back known at ended flushed = (refl, at, flushed)
+  sought_fits q handle_call.GetMut goal end place back known at ended flushed = (refl, tt, tt)
+  sought_fits q _ goal end place back known at ended flushed = absurd (cc)
 
   -- a job that finished is over
   over_now : Old → has_finished acts ≡ true → next_but_wake kind acts ≡ Over
@@ -687,18 +736,19 @@ module _ (bytes : ℕ) (asked : Option HandleCall) (p : OwnerMachine ℕ) (s : S
   flushed_if Reading flushed = tt
   flushed_if _ flushed = tt
 
-  back_goes : p.next ≡ action.PollSlot → Old → (why : Option (Fault ℕ)) → s.slot.content ≡ Full why
-      → Goes (owner_by_parts bytes asked (stage.Polls (owner_after p (by.Back why))) (Some (session_after_look (Full why) s))) cut (by_owner h Back first growth)
-  back_goes is t why full =
+  -- the handle is back, and the machine was told so in this way
+  returned : (is : p.next ≡ action.PollSlot) (t : Old) (why : Option (Fault ℕ)) → s.slot.content ≡ Full why → (answer : OwnerAnswer ℕ) (next : OwnerAction ℕ)
+      → owner_after p answer ≡ record p { state = state.Idle; next = next }
+      → law.after_back t.stage.0.call why p.is_at_end kind (number acts) ≡ action_as t.stage.0.call next
+      → FitsNext t.stage.0.call (record p { state = state.Idle; next = next }) next false (Some (by_owner h Back first growth ∷ cut))
+      → Goes (owner_by_parts bytes asked (stage.Polls (owner_after p answer)) (Some (session_after_look (Full why) s))) cut (by_owner h Back first growth)
+  returned is t why full answer next same follows fit =
       let c = t.stage.0.call in
       let fits = fits_at bytes asked p cut (Some s) action.PollSlot t is in
       let e = by_owner h Back first growth in
       let slot = subst (λ c. SlotAs c (has_finished acts) (has_given_up acts) over (fault kind acts)) full t.last.result.slot in
-      let q : OwnerMachine ℕ = record p { state = state.Idle; next = machine.after_back (poll_call_of c) p.is_at_end why } in
-      let same : owner_after p (by.Back why) ≡ q =
-      turned p action.PollSlot (by.Back why) t.stage.1 is ∙ ap (λ k. record p { state = state.Idle; next = machine.after_back k p.is_at_end why }) t.stage.0.call_is in
+      let q : OwnerMachine ℕ = record p { state = state.Idle; next = next } in
       let finished = ap has_finished (its_job s (bound bytes) cut t.last) ∙ slot.0 in
-      let known = known_call (own cut) c t.calls t.stage.0.asked_is in
       let last_number = number acts in
       let table : law.at_back (sessions.call (own cut)) began (law.is_at_end (own cut)) (e ∷ cut) ≡ law.after_back c why p.is_at_end kind last_number =
       ap (λ c. law.at_back c began (law.is_at_end (own cut)) (e ∷ cut)) t.stage.0.asked_is
@@ -707,10 +757,6 @@ module _ (bytes : ℕ) (asked : Option HandleCall) (p : OwnerMachine ℕ) (s : S
       ∙ ap (λ f. once_back (Some c) f (law.is_at_end (own cut)) kind last_number) (sym slot.3)
       ∙ ap (λ b. once_back (Some c) why b kind last_number) (sym fits.1) in
       let there = looks_away c p.state p.is_at_end fits.0 in
-      let whole = λ (is_end : p.is_at_end ≡ true) (none : why ≡ None).
-      (let here = reads_end c p.state (subst (λ b. LooksFrom c p.state b) is_end fits.0) in
-      read_whole t (lent_at (own cut) Reading true (t.stage.0.at_is ∙ ap state_as here.1)).0 (t.ended (sym fits.1 ∙ is_end)) slot.0 slot.1 (sym slot.3 ∙ none)) in
-      let flushed = λ (none : why ≡ None). flushed_if kind (λ writes. flushed_whole t writes slot.0 slot.1 (sym slot.3 ∙ none)) in
       subst (λ (m : OwnerMachine ℕ). Goes (owner_by_parts bytes asked (stage.Polls m) (Some (session_after_look (Full why) s))) cut e) (sym same)
       (record {
         acts = subst (λ n. Polls cut n Back) (sym (lawful bytes asked p cut (Some s) action.PollSlot t is)) (ap poll_slot (sym finished));
@@ -728,8 +774,8 @@ module _ (bytes : ℕ) (asked : Option HandleCall) (p : OwnerMachine ℕ) (s : S
               asked_is = t.stage.0.asked_is;
               call_is = t.stage.0.call_is;
               at_is = ap (λ b. sessions.state_by b None shut) (gone_is (own cut) p.state t.stage.0.at_is ∙ there);
-              next_is = table ∙ after_back_is c p.state p.is_at_end why kind last_number known fits.0;
-              fits = back_fits q c p.state p.is_at_end why (Some (e ∷ cut)) known fits.0 refl refl whole flushed;
+              next_is = table ∙ follows;
+              fits = fit;
             },
             t.stage.1,
             refl,
@@ -742,12 +788,75 @@ module _ (bytes : ℕ) (asked : Option HandleCall) (p : OwnerMachine ℕ) (s : S
         };
       })
 
+  back_goes : p.next ≡ action.PollSlot → Old → (why : Option (Fault ℕ)) → s.slot.content ≡ Full why → IsNoSeek kind why
+      → Goes (owner_by_parts bytes asked (stage.Polls (owner_after p (by.Back why))) (Some (session_after_look (Full why) s))) cut (by_owner h Back first growth)
+  back_goes is t why full kept =
+      let c = t.stage.0.call in
+      let fits = fits_at bytes asked p cut (Some s) action.PollSlot t is in
+      let slot = subst (λ c. SlotAs c (has_finished acts) (has_given_up acts) over (fault kind acts)) full t.last.result.slot in
+      let q : OwnerMachine ℕ = record p { state = state.Idle; next = machine.after_back (poll_call_of c) p.is_at_end why } in
+      let same : owner_after p (by.Back why) ≡ q =
+      turned p action.PollSlot (by.Back why) t.stage.1 is ∙ ap (λ k. record p { state = state.Idle; next = machine.after_back k p.is_at_end why }) t.stage.0.call_is in
+      let known = known_call (own cut) c t.calls t.stage.0.asked_is in
+      let whole = λ (is_end : p.is_at_end ≡ true) (none : why ≡ None).
+      (let here = reads_end c p.state (subst (λ b. LooksFrom c p.state b) is_end fits.0) in
+      read_whole t (lent_at (own cut) Reading true (t.stage.0.at_is ∙ ap state_as here.1)).0 (t.ended (sym fits.1 ∙ is_end)) slot.0 slot.1 (sym slot.3 ∙ none)) in
+      let flushed = λ (none : why ≡ None). flushed_if kind (λ writes. flushed_whole t writes slot.0 slot.1 (sym slot.3 ∙ none)) in
+      returned is t why full (by.Back why) (machine.after_back (poll_call_of c) p.is_at_end why) same (after_back_is c p.state p.is_at_end why kind (number acts) known fits.0 kept)
+      (back_fits q c p.state p.is_at_end why (Some (by_owner h Back first growth ∷ cut)) known fits.0 refl refl whole flushed)
+
+  -- the handle is back from a seek that went well
+  sought_goes : p.next ≡ action.PollSlot → Old → (goal : Position) (end : OwnerEnd) → p.state ≡ state.Lent (session_kind.Seeking goal) end → s.slot.content ≡ Full None
+      → Goes (owner_by_parts bytes asked (stage.Polls (owner_after p (by.Sought s.left))) (Some (session_after_look (Full None) s))) cut (by_owner h Back first growth)
+  sought_goes is t goal end from full =
+      let c = t.stage.0.call in
+      let fits = fits_at bytes asked p cut (Some s) action.PollSlot t is in
+      let slot = subst (λ c. SlotAs c (has_finished acts) (has_given_up acts) over (fault kind acts)) full t.last.result.slot in
+      let of : kind ≡ Seeking goal = (lent_at (own cut) (Seeking goal) (is_end_open end) (t.stage.0.at_is ∙ ap state_as from)).0 in
+      let place = (of_kind (Seeking goal) of t).flow.place slot.0 in
+      let here = state.Lent (session_kind.Seeking goal) end in
+      let next = machine.after_seek here (poll_call_of c) s.left in
+      let q : OwnerMachine ℕ = record p { state = state.Idle; next = next } in
+      let same : owner_after p (by.Sought s.left) ≡ q =
+      turned p action.PollSlot (by.Sought s.left) t.stage.1 is ∙ ap (λ k. record p { state = state.Idle; next = machine.after_seek p.state k s.left }) t.stage.0.call_is
+      ∙ ap (λ st. record p { state = state.Idle; next = machine.after_seek st (poll_call_of c) s.left }) from in
+      let known = known_call (own cut) c t.calls t.stage.0.asked_is in
+      let unended = ends_not p.is_at_end c (subst (λ st. LooksFrom c st p.is_at_end) from fits.0) in
+      let flushed = flushed_if kind (λ writes. flushed_whole t writes slot.0 slot.1 (sym slot.3)) in
+      returned is t None full (by.Sought s.left) next same
+      (ap (λ b. law.after_back c None b kind (number acts)) unended ∙ ap (λ k. law.after_back c None false k (number acts)) of
+      ∙ ap (λ n. law.after_back c None false (Seeking goal) n) (sym place) ∙ sought_is c goal end s.left known)
+      (sought_fits q c goal end s.left (Some (by_owner h Back first growth ∷ cut)) known refl unended flushed)
+    where
+      ends_not : (b : Bool) (c : HandleCall) → LooksFrom c (state.Lent (session_kind.Seeking goal) end) b → b ≡ false
+      ends_not false c looks = refl
+      ends_not true c looks = absurd (let at = (reads_end c (state.Lent (session_kind.Seeking goal) end) looks).1 in cc)
+
+  some_why : (k : Kind) (why : Fault ℕ) → IsNoSeek k (Some why)
+  some_why (Seeking goal) why = tt
+  some_why _ why = tt
+
+  other_kind : Old → (k : SessionKind) (end : OwnerEnd) (why : Option (Fault ℕ)) → p.state ≡ state.Lent k end → IsNoSeek (kind_as k) why → IsNoSeek kind why
+  other_kind t k end why from kept = subst (λ (of : Kind). IsNoSeek of why) (sym (lent_at (own cut) (kind_as k) (is_end_open end) (t.stage.0.at_is ∙ ap state_as from)).0) kept
+
+  -- from where the handle is lent, it is either
+  either_goes : p.next ≡ action.PollSlot → Old → (st : State) (why : Option (Fault ℕ)) → p.state ≡ st → s.slot.content ≡ Full why
+      → Goes (owner_by_parts bytes asked (stage.Polls (owner_after p (back_answer st why s.left))) (Some (session_after_look (Full why) s))) cut (by_owner h Back first growth)
+  either_goes is t (state.Lent (session_kind.Seeking goal) end) None from full = sought_goes is t goal end from full
+  either_goes is t (state.Lent (session_kind.Seeking goal) end) (Some why) from full = back_goes is t (Some why) full (some_why kind why)
+  either_goes is t (state.Lent session_kind.Reading end) why from full = back_goes is t why full (other_kind t session_kind.Reading end why from tt)
+  either_goes is t (state.Lent session_kind.Writing end) why from full = back_goes is t why full (other_kind t session_kind.Writing end why from tt)
+  either_goes is t (state.Lent session_kind.Streaming end) why from full = back_goes is t why full (other_kind t session_kind.Streaming end why from tt)
+  either_goes is t (state.Lent session_kind.Operating end) why from full = back_goes is t why full (other_kind t session_kind.Operating end why from tt)
+  either_goes is t state.Idle why from full = absurd (subst (λ st. LooksFrom t.stage.0.call st p.is_at_end) from (fits_at bytes asked p cut (Some s) action.PollSlot t is).0)
+  either_goes is t state.Closed why from full = absurd (subst (λ st. LooksFrom t.stage.0.call st p.is_at_end) from (fits_at bytes asked p cut (Some s) action.PollSlot t is).0)
+
   look_goes : p.next ≡ action.PollSlot → Old → (content : Content (Option (Fault ℕ))) → s.slot.content ≡ content → (done : Did)
       → look_did (looked_as content) p (session_after_look content s) polling ≡ Some done → Goes done.owner cut (by_owner h done.act first growth)
   look_goes is t Empty e done does =
       subst (λ (d : Did). Goes d.owner cut (by_owner h d.act first growth)) (ap (value_of done) does) (slot_waits is t e)
   look_goes is t (Full why) e done does =
-      subst (λ (d : Did). Goes d.owner cut (by_owner h d.act first growth)) (ap (value_of done) does) (back_goes is t why e)
+      subst (λ (d : Did). Goes d.owner cut (by_owner h d.act first growth)) (ap (value_of done) does) (either_goes is t p.state why refl e)
   look_goes is t GivenUp e done does = absurd (cc)
   look_goes is t (Abandoned was) e done does = absurd (subst (λ c. SlotAs c (has_finished acts) (has_given_up acts) over (fault kind acts)) e t.last.result.slot)
 
@@ -761,7 +870,8 @@ end_is c r back said same e = subst (λ told. IsTrueEnd (Some c) (value_of said 
     by_reply handle_call.Flush reply.Done same e = e
     by_reply handle_call.Close reply.Done same e = e
     by_reply (handle_call.Read (suc n)) (reply.Count (suc k)) same e = tt
-    by_reply c (reply.Position place) same e = absurd (cc)
+    by_reply (handle_call.Seek goal) (reply.Position place) same e = tt
+    by_reply _ (reply.Position place) same e = absurd e
     by_reply c reply.Item same e = absurd (cc)
     by_reply handle_call.Next reply.End same e = e
     by_reply c reply.Result same e = absurd (cc)
@@ -879,7 +989,7 @@ own_by bytes asked p h first growth cut done (action.Fill most) last is t does =
 own_by bytes asked p h first growth cut done action.DropHandle last is t does =
     subst (λ (d : Did). Goes d.owner cut (by_owner h d.act first growth)) (ap (value_of done) does) (drops_goes bytes asked p last h first growth cut is t)
 own_by bytes asked p h first growth cut done action.Close (Some s) is t does =
-    subst (λ (d : Did). Goes d.owner cut (by_owner h d.act first growth)) (ap (value_of done) does) (close_goes bytes asked p s h first growth cut is t)
+    subst (λ (d : Did). Goes d.owner cut (by_owner h d.act first growth)) (ap (value_of done) (piped_some s.goods _ done does)) (close_goes bytes asked p s h first growth cut is t)
 own_by bytes asked p h first growth cut done (action.Drain most) (Some s) is t does =
     subst (λ (d : Did). Goes d.owner cut (by_owner h d.act first growth)) (ap (value_of done) (through_some OfBytes s.goods _ done does).1)
     (drain_goes bytes asked p s h first growth cut most is t (drained (reach most s) s) refl)

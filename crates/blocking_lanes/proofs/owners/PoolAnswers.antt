@@ -42,7 +42,7 @@ use Rattle.blocking_pool.specs.declared.pool.answer.Refusal.{Refusal}
 use Rattle.blocking_pool.specs.declared.pool.answer.Woke.{Woke}
 use Rattle.blocking_lanes.specs.Owners.{poll_call_of, may_call_at}
 use Rattle.blocking_lanes.specs.OwnerSteps.{by_owner}
-use Rattle.blocking_lanes.specs.OwnerTies.{OwnerAs, FitsNext, BeginsBy, LastAs, SessionAs, SlotAs, kind_as, is_end_open, state_as, action_as, newest_note}
+use Rattle.blocking_lanes.specs.OwnerTies.{OwnerAs, FitsNext, BeginsBy, LooksFrom, LastAs, SessionAs, SlotAs, kind_as, is_end_open, state_as, action_as, newest_note}
 use Rattle.blocking_lanes.specs.Sessions.{Session, goods_of, new_session}
 use Rattle.blocking_lanes.specs.declared.owner.OwnerStage.TheVariants as stage
 use Rattle.blocking_lanes.proofs.owners.Cuts.{next_with, next_stays, kind_of_last}
@@ -63,11 +63,14 @@ DoesSo call kind end =
 table_at : (call : HandleCall) (at : State) → is_known call ≡ true → may_call_at at call ≡ true → IsThere at → law.table call (state_as at) ≡ action_as call (machine.table (poll_call_of call) at)
 table_at (handle_call.Read zero) at known may there = refl
 table_at (handle_call.Write []) at known may there = refl
-table_at (handle_call.Read (suc n)) (state.Lent kind end) known may there = of_session (DoesSo (handle_call.Read (suc n))) refl refl refl refl refl refl kind end there
-table_at (handle_call.Write (byte ∷ more)) (state.Lent kind end) known may there = of_session (DoesSo (handle_call.Write (byte ∷ more))) refl refl refl refl refl refl kind end there
-table_at handle_call.Flush (state.Lent kind end) known may there = of_session (DoesSo handle_call.Flush) refl refl refl refl refl refl kind end there
-table_at handle_call.Close (state.Lent kind end) known may there = of_session (DoesSo handle_call.Close) refl refl refl refl refl refl kind end there
-table_at handle_call.GetMut (state.Lent kind end) known may there = of_session (DoesSo handle_call.GetMut) refl refl refl refl refl refl kind end there
+table_at (handle_call.Read (suc n)) (state.Lent kind end) known may there = of_session (DoesSo (handle_call.Read (suc n))) refl refl refl refl refl refl (λ goal. refl) (λ goal. refl) kind end there
+table_at (handle_call.Write (byte ∷ more)) (state.Lent kind end) known may there = of_session (DoesSo (handle_call.Write (byte ∷ more))) refl refl refl refl refl refl (λ goal. refl) (λ goal. refl) kind end there
+table_at handle_call.Flush (state.Lent kind end) known may there = of_session (DoesSo handle_call.Flush) refl refl refl refl refl refl (λ goal. refl) (λ goal. refl) kind end there
+table_at handle_call.Close (state.Lent kind end) known may there = of_session (DoesSo handle_call.Close) refl refl refl refl refl refl (λ goal. refl) (λ goal. refl) kind end there
+table_at handle_call.GetMut (state.Lent kind end) known may there = of_session (DoesSo handle_call.GetMut) refl refl refl refl refl refl (λ goal. refl) (λ goal. refl) kind end there
+table_at (handle_call.Seek to) (state.Lent kind end) known may there = of_session (DoesSo (handle_call.Seek to)) refl refl refl refl refl refl (λ goal. refl) (λ goal. refl) kind end there
+table_at (handle_call.Seek to) state.Idle known may there = refl
+table_at (handle_call.Seek to) state.Closed known may there = absurd (cc)
 table_at (handle_call.Read (suc n)) state.Closed known may there = absurd (cc)
 table_at (handle_call.Write (byte ∷ more)) state.Closed known may there = absurd (cc)
 table_at handle_call.GetMut state.Closed known may there = absurd (cc)
@@ -149,6 +152,14 @@ table_fits handle_call.Close state.Closed known may = (refl, tt, refl)
 table_fits handle_call.GetMut state.Idle known may = (refl, tt, tt)
 table_fits handle_call.GetMut (state.Lent kind end) known may = session_fits handle_call.GetMut kind end (machine.goes_on_in kind poll_call.GetMut) refl (λ own. absurd (get_stops kind own))
 table_fits handle_call.GetMut state.Closed known may = absurd (cc)
+table_fits (handle_call.Seek to) state.Idle known may = (tt, refl, refl)
+table_fits (handle_call.Seek to) (state.Lent kind end) known may = session_fits (handle_call.Seek to) kind end (machine.goes_on_in kind (poll_call.Seek to)) refl (own kind)
+  where
+    own : (kind : SessionKind) → machine.goes_on_in kind (poll_call.Seek to) ≡ true
+        → FitsNext (handle_call.Seek to) (new_poll (poll_call.Seek to) (state.Lent kind Open)) action.PollSlot false None
+    own (session_kind.Seeking goal) is = (refl, refl)
+    own _ is = absurd (cc)
+table_fits (handle_call.Seek to) state.Closed known may = absurd (cc)
 table_fits _ at known may = absurd (cc)
 
 -- it rests, by the law
@@ -229,11 +240,13 @@ drop_goes bytes asked here last h first growth cut t = record {
 refused : (call : HandleCall) (reason : Refusal) → BeginsBy call → machine.refusal {E = ℕ} (poll_call_of call) reason ≡ action.Reply (reply.Failed (why.Refused reason))
 refused (handle_call.Read (suc n)) reason begins = refl
 refused (handle_call.Write (byte ∷ more)) reason begins = refl
+refused (handle_call.Seek goal) reason begins = refl
 refused _ reason begins = absurd begins
 
 refused_so : (call : HandleCall) (reason : Refusal) → BeginsBy call → law.refusal (Some call) reason ≡ told.Failed (why.Refused reason)
 refused_so (handle_call.Read (suc n)) reason begins = refl
 refused_so (handle_call.Write (byte ∷ more)) reason begins = refl
+refused_so (handle_call.Seek goal) reason begins = refl
 refused_so _ reason begins = absurd begins
 
 pub refuse_goes : (bytes : ℕ) (asked : Option HandleCall) (p : OwnerMachine ℕ) (last : Option Session) (h first : ℕ) (growth : Growth) (cut : List Event) (reason : Refusal) → p.next ≡ action.Begin
@@ -388,6 +401,12 @@ record Began (c : HandleCall) (p : OwnerMachine ℕ) (back : Option (List Event)
 begins_by : (c : HandleCall) (p : OwnerMachine ℕ) (back : Option (List Event)) → BeginsBy c → p.is_at_end ≡ false → Began c p back
 begins_by (handle_call.Read (suc n)) p back begins end = record { lending = tt; at_is = refl; next_is = refl; fits = (refl, omega arith, refl, end) }
 begins_by (handle_call.Write (byte ∷ more)) p back begins end = record { lending = tt; at_is = refl; next_is = refl; fits = (byte ∷ more, refl, refl, omega arith, refl, end) }
+begins_by (handle_call.Seek goal) p back begins end = record {
+  lending = tt;
+  at_is = refl;
+  next_is = refl;
+  fits = (subst (λ b. LooksFrom (handle_call.Seek goal) (state.Lent (session_kind.Seeking goal) Open) b) (sym end) refl, end);
+}
 begins_by _ p back begins end = absurd begins
 
 pub begin_goes : (bytes : ℕ) (asked : Option HandleCall) (p : OwnerMachine ℕ) (last : Option Session) (h first : ℕ) (growth : Growth) (cut : List Event) (number : JobNumber) → p.next ≡ action.Begin

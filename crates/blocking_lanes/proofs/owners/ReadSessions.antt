@@ -1,5 +1,5 @@
 -- The session of an owner after each act of its job.
-use Rattle.std.proofs.Common.{◌≡◌, ℕ, ◌<◌, ◌≤◌, ◌==◌, List, [], ◌∷◌, ◌++◌, length, length-append, append_assoc, Bool, true, false, refl, sym, ap, ◌∙◌, subst, arith, Option, None, if◌then◌else◌, inr}
+use Rattle.std.proofs.Common.{◌≡◌, ℕ, ◌<◌, ◌≤◌, ◌==◌, List, [], ◌∷◌, ◌++◌, length, length-append, append_assoc, Bool, true, false, refl, sym, ap, ◌∙◌, subst, arith, Option, None, if◌then◌else◌, inl, inr}
 use Rattle.std.specs.Prelude.{◌||◌, ◌+◌, ◌-◌, nat_le, not, take, is_some}
 use Rattle.std.proofs.lemmas.Bool.{or_left, or_right, eqb-true}
 use Rattle.std.proofs.lemmas.Bool.Decides.{nat_tests}
@@ -10,8 +10,8 @@ use Rattle.blocking_core.specs.Places.{Served, Waiting, Closed, find_room, hand_
 use Rattle.blocking_core.specs.Slots.{Content, Empty, Full, GivenUp, Abandoned, Slot, slot_after, slot_without_job}
 use Rattle.blocking_core.specs.declared.io.Fault.{Fault}
 use Rattle.blocking_laws.specs.Ends.{handle_answers, has_failure}
-use Rattle.blocking_laws.specs.JobTable.{Kind, Reading, Writing, Streaming, JobAction, FindRoom, AskBytes, PutPiece, CloseEnd, Finish, Over, next_but_wake, is_over, next_after_answer, is_answer, fault, has_finished, has_given_up}
-use Rattle.blocking_laws.specs.Passed.{gave, got, answered, was_put, carried, peeked, counted}
+use Rattle.blocking_laws.specs.JobTable.{Kind, Reading, Writing, Streaming, JobAction, FindRoom, AskBytes, PutPiece, CloseEnd, Finish, Over, next_but_wake, is_over, next_after_answer, is_answer, fault, has_finished, has_given_up, Seeking, number, has_closed}
+use Rattle.blocking_laws.specs.Passed.{gave, got, answered, was_put, carried, peeked, counted, taken as taken_by}
 use Rattle.blocking_laws.specs.Sessions as sessions
 use Rattle.blocking_laws.specs.declared.event.Act.{Act}
 use Rattle.blocking_laws.specs.declared.event.Act.TheVariants.{RoomFree, RoomShut, JobParked, Answered, Put, Lost, JobClosed, Finished, GaveUp, HolderWoken}
@@ -20,7 +20,7 @@ use Rattle.blocking_laws.specs.declared.step.Answer.{Answer}
 use Rattle.blocking_laws.specs.declared.step.Answer.TheVariants.{Number, Gave, Fine, Failed}
 use Rattle.blocking_lanes.specs.Sessions.{Session, session_after_room, session_after_put, session_after_job_close, session_after_finish, session_after_give_up}
 use Rattle.blocking_lanes.specs.OwnerTies.{SessionAs, LentAs, Flows, ResultAs, SeatsAs, SlotAs, passed_by, PassedAs, GaveAll, is_finding}
-use Rattle.blocking_lanes.proofs.owners.Drains.{same_stuck, same_owner_stuck}
+use Rattle.blocking_lanes.proofs.owners.Drains.{same_plain, same_stuck, same_owner_stuck}
 
 -- ---- what a job finds
 
@@ -137,6 +137,7 @@ called_flow : (s : Session) (kind : Kind) (shut : Bool) (took accepted : List �
 called_flow s Reading shut took accepted acts t = t
 called_flow s Streaming shut took accepted acts t = t
 called_flow s Writing shut took accepted acts t = t
+called_flow s (Seeking goal) shut took accepted acts t = record { plain = t.plain; next_is = t.next_is; place = t.place }
 called_flow s _ shut took accepted acts t = t
 
 -- and where it gave up
@@ -171,6 +172,11 @@ left_flow s slot Writing shut took accepted next acts waker t = record {
   ungot = t.ungot;
   ungiven = t.ungiven;
   unclosed = λ is lasts. refl;
+}
+left_flow s slot (Seeking goal) shut took accepted next acts waker t = record {
+  plain = same_plain s slot s.left took accepted (has_closed acts) (gave acts) (peeked acts) (taken_by acts) t.plain;
+  next_is = tt;
+  place = t.place;
 }
 left_flow s slot _ shut took accepted next acts waker t = absurd t
 
@@ -207,12 +213,18 @@ closed_flow s Writing shut took accepted acts waker t = record {
   ungiven = t.ungiven;
   unclosed = λ is. absurd (cc);
 }
+closed_flow s (Seeking goal) shut took accepted acts waker t = absurd t.next_is
 closed_flow s _ shut took accepted acts waker t = absurd t
+
+-- a job that seeks leaves where the handle is
+abbrev pub Leaves : Kind → Session → List Act → Type 0
+Leaves (Seeking goal) s acts = s.left ≡ number acts
+Leaves kind s acts = Unit {0}
 
 -- and where it put its result
 finished_flow : (s : Session) (slot : Slot (Option (Fault ℕ)) (Unit {0})) (kind : Kind) (shut : Bool) (took accepted : List ℕ) (acts : List Act) (waker : HolderWaker)
-    → Flows kind s shut took accepted Finish acts → Flows kind (record s { slot = slot }) shut took accepted Over (Finished waker ∷ acts)
-finished_flow s slot Reading shut took accepted acts waker t = record {
+    → Leaves kind s acts → Flows kind s shut took accepted Finish acts → Flows kind (record s { slot = slot }) shut took accepted Over (Finished waker ∷ acts)
+finished_flow s slot Reading shut took accepted acts waker leaves t = record {
   closed_is = t.closed_is;
   inside = t.inside;
   put = t.put;
@@ -221,7 +233,7 @@ finished_flow s slot Reading shut took accepted acts waker t = record {
   unclosed = λ is lasts. absurd (let closed = t.passed_is.0 in cc);
   unwritten = t.unwritten;
 }
-finished_flow s slot Streaming shut took accepted acts waker t = record {
+finished_flow s slot Streaming shut took accepted acts waker leaves t = record {
   closed_is = t.closed_is;
   inside = t.inside;
   put = t.put;
@@ -230,7 +242,7 @@ finished_flow s slot Streaming shut took accepted acts waker t = record {
   unclosed = λ is lasts. absurd (let closed = t.passed_is.0 in cc);
   unwritten = t.unwritten;
 }
-finished_flow s slot Writing shut took accepted acts waker t = record {
+finished_flow s slot Writing shut took accepted acts waker leaves t = record {
   closed_is = t.closed_is;
   out = t.out;
   inside = t.inside;
@@ -242,7 +254,12 @@ finished_flow s slot Writing shut took accepted acts waker t = record {
   ungiven = t.ungiven;
   unclosed = λ is lasts. absurd (let closed = t.written_is.0 in cc);
 }
-finished_flow s slot _ shut took accepted acts waker t = absurd t
+finished_flow s slot (Seeking goal) shut took accepted acts waker leaves t = record {
+  plain = same_plain s slot s.left took accepted (has_closed acts) (gave acts) (peeked acts) (taken_by acts) t.plain;
+  next_is = tt;
+  place = λ is. leaves;
+}
+finished_flow s slot _ shut took accepted acts waker leaves t = absurd t
 
 module _ (s : Session) (kind : Kind) (capacity : ℕ) (last : Option sessions.Session) (shut back dropped : Bool) (took accepted : List ℕ) (acts : List Act) (js ps ss : Bool) where
   -- the waker that it took is called
@@ -266,15 +283,15 @@ module _ (s : Session) (kind : Kind) (capacity : ℕ) (last : Option sessions.Se
           reason = record {
             job = λ seated. (let w = (t.seats.reason.job seated).0 in absurd (cc));
             owner = λ seated. absurd (cc);
-            slot = λ seated. (let r = t.seats.reason.slot seated in (r.0, inr refl));
+            slot = λ seated. (let r = t.seats.reason.slot seated in (r.0, inr (inl refl)));
           };
         };
       }
 
   -- it puts its result
-  pub finishes : (waker : HolderWaker) (why : Option (Fault ℕ)) → why ≡ fault kind acts → At s kind capacity last shut back dropped took accepted acts js ps ss Finish
+  pub finishes : (waker : HolderWaker) (why : Option (Fault ℕ)) → why ≡ fault kind acts → Leaves kind s acts → At s kind capacity last shut back dropped took accepted acts js ps ss Finish
       → SessionAs (session_after_finish why s) kind capacity last shut back dropped took accepted (Finished waker ∷ acts) js ps false
-  finishes waker why same t =
+  finishes waker why same leaves t =
       let g = going s.slot.content (has_finished acts) (has_given_up acts) back dropped (fault kind acts) t.result in
       let none = g.stays in
       let put : slot_after s.slot.content s.slot.seat why ≡ record { content = Full why; seat = None } = ap (λ c. slot_after c s.slot.seat why) g.empty in
@@ -282,7 +299,7 @@ module _ (s : Session) (kind : Kind) (capacity : ℕ) (last : Option sessions.Se
       let out = ap (λ (l : Slot (Option (Fault ℕ)) (Unit {0})). l.seat) put in
       record {
         lent = record { begun = t.lent.begun; goods = t.lent.goods; some = t.lent.some; holds = t.lent.holds; within = t.lent.within; shut_is = t.lent.shut_is };
-        flow = finished_flow s (slot_after s.slot.content s.slot.seat why) kind shut took accepted acts waker t.flow;
+        flow = finished_flow s (slot_after s.slot.content s.slot.seat why) kind shut took accepted acts waker leaves t.flow;
         result = record {
           slot = subst (λ c. SlotAs c true (has_given_up acts) back (fault kind acts)) (sym full) (refl, none, g.lent, same);
           over_is = refl;

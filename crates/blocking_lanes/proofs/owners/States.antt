@@ -2,13 +2,14 @@
 use Rattle.std.proofs.Common.{◌≡◌, ℕ, List, [], ◌∷◌, Bool, true, false, refl, sym, ap, ◌∙◌, subst, Option, Some, None}
 use Rattle.std.specs.Prelude.{◌||◌, not, is_none, is_some}
 use Rattle.blocking_core.specs.OwnerCalls.{has_pipe}
+use Rattle.blocking_core.specs.declared.io.Position.{Position}
 use Rattle.blocking_core.specs.declared.unblock.OwnerEnd.{OwnerEnd}
 use Rattle.blocking_core.specs.declared.unblock.OwnerEnd.TheVariants.{Open, Shut}
 use Rattle.blocking_core.specs.declared.unblock.SessionKind.{SessionKind}
 use Rattle.blocking_core.specs.declared.unblock.SessionKind.TheVariants as session_kind
 use Rattle.blocking_core.specs.declared.unblock.State.{State}
 use Rattle.blocking_core.specs.declared.unblock.State.TheVariants as state
-use Rattle.blocking_laws.specs.JobTable.{Kind, next_but_wake}
+use Rattle.blocking_laws.specs.JobTable.{Kind, Reading, Writing, Seeking, Operating, next_but_wake}
 use Rattle.blocking_laws.specs.Passed.{got, accepted, kind_in}
 use Rattle.blocking_laws.specs.Seen.{own, acts_of}
 use Rattle.blocking_laws.specs.Sessions.{session, last_session, is_for_closed}
@@ -18,8 +19,9 @@ use Rattle.blocking_laws.specs.declared.event.Act.TheVariants.{Accepted, Back}
 use Rattle.blocking_laws.specs.declared.event.Event.{Event}
 use Rattle.blocking_laws.specs.declared.step.HandleCall.{HandleCall}
 use Rattle.blocking_lanes.specs.Owners.{may_call_at}
-use Rattle.blocking_lanes.specs.OwnerTies.{LastAs, IsLentOpen, LooksFrom, kind_as, is_end_open, state_as}
-use Rattle.blocking_lanes.specs.Sessions.{Session}
+use Rattle.blocking_lanes.specs.OwnerTies.{LastAs, IsLentOpen, LooksFrom, is_piped_kind, kind_as, is_end_open, state_as}
+use Rattle.blocking_lanes.specs.Passages.{is_piped}
+use Rattle.blocking_lanes.specs.Sessions.{Session, goods_of}
 use Rattle.blocking_lanes.proofs.owners.Drains.{IsLending, lends}
 
 -- the session that isn't over is the last one
@@ -107,7 +109,7 @@ lent None bytes cut st l at is = absurd (none (session (own cut)) refl (lent_goe
 
 -- ---- the sessions that there are
 
--- a handle that is lent is lent to a job with a pipe
+-- a handle that is lent is lent to a job that reads, writes, takes items or seeks
 abbrev pub IsThere : State → Type 0
 IsThere (state.Lent kind end) = IsLending (kind_as kind)
 IsThere _ = Unit {0}
@@ -122,20 +124,39 @@ is_there (Some s) bytes cut (state.Lent kind end) l at =
     subst IsLending (lent_at (own cut) (kind_as kind) (is_end_open end) at).0
     (lends s (sessions.is_shut (own cut)) (got (own cut)) (accepted (own cut)) (next_but_wake of works) works of l.flow)
 
--- its session has a pipe
-pub piped : (kind : SessionKind) → IsLending (kind_as kind) → has_pipe kind ≡ true
-piped session_kind.Reading there = refl
-piped session_kind.Writing there = refl
-piped session_kind.Streaming there = refl
-piped _ there = absurd there
+-- whether its session has a pipe
+pub piped_is : (kind : SessionKind) → has_pipe kind ≡ is_piped_kind (kind_as kind)
+piped_is session_kind.Reading = refl
+piped_is session_kind.Writing = refl
+piped_is session_kind.Streaming = refl
+piped_is (session_kind.Seeking goal) = refl
+piped_is session_kind.Operating = refl
+
+-- and then such things pass as need one
+pub piped_goods : (kind : Kind) → is_piped_kind kind ≡ true → is_piped (goods_of kind) ≡ true
+piped_goods Reading is = refl
+piped_goods Writing is = refl
+piped_goods (Seeking goal) is = absurd (cc)
+piped_goods Operating is = absurd (cc)
+piped_goods _ is = refl
+
+-- whose own end is open has one
+pub open_piped : (acts : List Act) (st : State) → IsLentOpen st → sessions.state acts ≡ state_as st → is_piped (goods_of (kind_in (last_session acts))) ≡ true
+open_piped acts (state.Lent kind Open) opened at =
+    piped_goods (kind_in (last_session acts)) (ap is_piped_kind (lent_at acts (kind_as kind) true at).0 ∙ sym (piped_is kind) ∙ opened)
+open_piped acts _ opened at = absurd opened
 
 -- what holds in each session that there is, with either end, holds where the handle is lent
 pub of_session : (P : SessionKind → OwnerEnd → Type 0) → P session_kind.Reading Open → P session_kind.Reading Shut → P session_kind.Writing Open → P session_kind.Writing Shut
-    → P session_kind.Streaming Open → P session_kind.Streaming Shut → (kind : SessionKind) (end : OwnerEnd) → IsLending (kind_as kind) → P kind end
-of_session P reads read writes written streams streamed session_kind.Reading Open there = reads
-of_session P reads read writes written streams streamed session_kind.Reading Shut there = read
-of_session P reads read writes written streams streamed session_kind.Writing Open there = writes
-of_session P reads read writes written streams streamed session_kind.Writing Shut there = written
-of_session P reads read writes written streams streamed session_kind.Streaming Open there = streams
-of_session P reads read writes written streams streamed session_kind.Streaming Shut there = streamed
-of_session P reads read writes written streams streamed _ end there = absurd there
+    → P session_kind.Streaming Open → P session_kind.Streaming Shut
+    → ((goal : Position) → P (session_kind.Seeking goal) Open) → ((goal : Position) → P (session_kind.Seeking goal) Shut)
+    → (kind : SessionKind) (end : OwnerEnd) → IsLending (kind_as kind) → P kind end
+of_session P reads read writes written streams streamed seeks sought session_kind.Reading Open there = reads
+of_session P reads read writes written streams streamed seeks sought session_kind.Reading Shut there = read
+of_session P reads read writes written streams streamed seeks sought session_kind.Writing Open there = writes
+of_session P reads read writes written streams streamed seeks sought session_kind.Writing Shut there = written
+of_session P reads read writes written streams streamed seeks sought session_kind.Streaming Open there = streams
+of_session P reads read writes written streams streamed seeks sought session_kind.Streaming Shut there = streamed
+of_session P reads read writes written streams streamed seeks sought (session_kind.Seeking goal) Open there = seeks goal
+of_session P reads read writes written streams streamed seeks sought (session_kind.Seeking goal) Shut there = sought goal
+of_session P reads read writes written streams streamed seeks sought _ end there = absurd there

@@ -8,14 +8,17 @@ use Rattle.blocking_core.specs.Writing.{write_next}
 use Rattle.blocking_core.specs.Items.{item_next}
 use Rattle.blocking_core.specs.declared.job.item.ItemAction.{ItemAction}
 use Rattle.blocking_core.specs.declared.job.item.ItemAction.TheVariants as item
+use Rattle.blocking_core.specs.Seeks.{seek_next}
 use Rattle.blocking_core.specs.declared.job.read.ReadAction.{ReadAction}
 use Rattle.blocking_core.specs.declared.job.read.ReadAction.TheVariants as read
 use Rattle.blocking_core.specs.declared.job.write.WriteAction.{WriteAction}
 use Rattle.blocking_core.specs.declared.job.write.WriteAction.TheVariants as write
+use Rattle.blocking_core.specs.declared.job.seek.SeekAction.{SeekAction}
+use Rattle.blocking_core.specs.declared.job.seek.SeekAction.TheVariants as seek
 use Rattle.blocking_core.specs.declared.unblock.OwnerAction.{OwnerAction}
 use Rattle.blocking_core.specs.declared.unblock.OwnerAction.TheVariants as action
 use Rattle.blocking_laws.specs.Ends.{came_back}
-use Rattle.blocking_laws.specs.JobTable.{Kind, Reading, Writing, Streaming, JobAction, WakeHolder, next_but_wake, next_of_job, is_answer, is_over, fault, number}
+use Rattle.blocking_laws.specs.JobTable.{Kind, Reading, Writing, Streaming, JobAction, WakeHolder, next_but_wake, next_of_job, is_answer, is_over, fault, number, Seeking}
 use Rattle.blocking_laws.specs.OwnerLaws.{OwnerLaw, Works}
 use Rattle.blocking_laws.specs.OwnerSeats.{is_job_seated, pipe_seat, slot_seat}
 use Rattle.blocking_laws.specs.OwnerTable.{owner_next_but_wake}
@@ -35,18 +38,20 @@ use Rattle.blocking_laws.specs.declared.step.Answer.{Answer}
 use Rattle.blocking_laws.specs.declared.step.HandleCall.{HandleCall}
 use Rattle.blocking_pool.specs.Growth.{Growth}
 use Rattle.blocking_pool.specs.Lists.{is_in}
-use Rattle.blocking_lanes.specs.Owners.{Owner, Did, Worked, capacity_of, may_call_at, is_gone, next_at, next_by, next_to_say, reply_as, did, read_as, read_in, stream_as, stream_in, write_as, write_in, worked, worked_by, giving_up_wakes, without_job}
+use Rattle.blocking_lanes.specs.Owners.{Owner, Did, Worked, capacity_of, may_call_at, is_gone, next_at, next_by, next_to_say, reply_as, did, read_as, read_in, stream_as, stream_in, write_as, write_in, worked, worked_by, giving_up_wakes, without_job, seek_as, seek_in}
 use Rattle.blocking_lanes.specs.OwnerSteps.{OwnerStep, IsAsked, Acts, Begins, IsRefused, Delivers, IsDropped, Works as DoesWork, IsAnswered, GivesUp, CallsWaker, MayTake, act_in, act_of, act_of_work, owner_in, owner_after, owner_after_work, event_by, by_owner, by_its_job, is_of_its_job}
 use Rattle.blocking_lanes.specs.OwnerTies.{OwnerAs, StageBy, LastAs, SessionAs, newest_note}
 use Rattle.blocking_lanes.specs.Passages.{OfBytes, OfItems, through}
 use Rattle.blocking_lanes.specs.Reads as reads
 use Rattle.blocking_lanes.specs.Reads.{ReadAs}
 use Rattle.blocking_lanes.specs.SessionJobs.{JobAs, action_of, kind_of}
-use Rattle.blocking_lanes.specs.Sessions.{Session, Work, found_send, streamer_works, work_by, work_at_put, found_room, found_put, fits_in, writer_works, found_piece, holds, work_of_consume}
+use Rattle.blocking_lanes.specs.Sessions.{Session, Work, found_send, streamer_works, work_by, work_at_put, found_room, found_put, fits_in, writer_works, found_piece, holds, work_of_consume, seek_works}
 use Rattle.blocking_lanes.specs.Streams as streams
 use Rattle.blocking_lanes.specs.Streams.{ItemAs}
 use Rattle.blocking_lanes.specs.Writes as writes
 use Rattle.blocking_lanes.specs.Writes.{WriteAs}
+use Rattle.blocking_lanes.specs.Seeks as seeks
+use Rattle.blocking_lanes.specs.Seeks.{SeekAs}
 use Rattle.blocking_lanes.specs.declared.job.SessionJob.{SessionJob}
 use Rattle.blocking_lanes.specs.declared.job.SessionJob.TheVariants as of_job
 use Rattle.blocking_lanes.specs.declared.owner.OwnerNext.TheVariants as next
@@ -54,13 +59,14 @@ use Rattle.blocking_lanes.specs.declared.owner.OwnerStage.{OwnerStage}
 use Rattle.blocking_lanes.specs.declared.owner.OwnerStage.TheVariants as stage
 use Rattle.blocking_lanes.proofs.owners.Goods.{through_some, through_none}
 use Rattle.blocking_lanes.proofs.owners.Cuts.{its_kind, kind_is, next_stays, passes}
-use Rattle.blocking_lanes.proofs.owners.JobActs.{WorksOn, room_works, put_works, close_works, finish_works, answer_goes, give_up_goes, peek_works, consume_works, writer_close_works, writer_finish_works, writer_answer_goes, item_answer_goes, send_works, streamer_close_works, streamer_finish_works, asking_goes}
+use Rattle.blocking_lanes.proofs.owners.JobActs.{WorksOn, room_works, put_works, close_works, finish_works, answer_goes, give_up_goes, peek_works, consume_works, writer_close_works, writer_finish_works, writer_answer_goes, item_answer_goes, send_works, streamer_close_works, streamer_finish_works, asking_goes, seek_finish_works, seek_answer_goes}
 use Rattle.blocking_lanes.proofs.owners.Known.{both_true}
 use Rattle.blocking_lanes.proofs.owners.OwnerActs.{Goes, owner_by_parts, bound, value_of, doing, own_goes}
 use Rattle.blocking_lanes.proofs.owners.PoolAnswers.{ask_goes, drop_goes, refuse_goes, deliver_goes, begin_goes}
 use Rattle.blocking_lanes.proofs.owners.ReadJobs as of_reader
 use Rattle.blocking_lanes.proofs.owners.StreamJobs as of_streamer
 use Rattle.blocking_lanes.proofs.owners.WriteJobs as of_writer
+use Rattle.blocking_lanes.proofs.owners.SeekJobs as of_seeker
 use Rattle.blocking_lanes.proofs.owners.ReadSessions.{calls}
 
 -- ---- a waker is called
@@ -317,12 +323,45 @@ module _ (bytes : ℕ) (asked : Option HandleCall) (here : OwnerStage) (h v firs
           (wake_goes bytes asked here last h v n first growth cut t among
           (ap (λ k. next_of_job k (acts_of n cut)) of ∙ sym (of_streamer.action_is p (acts_of n cut) r) ∙ ap (streams.action_as p.item) is))
 
+  -- a job that seeks, at the session
+  seeker_at : (s : Session) (t : OwnerAs (owner_by_parts bytes asked here (Some s)) cut) (p : seeks.Progress) (r : SeekAs p (acts_of s.number.serial cut)) → its_kind s (bound bytes) cut t.last ≡ Seeking p.goal
+      → is_in s.number.serial (jobs_of (own cut)) ≡ true → (a : SeekAction) → seek_next p.core ≡ a → (work : Work seeks.Progress) → seek_works a p s ≡ Some work
+      → WorksOn bytes asked here s h v first growth cut t seeks.Progress work
+  seeker_at s t p r of among seek.Finish is work does =
+      subst (WorksOn bytes asked here s h v first growth cut t seeks.Progress) (ap (value_of work) does) (seek_finish_works bytes asked here s h v first growth cut t p r of among is)
+  seeker_at s t p r of among seek.Seek is work does = absurd (cc)
+  seeker_at s t p r of among seek.Deliver is work does = absurd (cc)
+  seeker_at s t p r of among seek.Done is work does = absurd (cc)
+
+  -- any act of a job that seeks
+  seek_goes : (last : Option Session) (n : ℕ) → OwnerAs (owner_by_parts bytes asked here last) cut → (p : seeks.Progress) → SeekAs p (acts_of n cut) → kind_of_job n (own cut) ≡ Seeking p.goal
+      → is_in n (jobs_of (own cut)) ≡ true → (a : SeekAction) → seek_next p.core ≡ a → (done : Worked) → seek_as a p (owner_by_parts bytes asked here last) ≡ Some done → WorkGoes n done
+  seek_goes last n t p r of among seek.Finish is done does =
+      let table = sym r.next ∙ ap seeks.action_as (of_seeker.awake p seek.Finish is (λ e. cc)).next_is in
+      let l = at_last last n (Seeking p.goal) (seeks.action_as seek.Finish) t among of table refl in
+      let s = l.session in
+      let tied = subst (λ o. OwnerAs (owner_by_parts bytes asked here o) cut) l.here t in
+      subst (λ m. WorkGoes m done) (sym l.same)
+      (does_so seeks.Progress of_job.Seek s tied (seek_works seek.Finish p s)
+      (λ work works.
+      seeker_at s tied p (subst (λ m. SeekAs p (acts_of m cut)) l.same r) (kind_at s tied (Seeking p.goal) (subst (λ m. kind_of_job m (own cut) ≡ Seeking p.goal) l.same of))
+      (subst (λ m. is_in m (jobs_of (own cut)) ≡ true) l.same among) seek.Finish is work works) done (subst (λ o. seek_in seek.Finish o p (owner_by_parts bytes asked here o) ≡ Some done) l.here does))
+  seek_goes last n t p r of among seek.Deliver is done does =
+      subst (WorkGoes n) (ap (value_of done) does)
+      (wake_goes bytes asked here last h v n first growth cut t among
+      (ap (λ k. next_of_job k (acts_of n cut)) of ∙ sym (of_seeker.action_is p (acts_of n cut) r) ∙ ap seeks.action_as is))
+  seek_goes None n t p r of among seek.Seek is done does = absurd (cc)
+  seek_goes (Some s) n t p r of among seek.Seek is done does = absurd (cc)
+  seek_goes None n t p r of among seek.Done is done does = absurd (cc)
+  seek_goes (Some s) n t p r of among seek.Done is done does = absurd (cc)
+
   -- any act of its own
   pub works_goes : (last : Option Session) (n : ℕ) → OwnerAs (owner_by_parts bytes asked here last) cut → (job : SessionJob) → JobAs job (acts_of n cut) → kind_of_job n (own cut) ≡ kind_of job
       → is_in n (jobs_of (own cut)) ≡ true → (done : Worked) → worked job (owner_by_parts bytes asked here last) ≡ Some done → WorkGoes n done
   works_goes last n t (of_job.Read p) r of among done does = read_goes last n t p r of among (read_next p.core) refl done does
   works_goes last n t (of_job.Write p) r of among done does = write_goes last n t p r of among (write_next p.core) refl done does
   works_goes last n t (of_job.Items p) r of among done does = stream_goes last n t p r of among (item_next p.core) refl done does
+  works_goes last n t (of_job.Seek p) r of among done does = seek_goes last n t p r of among (seek_next p.core) refl done does
 
 -- ---- each step
 
@@ -389,6 +428,14 @@ answered bytes asked here last h v n first growth cut t (of_job.Items p) answer 
     (subst (λ o. Goes (owner_by_parts bytes asked here o) cut (by_its_job h v l.session.number.serial (Answered answer) first growth)) (sym l.here)
     (item_answer_goes bytes asked here l.session h v first growth cut tied p (subst (λ m. ItemAs p (acts_of m cut)) l.same r)
     (kind_at bytes asked here h v first growth cut l.session tied Streaming (subst (λ m. kind_of_job m (own cut) ≡ Streaming) l.same of)) (subst (λ m. is_in m (jobs_of (own cut)) ≡ true) l.same among) answer is))
+answered bytes asked here last h v n first growth cut t (of_job.Seek p) answer of r is among =
+    let q = of_seeker.asks p (acts_of n cut) answer r is in
+    let l = its_last bytes asked here last n cut t among (ap (λ k. is_over (next_but_wake k (acts_of n cut))) of ∙ ap is_over q.table) in
+    let tied = subst (λ o. OwnerAs (owner_by_parts bytes asked here o) cut) l.here t in
+    subst (λ m. Goes (owner_by_parts bytes asked here last) cut (by_its_job h v m (Answered answer) first growth)) (sym l.same)
+    (subst (λ o. Goes (owner_by_parts bytes asked here o) cut (by_its_job h v l.session.number.serial (Answered answer) first growth)) (sym l.here)
+    (seek_answer_goes bytes asked here l.session h v first growth cut tied p (subst (λ m. SeekAs p (acts_of m cut)) l.same r)
+    (kind_at bytes asked here h v first growth cut l.session tied (Seeking p.goal) (subst (λ m. kind_of_job m (own cut) ≡ Seeking p.goal) l.same of)) (subst (λ m. is_in m (jobs_of (own cut)) ≡ true) l.same among) answer is))
 
 module _ (bytes : ℕ) (asked : Option HandleCall) (last : Option Session) (h v n first : ℕ) (growth : Growth) (cut : List Event) (act : Act) where
   step_by : (step : OwnerStep) (here : OwnerStage) → OwnerAs (owner_by_parts bytes asked here last) cut → IsAllowed step (owner_by_parts bytes asked here last) n cut

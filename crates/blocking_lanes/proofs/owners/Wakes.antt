@@ -5,7 +5,7 @@ use Rattle.std.proofs.lemmas.Bool.{or_left, or_right, eq-eqb}
 use Rattle.blocking_core.specs.Places.{Served, Waiting, drain, fill}
 use Rattle.blocking_core.specs.Slots.{Content, Empty, Full, GivenUp, Abandoned}
 use Rattle.blocking_core.specs.declared.io.Fault.{Fault}
-use Rattle.blocking_laws.specs.JobTable.{Kind, Reading, Writing, Streaming, JobAction, FindRoom, Peek, SendItem, next_but_wake, is_over, fault, has_finished, has_given_up, has_closed}
+use Rattle.blocking_laws.specs.JobTable.{Kind, Reading, Writing, Streaming, JobAction, FindRoom, Peek, SendItem, next_but_wake, is_over, fault, has_finished, has_given_up, has_closed, Seeking, Operating}
 use Rattle.std.specs.Prelude.{not}
 use Rattle.blocking_laws.specs.OwnerLaws.{OwnerActs, Polls}
 use Rattle.blocking_laws.specs.OwnerSeats.{is_job_seated, job_seated_by, note_of, noted}
@@ -22,7 +22,7 @@ use Rattle.blocking_laws.specs.declared.event.Act.{Act}
 use Rattle.blocking_laws.specs.declared.event.Act.TheVariants.{Accepted, JobWoken, OwnerClosed, Got, Filled, FillShut, Waits, Back, JobParked}
 use Rattle.blocking_laws.specs.declared.event.Event.{Event}
 use Rattle.blocking_lanes.specs.Owners.{Owner, capacity_of}
-use Rattle.blocking_lanes.specs.OwnerTies.{OwnerAs, LastAs, SlotAs, Flows, IsStuckIn, IsOwnerStuckIn, is_finding, seat_of, is_seated}
+use Rattle.blocking_lanes.specs.OwnerTies.{OwnerAs, LastAs, SlotAs, Flows, is_piped_kind, IsStuckIn, IsOwnerStuckIn, is_finding, seat_of, is_seated}
 use Rattle.blocking_lanes.specs.Sessions.{Session}
 use Rattle.blocking_lanes.proofs.owners.Cuts.{inside_is}
 use Rattle.blocking_lanes.proofs.owners.States.{session_is_last}
@@ -44,14 +44,19 @@ module _ (s : Session) (shut : Bool) (took written : List ℕ) (acts : List Act)
   finding_lasts Reading _ finding flow = absurd (cc)
   finding_lasts Streaming _ finding flow = absurd (cc)
   finding_lasts Writing _ finding flow = absurd (cc)
+  finding_lasts (Seeking goal) FindRoom finding flow = absurd flow.next_is
+  finding_lasts (Seeking goal) Peek finding flow = absurd flow.next_is
+  finding_lasts (Seeking goal) (SendItem x) finding flow = absurd flow.next_is
+  finding_lasts (Seeking goal) _ finding flow = absurd (cc)
   finding_lasts _ a finding flow = absurd flow
 
-  -- a job that is over has closed its end, unless it gave up
-  over_closed : (kind : Kind) (a : JobAction) → Flows kind s shut took written a acts → is_over a ≡ true → s.pipe.is_job_open ≡ true → has_given_up acts ≡ true
-  over_closed Reading a flow over lasts = flow.unclosed over lasts
-  over_closed Streaming a flow over lasts = flow.unclosed over lasts
-  over_closed Writing a flow over lasts = flow.unclosed over lasts
-  over_closed _ a flow over lasts = absurd flow
+  -- a job that is over has closed its end, where its owner sits there, unless it gave up
+  over_closed : (kind : Kind) (a : JobAction) → Flows kind s shut took written a acts → is_over a ≡ true → is_some s.pipe.owner_seat ≡ true → s.pipe.is_job_open ≡ true → has_given_up acts ≡ true
+  over_closed Reading a flow over sits lasts = flow.unclosed over lasts
+  over_closed Streaming a flow over sits lasts = flow.unclosed over lasts
+  over_closed Writing a flow over sits lasts = flow.unclosed over lasts
+  over_closed (Seeking goal) a flow over sits lasts = absurd (let nobody = flow.plain.unseated in cc)
+  over_closed _ a flow over sits lasts = absurd flow
 
 -- not both can't go on at a pipe that holds something
 not_both : (s : Session) (kind : Kind) → 0 < s.pipe.capacity → IsStuckIn kind s → IsOwnerStuckIn kind s → ⊥
@@ -79,7 +84,7 @@ module _ (s : Session) (capacity : Kind → ℕ) (cut : List Event) (t : LastAs 
     where
       at : (b : Bool) → is_some s.pipe.owner_seat ≡ b → b || is_some s.slot.seat ≡ true → ⊥
       at true seat sits = (let given_up = over_closed s (sessions.is_shut (own cut)) (got (own cut)) (accepted (own cut)) works kind (next_but_wake kind works) t.flow
-          (sym t.result.over_is ∙ or_left (has_finished works) (has_given_up works) done) (t.seats.reason.owner seat).1 in cc)
+          (sym t.result.over_is ∙ or_left (has_finished works) (has_given_up works) done) seat (t.seats.reason.owner seat).1 in cc)
       at false seat sits =
           full_slot s.slot.content (has_finished works) (has_given_up works) (is_none (session (own cut))) (fault kind works) t.result.slot done lent (t.seats.reason.slot sits).0
 
@@ -90,13 +95,24 @@ module _ (s : Session) (capacity : Kind → ℕ) (cut : List Event) (t : LastAs 
       there : is_some s.pipe.job_seat ≡ true
       there = ap is_some (t.seats.job ∙ ap (λ b. seat_of b s.number) job)
 
-      lasts : s.pipe.is_job_open ≡ true
-      lasts = finding_lasts s (sessions.is_shut (own cut)) (got (own cut)) (accepted (own cut)) works kind (next_but_wake kind works)
-          (without (is_finding (next_but_wake kind works)) (has_given_up works) stays (t.seats.reason.job there).0) t.flow
+      -- a job without a pipe doesn't look into it
+      unseated : (k : Kind) → is_piped_kind k ≡ false → (a : JobAction) → Flows k s (sessions.is_shut (own cut)) (got (own cut)) (accepted (own cut)) a works → is_finding a ≡ true → ⊥
+      unseated (Seeking goal) none FindRoom flow finding = flow.next_is
+      unseated (Seeking goal) none Peek flow finding = flow.next_is
+      unseated (Seeking goal) none (SendItem x) flow finding = flow.next_is
+      unseated (Seeking goal) none _ flow finding = cc
+      unseated Operating none a flow finding = flow
+      unseated _ none a flow finding = cc
+
+      finds : is_finding (next_but_wake kind works) ≡ true
+      finds = without (is_finding (next_but_wake kind works)) (has_given_up works) stays (t.seats.reason.job there).0
         where
           without : (a b : Bool) → b ≡ false → a || b ≡ true → a ≡ true
           without true b none e = refl
           without false b none e = absurd (cc)
+
+      lasts : s.pipe.is_job_open ≡ true
+      lasts = finding_lasts s (sessions.is_shut (own cut)) (got (own cut)) (accepted (own cut)) works kind (next_but_wake kind works) finds t.flow
 
       at : (b : Bool) → is_some s.pipe.owner_seat ≡ b → b || is_some s.slot.seat ≡ true → ⊥
       at true seat sits =
@@ -104,7 +120,9 @@ module _ (s : Session) (capacity : Kind → ℕ) (cut : List Event) (t : LastAs 
           let some = t.lent.some in
           not_both s kind (omega (arith, holds, some)) (t.seats.reason.job there).1 (t.seats.reason.owner seat).0
       at false seat sits =
-          ⊎_elim (λ shut. (let open_is = (t.seats.reason.job there).2 in cc)) (λ closed. (let open_is = lasts in cc)) (t.seats.reason.slot sits).1
+          ⊎_elim (λ shut. (let open_is = (t.seats.reason.job there).2 in cc))
+          (λ other. ⊎_elim (λ closed. (let open_is = lasts in cc)) (λ without. unseated kind without (next_but_wake kind works) t.flow finds) other)
+          (t.seats.reason.slot sits).1
 
 -- A job that sits in the pipe can't go on, and its owner's end is open.
 pub seated_reason : (s : Session) (bytes : Kind → ℕ) (cut : List Event) → ((kind : Kind) → sessions.capacity kind (own cut) ≡ bytes kind) → LastAs (Some s) bytes cut → is_some s.pipe.job_seat ≡ true → HasReason cut

@@ -12,6 +12,9 @@ use Rattle.blocking_core.specs.declared.job.read.ReadAction.{ReadAction}
 use Rattle.blocking_core.specs.declared.job.read.ReadAction.TheVariants as read
 use Rattle.blocking_core.specs.declared.job.write.WriteAction.{WriteAction}
 use Rattle.blocking_core.specs.declared.job.write.WriteAction.TheVariants as write
+use Rattle.blocking_core.specs.Seeks.{seek_next}
+use Rattle.blocking_core.specs.declared.job.seek.SeekAction.{SeekAction}
+use Rattle.blocking_core.specs.declared.job.seek.SeekAction.TheVariants as seek
 use Rattle.blocking_core.specs.Writing.{write_next}
 use Rattle.blocking_crew.specs.Crews.{hand_at}
 use Rattle.blocking_crew.specs.Ties.{HandAs, turn_of}
@@ -24,7 +27,7 @@ use Rattle.blocking_lanes.specs.Calls as calls
 use Rattle.blocking_lanes.specs.Calls.{RanAs}
 use Rattle.blocking_lanes.specs.OwnerSteps as owners
 use Rattle.blocking_lanes.specs.OwnerSteps.{act_of_work}
-use Rattle.blocking_lanes.specs.Owners.{Owner, Worked, read_as, read_in, worked, worked_by, write_as, write_in, stream_as, stream_in}
+use Rattle.blocking_lanes.specs.Owners.{Owner, Worked, read_as, read_in, worked, worked_by, write_as, write_in, stream_as, stream_in, seek_as, seek_in}
 use Rattle.blocking_lanes.specs.Passages.{OfBytes, OfItems}
 use Rattle.blocking_lanes.proofs.owners.Goods.{through_none}
 use Rattle.blocking_lanes.specs.Reads as reads
@@ -32,9 +35,10 @@ use Rattle.blocking_lanes.specs.SessionJobs as jobs
 use Rattle.blocking_lanes.specs.SessionJobs.{JobAs}
 use Rattle.blocking_lanes.specs.Streams as streams
 use Rattle.blocking_lanes.specs.Writes as writes
+use Rattle.blocking_lanes.specs.Seeks as seeks
 use Rattle.blocking_lanes.specs.declared.job.SessionJob.{SessionJob}
 use Rattle.blocking_lanes.specs.declared.job.SessionJob.TheVariants as job_of
-use Rattle.blocking_lanes.specs.Sessions.{Session, work_by, writer_works, streamer_works}
+use Rattle.blocking_lanes.specs.Sessions.{Session, work_by, writer_works, streamer_works, seek_works}
 use Rattle.blocking_lanes.specs.Steps.{TaskStep}
 use Rattle.blocking_lanes.specs.Tasks.{Task}
 use Rattle.blocking_lanes.proofs.owners.Actions.{works_some}
@@ -147,11 +151,23 @@ stream_own item.Deliver p owner some = some refl refl
 stream_own item.Next p owner some = stream_none item.Next owner.session p owner (λ s. refl)
 stream_own item.Done p owner some = stream_none item.Done owner.session p owner (λ s. refl)
 
+seek_none : (a : SeekAction) (last : Option Session) (p : seeks.Progress) (owner : Owner) → ((s : Session) → seek_works a p s ≡ None) → is_some (seek_in a last p owner) ≡ false
+seek_none a None p owner none = refl
+seek_none a (Some s) p owner none = ap (λ o. is_some (worked_by job_of.Seek o owner)) (none s)
+
+seek_own : (a : SeekAction) (p : seeks.Progress) (owner : Owner) → (is_asking (seeks.action_as a) ≡ false → is_over (seeks.action_as a) ≡ false → is_some (seek_as a p owner) ≡ true)
+    → is_some (seek_as a p owner) ≡ is_job_action (next_in_turn GoesOn (seeks.action_as a))
+seek_own seek.Finish p owner some = some refl refl
+seek_own seek.Deliver p owner some = some refl refl
+seek_own seek.Seek p owner some = seek_none seek.Seek owner.session p owner (λ s. refl)
+seek_own seek.Done p owner some = seek_none seek.Done owner.session p owner (λ s. refl)
+
 -- so it is of a job of any kind
 worked_own : (job : SessionJob) (owner : Owner) → (is_asking (jobs.action_of job) ≡ false → is_over (jobs.action_of job) ≡ false → is_some (worked job owner) ≡ true)
     → is_some (worked job owner) ≡ is_job_action (next_in_turn GoesOn (jobs.action_of job))
 worked_own (job_of.Read p) owner some = read_own (read_next p.core) p owner some
 worked_own (job_of.Write p) owner some = write_own (write_next p.core) p owner some
+worked_own (job_of.Seek p) owner some = seek_own (seek_next p.core) p owner some
 worked_own (job_of.Items p) owner some = stream_own (item_next p.core) p owner some
 
 -- and so by where the job is in its turn

@@ -15,7 +15,7 @@ use Rattle.blocking_laws.specs.declared.event.Act.{Act}
 use Rattle.blocking_laws.specs.declared.event.Reply.{Reply as Told}
 use Rattle.blocking_pool.specs.Jobs.{JobNumber}
 use Rattle.blocking_lanes.specs.Passages.{OfBytes}
-use Rattle.blocking_lanes.proofs.owners.Goods.{through_by}
+use Rattle.blocking_lanes.proofs.owners.Goods.{through_by, piped_by}
 use Rattle.blocking_parts.proofs.moves.Fills.{by_fill}
 
 -- whether what is done, if anything is, is nothing to the crew
@@ -50,6 +50,7 @@ acts (action.Drain most) poll (Some session) owner =
     through_by (λ o. is_aside_if o ≡ true) OfBytes session.goods _ refl (drains (drained (reach most session) session) poll session owner)
 acts (action.Fill most) poll session owner = by_fill (λ o. is_aside_if o ≡ true) poll owner.asked session owner refl (λ bytes session met here found. fills bytes met poll session owner)
 acts action.PollSlot poll (Some session) owner = looks session.slot.content poll (session_after_look session.slot.content session) owner
+acts action.Close poll (Some session) owner = piped_by (λ o. is_aside_if o ≡ true) session.goods _ refl refl
 acts _ poll (Some session) owner = refl
 acts _ poll None owner = refl
 

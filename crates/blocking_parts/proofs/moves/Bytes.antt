@@ -9,7 +9,7 @@ use Rattle.blocking_core.specs.Slots.{Content, Empty, Full, GivenUp, Abandoned}
 use Rattle.blocking_core.specs.declared.io.Fault.{Fault}
 use Rattle.blocking_core.specs.declared.unblock.OwnerAction.{OwnerAction}
 use Rattle.blocking_core.specs.declared.unblock.OwnerAction.TheVariants as action
-use Rattle.blocking_lanes.specs.Owners.{Owner, Did, bytes_in, next_of, next_at, next_by, did, did_by, did_in, drain_did, fill_did, front_in, look_did, looked_as, reply_as, reply_did, worked, Worked}
+use Rattle.blocking_lanes.specs.Owners.{Owner, Did, bytes_in, next_of, next_at, next_by, did, did_by, did_in, drain_did, fill_did, front_in, look_did, looked_as, reply_as, reply_did, worked, Worked, close_did}
 use Rattle.blocking_lanes.specs.Sessions.{Session, session_after_look}
 use Rattle.blocking_lanes.specs.declared.owner.OwnerStage.{OwnerStage}
 use Rattle.blocking_lanes.specs.declared.owner.OwnerStage.TheVariants as stage
@@ -46,7 +46,7 @@ use Rattle.blocking_parts.specs.Rows.{Done, call_done, call_step, call_step_by, 
 use Rattle.blocking_parts.specs.declared.row.Core.{Core}
 use Rattle.blocking_parts.specs.declared.row.Core.TheVariants as core
 use Rattle.blocking_lanes.specs.Passages.{OfBytes}
-use Rattle.blocking_lanes.proofs.owners.Goods.{through_by}
+use Rattle.blocking_lanes.proofs.owners.Goods.{through_by, piped_by}
 use Rattle.blocking_parts.proofs.moves.Fills.{by_fill}
 use Rattle.blocking_parts.proofs.moves.SessionActs.{DoesSo, carried_at, moved, seen as seen_at, worked_so}
 use Rattle.blocking_parts.proofs.ties.Events.{SaidBy, said}
@@ -94,7 +94,7 @@ polls (action.Drain most) p (Some s) owner =
 polls (action.Fill most) p last owner = by_fill (λ o. Carries o 0) p owner.asked last owner tt (λ bytes s met here found. fills bytes met p s owner)
 polls action.DropHandle p last owner = omega arith
 polls action.PollSlot p (Some s) owner = looks s.slot.content p (session_after_look s.slot.content s) owner _
-polls action.Close p (Some s) owner = omega arith
+polls action.Close p (Some s) owner = piped_by (λ o. Carries o 0) s.goods (Some (close_did p s owner)) tt (omega arith)
 polls _ p (Some s) owner = tt
 polls _ p None owner = tt
 

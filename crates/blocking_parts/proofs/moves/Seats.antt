@@ -23,9 +23,9 @@ use Rattle.blocking_lanes.specs.declared.owner.OwnerStage.TheVariants as stage
 use Rattle.blocking_pool.specs.Jobs.{JobNumber}
 use Rattle.blocking_pool.specs.declared.pool.answer.Refusal.{Refusal}
 use Rattle.blocking_parts.specs.Ties.{IsMet, is_number, seated_in}
-use Rattle.blocking_lanes.proofs.owners.Goods.{through_some}
+use Rattle.blocking_lanes.proofs.owners.Goods.{through_some, piped_some}
 use Rattle.blocking_parts.proofs.moves.Fills.{by_fill}
-use Rattle.blocking_parts.proofs.moves.SessionActs.{SessionAct, FindsRoom, Puts, Sends, Peeks, TakesOut, Closes, Finishes, ActsAt, DoesSo, Fits, after, moved, seen, worked_so}
+use Rattle.blocking_parts.proofs.moves.SessionActs.{SessionAct, FindsRoom, Puts, Sends, Peeks, TakesOut, Closes, Finishes, ActsAt, DoesSo, Fits, after, moved, seen, worked_so, Leaves}
 
 -- the note that a poll took is the one that it has to deliver
 noted_on : (poll : OwnerMachine ℕ) (note : Option JobNumber) → note_at (goes_on poll note) ≡ note
@@ -104,7 +104,7 @@ module _ (owner : Owner) (s : ℕ) (done : Did) (poll : OwnerMachine ℕ) where
       told (Some reply) does = moved (λ (d : Did). IsMet d.owner s) _ done does (inl (ap (λ o. is_number (seated_in o) s) here ∙ seat))
       told None does = absurd cc
   acts_met action.Close (Some session) here does seat =
-      moved (λ (d : Did). IsMet d.owner s) _ done does (inr (ap (λ o. is_number o s) (noted_on _ session.pipe.job_seat) ∙ seat))
+      moved (λ (d : Did). IsMet d.owner s) _ done (piped_some session.goods _ done does) (inr (ap (λ o. is_number o s) (noted_on _ session.pipe.job_seat) ∙ seat))
   acts_met (action.Drain most) (Some session) here does seat = drains (drained (reach most session) session) refl (through_some OfBytes session.goods _ done does).1
     where
       drains : (met : Met (List ℕ × Option JobNumber)) → drained (reach most session) session ≡ met → Some (drain_did met poll session owner) ≡ Some done → IsMet done.owner s
@@ -165,6 +165,7 @@ seats_after job session (Peeks Closed) fits = inl (λ parks. cc, refl)
 seats_after job session (TakesOut n waker) fits = inl (λ parks. cc, refl)
 seats_after job session (Closes waker) fits = inl (λ parks. cc, refl)
 seats_after job session (Finishes why waker) fits = inl (λ parks. cc, refl)
+seats_after job session (Leaves place why waker) fits = inl (λ parks. cc, refl)
 
 -- the seat is empty, or that of the last session's job
 abbrev pub SeatAs : Bool → Option Session → Type 0

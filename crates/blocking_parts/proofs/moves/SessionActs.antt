@@ -15,19 +15,23 @@ use Rattle.blocking_core.specs.declared.job.read.ReadAction.{ReadAction}
 use Rattle.blocking_core.specs.declared.job.read.ReadAction.TheVariants as read
 use Rattle.blocking_core.specs.declared.job.write.WriteAction.{WriteAction}
 use Rattle.blocking_core.specs.declared.job.write.WriteAction.TheVariants as write
+use Rattle.blocking_core.specs.Seeks.{seek_next}
+use Rattle.blocking_core.specs.declared.job.seek.SeekAction.{SeekAction}
+use Rattle.blocking_core.specs.declared.job.seek.SeekAction.TheVariants as seek
 use Rattle.blocking_crew.specs.Crews.{may_act}
 use Rattle.blocking_crew.specs.declared.hand.Stage.TheVariants as stage
-use Rattle.blocking_lanes.specs.Owners.{Owner, Worked, number_of, read_as, read_in, stream_as, stream_in, worked, worked_by, write_as, write_in}
+use Rattle.blocking_lanes.specs.Owners.{Owner, Worked, number_of, read_as, read_in, stream_as, stream_in, worked, worked_by, write_as, write_in, seek_as, seek_in}
 use Rattle.blocking_lanes.specs.Passages.{Goods, OfBytes, OfItems, through}
 use Rattle.blocking_lanes.specs.Reads as reads
 use Rattle.blocking_lanes.specs.SessionJobs.{action_of, kind_of}
 use Rattle.blocking_lanes.specs.Sessions.{Session, Work, closing_wakes, finish_wakes, fits_in, found_piece, found_put, found_room, found_send, front, holds, session_after_consume, session_after_finish, session_after_job_close, session_after_peek, session_after_put, session_after_room, session_after_send, streamer_works, work_at_put, work_by, work_of_consume, writer_works}
 use Rattle.blocking_lanes.specs.Streams as streams
 use Rattle.blocking_lanes.specs.Writes as writes
+use Rattle.blocking_lanes.specs.Seeks as seeks
 use Rattle.blocking_lanes.specs.declared.job.SessionJob.{SessionJob}
 use Rattle.blocking_lanes.specs.declared.job.SessionJob.TheVariants as job_of
 use Rattle.blocking_lanes.proofs.owners.Goods.{through_some}
-use Rattle.blocking_laws.specs.JobTable.{Reading, Writing, Streaming, FindRoom, SendItem, Peek}
+use Rattle.blocking_laws.specs.JobTable.{Reading, Writing, Streaming, FindRoom, SendItem, Peek, Seeking}
 use Rattle.blocking_laws.specs.Places.{seen_peek, seen_put, seen_room}
 use Rattle.blocking_laws.specs.Seats.{waker_in}
 use Rattle.blocking_laws.specs.Seen.{is_nothing, is_of_pool}
@@ -47,6 +51,7 @@ pub data SessionAct : Type 0 where
   TakesOut : ℕ → HolderWaker → SessionAct
   Closes : HolderWaker → SessionAct
   Finishes : Option (Fault ℕ) → HolderWaker → SessionAct
+  Leaves : ℕ → Option (Fault ℕ) → HolderWaker → SessionAct
 
 -- what is seen of it
 abbrev pub seen : SessionAct → Act
@@ -57,6 +62,7 @@ seen (Peeks met) = seen_peek met
 seen (TakesOut n waker) = Taken n waker
 seen (Closes waker) = JobClosed waker
 seen (Finishes why waker) = Finished waker
+seen (Leaves place why waker) = Finished waker
 
 -- the session after it
 abbrev pub after : SessionAct → Session → Session
@@ -67,6 +73,7 @@ after (Peeks met) s = session_after_peek met s
 after (TakesOut n waker) s = session_after_consume n s
 after (Closes waker) s = session_after_job_close s
 after (Finishes why waker) s = session_after_finish why s
+after (Leaves place why waker) s = record (session_after_finish why s) { left = place }
 
 -- when a job does so: it looks for room, or at the front, or sends an item, where that is next; and what it puts fits, so that it needn't wait
 abbrev pub Fits : SessionAct → SessionJob → Session → Type 0
@@ -216,9 +223,25 @@ stream_does a p owner done is does = by a is does
     by item.Finish is does = there item.Finish is owner.session refl does
     by item.Done is does = there item.Done is owner.session refl does
 
+-- the acts of a job that seeks
+seek_at : (a : SeekAction) (p : seeks.Progress) (owner : Owner) (done : Worked) (last : Option Session) → owner.session ≡ last → seek_in a last p owner ≡ Some done → DoesSo (job_of.Seek p) owner done
+seek_at a p owner done None here does = absurd cc
+seek_at seek.Finish p owner done (Some s) here does =
+    inr (moved (ActsAt (job_of.Seek p) owner) _ done does (record { session = s; here = here; act = Leaves p.place p.fault (waker_in (finish_wakes p.fault s)); fits = tt; act_is = refl; owner_is = refl }))
+seek_at seek.Seek p owner done (Some s) here does = absurd cc
+seek_at seek.Deliver p owner done (Some s) here does = absurd cc
+seek_at seek.Done p owner done (Some s) here does = absurd cc
+
+seek_does : (a : SeekAction) (p : seeks.Progress) (owner : Owner) (done : Worked) → seek_as a p owner ≡ Some done → DoesSo (job_of.Seek p) owner done
+seek_does seek.Deliver p owner done does = inl (moved (λ (d : Worked). (d.act ≡ HolderWoken) × (d.owner ≡ owner)) _ done does (refl, refl))
+seek_does seek.Seek p owner done does = seek_at seek.Seek p owner done owner.session refl does
+seek_does seek.Finish p owner done does = seek_at seek.Finish p owner done owner.session refl does
+seek_does seek.Done p owner done does = seek_at seek.Done p owner done owner.session refl does
+
 pub worked_so : (job : SessionJob) (owner : Owner) (done : Worked) → worked job owner ≡ Some done → DoesSo job owner done
 worked_so (job_of.Read p) owner done does = read_does (read_next p.core) p owner done refl does
 worked_so (job_of.Write p) owner done does = write_does (write_next p.core) p owner done refl does
+worked_so (job_of.Seek p) owner done does = seek_does (seek_next p.core) p owner done does
 worked_so (job_of.Items p) owner done does = stream_does (item_next p.core) p owner done refl does
 
 -- ---- what each act is
@@ -234,6 +257,7 @@ parks_first job s (Peeks met) fits parks = ap is_first fits.0
 parks_first job s (TakesOut n waker) fits parks = absurd cc
 parks_first job s (Closes waker) fits parks = absurd cc
 parks_first job s (Finishes why waker) fits parks = absurd cc
+parks_first job s (Leaves place why waker) fits parks = absurd cc
 
 pub first_where_parked : (job : SessionJob) (owner : Owner) (done : Worked) → worked job owner ≡ Some done → done.act ≡ JobParked → is_first (action_of job) ≡ true
 first_where_parked job owner done does parks = by (worked_so job owner done does)
@@ -259,6 +283,7 @@ same_number (Peeks Closed) s = refl
 same_number (TakesOut n waker) s = refl
 same_number (Closes waker) s = refl
 same_number (Finishes why waker) s = refl
+same_number (Leaves place why waker) s = refl
 
 pub number_worked : (job : SessionJob) (owner : Owner) (done : Worked) → worked job owner ≡ Some done → number_of done.owner ≡ number_of owner
 number_worked job owner done does = by (worked_so job owner done does)
@@ -323,6 +348,20 @@ same_kind (job_of.Items p) owner done does = by (item_next p.core) does
     by item.Close does = there item.Close owner.session does
     by item.Finish does = there item.Finish owner.session does
     by item.Done does = there item.Done owner.session does
+same_kind (job_of.Seek p) owner done does = by (seek_next p.core) does
+  where
+    there : (a : SeekAction) (last : Option Session) → seek_in a last p owner ≡ Some done → kind_of done.job ≡ Seeking p.goal
+    there a None does = absurd cc
+    there seek.Finish (Some s) does = moved (λ (d : Worked). kind_of d.job ≡ Seeking p.goal) _ done does refl
+    there seek.Seek (Some s) does = absurd cc
+    there seek.Deliver (Some s) does = absurd cc
+    there seek.Done (Some s) does = absurd cc
+
+    by : (a : SeekAction) → seek_as a p owner ≡ Some done → kind_of done.job ≡ Seeking p.goal
+    by seek.Deliver does = moved (λ (d : Worked). kind_of d.job ≡ Seeking p.goal) _ done does refl
+    by seek.Seek does = there seek.Seek owner.session does
+    by seek.Finish does = there seek.Finish owner.session does
+    by seek.Done does = there seek.Done owner.session does
 
 -- it is done while the job's turn goes on
 pub fits_turn : (act : SessionAct) → may_act stage.Runs (seen act) ≡ true
@@ -341,6 +380,7 @@ fits_turn (Peeks Closed) = refl
 fits_turn (TakesOut n waker) = refl
 fits_turn (Closes waker) = refl
 fits_turn (Finishes why waker) = refl
+fits_turn (Leaves place why waker) = refl
 
 -- whether something was done that neither the pool decides nor anyone answers from outside
 abbrev pub is_own : Act → Bool
@@ -362,6 +402,7 @@ own_at (Peeks Closed) = refl
 own_at (TakesOut n waker) = refl
 own_at (Closes waker) = refl
 own_at (Finishes why waker) = refl
+own_at (Leaves place why waker) = refl
 
 -- it carries no more than is found at the front of the pipe
 front_found : (items : List ℕ) (is_open : Bool) (found : List ℕ) → peek 65536 items is_open ≡ Served found → length found ≤ min (length items) 65536
@@ -388,3 +429,4 @@ carried_at job s (Peeks Closed) fits = omega arith
 carried_at job s (TakesOut n waker) fits = omega arith
 carried_at job s (Closes waker) fits = omega arith
 carried_at job s (Finishes why waker) fits = omega arith
+carried_at job s (Leaves place why waker) fits = omega arith

@@ -19,7 +19,7 @@ use Rattle.blocking_lanes.specs.SessionJobs.{JobAs, new_job}
 use Rattle.blocking_lanes.specs.Sessions.{Session}
 use Rattle.blocking_lanes.proofs.owners.OwnerActs.{owner_by_parts, fits_at}
 use Rattle.blocking_lanes.proofs.owners.Steps.{begins_at}
-use Rattle.blocking_laws.specs.JobTable.{Kind, Reading, Writing, Streaming}
+use Rattle.blocking_laws.specs.JobTable.{Kind, Reading, Writing, Streaming, Seeking}
 use Rattle.blocking_laws.specs.Sessions as sessions
 use Rattle.blocking_laws.specs.Sessions.{kind_of_job}
 use Rattle.blocking_laws.specs.Steps.{kind_by}
@@ -160,12 +160,14 @@ new_so : (kind : Kind) → JobAs (new_job kind) []
 new_so Writing = record { next = refl; offered = tt; waking = refl; fault_is = refl }
 new_so Streaming = record { next = refl; waking = refl; fault_is = refl }
 new_so Reading = record { next = refl; waking = refl; fault_is = refl }
+new_so (Seeking goal) = record { next = refl; waking = refl; fault_is = refl; place_is = refl }
 new_so _ = record { next = refl; waking = refl; fault_is = refl }
 
 new_first : (kind : Kind) → is_first (jobs.action_of (new_job kind)) ≡ true
 new_first Writing = refl
 new_first Streaming = refl
 new_first Reading = refl
+new_first (Seeking goal) = refl
 new_first _ = refl
 
 -- it is of the kind that the call asks for which begins the session
@@ -174,6 +176,7 @@ kind_begun (handle_call.Read zero) begins = absurd begins
 kind_begun (handle_call.Read (suc n)) begins = refl
 kind_begun (handle_call.Write []) begins = absurd begins
 kind_begun (handle_call.Write (byte ∷ bytes)) begins = refl
+kind_begun (handle_call.Seek goal) begins = refl
 kind_begun _ begins = absurd begins
 
 begins_kind : (bytes : ℕ) (asked : Option HandleCall) (here : OwnerStage) (last : Option Session) (cut : List Event) → OwnerAs (owner_by_parts bytes asked here last) cut → next_at here last ≡ next.Begins

@@ -15,7 +15,7 @@ use Rattle.blocking_lanes.specs.declared.owner.OwnerStage.TheVariants as stage
 use Rattle.blocking_lanes.proofs.owners.Events.{brought}
 use Rattle.blocking_pool.specs.Jobs.{JobNumber}
 use Rattle.blocking_lanes.specs.Passages.{OfBytes}
-use Rattle.blocking_lanes.proofs.owners.Goods.{through_some}
+use Rattle.blocking_lanes.proofs.owners.Goods.{through_some, piped_some}
 use Rattle.blocking_parts.proofs.moves.Fills.{by_fill}
 use Rattle.blocking_parts.proofs.moves.SessionActs.{moved, number_worked}
 
@@ -44,7 +44,7 @@ of_did (action.Reply r) p last owner done is e = by_told (reply_as r) e
     by_told : (told : Option Told) → reply_did told p owner ≡ Some done → number_of done.owner ≡ number_in last
     by_told (Some told) e = moved (λ (d : Did). number_of d.owner ≡ number_in last) _ done e (ap number_in is)
     by_told None e = absurd cc
-of_did action.Close p (Some s) owner done is e = moved (λ (d : Did). number_of d.owner ≡ Some s.number) _ done e refl
+of_did action.Close p (Some s) owner done is e = moved (λ (d : Did). number_of d.owner ≡ Some s.number) _ done (piped_some s.goods _ done e) refl
 of_did (action.Drain most) p (Some s) owner done is e = moved (λ (d : Did). number_of d.owner ≡ Some s.number) _ done (through_some OfBytes s.goods _ done e).1 (of_drain (drained (reach most s) s) p s owner is)
 of_did action.PollSlot p (Some s) owner done is e = of_look s.slot.content p s owner done e
 of_did (action.Fill most) p last owner done is e =
