@@ -13,7 +13,7 @@ use Rattle.blocking_lanes.specs.declared.job.SessionJob.{SessionJob}
 use Rattle.blocking_lanes.specs.Steps as tasks
 use Rattle.blocking_lanes.specs.Steps.{TaskStep}
 use Rattle.blocking_lanes.specs.Tasks.{Task, finish_wakes}
-use Rattle.blocking_laws.specs.JobTable.{JobAction, Kind, Calling, AskCall, Finish, FindRoom, Peek, WakeHolder, Over}
+use Rattle.blocking_laws.specs.JobTable.{JobAction, Kind, Calling, AskCall, Finish, FindRoom, Peek, WakeHolder, Over, AskItem, SendItem}
 use Rattle.blocking_laws.specs.Steps.{WorkerAction, Does, GivesUp, EndsTurn, next_in_turn}
 use Rattle.blocking_laws.specs.Turns.{GoesOn}
 use Rattle.blocking_laws.specs.declared.event.Act.{Act}
@@ -73,14 +73,16 @@ next_of stage.MustGiveUp core = GivesUp
 next_of stage.MustWake core = Does WakeHolder
 next_of stage.GaveUp core = EndsTurn
 
--- whether a job is at the action at which one of its kind begins
+-- whether a job is at an action at which nobody may run it: the first of its kind, or one at which it waits for its owner
 abbrev pub is_first : JobAction → Bool
 is_first AskCall = true
 is_first FindRoom = true
 is_first Peek = true
+is_first AskItem = true
+is_first (SendItem x) = true
 is_first _ = false
 
--- whether a core hasn't begun: its next action is the first of its kind
+-- the same of a core
 abbrev pub is_at_first : Core → Bool
 is_at_first core = is_first (action_of core)
 

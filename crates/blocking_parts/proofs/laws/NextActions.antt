@@ -5,6 +5,9 @@ use Rattle.std.proofs.lemmas.Option.{slice_get_cases}
 use Rattle.blocking_core.specs.Reading.{read_next}
 use Rattle.blocking_core.specs.declared.job.Action.{Action}
 use Rattle.blocking_core.specs.declared.job.Action.TheVariants as action
+use Rattle.blocking_core.specs.Items.{item_next}
+use Rattle.blocking_core.specs.declared.job.item.ItemAction.{ItemAction}
+use Rattle.blocking_core.specs.declared.job.item.ItemAction.TheVariants as item
 use Rattle.blocking_core.specs.declared.job.read.ReadAction.{ReadAction}
 use Rattle.blocking_core.specs.declared.job.read.ReadAction.TheVariants as read
 use Rattle.blocking_core.specs.declared.job.write.WriteAction.{WriteAction}
@@ -21,16 +24,17 @@ use Rattle.blocking_lanes.specs.Calls as calls
 use Rattle.blocking_lanes.specs.Calls.{RanAs}
 use Rattle.blocking_lanes.specs.OwnerSteps as owners
 use Rattle.blocking_lanes.specs.OwnerSteps.{act_of_work}
-use Rattle.blocking_lanes.specs.Owners.{Owner, Worked, read_as, read_in, worked, worked_by, write_as, write_in}
-use Rattle.blocking_lanes.specs.Passages.{OfBytes}
+use Rattle.blocking_lanes.specs.Owners.{Owner, Worked, read_as, read_in, worked, worked_by, write_as, write_in, stream_as, stream_in}
+use Rattle.blocking_lanes.specs.Passages.{OfBytes, OfItems}
 use Rattle.blocking_lanes.proofs.owners.Goods.{through_none}
 use Rattle.blocking_lanes.specs.Reads as reads
 use Rattle.blocking_lanes.specs.SessionJobs as jobs
 use Rattle.blocking_lanes.specs.SessionJobs.{JobAs}
+use Rattle.blocking_lanes.specs.Streams as streams
 use Rattle.blocking_lanes.specs.Writes as writes
 use Rattle.blocking_lanes.specs.declared.job.SessionJob.{SessionJob}
 use Rattle.blocking_lanes.specs.declared.job.SessionJob.TheVariants as job_of
-use Rattle.blocking_lanes.specs.Sessions.{Session, work_by, writer_works}
+use Rattle.blocking_lanes.specs.Sessions.{Session, work_by, writer_works, streamer_works}
 use Rattle.blocking_lanes.specs.Steps.{TaskStep}
 use Rattle.blocking_lanes.specs.Tasks.{Task}
 use Rattle.blocking_lanes.proofs.owners.Actions.{works_some}
@@ -108,6 +112,10 @@ write_none : (a : WriteAction) (last : Option Session) (p : writes.Progress) (ow
 write_none a None p owner none = refl
 write_none a (Some s) p owner none = ap (λ o. is_some (worked_by job_of.Write o owner)) (through_none OfBytes s.goods (writer_works a p s) (none s))
 
+stream_none : (a : ItemAction) (last : Option Session) (p : streams.Progress) (owner : Owner) → ((s : Session) → streamer_works a p s ≡ None) → is_some (stream_in a last p owner) ≡ false
+stream_none a None p owner none = refl
+stream_none a (Some s) p owner none = ap (λ o. is_some (worked_by job_of.Items o owner)) (through_none OfItems s.goods (streamer_works a p s) (none s))
+
 -- a job of a session does something exactly where that is its own to do: what asks its handle, or is over, doesn't
 read_own : (a : ReadAction) (p : reads.Progress) (owner : Owner) → (is_asking (reads.action_as p.piece a) ≡ false → is_over (reads.action_as p.piece a) ≡ false → is_some (read_as a p owner) ≡ true)
     → is_some (read_as a p owner) ≡ is_job_action (next_in_turn GoesOn (reads.action_as p.piece a))
@@ -130,11 +138,21 @@ write_own (write.Write count) p owner some = write_none (write.Write count) owne
 write_own write.Flush p owner some = write_none write.Flush owner.session p owner (λ s. refl)
 write_own write.Done p owner some = write_none write.Done owner.session p owner (λ s. refl)
 
--- so it is of a job of either kind
+stream_own : (a : ItemAction) (p : streams.Progress) (owner : Owner) → (is_asking (streams.action_as p.item a) ≡ false → is_over (streams.action_as p.item a) ≡ false → is_some (stream_as a p owner) ≡ true)
+    → is_some (stream_as a p owner) ≡ is_job_action (next_in_turn GoesOn (streams.action_as p.item a))
+stream_own item.Send p owner some = some refl refl
+stream_own item.Close p owner some = some refl refl
+stream_own item.Finish p owner some = some refl refl
+stream_own item.Deliver p owner some = some refl refl
+stream_own item.Next p owner some = stream_none item.Next owner.session p owner (λ s. refl)
+stream_own item.Done p owner some = stream_none item.Done owner.session p owner (λ s. refl)
+
+-- so it is of a job of any kind
 worked_own : (job : SessionJob) (owner : Owner) → (is_asking (jobs.action_of job) ≡ false → is_over (jobs.action_of job) ≡ false → is_some (worked job owner) ≡ true)
     → is_some (worked job owner) ≡ is_job_action (next_in_turn GoesOn (jobs.action_of job))
 worked_own (job_of.Read p) owner some = read_own (read_next p.core) p owner some
 worked_own (job_of.Write p) owner some = write_own (write_next p.core) p owner some
+worked_own (job_of.Items p) owner some = stream_own (item_next p.core) p owner some
 
 -- and so by where the job is in its turn
 session_some : (at : Stage) (h : ℕ) (p : SessionJob) (all : List Task) (row : List Owner) (owner : Owner) → (at ≡ stage.Runs → is_some (worked p owner) ≡ is_job_action (next_in_turn GoesOn (jobs.action_of p)))

@@ -25,7 +25,7 @@ use Rattle.blocking_pool.specs.declared.pool.answer.Refusal.{Refusal}
 use Rattle.blocking_parts.specs.Ties.{IsMet, is_number, seated_in}
 use Rattle.blocking_lanes.proofs.owners.Goods.{through_some}
 use Rattle.blocking_parts.proofs.moves.Fills.{by_fill}
-use Rattle.blocking_parts.proofs.moves.SessionActs.{SessionAct, FindsRoom, Puts, Peeks, TakesOut, Closes, Finishes, ActsAt, DoesSo, Fits, after, moved, seen, worked_so}
+use Rattle.blocking_parts.proofs.moves.SessionActs.{SessionAct, FindsRoom, Puts, Sends, Peeks, TakesOut, Closes, Finishes, ActsAt, DoesSo, Fits, after, moved, seen, worked_so}
 
 -- the note that a poll took is the one that it has to deliver
 noted_on : (poll : OwnerMachine ℕ) (note : Option JobNumber) → note_at (goes_on poll note) ≡ note
@@ -156,6 +156,9 @@ seats_after job session (FindsRoom Closed) fits = inl (λ parks. cc, refl)
 seats_after job session (Puts piece (Served seat)) fits = inl (λ parks. cc, refl)
 seats_after job session (Puts piece Waiting) fits = absurd (fits refl)
 seats_after job session (Puts piece Closed) fits = inl (λ parks. cc, refl)
+seats_after job session (Sends x (Served seat)) fits = inl (λ parks. cc, refl)
+seats_after job session (Sends x Waiting) fits = inr refl
+seats_after job session (Sends x Closed) fits = inl (λ parks. cc, refl)
 seats_after job session (Peeks (Served piece)) fits = inl (λ parks. cc, refl)
 seats_after job session (Peeks Waiting) fits = inr refl
 seats_after job session (Peeks Closed) fits = inl (λ parks. cc, refl)

@@ -8,22 +8,26 @@ use Rattle.blocking_core.specs.Places.{Met, Served, Waiting, Closed, hand_in, pe
 use Rattle.blocking_core.specs.Reading.{read_next}
 use Rattle.blocking_core.specs.Writing.{write_next}
 use Rattle.blocking_core.specs.declared.io.Fault.{Fault}
+use Rattle.blocking_core.specs.Items.{item_next}
+use Rattle.blocking_core.specs.declared.job.item.ItemAction.{ItemAction}
+use Rattle.blocking_core.specs.declared.job.item.ItemAction.TheVariants as item
 use Rattle.blocking_core.specs.declared.job.read.ReadAction.{ReadAction}
 use Rattle.blocking_core.specs.declared.job.read.ReadAction.TheVariants as read
 use Rattle.blocking_core.specs.declared.job.write.WriteAction.{WriteAction}
 use Rattle.blocking_core.specs.declared.job.write.WriteAction.TheVariants as write
 use Rattle.blocking_crew.specs.Crews.{may_act}
 use Rattle.blocking_crew.specs.declared.hand.Stage.TheVariants as stage
-use Rattle.blocking_lanes.specs.Owners.{Owner, Worked, number_of, read_as, read_in, worked, worked_by, write_as, write_in}
-use Rattle.blocking_lanes.specs.Passages.{Goods, OfBytes, through}
+use Rattle.blocking_lanes.specs.Owners.{Owner, Worked, number_of, read_as, read_in, stream_as, stream_in, worked, worked_by, write_as, write_in}
+use Rattle.blocking_lanes.specs.Passages.{Goods, OfBytes, OfItems, through}
 use Rattle.blocking_lanes.specs.Reads as reads
 use Rattle.blocking_lanes.specs.SessionJobs.{action_of, kind_of}
-use Rattle.blocking_lanes.specs.Sessions.{Session, Work, closing_wakes, finish_wakes, fits_in, found_piece, found_put, found_room, front, holds, session_after_consume, session_after_finish, session_after_job_close, session_after_peek, session_after_put, session_after_room, work_at_put, work_by, work_of_consume, writer_works}
+use Rattle.blocking_lanes.specs.Sessions.{Session, Work, closing_wakes, finish_wakes, fits_in, found_piece, found_put, found_room, found_send, front, holds, session_after_consume, session_after_finish, session_after_job_close, session_after_peek, session_after_put, session_after_room, session_after_send, streamer_works, work_at_put, work_by, work_of_consume, writer_works}
+use Rattle.blocking_lanes.specs.Streams as streams
 use Rattle.blocking_lanes.specs.Writes as writes
 use Rattle.blocking_lanes.specs.declared.job.SessionJob.{SessionJob}
 use Rattle.blocking_lanes.specs.declared.job.SessionJob.TheVariants as job_of
 use Rattle.blocking_lanes.proofs.owners.Goods.{through_some}
-use Rattle.blocking_laws.specs.JobTable.{Reading, Writing, FindRoom, Peek}
+use Rattle.blocking_laws.specs.JobTable.{Reading, Writing, Streaming, FindRoom, SendItem, Peek}
 use Rattle.blocking_laws.specs.Places.{seen_peek, seen_put, seen_room}
 use Rattle.blocking_laws.specs.Seats.{waker_in}
 use Rattle.blocking_laws.specs.Seen.{is_nothing, is_of_pool}
@@ -38,6 +42,7 @@ use Rattle.blocking_parts.specs.Rows.{is_first}
 pub data SessionAct : Type 0 where
   FindsRoom : Met ℕ → SessionAct
   Puts : List ℕ → Met (Option (Unit {0})) → SessionAct
+  Sends : ℕ → Met (Option (Unit {0})) → SessionAct
   Peeks : Met (List ℕ) → SessionAct
   TakesOut : ℕ → HolderWaker → SessionAct
   Closes : HolderWaker → SessionAct
@@ -47,6 +52,7 @@ pub data SessionAct : Type 0 where
 abbrev pub seen : SessionAct → Act
 seen (FindsRoom met) = seen_room met
 seen (Puts piece met) = seen_put (length piece) met
+seen (Sends x met) = seen_put 1 met
 seen (Peeks met) = seen_peek met
 seen (TakesOut n waker) = Taken n waker
 seen (Closes waker) = JobClosed waker
@@ -56,15 +62,17 @@ seen (Finishes why waker) = Finished waker
 abbrev pub after : SessionAct → Session → Session
 after (FindsRoom met) s = session_after_room met s
 after (Puts piece met) s = session_after_put piece met s
+after (Sends x met) s = session_after_send x met s
 after (Peeks met) s = session_after_peek met s
 after (TakesOut n waker) s = session_after_consume n s
 after (Closes waker) s = session_after_job_close s
 after (Finishes why waker) s = session_after_finish why s
 
--- when a job does so: it looks for room, or at the front, where that is next; and what it puts fits, so that it needn't wait
+-- when a job does so: it looks for room, or at the front, or sends an item, where that is next; and what it puts fits, so that it needn't wait
 abbrev pub Fits : SessionAct → SessionJob → Session → Type 0
 Fits (FindsRoom met) job s = action_of job ≡ FindRoom
 Fits (Puts piece met) job s = met ≡ Waiting → ⊥
+Fits (Sends x met) job s = action_of job ≡ SendItem x
 Fits (Peeks met) job s = (action_of job ≡ Peek) × (found_piece s ≡ met)
 Fits _ job s = Unit {0}
 
@@ -180,9 +188,38 @@ write_does a p owner done is does = by a is does
     by write.Finish is does = there write.Finish is owner.session refl does
     by write.Done is does = there write.Done is owner.session refl does
 
+-- the acts of a job that runs an iterator
+stream_at : (a : ItemAction) (p : streams.Progress) (owner : Owner) (done : Worked) → item_next p.core ≡ a → (s : Session) → owner.session ≡ Some s → worked_by job_of.Items (streamer_works a p s) owner ≡ Some done
+    → ActsAt (job_of.Items p) owner done
+stream_at item.Send p owner done is s here does =
+    moved (ActsAt (job_of.Items p) owner) _ done does (record { session = s; here = here; act = Sends p.item (found_send s); fits = ap (streams.action_as p.item) is; act_is = refl; owner_is = refl })
+stream_at item.Close p owner done is s here does =
+    moved (ActsAt (job_of.Items p) owner) _ done does (record { session = s; here = here; act = Closes (waker_in (closing_wakes s)); fits = tt; act_is = refl; owner_is = refl })
+stream_at item.Finish p owner done is s here does =
+    moved (ActsAt (job_of.Items p) owner) _ done does (record { session = s; here = here; act = Finishes None (waker_in (finish_wakes None s)); fits = tt; act_is = refl; owner_is = refl })
+stream_at item.Next p owner done is s here does = absurd cc
+stream_at item.Deliver p owner done is s here does = absurd cc
+stream_at item.Done p owner done is s here does = absurd cc
+
+stream_does : (a : ItemAction) (p : streams.Progress) (owner : Owner) (done : Worked) → item_next p.core ≡ a → stream_as a p owner ≡ Some done → DoesSo (job_of.Items p) owner done
+stream_does a p owner done is does = by a is does
+  where
+    there : (a : ItemAction) → item_next p.core ≡ a → (last : Option Session) → owner.session ≡ last → stream_in a last p owner ≡ Some done → DoesSo (job_of.Items p) owner done
+    there a is None here does = absurd cc
+    there a is (Some s) here does = inr (stream_at a p owner done is s here (works_anyhow streams.Progress job_of.Items OfItems s.goods (streamer_works a p s) owner done does))
+
+    by : (a : ItemAction) → item_next p.core ≡ a → stream_as a p owner ≡ Some done → DoesSo (job_of.Items p) owner done
+    by item.Deliver is does = inl (moved (λ (d : Worked). (d.act ≡ HolderWoken) × (d.owner ≡ owner)) _ done does (refl, refl))
+    by item.Next is does = there item.Next is owner.session refl does
+    by item.Send is does = there item.Send is owner.session refl does
+    by item.Close is does = there item.Close is owner.session refl does
+    by item.Finish is does = there item.Finish is owner.session refl does
+    by item.Done is does = there item.Done is owner.session refl does
+
 pub worked_so : (job : SessionJob) (owner : Owner) (done : Worked) → worked job owner ≡ Some done → DoesSo job owner done
 worked_so (job_of.Read p) owner done does = read_does (read_next p.core) p owner done refl does
 worked_so (job_of.Write p) owner done does = write_does (write_next p.core) p owner done refl does
+worked_so (job_of.Items p) owner done does = stream_does (item_next p.core) p owner done refl does
 
 -- ---- what each act is
 
@@ -192,6 +229,7 @@ parks_first job s (FindsRoom met) fits parks = ap is_first fits
 parks_first job s (Puts piece Waiting) fits parks = absurd (fits refl)
 parks_first job s (Puts piece (Served seat)) fits parks = absurd cc
 parks_first job s (Puts piece Closed) fits parks = absurd cc
+parks_first job s (Sends x met) fits parks = ap is_first fits
 parks_first job s (Peeks met) fits parks = ap is_first fits.0
 parks_first job s (TakesOut n waker) fits parks = absurd cc
 parks_first job s (Closes waker) fits parks = absurd cc
@@ -212,6 +250,9 @@ same_number (FindsRoom Closed) s = refl
 same_number (Puts piece (Served seat)) s = refl
 same_number (Puts piece Waiting) s = refl
 same_number (Puts piece Closed) s = refl
+same_number (Sends x (Served seat)) s = refl
+same_number (Sends x Waiting) s = refl
+same_number (Sends x Closed) s = refl
 same_number (Peeks (Served piece)) s = refl
 same_number (Peeks Waiting) s = refl
 same_number (Peeks Closed) s = refl
@@ -265,6 +306,23 @@ same_kind (job_of.Write p) owner done does = by (write_next p.core) does
     by write.Close does = there write.Close owner.session does
     by write.Finish does = there write.Finish owner.session does
     by write.Done does = there write.Done owner.session does
+same_kind (job_of.Items p) owner done does = by (item_next p.core) does
+  where
+    works : (o : Option (Work streams.Progress)) → worked_by job_of.Items o owner ≡ Some done → kind_of done.job ≡ Streaming
+    works None does = absurd cc
+    works (Some work) does = moved (λ (d : Worked). kind_of d.job ≡ Streaming) _ done does refl
+
+    there : (a : ItemAction) (last : Option Session) → stream_in a last p owner ≡ Some done → kind_of done.job ≡ Streaming
+    there a None does = absurd cc
+    there a (Some s) does = works (through OfItems s.goods (streamer_works a p s)) does
+
+    by : (a : ItemAction) → stream_as a p owner ≡ Some done → kind_of done.job ≡ Streaming
+    by item.Deliver does = moved (λ (d : Worked). kind_of d.job ≡ Streaming) _ done does refl
+    by item.Next does = there item.Next owner.session does
+    by item.Send does = there item.Send owner.session does
+    by item.Close does = there item.Close owner.session does
+    by item.Finish does = there item.Finish owner.session does
+    by item.Done does = there item.Done owner.session does
 
 -- it is done while the job's turn goes on
 pub fits_turn : (act : SessionAct) → may_act stage.Runs (seen act) ≡ true
@@ -274,6 +332,9 @@ fits_turn (FindsRoom Closed) = refl
 fits_turn (Puts piece (Served seat)) = refl
 fits_turn (Puts piece Waiting) = refl
 fits_turn (Puts piece Closed) = refl
+fits_turn (Sends x (Served seat)) = refl
+fits_turn (Sends x Waiting) = refl
+fits_turn (Sends x Closed) = refl
 fits_turn (Peeks (Served piece)) = refl
 fits_turn (Peeks Waiting) = refl
 fits_turn (Peeks Closed) = refl
@@ -292,6 +353,9 @@ own_at (FindsRoom Closed) = refl
 own_at (Puts piece (Served seat)) = refl
 own_at (Puts piece Waiting) = refl
 own_at (Puts piece Closed) = refl
+own_at (Sends x (Served seat)) = refl
+own_at (Sends x Waiting) = refl
+own_at (Sends x Closed) = refl
 own_at (Peeks (Served piece)) = refl
 own_at (Peeks Waiting) = refl
 own_at (Peeks Closed) = refl
@@ -315,6 +379,9 @@ carried_at job s (FindsRoom Closed) fits = omega arith
 carried_at job s (Puts piece (Served seat)) fits = omega arith
 carried_at job s (Puts piece Waiting) fits = omega arith
 carried_at job s (Puts piece Closed) fits = omega arith
+carried_at job s (Sends x (Served seat)) fits = omega arith
+carried_at job s (Sends x Waiting) fits = omega arith
+carried_at job s (Sends x Closed) fits = omega arith
 carried_at job s (Peeks (Served piece)) fits = front_found s.pipe.items s.pipe.is_owner_open piece fits.1
 carried_at job s (Peeks Waiting) fits = omega arith
 carried_at job s (Peeks Closed) fits = omega arith

@@ -19,7 +19,7 @@ use Rattle.blocking_lanes.specs.SessionJobs.{JobAs, new_job}
 use Rattle.blocking_lanes.specs.Sessions.{Session}
 use Rattle.blocking_lanes.proofs.owners.OwnerActs.{owner_by_parts, fits_at}
 use Rattle.blocking_lanes.proofs.owners.Steps.{begins_at}
-use Rattle.blocking_laws.specs.JobTable.{Kind, Reading, Writing}
+use Rattle.blocking_laws.specs.JobTable.{Kind, Reading, Writing, Streaming}
 use Rattle.blocking_laws.specs.Sessions as sessions
 use Rattle.blocking_laws.specs.Sessions.{kind_of_job}
 use Rattle.blocking_laws.specs.Steps.{kind_by}
@@ -158,11 +158,13 @@ module _ (setting : ℕ) (plan : List Bool) (w : Parts) (past : List Moment) (t 
 -- its job has done nothing yet, and is at its first action
 new_so : (kind : Kind) → JobAs (new_job kind) []
 new_so Writing = record { next = refl; offered = tt; waking = refl; fault_is = refl }
+new_so Streaming = record { next = refl; waking = refl; fault_is = refl }
 new_so Reading = record { next = refl; waking = refl; fault_is = refl }
 new_so _ = record { next = refl; waking = refl; fault_is = refl }
 
 new_first : (kind : Kind) → is_first (jobs.action_of (new_job kind)) ≡ true
 new_first Writing = refl
+new_first Streaming = refl
 new_first Reading = refl
 new_first _ = refl
 

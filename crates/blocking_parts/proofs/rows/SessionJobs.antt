@@ -5,6 +5,7 @@ use Rattle.blocking_lanes.specs.SessionJobs.{JobAs, action_of, job_after_answer,
 use Rattle.blocking_lanes.specs.declared.job.SessionJob.{SessionJob}
 use Rattle.blocking_lanes.specs.declared.job.SessionJob.TheVariants as job_of
 use Rattle.blocking_lanes.proofs.owners.ReadJobs as reads
+use Rattle.blocking_lanes.proofs.owners.StreamJobs as streams
 use Rattle.blocking_lanes.proofs.owners.WriteJobs as writes
 use Rattle.blocking_laws.specs.JobTable.{Kind, JobAction, is_answer, next_but_wake, next_of_job, wake_first}
 use Rattle.blocking_laws.specs.declared.event.Act.{Act}
@@ -16,16 +17,19 @@ use Rattle.blocking_parts.specs.Rows.{is_first}
 pub job_action_is : (job : SessionJob) (acts : List Act) → JobAs job acts → action_of job ≡ next_of_job (kind_of job) acts
 job_action_is (job_of.Read p) acts r = reads.action_is p acts r
 job_action_is (job_of.Write p) acts r = writes.action_is p acts r
+job_action_is (job_of.Items p) acts r = streams.action_is p acts r
 
 -- how far it is once it was answered
 pub job_answers : (job : SessionJob) (acts : List Act) (answer : Answer) → JobAs job acts → is_answer (action_of job) answer ≡ true → JobAs (job_after_answer job answer) (Answered answer ∷ acts)
 job_answers (job_of.Read p) acts answer r is = reads.answers p acts answer r is
 job_answers (job_of.Write p) acts answer r is = writes.answers p acts answer r is
+job_answers (job_of.Items p) acts answer r is = streams.answers p acts answer r is
 
 -- and of what kind it stays
 pub kind_answered : (job : SessionJob) (answer : Answer) → kind_of (job_after_answer job answer) ≡ kind_of job
 kind_answered (job_of.Read p) answer = refl
 kind_answered (job_of.Write p) answer = refl
+kind_answered (job_of.Items p) answer = refl
 
 -- a job is at its first action only where no waker has to be called
 pub first_but_wake : (waking : Bool) (action : JobAction) → is_first (wake_first waking action) ≡ true → is_first action ≡ true
