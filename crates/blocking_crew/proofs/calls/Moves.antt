@@ -28,9 +28,7 @@ idles may_answer call crew hands none same start event = record {
 
 -- a worker that isn't idle neither takes nor waits
 pub no_pass : (hand : Hand) → None ≡ pass_in hand → is_free_hand hand ≡ false
-no_pass Out none = refl
-no_pass (Free pass) none = absurd cc
-no_pass (Holds held) none = refl
+no_pass hand none = grind arith
 
 -- ---- a hand that was let out and filled
 

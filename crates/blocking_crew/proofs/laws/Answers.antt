@@ -53,9 +53,7 @@ took_rightly setting past now false s e = e
 -- ---- the ends of turns
 
 end_is : (at : Stage) (drop woken : Bool) (s : ℕ) → may_end at ≡ true → Ended s (standing_after (outcome_of at)) ≡ end_of (turn_of at) drop woken s
-end_is stage.Runs drop woken s may = refl
-end_is stage.GaveUp drop woken s may = refl
-end_is _ drop woken s may = absurd cc
+end_is at drop woken s may = grind arith
 
 -- ---- waits
 

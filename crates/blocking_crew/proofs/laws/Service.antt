@@ -78,10 +78,7 @@ module _ (setting : ℕ) (plan : List Bool) (crew : Crew) (past : List Moment) (
           ]
 
   empty_by : (a late : Bool) (q : List ℕ) → (a || late && is_empty q) ≡ true → (a ≡ true → ⊥) → q ≡ []
-  empty_by true late q e never = absurd (never refl)
-  empty_by false true [] e never = refl
-  empty_by false true (n ∷ q) e never = absurd cc
-  empty_by false false q e never = absurd cc
+  empty_by a late q e never = grind arith
 
   one_left : (l hired : ℕ) → 0 < l → hired - 1 ≡ 0 → nat_lt l hired ≡ true → ⊥
   one_left l hired positive none e = grind (arith, nat_tests)

@@ -1,5 +1,5 @@
 -- A sweep puts back what was seen to be parked and marked, in the order in which it was accepted.
-use Rattle.std.proofs.Common.{◌≡◌, ℕ, ◌&&◌, cond, Bool, true, false, List, ◌∷◌, refl, ap, ◌∙◌, Option, Some, None}
+use Rattle.std.proofs.Common.{arith, ◌≡◌, ℕ, ◌&&◌, cond, Bool, List, ◌∷◌, ap, ◌∙◌, Option}
 use Rattle.std.proofs.lemmas.List.Elements.{filter_agree}
 use Rattle.std.specs.Prelude.{is_some, filter}
 use Rattle.std.specs.FinMap.{get}
@@ -9,19 +9,14 @@ use Rattle.blocking_laws.specs.Queue.{to_sweep as seen_to_sweep}
 use Rattle.blocking_crew.specs.Crews.{Crew}
 use Rattle.blocking_crew.specs.Tickets.{to_sweep, is_due_to_sweep}
 use Rattle.blocking_crew.specs.Ties.{CrewHolds}
-use Rattle.blocking_crew.proofs.Types.{Standing, Queued, Running, Parked, Moment}
+use Rattle.blocking_crew.proofs.Types.{Standing, Moment}
 use Rattle.blocking_crew.proofs.jobs.Lookups.{in_filter}
 use Rattle.blocking_crew.proofs.ties.Entries.{due_filed}
 use Rattle.blocking_crew.proofs.ties.Standings.{get_zero, accepted_in}
 
 -- what is parked was accepted, so that being swept is being parked and marked
 swept_test : (stand : Option Standing) (mark : Bool) → ((is_parked stand && mark) && is_some stand) ≡ (is_parked stand && mark)
-swept_test None mark = refl
-swept_test (Some Queued) mark = refl
-swept_test (Some Running) mark = refl
-swept_test (Some Parked) true = refl
-swept_test (Some Parked) false = refl
-swept_test _ mark = refl
+swept_test stand mark = grind arith
 
 module _ (setting : ℕ) (plan : List Bool) (crew : Crew) (past : List Moment) (h : CrewHolds setting plan crew past) where
   -- a sweep puts back what was seen to be due
