@@ -2,6 +2,7 @@
 use crate::calls::Calls;
 use crate::ends::Ends;
 use crate::figures::{Figures, Request};
+use crate::lent::Lent;
 use crate::pipe;
 use crate::reads::Reads;
 use crate::writes::Writes;
@@ -16,10 +17,11 @@ pub(crate) enum Bench {
     Ends(Ends),
     Reads(Reads),
     Writes(Writes),
+    Lent(Lent),
 }
 
 impl Bench {
-    pub(crate) const ALL: [Bench; 22] = [
+    pub(crate) const ALL: [Bench; 28] = [
         Bench::Calls(Calls::Roundtrip),
         Bench::Calls(Calls::RoundtripAwait),
         Bench::Calls(Calls::Burst),
@@ -42,6 +44,12 @@ impl Bench {
         Bench::Writes(Writes::LongBy64K),
         Bench::Writes(Writes::LongBy4K),
         Bench::Writes(Writes::Growing),
+        Bench::Lent(Lent::Short),
+        Bench::Lent(Lent::ShortBy100),
+        Bench::Lent(Lent::Long),
+        Bench::Lent(Lent::LongBy100),
+        Bench::Lent(Lent::Seeks),
+        Bench::Lent(Lent::Operations),
     ];
 
     pub(crate) fn name(self) -> &'static str {
@@ -51,6 +59,7 @@ impl Bench {
             Bench::Ends(ends) => ends.name(),
             Bench::Reads(reads) => reads.name(),
             Bench::Writes(writes) => writes.name(),
+            Bench::Lent(lent) => lent.name(),
         }
     }
 
@@ -69,6 +78,7 @@ impl Bench {
             Bench::Pipe => "MB/s",
             Bench::Ends(ends) => ends.unit(),
             Bench::Reads(_) | Bench::Writes(_) => "MB/s",
+            Bench::Lent(lent) => lent.unit(),
         }
     }
 
@@ -79,6 +89,7 @@ impl Bench {
             Bench::Ends(ends) => ends.size(),
             Bench::Reads(reads) => reads.size(),
             Bench::Writes(writes) => writes.size(),
+            Bench::Lent(lent) => lent.size(),
         }
     }
 
@@ -97,6 +108,7 @@ impl Bench {
             Bench::Ends(ends) => ends.run(rt, host, request, figures),
             Bench::Reads(reads) => reads.run(rt, host, request, figures),
             Bench::Writes(writes) => writes.run(rt, host, request, figures),
+            Bench::Lent(lent) => lent.run(rt, host, request, figures),
         }
     }
 }

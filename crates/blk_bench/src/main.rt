@@ -7,6 +7,7 @@ mod bench;
 mod calls;
 mod ends;
 mod figures;
+mod lent;
 mod pipe;
 mod reads;
 mod writes;

@@ -7,6 +7,7 @@ pub use blocking_executor::{
     set_max_blocking_threads, task, unblock,
 };
 pub use blocking_unblock::{
-    AsyncRead, AsyncReadExt, AsyncWrite, AsyncWriteExt, Close, Flush, IoFault, ReadExact, ReadJob,
-    ReadSome, ReadToEnd, Unblock, WriteAll, WriteJob, WriteSome,
+    AsyncRead, AsyncReadExt, AsyncSeek, AsyncSeekExt, AsyncWrite, AsyncWriteExt, Close, Flush,
+    IntoInner, IoFault, ItemJob, OpJob, ReadExact, ReadJob, ReadSome, ReadToEnd, SeekJob, SeekTo,
+    Unblock, WithMut, WriteAll, WriteJob, WriteSome,
 };

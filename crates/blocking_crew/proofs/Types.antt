@@ -11,7 +11,7 @@ pub use Rattle.blocking_pool.specs.declared.pool.standing.Standing.{Standing}
 pub use Rattle.blocking_pool.specs.declared.pool.standing.Standing.TheVariants.{Queued, Running, Parked, Done, Dropped}
 pub use Rattle.blocking_pool.specs.declared.pool.token.WorkerPass.{WorkerPass}
 pub use Rattle.blocking_laws.specs.declared.event.Act.{Act}
-pub use Rattle.blocking_laws.specs.declared.event.Act.TheVariants.{Arrived, Ended, Accepted, NoAction, TookDropped, Refused, LimitSet, Stopped, JobParked, GaveUp, Made, Asked, OwnerClosed, Got, GotItem, GotEnd, Filled, FillShut, Back, Replied, JobWoken, JobCancelled, Swept, Waits, HolderDropped, TaskGot, TaskGotNone, TaskCancelled, TaskDetached, TookNone, Stays, HandedOut, Answered, RoomFree, RoomShut, Put, Lost, Peeked, Drained, JobClosed, Finished, HolderWoken}
+pub use Rattle.blocking_laws.specs.declared.event.Act.TheVariants.{Arrived, Ended, Accepted, NoAction, TookDropped, Refused, LimitSet, Stopped, JobParked, GaveUp, Made, Asked, OwnerClosed, Got, GotItem, GotEnd, Filled, FillShut, Back, Replied, JobWoken, JobCancelled, Swept, Waits, HolderDropped, TaskGot, TaskGotNone, TaskCancelled, TaskDetached, TookNone, Stays, HandedOut, Answered, RoomFree, RoomShut, Put, Lost, Peeked, Drained, JobClosed, Finished, HolderWoken, ResultPut}
 pub use Rattle.blocking_laws.specs.declared.event.Event.{Event}
 pub use Rattle.blocking_laws.specs.declared.event.HolderWaker.{HolderWaker}
 pub use Rattle.blocking_laws.specs.declared.event.HolderWaker.TheVariants.{Absent}

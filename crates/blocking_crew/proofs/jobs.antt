@@ -1,4 +1,4 @@
 pub mod Lookups
 pub mod Marks
-pub mod Kept
-pub mod PassedOver
+pub mod Tickets
+pub mod Changes

@@ -1,4 +1,4 @@
 pub mod Changes
-pub mod Pools
+pub mod Jobs
 pub mod Hands
 pub mod Moves

@@ -1,11 +1,10 @@
 pub mod Lists
 pub mod Acts
-pub mod Lookups
 pub mod Entries
-pub mod Known
+pub mod Standings
 pub mod Sweeps
 pub mod Jobs
-pub mod Entered
+pub mod Flows
 pub mod Queue
 pub mod Counts
 pub mod Hands

@@ -190,17 +190,17 @@ module _ {B : Type 0} (begins : B → State → Type 0) (keeps : B → Kept → 
 
 module _ (E : Type 0) where
   -- how a call is refused fits
-  refusal_fits : (call : PollCall) (why : Refusal) {B : Type 0} (begins : B → State → Type 0) (keeps : B → Kept → Type 0) (armed : Type 0) (brought : B) → Starts call
+  refusal_fits : (call : PollCall) (why : Refusal) {B : Type 0} (begins : B → State → Type 0) (keeps : B → Kept → Type 0) (armed : Type 0) (brought : B) → Starts call → begins brought (begun_by call)
       → FitsAction begins keeps {E = E} armed call Idle (refusal call why) brought
-  refusal_fits (Read most) why begins keeps armed brought starts = refl
-  refusal_fits (Write most) why begins keeps armed brought starts = refl
-  refusal_fits (Seek to) why begins keeps armed brought starts = refl
-  refusal_fits Next why begins keeps armed brought starts = refl
-  refusal_fits (Operate begun) why begins keeps armed brought starts = refl
-  refusal_fits Flush why begins keeps armed brought starts = absurd starts
-  refusal_fits Close why begins keeps armed brought starts = absurd starts
-  refusal_fits GetMut why begins keeps armed brought starts = absurd starts
-  refusal_fits IntoInner why begins keeps armed brought starts = absurd starts
+  refusal_fits (Read most) why begins keeps armed brought starts ready = refl
+  refusal_fits (Write most) why begins keeps armed brought starts ready = refl
+  refusal_fits (Seek to) why begins keeps armed brought starts ready = refl
+  refusal_fits Next why begins keeps armed brought starts ready = refl
+  refusal_fits (Operate begun) why begins keeps armed brought starts ready = (refl, ready)
+  refusal_fits Flush why begins keeps armed brought starts ready = absurd starts
+  refusal_fits Close why begins keeps armed brought starts ready = absurd starts
+  refusal_fits GetMut why begins keeps armed brought starts ready = absurd starts
+  refusal_fits IntoInner why begins keeps armed brought starts ready = absurd starts
 
 module _ {E : Type 0} where
   -- a poll that moved bytes replies their count
@@ -378,17 +378,18 @@ module _ {T I H : Type 0} (E : Type 0) where
   idle_first GetMut place = tt
   idle_first IntoInner place = tt
 
-module _ {B : Type 0} (E : Type 0) (before after first : B) where
+module _ {B : Type 0} (E : Type 0) (keeps : B → Kept → Type 0) (before after first : B) where
   -- what is brought stays as it was
-  same_brought : (call : PollCall) (next : OwnerAction E) → after ≡ first → KeepsBrought call next after first
+  same_brought : (call : PollCall) (next : OwnerAction E) → after ≡ first → KeepsBrought keeps call next after first
   same_brought (Operate begun) act.Begin is = is
   same_brought (Operate begun) act.Close is = is
   same_brought (Operate begun) act.PollSlot is = is
   same_brought (Operate begun) (act.Reply (reply.NotBegun why)) is = is
+  same_brought (Operate begun) act.Pending is = inl is
   same_brought call next is = tt
 
   -- nothing is kept once a session began
-  own_brought : (call : PollCall) → KeepsBrought {E = E} call (in_own call) after first
+  own_brought : (call : PollCall) → KeepsBrought {E = E} keeps call (in_own call) after first
   own_brought (Read most) = tt
   own_brought (Write most) = tt
   own_brought Flush = tt
@@ -400,7 +401,7 @@ module _ {B : Type 0} (E : Type 0) (before after first : B) where
   own_brought IntoInner = tt
 
   -- where the next was to stop or to begin, what was kept is kept
-  on_brought : (call : PollCall) (next : OwnerAction E) → after ≡ before → KeepsBrought {E = E} call act.PollSlot before first → KeepsBrought call next after first
+  on_brought : (call : PollCall) (next : OwnerAction E) → after ≡ before → KeepsBrought {E = E} keeps call act.PollSlot before first → KeepsBrought keeps call next after first
   on_brought (Operate begun) next same kept = same_brought (Operate begun) next (same ∙ kept)
   on_brought (Read most) next same kept = tt
   on_brought (Write most) next same kept = tt
@@ -411,7 +412,7 @@ module _ {B : Type 0} (E : Type 0) (before after first : B) where
   on_brought GetMut next same kept = tt
   on_brought IntoInner next same kept = tt
 
-  begin_brought : (call : PollCall) (next : OwnerAction E) → after ≡ before → KeepsBrought {E = E} call act.Begin before first → KeepsBrought call next after first
+  begin_brought : (call : PollCall) (next : OwnerAction E) → after ≡ before → KeepsBrought {E = E} keeps call act.Begin before first → KeepsBrought keeps call next after first
   begin_brought (Operate begun) next same kept = same_brought (Operate begun) next (same ∙ kept)
   begin_brought (Read most) next same kept = tt
   begin_brought (Write most) next same kept = tt
@@ -422,7 +423,7 @@ module _ {B : Type 0} (E : Type 0) (before after first : B) where
   begin_brought GetMut next same kept = tt
   begin_brought IntoInner next same kept = tt
 
-  close_brought : (call : PollCall) (next : OwnerAction E) → after ≡ before → KeepsBrought {E = E} call act.Close before first → KeepsBrought call next after first
+  close_brought : (call : PollCall) (next : OwnerAction E) → after ≡ before → KeepsBrought {E = E} keeps call act.Close before first → KeepsBrought keeps call next after first
   close_brought (Operate begun) next same kept = same_brought (Operate begun) next (same ∙ kept)
   close_brought (Read most) next same kept = tt
   close_brought (Write most) next same kept = tt
@@ -434,7 +435,7 @@ module _ {B : Type 0} (E : Type 0) (before after first : B) where
   close_brought IntoInner next same kept = tt
 
   -- a call that isn't an operation keeps nothing
-  other_brought : (call : PollCall) (next : OwnerAction E) → (Operates call → ⊥) → KeepsBrought call next after first
+  other_brought : (call : PollCall) (next : OwnerAction E) → (Operates call → ⊥) → KeepsBrought keeps call next after first
   other_brought (Operate begun) next not = absurd (not tt)
   other_brought (Read most) next not = tt
   other_brought (Write most) next not = tt
@@ -445,23 +446,24 @@ module _ {B : Type 0} (E : Type 0) (before after first : B) where
   other_brought GetMut next not = tt
   other_brought IntoInner next not = tt
 
-  pending_brought : (call : PollCall) → KeepsBrought {E = E} call act.Pending after first
-  pending_brought (Operate begun) = tt
-  pending_brought call = tt
+  -- who waits for a result keeps nothing else
+  way_brought : (call : PollCall) → keeps after Way → KeepsBrought {E = E} keeps call act.Pending after first
+  way_brought (Operate begun) way = inr way
+  way_brought call way = tt
 
-  result_brought : (call : PollCall) → KeepsBrought {E = E} call (act.Reply reply.Result) after first
+  result_brought : (call : PollCall) → KeepsBrought {E = E} keeps call (act.Reply reply.Result) after first
   result_brought (Operate begun) = tt
   result_brought call = tt
 
-  done_brought : (call : PollCall) → KeepsBrought {E = E} call (act.Reply reply.Done) after first
+  done_brought : (call : PollCall) → KeepsBrought {E = E} keeps call (act.Reply reply.Done) after first
   done_brought (Operate begun) = tt
   done_brought call = tt
 
-  count_brought : (call : PollCall) (count : ℕ) → KeepsBrought {E = E} call (act.Reply (reply.Count count)) after first
+  count_brought : (call : PollCall) (count : ℕ) → KeepsBrought {E = E} keeps call (act.Reply (reply.Count count)) after first
   count_brought (Operate begun) count = tt
   count_brought call count = tt
 
-  item_brought : (call : PollCall) → KeepsBrought {E = E} call (act.Reply reply.Item) after first
+  item_brought : (call : PollCall) → KeepsBrought {E = E} keeps call (act.Reply reply.Item) after first
   item_brought (Operate begun) = tt
   item_brought call = tt
 
@@ -479,7 +481,7 @@ pub record Turned {T I H E B : Type 0} (begins : B → State → Type 0) (keeps 
   pub call_same : new.call ≡ old.call
   pub kept_open : KeepsOpen old.call old.state new.state
   pub keeps_first : (first : Place T I H) → KeepsFirst old.call old.state old.next old.is_at_end was first → KeepsFirst new.call new.state new.next new.is_at_end place first
-  pub brings : (first : B) → KeepsBrought old.call old.next before first → KeepsBrought new.call new.next after first
+  pub brings : (first : B) → KeepsBrought keeps old.call old.next before first → KeepsBrought keeps new.call new.next after first
 
 module _ {T I H B : Type 0} (E : Type 0) (begins : B → State → Type 0) (keeps : B → Kept → Type 0) (was armed : Type 0) (old new : Place T I H) (before after : B) where
   module _ (call : PollCall) (state : State) (at_end : Bool) where
@@ -510,20 +512,20 @@ module _ {T I H B : Type 0} (E : Type 0) (begins : B → State → Type 0) (keep
       call_same = refl;
       kept_open = opens call state (begun_by call) (λ e. let i : state ≡ Idle = fits.0 in cc) (session_open (begun_by call) (begun_session call fits.1));
       keeps_first = λ first kept. begun_first E call at_end new first fits.1;
-      brings = λ first kept. own_brought E before after first call;
+      brings = λ first kept. own_brought E keeps before after first call;
     }
     begin_goes (by.Refused why) false fits at does brings = record {
       stands = record {
         awake = refl;
         fits = let P : State → Type 0 = λ s. FitsAction begins keeps {E = E} armed call s (refusal call why) after in
-            subst P (sym fits.0) (refusal_fits E call why begins keeps armed after fits.1);
+            subst P (sym fits.0) (refusal_fits E call why begins keeps armed after fits.1 (still brings fits.2));
         at = ap state_of does ∙ at;
       };
       reaches = (by.Refused why ∷ [], (tt, refl));
       call_same = refl;
       kept_open = same_open call state;
       keeps_first = λ first kept. refused_first E call why state at_end new first (does ∙ kept);
-      brings = λ first kept. begin_brought E before after first call (refusal call why) brings kept;
+      brings = λ first kept. begin_brought E keeps before after first call (refusal call why) brings kept;
     }
     begin_goes by.Begun true fits at does brings = absurd does
     begin_goes (by.Refused why) true fits at does brings = absurd does
@@ -548,7 +550,7 @@ module _ {T I H B : Type 0} (E : Type 0) (begins : B → State → Type 0) (keep
       call_same = refl;
       kept_open = stopped_open fits.0;
       keeps_first = λ first kept. absurd kept;
-      brings = λ first kept. close_brought E before after first call act.PollSlot brings kept;
+      brings = λ first kept. close_brought E keeps before after first call act.PollSlot brings kept;
     }
     close_goes (by.Closed false) false fits at does brings = record {
       stands = stopped fits at does.1 brings;
@@ -556,7 +558,7 @@ module _ {T I H B : Type 0} (E : Type 0) (begins : B → State → Type 0) (keep
       call_same = refl;
       kept_open = stopped_open fits.0;
       keeps_first = λ first kept. absurd kept;
-      brings = λ first kept. close_brought E before after first call act.PollSlot brings kept;
+      brings = λ first kept. close_brought E keeps before after first call act.PollSlot brings kept;
     }
     close_goes (by.Closed true) false fits at does brings = let e = does.0 in cc
     close_goes (by.Closed false) true fits at does brings = let e = does.0 in cc
@@ -567,9 +569,9 @@ module _ {T I H B : Type 0} (E : Type 0) (begins : B → State → Type 0) (keep
     replied reply noted = record { call = call; state = state; next = act.Reply reply; is_waking = noted; is_at_end = at_end }
 
     reply_turn : (next : OwnerAction E) (reply : Reply E) (end : OwnerMachine E) → end ≡ replied reply false → Reaches (between next) end
-        → FitsReply call state reply (keeps after) → IsAt state new
+        → FitsReply call state reply (begins after (begun_by call)) (keeps after) → IsAt state new
         → ((first : Place T I H) → KeepsFirst {E = E} call state (act.Reply reply) at_end new first)
-        → ((first : B) → KeepsBrought {E = E} call (act.Reply reply) after first)
+        → ((first : B) → KeepsBrought {E = E} keeps call (act.Reply reply) after first)
         → Turned begins keeps (between next) end old new before after armed
     reply_turn next reply end is reaches fits at first brought =
         let Q : OwnerMachine E → Type 0 = λ m. Reaches (between next) m → Turned begins keeps (between next) m old new before after armed in
@@ -585,9 +587,9 @@ module _ {T I H B : Type 0} (E : Type 0) (begins : B → State → Type 0) (keep
         reaches
 
     reply_goes : (next : OwnerAction E) (answer : OwnerAnswer E) (reply : Reply E) (noted : Bool) → owner_after (between next) answer ≡ replied reply noted
-        → AnswersTo state (owner_next (between next)) answer → FitsReply call state reply (keeps after) → IsAt state new
+        → AnswersTo state (owner_next (between next)) answer → FitsReply call state reply (begins after (begun_by call)) (keeps after) → IsAt state new
         → ((first : Place T I H) → KeepsFirst {E = E} call state (act.Reply reply) at_end new first)
-        → ((first : B) → KeepsBrought {E = E} call (act.Reply reply) after first)
+        → ((first : B) → KeepsBrought {E = E} keeps call (act.Reply reply) after first)
         → Turned begins keeps (between next) (told noted (between next) answer) old new before after armed
     reply_goes next answer reply true is answers fits at first brought =
         let after : OwnerMachine E = told true (between next) answer in
@@ -599,17 +601,18 @@ module _ {T I H B : Type 0} (E : Type 0) (begins : B → State → Type 0) (keep
         reply_turn next reply (owner_after (between next) answer) is (answer ∷ [], (answers, refl)) fits at first brought
 
     -- a count of no more than was asked for or offered fits
-    read_fits : (asked : PollCall) (most count : ℕ) → asked ≡ Read most → count ≤ most → FitsReply {E = E} asked state (reply.Count count) (keeps after)
-    read_fits asked most count is le = let P : PollCall → Type 0 = λ c. FitsReply {E = E} c state (reply.Count count) (keeps after) in subst P (sym is) le
+    read_fits : (asked : PollCall) (most count : ℕ) → asked ≡ Read most → count ≤ most → FitsReply {E = E} asked state (reply.Count count) (begins after (begun_by call)) (keeps after)
+    read_fits asked most count is le = let P : PollCall → Type 0 = λ c. FitsReply {E = E} c state (reply.Count count) (begins after (begun_by call)) (keeps after) in subst P (sym is) le
 
-    write_fits : (asked : PollCall) (most count : ℕ) → asked ≡ Write most → count ≤ most → FitsReply {E = E} asked state (reply.Count count) (keeps after)
-    write_fits asked most count is le = let P : PollCall → Type 0 = λ c. FitsReply {E = E} c state (reply.Count count) (keeps after) in subst P (sym is) le
+    write_fits : (asked : PollCall) (most count : ℕ) → asked ≡ Write most → count ≤ most → FitsReply {E = E} asked state (reply.Count count) (begins after (begun_by call)) (keeps after)
+    write_fits asked most count is le = let P : PollCall → Type 0 = λ c. FitsReply {E = E} c state (reply.Count count) (begins after (begun_by call)) (keeps after) in subst P (sym is) le
 
     -- a machine whose owner waits at a pipe or in a slot
     waits_turn : (next : OwnerAction E) (answer : OwnerAnswer E) → owner_after (between next) answer ≡ between act.Pending
         → AnswersTo state (owner_next (between next)) answer → armed → Resumes call state (begins after (begun_by call)) (keeps after Way) → IsAt state new
+        → ((first : B) → KeepsBrought {E = E} keeps call next before first → KeepsBrought {E = E} keeps call act.Pending after first)
         → Turned begins keeps (between next) (owner_after (between next) answer) old new before after armed
-    waits_turn next answer is answers waits goes at =
+    waits_turn next answer is answers waits goes at brought =
         let end : OwnerMachine E = owner_after (between next) answer in
         let Q : OwnerMachine E → Type 0 = λ m. Reaches (between next) m → Turned begins keeps (between next) m old new before after armed in
         subst Q (sym is)
@@ -619,7 +622,7 @@ module _ {T I H B : Type 0} (E : Type 0) (begins : B → State → Type 0) (keep
           call_same = refl;
           kept_open = same_open call state;
           keeps_first = λ place kept. tt;
-          brings = λ place kept. pending_brought E before after place call;
+          brings = brought;
         })
         (answer ∷ [], (answers, refl))
 
@@ -630,7 +633,7 @@ module _ {T I H B : Type 0} (E : Type 0) (begins : B → State → Type 0) (keep
         Turned begins keeps (between (act.Drain most)) (told noted (between (act.Drain most)) (by.Got (suc count) b)) old new before after armed in
         subst Q (sym does.0.0)
         (reply_goes (act.Drain most) (by.Got (suc count) noted) (reply.Count (suc count)) noted (got_is most count noted (between (act.Drain most)) does.0.2)
-        (does.0.1, does.0.2) (read_fits call most (suc count) fits.1 does.0.2) (stays at does.1) (λ first. tt) (λ first. count_brought E before after first call (suc count)))
+        (does.0.1, does.0.2) (read_fits call most (suc count) fits.1 does.0.2) (stays at does.1) (λ first. tt) (λ first. count_brought E keeps before after first call (suc count)))
     drain_goes most by.Ended false fits at does brings = record {
       stands = record {
         awake = refl;
@@ -641,11 +644,12 @@ module _ {T I H B : Type 0} (E : Type 0) (begins : B → State → Type 0) (keep
       call_same = refl;
       kept_open = same_open call state;
       keeps_first = λ first kept. let P : PollCall → Type 0 = λ c. AtOwnEnd c state true in subst P (sym fits.1) fits.0;
-      brings = λ first kept. let P : PollCall → Type 0 = λ c. KeepsBrought {E = E} c act.PollSlot after first in subst P (sym fits.1) tt;
+      brings = λ first kept. let P : PollCall → Type 0 = λ c. KeepsBrought {E = E} keeps c act.PollSlot after first in subst P (sym fits.1) tt;
     }
     drain_goes most (by.Waits seat) false fits at does brings =
         waits_turn (act.Drain most) (by.Waits seat) refl tt does.0
         (let P : PollCall → Type 0 = λ c. Resumes c state (begins after (begun_by call)) (keeps after Way) in subst P (sym fits.1) tt) (stays at does.1)
+        (λ first kept. let P : PollCall → Type 0 = λ c. KeepsBrought {E = E} keeps c act.Pending after first in subst P (sym fits.1) tt)
     drain_goes most answer noted fits at does brings = absurd does.0
 
     fill_goes : (most : ℕ) (answer : OwnerAnswer E) (noted : Bool) → Goes (act.Fill most) answer noted
@@ -655,17 +659,18 @@ module _ {T I H B : Type 0} (E : Type 0) (begins : B → State → Type 0) (keep
         Turned begins keeps (between (act.Fill most)) (told noted (between (act.Fill most)) (by.Took (suc count) b)) old new before after armed in
         subst Q (sym does.0.0)
         (reply_goes (act.Fill most) (by.Took (suc count) noted) (reply.Count (suc count)) noted (got_is most count noted (between (act.Fill most)) does.0.2)
-        (does.0.1, does.0.2) (write_fits call most (suc count) fits.1 does.0.2) (stays at does.1) (λ first. tt) (λ first. count_brought E before after first call (suc count)))
+        (does.0.1, does.0.2) (write_fits call most (suc count) fits.1 does.0.2) (stays at does.1) (λ first. tt) (λ first. count_brought E keeps before after first call (suc count)))
     fill_goes most by.Shut false fits at does brings =
         reply_goes (act.Fill most) by.Shut (reply.Count 0) false refl tt (write_fits call most 0 fits.1 (omega arith)) (stays at does.1)
-        (λ first. tt) (λ first. count_brought E before after first call 0)
+        (λ first. tt) (λ first. count_brought E keeps before after first call 0)
     fill_goes most (by.Waits seat) false fits at does brings =
         waits_turn (act.Fill most) (by.Waits seat) refl tt does.0
         (let P : PollCall → Type 0 = λ c. Resumes c state (begins after (begun_by call)) (keeps after Way) in subst P (sym fits.1) tt) (stays at does.1)
+        (λ first kept. let P : PollCall → Type 0 = λ c. KeepsBrought {E = E} keeps c act.Pending after first in subst P (sym fits.1) tt)
     fill_goes most answer noted fits at does brings = absurd does.0
 
-    item_fits : (asked : PollCall) → asked ≡ Next → keeps after Item → FitsReply {E = E} asked state reply.Item (keeps after)
-    item_fits asked is kept = let P : PollCall → Type 0 = λ c. FitsReply {E = E} c state reply.Item (keeps after) in subst P (sym is) kept
+    item_fits : (asked : PollCall) → asked ≡ Next → keeps after Item → FitsReply {E = E} asked state reply.Item (begins after (begun_by call)) (keeps after)
+    item_fits asked is kept = let P : PollCall → Type 0 = λ c. FitsReply {E = E} c state reply.Item (begins after (begun_by call)) (keeps after) in subst P (sym is) kept
 
     receive_goes : (answer : OwnerAnswer E) (noted : Bool) → Goes act.Receive answer noted
     receive_goes (by.Received n) noted fits at does brings =
@@ -673,7 +678,7 @@ module _ {T I H B : Type 0} (E : Type 0) (begins : B → State → Type 0) (keep
         Turned begins keeps (between act.Receive) (told noted (between act.Receive) (by.Received b)) old new before after armed in
         subst Q (sym does.0)
         (reply_goes act.Receive (by.Received noted) reply.Item noted refl tt (item_fits call fits.1 brings) (stays at does.1)
-        (λ first. tt) (λ first. item_brought E before after first call))
+        (λ first. tt) (λ first. item_brought E keeps before after first call))
     receive_goes by.Ended false fits at does brings = record {
       stands = record {
         awake = refl;
@@ -684,11 +689,12 @@ module _ {T I H B : Type 0} (E : Type 0) (begins : B → State → Type 0) (keep
       call_same = refl;
       kept_open = same_open call state;
       keeps_first = λ first kept. let P : PollCall → Type 0 = λ c. AtOwnEnd c state true in subst P (sym fits.1) fits.0;
-      brings = λ first kept. let P : PollCall → Type 0 = λ c. KeepsBrought {E = E} c act.PollSlot after first in subst P (sym fits.1) tt;
+      brings = λ first kept. let P : PollCall → Type 0 = λ c. KeepsBrought {E = E} keeps c act.PollSlot after first in subst P (sym fits.1) tt;
     }
     receive_goes (by.Waits seat) false fits at does brings =
         waits_turn act.Receive (by.Waits seat) refl tt does.0
         (let P : PollCall → Type 0 = λ c. Resumes c state (begins after (begun_by call)) (keeps after Way) in subst P (sym fits.1) tt) (stays at does.1)
+        (λ first kept. let P : PollCall → Type 0 = λ c. KeepsBrought {E = E} keeps c act.Pending after first in subst P (sym fits.1) tt)
     receive_goes answer noted fits at does brings = absurd does.0
 
     -- how the handle came back, by the state
@@ -703,7 +709,7 @@ module _ {T I H B : Type 0} (E : Type 0) (begins : B → State → Type 0) (keep
       call_same = refl;
       kept_open = opens call state Idle (session_open state fits.0) (λ e. cc);
       keeps_first = λ first kept. back_first E call state at_end why new first kept from;
-      brings = λ first kept. on_brought E before after first call (after_back call at_end why) same kept;
+      brings = λ first kept. on_brought E keeps before after first call (after_back call at_end why) same kept;
     }
 
     sought_on : (at : State) (came : ℕ) → BackAt {E = E} at (by.Sought came) → begins after (begun_by call)
@@ -720,7 +726,7 @@ module _ {T I H B : Type 0} (E : Type 0) (begins : B → State → Type 0) (keep
       call_same = refl;
       kept_open = opens call state Idle (session_open state fits.0) (λ e. cc);
       keeps_first = λ first kept. seek_first E call state at_end came new first kept from;
-      brings = λ first kept. on_brought E before after first call (after_seek state call came) same kept;
+      brings = λ first kept. on_brought E keeps before after first call (after_seek state call came) same kept;
     }
 
     -- no other answer comes
@@ -736,6 +742,7 @@ module _ {T I H B : Type 0} (E : Type 0) (begins : B → State → Type 0) (keep
     slot_goes : (answer : OwnerAnswer E) (noted : Bool) → Goes act.PollSlot answer noted
     slot_goes (by.Waits seat) false fits at does brings =
         waits_turn act.PollSlot (by.Waits seat) refl tt does.1 (resumes begins keeps E armed call state after (still brings fits.1)) (ap state_of does.0 ∙ at)
+        (λ first kept. on_brought E keeps before after first call act.Pending brings kept)
     slot_goes (by.Back why) false fits at does brings = slot_back why fits does.0 (back_at (by.Back why) at does.1) brings
     slot_goes (by.Sought came) false fits at does brings = slot_sought came fits does.0 (back_at (by.Sought came) at does.1) brings
     slot_goes (by.Waits seat) true fits at does brings = absurd does
@@ -743,7 +750,7 @@ module _ {T I H B : Type 0} (E : Type 0) (begins : B → State → Type 0) (keep
     slot_goes (by.Sought came) true fits at does brings = absurd does
     slot_goes answer noted fits at does brings = absurd (no_other answer noted tt does)
 
-    result_fits : (asked : PollCall) → Operates asked → keeps after Gave → FitsReply {E = E} asked state reply.Result (keeps after)
+    result_fits : (asked : PollCall) → Operates asked → keeps after Gave → FitsReply {E = E} asked state reply.Result (begins after (begun_by call)) (keeps after)
     result_fits (Operate begun) is kept = kept
     result_fits asked is kept = absurd is
 
@@ -751,23 +758,27 @@ module _ {T I H B : Type 0} (E : Type 0) (begins : B → State → Type 0) (keep
     result_resumes (Operate begun) ready way is here = inr (is, here)
     result_resumes asked ready way is here = tt
 
+    way_on : after ≡ before → keeps before Way → keeps after Way
+    way_on same way = let P : B → Type 0 = λ b. keeps b Way in subst P (sym same) way
+
     result_goes : (answer : OwnerAnswer E) (noted : Bool) → Goes act.PollResult answer noted
     result_goes by.Resulted false fits at does brings =
         reply_goes act.PollResult by.Resulted reply.Result false refl tt (result_fits call fits.1 brings) (ap state_of does ∙ at)
-        (λ first. tt) (λ first. result_brought E before after first call)
+        (λ first. tt) (λ first. result_brought E keeps before after first call)
     result_goes (by.Waits seat) false fits at does brings =
         waits_turn act.PollResult (by.Waits seat) refl tt does.1
-        (result_resumes call (begins after (begun_by call)) (keeps after Way) fits.0 (let P : B → Type 0 = λ b. keeps b Way in subst P (sym brings) fits.2)) (ap state_of does.0 ∙ at)
+        (result_resumes call (begins after (begun_by call)) (keeps after Way) fits.0 (way_on brings fits.2)) (ap state_of does.0 ∙ at)
+        (λ first kept. way_brought E keeps before after first call (way_on brings fits.2))
     result_goes answer noted fits at does brings = absurd does
 
     drop_goes : (answer : OwnerAnswer E) (noted : Bool) → Goes act.DropHandle answer noted
     drop_goes by.Dropped false fits at does brings = record {
-      stands = record { awake = refl; fits = let P : PollCall → Type 0 = λ c. FitsReply {E = E} c Closed reply.Done (keeps after) in subst P (sym fits.1) refl; at = does };
+      stands = record { awake = refl; fits = let P : PollCall → Type 0 = λ c. FitsReply {E = E} c Closed reply.Done (begins after (begun_by call)) (keeps after) in subst P (sym fits.1) refl; at = does };
       reaches = (by.Dropped ∷ [], (tt, refl));
       call_same = refl;
       kept_open = record { stays = λ e. refl; closes = λ e. inr fits.1 };
       keeps_first = λ first kept. tt;
-      brings = λ first kept. done_brought E before after first call;
+      brings = λ first kept. done_brought E keeps before after first call;
     }
     drop_goes answer noted fits at does brings = absurd does
 
@@ -863,30 +874,30 @@ module _ {T I H E : Type 0} where
       subst P (sym is) (subst Q (sym (at ∙ idle)) (idle_first E call place))
 
 module _ {E : Type 0} where
-  pub first_brought : {B : Type 0} (call : PollCall) (next : OwnerAction E) (brought : B) → KeepsBrought call next brought brought
-  first_brought call next brought = same_brought E brought brought brought call next refl
+  pub first_brought : {B : Type 0} (keeps : B → Kept → Type 0) (call : PollCall) (next : OwnerAction E) (brought : B) → KeepsBrought keeps call next brought brought
+  first_brought keeps call next brought = same_brought E keeps brought brought brought call next refl
 
   -- a poll that is refused leaves the handle with its owner
-  refused_idle : (call : PollCall) (state : State) (reply : Reply E) (kept : Kept → Type 0) → FitsReply call state reply kept → IfRefused (Ready reply) (state ≡ Idle)
-  refused_idle (Read most) state (reply.Failed (fault.Refused why)) kept fits = fits
-  refused_idle (Write most) state (reply.Failed (fault.Refused why)) kept fits = fits
-  refused_idle (Seek to) state (reply.Failed (fault.Refused why)) kept fits = fits
-  refused_idle Flush state (reply.Failed (fault.Refused why)) kept fits = fits
-  refused_idle Close state (reply.Failed (fault.Refused why)) kept fits = fits
-  refused_idle Next state (reply.Failed (fault.Refused why)) kept fits = absurd fits
-  refused_idle (Operate begun) state (reply.Failed (fault.Refused why)) kept fits = absurd fits
-  refused_idle GetMut state (reply.Failed (fault.Refused why)) kept fits = absurd fits
-  refused_idle IntoInner state (reply.Failed (fault.Refused why)) kept fits = absurd fits
-  refused_idle Next state (reply.NotBegun why) kept fits = fits
-  refused_idle (Operate begun) state (reply.NotBegun why) kept fits = fits
-  refused_idle (Read most) state (reply.NotBegun why) kept fits = absurd fits
-  refused_idle (Write most) state (reply.NotBegun why) kept fits = absurd fits
-  refused_idle (Seek to) state (reply.NotBegun why) kept fits = absurd fits
-  refused_idle Flush state (reply.NotBegun why) kept fits = absurd fits
-  refused_idle Close state (reply.NotBegun why) kept fits = absurd fits
-  refused_idle GetMut state (reply.NotBegun why) kept fits = absurd fits
-  refused_idle IntoInner state (reply.NotBegun why) kept fits = absurd fits
-  refused_idle call state reply kept fits = tt
+  refused_idle : (call : PollCall) (state : State) (reply : Reply E) (ready : Type 0) (kept : Kept → Type 0) → FitsReply call state reply ready kept → IfRefused (Ready reply) (state ≡ Idle)
+  refused_idle (Read most) state (reply.Failed (fault.Refused why)) ready kept fits = fits
+  refused_idle (Write most) state (reply.Failed (fault.Refused why)) ready kept fits = fits
+  refused_idle (Seek to) state (reply.Failed (fault.Refused why)) ready kept fits = fits
+  refused_idle Flush state (reply.Failed (fault.Refused why)) ready kept fits = fits
+  refused_idle Close state (reply.Failed (fault.Refused why)) ready kept fits = fits
+  refused_idle Next state (reply.Failed (fault.Refused why)) ready kept fits = absurd fits
+  refused_idle (Operate begun) state (reply.Failed (fault.Refused why)) ready kept fits = absurd fits
+  refused_idle GetMut state (reply.Failed (fault.Refused why)) ready kept fits = absurd fits
+  refused_idle IntoInner state (reply.Failed (fault.Refused why)) ready kept fits = absurd fits
+  refused_idle Next state (reply.NotBegun why) ready kept fits = fits
+  refused_idle (Operate begun) state (reply.NotBegun why) ready kept fits = fits.0
+  refused_idle (Read most) state (reply.NotBegun why) ready kept fits = absurd fits
+  refused_idle (Write most) state (reply.NotBegun why) ready kept fits = absurd fits
+  refused_idle (Seek to) state (reply.NotBegun why) ready kept fits = absurd fits
+  refused_idle Flush state (reply.NotBegun why) ready kept fits = absurd fits
+  refused_idle Close state (reply.NotBegun why) ready kept fits = absurd fits
+  refused_idle GetMut state (reply.NotBegun why) ready kept fits = absurd fits
+  refused_idle IntoInner state (reply.NotBegun why) ready kept fits = absurd fits
+  refused_idle call state reply ready kept fits = tt
 
   -- and as it was, where it was there before
   refused_first_place : {T I H : Type 0} (call : PollCall) (state : State) (reply : Reply E) (at_end : Bool) (place first : Place T I H)
@@ -913,7 +924,7 @@ module _ {T I H E : Type 0} where
       let next : poll.next ≡ act.Reply reply = sym (is ∙ (rw stands.awake refl)) in
       let P : OwnerAction E → Type 0 = λ a. KeepsFirst poll.call poll.state a poll.is_at_end place first in
       let F : OwnerAction E → Type 0 = λ a. FitsAction begins keeps armed poll.call poll.state a brought in
-      let idle : IfRefused (Ready reply) (poll.state ≡ Idle) = refused_idle poll.call poll.state reply (keeps brought) (subst F next stands.fits) in
+      let idle : IfRefused (Ready reply) (poll.state ≡ Idle) = refused_idle poll.call poll.state reply (begins brought (begun_by poll.call)) (keeps brought) (subst F next stands.fits) in
       refused_both reply (IsAt Idle place) (place ≡ first) (IsAt Idle first)
       (refused_moved reply (poll.state ≡ Idle) (IsAt Idle place) (λ e. stands.at ∙ e) idle)
       (λ was. refused_first_place poll.call poll.state reply poll.is_at_end place first (subst P next (kept was)))

@@ -14,6 +14,7 @@ use Rattle.blocking_pool.specs.declared.pool.answer.Refused.{Refused}
 use Rattle.blocking_pool.specs.declared.pool.token.WakeNote.{WakeNote}
 use Rattle.blocking_core.specs.declared.unblock.PollCall.{PollCall}
 use Rattle.blocking_core.specs.declared.unblock.PollCall.TheVariants.{Read, Write}
+use Rattle.blocking_core.specs.declared.unblock.OwnerEnd.TheVariants.{Open}
 use Rattle.blocking_core.specs.declared.unblock.SessionKind.{SessionKind}
 use Rattle.blocking_core.specs.declared.unblock.SessionKind.TheVariants as kind
 use Rattle.blocking_core.specs.declared.unblock.State.{State}
@@ -59,6 +60,11 @@ abbrev pub offered : PollCall → ℕ
 offered (Write most) = most
 offered call = 0
 
+-- whether the session of an operation is under way
+abbrev pub operates : State → Bool
+operates (state.Lent kind.Operating Open) = true
+operates now = false
+
 module _ {T I H : Type 0} where
   -- the kind of a session
   abbrev pub kind_of : Side T I H → SessionKind
@@ -77,6 +83,16 @@ module _ {T I H : Type 0} where
   -- the handle is where the state says
   abbrev pub IsAt : State → Place T I H → Type 0
   IsAt state place = state_of place ≡ state
+
+  -- the handle, where it is with its owner
+  abbrev pub handle_in : Place T I H → Option T
+  handle_in (place.Idle handle) = Some handle
+  handle_in (place.Lent session) = None
+  handle_in place.Closed = None
+
+  -- whether the handle is with the job of an operation
+  abbrev pub is_operating : Place T I H → Bool
+  is_operating place = operates (state_of place)
 
   -- the handle was dropped
   abbrev pub IsClosed : Place T I H → Type 0

@@ -64,28 +64,28 @@ Onward state again way = again
 module _ {E : Type 0} where
   -- A reply fits its call: a read and a write count no more than they wanted or offered, an item and a result have come, a fault is told
   -- with the handle back, who wants the handle gets it, and a flush and a close are done once no session is left.
-  abbrev pub FitsReply : PollCall → State → Reply E → (Kept → Type 0) → Type 0
-  FitsReply (call.Read most) state (reply.Count count) kept = count ≤ most
-  FitsReply (call.Write most) state (reply.Count count) kept = count ≤ most
-  FitsReply (call.Seek to) state (reply.Position place) kept = state ≡ Idle
-  FitsReply call.Next state reply.Item kept = kept Item
-  FitsReply call.Next state reply.End kept = state ≡ Idle
-  FitsReply (call.Operate begun) state reply.Result kept = kept Gave
-  FitsReply call.Next state (reply.NotBegun why) kept = state ≡ Idle
-  FitsReply (call.Operate begun) state (reply.NotBegun why) kept = state ≡ Idle
-  FitsReply call.GetMut state reply.Handle kept = state ≡ Idle
-  FitsReply call.IntoInner state reply.Handle kept = state ≡ Idle
-  FitsReply call.Flush state reply.Done kept = (state ≡ Idle) ⊎ (state ≡ Closed)
-  FitsReply call.Close state reply.Done kept = state ≡ Closed
-  FitsReply (call.Read most) state (reply.Failed why) kept = state ≡ Idle
-  FitsReply (call.Write most) state (reply.Failed why) kept = state ≡ Idle
-  FitsReply (call.Seek to) state (reply.Failed why) kept = state ≡ Idle
-  FitsReply call.Flush state (reply.Failed why) kept = state ≡ Idle
-  FitsReply call.Close state (reply.Failed why) kept = state ≡ Idle
-  FitsReply call.Flush state reply.Closed kept = ⊥
-  FitsReply call.Close state reply.Closed kept = ⊥
-  FitsReply asked state reply.Closed kept = state ≡ Closed
-  FitsReply _ _ _ _ = ⊥
+  abbrev pub FitsReply : PollCall → State → Reply E → Type 0 → (Kept → Type 0) → Type 0
+  FitsReply (call.Read most) state (reply.Count count) ready kept = count ≤ most
+  FitsReply (call.Write most) state (reply.Count count) ready kept = count ≤ most
+  FitsReply (call.Seek to) state (reply.Position place) ready kept = state ≡ Idle
+  FitsReply call.Next state reply.Item ready kept = kept Item
+  FitsReply call.Next state reply.End ready kept = state ≡ Idle
+  FitsReply (call.Operate begun) state reply.Result ready kept = kept Gave
+  FitsReply call.Next state (reply.NotBegun why) ready kept = state ≡ Idle
+  FitsReply (call.Operate begun) state (reply.NotBegun why) ready kept = (state ≡ Idle) × ready
+  FitsReply call.GetMut state reply.Handle ready kept = state ≡ Idle
+  FitsReply call.IntoInner state reply.Handle ready kept = state ≡ Idle
+  FitsReply call.Flush state reply.Done ready kept = (state ≡ Idle) ⊎ (state ≡ Closed)
+  FitsReply call.Close state reply.Done ready kept = state ≡ Closed
+  FitsReply (call.Read most) state (reply.Failed why) ready kept = state ≡ Idle
+  FitsReply (call.Write most) state (reply.Failed why) ready kept = state ≡ Idle
+  FitsReply (call.Seek to) state (reply.Failed why) ready kept = state ≡ Idle
+  FitsReply call.Flush state (reply.Failed why) ready kept = state ≡ Idle
+  FitsReply call.Close state (reply.Failed why) ready kept = state ≡ Idle
+  FitsReply call.Flush state reply.Closed ready kept = ⊥
+  FitsReply call.Close state reply.Closed ready kept = ⊥
+  FitsReply asked state reply.Closed ready kept = state ≡ Closed
+  FitsReply _ _ _ _ _ = ⊥
 
   -- there is something to do yet
   abbrev pub IsGoing : OwnerAction E → Type 0
@@ -121,7 +121,7 @@ module _ {B : Type 0} (begins : B → State → Type 0) (keeps : B → Kept → 
     FitsAction armed asked state act.PollResult brought = (state ≡ Lent Operating Open) × Operates asked × keeps brought Way
     FitsAction armed asked state act.DropHandle brought = (state ≡ Idle) × (asked ≡ call.Close)
     FitsAction armed asked state act.Deliver brought = ⊥
-    FitsAction armed asked state (act.Reply reply) brought = FitsReply asked state reply (keeps brought)
+    FitsAction armed asked state (act.Reply reply) brought = FitsReply asked state reply (begins brought (begun_by asked)) (keeps brought)
     FitsAction armed asked state act.Pending brought = armed × Resumes asked state (begins brought (begun_by asked)) (keeps brought Way)
 
     -- Between two actions: no note is to be spent, what is next fits, and the handle is where the machine says.
@@ -208,10 +208,12 @@ abbrev pub last_action : {E : Type 0} → Poll (Reply E) → OwnerAction E
 last_action (Ready reply) = act.Reply reply
 last_action Pending = act.Pending
 
--- what an operation's poll keeps until a session began, or where none could: what it brought, as it was
-abbrev pub KeepsBrought : {E B : Type 0} → PollCall → OwnerAction E → B → B → Type 0
-KeepsBrought (call.Operate begun) act.Begin brought first = brought ≡ first
-KeepsBrought (call.Operate begun) act.Close brought first = brought ≡ first
-KeepsBrought (call.Operate begun) act.PollSlot brought first = brought ≡ first
-KeepsBrought (call.Operate begun) (act.Reply (reply.NotBegun why)) brought first = brought ≡ first
-KeepsBrought asked next brought first = Unit {0}
+-- what an operation's poll keeps until a session began, or where none could: what it brought, as it was; one that waits has that still or
+-- waits for its result
+abbrev pub KeepsBrought : {E B : Type 0} → (B → Kept → Type 0) → PollCall → OwnerAction E → B → B → Type 0
+KeepsBrought keeps (call.Operate begun) act.Begin brought first = brought ≡ first
+KeepsBrought keeps (call.Operate begun) act.Close brought first = brought ≡ first
+KeepsBrought keeps (call.Operate begun) act.PollSlot brought first = brought ≡ first
+KeepsBrought keeps (call.Operate begun) (act.Reply (reply.NotBegun why)) brought first = brought ≡ first
+KeepsBrought keeps (call.Operate begun) act.Pending brought first = (brought ≡ first) ⊎ keeps brought Way
+KeepsBrought keeps asked next brought first = Unit {0}

@@ -6,6 +6,7 @@ ghost use Rattle.futures.specs.Task.{IsArmed, Keeps};
 use blocking_core::io::Fault;
 use futures::task::{Context, Poll};
 use std::io;
+use std::io::SeekFrom;
 
 /// Why a call on a lent handle of the system failed.
 pub type IoFault = Fault<io::Error>;
@@ -56,6 +57,22 @@ pub trait AsyncWrite {
     /// A poll that waits has registered, and is polled again.
     fn poll_close(&mut self, cx: &mut Context<'_>) -> Poll<Result<(), IoFault>>
         ensures closed { IfReady result (λ r. IfOk r (λ _. closed self.new)) }
+        ensures armed { OnPending result (IsArmed cx.new) }
+        ensures kept { Keeps cx.old cx.new };
+}
+
+/// What is moved to a position by polls.
+pub trait AsyncSeek {
+    /// Whether it was closed. What is closed isn't moved.
+    ghost closed: { Self → Type 0 };
+
+    /// Moves to a position, and answers where that is, counted in bytes from the start. A poll that asks for the position of a seek under
+    /// way takes that one's answer; one that asks for another begins anew.
+    ///
+    /// A poll that waits has registered, and is polled again.
+    fn poll_seek(&mut self, cx: &mut Context<'_>, to: SeekFrom) -> Poll<Result<u64, IoFault>>
+        requires { closed self.old → ⊥ }
+        ensures open { closed self.new → ⊥ }
         ensures armed { OnPending result (IsArmed cx.new) }
         ensures kept { Keeps cx.old cx.new };
 }

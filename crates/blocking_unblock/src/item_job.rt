@@ -112,8 +112,8 @@ impl<T: Iterator<Item = I> + Drop, I: Drop, H: Wait + Copy> ItemJob<T, I, H> {
                 self.core.answer(ItemAnswer::Sent { woke });
                 JobStep::Again
             }
-            Sending::Parked(item) => {
-                self.hand = Some(item);
+            Sending::Parked(back) => {
+                self.hand = Some(back);
                 self.core.answer(ItemAnswer::Parked);
                 JobStep::Waiting
             }

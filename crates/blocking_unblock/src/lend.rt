@@ -294,6 +294,24 @@ pub(crate) struct ToOperate<F: CallOn<T, Out: Drop> + Drop, T: Drop, H: Wait + C
     pub stage: Stage<F, ResultSeat<F, T, H>, F::Out>,
 }
 
+impl<F: CallOn<T, Out: Drop> + Drop, T: Drop, H: Wait + Copy> ToOperate<F, T, H> {
+    ghost use Rattle.blocking_unblock.specs.Lenders.{has_begun, is_over};
+
+    /// Whether nothing is waited for any more.
+    pub(crate) fn is_over(&self) -> bool
+        ensures { result ≡ is_over self.now.stage }
+    {
+        matches!(self.stage, Stage::Gave(_) | Stage::Taken)
+    }
+
+    /// Whether its session began, and its result is waited for.
+    pub(crate) fn has_begun(&self) -> bool
+        ensures { result ≡ has_begun self.now.stage }
+    {
+        matches!(self.stage, Stage::Begun(_))
+    }
+}
+
 impl<
     F: CallOn<T, Out: Drop> + Drop,
     T: Drop,

@@ -2,19 +2,28 @@
 ghost use Rattle.std.specs.Prelude.{◌≡◌, ◌⊎◌, ◌<◌, ◌≤◌, ◌↔◌, true, false, length, None, Some, IfOk, IfErr, IfSome};
 ghost use Rattle.futures.specs.Poll.{IfReady, OnPending};
 ghost use Rattle.futures.specs.Task.{IsArmed, Keeps};
+ghost use Rattle.blocking_unblock.specs.Seekers.{position_of};
 
-use crate::io::{AsyncRead, AsyncWrite, IoFault};
-use crate::lend::{Capacity, Lends, ToNobody, ToRead, ToWrite};
+use crate::io::{AsyncRead, AsyncSeek, AsyncWrite, IoFault};
+use crate::item_job::ItemJob;
+use crate::lend::{Capacity, Lends, ToNobody, ToOperate, ToRead, ToSeek, ToStream, ToWrite};
+use crate::op_job::OpJob;
 use crate::place::Place;
 use crate::read_job::ReadJob;
+use crate::seek_job::SeekJob;
+use crate::take_back::IntoInner;
+use crate::with_mut::WithMut;
 use crate::write_job::WriteJob;
+use blocking_core::io::Position;
 use blocking_core::pipe::{DEFAULT_BYTES, DEFAULT_ITEMS, Received};
-use blocking_core::pool::{Carries, Job, Refused, WakeNote};
+use blocking_core::pool::{Carries, Job, Refusal, Refused, WakeNote};
+use blocking_core::task::CallOn;
 use blocking_core::unblock::{OwnerAction, OwnerAnswer, OwnerCall, PollCall, Reply};
 use blocking_executor::{Executor, Runtime};
+use futures::Stream;
 use futures::task::{Context, Poll};
 use std::fmt::{Debug, Formatter};
-use std::io::{Read, Write};
+use std::io::{Read, Seek, SeekFrom, Write};
 use std::marker::PhantomData;
 use std::sync::Wait;
 use std::{fmt, io, mem};
@@ -69,6 +78,52 @@ impl<T: Drop, I: Drop, J: Job, H: Runtime> Unblock<T, I, J, H> {
         ensures { (result ≡ true) ↔ IsClosed self.now.place }
     {
         matches!(self.place, Place::Closed)
+    }
+}
+
+// What comes of a handle where nobody waits for it.
+impl<T: Drop, I: Drop, J: Job, H: Runtime> Unblock<T, I, J, H> {
+    ghost use Rattle.blocking_unblock.specs.Owners.{handle_in, IsClosed};
+    ghost use Rattle.blocking_unblock.specs.Lenders.{is_over, given_in};
+
+    /// The handle, where it is with its owner.
+    pub(crate) fn into_handle(self) -> Option<T>
+        ensures { result ≡ handle_in self.place }
+    {
+        let Unblock {
+            place,
+            capacity: _,
+            executor: _,
+            items: _,
+        } = self;
+        place.into_handle()
+    }
+
+    /// A future of the handle, for good. A session that is under way is stopped first: what was read ahead is lost, what is to be written
+    /// is written and flushed, and its fault isn't told. Until the handle was taken it may be polled.
+    pub fn into_inner(self) -> IntoInner<T, I, J, H>
+        requires { IsClosed self.place → ⊥ }
+        ensures { result.owner ≡ Some self }
+    {
+        IntoInner::new(self)
+    }
+
+    /// A future of what an operation on the handle gives, which a job makes. A session that is under way is stopped first, as for the handle
+    /// itself. Where no session can begin the future answers why, with the operation. Until it was ready it may be polled.
+    ///
+    /// One that is dropped gives the result up: the operation is made all the same, once its session began.
+    pub fn with_mut<'a, F: CallOn<T, Out: Drop> + Drop>(
+        &'a mut self,
+        operation: F,
+    ) -> WithMut<'a, F, T, I, J, H>
+    where
+        J: Carries<OpJob<F, T, H>>,
+        requires { IsClosed self.old.place → ⊥ }
+        ensures owner { result.owner.ghost_name ≡ self.entry.ghost_name }
+        ensures fresh { is_over result.operation.stage ≡ false }
+        ensures given { given_in result.operation.stage ≡ Some operation }
+    {
+        WithMut::new(self, operation)
     }
 }
 
@@ -272,8 +327,8 @@ impl<T: Drop, I: Drop, J: Job, H: Runtime> Unblock<T, I, J, H> {
             → KeepsFirst poll.old.call poll.old.state poll.old.next poll.old.is_at_end self.old.place first
             → KeepsFirst poll.new.call poll.new.state poll.new.next poll.new.is_at_end self.new.place first }
         ensures brings { (first : _)
-            → KeepsBrought poll.old.call poll.old.next brought.old first
-            → KeepsBrought poll.new.call poll.new.next brought.new first }
+            → KeepsBrought B.keeps poll.old.call poll.old.next brought.old first
+            → KeepsBrought B.keeps poll.new.call poll.new.next brought.new first }
         ensures kept { Keeps cx.old cx.new }
         ensures same_length { length out.new ≡ length out.old }
     {
@@ -286,7 +341,7 @@ impl<T: Drop, I: Drop, J: Job, H: Runtime> Unblock<T, I, J, H> {
     }
 
     // Polls: the machine of this call is asked what is next until it has a reply or waits.
-    fn poll<B: Lends<T, I, J, H>>(
+    pub(crate) fn poll<B: Lends<T, I, J, H>>(
         &mut self,
         call: PollCall,
         cx: &mut Context<'_>,
@@ -299,10 +354,10 @@ impl<T: Drop, I: Drop, J: Job, H: Runtime> Unblock<T, I, J, H> {
         requires offers { offered call ≡ length bytes.now }
         ensures follows { Follows call self.old.place result self.new.place }
         ensures refused { KeepsRefused self.old.place result self.new.place }
-        ensures fits { IfReady result (λ reply. FitsReply call (state_of self.new.place) reply (B.keeps brought.new)) }
+        ensures fits { IfReady result (λ reply. FitsReply call (state_of self.new.place) reply (B.begins brought.new (begun_by call)) (B.keeps brought.new)) }
         ensures resumes { OnPending result
             (Resumes call (state_of self.new.place) (B.begins brought.new (begun_by call)) (B.keeps brought.new Kept.Way)) }
-        ensures back { KeepsBrought call (last_action result) brought.new brought.old }
+        ensures back { KeepsBrought B.keeps call (last_action result) brought.new brought.old }
         ensures closed { IsClosed self.old.place → IsClosed self.new.place }
         ensures closes { IsClosed self.new.place → IsClosed self.old.place ⊎ (call ≡ CloseCall) }
         ensures armed { OnPending result (IsArmed cx.new) }
@@ -426,6 +481,81 @@ impl<T: Write + Drop, I: Drop, J: Job + Carries<WriteJob<T, H>>, H: Runtime> Asy
             Poll::Pending => Poll::Pending,
             Poll::Ready(Reply::Done) => Poll::Ready(Ok(())),
             Poll::Ready(Reply::Failed(fault)) => Poll::Ready(Err(fault)),
+            Poll::Ready(_) => unreachable!(),
+        }
+    }
+}
+
+impl<T: Iterator<Item = I> + Drop, I: Drop, J: Job + Carries<ItemJob<T, I, H>>, H: Runtime> Stream
+    for Unblock<T, I, J, H> {
+    ghost use Rattle.std.specs.Prelude.{OnSome};
+    ghost use Rattle.blocking_core.specs.declared.unblock.PollCall.TheVariants.{Next as NextCall};
+    ghost use Rattle.blocking_unblock.specs.Owners.{IsClosed, Follows, KeepsRefused, reply_of_next};
+    ghost use Rattle.futures.specs.Task.{Covers};
+
+    type Item = Result<I, Refusal>;
+
+    // (nothing is promised of an iterator after its end, so it is one that may always be asked)
+    ghost can_poll = { λ owner. (IsClosed owner.place → ⊥) × ((at : T) → T.can_next at) };
+
+    /// The next item, or None at the end of the iterator, which a further poll asks again. Where no session can begin the answer says why.
+    ///
+    /// A poll that waits has registered, and is polled again.
+    fn poll_next(&mut self, cx: &mut Context<'_>) -> Poll<Option<Result<I, Refusal>>>
+        requires open { IsClosed self.old.place → ⊥ }
+        requires asked { (at : T) → T.can_next at }
+        ensures refused { KeepsRefused self.old.place (reply_of_next result) self.new.place }
+        ensures follows { Follows NextCall self.old.place (reply_of_next result) self.new.place }
+        ensures open { IsClosed self.new.place → ⊥ }
+        ensures armed { OnPending result (IsArmed cx.new) }
+        ensures kept { Keeps cx.old cx.new }
+    {
+        let mut brought = ToStream { item: None };
+        match self.poll(PollCall::Next, cx, &mut brought, &mut [], &[]) {
+            Poll::Pending => Poll::Pending,
+            Poll::Ready(Reply::Item) => match brought.item {
+                Some(item) => Poll::Ready(Some(Ok(item))),
+                None => unreachable!(),
+            },
+            Poll::Ready(Reply::End) => Poll::Ready(None),
+            Poll::Ready(Reply::NotBegun(why)) => Poll::Ready(Some(Err(why))),
+            Poll::Ready(_) => unreachable!(),
+        }
+    }
+}
+
+// The position that a seek of the system names.
+fn position_of(from: SeekFrom) -> Position
+    ensures { result ≡ position_of from }
+{
+    match from {
+        SeekFrom::Start(place) => Position::Start(place),
+        SeekFrom::Current(offset) => Position::Current(offset),
+        SeekFrom::End(offset) => Position::End(offset),
+    }
+}
+
+impl<T: Seek + Drop, I: Drop, J: Job + Carries<SeekJob<T, H>>, H: Runtime> AsyncSeek
+    for Unblock<T, I, J, H> {
+    ghost use Rattle.blocking_core.specs.declared.unblock.PollCall.TheVariants.{Seek as SeekCall};
+    ghost use Rattle.blocking_unblock.specs.Owners.{IsClosed, Follows, KeepsRefused, reply_of_seek};
+    ghost use Rattle.blocking_unblock.specs.Seekers.{position_of};
+
+    ghost closed = { λ owner. IsClosed owner.place };
+
+    fn poll_seek(&mut self, cx: &mut Context<'_>, to: SeekFrom) -> Poll<Result<u64, IoFault>>
+        requires { IsClosed self.old.place → ⊥ }
+        ensures refused { KeepsRefused self.old.place (reply_of_seek result) self.new.place }
+        ensures follows { Follows (SeekCall (position_of to)) self.old.place (reply_of_seek result) self.new.place }
+        ensures open { IsClosed self.new.place → ⊥ }
+        ensures armed { OnPending result (IsArmed cx.new) }
+        ensures kept { Keeps cx.old cx.new }
+    {
+        let to = position_of(to);
+        match self.poll(PollCall::Seek(to), cx, &mut ToSeek { to }, &mut [], &[]) {
+            Poll::Pending => Poll::Pending,
+            Poll::Ready(Reply::Position(place)) => Poll::Ready(Ok(place)),
+            Poll::Ready(Reply::Failed(why)) => Poll::Ready(Err(why)),
             Poll::Ready(_) => unreachable!(),
         }
     }

@@ -1,15 +1,23 @@
-//! The tests of `Unblock`: readers and writers that are lent to a pool, on real threads. There is nothing here but tests, since a crate that has
+//! The tests of `Unblock`: handles that are lent to a pool, on real threads. There is nothing here but tests, since a crate that has
 //! tests is proved a second time with them.
 #![tactic(auto)]
 
+#[cfg(test)]
+mod back;
 #[cfg(test)]
 mod both;
 #[cfg(test)]
 mod cut;
 #[cfg(test)]
+mod items;
+#[cfg(test)]
+mod kinds;
+#[cfg(test)]
 mod many_writes;
 #[cfg(test)]
 mod memory;
+#[cfg(test)]
+mod places;
 #[cfg(test)]
 mod reader;
 #[cfg(test)]

@@ -10,6 +10,6 @@ mod world;
 
 pub use blocking_laws::bytes::Bytes;
 pub use blocking_laws::{
-    Act, Answer, Event, HandleCall, HolderWaker, Moment, Party, Reply, Step, TaskCall, WaitEnd,
+    Act, Answer, Event, HandleCall, HolderWaker, Moment, Party, Reply, Step, TaskCall, WaitEnd, cut,
 };
 pub use world::{World, run};

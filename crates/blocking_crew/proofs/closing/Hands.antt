@@ -1,14 +1,15 @@
 -- What is known of the hands while a world ends is kept, as first every turn ends and then the workers are let go.
-use Rattle.std.proofs.Common.{◌≡◌, ◌≢◌, ℕ, ◌+◌, ◌-◌, ◌<◌, ◌≤◌, List, [], ◌∷◌, ◌++◌, length, slice_get, slice_set, Some, ap, sym, ◌∙◌, subst, refl, inl, inr, arith, true}
-use Rattle.std.proofs.lemmas.Bool.{cases_eq, eq-eqb}
-use Rattle.std.proofs.lemmas.Option.{slice_get_within}
+use Rattle.std.proofs.Common.{◌≡◌, ℕ, ◌+◌, ◌-◌, ◌≤◌, List, [], ◌∷◌, ◌++◌, length, slice_get, slice_set, Some, ap, ◌∙◌, subst, refl, arith, true}
+use Rattle.std.specs.List.{AllWithin}
+use Rattle.std.proofs.lemmas.Bool.{eq-eqb}
+use Rattle.std.proofs.lemmas.Option.{slice_get_within, get_or_from_slice_get}
 use Rattle.blocking_pool.specs.Pools.{without_job}
 use Rattle.blocking_crew.specs.Closing.{RunsIn, EndsTurn, AreIdle}
 use Rattle.blocking_crew.specs.Crews.{IsReady, one_if_free, free_hands}
 use Rattle.blocking_crew.specs.Tickets.{JobPool, AreValued}
 use Rattle.blocking_crew.proofs.Types.{Hand, Out, Free, Holds, Held}
 use Rattle.blocking_crew.proofs.hands.Rows.{sum_pushed, hand_from_place}
-use Rattle.blocking_pool.proofs.Places.{got_same, got_other, got_pushed, got_before, set_same}
+use Rattle.blocking_pool.proofs.Places.{got_pushed, got_before, set_same}
 use Rattle.blocking_crew.proofs.ready.Hands.{over_ready}
 
 -- ---- one turn
@@ -19,24 +20,15 @@ runs_at pool row n Out ready found = tt
 runs_at pool row n (Free pass) ready found = tt
 runs_at pool row n (Holds held) ready found = ready.runs (n + 1) held (hand_from_place row n (Holds held) found)
 
--- a hand after its turn has ended holds no job
-no_job_after : (hand after : Hand) (pool new : JobPool) (held : Held) → EndsTurn hand pool after new → after ≡ Holds held → ⊥
-no_job_after Out after pool new held ends is = (let out = ends.0 in cc)
-no_job_after (Free pass) after pool new held ends is = (let free = ends.0 in cc)
-no_job_after (Holds one) after pool new held ends is = (let free = ends.1 in cc)
+-- a hand that holds no job
+abbrev pub HoldsNone : Hand → Type 0
+HoldsNone hand = (held : Held) → hand ≡ Holds held → ⊥
 
--- a job in another place than the one that has changed was there before
-held_before : (row : List Hand) (place n : ℕ) (after : Hand) (held : Held) → place < length row → ((one : Held) → after ≡ Holds one → ⊥)
-    → slice_get (slice_set row place after) n ≡ Some (Holds held) → (n ≢ place) × (slice_get row n ≡ Some (Holds held))
-held_before row place n after held within jobless found =
-    elim (cases_eq n place) [
-      | inl same ↦
-          (let here : slice_get (slice_set row place after) place ≡ Some (Holds held) = subst (λ (m : ℕ). slice_get (slice_set row place after) m ≡ Some (Holds held)) same found in
-          let there = got_same row place after within in
-          let is : after ≡ Holds held = cc in
-          absurd (jobless held is))
-      | inr differs ↦ (differs, sym (got_other row place n after (λ same. differs (sym same))) ∙ found)
-    ]
+-- a hand after its turn has ended
+pub ended_holds_none : (hand after : Hand) (pool new : JobPool) → EndsTurn hand pool after new → HoldsNone after
+ended_holds_none Out after pool new ends held is = (let out = ends.0 in cc)
+ended_holds_none (Free pass) after pool new ends held is = (let free = ends.0 in cc)
+ended_holds_none (Holds one) after pool new ends held is = (let free = ends.1 in cc)
 
 -- a crew is ready after the turn of one hand has ended, where it had one
 pub still_ready : (pool new : JobPool) (row : List Hand) (place : ℕ) (hand after : Hand) → IsReady (record { pool = pool; hands = row }) → slice_get row place ≡ Some hand → EndsTurn hand pool after new
@@ -49,26 +41,12 @@ still_ready pool new row place (Holds held) after ready found ends =
     (subst (λ n. IsReady (record { pool = without_job pool held.turn.serial; hands = slice_set row n (Free ends.0) })) here
     (over_ready (record { pool = pool; hands = row }) (place + 1) held ends.0 ready (hand_from_place row place (Holds held) found)))
 
--- no hand before this place holds a job
-abbrev pub Jobless : List Hand → ℕ → Type 0
-Jobless row place = (n : ℕ) (held : Held) → n < place → slice_get row n ≢ Some (Holds held)
-
--- nor does the one at it, after its turn has ended
-pub jobless_next : (pool new : JobPool) (row : List Hand) (place : ℕ) (hand after : Hand) → Jobless row place → slice_get row place ≡ Some hand → EndsTurn hand pool after new
-    → Jobless (slice_set row place after) (place + 1)
-jobless_next pool new row place hand after jobless found ends n held early now =
-    let was =
-    held_before row place n after held (slice_get_within row place hand found) (λ one is. no_job_after hand after pool new one ends is) now in
-    let differs = was.0 in
-    let less : n < place = omega (arith, early, differs) in
-    jobless n held less was.1
-
 -- after all turns no hand holds a job
-pub all_idle : (pool : JobPool) (row : List Hand) → IsReady (record { pool = pool; hands = row }) → Jobless row (length row) → AreIdle pool row
+pub all_idle : (pool : JobPool) (row : List Hand) → IsReady (record { pool = pool; hands = row }) → AllWithin HoldsNone row 0 (length row) → AreIdle pool row
 all_idle pool row ready jobless = record {
   valued = ready.valued;
   idle = ready.idle;
-  jobless = λ n held found. jobless n held (slice_get_within row n (Holds held) found) found;
+  jobless = λ n held found. jobless n (Holds held) (omega arith) (slice_get_within row n (Holds held) found) held (get_or_from_slice_get row n (Holds held) (Holds held) found);
 }
 
 -- ---- one pass

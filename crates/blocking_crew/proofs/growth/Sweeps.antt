@@ -13,19 +13,14 @@ use Rattle.blocking_pool.specs.Sweeps.{AreAsked, swept, serials_below}
 use Rattle.blocking_laws.specs.Seen.{joined}
 use Rattle.blocking_crew.specs.Closing.{NoneDue}
 use Rattle.blocking_crew.specs.Tickets.{JobPool, SweepsTo, SweepsIf, WaitsSo, no_growth, is_valued, AreValued, to_sweep, is_due_to_sweep, is_marked_ticket}
-use Rattle.blocking_crew.proofs.Types.{WorkerPass, Standing, Running, Parked, Waited, Stay, Stop, Ticket}
+use Rattle.blocking_crew.proofs.Types.{WorkerPass, Standing, Parked, Waited, Stay, Stop, Ticket}
 use Rattle.blocking_crew.proofs.growth.Calls.{is_marked_so, enters_again}
-use Rattle.blocking_crew.proofs.jobs.Kept.{PoolKept, same_pool, requeued_kept, stay_valued, swept_parked, none_due, sweeps_nothing}
+use Rattle.blocking_crew.proofs.jobs.Tickets.{swept_valued, none_due, sweeps_nothing}
 use Rattle.blocking_crew.proofs.growth.Reads.{IsRead, numbers_last}
 
--- a parked job has its ticket
-parked_valued : (standing : Standing) (value : Option Ticket) → is_running standing || is_some value ≡ true → standing ≡ Parked → is_some value ≡ true
-parked_valued Running value has is = absurd cc
-parked_valued _ value has is = has
-
-due_by : (standing : Standing) (value : Option Ticket) (m : Bool) → (standing ≡ Parked → is_some value ≡ true)
-    → ((ticket : Ticket) → standing ≡ Parked → value ≡ Some ticket → ticket.is_marked ≡ m) → (is_parked standing && m) ≡ (is_parked standing && is_marked_ticket value)
-due_by Parked None m valued asked = let never : false ≡ true = valued refl in absurd cc
+due_by : (standing : Standing) (value : Option Ticket) (m : Bool) → is_running standing || is_some value ≡ true → ((ticket : Ticket) → standing ≡ Parked → value ≡ Some ticket → ticket.is_marked ≡ m)
+    → (is_parked standing && m) ≡ (is_parked standing && is_marked_ticket value)
+due_by Parked None m valued asked = absurd cc
 due_by Parked (Some ticket) m valued asked = sym (asked ticket refl refl)
 due_by _ value m valued asked = refl
 
@@ -33,7 +28,7 @@ due_is : (jobs : Jobs Ticket) (marked : ℕ → Bool) (serial : ℕ) (found : Op
     → (is_parked_job found && marked serial) ≡ is_due_to_sweep found
 due_is jobs marked serial None at valued asked = refl
 due_is jobs marked serial (Some job) at valued asked =
-    due_by job.standing job.value (marked serial) (parked_valued job.standing job.value (sym (ap is_valued at) ∙ valued serial)) (λ ticket parked value. asked serial job ticket at parked value)
+    due_by job.standing job.value (marked serial) (sym (ap is_valued at) ∙ valued serial) (λ ticket parked value. asked serial job ticket at parked value)
 
 none_again : (asking : Asking) (old new : JobPool) (serials : List ℕ) → length serials ≡ 0 → CoreSweepsTo asking old serials new → SweepsTo asking.may_answer old serials no_growth new
 none_again asking old new [] none effect = (refl, effect.0)
@@ -63,12 +58,14 @@ left_by may_answer old new (serial ∷ serials) growth sweeps =
     rw sweeps.after_is
     (record { jobs = refl; line = refl; serial = refl; level = omega arith; setting = refl; next = refl; numbers = numbers_last may_answer _ _ _ _ _ growth sweeps.starts })
 
--- a sweep, if there is one, keeps the pool's jobs
-pub sweeps_keep : (timed_out : Bool) (may_answer : ℕ → Bool → Type 0) (old new : JobPool) (growth : Growth) → SweepsIf timed_out may_answer old growth new → PoolKept old new
-sweeps_keep false may_answer old new growth sweeps = same_pool old new sweeps.1
-sweeps_keep true may_answer old new growth sweeps =
-    let left = left_by may_answer old new (to_sweep old) growth sweeps in
-    record { jobs = rw left.jobs (requeued_kept old.jobs (to_sweep old) (swept_parked old)); level = left.level }
+pub sweep_level : (timed_out : Bool) (may_answer : ℕ → Bool → Type 0) (old new : JobPool) (growth : Growth) → SweepsIf timed_out may_answer old growth new
+    → new.counts.idle + old.counts.arriving ≡ old.counts.idle + new.counts.arriving
+sweep_level false may_answer old new growth sweeps = rw sweeps.1 refl
+sweep_level true may_answer old new growth sweeps = (left_by may_answer old new (to_sweep old) growth sweeps).level
+
+pub sweep_serial : (timed_out : Bool) (may_answer : ℕ → Bool → Type 0) (old new : JobPool) (growth : Growth) → SweepsIf timed_out may_answer old growth new → new.next_serial ≡ old.next_serial
+sweep_serial false may_answer old new growth sweeps = ap (λ (p : JobPool). p.next_serial) sweeps.1
+sweep_serial true may_answer old new growth sweeps = (left_by may_answer old new (to_sweep old) growth sweeps).serial
 
 -- What a sweep does: these are put back, each job that doesn't run has its ticket, and none is due any more.
 pub record HasSwept (may_answer : ℕ → Bool → Type 0) (old : JobPool) (told : ℕ) (growth : Growth) (new : JobPool) : Type 0 where
@@ -93,7 +90,7 @@ module _ (asking : Asking) (old new : JobPool) (count : ℕ) (valued : AreValued
   has_swept growth sound after = record {
     count = told;
     after = after;
-    valued = stay_valued old.jobs new.jobs (sweeps_keep true asking.may_answer old new growth after).jobs valued;
+    valued = rw (left_by asking.may_answer old new (to_sweep old) growth after).jobs (swept_valued old valued);
     due = none_due old new.jobs sound.unused (left_by asking.may_answer old new (to_sweep old) growth after).jobs;
   }
 
@@ -126,7 +123,7 @@ wait_alone timed_out old new Stop answer = rw answer.1 refl
 -- after a wait
 module _ (may_answer : ℕ → Bool → Type 0) (timed_out : Bool) (old new : JobPool) (waited : Waited) (growth : Growth) (waits : WaitsSo may_answer timed_out old waited growth new) where
   level : waits.between.counts.idle + old.counts.arriving ≡ old.counts.idle + waits.between.counts.arriving
-  level = (sweeps_keep timed_out may_answer old waits.between growth waits.sweep).level
+  level = sweep_level timed_out may_answer old waits.between growth waits.sweep
 
   -- as many idle workers have arrived as before, but for the one that stops
   pub stay_levels : (pass : WorkerPass) → waited ≡ Stay pass → new.counts.idle + old.counts.arriving ≡ old.counts.idle + new.counts.arriving

@@ -1,12 +1,11 @@
 -- Look-ups of a job in the pool, after a change of that job or of others.
-use Rattle.std.proofs.Common.{◌≡◌, ℕ, ◌==◌, ◌&&◌, ◌||◌, cond, Bool, true, false, refl, sym, ap, ◌∙◌, subst, if◌then◌else◌, arith, List, [], ◌∷◌, Option, Some, None, inl, inr}
+use Rattle.std.proofs.Common.{◌≡◌, ℕ, ◌==◌, ◌&&◌, ◌||◌, cond, Bool, true, false, refl, sym, ap, ◌∙◌, if◌then◌else◌, arith, List, [], ◌∷◌, Option, Some, None}
 use Rattle.std.proofs.lemmas.Map.Views.{any-filter_same}
-use Rattle.blocking_pool.proofs.Standings.{standing_job}
 use Rattle.std.specs.Prelude.{option_map, filter}
 use Rattle.std.specs.Ordering.{eq_by_cmp, nat_cmp}
 use Rattle.std.specs.Cmp.{nat_cmp_total}
 use Rattle.std.specs.FinMap.{get, insert, remove, get-insert, get-remove}
-use Rattle.std.proofs.lemmas.Bool.{eqb-true, eq-eqb, cases_eq, ne_eqb}
+use Rattle.std.proofs.lemmas.Bool.{eqb-true, eq-eqb}
 use Rattle.blocking_pool.specs.Jobs.{Job as Entry, Jobs, JobNumber, jobs_after_change, jobs_after_requeue, amend, if_at, is_running_job, is_running_as, entry_after_take, entry_after_requeue}
 use Rattle.blocking_pool.specs.Lists.{is_in}
 use Rattle.blocking_pool.specs.Wakes.{wake_of, cancel_of}
@@ -31,29 +30,25 @@ changed_at jobs t change s true None at is = ap (get jobs) (sym (eqb-true t s is
 changed_at jobs t change s false None at is = refl
 changed_at jobs t change s b (Some entry) at is = job_put jobs t (change entry) s b is
 
-there : (jobs : Jobs Ticket) (t : ℕ) (change : Entry Ticket → Entry Ticket) (s : ℕ) (b : Bool) → (t == s) ≡ b
-    → (if b then option_map change (get jobs t) else get jobs s) ≡ (if b then option_map change (get jobs s) else get jobs s)
-there jobs t change s true is = ap (λ n. option_map change (get jobs n)) (eqb-true t s is)
-there jobs t change s false is = refl
-
--- the jobs after one has changed
-pub job_changed : (jobs : Jobs Ticket) (t : ℕ) (change : Entry Ticket → Entry Ticket) (s : ℕ) (b : Bool) → (t == s) ≡ b
-    → get (amend jobs t change) s ≡ (if b then option_map change (get jobs s) else get jobs s)
-job_changed jobs t change s b is = changed_at jobs t change s b (get jobs t) refl is ∙ there jobs t change s b is
+-- the jobs after this one has changed
+pub job_changed : (jobs : Jobs Ticket) (t : ℕ) (change : Entry Ticket → Entry Ticket) (s : ℕ) (found : Option (Entry Ticket)) → get jobs t ≡ found
+    → get (jobs_after_change jobs t change found) s ≡ (if t == s then option_map change (get jobs s) else get jobs s)
+job_changed jobs t change s found at = changed_at jobs t change s (t == s) found at refl ∙ by (t == s) refl
+  where
+    by : (b : Bool) → (t == s) ≡ b → (if b then option_map change found else get jobs s) ≡ (if b then option_map change (get jobs s) else get jobs s)
+    by true is = ap (option_map change) (sym at ∙ ap (get jobs) (eqb-true t s is))
+    by false is = refl
 
 -- and after it has changed again
-pub changed_twice : (jobs : Jobs Ticket) (t : ℕ) (one two : Entry Ticket → Entry Ticket) (s : ℕ) (b : Bool) → (t == s) ≡ b
-    → get (amend (amend jobs t one) t two) s ≡ (if b then option_map two (option_map one (get jobs s)) else get jobs s)
-changed_twice jobs t one two s true is = job_changed (amend jobs t one) t two s true is ∙ ap (option_map two) (job_changed jobs t one s true is)
-changed_twice jobs t one two s false is = job_changed (amend jobs t one) t two s false is ∙ job_changed jobs t one s false is
-
--- a fact of every job: of this one, and of each other
-pub each_job : (t : ℕ) (P : ℕ → Type 0) → ((t == t) ≡ true → P t) → ((s : ℕ) → (t == s) ≡ false → P s) → (s : ℕ) → P s
-each_job t P own other s =
-    elim (cases_eq t s) [
-      | inl same ↦ subst P same (own (eq-eqb t t refl))
-      | inr differs ↦ other s (ne_eqb t s differs)
-    ]
+pub changed_twice : (jobs : Jobs Ticket) (t : ℕ) (one two : Entry Ticket → Entry Ticket) (s : ℕ)
+    → get (amend (amend jobs t one) t two) s ≡ (if t == s then option_map two (option_map one (get jobs s)) else get jobs s)
+changed_twice jobs t one two s =
+    job_changed (amend jobs t one) t two s (get (amend jobs t one) t) refl ∙ ap (λ found. if t == s then option_map two found else found) (job_changed jobs t one s (get jobs t) refl) ∙ by (t == s)
+  where
+    by : (b : Bool) → (if b then option_map two (if b then option_map one (get jobs s) else get jobs s) else (if b then option_map one (get jobs s) else get jobs s))
+        ≡ (if b then option_map two (option_map one (get jobs s)) else get jobs s)
+    by true = refl
+    by false = refl
 
 -- a job that a wake or a cancel puts back is parked
 pub woken_is : (o : Option Standing) → Entered ≡ wake_of o → o ≡ Some Parked
@@ -69,11 +64,6 @@ pub found_at : (place : ℕ) (found : Option (Entry Ticket)) (entry : Entry Tick
 found_at place None entry e = absurd cc
 found_at place (Some found) entry e = grind (arith, e)
 
--- so is one that stands somehow by its number
-pub stands_at : (place : ℕ) (found : Option (Entry Ticket)) (how : Standing) → option_map (λ (job : Entry Ticket). job.standing) (if_at place found) ≡ Some how
-    → (entry : Entry Ticket) × (found ≡ Some entry) × (entry.standing ≡ how)
-stands_at place found how is = let job = standing_job (if_at place found) how is in (job.0, found_at place found job.0 job.1, job.2)
-
 twice : (b c : Bool) (found : Option (Entry Ticket))
     → (if c then option_map entry_after_requeue (if b then option_map entry_after_requeue found else found) else (if b then option_map entry_after_requeue found else found))
     ≡ (if b || c then option_map entry_after_requeue found else found)
@@ -86,7 +76,7 @@ pub job_requeued : (serials : List ℕ) (jobs : Jobs Ticket) (s : ℕ)
 job_requeued [] jobs s = refl
 job_requeued (t ∷ serials) jobs s =
     job_requeued serials (amend jobs t entry_after_requeue) s
-    ∙ ap (λ o. if is_in s serials then option_map entry_after_requeue o else o) (job_changed jobs t entry_after_requeue s (s == t) (turned t s))
+    ∙ ap (λ o. if is_in s serials then option_map entry_after_requeue o else o) (job_changed jobs t entry_after_requeue s (get jobs t) refl ∙ ap (λ b. if b then option_map entry_after_requeue (get jobs s) else get jobs s) (turned t s))
     ∙ twice (s == t) (is_in s serials) (get jobs s)
 
 -- a job that was taken up runs

@@ -1,11 +1,10 @@
 -- Each move is answered as the law of answers says.
-use Rattle.std.proofs.Common.{[], ◌≡◌, ◌<◌, ◌==◌, ◌+◌, ◌&&◌, ◌||◌, nat_lt, ℕ, Bool, true, false, if◌then◌else◌, List, ◌∷◌, length, refl, sym, ap, ap₂, ◌∙◌, subst, arith, Option, Some, None, option_map, Ok, Err}
-use Rattle.std.proofs.lemmas.Bool.{eq-eqb}
+use Rattle.std.proofs.Common.{[], ◌≡◌, ◌<◌, ◌==◌, ◌+◌, ◌&&◌, ◌||◌, nat_lt, ℕ, Bool, true, false, if◌then◌else◌, List, ◌∷◌, length, refl, sym, ap, ap₂, ◌∙◌, subst, arith, Option, Some, None, Ok, Err}
 use Rattle.std.proofs.lemmas.Bool.Decides.{nat_tests}
 use Rattle.std.specs.FinMap.{get}
 use Rattle.blocking_pool.specs.Counts.{limit_of}
 use Rattle.blocking_pool.specs.Growth.{Growth, greatest, limit_after}
-use Rattle.blocking_pool.specs.Jobs.{Job as Entry, JobNumber, if_at, standing_of}
+use Rattle.blocking_pool.specs.Jobs.{Job as Entry, JobNumber}
 use Rattle.blocking_pool.specs.PoolAnswers.{is_empty, must_stop}
 use Rattle.blocking_pool.specs.Wakes.{wake_of, cancel_of}
 use Rattle.blocking_laws.specs.Answers.{PoolAnswers, AnswerLaw, take_from, end_of, take_answer, end_answer}
@@ -14,19 +13,18 @@ use Rattle.blocking_laws.specs.Growth.{IsPlanned}
 use Rattle.blocking_laws.specs.Jobs.{standing, is_woken, is_cancelled, is_marked, is_to_drop, has_ended}
 use Rattle.blocking_laws.specs.Queue.{queue, to_sweep as seen_to_sweep}
 use Rattle.blocking_laws.specs.Seen.{joined, has_timed_out}
-use Rattle.blocking_laws.specs.Turns.{Turn}
+use Rattle.blocking_laws.specs.Turns.{turn}
 use Rattle.blocking_laws.specs.declared.event.Act.TheVariants.{Took}
 use Rattle.blocking_crew.specs.Crews.{Crew, hand_at, may_end, outcome_of, standing_after}
 use Rattle.blocking_crew.specs.Moves.{Move, Adds, Arrives, TakesJob, TakesNone, Works, EndsTurn, Parks, HasWaited, Sweeps, IsWoken, IsCancelled, IsLetGo, Tells, May, call_of, next_start, took_act, parked_act}
 use Rattle.blocking_crew.specs.Tickets.{JobPool, no_growth, is_marked_ticket, TakesFront, SweepsIf, ParksTo, ParksSo}
-use Rattle.blocking_crew.specs.Ties.{FiledAs, FiledHere, ValueAs, IsNumberOf, IsAsked, CrewHolds, turn_of, moment_of}
+use Rattle.blocking_crew.specs.Ties.{FiledAs, FiledHere, ValueAs, IsAsked, CrewHolds, turn_of, moment_of}
 use Rattle.blocking_crew.specs.declared.hand.Stage.TheVariants as stage
 use Rattle.blocking_crew.specs.declared.tickets.Parking.TheVariants as parking
-use Rattle.blocking_crew.proofs.Types.{Memory, NoWorker, Numbers, Stay, Stop, Woke, Standing, Queued, Running, Parked, Done, Dropped, TookDropped, Ended, Moment, Worker, WaitEnd, Step, Holds, Held, Stage, Ticket, Parking}
+use Rattle.blocking_crew.proofs.Types.{Memory, NoWorker, Numbers, Stay, Stop, Standing, Queued, Running, Parked, TookDropped, Ended, Moment, Worker, WaitEnd, Step, Holds, Held, Stage, Ticket, Parking}
 use Rattle.blocking_crew.proofs.ties.Acts.{plain, aside_plain, by_work, by_let_go}
-use Rattle.blocking_crew.proofs.ties.Counts.{workers_now}
-use Rattle.blocking_crew.proofs.ties.Entered.{swept}
-use Rattle.blocking_crew.proofs.ties.Known.{front_filed}
+use Rattle.blocking_crew.proofs.ties.Flows.{workers_now, swept}
+use Rattle.blocking_crew.proofs.ties.Standings.{front_filed, met}
 use Rattle.blocking_crew.proofs.jobs.Lookups.{found_at}
 use Rattle.blocking_crew.proofs.ties.Sweeps.{sweep_same}
 
@@ -55,27 +53,13 @@ took_rightly setting past now false s e = e
 -- ---- the ends of turns
 
 end_is : (at : Stage) (drop woken : Bool) (s : ℕ) → may_end at ≡ true → Ended s (standing_after (outcome_of at)) ≡ end_of (turn_of at) drop woken s
-end_is stage.Runs drop woken s may = refl
-end_is stage.GaveUp drop woken s may = refl
-end_is _ drop woken s may = absurd cc
+end_is at drop woken s may = grind arith
 
 -- ---- waits
 
 none_left : (ns : List ℕ) → (length ns == 0) ≡ is_empty ns
 none_left [] = refl
 none_left (n ∷ ns) = grind (arith, nat_tests)
-
--- ---- wakes and cancels
-
--- an answer to a standing: a job that is over is as one that isn't there
-met_as : (answer : Option Standing → Woke) (entry : Option (Entry Ticket)) (place : ℕ) (stand : Option Standing) (wake cancel mark ended : Bool)
-    → answer None ≡ answer (Some Done) → answer None ≡ answer (Some Dropped) → ((found : Entry Ticket) → entry ≡ Some found → found.place ≡ place)
-    → FiledAs entry stand wake cancel mark ended → answer (option_map (λ (job : Entry Ticket). job.standing) (if_at place entry)) ≡ answer stand
-met_as answer None place None wake cancel mark ended done dropped at_place f = refl
-met_as answer None place (Some Done) wake cancel mark ended done dropped at_place f = done
-met_as answer None place (Some Dropped) wake cancel mark ended done dropped at_place f = dropped
-met_as answer None place (Some _) wake cancel mark ended done dropped at_place f = absurd f
-met_as answer (Some entry) place stand wake cancel mark ended done dropped at_place f = rw (eq-eqb entry.place place (at_place entry refl), f.0) refl
 
 module _ (setting : ℕ) (plan : List Bool) (crew : Crew) (past : List Moment) (step : Step) (owner : Option ℕ) (h : CrewHolds setting plan crew past) where
   take_is : (number : JobNumber) (value : Ticket) (to_drop : Bool) (growth : Growth) (pool : JobPool) → TakesFront (IsPlanned plan) crew.pool number value to_drop growth pool → took_act to_drop number.serial ≡ take_answer past
@@ -88,9 +72,7 @@ module _ (setting : ℕ) (plan : List Bool) (crew : Crew) (past : List Moment) (
       ap (λ (b : Bool). took_act b s) wanted ∙ took_if (is_to_drop past s) s ∙ ap (take_from past) (sym front.front ∙ h.tied.lined)
 
   ends : (held : Held) (v : ℕ) → hand_at crew.hands v ≡ Holds held → may_end held.stage ≡ true → Ended held.turn.serial (standing_after (outcome_of held.stage)) ≡ end_answer past held.turn.serial
-  ends held v at may =
-      let s = held.turn.serial in
-      end_is held.stage (is_to_drop past s) (is_woken past s) s may ∙ ap (λ (where_is : Turn). end_of where_is (is_to_drop past s) (is_woken past s) s) (sym (h.tied.handed.turn_is v held at))
+  ends held v at may = rw (h.tied.handed.turn_is v held at) (end_is held.stage (is_to_drop past held.turn.serial) (is_woken past held.turn.serial) held.turn.serial may)
 
   -- the end of a run that waits
   parks : (held : Held) (v : ℕ) (ticket : Ticket) (parked : Parking) (pool : JobPool) → hand_at crew.hands v ≡ Holds held → held.stage ≡ stage.Waits → ParksSo crew.pool held.turn ticket parked pool → ticket.is_marked ≡ is_marked past held.turn.serial
@@ -106,15 +88,13 @@ module _ (setting : ℕ) (plan : List Bool) (crew : Crew) (past : List Moment) (
       drop : (so.job.cancelled || ticket.is_marked) ≡ is_to_drop past s
       drop = ap₂ (λ (a b : Bool). a || b) (sym filed.2) marked
 
-      answer : (d w : Bool) → is_to_drop past s ≡ d → is_woken past s ≡ w → end_of (turn_of stage.Waits) d w s ≡ end_answer past s
-      answer d w e f =
-          ap (λ b. end_of (turn_of stage.Waits) b w s) (sym e) ∙ ap (λ b. end_of (turn_of stage.Waits) (is_to_drop past s) b s) (sym f)
-          ∙ ap (λ (where_is : Turn). end_of where_is (is_to_drop past s) (is_woken past s) s) (sym (h.tied.handed.turn_is v held at ∙ ap turn_of waits))
+      waiting : turn past s ≡ turn_of stage.Waits
+      waiting = h.tied.handed.turn_is v held at ∙ ap turn_of waits
 
       by : (p : Parking) → ParksTo crew.pool held.turn ticket so.job p pool → parked_act p s ≡ end_answer past s
-      by (parking.Parked pass) e = answer false false (sym drop ∙ e.0) (filed.1 ∙ e.1)
-      by (parking.Queued pass) e = answer false true (sym drop ∙ e.0) (filed.1 ∙ e.1)
-      by (parking.HandedOut back) e = answer true (is_woken past s) (sym drop ∙ e.0) refl
+      by (parking.Parked pass) e = rw (waiting, sym drop ∙ e.0, filed.1 ∙ e.1) refl
+      by (parking.Queued pass) e = rw (waiting, sym drop ∙ e.0, filed.1 ∙ e.1) refl
+      by (parking.HandedOut back) e = rw (waiting, sym drop ∙ e.0) refl
 
   -- the laws stop a worker where the pool does
   stop_is : (end : WaitEnd) (growth : Growth) (between : JobPool) → SweepsIf (has_timed_out end) (IsPlanned plan) crew.pool growth between
@@ -130,11 +110,6 @@ module _ (setting : ℕ) (plan : List Bool) (crew : Crew) (past : List Moment) (
       let most : limit_after (limit setting past) (workers past + growth.started) growth.refused ≡ limit_of between.counts =
       ap₂ (λ l n. limit_after l (n + growth.started) growth.refused) (sym h.tied.counted.limit_is) (sym all) ∙ sym g.most in
       ap₂ (λ (a b : Bool). a || has_timed_out end && b) (ap₂ nat_lt most hired) (ap (λ (ns : List ℕ). length ns == 0) (sym line) ∙ none_left between.queue)
-
-  -- a job is answered as it stands
-  met_rightly : (answer : Option Standing → Woke) (number : JobNumber) → answer None ≡ answer (Some Done) → answer None ≡ answer (Some Dropped) → IsNumberOf crew.pool number → answer (standing_of crew.pool.jobs number) ≡ answer (standing past number.serial)
-  met_rightly answer number done dropped placed =
-      met_as answer (get crew.pool.jobs number.serial) number.place (standing past number.serial) _ _ _ _ done dropped placed (h.tied.filed number.serial)
 
   -- Each move is answered as the law of answers says.
   pub answer_law : (move : Move) → May (IsPlanned plan) crew move → IsAsked crew past (call_of move) → AnswerLaw setting past (moment_of crew move step owner)
@@ -156,8 +131,8 @@ module _ (setting : ℕ) (plan : List Bool) (crew : Crew) (past : List Moment) (
   answer_law (HasWaited v pass end (Stay back) growth pool) may asked = stop_is end growth may.1.between may.1.sweep ∙ may.1.answer.0
   answer_law (HasWaited v pass end Stop growth pool) may asked = stop_is end growth may.1.between may.1.sweep ∙ may.1.answer.0
   answer_law (Sweeps growth pool) may asked = ap length (sweep_same setting plan crew past h)
-  answer_law (IsWoken who number woke growth pool) may asked = may.answer ∙ met_rightly wake_of number refl refl asked
-  answer_law (IsCancelled who number woke growth pool) may asked = may.answer ∙ met_rightly cancel_of number refl refl asked
+  answer_law (IsWoken who number woke growth pool) may asked = may.answer ∙ met setting plan crew past h wake_of number refl refl asked
+  answer_law (IsCancelled who number woke growth pool) may asked = may.answer ∙ met setting plan crew past h cancel_of number refl refl asked
   answer_law (IsLetGo who act number) may asked = by_let_go (λ act. PoolAnswers setting past (moment_of crew (IsLetGo who act number) step owner) act) tt tt act may
   answer_law (Tells who act) may asked = (plain setting past step owner who None (next_start crew) no_growth act (aside_plain act may)).answered
   answer_law move may asked = tt

@@ -13,18 +13,15 @@ use Rattle.blocking_crew.proofs.ties.Numbers.{number_after, number_of_new}
 use Rattle.blocking_crew.proofs.laws.Service.{served_after}
 
 module _ (setting : ℕ) (plan : List Bool) (crew new : Crew) (past : List Moment) (call : Call) (e : Event) (h : CrewHolds setting plan crew past) (moves : Moves (IsPlanned plan) call crew e new) (asked : IsAsked crew past call) where
-  its_asked : IsAsked crew past (call_of moves.move)
-  its_asked = subst (IsAsked crew past) moves.call_is asked
-
   -- Queued jobs are served, or the last start was refused.
   pub served_moved : (step : Step) (owner : Option ℕ) → Served setting past → Served setting (seen_as step e owner ∷ past)
   served_moved step owner s =
-      subst (λ (f : Event). Served setting (seen_as step f owner ∷ past)) (sym moves.event_is) (served_after setting plan crew past step owner h s moves.move moves.may its_asked)
+      subst (λ (f : Event). Served setting (seen_as step f owner ∷ past)) (sym moves.event_is) (served_after setting plan crew past step owner h s moves.move moves.may)
 
   -- The number of a job that was accepted stays its number.
   pub number_moved : (number : JobNumber) → is_some (standing past number.serial) ≡ true → IsNumberOf crew.pool number → IsNumberOf new.pool number
   number_moved number known placed =
-      subst (λ (c : Crew). IsNumberOf c.pool number) (sym moves.after_is) (number_after setting plan crew past h number moves.move moves.may its_asked known placed)
+      subst (λ (c : Crew). IsNumberOf c.pool number) (sym moves.after_is) (number_after setting plan crew past h number moves.move moves.may known placed)
 
 -- ---- a new job
 

@@ -15,7 +15,7 @@ use Rattle.blocking_crew.specs.declared.tickets.Parking.TheVariants as parking
 use Rattle.blocking_crew.proofs.Types.{Stay, Stop, WorkerPass, Act, JobParked, GaveUp, Moment, Party, Worker, Step, Free, Holds, Held, Stage, Ticket}
 use Rattle.blocking_crew.proofs.ties.Acts.{now_with, plain, aside_plain, by_work, by_let_go}
 use Rattle.blocking_crew.proofs.ties.Hands.{hand_seen}
-use Rattle.blocking_crew.proofs.ties.Known.{front_rests}
+use Rattle.blocking_crew.proofs.ties.Standings.{front_rests}
 
 module _ (setting : ℕ) (plan : List Bool) (crew : Crew) (past : List Moment) (step : Step) (owner : Option ℕ) (h : CrewHolds setting plan crew past) where
   abbrev now : Party → Option ℕ → Act → Growth → Moment

@@ -2,21 +2,22 @@
 use Rattle.std.proofs.Common.{◌≡◌, ℕ, ◌+◌, ◌-◌, ◌==◌, Bool, true, false, if◌then◌else◌, List, [], ◌∷◌, ◌++◌, length, refl, sym, ap, ◌∙◌, subst, arith}
 use Rattle.std.proofs.lemmas.Bool.{eqb-true, cond_both}
 use Rattle.blocking_pool.specs.Jobs.{is_running_as}
-use Rattle.std.specs.FinMap.{get-empty}
+use Rattle.std.specs.FinMap.{get, get-empty}
 use Rattle.std.specs.Ordering.{nat_cmp}
 use Rattle.blocking_pool.specs.Pools.{empty_pool}
 use Rattle.blocking_crew.specs.Crews.{Crew, IsReady, hand_at, with_hand, one_if_free, free_hands}
 use Rattle.blocking_crew.specs.Tickets.{JobPool, AreValued, is_valued}
 use Rattle.blocking_crew.proofs.Types.{WorkerPass, Hand, Out, Free, Holds, Held}
-use Rattle.blocking_crew.proofs.jobs.Kept.{PoolKept, runs_on, stay_valued}
+use Rattle.blocking_crew.proofs.ready.Jobs.{IsKept}
 use Rattle.blocking_crew.proofs.hands.Rows.{IsAt, hand_set, hand_pushed, sum_set, sum_pushed}
 
-pub pool_ready : (crew : Crew) (pool : JobPool) → IsReady crew → PoolKept crew.pool pool → IsReady (record crew { pool = pool })
-pool_ready crew pool ready kept = record {
-  idle = let idle = ready.idle in let level = kept.level in omega (arith, idle, level);
-  runs = λ v held at. runs_on crew.pool.jobs pool.jobs held.turn kept.jobs (ready.runs v held at);
+pub pool_ready : (crew : Crew) (pool : JobPool) → IsReady crew → ((s : ℕ) → IsKept false (get crew.pool.jobs s) (get pool.jobs s)) → pool.counts.idle + crew.pool.counts.arriving ≡ crew.pool.counts.idle + pool.counts.arriving
+    → IsReady (record crew { pool = pool })
+pool_ready crew pool ready kept level = record {
+  idle = let idle = ready.idle in omega (arith, idle, level);
+  runs = λ v held at. (kept held.turn.serial).runs refl held.turn.place (ready.runs v held at);
   apart = ready.apart;
-  valued = stay_valued crew.pool.jobs pool.jobs kept.jobs ready.valued;
+  valued = λ s. (kept s).valued (ready.valued s);
 }
 
 -- ---- one hand changes

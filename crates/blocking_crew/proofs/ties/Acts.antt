@@ -1,5 +1,5 @@
 -- What holds of each act that a job, a holder or a worker may be seen to do here holds of the one that was seen.
-use Rattle.std.proofs.Common.{[], ◌≡◌, ℕ, ◌==◌, not, Bool, true, false, List, ◌∷◌, length, refl, Option}
+use Rattle.std.proofs.Common.{arith, [], ◌≡◌, ℕ, ◌==◌, not, Bool, true, false, List, ◌∷◌, length, refl, Option}
 use Rattle.blocking_pool.specs.Growth.{Growth}
 use Rattle.blocking_pool.specs.Jobs.{Job as Entry, one_if}
 use Rattle.blocking_laws.specs.Answers.{PoolAnswers}
@@ -10,12 +10,12 @@ use Rattle.blocking_laws.specs.Queue.{entered_by, taken_by, ended_by}
 use Rattle.blocking_laws.specs.Seen.{is_of_pool}
 use Rattle.blocking_laws.specs.Steps.{is_there}
 use Rattle.blocking_laws.specs.Turns.{FitsTurn, HoldsOne, turn, hand}
-use Rattle.blocking_laws.specs.declared.event.Act.TheVariants.{Took, Taken as TakenOut, ResultPut}
+use Rattle.blocking_laws.specs.declared.event.Act.TheVariants.{Took, Taken as TakenOut}
 use Rattle.blocking_crew.specs.Crews.{Crew, may_act, stage_after, outcome_of, standing_after}
 use Rattle.blocking_crew.specs.Moves.{is_aside, seen}
 use Rattle.blocking_crew.specs.Ties.{FiledHere, Handed, turn_of}
 use Rattle.blocking_crew.specs.declared.hand.Stage.TheVariants as stage
-use Rattle.blocking_crew.proofs.Types.{NoWorker, Done, Dropped, Act, Made, Asked, OwnerClosed, Got, GotItem, GotEnd, Filled, FillShut, Back, Replied, Accepted, Refused, JobWoken, JobCancelled, LimitSet, Swept, Waits, HolderDropped, TaskGot, TaskGotNone, TaskCancelled, TaskDetached, Arrived, TookDropped, TookNone, Stays, Stopped, Ended, HandedOut, Answered, RoomFree, RoomShut, JobParked, Put, Lost, Peeked, Drained, JobClosed, Finished, GaveUp, HolderWoken, NoAction, HolderWaker, Moment, Party, Step, Stage, Ticket}
+use Rattle.blocking_crew.proofs.Types.{NoWorker, Done, Dropped, Act, Accepted, Refused, JobWoken, JobCancelled, LimitSet, Swept, HolderDropped, TaskCancelled, Arrived, TookDropped, TookNone, Stays, Stopped, Ended, HandedOut, Answered, RoomFree, RoomShut, JobParked, Put, Lost, Peeked, Drained, JobClosed, Finished, GaveUp, HolderWoken, HolderWaker, Moment, Party, Step, Stage, Ticket, ResultPut}
 
 -- the moment of an act, as the layer above sees it
 abbrev pub now_with : Step → Option ℕ → Party → Option ℕ → Act → ℕ → Growth → Moment
@@ -130,22 +130,7 @@ module _ (setting : ℕ) (past : List Moment) (step : Step) (owner : Option ℕ)
 
 -- an act that is nothing to the crew is plain
 pub aside_plain : (act : Act) → is_aside act ≡ true → is_plain act ≡ true
-aside_plain (Made h capacity) is = refl
-aside_plain (Asked call) is = refl
-aside_plain (OwnerClosed told) is = refl
-aside_plain (Got bytes told) is = refl
-aside_plain (GotItem x told) is = refl
-aside_plain GotEnd is = refl
-aside_plain (Filled n told) is = refl
-aside_plain FillShut is = refl
-aside_plain Back is = refl
-aside_plain (Replied reply) is = refl
-aside_plain Waits is = refl
-aside_plain (TaskGot n) is = refl
-aside_plain TaskGotNone is = refl
-aside_plain TaskDetached is = refl
-aside_plain NoAction is = refl
-aside_plain _ is = absurd cc
+aside_plain act is = grind arith
 
 -- an act of a job: it goes on in its turn, or waits from then on, or gives up
 pub by_work : (P : Stage → Act → Type 0) → ((at : Stage) (act : Act) → is_plain act ≡ true → turn_of (stage_after act at) ≡ turn_of at → FitsTurn (turn_of at) act → P at act)

@@ -1,26 +1,21 @@
 -- Each move keeps the counts of a crew what the past tells.
-use Rattle.std.proofs.Common.{[], ◌≡◌, ℕ, ◌<◌, ◌≤◌, ◌+◌, ◌-◌, ◌==◌, min, List, ◌∷◌, ◌++◌, Bool, true, false, cond, length, length-append, length-set, refl, sym, ap, ◌∙◌, ap₂, arith, if◌then◌else◌, Option, Some, None, zero, suc}
-use Rattle.std.specs.Prelude.{◌||◌, not, filter, Err}
+use Rattle.std.proofs.Common.{[], ◌≡◌, ℕ, ◌<◌, ◌≤◌, ◌+◌, ◌==◌, min, List, ◌∷◌, Bool, true, false, cond, length, length-append, refl, sym, ap, ◌∙◌, ap₂, arith, if◌then◌else◌, Option, Some, None, zero, suc}
+use Rattle.std.specs.Prelude.{◌||◌, filter}
 use Rattle.std.proofs.lemmas.Bool.Decides.{nat_tests}
-use Rattle.blocking_pool.specs.Counts.{Counts, limit_of, louder, after_pickup, after_release, after_stop}
+use Rattle.blocking_pool.specs.Counts.{limit_of}
 use Rattle.blocking_pool.specs.Growth.{greatest, Growth, limit_after, number_after}
 use Rattle.blocking_pool.specs.Jobs.{one_if}
-use Rattle.blocking_pool.specs.PoolAnswers.{is_empty}
-use Rattle.blocking_pool.specs.Pools.{without_job}
 use Rattle.blocking_laws.specs.Counts.{added, starts, refused_starts, arrivals, stops as all_stops, workers, limit, is_arrival, is_stop}
 use Rattle.blocking_laws.specs.Growth.{IsPlanned, has_limit, grows}
 use Rattle.blocking_laws.specs.Queue.{running}
-use Rattle.blocking_laws.specs.Seen.{joined, without_all, has_timed_out}
-use Rattle.blocking_crew.specs.Crews.{Crew, hand_at, with_hand, outcome_of, standing_after, one_if_free, one_if_busy, busy_hands}
-use Rattle.blocking_crew.specs.Moves.{Move, Adds, Arrives, TakesJob, EndsTurn, Parks, HasWaited, SetsLimit, May, after, next_start}
-use Rattle.blocking_crew.specs.Tickets.{JobPool, no_growth, GrowsBy, FindsNoWorker}
+use Rattle.blocking_crew.specs.Crews.{Crew, one_if_busy, busy_hands}
+use Rattle.blocking_crew.specs.Moves.{Move, Arrives, SetsLimit, May, after, next_start}
+use Rattle.blocking_crew.specs.Tickets.{no_growth}
 use Rattle.blocking_crew.specs.Ties.{Counted, CrewHolds, moment_of}
-use Rattle.blocking_crew.specs.declared.tickets.Parking.TheVariants as parking
-use Rattle.blocking_crew.proofs.Types.{One, Standing, Queued, Parked, NoWorker, Stop, WorkerPass, Act, Refused, Ended, Moment, Party, Worker, WaitEnd, Step, Hand, Out, Free, Holds, Held}
-use Rattle.blocking_crew.proofs.hands.Rows.{at_held, at_free, sum_set, sum_pushed}
-use Rattle.blocking_crew.proofs.ties.Acts.{now_with, Steady, enters_so}
-use Rattle.blocking_crew.proofs.ties.Known.{held_once}
-use Rattle.blocking_crew.proofs.ties.Entered.{GrewBy, ungrown, AreGrown, grew_so, growth_in, Enters, enters, swept}
+use Rattle.blocking_crew.proofs.Types.{WorkerPass, Act, Moment, Party, Step, Free}
+use Rattle.blocking_crew.proofs.hands.Rows.{sum_pushed}
+use Rattle.blocking_crew.proofs.ties.Acts.{now_with, Steady}
+use Rattle.blocking_crew.proofs.ties.Flows.{GrewBy, flows, gone_of, growth_in, workers_now}
 
 -- ---- numbers of a growth
 
@@ -38,42 +33,12 @@ next_by : (r : Bool) (bound first started begun refusals : ℕ) → first ≡ mi
     → (if r then if first + started == bound then first + started else first + started + 1 else first + started) ≡ min (1 + (begun + started) + (refusals + one_if r)) bound
 next_by r bound first started begun refusals is within = grind (arith, nat_tests, is, within)
 
--- ---- how a move changes the counts
-
--- and a worker stops after it
-stop_grew : (rings : Bool) (old between new : Counts) (growth : Growth) (grew : Bool) → 0 < between.idle → between.idle ≤ between.workers → new ≡ after_stop rings between → GrewBy 0 old between growth grew → GrewBy 1 old new growth grew
-stop_grew rings old between new growth grew some fewer stopped g =
-    let gw = g.workers in
-    let gi = g.idle in
-    rw stopped (record {
-      workers = omega (arith, gw, some, fewer);
-      idle = omega (arith, gi, some);
-      arriving = g.arriving;
-      setting = g.setting;
-      most = g.most;
-      limit = g.limit;
-      none = g.none;
-      next = g.next;
-      numbers = g.numbers;
-    })
-
 count_one : (b : Bool) (now : Moment) (past : List Moment) → length (cond b (now ∷ past) past) ≡ length past + one_if b
 count_one b now past = grind arith
 
 module _ (setting : ℕ) (plan : List Bool) (crew : Crew) (past : List Moment) (step : Step) (owner : Option ℕ) (h : CrewHolds setting plan crew past) where
   abbrev now : Party → Option ℕ → Act → Growth → Moment
   now who job act growth = now_with step owner who job act (next_start crew) growth
-
-  -- the workers, as the past tells them
-  pub workers_now : crew.pool.counts.workers ≡ workers past
-  workers_now = let e = h.tied.counted.workers_are in omega (arith, e)
-
-  -- a worker is idle where a hand is free
-  pub idle_some : (v : ℕ) (pass : WorkerPass) → hand_at crew.hands v ≡ Free pass → 0 < crew.pool.counts.idle
-  idle_some v pass e =
-      let one = sum_set one_if_free crew.hands (v - 1) (Free pass) Out (at_free crew.hands v pass e).got in
-      let all = h.ready.idle in
-      omega (arith, one, all)
 
   known_by : (grew had : Bool) (most later : ℕ) (new : Option ℕ) → new ≡ (if grew then Some later else (if had then Some most else None)) → (grew ≡ false → later ≡ most) → new ≡ (if grew || had then Some later else None)
   known_by grew had most later new is same = grind (arith, is, same)
@@ -97,7 +62,7 @@ module _ (setting : ℕ) (plan : List Bool) (crew : Crew) (past : List Moment) (
       let cw = c.workers_are in
       let ca = c.arriving_are in
       let most : limit_of new.pool.counts ≡ limit setting (last ∷ past) =
-      g.most ∙ ap₂ (λ l n. limit_after l (n + last.event.started) last.event.start_refused) (c.limit_is ∙ sym (steady.most (limit setting past))) workers_now in
+      g.most ∙ ap₂ (λ l n. limit_after l (n + last.event.started) last.event.start_refused) (c.limit_is ∙ sym (steady.most (limit setting past))) (workers_now setting plan crew past step owner h) in
       record {
         workers_are = omega (arith, more, cw, gw, stops_now);
         idle_are = omega (arith, gw, gi, balance);
@@ -119,24 +84,7 @@ module _ (setting : ℕ) (plan : List Bool) (crew : Crew) (past : List Moment) (
             ∙ ap₂ (λ a b. min (1 + a + b) greatest) (sym more) (sym refused);
       }
 
-  -- ---- hands
-
-  -- a free hand changes, or one that holds a job
-  busy_free : (v : ℕ) (pass : WorkerPass) (new : Hand) → hand_at crew.hands v ≡ Free pass → busy_hands (with_hand crew.hands v new) ≡ length (running past) + one_if_busy new
-  busy_free v pass new e = omega (arith, sum_set one_if_busy crew.hands (v - 1) (Free pass) new (at_free crew.hands v pass e).got, h.tied.counted.busy_are)
-
-  busy_held : (v : ℕ) (held : Held) (new : Hand) → hand_at crew.hands v ≡ Holds held → busy_hands (with_hand crew.hands v new) + 1 ≡ length (running past) + one_if_busy new
-  busy_held v held new e = omega (arith, sum_set one_if_busy crew.hands (v - 1) (Holds held) new (at_held crew.hands v held e).got, h.tied.counted.busy_are)
-
-  -- ---- each kind of move
-
-  -- jobs have entered, or none
-  entered : (last : Moment) (new : Crew) → Enters setting plan crew past step owner h last new → Counted setting new (last ∷ past)
-  entered last new e =
-      let a = enters_so past last.event.act e.only in
-      let same : running (last ∷ past) ≡ running past = ap₂ (λ (gone come : List ℕ). joined (without_all gone (running past)) come) a.ended a.taken in
-      counted_by 0 crew.pool.counts.idle new last a.steady (rw a.grew_is e.entered.grew)
-      (h.tied.counted.idle_are ∙ ap (λ (ns : List ℕ). crew.pool.counts.idle + length ns) (sym same)) e.hands (e.busy ∙ h.tied.counted.busy_are ∙ ap length (sym same))
+  -- ---- each move
 
   arrives : (pass : WorkerPass) → 0 < crew.pool.counts.arriving → Counted setting (after crew (Arrives pass)) (moment_of crew (Arrives pass) step owner ∷ past)
   arrives pass some =
@@ -173,63 +121,10 @@ module _ (setting : ℕ) (plan : List Bool) (crew : Crew) (past : List Moment) (
         next_is = c.next_is;
       }
 
-  takes : (v : ℕ) (pass : WorkerPass) (new : Held) (last : Moment) (s ready : ℕ) (growth : Growth) (pool : JobPool) → hand_at crew.hands v ≡ Free pass → Steady 0 last.event.act
-      → growth_in last ≡ growth → grows past last.event.act ≡ true → running (last ∷ past) ≡ running past ++ s ∷ [] → GrowsBy (IsPlanned plan) ready (after_pickup crew.pool.counts) growth
-      → AreGrown (after_pickup crew.pool.counts) growth pool.counts → Counted setting (record { pool = pool; hands = with_hand crew.hands v (Holds new) }) (last ∷ past)
-  takes v pass new last s ready growth pool free steady same grew busy starting counts =
-      let some = idle_some v pass free in
-      let idle_are = h.tied.counted.idle_are in
-      let taken = busy_free v pass (Holds new) free in
-      let longer : length (running (last ∷ past)) ≡ length (running past) + 1 = ap length busy ∙ length-append (running past) (s ∷ []) in
-      counted_by 0 (crew.pool.counts.idle - 1) (record { pool = pool; hands = with_hand crew.hands v (Holds new) }) last steady
-      (rw (same, grew) (grew_so (IsPlanned plan) ready (after_pickup crew.pool.counts) pool.counts growth starting counts))
-      (omega (arith, idle_are, longer, some)) (length-set crew.hands (v - 1) (Holds new)) (omega (arith, taken, longer))
-
-  ended : (v : ℕ) (held : Held) (how : Standing) (pool : JobPool) (pass : WorkerPass) (bell : _) → hand_at crew.hands v ≡ Holds held → pool.counts ≡ record (after_release crew.pool.counts) { bell = bell }
-      → Counted setting (record { pool = pool; hands = with_hand crew.hands v (Free pass) }) (now (Worker v) (Some held.turn.serial) (Ended held.turn.serial how) no_growth ∷ past)
-  ended v held how pool pass bell at same =
-      let idle_are = h.tied.counted.idle_are in
-      let fewer = held_once setting plan crew past h v held at in
-      let left = busy_held v held (Free pass) at in
-      counted_by 0 (crew.pool.counts.idle + 1) (record { pool = pool; hands = with_hand crew.hands v (Free pass) }) (now (Worker v) (Some held.turn.serial) (Ended held.turn.serial how) no_growth)
-      (record { came = refl; stop = refl; most = λ l. refl; set = refl }) (ungrown (after_release crew.pool.counts) pool.counts bell same) (omega (arith, idle_are, fewer)) (length-set crew.hands (v - 1) (Free pass))
-      (omega (arith, left, fewer))
-
-  stops : (v : ℕ) (pass : WorkerPass) (end : WaitEnd) (growth : Growth) (pool : JobPool) → (let move = HasWaited v pass end Stop growth pool in
-      May (IsPlanned plan) crew move → Counted setting (after crew move) (moment_of crew move step owner ∷ past))
-  stops v pass end growth pool may =
-      let g = (swept setting plan crew past step owner h (has_timed_out end) growth may.1.between may.1.sweep).grew in
-      let some = idle_some v pass may.0 in
-      let idle_are = h.tied.counted.idle_are in
-      let gw = g.workers in
-      let gi = g.idle in
-      counted_by 1 crew.pool.counts.idle (after crew (HasWaited v pass end Stop growth pool)) (moment_of crew (HasWaited v pass end Stop growth pool) step owner)
-      (record { came = refl; stop = refl; most = λ l. refl; set = refl })
-      (stop_grew (not (is_empty may.1.between.queue)) crew.pool.counts may.1.between.counts pool.counts growth _ (omega (arith, gi, some)) (omega (arith, gi, gw, idle_are)) (ap (λ (p : JobPool). p.counts) may.1.answer.1) g)
-      idle_are (length-set crew.hands (v - 1) Out) (let out = busy_free v pass Out may.0 in omega (arith, out))
-
-  -- a new job is refused, since nobody works after its growth
-  unstaffed : (who : Party) (growth : Growth) (pool : JobPool) → FindsNoWorker (IsPlanned plan) crew.pool growth pool → Counted setting (record crew { pool = pool }) (now who None (Refused NoWorker) growth ∷ past)
-  unstaffed who growth pool finds =
-      counted_by 0 crew.pool.counts.idle (record crew { pool = pool }) (now who None (Refused NoWorker) growth) (record { came = refl; stop = refl; most = λ l. refl; set = refl })
-      (grew_so (IsPlanned plan) (length crew.pool.queue + 1) crew.pool.counts pool.counts growth finds.starts (rw finds.after_is refl))
-      h.tied.counted.idle_are refl h.tied.counted.busy_are
-
-  -- ---- every move
-
   -- Each move keeps the counts what the past tells.
   pub counts_after : (move : Move) → May (IsPlanned plan) crew move → Counted setting (after crew move) (moment_of crew move step owner ∷ past)
-  counts_after (Adds who (Err NoWorker) growth pool) may = unstaffed who growth pool may
   counts_after (Arrives pass) may = arrives pass may
-  counts_after (TakesJob v old true turn ticket growth pool) may =
-      takes v old _ _ turn.serial (length may.1.rest) growth pool may.0 (record { came = refl; stop = refl; most = λ l. refl; set = refl }) refl refl refl may.1.starts
-      (rw may.1.after_is refl)
-  counts_after (TakesJob v old false turn ticket growth pool) may =
-      takes v old _ _ turn.serial (length may.1.rest) growth pool may.0 (record { came = refl; stop = refl; most = λ l. refl; set = refl }) refl refl refl may.1.starts
-      (rw may.1.after_is refl)
-  counts_after (EndsTurn v held pass) may = ended v held (standing_after (outcome_of held.stage)) (without_job crew.pool held.turn.serial) pass crew.pool.counts.bell may.0 refl
-  counts_after (Parks v held ticket (parking.Parked pass) pool) may = ended v held Parked pool pass crew.pool.counts.bell may.0 (ap (λ (p : JobPool). p.counts) may.2.effect.2)
-  counts_after (Parks v held ticket (parking.Queued pass) pool) may = ended v held Queued pool pass (louder One crew.pool.counts.bell) may.0 (ap (λ (p : JobPool). p.counts) may.2.effect.2)
-  counts_after (HasWaited v pass end Stop growth pool) may = stops v pass end growth pool may
   counts_after (SetsLimit n) may = sets_limit n
-  counts_after move may = entered (moment_of crew move step owner) (after crew move) (enters setting plan crew past step owner h move may refl)
+  counts_after move may =
+      let f = flows setting plan crew past step owner h move may refl in
+      counted_by (gone_of move) f.free (after crew move) (moment_of crew move step owner) f.steady f.grew f.balance f.hands f.busy

@@ -1,14 +1,16 @@
 -- An entry of the pool by what was seen of its job, over plain values: what it tells, and each kind of change.
-use Rattle.std.proofs.Common.{◌≡◌, Bool, true, false, refl, sym, ap, ◌∙◌, subst, Option, Some, None, ◌&&◌, ◌||◌, not}
+use Rattle.std.proofs.Common.{◌≡◌, Bool, true, false, refl, sym, ap, ◌∙◌, subst, Option, Some, None, ◌&&◌, ◌||◌, not, ℕ}
+use Rattle.std.proofs.lemmas.Bool.{eq-eqb}
 use Rattle.std.specs.Prelude.{option_map}
 use Rattle.std.proofs.Math.Bool.{and-true}
-use Rattle.blocking_pool.specs.Jobs.{Job as Entry, entry_after_requeue, is_running_job, is_parked as is_parked_so}
+use Rattle.blocking_pool.specs.Jobs.{Job as Entry, if_at, new_job, entry_after_take, entry_after_wake, entry_after_cancel, entry_after_park, entry_after_requeue, is_running_job, is_parked as is_parked_so}
+use Rattle.blocking_pool.specs.Wakes.{wake_of, cancel_of}
 use Rattle.blocking_pool.proofs.Standings.{running_is}
 use Rattle.blocking_laws.specs.Jobs.{is_parked}
-use Rattle.blocking_crew.specs.Tickets.{is_due_to_sweep, is_marked_ticket}
+use Rattle.blocking_crew.specs.Tickets.{is_due_to_sweep, is_marked_ticket, new_ticket}
 use Rattle.blocking_crew.specs.Ties.{ValueAs, AbsentAs, FiledAs, has_ticket}
-use Rattle.blocking_crew.proofs.Types.{Standing, Queued, Running, Parked, Done, Dropped, Ticket}
-use Rattle.blocking_crew.proofs.ties.Lookups.{mark_ticket, mark_if}
+use Rattle.blocking_crew.proofs.Types.{Woke, Marked, Standing, Queued, Running, Parked, Done, Dropped, Ticket}
+use Rattle.blocking_crew.proofs.jobs.Marks.{mark_ticket, mark_if}
 
 -- ---- what it tells
 
@@ -43,18 +45,59 @@ due_filed (Some entry) stand wake cancel mark ended f =
 
 -- ---- what changes
 
--- nothing was seen of a job that stands nowhere
-pub unseen : (found : Option (Entry Ticket)) (stand : Option Standing) (wake cancel mark ended : Bool) → FiledAs found stand wake cancel mark ended → stand ≡ None → AbsentAs None wake cancel mark ended
-unseen None stand wake cancel mark ended filed none = subst (λ o. AbsentAs o wake cancel mark ended) none filed
-unseen (Some entry) stand wake cancel mark ended filed none = let bad = sym none ∙ filed.0 in absurd cc
+module _ (wake cancel mark ended : Bool) where
+  -- a new job
+  pub accepted_filed : (found : Option (Entry Ticket)) (place : ℕ) → FiledAs found None wake cancel mark ended → FiledAs (Some (new_job place new_ticket)) (Some Queued) wake cancel mark ended
+  accepted_filed None place filed = (refl, filed.0, filed.1, filed.3, ap (λ m. Some (record { is_marked = m })) (sym filed.2))
+  accepted_filed (Some entry) place filed = absurd (let bad = filed.0 in cc)
 
--- a parked job enters again
-pub requeued_filed : (found : Option (Entry Ticket)) (stand : Option Standing) (wake cancel mark ended : Bool) → FiledAs found stand wake cancel mark ended → stand ≡ Some Parked
-    → FiledAs (option_map entry_after_requeue found) (Some Queued) wake cancel mark ended
-requeued_filed None stand wake cancel mark ended filed parked = absurd (subst (λ o. AbsentAs o wake cancel mark ended) parked filed)
-requeued_filed (Some entry) stand wake cancel mark ended filed parked =
-    let same : entry.standing ≡ Parked = (let both : Some entry.standing ≡ Some Parked = sym filed.0 ∙ parked in cc) in
-    (refl, filed.1, filed.2, filed.3, subst (λ st. ValueAs st entry.value mark) same filed.4)
+  -- a queued job is taken
+  pub taken_filed : (found : Option (Entry Ticket)) → FiledAs found (Some Queued) wake cancel mark ended → FiledAs (option_map entry_after_take found) (Some Running) false cancel mark ended
+  taken_filed None filed = absurd filed
+  taken_filed (Some entry) filed = (refl, refl, filed.2, filed.3, refl)
+
+  -- a running job parks
+  pub parked_filed : (found : Option (Entry Ticket)) (ticket : Ticket) → ticket.is_marked ≡ mark → FiledAs found (Some Running) wake cancel mark ended
+      → FiledAs (option_map (entry_after_park ticket) found) (Some Parked) wake cancel mark ended
+  parked_filed None ticket marked filed = absurd filed
+  parked_filed (Some entry) ticket marked filed = (refl, filed.1, filed.2, filed.3, ap (λ m. Some (record { is_marked = m })) marked)
+
+  -- a parked job enters again
+  pub requeued_filed : (found : Option (Entry Ticket)) → FiledAs found (Some Parked) wake cancel mark ended → FiledAs (option_map entry_after_requeue found) (Some Queued) wake cancel mark ended
+  requeued_filed None filed = absurd filed
+  requeued_filed (Some entry) filed =
+      let same : entry.standing ≡ Parked = (let both = filed.0 in cc) in
+      (refl, filed.1, filed.2, filed.3, subst (λ st. ValueAs st entry.value mark) same filed.4)
+
+  -- a wake and a cancel flag a job that is there
+  pub woken_filed : (found : Option (Entry Ticket)) (stand : Option Standing) → (AbsentAs stand wake cancel mark ended → ⊥) → FiledAs found stand wake cancel mark ended
+      → FiledAs (option_map entry_after_wake found) stand true cancel mark ended
+  woken_filed None stand there filed = absurd (there filed)
+  woken_filed (Some entry) stand there filed = (filed.0, refl, filed.2, filed.3, filed.4)
+
+  pub cancelled_filed : (found : Option (Entry Ticket)) (stand : Option Standing) → (AbsentAs stand wake cancel mark ended → ⊥) → FiledAs found stand wake cancel mark ended
+      → FiledAs (option_map entry_after_cancel found) stand wake true mark ended
+  cancelled_filed None stand there filed = absurd (there filed)
+  cancelled_filed (Some entry) stand there filed = (filed.0, filed.1, refl, filed.3, filed.4)
+
+  pub woken_there : (stand : Option Standing) → Marked ≡ wake_of stand → AbsentAs stand wake cancel mark ended → ⊥
+  woken_there (Some Running) answer absent = absent
+  woken_there _ answer absent = cc
+
+  pub cancelled_there : (stand : Option Standing) → Marked ≡ cancel_of stand → AbsentAs stand wake cancel mark ended → ⊥
+  cancelled_there (Some Queued) answer absent = absent
+  cancelled_there (Some Running) answer absent = absent
+  cancelled_there _ answer absent = cc
+
+-- an answer to a standing: a job that is over is as one that isn't there
+pub met_as : (answer : Option Standing → Woke) (entry : Option (Entry Ticket)) (place : ℕ) (stand : Option Standing) (wake cancel mark ended : Bool)
+    → answer None ≡ answer (Some Done) → answer None ≡ answer (Some Dropped) → ((found : Entry Ticket) → entry ≡ Some found → found.place ≡ place)
+    → FiledAs entry stand wake cancel mark ended → answer (option_map (λ (job : Entry Ticket). job.standing) (if_at place entry)) ≡ answer stand
+met_as answer None place None wake cancel mark ended done dropped at_place f = refl
+met_as answer None place (Some Done) wake cancel mark ended done dropped at_place f = done
+met_as answer None place (Some Dropped) wake cancel mark ended done dropped at_place f = dropped
+met_as answer None place (Some _) wake cancel mark ended done dropped at_place f = absurd f
+met_as answer (Some entry) place stand wake cancel mark ended done dropped at_place f = rw (eq-eqb entry.place place (at_place entry refl), f.0) refl
 
 marked_so : (b mark : Bool) → mark_ticket b (Some (record { is_marked = mark })) ≡ Some (record { is_marked = b || mark })
 marked_so true mark = refl

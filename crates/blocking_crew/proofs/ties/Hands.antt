@@ -18,7 +18,7 @@ use Rattle.blocking_crew.specs.declared.tickets.Parking.TheVariants as parking
 use Rattle.blocking_crew.proofs.Types.{Stay, Stop, Standing, Queued, Running, Parked, WorkerPass, Act, Ended, JobParked, GaveUp, HolderWaker, Absent, Moment, Party, Worker, Step, Hand, Out, Free, Holds, Held, Stage}
 use Rattle.blocking_crew.proofs.hands.Rows.{IsAt, at_held, at_free, hand_set, hand_pushed, hand_next}
 use Rattle.blocking_crew.proofs.ties.Acts.{now_with, plain, aside_plain, by_work, by_let_go}
-use Rattle.blocking_crew.proofs.ties.Known.{held_runs, front_stands}
+use Rattle.blocking_crew.proofs.ties.Standings.{held_runs, front_stands}
 
 -- ---- a row of hands in which one has changed
 
@@ -58,21 +58,6 @@ module _ (setting : ℕ) (plan : List Bool) (crew : Crew) (past : List Moment) (
   other_job v u one other e at is = ne_eqb one.turn.serial other.turn.serial (λ same. eqb-false v u e (h.ready.apart v u one other at is same))
 
   -- ---- each kind of move
-
-  -- a free worker stays free
-  stays : (v : ℕ) (old pass : WorkerPass) (pool : JobPool) (last : Moment) → hand_at crew.hands v ≡ Free old → ((u : ℕ) → is_there (last ∷ past) u ≡ is_there past u) → ((u : ℕ) → hand (last ∷ past) u ≡ hand past u)
-      → ((s : ℕ) → turn (last ∷ past) s ≡ turn past s) → Handed (record { pool = pool; hands = with_hand crew.hands v (Free pass) }) (last ∷ past)
-  stays v old pass pool last at there job turns =
-      let mine = hand_seen v (Free old) at in
-      changed v (Free old) (Free pass) pool last (at_free crew.hands v old at) (there v ∙ mine.0, job v ∙ mine.1) (λ u e. (there u, job u)) (λ held is. absurd cc) (λ u held e is. turns held.turn.serial)
-
-  -- a free worker stops
-  stops : (v : ℕ) (old : WorkerPass) (pool : JobPool) (last : Moment) → hand_at crew.hands v ≡ Free old → ((u : ℕ) → is_there (last ∷ past) u ≡ (not (v == u) && is_there past u)) → ((u : ℕ) → hand (last ∷ past) u ≡ hand past u)
-      → ((s : ℕ) → turn (last ∷ past) s ≡ turn past s) → Handed (record { pool = pool; hands = with_hand crew.hands v Out }) (last ∷ past)
-  stops v old pool last at there job turns =
-      let mine = hand_seen v (Free old) at in
-      changed v (Free old) Out pool last (at_free crew.hands v old at) (there v ∙ ap (λ b. not b && is_there past v) (eq-eqb v v refl), job v ∙ mine.1)
-      (λ u e. (there u ∙ ap (λ b. not b && is_there past u) e, job u)) (λ held is. absurd cc) (λ u held e is. turns held.turn.serial)
 
   -- a free worker takes a job
   takes : (v : ℕ) (old : WorkerPass) (new : Held) (turn_now : Turn) (pool : JobPool) (last : Moment) → hand_at crew.hands v ≡ Free old → standing past new.turn.serial ≡ Some Queued → turn_now ≡ turn_of new.stage
@@ -157,7 +142,8 @@ module _ (setting : ℕ) (plan : List Bool) (crew : Crew) (past : List Moment) (
       takes v old (record { turn = number; stage = first_stage true }) MustGiveUp pool _ may.0 (front_stands setting plan crew past h (IsPlanned plan) number ticket true growth pool may.1) refl (λ u. refl) (λ u. refl) (λ s. refl)
   hands_after (TakesJob v old false number ticket growth pool) may =
       takes v old (record { turn = number; stage = first_stage false }) GoesOn pool _ may.0 (front_stands setting plan crew past h (IsPlanned plan) number ticket false growth pool may.1) refl (λ u. refl) (λ u. refl) (λ s. refl)
-  hands_after (TakesNone v old pass) may = stays v old pass crew.pool _ may.0 (λ u. refl) (λ u. refl) (λ s. refl)
+  hands_after (TakesNone v old pass) may =
+      changed v (Free old) (Free pass) crew.pool _ (at_free crew.hands v old may.0) (hand_seen v (Free old) may.0) (λ u e. (refl, refl)) (λ held is. absurd cc) (λ u held e is. refl)
   hands_after (Works v held act) may = works v held act may.0 may.1
   hands_after (EndsTurn v held pass) may = ends v held (standing_after (outcome_of held.stage)) pass (after crew (EndsTurn v held pass)).pool may.0
   hands_after (Parks v held ticket (parking.Parked pass) pool) may = ends v held Parked pass pool may.0
@@ -166,8 +152,11 @@ module _ (setting : ℕ) (plan : List Bool) (crew : Crew) (past : List Moment) (
       let t = held.turn.serial in
       acts v held (record { turn = back; stage = stage.MustGiveUp }) pool _ may.0 may.2.effect.1 (λ u. refl) (λ u. refl) (ap (λ b. if b then MustGiveUp else turn past t) (eq-eqb t t refl))
       (λ s e. ap (λ b. if b then MustGiveUp else turn past s) e)
-  hands_after (HasWaited v pass end (Stay back) growth pool) may = stays v pass back pool _ may.0 (λ u. refl) (λ u. refl) (λ s. refl)
-  hands_after (HasWaited v pass end Stop growth pool) may = stops v pass pool _ may.0 (λ u. refl) (λ u. refl) (λ s. refl)
+  hands_after (HasWaited v pass end (Stay back) growth pool) may =
+      changed v (Free pass) (Free back) pool _ (at_free crew.hands v pass may.0) (hand_seen v (Free pass) may.0) (λ u e. (refl, refl)) (λ held is. absurd cc) (λ u held e is. refl)
+  hands_after (HasWaited v pass end Stop growth pool) may =
+      changed v (Free pass) Out pool _ (at_free crew.hands v pass may.0) (ap (λ b. not b && is_there past v) (eq-eqb v v refl), (hand_seen v (Free pass) may.0).1)
+      (λ u e. (ap (λ b. not b && is_there past u) e, refl)) (λ held is. absurd cc) (λ u held e is. refl)
   hands_after (IsLetGo who act number) may =
       by_let_go (λ act. Handed (after crew (IsLetGo who act number)) (now who None act no_growth ∷ past)) (record { each = h.tied.handed.each; turn_is = h.tied.handed.turn_is })
       (record { each = h.tied.handed.each; turn_is = h.tied.handed.turn_is }) act may

@@ -9,7 +9,7 @@ use Rattle.blocking_crew.specs.Ties.{CrewHolds, IsNumberOf, turn_of}
 use Rattle.blocking_crew.specs.declared.hand.Hand.TheVariants.{Holds}
 use Rattle.blocking_crew.specs.declared.hand.Held.{Held}
 use Rattle.blocking_crew.proofs.hands.Rows.{at_held, hand_set}
-use Rattle.blocking_crew.proofs.ties.Known.{held_runs}
+use Rattle.blocking_crew.proofs.ties.Standings.{held_runs}
 use Rattle.blocking_lanes.proofs.cuts.Acts.{acts_more}
 use Rattle.blocking_lanes.proofs.ties.Holders.{holder_stays}
 use Rattle.blocking_laws.specs.Growth.{IsPlanned}

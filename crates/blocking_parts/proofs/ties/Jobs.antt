@@ -8,7 +8,7 @@ use Rattle.blocking_crew.specs.Ties.{IsNumberOf, turn_of}
 use Rattle.blocking_crew.specs.declared.hand.Hand.{Hand}
 use Rattle.blocking_crew.specs.declared.hand.Hand.TheVariants.{Out, Free, Holds}
 use Rattle.blocking_crew.specs.declared.hand.Held.{Held}
-use Rattle.blocking_crew.proofs.ties.Known.{fresh, accepted_in, known_is, held_runs}
+use Rattle.blocking_crew.proofs.ties.Standings.{fresh, accepted_in, known_is, held_runs}
 use Rattle.blocking_lanes.specs.OwnerTies.{OwnerAs}
 use Rattle.blocking_lanes.specs.Owners.{Owner, number_of}
 use Rattle.blocking_lanes.specs.Tasks.{Task}

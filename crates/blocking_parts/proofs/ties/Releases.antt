@@ -11,7 +11,7 @@ use Rattle.blocking_pool.specs.declared.pool.standing.Standing.{Standing}
 use Rattle.blocking_pool.specs.declared.pool.standing.Standing.TheVariants.{Running}
 use Rattle.blocking_crew.specs.Ties.{AbsentAs, FiledAs}
 use Rattle.blocking_crew.specs.declared.ticket.Ticket.{Ticket}
-use Rattle.blocking_crew.proofs.ties.Known.{held_runs}
+use Rattle.blocking_crew.proofs.ties.Standings.{held_runs}
 use Rattle.blocking_lanes.specs.Owners.{Owner}
 use Rattle.blocking_lanes.specs.Tasks.{Task}
 use Rattle.blocking_lanes.proofs.cuts.Acts.{own_cut}

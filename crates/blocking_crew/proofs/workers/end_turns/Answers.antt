@@ -1,10 +1,11 @@
 use Rattle.std.proofs.Common.{slice_index_or, arith}
+use Rattle.std.proofs.lemmas.List.Elements.{AllWithin-more_set}
 use Rattle.std.proofs.lemmas.Option.{slice_get-get_or}
-use Rattle.blocking_crew.proofs.closing.Hands.{runs_at, still_ready, jobless_next, all_idle}
+use Rattle.blocking_crew.proofs.closing.Hands.{runs_at, HoldsNone, ended_holds_none, still_ready, all_idle}
 use Rattle.blocking_crew.proofs.workers.end_turns.Goals as goal
 
 pub loop-place-init : goal.loop-place-init
-loop-place-init c = (c.requires, λ n held early. absurd (omega (arith, early)))
+loop-place-init c = (c.requires, λ n hand first early. absurd (omega (arith, early)))
 
 pub end_turn-requires : goal.end_turn-requires
 end_turn-requires c =
@@ -20,7 +21,8 @@ loop-place-preserved c =
     let hand = slice_index_or c.loop-place.hands c.loop-place.place c.index-hands-place.result in
     let found = slice_get-get_or c.loop-place.hands c.loop-place.place c.index-hands-place.result (omega (arith, lengths, within)) in (
       still_ready c.loop-place.tickets c.end_turn.new.tickets c.loop-place.hands c.loop-place.place hand c.end_turn.new.self c.loop-place.invariant.0 found c.end_turn.ensures,
-      jobless_next c.loop-place.tickets c.end_turn.new.tickets c.loop-place.hands c.loop-place.place hand c.end_turn.new.self c.loop-place.invariant.1 found c.end_turn.ensures,
+      AllWithin-more_set c.loop-place.hands c.loop-place.place c.end_turn.new.self (omega (arith, lengths, within)) HoldsNone c.loop-place.invariant.1
+          (ended_holds_none hand c.end_turn.new.self c.loop-place.tickets c.end_turn.new.tickets c.end_turn.ensures),
     )
 
 pub returns : goal.returns
@@ -29,4 +31,4 @@ returns c =
     let bound = c.loop-place.auto.place-end in
     let past = c.loop-place-test.false in
     all_idle c.loop-place.tickets c.loop-place.hands c.loop-place.invariant.0
-    (λ n held early. c.loop-place.invariant.1 n held (omega (arith, early, lengths, bound, past)))
+    (λ n hand first early. c.loop-place.invariant.1 n hand first (omega (arith, early, lengths, bound, past)))

@@ -1,24 +1,21 @@
-use Rattle.std.proofs.Common.{◌≡◌, ap, ◌∙◌, sym, ℕ, Some, None}
-use Rattle.blocking_crew.specs.Moves.{NeverAsked, next_start, seen}
-use Rattle.blocking_crew.specs.Tickets.{no_growth}
+use Rattle.std.proofs.Common.{◌≡◌, ◌∙◌, sym, Some, None}
+use Rattle.blocking_crew.specs.Moves.{NeverAsked}
 use Rattle.blocking_crew.specs.contracts.crew.Crew.{the_view}
-use Rattle.blocking_crew.proofs.Types.{Worker, Arrived}
-use Rattle.blocking_crew.proofs.calls.Moved.{arrives_so}
+use Rattle.blocking_crew.proofs.calls.Moves.{arrives_by}
 use Rattle.blocking_crew.proofs.ready.Moves.{moved_ready}
 use Rattle.blocking_crew.proofs.crew.Crew.arrive.Goals as goal
 
 pub returns-in_default-clause-ok : goal.returns-in_default-clause-ok
 returns-in_default-clause-ok c =
     rw (sym c.self.view_is)
-    (arrives_so NeverAsked (the_view c.self.inside) c.in_ok-worker.field-0 c.arrive.new.tickets c.arrive.new.self c.in_ok-worker.ensures.ok
-    (c.next_start-first.ensures ∙ ap next_start (sym c.self.view_is)) (λ v is. absurd (c.in_default.not-Some v is)) (λ is. c.nothing.ensures))
+    (arrives_by NeverAsked (the_view c.self.inside) c.in_ok-worker.field-0 c.arrive.new.tickets c.arrive.new.self _ c.in_ok-worker.ensures.ok
+    (λ v is. absurd (c.in_default.not-Some v is)) (λ is. cc (c.nothing.ensures, c.next_start-first.ensures, c.self.view_is)))
 
 pub returns-clause-ok : goal.returns-clause-ok
 returns-clause-ok c =
     rw (sym c.self.view_is)
-    (arrives_so NeverAsked (the_view c.self.inside) c.in_ok-worker.field-0 c.arrive.new.tickets c.arrive.new.self c.in_ok-worker.ensures.ok
-    (c.next_start-first.ensures ∙ ap next_start (sym c.self.view_is))
-    (λ v is. (let same : c.in-Some.worker ≡ v = (let there = c.in-Some.is in cc) in c.seen.ensures ∙ ap (λ (n : ℕ). seen (Worker n) None (Arrived n) c.next_start-first.result no_growth) same))
+    (arrives_by NeverAsked (the_view c.self.inside) c.in_ok-worker.field-0 c.arrive.new.tickets c.arrive.new.self _ c.in_ok-worker.ensures.ok
+    (λ v is. (let same : c.in-Some.worker ≡ v = (let there = c.in-Some.is in cc) in cc (same, c.seen.ensures, c.next_start-first.ensures, c.self.view_is)))
     (λ is. absurd (let there = c.in-Some.is in let bad : Some c.in-Some.worker ≡ None = sym there ∙ is in cc)))
 
 pub invariant_of-self-2 : goal.invariant_of-self-2

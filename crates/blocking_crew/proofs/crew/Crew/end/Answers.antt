@@ -1,18 +1,24 @@
-use Rattle.std.proofs.Common.{is_some, ap, ◌∙◌, sym}
+use Rattle.std.proofs.Common.{is_some, ap, ◌∙◌, sym, refl}
+use Rattle.blocking_crew.proofs.hands.Loans.{held_is}
 use Rattle.blocking_crew.specs.contracts.crew.Crew.{the_view}
-use Rattle.blocking_crew.proofs.Types.{Standing, Ended}
-use Rattle.blocking_crew.proofs.calls.Moved.{idles, ends_so, held_is_out, held_runs}
-use Rattle.blocking_crew.specs.Crews.{may_end, standing_after}
-use Rattle.blocking_pool.specs.Jobs.{JobNumber}
-use Rattle.blocking_crew.specs.Moves.{NeverAsked, End, next_start}
+use Rattle.blocking_crew.proofs.calls.Moves.{idles, refilled, held_is_out, held_runs}
+use Rattle.blocking_crew.specs.Crews.{may_end}
+use Rattle.blocking_crew.specs.Moves.{NeverAsked, End, next_start, EndsTurn}
 use Rattle.blocking_crew.proofs.ready.Moves.{moved_ready}
 use Rattle.blocking_crew.proofs.crew.Crew.end.Goals as goal
 
 pub returns : goal.returns
 returns c =
     rw (sym c.self.view_is)
-    (ends_so NeverAsked (the_view c.self.inside) c.args.worker c.in-Some.held c.end-pass.result c.end-pass.new.self
-    c.in-Some.ensures.held c.in-Some.ensures.after c.end-pass.ensures (c.serial-serial.ensures ∙ ap (λ (n : JobNumber). n.serial) c.job.ensures) (ap (λ (how : Standing). Ended c.serial-serial.result how) (c.standing.ensures ∙ ap standing_after c.outcome-outcome.ensures)) c.put.ensures (c.next_start-first.ensures ∙ ap next_start (sym c.self.view_is)) c.seen.ensures)
+    (record {
+      move = EndsTurn c.args.worker c.in-Some.held c.end-pass.result;
+      may = held_is may_end _ c.in-Some.held c.in-Some.ensures.held;
+      call_is = refl;
+      event_is = cc (c.seen.ensures, c.serial-serial.ensures, c.job.ensures, c.standing.ensures, c.outcome-outcome.ensures, c.next_start-first.ensures, c.self.view_is);
+      after_is =
+          let row = refilled c.self.inside.workers c.over.new.self c.args.worker c.in-Some.ensures.after c.put.new.self _ c.put.ensures in
+          cc (row, c.end-pass.ensures);
+    })
 
 pub invariant_of-self-2 : goal.invariant_of-self-2
 invariant_of-self-2 c = moved_ready c.self.invariant c.self.view_is (returns c)

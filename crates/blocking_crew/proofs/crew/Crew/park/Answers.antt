@@ -1,17 +1,30 @@
-use Rattle.std.proofs.Common.{is_some, ap, ◌∙◌, sym}
-use Rattle.blocking_crew.specs.contracts.crew.Crew.{the_view}
-use Rattle.blocking_crew.proofs.calls.Moved.{idles, parks_so, held_is_out, held_runs}
-use Rattle.blocking_crew.specs.Crews.{is_waiting}
+use Rattle.std.proofs.Common.{is_some, ap, ◌∙◌, sym, refl, Some}
+use Rattle.blocking_crew.proofs.Types.{Act, Worker}
+use Rattle.blocking_crew.specs.Tickets.{no_growth}
 use Rattle.blocking_pool.specs.Jobs.{JobNumber}
-use Rattle.blocking_crew.specs.Moves.{NeverAsked, Park, next_start}
+use Rattle.blocking_crew.proofs.hands.Loans.{held_is}
+use Rattle.blocking_crew.specs.contracts.crew.Crew.{the_view}
+use Rattle.blocking_crew.proofs.calls.Moves.{idles, refilled, waits_at, held_is_out, held_runs}
+use Rattle.blocking_crew.specs.Crews.{is_waiting}
+use Rattle.blocking_crew.specs.Moves.{NeverAsked, Park, next_start, Parks, seen}
 use Rattle.blocking_crew.proofs.ready.Moves.{moved_ready}
 use Rattle.blocking_crew.proofs.crew.Crew.park.Goals as goal
 
 pub returns : goal.returns
 returns c =
+    let holds = held_is is_waiting _ c.in-Some.held c.in-Some.ensures.held in
     rw (sym c.self.view_is)
-    (parks_so NeverAsked (the_view c.self.inside) c.args.worker c.in-Some.held c.args.ticket c.park.result c.park.new.self
-    c.in-Some.ensures.held c.in-Some.ensures.after c.park.ensures c.parked-hand.ensures.hand (c.serial-serial.ensures ∙ ap (λ (n : JobNumber). n.serial) c.job.ensures) c.parked-hand.ensures.act c.put.ensures (c.next_start-first.ensures ∙ ap next_start (sym c.self.view_is)) c.seen.ensures)
+    (record {
+      move = Parks c.args.worker c.in-Some.held c.args.ticket c.park.result c.park.new.self;
+      may = (holds.0, waits_at c.in-Some.held.stage holds.1, c.park.ensures);
+      call_is = refl;
+      event_is =
+          rw (← (c.serial-serial.ensures ∙ ap (λ (n : JobNumber). n.serial) c.job.ensures), ← (c.next_start-first.ensures ∙ ap next_start (sym c.self.view_is)))
+          (c.seen.ensures ∙ ap (λ (act : Act). seen (Worker c.args.worker) (Some c.serial-serial.result) act c.next_start-first.result no_growth) c.parked-hand.ensures.act);
+      after_is =
+          let row = refilled c.self.inside.workers c.waiting.new.self c.args.worker c.in-Some.ensures.after c.put.new.self _ c.put.ensures in
+          cc (row, c.parked-hand.ensures.hand);
+    })
 
 pub invariant_of-self-2 : goal.invariant_of-self-2
 invariant_of-self-2 c = moved_ready c.self.invariant c.self.view_is (returns c)

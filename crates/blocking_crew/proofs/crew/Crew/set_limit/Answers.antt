@@ -1,6 +1,6 @@
 use Rattle.std.proofs.Common.{◌≡◌, ap, ◌∙◌, sym, refl}
 use Rattle.blocking_crew.specs.contracts.crew.Crew.{the_view}
-use Rattle.blocking_crew.proofs.calls.Moved.{idles}
+use Rattle.blocking_crew.proofs.calls.Moves.{idles}
 use Rattle.blocking_crew.specs.Moves.{NeverAsked, SetLimit, SetsLimit, next_start}
 use Rattle.blocking_crew.specs.Tickets.{JobPool}
 use Rattle.std.proofs.Common.{arith, false, not, ◌==◌}

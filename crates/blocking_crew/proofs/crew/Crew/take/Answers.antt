@@ -1,6 +1,8 @@
 use Rattle.std.proofs.Common.{ap, ◌∙◌, sym}
+use Rattle.blocking_crew.specs.Crews.{with_hand}
+use Rattle.blocking_crew.proofs.hands.Loans.{pass_is}
 use Rattle.blocking_crew.specs.contracts.crew.Crew.{the_view}
-use Rattle.blocking_crew.proofs.calls.Moved.{idles, no_pass, takes_so, pass_is_out, pass_free}
+use Rattle.blocking_crew.proofs.calls.Moves.{idles, no_pass, takes_by, refilled, pass_is_out, pass_free}
 use Rattle.blocking_crew.specs.Moves.{Take, next_start}
 use Rattle.blocking_crew.proofs.ready.Moves.{moved_ready}
 use Rattle.blocking_crew.proofs.crew.Crew.take.Goals as goal
@@ -8,8 +10,10 @@ use Rattle.blocking_crew.proofs.crew.Crew.take.Goals as goal
 pub returns : goal.returns
 returns g c =
     rw (sym c.self.view_is)
-    (takes_so (g.S.Starter.may_answer c.args.starter.now) (the_view c.self.inside) c.args.worker c.in-Some.pass c.take-took.result.0 c.take-took.result.1 c.take-took.new.self
-    c.in-Some.ensures.pass c.in-Some.ensures.after c.take-took.ensures c.received-hand.ensures.hand c.received-hand.ensures.job c.received-hand.ensures.act c.put.ensures (c.next_start-first.ensures ∙ ap next_start (sym c.self.view_is)) c.seen.ensures)
+    (takes_by (g.S.Starter.may_answer c.args.starter.now) (the_view c.self.inside) c.args.worker c.in-Some.pass c.take-took.result.0 c.take-took.result.1 c.take-took.new.self _ _
+    (pass_is _ c.in-Some.pass c.in-Some.ensures.pass) c.take-took.ensures
+    (cc (c.seen.ensures, c.received-hand.ensures.job, c.received-hand.ensures.act, c.next_start-first.ensures, c.self.view_is))
+    (refilled c.self.inside.workers c.pass.new.self c.args.worker c.in-Some.ensures.after c.put.new.self _ c.put.ensures ∙ ap (with_hand c.self.inside.workers c.args.worker) c.received-hand.ensures.hand))
 
 pub invariant_of-self-2 : goal.invariant_of-self-2
 invariant_of-self-2 g c = moved_ready c.self.invariant c.self.view_is (returns g c)

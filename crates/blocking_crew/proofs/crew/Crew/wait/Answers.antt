@@ -1,15 +1,23 @@
-use Rattle.std.proofs.Common.{ap, ◌∙◌, sym}
+use Rattle.std.proofs.Common.{ap, ◌∙◌, sym, refl}
+use Rattle.blocking_crew.proofs.hands.Loans.{pass_is}
 use Rattle.blocking_crew.specs.contracts.crew.Crew.{the_view}
-use Rattle.blocking_crew.proofs.calls.Moved.{idles, no_pass, waits_so, pass_is_out, pass_free}
-use Rattle.blocking_crew.specs.Moves.{Wait, next_start}
+use Rattle.blocking_crew.proofs.calls.Moves.{idles, no_pass, refilled, pass_is_out, pass_free}
+use Rattle.blocking_crew.specs.Moves.{Wait, HasWaited, next_start}
 use Rattle.blocking_crew.proofs.ready.Moves.{moved_ready}
 use Rattle.blocking_crew.proofs.crew.Crew.wait.Goals as goal
 
 pub returns : goal.returns
 returns g c =
     rw (sym c.self.view_is)
-    (waits_so (g.S.Starter.may_answer c.args.starter.now) (the_view c.self.inside) c.args.worker c.in-Some.pass c.args.end c.has_timed_out.result c.after_wait-waited.result.0 c.after_wait-waited.result.1 c.after_wait-waited.new.self
-    c.in-Some.ensures.pass c.in-Some.ensures.after c.has_timed_out.ensures c.after_wait-waited.ensures.waits c.settled-hand.ensures.hand c.settled-hand.ensures.act c.put.ensures (c.next_start-first.ensures ∙ ap next_start (sym c.self.view_is)) c.seen.ensures)
+    (record {
+      move = HasWaited c.args.worker c.in-Some.pass c.args.end c.after_wait-waited.result.0 c.after_wait-waited.result.1 c.after_wait-waited.new.self;
+      may = (pass_is _ c.in-Some.pass c.in-Some.ensures.pass, rw c.has_timed_out.ensures at c.after_wait-waited.ensures.waits);
+      call_is = refl;
+      event_is = cc (c.seen.ensures, c.settled-hand.ensures.act, c.next_start-first.ensures, c.self.view_is);
+      after_is =
+          let row = refilled c.self.inside.workers c.pass.new.self c.args.worker c.in-Some.ensures.after c.put.new.self _ c.put.ensures in
+          cc (row, c.settled-hand.ensures.hand);
+    })
 
 pub invariant_of-self-2 : goal.invariant_of-self-2
 invariant_of-self-2 g c = moved_ready c.self.invariant c.self.view_is (returns g c)

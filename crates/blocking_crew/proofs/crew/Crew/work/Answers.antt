@@ -1,6 +1,6 @@
-use Rattle.std.proofs.Common.{is_some, ap, ◌∙◌, sym}
+use Rattle.std.proofs.Common.{is_some, ap, ◌∙◌, sym, refl}
 use Rattle.blocking_crew.specs.contracts.crew.Crew.{the_view}
-use Rattle.blocking_crew.proofs.calls.Moved.{idles, works_so}
+use Rattle.blocking_crew.proofs.calls.Moves.{idles, acts_by}
 use Rattle.blocking_crew.specs.Moves.{NeverAsked, Work, next_start}
 use Rattle.blocking_crew.proofs.ready.Moves.{moved_ready}
 use Rattle.blocking_crew.proofs.crew.Crew.work.Goals as goal
@@ -8,7 +8,7 @@ use Rattle.blocking_crew.proofs.crew.Crew.work.Goals as goal
 pub returns : goal.returns
 returns c =
     rw (sym c.self.view_is)
-    (works_so NeverAsked (the_view c.self.inside) c.args.worker c.args.act c.in-Some.serial c.in-Some.ensures.serial c.in-Some.ensures.after (c.next_start-first.ensures ∙ ap next_start (sym c.self.view_is)) c.seen.ensures)
+    (acts_by NeverAsked (the_view c.self.inside) c.args.worker _ c.args.act c.in-Some.serial _ _ refl c.in-Some.ensures.serial c.in-Some.ensures.after (cc (c.seen.ensures, c.next_start-first.ensures, c.self.view_is)))
 
 pub invariant_of-self-2 : goal.invariant_of-self-2
 invariant_of-self-2 c = moved_ready c.self.invariant c.self.view_is (returns c)

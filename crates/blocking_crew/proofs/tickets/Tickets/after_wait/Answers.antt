@@ -2,14 +2,14 @@ use Rattle.std.proofs.Common.{ap, arith}
 use Rattle.blocking_pool.specs.PoolAnswers.{StaysOrStops}
 use Rattle.blocking_pool.specs.Starters.{asked}
 use Rattle.blocking_crew.specs.Tickets.{JobPool}
-use Rattle.blocking_crew.proofs.growth.Sweeps.{waits_after_sweep, wait_alone, sweeps_keep}
+use Rattle.blocking_crew.proofs.growth.Sweeps.{waits_after_sweep, wait_alone, sweep_level}
 use Rattle.blocking_crew.proofs.tickets.Tickets.after_wait.Goals as goal
 
 pub after_wait-requires : goal.after_wait-requires
 after_wait-requires g c =
-    let kept = sweeps_keep c.args.timed_out (g.S.Starter.may_answer c.args.starter.now) c.args.self.now c.sweep_if-growth.new.self c.sweep_if-growth.result c.sweep_if-growth.ensures.after in
+    let level = sweep_level c.args.timed_out (g.S.Starter.may_answer c.args.starter.now) c.args.self.now c.sweep_if-growth.new.self c.sweep_if-growth.result c.sweep_if-growth.ensures.after in
     let free = c.requires.free in
-    rw c.self.view_is (omega (arith, kept.level, free))
+    rw c.self.view_is (omega (arith, level, free))
 
 -- what the pool's wait is, after the sweep
 answered : (g : _) (c : goal.After-after_wait g) → StaysOrStops c.args.timed_out c.sweep_if-growth.new.self c.after_wait.result c.after_wait.new.self

@@ -1,4 +1,4 @@
-use Rattle.blocking_crew.proofs.jobs.PassedOver.{takes_front, taken_runs, passed_over}
+use Rattle.blocking_crew.proofs.closing.Jobs.{takes_front, taken_runs, passed_over}
 use Rattle.blocking_crew.proofs.tickets.Tickets.pass_over.Goals as goal
 
 pub end-requires : goal.end-requires

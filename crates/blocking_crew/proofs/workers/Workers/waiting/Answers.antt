@@ -1,6 +1,6 @@
 use Rattle.std.proofs.Common.{is_some}
 use Rattle.blocking_crew.proofs.Types.{Out}
-use Rattle.blocking_crew.proofs.hands.Lent.{lent_hand, changed_if}
+use Rattle.blocking_crew.proofs.hands.Loans.{lent_hand, changed_if}
 use Rattle.blocking_crew.proofs.workers.Workers.waiting.Goals as goal
 
 pub returns-clause-after : goal.returns-clause-after

@@ -15,7 +15,7 @@ loop-init g c = (
   λ fact held. held,
   refl,
   λ idle. first_kept _ _ _ _ c.new-poll.ensures c.state.ensures idle,
-  first_brought _ _ _,
+  first_brought g.B.Lends.keeps c.new-poll.result.call c.new-poll.result.next c.args.brought.now,
 )
 
 pub loop-preserved : goal.loop-preserved

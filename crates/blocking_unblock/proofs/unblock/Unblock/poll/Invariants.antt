@@ -15,4 +15,4 @@ invariant-loop g l =
     × Keeps l.initial.cx l.cx
     × (length l.out ≡ length l.initial.out)
     × (IsAt Idle l.initial.self.place → KeepsFirst l.poll.call l.poll.state l.poll.next l.poll.is_at_end l.self.place l.initial.self.place)
-    × KeepsBrought l.poll.call l.poll.next l.brought l.initial.brought
+    × KeepsBrought g.B.Lends.keeps l.poll.call l.poll.next l.brought l.initial.brought

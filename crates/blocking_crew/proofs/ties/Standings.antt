@@ -5,7 +5,7 @@ use Rattle.std.specs.FinMap.{get}
 use Rattle.std.proofs.lemmas.Bool.{ne_eqb, cases_eq}
 use Rattle.std.proofs.lemmas.Bool.Decides.{nat_tests}
 use Rattle.blocking_pool.specs.Growth.{Growth}
-use Rattle.blocking_pool.specs.Jobs.{JobNumber, is_running_job, one_if}
+use Rattle.blocking_pool.specs.Jobs.{JobNumber, is_running_job, one_if, standing_of}
 use Rattle.blocking_pool.specs.Lists.{is_in, without}
 use Rattle.blocking_pool.proofs.Lists.{without-first, is_in-last, is_in-push}
 use Rattle.blocking_laws.specs.Jobs.{accepted_by, accepted_jobs, accepts, holder, newcomer, standing, is_queued, is_running}
@@ -14,11 +14,11 @@ use Rattle.blocking_laws.specs.Seen.{joined}
 use Rattle.blocking_laws.proofs.Queues.{queued_so, runs_so, known_so}
 use Rattle.blocking_crew.specs.Crews.{Crew, hand_at}
 use Rattle.blocking_crew.specs.Tickets.{JobPool, TakesFront}
-use Rattle.blocking_crew.specs.Ties.{FiledHere, CrewHolds}
-use Rattle.blocking_crew.proofs.Types.{Standing, Queued, Running, Act, Accepted, Moment, Holds, Held, Ticket}
+use Rattle.blocking_crew.specs.Ties.{FiledHere, CrewHolds, IsNumberOf}
+use Rattle.blocking_crew.proofs.Types.{Standing, Queued, Running, Act, Accepted, Moment, Holds, Held, Ticket, Woke, Done, Dropped}
 use Rattle.blocking_crew.proofs.ties.Lists.{in_times, front_once, times_below, times_first, without_times}
 use Rattle.blocking_crew.proofs.jobs.Lookups.{runs_at}
-use Rattle.blocking_crew.proofs.ties.Entries.{filed_runs, filed_none}
+use Rattle.blocking_crew.proofs.ties.Entries.{filed_runs, filed_none, met_as}
 
 unknown_is : (st : Option Standing) → one_if (is_some st) ≡ 0 → st ≡ None
 unknown_is None e = refl
@@ -75,6 +75,12 @@ module _ (setting : ℕ) (plan : List Bool) (crew : Crew) (past : List Moment) (
   known_is s =
       known_by (is_some (standing past s)) (0 == s) (nat_lt s crew.pool.next_serial)
       (ap (λ k. k + one_if (0 == s)) (sym (known_so setting plan past h.laws s)) ∙ serials s)
+
+  -- a job is answered as it was seen to stand
+  pub met : (answer : Option Standing → Woke) (number : JobNumber) → answer None ≡ answer (Some Done) → answer None ≡ answer (Some Dropped) → IsNumberOf crew.pool number
+      → answer (standing_of crew.pool.jobs number) ≡ answer (standing past number.serial)
+  met answer number done dropped placed =
+      met_as answer (get crew.pool.jobs number.serial) number.place (standing past number.serial) _ _ _ _ done dropped placed (h.tied.filed number.serial)
 
   -- the job in a hand runs
   pub held_here : (v : ℕ) (held : Held) → hand_at crew.hands v ≡ Holds held → is_running_job (get crew.pool.jobs held.turn.serial) ≡ true

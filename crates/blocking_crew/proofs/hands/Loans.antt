@@ -13,9 +13,7 @@ use Rattle.blocking_crew.proofs.hands.Rows.{IsAt}
 
 -- a pass is that of an idle worker
 pub pass_is : (hand : Hand) (pass : WorkerPass) → Some pass ≡ pass_in hand → hand ≡ Free pass
-pass_is Out pass is = absurd cc
-pass_is (Free p) pass is = cc
-pass_is (Holds held) pass is = absurd cc
+pass_is hand pass is = grind arith
 
 -- a job of which a test holds is what a hand holds
 pub held_is : (test : Stage → Bool) (hand : Hand) (held : Held) → Some held ≡ held_if test hand → (hand ≡ Holds held) × (test held.stage ≡ true)

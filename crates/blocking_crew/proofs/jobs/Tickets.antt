@@ -1,0 +1,74 @@
+-- The tickets of jobs, and which jobs a sweep puts back.
+use Rattle.std.proofs.Common.{◌≡◌, ℕ, ◌<◌, ◌≤◌, ◌||◌, cond, Bool, true, false, refl, sym, ap, ◌∙◌, if◌then◌else◌, List, [], ◌∷◌, Option, Some, None, inl, inr, arith}
+use Rattle.blocking_pool.proofs.SweepLemmas.{stands_below}
+use Rattle.std.specs.Prelude.{option_map, is_some, filter}
+use Rattle.std.specs.FinMap.{get}
+use Rattle.std.proofs.Math.Bool.{or-true}
+use Rattle.std.proofs.lemmas.Bool.{cases_lt, and_parts, and_from, cond_both}
+use Rattle.blocking_pool.specs.Jobs.{Job, Jobs, is_running, is_parked, is_parked_job, jobs_after_requeue, entry_after_requeue}
+use Rattle.blocking_pool.specs.Lists.{is_in}
+use Rattle.blocking_pool.specs.Sweeps.{serials_below}
+use Rattle.blocking_crew.specs.Tickets.{JobPool, is_valued, is_due_to_sweep, is_marked_ticket, to_sweep, AreValued}
+use Rattle.blocking_crew.specs.Closing.{NoneDue}
+use Rattle.blocking_crew.proofs.Types.{Standing, Parked, Ticket}
+use Rattle.blocking_crew.proofs.jobs.Lookups.{job_requeued, in_filter}
+
+-- a job with its ticket is valued
+pub with_ticket : (job : Job Ticket) (ticket : Ticket) → job.value ≡ Some ticket → is_valued (Some job) ≡ true
+with_ticket job ticket has = rw has (or-true (is_running job.standing))
+
+pub parked_has : (standing : Standing) (value : Option Ticket) → is_parked standing ≡ true → (is_running standing || is_some value) ≡ true → is_some value ≡ true
+parked_has Parked value parked has = has
+parked_has _ value parked has = absurd cc
+
+requeued_valued : (found : Option (Job Ticket)) → is_parked_job found ≡ true → is_valued found ≡ true → is_valued (option_map entry_after_requeue found) ≡ true
+requeued_valued None parked has = refl
+requeued_valued (Some job) parked has = parked_has job.standing job.value parked has
+
+-- ---- sweeps
+
+due_parked : (found : Option (Job Ticket)) → is_due_to_sweep found ≡ true → is_parked_job found ≡ true
+due_parked None due = due
+due_parked (Some job) due = (and_parts (is_parked job.standing) (is_marked_ticket job.value) due).0
+
+-- what a sweep puts back is parked
+pub swept_parked : (pool : JobPool) (s : ℕ) → is_in s (to_sweep pool) ≡ true → is_parked_job (get pool.jobs s) ≡ true
+swept_parked pool s found =
+    due_parked (get pool.jobs s) (and_parts (is_due_to_sweep (get pool.jobs s)) (is_in s (serials_below pool.next_serial)) (sym (in_filter (λ serial. is_due_to_sweep (get pool.jobs serial)) (serials_below pool.next_serial) s) ∙ found)).0
+
+-- so each job that doesn't run has its ticket after it
+pub swept_valued : (pool : JobPool) → AreValued pool.jobs → AreValued (jobs_after_requeue pool.jobs (to_sweep pool))
+swept_valued pool valued s =
+    ap is_valued (job_requeued (to_sweep pool) pool.jobs s)
+    ∙ cond_both (is_in s (to_sweep pool)) (option_map entry_after_requeue (get pool.jobs s)) (get pool.jobs s) (λ found. is_valued found ≡ true)
+    (λ is. requeued_valued (get pool.jobs s) (swept_parked pool s is) (valued s)) (λ is. valued s)
+
+requeued_undue : (found : Option (Job Ticket)) → is_due_to_sweep (option_map entry_after_requeue found) ≡ false
+requeued_undue None = refl
+requeued_undue (Some job) = refl
+
+undue_if : (b : Bool) (found : Option (Job Ticket)) → (is_due_to_sweep found ≡ true → b ≡ true) → is_due_to_sweep (if b then option_map entry_after_requeue found else found) ≡ false
+undue_if b found due = let undue = requeued_undue found in grind (arith, due, undue)
+
+-- after a sweep of a pool whose jobs have serials below the next, none is due
+pub none_due : (pool : JobPool) (jobs : Jobs Ticket) → ((s : ℕ) → pool.next_serial ≤ s → get pool.jobs s ≡ None) → jobs ≡ jobs_after_requeue pool.jobs (to_sweep pool)
+    → (s : ℕ) → is_due_to_sweep (get jobs s) ≡ false
+none_due pool jobs unused swept s =
+    ap (λ (j : Jobs Ticket). is_due_to_sweep (get j s)) swept ∙ ap is_due_to_sweep (job_requeued (to_sweep pool) pool.jobs s)
+    ∙ undue_if (is_in s (to_sweep pool)) (get pool.jobs s) (λ due.
+    in_filter (λ serial. is_due_to_sweep (get pool.jobs serial)) (serials_below pool.next_serial) s ∙ and_from (is_due_to_sweep (get pool.jobs s)) (is_in s (serials_below pool.next_serial)) due (stands_below s pool.next_serial (within due)))
+  where
+    within : is_due_to_sweep (get pool.jobs s) ≡ true → s < pool.next_serial
+    within due =
+        elim (cases_lt s pool.next_serial) [
+          | inl under ↦ under
+          | inr over ↦ (let bad : true ≡ false = sym due ∙ ap is_due_to_sweep (unused s over) in absurd cc)
+        ]
+
+filter_none : (test : ℕ → Bool) (ns : List ℕ) → ((n : ℕ) → test n ≡ false) → filter test ns ≡ []
+filter_none test [] none = refl
+filter_none test (n ∷ ns) none = ap (λ (b : Bool). cond b (n ∷ filter test ns) (filter test ns)) (none n) ∙ filter_none test ns none
+
+-- and a sweep puts nothing back
+pub sweeps_nothing : (pool : JobPool) → NoneDue pool → to_sweep pool ≡ []
+sweeps_nothing pool none = filter_none (λ serial. is_due_to_sweep (get pool.jobs serial)) (serials_below pool.next_serial) none

@@ -1,0 +1,130 @@
+-- What a move leaves of each job: it runs on at its place, but where its turn ends, and it has its ticket, where it doesn't run.
+use Rattle.std.proofs.Common.{◌≡◌, ℕ, ◌==◌, ◌||◌, Bool, true, false, refl, sym, ap, ◌∙◌, Option, Some, None, arith}
+use Rattle.std.specs.Prelude.{option_map, Ok}
+use Rattle.std.specs.FinMap.{get}
+use Rattle.std.proofs.lemmas.Bool.{eqb-true, and_parts, cond_both}
+use Rattle.blocking_pool.specs.Jobs.{Job, JobNumber, if_at, is_running, is_parked, is_running_job, is_parked_job, standing_of, job_of, value_at, new_job, entry_after_take, entry_after_wake, entry_after_cancel, entry_after_requeue, entry_after_park}
+use Rattle.blocking_pool.specs.Lists.{is_in}
+use Rattle.blocking_pool.proofs.Lists.{turned}
+use Rattle.blocking_pool.proofs.PoolLemmas.{parked_one}
+use Rattle.blocking_laws.specs.Seen.{has_timed_out}
+use Rattle.blocking_crew.specs.Crews.{Crew}
+use Rattle.blocking_crew.specs.Moves.{Move, Adds, TakesJob, EndsTurn, Parks, HasWaited, Sweeps, IsWoken, IsCancelled, IsLetGo, May, after}
+use Rattle.blocking_crew.specs.Tickets.{is_valued, to_sweep, ticket_after_mark, new_ticket}
+use Rattle.blocking_crew.specs.declared.tickets.Parking.TheVariants as parking
+use Rattle.blocking_crew.proofs.Types.{Entered, Marked, Standing, Queued, Running, Parked, Ticket}
+use Rattle.blocking_crew.proofs.jobs.Changes.{change_of, found_after}
+use Rattle.blocking_crew.proofs.jobs.Lookups.{woken_is, cancelled_is, runs_at}
+use Rattle.blocking_crew.proofs.jobs.Marks.{mark_by}
+use Rattle.blocking_crew.proofs.jobs.Tickets.{with_ticket, parked_has, swept_parked}
+
+pub record IsKept (ends : Bool) (old new : Option (Job Ticket)) : Type 0 where
+  pub runs : ends ≡ false → (place : ℕ) → is_running_job (if_at place old) ≡ true → is_running_job (if_at place new) ≡ true
+  pub valued : is_valued old ≡ true → is_valued new ≡ true
+
+pub same_kept : (ends : Bool) (found : Option (Job Ticket)) → IsKept ends found found
+same_kept ends found = record { runs = λ on place runs. runs; valued = λ valued. valued }
+
+-- ---- each change
+
+place_alike : (p : ℕ) (job new : Job Ticket) → new.standing ≡ job.standing → new.place ≡ job.place → is_running_job (if_at p (Some new)) ≡ is_running_job (if_at p (Some job))
+place_alike p job new st pl = rw pl (grind (arith, st))
+
+-- the standing and the place stay
+changed_kept : (change : Job Ticket → Job Ticket) → ((job : Job Ticket) → (change job).standing ≡ job.standing) → ((job : Job Ticket) → (change job).place ≡ job.place)
+    → ((job : Job Ticket) → is_valued (Some job) ≡ true → is_valued (Some (change job)) ≡ true) → (found : Option (Job Ticket)) → IsKept false found (option_map change found)
+changed_kept change standing place valued None = same_kept false None
+changed_kept change standing place valued (Some job) = record {
+  runs = λ on p runs. place_alike p job (change job) (standing job) (place job) ∙ runs;
+  valued = λ has. valued job has;
+}
+
+mark_kept : (value : Option Ticket) (found : Option (Job Ticket)) → IsKept false found (option_map (mark_by value) found)
+mark_kept None found = changed_kept (mark_by None) (λ job. refl) (λ job. refl) (λ job has. has) found
+mark_kept (Some ticket) found = changed_kept (mark_by (Some ticket)) (λ job. refl) (λ job. refl) (λ job has. with_ticket (mark_by (Some ticket) job) (ticket_after_mark ticket) refl) found
+
+fresh_kept : (found : Option (Job Ticket)) (job : Job Ticket) → found ≡ None → is_valued (Some job) ≡ true → IsKept false found (Some job)
+fresh_kept None job none valued = record { runs = λ on place runs. absurd cc; valued = λ has. valued }
+fresh_kept (Some other) job none valued = absurd cc
+
+not_queued : (standing : Standing) → is_running standing ≡ true → standing ≡ Queued → ⊥
+not_queued Running runs queued = cc
+not_queued _ runs queued = cc
+
+taken_kept : (found : Option (Job Ticket)) (job : Job Ticket) → found ≡ Some job → job.standing ≡ Queued → IsKept false found (option_map entry_after_take found)
+taken_kept None job there queued = absurd cc
+taken_kept (Some other) job there queued = record {
+  runs = λ on place runs. absurd (not_queued other.standing (runs_at place (Some other) runs) (let same : other ≡ job = cc in ap (λ (j : Job Ticket). j.standing) same ∙ queued));
+  valued = λ has. refl;
+}
+
+not_parked : (standing : Standing) → is_running standing ≡ true → is_parked standing ≡ true → ⊥
+not_parked Running runs parked = cc
+not_parked _ runs parked = cc
+
+-- a parked job enters again, also where it was cancelled
+parked_kept : (found : Option (Job Ticket)) → is_parked_job found ≡ true → IsKept false found (option_map entry_after_requeue found)
+parked_kept None parked = absurd cc
+parked_kept (Some job) parked = record {
+  runs = λ on place runs. absurd (not_parked job.standing (runs_at place (Some job) runs) parked);
+  valued = λ has. parked_has job.standing job.value parked has;
+}
+
+cancelled_kept : (found : Option (Job Ticket)) → is_parked_job found ≡ true → IsKept false found (option_map entry_after_requeue (option_map entry_after_cancel found))
+cancelled_kept None parked = absurd cc
+cancelled_kept (Some job) parked = record {
+  runs = λ on place runs. absurd (not_parked job.standing (runs_at place (Some job) runs) parked);
+  valued = λ has. parked_has job.standing job.value parked has;
+}
+
+-- a turn ends
+ended_kept : (old new : Option (Job Ticket)) → is_valued new ≡ true → IsKept true old new
+ended_kept old new valued = record { runs = λ on place runs. absurd cc; valued = λ has. valued }
+
+park_valued : (ticket : Ticket) (found : Option (Job Ticket)) → is_valued (option_map (entry_after_park ticket) found) ≡ true
+park_valued ticket None = refl
+park_valued ticket (Some job) = with_ticket (entry_after_park ticket job) ticket refl
+
+return_valued : (ticket : Ticket) (found : Option (Job Ticket)) → is_valued (option_map entry_after_requeue (option_map (entry_after_park ticket) found)) ≡ true
+return_valued ticket None = refl
+return_valued ticket (Some job) = refl
+
+-- ---- each move
+
+-- whether the turn of a job ends
+abbrev pub ends_turn : Move → Bool
+ends_turn (EndsTurn v held pass) = true
+ends_turn (Parks v held ticket (parking.Parked pass) pool) = true
+ends_turn (Parks v held ticket (parking.Queued pass) pool) = true
+ends_turn move = false
+
+module _ (may_answer : ℕ → Bool → Type 0) (crew : Crew) where
+  rests : (number : JobNumber) (s : ℕ) → (number.serial == s) ≡ true → standing_of crew.pool.jobs number ≡ Some Parked → is_parked_job (get crew.pool.jobs s) ≡ true
+  rests number s is parked = parked_one crew.pool.jobs number parked s (ap (λ b. b || false) (turned s number.serial ∙ is))
+
+  becomes_kept : (move : Move) (s : ℕ) → May may_answer crew move → (change_of crew move).which s ≡ true → IsKept (ends_turn move) (get crew.pool.jobs s) ((change_of crew move).becomes (get crew.pool.jobs s))
+  becomes_kept (Adds who (Ok number) growth pool) s may is =
+      fresh_kept (get crew.pool.jobs s) (new_job number.place new_ticket) (ap (get crew.pool.jobs) (sym (eqb-true number.serial s is) ∙ may.serial) ∙ may.unused) refl
+  becomes_kept (TakesJob v old to_drop turn ticket growth pool) s may is =
+      taken_kept (get crew.pool.jobs s) may.1.job (ap (get crew.pool.jobs) (sym (eqb-true turn.serial s is)) ∙ may.1.found) may.1.stands
+  becomes_kept (EndsTurn v held pass) s may is = ended_kept (get crew.pool.jobs s) None refl
+  becomes_kept (Parks v held ticket (parking.Parked pass) pool) s may is = ended_kept (get crew.pool.jobs s) _ (park_valued ticket (get crew.pool.jobs s))
+  becomes_kept (Parks v held ticket (parking.Queued pass) pool) s may is = ended_kept (get crew.pool.jobs s) _ (return_valued ticket (get crew.pool.jobs s))
+  becomes_kept (HasWaited v pass end waited growth pool) s may is =
+      parked_kept (get crew.pool.jobs s) (swept_parked crew.pool s (and_parts (has_timed_out end) (is_in s (to_sweep crew.pool)) is).1)
+  becomes_kept (Sweeps growth pool) s may is = parked_kept (get crew.pool.jobs s) (swept_parked crew.pool s is)
+  becomes_kept (IsWoken who number Entered growth pool) s may is =
+      parked_kept (get crew.pool.jobs s) (rests number s is (woken_is (standing_of crew.pool.jobs number) may.answer))
+  becomes_kept (IsWoken who number Marked growth pool) s may is = changed_kept entry_after_wake (λ job. refl) (λ job. refl) (λ job has. has) (get crew.pool.jobs s)
+  becomes_kept (IsCancelled who number Entered growth pool) s may is =
+      cancelled_kept (get crew.pool.jobs s) (rests number s is (cancelled_is (standing_of crew.pool.jobs number) may.answer))
+  becomes_kept (IsCancelled who number Marked growth pool) s may is = changed_kept entry_after_cancel (λ job. refl) (λ job. refl) (λ job has. has) (get crew.pool.jobs s)
+  becomes_kept (IsLetGo who act (Some number)) s may is = mark_kept (value_at (job_of crew.pool.jobs number)) (get crew.pool.jobs s)
+  becomes_kept move s may is = absurd cc
+
+  pub kept_after : (move : Move) (s : ℕ) → May may_answer crew move → IsKept (ends_turn move) (get crew.pool.jobs s) (get (after crew move).pool.jobs s)
+  kept_after move s may =
+      let change = change_of crew move in
+      rw (found_after may_answer crew move s may)
+      (cond_both (change.which s) (change.becomes (get crew.pool.jobs s)) (get crew.pool.jobs s) (IsKept (ends_turn move) (get crew.pool.jobs s)) (becomes_kept move s may)
+      (λ is. same_kept (ends_turn move) (get crew.pool.jobs s)))

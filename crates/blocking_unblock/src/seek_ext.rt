@@ -1,0 +1,42 @@
+//! Whole seeks as futures, so that a program needs no loop of polls.
+ghost use Rattle.std.specs.Prelude.{◌≡◌};
+
+use crate::io::{AsyncSeek, IoFault};
+use futures::Future;
+use futures::task::{Context, Poll};
+use std::io::SeekFrom;
+
+/// Whole seeks of what is moved by polls.
+pub trait AsyncSeekExt: AsyncSeek {
+    /// A future that moves to a position. It answers where that is, counted in bytes from the start. Until it was ready it may be polled.
+    final fn seek<'a>(&'a mut self, to: SeekFrom) -> SeekTo<'a, Self>
+    where
+        Self: Sized,
+        requires { Self.closed self.old → ⊥ }
+        ensures seeker { result.seeker.ghost_name ≡ self.entry.ghost_name }
+        ensures open { Self.closed result.seeker.now → ⊥ }
+        ensures to_is { result.to ≡ to }
+    {
+        SeekTo { seeker: self, to }
+    }
+}
+
+impl<A: AsyncSeek> AsyncSeekExt for A {}
+
+/// The future of [`AsyncSeekExt::seek`].
+#[derive(Drop)]
+pub struct SeekTo<'a, A> {
+    seeker: &'a mut A,
+    to: SeekFrom,
+}
+
+impl<'a, A: AsyncSeek> Future for SeekTo<'a, A> {
+    type Output = Result<u64, IoFault>;
+
+    ghost can_poll = { λ seek. A.closed seek.seeker.now → ⊥ };
+
+    fn poll(&mut self, cx: &mut Context<'_>) -> Poll<Result<u64, IoFault>> {
+        let seeker = &mut *self.seeker;
+        seeker.poll_seek(cx, self.to)
+    }
+}

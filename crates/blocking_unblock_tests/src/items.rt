@@ -1,0 +1,208 @@
+//! Iterators that are lent, as streams of their items.
+use crate::reader::LOOKS;
+use blocking::{Executor, Host, ItemJob, Runtime, Unblock};
+use blocking_core::pool::{Carries, Job, Refusal};
+use futures::executor::block_on;
+use futures::task::{Context, Poll};
+use futures::test::MockTask;
+use futures::{Future, Stream};
+use std::fmt::{Debug, Formatter};
+use std::sync::atomic::{AtomicUsize, Ordering};
+use std::sync::{Arc, Wait};
+use std::test::Fail;
+use std::{fmt, io, thread};
+
+// The numbers from 0 on, up to an end. It counts how often it is asked, and may be asked again after its end.
+#[derive(Drop)]
+struct Numbers {
+    next: u64,
+    end: u64,
+    asked: Arc<AtomicUsize>,
+}
+
+impl Iterator for Numbers {
+    type Item = u64;
+
+    fn next(&mut self) -> Option<u64> {
+        self.asked.fetch_add(1, Ordering::SeqCst);
+        if self.next >= self.end {
+            return None;
+        }
+        let number = self.next;
+        self.next = number.saturating_add(1);
+        Some(number)
+    }
+}
+
+impl Debug for Numbers {
+    fn fmt<W: fmt::Write>(&self, f: &mut Formatter<W>) -> fmt::Result {
+        write!(f, "from {}", self.next)
+    }
+}
+
+type Owner<J, H> = Unblock<Numbers, u64, J, H>;
+
+type Streams<H> = Executor<ItemJob<Numbers, u64, H>, H>;
+
+// Takes all items to the end, and gives how many came, each in its place. (none where another came or no session could begin)
+#[derive(Drop)]
+struct InOrder<J: Job + Carries<ItemJob<Numbers, u64, H>>, H: Runtime> {
+    rt: H,
+    owner: Owner<J, H>,
+    came: u64,
+}
+
+impl<J: Job + Carries<ItemJob<Numbers, u64, H>>, H: Runtime> Future for InOrder<J, H> {
+    type Output = Option<u64>;
+
+    fn poll(&mut self, cx: &mut Context<'_>) -> Poll<Option<u64>> {
+        let rt = self.rt;
+        for _ in rt.forever() {
+            if self.owner.is_closed() {
+                return Poll::Ready(None);
+            }
+            match self.owner.poll_next(cx) {
+                Poll::Pending => return Poll::Pending,
+                Poll::Ready(Some(Ok(item))) if item == self.came => {
+                    self.came = self.came.saturating_add(1);
+                }
+                Poll::Ready(None) => return Poll::Ready(Some(self.came)),
+                Poll::Ready(_) => return Poll::Ready(None),
+            }
+        }
+        unreachable!()
+    }
+}
+
+// An owner of so many numbers. No capacity is the default.
+fn owner<H: Host>(
+    rt: H,
+    capacity: usize,
+    end: u64,
+    asked: &Arc<AtomicUsize>,
+) -> io::Result<Owner<ItemJob<Numbers, u64, H>, H>> {
+    let Ok(executor) = Streams::new(rt, Some("1")) else {
+        return Err(io::Error::from(io::ErrorKind::Other));
+    };
+    let asked = Arc::try_clone(asked)?;
+    let numbers = Numbers {
+        next: 0,
+        end,
+        asked,
+    };
+    Ok(if capacity > 0 {
+        Unblock::with_capacity(capacity, executor, numbers)
+    } else {
+        Unblock::new(executor, numbers)
+    })
+}
+
+fn counter<H: Host>(rt: H) -> io::Result<Arc<AtomicUsize>> {
+    Ok(Arc::new(rt.alloc(), AtomicUsize::new(0))?)
+}
+
+// How many of so many numbers come in order.
+fn in_order<H: Host>(rt: H, capacity: usize, end: u64) -> io::Result<Option<u64>> {
+    let asked = counter(rt)?;
+    let owner = owner(rt, capacity, end, &asked)?;
+    block_on(&rt, InOrder { rt, owner, came: 0 })
+}
+
+const MANY: u64 = 100_000;
+
+#[test]
+fn many_items_come_in_order(rt: HostRuntime) -> Result<(), Fail> {
+    for capacity in [1, 100, 0] {
+        let came = in_order(rt, capacity, MANY)?;
+        assert_eq!(rt; came, Some(MANY), "at capacity {capacity}");
+    }
+    Ok(())
+}
+
+#[test]
+fn no_items_are_the_end(rt: HostRuntime) -> Result<(), Fail> {
+    let came = in_order(rt, 1, 0)?;
+    assert_eq!(rt; came, Some(0));
+    Ok(())
+}
+
+// What one poll for an item shows; a poll of a closed owner shows that it waits.
+fn polled<J: Job + Carries<ItemJob<Numbers, u64, H>>, H: Runtime>(
+    owner: &mut Owner<J, H>,
+    mock: &mut MockTask,
+) -> Poll<Option<Result<u64, Refusal>>> {
+    mock.enter(|cx| {
+        if owner.is_closed() {
+            return Poll::Pending;
+        }
+        owner.poll_next(cx)
+    })
+}
+
+// The next item, once it comes; none before long, or at the end.
+fn next<J: Job + Carries<ItemJob<Numbers, u64, H>>, H: Runtime>(
+    owner: &mut Owner<J, H>,
+    mock: &mut MockTask,
+) -> Option<Result<u64, Refusal>> {
+    for _ in 0..LOOKS {
+        if let Poll::Ready(item) = polled(owner, mock) {
+            return item;
+        }
+        thread::yield_now();
+    }
+    None
+}
+
+// Whether the counter comes to this number before long, and no further.
+fn comes_to(counter: &AtomicUsize, number: usize) -> bool {
+    for _ in 0..LOOKS {
+        if counter.load(Ordering::SeqCst) >= number {
+            break;
+        }
+        thread::yield_now();
+    }
+    for _ in 0..1_000 {
+        thread::yield_now();
+    }
+    counter.load(Ordering::SeqCst) == number
+}
+
+#[test]
+fn at_capacity_one_two_items_are_out_at_most(rt: HostRuntime) -> Result<(), Fail> {
+    let asked = counter(rt)?;
+    let mut owner = owner(rt, 1, 3, &asked)?;
+    let mut mock = MockTask::new(&rt)?;
+    assert!(rt; polled(&mut owner, &mut mock).is_pending() || asked.load(Ordering::SeqCst) > 0);
+    assert!(rt; comes_to(&asked, 2) || asked.load(Ordering::SeqCst) == 3);
+    Ok(())
+}
+
+#[test]
+fn iterator_is_asked_again_after_its_end(rt: HostRuntime) -> Result<(), Fail> {
+    let asked = counter(rt)?;
+    let mut owner = owner(rt, 1, 3, &asked)?;
+    let mut mock = MockTask::new(&rt)?;
+    for item in 0..3 {
+        assert_eq!(rt; next(&mut owner, &mut mock), Some(Ok(item)));
+    }
+    assert_eq!(rt; next(&mut owner, &mut mock), None);
+    assert_eq!(rt; asked.load(Ordering::SeqCst), 4);
+    assert_eq!(rt; next(&mut owner, &mut mock), None);
+    assert_eq!(rt; asked.load(Ordering::SeqCst), 5);
+    Ok(())
+}
+
+// (no pipe holds so many items)
+#[test]
+fn stream_that_is_refused_says_why(rt: HostRuntime) -> Result<(), Fail> {
+    let asked = counter(rt)?;
+    let mut owner = owner(rt, usize::MAX, 3, &asked)?;
+    let mut mock = MockTask::new(&rt)?;
+    assert_eq!(rt; next(&mut owner, &mut mock), Some(Err(Refusal::Memory)));
+    assert_eq!(rt;
+        format!(in rt.alloc(); "{owner:?}")?.as_str(),
+        "Unblock { io: from 0 }"
+    );
+    assert_eq!(rt; asked.load(Ordering::SeqCst), 0);
+    Ok(())
+}
