@@ -237,6 +237,8 @@ pub fn streams()
     ensures refuses_end_of_filled_pipe { Refuses FirstOwnerLaw second_asked (polls GotEnd 2) }
     // .. / replied item 0 / .. / asked / got item 0
     ensures refuses_item_twice { Refuses FirstOwnerLaw second_asked (polls (GotItem 0 None) 2) }
+    // .. / asked / got item 0 wake 1: it is no longer inside
+    ensures got_item_is_out { inside (cut 0 (events first_got)) ≡ [] }
     // .. / answered item 1 / parked / answered item 2
     ensures refuses_dropped_item { Refuses FirstOwnerLaw second_waits (given 1 (Item 2)) }
     ensures refuses_two_in_hand { Refuses (Keeps FirstOwnerPasses) second_waits (given 1 (Item 2)) }
