@@ -147,17 +147,30 @@ const ROWS: &[(&str, &[Step])] = &[
 
 type Owner<H> = Unblock<Gated, u8, Kinds<Gated, Jump, H>, H>;
 
-// Whether a seek or an operation that is polled once waits, while the handle can't go on.
-fn begins<F: Future, H: Host>(rt: H, gate: &Gate, future: F) -> io::Result<bool>
-where
-    F::Output: Drop,
-    requires { F.can_poll future }
-{
-    let mut future = future;
+// Whether a seek that is polled once waits, while the handle can't go on.
+fn begins_seek<H: Host>(
+    rt: H,
+    owner: &mut Owner<H>,
+    gate: &Gate,
+    to: SeekFrom,
+) -> io::Result<bool> {
     let mut mock = MockTask::new(&rt)?;
     gate.is_open.store(false, Ordering::SeqCst);
-    let waits = mock.enter(|cx| future.poll(cx).is_pending());
-    drop(future);
+    let waits = mock.enter(|cx| !owner.is_closed() && owner.poll_seek(cx, to).is_pending());
+    gate.is_open.store(true, Ordering::SeqCst);
+    Ok(waits)
+}
+
+// Whether an operation that is polled once waits, while the handle can't go on. It is dropped then.
+fn begins_jump<H: Host>(rt: H, owner: &mut Owner<H>, gate: &Gate, to: u64) -> io::Result<bool> {
+    if owner.is_closed() {
+        return Ok(false);
+    }
+    let mut mock = MockTask::new(&rt)?;
+    gate.is_open.store(false, Ordering::SeqCst);
+    let mut jump = owner.with_mut(Jump { to });
+    let waits = mock.enter(|cx| !jump.is_taken() && jump.poll(cx).is_pending());
+    drop(jump);
     gate.is_open.store(true, Ordering::SeqCst);
     Ok(waits)
 }
@@ -171,11 +184,11 @@ fn shows<H: Host>(rt: H, owner: &mut Owner<H>, gate: &Gate, step: Step) -> io::R
         Step::Seek(to, place) => {
             matches!(block_on(&rt, owner.seek(to))?, Ok(came) if came == place)
         }
-        Step::BeginSeek(to) => begins(rt, gate, owner.seek(to))?,
+        Step::BeginSeek(to) => begins_seek(rt, owner, gate, to)?,
         Step::Jump(to, before) => {
             matches!(block_on(&rt, owner.with_mut(Jump { to }))?, Ok(came) if came == before)
         }
-        Step::BeginJump(to) => begins(rt, gate, owner.with_mut(Jump { to }))?,
+        Step::BeginJump(to) => begins_jump(rt, owner, gate, to)?,
         Step::Byte(byte) => {
             let mut one = [0u8; 1];
             matches!(block_on(&rt, owner.read(&mut one))?, Ok(1)) && one == [byte]
