@@ -18,6 +18,8 @@ mod reading;
 #[cfg(test)]
 mod row;
 #[cfg(test)]
+mod streams_and_seeks;
+#[cfg(test)]
 mod texts;
 #[cfg(test)]
 mod turns;

@@ -1,4 +1,5 @@
 //! Rows: steps, with what is seen of each. And how they are played.
+use blocking_core::io::Position;
 use blocking_laws::bytes::Bytes;
 use blocking_laws::step::{Answer, HandleCall, Step, TaskCall};
 use blocking_world::{World, run};
@@ -6,7 +7,7 @@ use std::alloc::{AllocError, Global};
 use std::test::Fail;
 
 // A step as plain data. An owner is asked to write the bytes of a text. What a job asks for is answered by a number (`Io`), by the bytes
-// of a text (`Gives`), by a flush that is done (`Flushed`), or by a fault (`IoFails`).
+// of a text (`Gives`), by a flush that is done (`Flushed`), by an item (`GivesItem`) or none (`HasNoItem`), or by a fault (`IoFails`).
 #[derive(Clone, Copy, Debug)]
 pub(crate) enum PlainStep {
     New(usize),
@@ -15,6 +16,8 @@ pub(crate) enum PlainStep {
     AskFlush(usize),
     AskClose(usize),
     AskMut(usize),
+    AskNext(usize),
+    AskSeek(usize, Position),
     Own(usize),
     DropOwner(usize),
     Spawn,
@@ -25,6 +28,8 @@ pub(crate) enum PlainStep {
     Io(usize, u64),
     Gives(usize, &'static str),
     Flushed(usize),
+    GivesItem(usize, u64),
+    HasNoItem(usize),
     IoFails(usize, u64),
     End(usize),
     Wait(usize),
@@ -52,6 +57,8 @@ impl PlainStep {
             PlainStep::AskFlush(owner) => Step::Ask(owner, HandleCall::Flush),
             PlainStep::AskClose(owner) => Step::Ask(owner, HandleCall::Close),
             PlainStep::AskMut(owner) => Step::Ask(owner, HandleCall::GetMut),
+            PlainStep::AskNext(owner) => Step::Ask(owner, HandleCall::Next),
+            PlainStep::AskSeek(owner, to) => Step::Ask(owner, HandleCall::Seek(to)),
             PlainStep::Own(owner) => Step::Own(owner),
             PlainStep::DropOwner(owner) => Step::DropOwner(owner),
             PlainStep::Spawn => Step::Spawn,
@@ -64,6 +71,8 @@ impl PlainStep {
                 Step::Io(worker, Answer::Gave(bytes_of(alloc, text)?))
             }
             PlainStep::Flushed(worker) => Step::Io(worker, Answer::Fine),
+            PlainStep::GivesItem(worker, item) => Step::Io(worker, Answer::Item(item)),
+            PlainStep::HasNoItem(worker) => Step::Io(worker, Answer::NoItem),
             PlainStep::IoFails(worker, error) => Step::Io(worker, Answer::Failed(error)),
             PlainStep::End(worker) => Step::End(worker),
             PlainStep::Wait(worker) => Step::Wait(worker),
