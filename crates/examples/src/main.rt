@@ -1,7 +1,6 @@
 //! Uses of the crate `blocking`: one call here, and more in the modules. What they print is always the same.
 #![tactic(auto)]
 
-mod folder;
 mod host;
 mod lines;
 mod log;
@@ -52,7 +51,7 @@ fn main(rt: HostRuntime) -> Result<()> {
 }
 
 // The examples of the modules.
-fn more<H: Host + Files<File = File, Dir: Send> + Env>(rt: H) -> Result<()> {
+fn more<H: Host + Files<File = File> + Env>(rt: H) -> Result<()> {
     let (square, is_even) = two_kinds::answers(rt)?;
     println!(rt; "12 squared is {square}; 12 is even: {is_even}")?;
     let serial = own_job::woken(rt)?;
@@ -60,7 +59,6 @@ fn more<H: Host + Files<File = File, Dir: Send> + Env>(rt: H) -> Result<()> {
     let count = own_rule::received(rt)?;
     println!(rt; "{count} numbers came in order")?;
     lines::show_file(rt)?;
-    folder::show_folder(rt)?;
     records::show_records(rt)?;
     log::show_log(rt)?;
     refusal::show(rt)
