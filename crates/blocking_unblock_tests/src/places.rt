@@ -175,27 +175,78 @@ fn begins_jump<H: Host>(rt: H, owner: &mut Owner<H>, gate: &Gate, to: u64) -> io
     Ok(waits)
 }
 
-// Whether a step shows what it must.
-fn shows<H: Host>(rt: H, owner: &mut Owner<H>, gate: &Gate, step: Step) -> io::Result<bool> {
+// Whether the next byte is this one.
+fn reads<H: Host>(rt: H, owner: &mut Owner<H>, byte: u8) -> io::Result<bool> {
     if owner.is_closed() {
         return Ok(false);
     }
-    Ok(match step {
-        Step::Seek(to, place) => {
-            matches!(block_on(&rt, owner.seek(to))?, Ok(came) if came == place)
-        }
-        Step::BeginSeek(to) => begins_seek(rt, owner, gate, to)?,
-        Step::Jump(to, before) => {
-            matches!(block_on(&rt, owner.with_mut(Jump { to }))?, Ok(came) if came == before)
-        }
-        Step::BeginJump(to) => begins_jump(rt, owner, gate, to)?,
-        Step::Byte(byte) => {
-            let mut one = [0u8; 1];
-            matches!(block_on(&rt, owner.read(&mut one))?, Ok(1)) && one == [byte]
-        }
-        Step::Moves(moves) => gate.moves.load(Ordering::SeqCst) == moves,
-        Step::Debug(text) => format!(in rt.alloc(); "{owner:?}")?.as_str() == text,
-    })
+    let mut one = [0u8; 1];
+    let read = block_on(&rt, owner.read(&mut one))?;
+    Ok(matches!(read, Ok(1)) && one == [byte])
+}
+
+// Whether a seek comes to this place.
+fn seeks<H: Host>(rt: H, owner: &mut Owner<H>, to: SeekFrom, place: u64) -> io::Result<bool> {
+    if owner.is_closed() {
+        return Ok(false);
+    }
+    Ok(matches!(block_on(&rt, owner.seek(to))?, Ok(came) if came == place))
+}
+
+// Whether an operation tells that the handle was there before.
+fn jumps<H: Host>(rt: H, owner: &mut Owner<H>, to: u64, before: u64) -> io::Result<bool> {
+    if owner.is_closed() {
+        return Ok(false);
+    }
+    Ok(matches!(block_on(&rt, owner.with_mut(Jump { to }))?, Ok(came) if came == before))
+}
+
+// Whether a seek ends at this place.
+fn seeks<H: Host>(rt: H, owner: &mut Owner<H>, to: SeekFrom, place: u64) -> io::Result<bool> {
+    if owner.is_closed() {
+        return Ok(false);
+    }
+    match block_on(&rt, owner.seek(to))? {
+        Ok(came) => Ok(came == place),
+        Err(_) => Ok(false),
+    }
+}
+
+// Whether an operation that moves the handle gives where it was.
+fn jumps<H: Host>(rt: H, owner: &mut Owner<H>, to: u64, before: u64) -> io::Result<bool> {
+    if owner.is_closed() {
+        return Ok(false);
+    }
+    match block_on(&rt, owner.with_mut(Jump { to }))? {
+        Ok(came) => Ok(came == before),
+        Err(_) => Ok(false),
+    }
+}
+
+// Whether this is the next byte.
+fn reads<H: Host>(rt: H, owner: &mut Owner<H>, byte: u8) -> io::Result<bool> {
+    if owner.is_closed() {
+        return Ok(false);
+    }
+    let mut one = [0u8; 1];
+    let read = block_on(&rt, owner.read(&mut one))?;
+    match read {
+        Ok(count) => Ok(count == 1 && one == [byte]),
+        Err(_) => Ok(false),
+    }
+}
+
+// Whether a step shows what it must.
+fn shows<H: Host>(rt: H, owner: &mut Owner<H>, gate: &Gate, step: Step) -> io::Result<bool> {
+    match step {
+        Step::Seek(to, place) => seeks(rt, owner, to, place),
+        Step::BeginSeek(to) => begins_seek(rt, owner, gate, to),
+        Step::Jump(to, before) => jumps(rt, owner, to, before),
+        Step::BeginJump(to) => begins_jump(rt, owner, gate, to),
+        Step::Byte(byte) => reads(rt, owner, byte),
+        Step::Moves(moves) => Ok(gate.moves.load(Ordering::SeqCst) == moves),
+        Step::Debug(text) => Ok(format!(in rt.alloc(); "{owner:?}")?.as_str() == text),
+    }
 }
 
 // The place of the first step that shows something else, if there is one.
