@@ -201,41 +201,6 @@ fn jumps<H: Host>(rt: H, owner: &mut Owner<H>, to: u64, before: u64) -> io::Resu
     Ok(matches!(block_on(&rt, owner.with_mut(Jump { to }))?, Ok(came) if came == before))
 }
 
-// Whether a seek ends at this place.
-fn seeks<H: Host>(rt: H, owner: &mut Owner<H>, to: SeekFrom, place: u64) -> io::Result<bool> {
-    if owner.is_closed() {
-        return Ok(false);
-    }
-    match block_on(&rt, owner.seek(to))? {
-        Ok(came) => Ok(came == place),
-        Err(_) => Ok(false),
-    }
-}
-
-// Whether an operation that moves the handle gives where it was.
-fn jumps<H: Host>(rt: H, owner: &mut Owner<H>, to: u64, before: u64) -> io::Result<bool> {
-    if owner.is_closed() {
-        return Ok(false);
-    }
-    match block_on(&rt, owner.with_mut(Jump { to }))? {
-        Ok(came) => Ok(came == before),
-        Err(_) => Ok(false),
-    }
-}
-
-// Whether this is the next byte.
-fn reads<H: Host>(rt: H, owner: &mut Owner<H>, byte: u8) -> io::Result<bool> {
-    if owner.is_closed() {
-        return Ok(false);
-    }
-    let mut one = [0u8; 1];
-    let read = block_on(&rt, owner.read(&mut one))?;
-    match read {
-        Ok(count) => Ok(count == 1 && one == [byte]),
-        Err(_) => Ok(false),
-    }
-}
-
 // Whether a step shows what it must.
 fn shows<H: Host>(rt: H, owner: &mut Owner<H>, gate: &Gate, step: Step) -> io::Result<bool> {
     match step {
