@@ -42,7 +42,7 @@ still_ready pool new row place (Holds held) after ready found ends =
     (over_ready (record { pool = pool; hands = row }) (place + 1) held ends.0 ready (hand_from_place row place (Holds held) found)))
 
 -- after all turns no hand holds a job
-pub all_idle : (pool : JobPool) (row : List Hand) → IsReady (record { pool = pool; hands = row }) → AllWithin HoldsNone row 0 (length row) → AreIdle pool row
+pub all_idle : (pool : JobPool) (hands : List Hand) → IsReady (record { pool = pool; hands = hands }) → AllWithin HoldsNone hands 0 (length hands) → AreIdle pool hands
 all_idle pool row ready jobless = record {
   valued = ready.valued;
   idle = ready.idle;
