@@ -1,5 +1,5 @@
 -- The machine of an owner, as contracts see it, and what each call of the owner and each act of its job does to it.
-use Rattle.std.specs.Prelude.{◌≡◌, ℕ, ◌==◌, ◌&&◌, if◌then◌else◌, Bool, true, false, List, ◌∷◌, length, Option, Some, None, is_some}
+use Rattle.std.specs.Prelude.{◌≡◌, ℕ, ◌==◌, ◌&&◌, ◌||◌, not, if◌then◌else◌, Bool, true, false, List, ◌∷◌, length, Option, Some, None, is_some}
 use Rattle.blocking_core.specs.OwnerCalls.{OwnerMachine, new_poll, owner_next, owner_after}
 use Rattle.blocking_core.specs.Pipes.{Pipe}
 use Rattle.blocking_core.specs.Places.{Met, Served, Waiting, Closed}
@@ -33,7 +33,7 @@ use Rattle.blocking_core.specs.declared.unblock.SessionKind.TheVariants as sessi
 use Rattle.blocking_core.specs.declared.unblock.State.{State}
 use Rattle.blocking_core.specs.declared.unblock.State.TheVariants as state
 use Rattle.blocking_laws.specs.JobTable.{Kind}
-use Rattle.blocking_laws.specs.Sessions.{default_capacity, kind_of, is_for_closed}
+use Rattle.blocking_laws.specs.Sessions.{default_capacity, kind_of, is_for_closed, is_into_inner}
 use Rattle.blocking_laws.specs.Steps.{is_known}
 use Rattle.blocking_laws.specs.Seats.{waker_in}
 use Rattle.blocking_laws.specs.declared.event.Act.{Act}
@@ -140,14 +140,20 @@ abbrev pub may_ask_at : OwnerStage → HandleCall → Bool
 may_ask_at (stage.Rests at) call = may_call_at at call
 may_ask_at _ call = false
 
--- and owners are asked for it yet
+-- and owners are asked for it yet, and once the handle was asked for for good only for that
 abbrev pub may_ask : Owner → HandleCall → Bool
-may_ask owner call = is_known call && may_ask_at owner.stage call
+may_ask owner call = is_known call && may_ask_at owner.stage call && (not (is_into_inner owner.asked) || is_into_inner (Some call))
 
 -- whether it was dropped
 abbrev pub is_gone : OwnerStage → Bool
 is_gone stage.Dropped = true
 is_gone _ = false
+
+-- whether it is no more: it was dropped, or its handle was taken back
+abbrev pub is_no_more : OwnerStage → Bool
+is_no_more stage.Dropped = true
+is_no_more stage.TakenBack = true
+is_no_more _ = false
 
 -- the note that it has to deliver
 abbrev pub note_at : OwnerStage → Option JobNumber
@@ -325,9 +331,15 @@ look_did looked.Nothing poll session owner =
     Some (record { act = Waits; owner = record owner { stage = stage.Rests poll.state; session = Some session } })
 look_did looked.Gone poll session owner = None
 
+-- where an owner is once its poll has replied: no more, if the handle was asked for for good
+abbrev pub stage_after_reply : Bool → State → OwnerStage
+stage_after_reply true at = stage.TakenBack
+stage_after_reply false at = stage.Rests at
+
 -- it replies, and its poll is over; a reply that the laws have no word for is not told, and nothing is done
 abbrev pub reply_did : Option Told → OwnerMachine ℕ → Owner → Option Did
-reply_did (Some told) poll owner = Some (record { act = Replied told; owner = record owner { stage = stage.Rests poll.state } })
+reply_did (Some told) poll owner =
+    Some (record { act = Replied told; owner = record owner { stage = stage_after_reply (is_into_inner owner.asked) poll.state } })
 reply_did None poll owner = None
 
 -- what its poll does next at its session

@@ -123,7 +123,7 @@ impl HandleCall {
         }
     }
 
-    /// Whether owners are asked for this yet: not for an operation, or for the handle for good.
+    /// Whether owners are asked for this yet: not for an operation.
     pub fn is_known(&self) -> bool
         ensures { result ≡ is_known self.now }
     {
@@ -136,6 +136,7 @@ impl HandleCall {
                 | HandleCall::Next
                 | HandleCall::Seek(_)
                 | HandleCall::GetMut
+                | HandleCall::IntoInner
         )
     }
 }

@@ -10,8 +10,8 @@ ghost use Rattle.blocking_laws.specs.Sessions.{has_begun, is_pending_operation};
 ghost use Rattle.blocking_laws.specs.Traces.{◌▸◌, Refuses, Keeps};
 ghost use Rattle.blocking_laws.specs.OwnerTraces.{asks, polls, works, given, ends, FirstOwnerLaw, KeepsFirstOwner, FirstOwnerIsNotLost};
 ghost use Rattle.blocking_laws.specs.OperationTraces.{operator_made, operation_begun, operation_taken, nine_given, nine_put, nine_got, nine_replied, operation_over, read_anew};
-ghost use Rattle.blocking_laws.specs.OperationTraces.{nine_unasked, second_begun, stop_for_operation, then_stopped};
-ghost use Rattle.blocking_laws.specs.declared.event.Act.TheVariants.{Accepted, Refused, OwnerClosed, Back, ResultGot, Replied, Waits, Answered, Ended, ResultPut, Finished};
+ghost use Rattle.blocking_laws.specs.OperationTraces.{nine_unasked, second_begun, stop_for_operation, then_stopped, older_asked};
+ghost use Rattle.blocking_laws.specs.declared.event.Act.TheVariants.{Accepted, Refused, OwnerClosed, Back, ResultGot, Replied, Waits, Answered, Ended, ResultPut, Finished, HolderWoken};
 ghost use Rattle.blocking_laws.specs.declared.event.HolderWaker.TheVariants.{Taken, Absent};
 ghost use Rattle.blocking_laws.specs.declared.event.Reply.TheVariants.{Count, Handle, NotBegun};
 ghost use Rattle.blocking_laws.specs.declared.step.Answer.TheVariants.{Number, Failed};
@@ -35,6 +35,14 @@ pub fn tables()
     ensures refuses_older_result { Refuses FirstOwnerLaw (nine_put ▸ asks Operate 2) (polls (ResultGot 9) 2) }
     // .. / ended 1 done / asked (for an operation) / back / accepted 2 / result 9: so is this
     ensures refuses_result_of_other_job { Refuses FirstOwnerLaw second_begun (polls (ResultGot 9) 2) }
+    // .. / delivered owner / asked (for an operation) / waits / asked (for the result) / waits: it looks for the handle of the one before
+    ensures accepts_wait_at_older_slot { KeepsFirstOwner (older_asked ▸ polls Waits 2) }
+    // .. / delivered owner / asked (for an operation) / waits / asked (for the result) / result 9: not for the result of that
+    ensures refuses_older_result_again { Refuses FirstOwnerLaw older_asked (polls (ResultGot 9) 2) }
+    // .. / asked (for the result) / back / accepted 2 / waits, after the one before is over
+    ensures accepts_operation_at_last { KeepsFirstOwner (older_asked
+        ▸ polls Waits 2 ▸ works 1 (Finished Taken) ▸ works 1 HolderWoken ▸ ends 1 (Ended 1 Done)
+        ▸ asks OperateAgain 2 ▸ polls Back 2 ▸ polls (Accepted 2) 2 ▸ polls Waits 2) }
     // .. / ended 1 done / asked (for an operation) / replied ok 9
     ensures refuses_result_unlooked { Refuses FirstOwnerLaw (nine_unasked ▸ asks Operate 2) (polls (Replied (Count 9)) 2) }
     // .. / accepted 1 +1 / back: it looks for the result
