@@ -123,7 +123,7 @@ impl HandleCall {
         }
     }
 
-    /// Whether owners are asked for this yet: not for an operation, or for the handle for good.
+    /// Whether owners are asked for this yet: not for the handle for good.
     pub fn is_known(&self) -> bool
         ensures { result ≡ is_known self.now }
     {
@@ -135,6 +135,8 @@ impl HandleCall {
                 | HandleCall::Close
                 | HandleCall::Next
                 | HandleCall::Seek(_)
+                | HandleCall::Operate
+                | HandleCall::OperateAgain
                 | HandleCall::GetMut
         )
     }
