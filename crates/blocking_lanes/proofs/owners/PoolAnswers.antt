@@ -46,7 +46,7 @@ use Rattle.blocking_lanes.specs.OwnerTies.{OwnerAs, FitsNext, BeginsBy, LooksFro
 use Rattle.blocking_lanes.specs.Sessions.{Session, goods_of, new_session}
 use Rattle.blocking_lanes.specs.declared.owner.OwnerStage.TheVariants as stage
 use Rattle.blocking_lanes.proofs.owners.Cuts.{next_with, next_stays, kind_of_last}
-use Rattle.blocking_lanes.proofs.owners.Known.{gone_known, may_ask_known}
+use Rattle.blocking_lanes.proofs.owners.Known.{all_true, asks_inner, may_ask_known}
 use Rattle.blocking_lanes.proofs.owners.OwnerActs.{Goes, owner_by_parts, bound, turned, lawful, fits_at, failed_fits, last_is}
 use Rattle.blocking_lanes.proofs.owners.States.{IsThere, is_away, gone_is, lent_by, may_be_asked, is_there, of_session}
 use Rattle.blocking_lanes.proofs.owners.Drains.{IsLending, begins}
@@ -68,9 +68,11 @@ table_at x (handle_call.Write (byte ∷ more)) (state.Lent kind end) known may t
 table_at x handle_call.Flush (state.Lent kind end) known may there = of_session (DoesSo x handle_call.Flush) refl refl refl refl refl refl (λ goal. refl) (λ goal. refl) kind end there
 table_at x handle_call.Close (state.Lent kind end) known may there = of_session (DoesSo x handle_call.Close) refl refl refl refl refl refl (λ goal. refl) (λ goal. refl) kind end there
 table_at x handle_call.GetMut (state.Lent kind end) known may there = of_session (DoesSo x handle_call.GetMut) refl refl refl refl refl refl (λ goal. refl) (λ goal. refl) kind end there
+table_at x handle_call.IntoInner (state.Lent kind end) known may there = of_session (DoesSo x handle_call.IntoInner) refl refl refl refl refl refl (λ goal. refl) (λ goal. refl) kind end there
 table_at x (handle_call.Read (suc n)) state.Closed known may there = absurd (cc)
 table_at x (handle_call.Write (byte ∷ more)) state.Closed known may there = absurd (cc)
 table_at x handle_call.GetMut state.Closed known may there = absurd (cc)
+table_at x handle_call.IntoInner state.Closed known may there = absurd (cc)
 table_at x handle_call.Flush state.Closed known may there = refl
 table_at x handle_call.Close state.Closed known may there = refl
 table_at x (handle_call.Read (suc n)) state.Idle known may there = refl
@@ -78,6 +80,7 @@ table_at x (handle_call.Write (byte ∷ more)) state.Idle known may there = refl
 table_at x handle_call.Flush state.Idle known may there = refl
 table_at x handle_call.Close state.Idle known may there = refl
 table_at x handle_call.GetMut state.Idle known may there = refl
+table_at x handle_call.IntoInner state.Idle known may there = refl
 table_at x handle_call.Next (state.Lent kind end) known may there = of_session (DoesSo x handle_call.Next) refl refl refl refl refl refl (λ goal. refl) (λ goal. refl) kind end there
 table_at x handle_call.Next state.Closed known may there = absurd (cc)
 table_at x handle_call.Next state.Idle known may there = refl
@@ -114,7 +117,7 @@ session_fits call kind Shut true is fits = stop_fits call kind Shut
 session_fits call kind Open false is fits = stop_fits call kind Open
 session_fits call kind Shut false is fits = stop_fits call kind Shut
 
--- a flush, a close and the call for the handle have no session of their own
+-- a flush, a close and the calls for the handle have no session of their own
 flush_stops : (kind : SessionKind) → machine.goes_on_in kind poll_call.Flush ≡ true → ⊥
 flush_stops session_kind.Reading own = cc
 flush_stops _ own = cc
@@ -126,6 +129,10 @@ close_stops _ own = cc
 get_stops : (kind : SessionKind) → machine.goes_on_in kind poll_call.GetMut ≡ true → ⊥
 get_stops session_kind.Reading own = cc
 get_stops _ own = cc
+
+inner_stops : (kind : SessionKind) → machine.goes_on_in kind poll_call.IntoInner ≡ true → ⊥
+inner_stops session_kind.Reading own = cc
+inner_stops _ own = cc
 
 table_fits : (call : HandleCall) (at : State) → is_known call ≡ true → may_call_at at call ≡ true → FitsNext call (new_poll (poll_call_of call) at) (machine.table (poll_call_of call) at) false None
 table_fits (handle_call.Read zero) at known may = (refl, tt, tt)
@@ -155,6 +162,9 @@ table_fits handle_call.Close state.Closed known may = (refl, tt, refl)
 table_fits handle_call.GetMut state.Idle known may = (refl, tt, tt)
 table_fits handle_call.GetMut (state.Lent kind end) known may = session_fits handle_call.GetMut kind end (machine.goes_on_in kind poll_call.GetMut) refl (λ own. absurd (get_stops kind own))
 table_fits handle_call.GetMut state.Closed known may = absurd (cc)
+table_fits handle_call.IntoInner state.Idle known may = (refl, tt, tt)
+table_fits handle_call.IntoInner (state.Lent kind end) known may = session_fits handle_call.IntoInner kind end (machine.goes_on_in kind poll_call.IntoInner) refl (λ own. absurd (inner_stops kind own))
+table_fits handle_call.IntoInner state.Closed known may = absurd (cc)
 table_fits handle_call.Next state.Idle known may = (tt, refl, refl)
 table_fits handle_call.Next (state.Lent kind end) known may = session_fits handle_call.Next kind end (machine.goes_on_in kind poll_call.Next) refl (own kind)
   where
@@ -174,20 +184,22 @@ table_fits _ at known may = absurd (cc)
 
 -- it rests, by the law
 rests_so : (bytes : ℕ) (asked : Option HandleCall) (here : State) (last : Option Session) (cut : List Event) → OwnerAs (owner_by_parts bytes asked (stage.Rests here) last) cut → sessions.rests (own cut) ≡ true
-rests_so bytes asked here last cut t = rw (t.made, gone_known (own cut) t.calls ∙ t.gone, t.polled) refl
+rests_so bytes asked here last cut t = rw (t.made, t.gone.1, t.polled) refl
 
 pub ask_goes : (bytes : ℕ) (asked : Option HandleCall) (here : State) (last : Option Session) (h first : ℕ) (growth : Growth) (cut : List Event) (call : HandleCall)
-    → is_known call ≡ true → may_call_at here call ≡ true → OwnerAs (owner_by_parts bytes asked (stage.Rests here) last) cut
+    → is_known call ≡ true → may_call_at here call ≡ true → (not (sessions.is_into_inner asked) || sessions.is_into_inner (Some call)) ≡ true
+    → OwnerAs (owner_by_parts bytes asked (stage.Rests here) last) cut
     → Goes (owner_by_parts bytes (Some call) (stage.Polls (new_poll (poll_call_of call) here)) last) cut (by_owner h (Asked call) first growth)
-ask_goes bytes asked here last h first growth cut call known may t =
+ask_goes bytes asked here last h first growth cut call known may again t =
+    let inner : (not (sessions.was_asked_inner (own cut)) || sessions.is_into_inner (Some call)) ≡ true = ap (λ b. not b || sessions.is_into_inner (Some call)) t.gone.2 ∙ again in
     record {
-      acts = may_ask_known (own cut) call t.calls known
-          ∙ ap (λ b. b && (not (sessions.is_closed (own cut)) || is_for_closed call)) (rests_so bytes asked here last cut t)
-          ∙ ap (λ b. not b || is_for_closed call) (gone_is (own cut) here t.stage.0) ∙ may_be_asked here call ∙ may;
+      acts = may_ask_known (own cut) call known
+          ∙ all_true (sessions.rests (own cut)) (not (sessions.is_closed (own cut)) || is_for_closed call) (not (sessions.was_asked_inner (own cut)) || sessions.is_into_inner (Some call))
+          (rests_so bytes asked here last cut t) (ap (λ b. not b || is_for_closed call) (gone_is (own cut) here t.stage.0) ∙ may_be_asked here call ∙ may) inner;
       ends = tt;
       tie = record {
         made = t.made;
-        gone = t.gone;
+        gone = (t.gone.0, t.gone.1, asks_inner call (own cut) inner);
         asked = refl;
         polled = refl;
         bytes = t.bytes;
@@ -230,7 +242,7 @@ drop_goes bytes asked here last h first growth cut t = record {
   ends = tt;
   tie = record {
     made = t.made;
-    gone = refl;
+    gone = (refl, refl, t.gone.2);
     asked = t.asked;
     polled = refl;
     bytes = t.bytes;

@@ -1,6 +1,6 @@
 -- Each step of an owner, or of a job of it, keeps the law of the owner and its tie.
 use Rattle.std.proofs.Common.{◌≡◌, ℕ, ◌==◌, List, [], ◌∷◌, Bool, true, false, refl, sym, ap, ◌∙◌, subst, arith, Option, Some, None}
-use Rattle.std.specs.Prelude.{if◌then◌else◌}
+use Rattle.std.specs.Prelude.{◌&&◌, ◌||◌, not, if◌then◌else◌}
 use Rattle.std.proofs.lemmas.Bool.Decides.{nat_tests}
 use Rattle.blocking_core.specs.OwnerCalls.{OwnerMachine}
 use Rattle.blocking_core.specs.Reading.{read_next}
@@ -60,7 +60,7 @@ use Rattle.blocking_lanes.specs.declared.owner.OwnerStage.TheVariants as stage
 use Rattle.blocking_lanes.proofs.owners.Goods.{through_some, through_none}
 use Rattle.blocking_lanes.proofs.owners.Cuts.{its_kind, kind_is, next_stays, passes}
 use Rattle.blocking_lanes.proofs.owners.JobActs.{WorksOn, room_works, put_works, close_works, finish_works, answer_goes, give_up_goes, peek_works, consume_works, writer_close_works, writer_finish_works, writer_answer_goes, item_answer_goes, send_works, streamer_close_works, streamer_finish_works, asking_goes, seek_finish_works, seek_answer_goes}
-use Rattle.blocking_lanes.proofs.owners.Known.{both_true}
+use Rattle.blocking_lanes.proofs.owners.Known.{both_true, never_both}
 use Rattle.blocking_lanes.proofs.owners.OwnerActs.{Goes, owner_by_parts, bound, value_of, doing, own_goes}
 use Rattle.blocking_lanes.proofs.owners.PoolAnswers.{ask_goes, drop_goes, refuse_goes, deliver_goes, begin_goes}
 use Rattle.blocking_lanes.proofs.owners.ReadJobs as of_reader
@@ -399,7 +399,7 @@ given_up bytes asked here last h v n first growth cut t among gone goes =
     subst (λ m. Goes (owner_by_parts bytes asked here (without_job last)) cut (by_its_job h v m (GaveUp (waker_in (giving_up_wakes last))) first growth)) (sym l.same)
     (subst (λ o. Goes (owner_by_parts bytes asked here (without_job o)) cut (by_its_job h v l.session.number.serial (GaveUp (waker_in (giving_up_wakes o))) first growth)) (sym l.here)
     (give_up_goes bytes asked here l.session h v first growth cut tied (subst (λ m. is_in m (jobs_of (own cut)) ≡ true) l.same among)
-    (subst (λ k. is_over (next_but_wake k (acts_of l.session.number.serial cut)) ≡ false) (kind_is l.session (bound bytes) cut tied.last) goes_on) (t.gone ∙ gone)))
+    (subst (λ k. is_over (next_but_wake k (acts_of l.session.number.serial cut)) ≡ false) (kind_is l.session (bound bytes) cut tied.last) goes_on) (t.gone.0 ∙ gone)))
 
 answered : (bytes : ℕ) (asked : Option HandleCall) (here : OwnerStage) (last : Option Session) (h v n first : ℕ) (growth : Growth) (cut : List Event) → OwnerAs (owner_by_parts bytes asked here last) cut
     → (job : SessionJob) (answer : Answer) → kind_of_job n (own cut) ≡ kind_of job → JobAs job (acts_of n cut) → is_answer (action_of job) answer ≡ true → is_in n (jobs_of (own cut)) ≡ true
@@ -441,11 +441,14 @@ module _ (bytes : ℕ) (asked : Option HandleCall) (last : Option Session) (h v 
   step_by : (step : OwnerStep) (here : OwnerStage) → OwnerAs (owner_by_parts bytes asked here last) cut → IsAllowed step (owner_by_parts bytes asked here last) n cut
       → act_of step (owner_by_parts bytes asked here last) ≡ Some act → Goes (owner_after step (owner_by_parts bytes asked here last)) cut (event_by step h v n act first growth)
   step_by (IsAsked call) (stage.Rests st) t w seen =
-      let may = both_true (is_known call) (may_call_at st call) w.may in
-      subst (λ a. Goes (owner_after (IsAsked call) (owner_by_parts bytes asked (stage.Rests st) last)) cut (by_owner h a first growth)) (ap (value_of act) seen) (ask_goes bytes asked st last h first growth cut call may.0 may.1 t)
-  step_by (IsAsked call) (stage.Polls p) t w seen = absurd (let no = (both_true (is_known call) false w.may).1 in cc)
-  step_by (IsAsked call) (stage.Wakes p note) t w seen = absurd (let no = (both_true (is_known call) false w.may).1 in cc)
-  step_by (IsAsked call) stage.Dropped t w seen = absurd (let no = (both_true (is_known call) false w.may).1 in cc)
+      let still = not (sessions.is_into_inner asked) || sessions.is_into_inner (Some call) in
+      let may = both_true (is_known call && may_call_at st call) still w.may in
+      let known = both_true (is_known call) (may_call_at st call) may.0 in
+      subst (λ a. Goes (owner_after (IsAsked call) (owner_by_parts bytes asked (stage.Rests st) last)) cut (by_owner h a first growth)) (ap (value_of act) seen) (ask_goes bytes asked st last h first growth cut call known.0 known.1 may.1 t)
+  step_by (IsAsked call) (stage.Polls p) t w seen = absurd (never_both (is_known call) (not (sessions.is_into_inner asked) || sessions.is_into_inner (Some call)) w.may)
+  step_by (IsAsked call) (stage.Wakes p note) t w seen = absurd (never_both (is_known call) (not (sessions.is_into_inner asked) || sessions.is_into_inner (Some call)) w.may)
+  step_by (IsAsked call) stage.Dropped t w seen = absurd (never_both (is_known call) (not (sessions.is_into_inner asked) || sessions.is_into_inner (Some call)) w.may)
+  step_by (IsAsked call) stage.TakenBack t w seen = absurd (never_both (is_known call) (not (sessions.is_into_inner asked) || sessions.is_into_inner (Some call)) w.may)
   step_by Acts here t w seen = by_did (did (owner_by_parts bytes asked here last)) refl seen
     where
       by_did : (o : Option Did) → did (owner_by_parts bytes asked here last) ≡ o → act_in o ≡ Some act → Goes (owner_in o (owner_by_parts bytes asked here last)) cut (by_owner h act first growth)
@@ -458,22 +461,26 @@ module _ (bytes : ℕ) (asked : Option HandleCall) (last : Option Session) (h v 
   step_by (Begins number) (stage.Rests st) t w seen = absurd (let no = w.may in cc)
   step_by (Begins number) (stage.Wakes p note) t w seen = absurd (let no = w.may in cc)
   step_by (Begins number) stage.Dropped t w seen = absurd (let no = w.may in cc)
+  step_by (Begins number) stage.TakenBack t w seen = absurd (let no = w.may in cc)
   step_by (IsRefused why) (stage.Polls p) t w seen =
       subst (λ a. Goes (owner_after (IsRefused why) (owner_by_parts bytes asked (stage.Polls p) last)) cut (by_owner h a first growth)) (ap (value_of act) seen)
       (refuse_goes bytes asked p last h first growth cut why (begins_at bytes asked p last cut t w.may) t)
   step_by (IsRefused why) (stage.Rests st) t w seen = absurd (let no = w.may in cc)
   step_by (IsRefused why) (stage.Wakes p note) t w seen = absurd (let no = w.may in cc)
   step_by (IsRefused why) stage.Dropped t w seen = absurd (let no = w.may in cc)
+  step_by (IsRefused why) stage.TakenBack t w seen = absurd (let no = w.may in cc)
   step_by (Delivers woke) (stage.Wakes p note) t w seen =
       subst (λ a. Goes (owner_after (Delivers woke) (owner_by_parts bytes asked (stage.Wakes p note) last)) cut (by_owner h a first growth)) (ap (value_of act) seen) (deliver_goes bytes asked p note last h first growth cut woke t)
   step_by (Delivers woke) (stage.Rests st) t w seen = absurd (cc)
   step_by (Delivers woke) (stage.Polls p) t w seen = absurd (cc)
   step_by (Delivers woke) stage.Dropped t w seen = absurd (cc)
+  step_by (Delivers woke) stage.TakenBack t w seen = absurd (cc)
   step_by IsDropped (stage.Rests st) t w seen =
       subst (λ a. Goes (owner_after IsDropped (owner_by_parts bytes asked (stage.Rests st) last)) cut (by_owner h a first growth)) (ap (value_of act) seen) (drop_goes bytes asked st last h first growth cut t)
   step_by IsDropped (stage.Polls p) t w seen = absurd (let no = w.may in cc)
   step_by IsDropped (stage.Wakes p note) t w seen = absurd (let no = w.may in cc)
   step_by IsDropped stage.Dropped t w seen = absurd (let no = w.may in cc)
+  step_by IsDropped stage.TakenBack t w seen = absurd (let no = w.may in cc)
   step_by (DoesWork p) here t w seen = by_work (worked p (owner_by_parts bytes asked here last)) refl seen
     where
       by_work : (o : Option Worked) → worked p (owner_by_parts bytes asked here last) ≡ o → act_of_work o ≡ Some act
