@@ -1,5 +1,5 @@
 -- When an owner may be asked, by the law and by the lane.
-use Rattle.std.proofs.Common.{◌≡◌, ◌&&◌, List, [], ◌∷◌, Bool, true, false, refl, ap, ◌∙◌, Option, Some}
+use Rattle.std.proofs.Common.{◌≡◌, ◌&&◌, List, [], ◌∷◌, Bool, true, false, refl, ap, ◌∙◌, Some}
 use Rattle.std.specs.Prelude.{◌||◌, not}
 use Rattle.blocking_laws.specs.Sessions.{call, is_into_inner, is_operation, is_pending_operation, was_asked_inner}
 use Rattle.blocking_laws.specs.Wakes.{is_waiting}

@@ -50,7 +50,7 @@ use Rattle.blocking_lanes.specs.declared.owner.PollEnd.{PollEnd}
 use Rattle.blocking_lanes.specs.declared.owner.PollEnd.TheVariants as poll_end
 use Rattle.blocking_lanes.proofs.owners.Cuts.{next_with, next_stays, kind_of_last}
 use Rattle.blocking_lanes.proofs.owners.Asked.{all_true, asks_inner, pending_is}
-use Rattle.blocking_lanes.proofs.owners.OwnerActs.{Goes, owner_by_parts, bound, turned, lawful, fits_at, failed_fits, last_is}
+use Rattle.blocking_lanes.proofs.owners.OwnerActs.{Goes, owner_by_parts, bound, turned, lawful, fits_at, last_is}
 use Rattle.blocking_lanes.proofs.owners.Results.{begun as place_begun}
 use Rattle.blocking_lanes.proofs.owners.States.{IsThere, is_away, gone_is, lent_by, may_be_asked, is_there, of_session}
 use Rattle.blocking_lanes.proofs.owners.Drains.{IsLending, begins}

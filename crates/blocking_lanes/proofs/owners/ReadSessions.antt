@@ -17,7 +17,7 @@ use Rattle.blocking_laws.specs.declared.event.Act.{Act}
 use Rattle.blocking_laws.specs.declared.event.Act.TheVariants.{RoomFree, RoomShut, JobParked, Answered, Put, Lost, JobClosed, Finished, GaveUp, HolderWoken}
 use Rattle.blocking_laws.specs.declared.event.HolderWaker.{HolderWaker}
 use Rattle.blocking_laws.specs.declared.step.Answer.{Answer}
-use Rattle.blocking_laws.specs.declared.step.Answer.TheVariants.{Number, Gave, Fine, Failed}
+use Rattle.blocking_laws.specs.declared.step.Answer.TheVariants.{Gave, Failed}
 use Rattle.blocking_lanes.specs.Sessions.{Session, session_after_room, session_after_put, session_after_job_close, session_after_finish, session_after_give_up}
 use Rattle.blocking_lanes.specs.OwnerTies.{SessionAs, LentAs, Flows, ResultAs, SeatsAs, SlotAs, passed_by, PassedAs, GaveAll, is_finding}
 use Rattle.blocking_lanes.proofs.owners.Drains.{same_plain, same_stuck, same_owner_stuck}

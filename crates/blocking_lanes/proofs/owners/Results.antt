@@ -1,6 +1,5 @@
 -- The place where the result of an operation comes, after each act.
-use Rattle.std.proofs.Common.{◌≡◌, ℕ, Bool, true, false, refl, sym, ap, ◌∙◌, subst, Option, Some, None}
-use Rattle.std.specs.Prelude.{is_some}
+use Rattle.std.proofs.Common.{◌≡◌, ℕ, Bool, true, false, refl, sym, ap, ◌∙◌, subst, Some}
 use Rattle.blocking_core.specs.Slots.{Slot, Content, Empty, Full, GivenUp, Abandoned, after_put, empty_slot, slot_after}
 use Rattle.blocking_laws.specs.JobTable.{Kind, Operating, JobAction, AskResult, PutResult, Finish, Over, first_action}
 use Rattle.blocking_lanes.specs.OwnerTies.{PlaceAs, IsPutBy, HoldsResult}

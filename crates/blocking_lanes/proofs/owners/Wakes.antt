@@ -1,25 +1,19 @@
 -- An owner that waits for a job at rest was woken, or wakes the job.
-use Rattle.std.proofs.Common.{◌≡◌, ℕ, ◌==◌, ◌<◌, if◌then◌else◌, List, [], ◌∷◌, length, Bool, true, false, refl, sym, ap, ◌∙◌, subst, arith, Option, Some, None, ⊎_elim, inl, inr}
-use Rattle.std.specs.Prelude.{◌||◌, ◌⊎◌, min, is_some, is_none}
-use Rattle.std.proofs.lemmas.Bool.{or_left, or_right, eq-eqb}
-use Rattle.blocking_core.specs.Places.{Served, Waiting, drain, fill}
+use Rattle.std.proofs.Common.{◌≡◌, ℕ, ◌<◌, List, length, Bool, true, false, refl, sym, ap, ◌∙◌, subst, arith, Option, Some, None, ⊎_elim}
+use Rattle.std.specs.Prelude.{◌||◌, ◌⊎◌, is_some, is_none}
+use Rattle.std.proofs.lemmas.Bool.{or_left}
 use Rattle.blocking_core.specs.Slots.{Content, Empty, Full, GivenUp, Abandoned}
 use Rattle.blocking_core.specs.declared.io.Fault.{Fault}
-use Rattle.blocking_laws.specs.JobTable.{Kind, Reading, Writing, Streaming, JobAction, FindRoom, Peek, SendItem, Over, next_but_wake, is_over, fault, has_finished, has_given_up, has_closed, has_result, Seeking, Operating}
+use Rattle.blocking_laws.specs.JobTable.{Kind, Reading, Writing, Streaming, JobAction, FindRoom, Peek, SendItem, next_but_wake, is_over, fault, has_finished, has_given_up, has_result, Seeking, Operating}
 use Rattle.std.specs.Prelude.{not}
-use Rattle.blocking_laws.specs.OwnerLaws.{OwnerActs, Polls}
-use Rattle.blocking_laws.specs.OwnerSeats.{is_job_seated, job_seated_by, note_of, noted}
-use Rattle.blocking_laws.specs.OwnerTable.{OwnerAction, CloseOwn, Drain, Fill, PollSlot, Say, next_of_owner}
-use Rattle.blocking_laws.specs.Passed.{inside, room_in, last_job, kind_in, got, accepted}
-use Rattle.blocking_laws.specs.Places.{seen_drain, seen_fill, poll_slot}
-use Rattle.blocking_pool.specs.declared.pool.answer.Woke.{Woke}
-use Rattle.blocking_laws.specs.OwnerWakes.{IsSessionOf, HasReason, IsStuck, is_waking, is_waking_by}
-use Rattle.blocking_laws.specs.Seen.{own, acts_of, is_this}
+use Rattle.blocking_laws.specs.OwnerSeats.{is_job_seated}
+use Rattle.blocking_laws.specs.Passed.{kind_in, got, accepted}
+use Rattle.blocking_laws.specs.OwnerWakes.{IsSessionOf, HasReason, IsStuck, is_waking}
+use Rattle.blocking_laws.specs.Seen.{own, acts_of}
 use Rattle.blocking_laws.specs.Sessions.{last_session, session, is_dropped}
 use Rattle.blocking_laws.specs.Sessions as sessions
 use Rattle.blocking_laws.specs.Wakes.{is_waiting, was_woken}
 use Rattle.blocking_laws.specs.declared.event.Act.{Act}
-use Rattle.blocking_laws.specs.declared.event.Act.TheVariants.{Accepted, JobWoken, OwnerClosed, Got, Filled, FillShut, Waits, Back, JobParked}
 use Rattle.blocking_laws.specs.declared.event.Event.{Event}
 use Rattle.blocking_lanes.specs.Owners.{Owner, capacity_of}
 use Rattle.blocking_lanes.specs.OwnerTies.{OwnerAs, IsPutBy, LastAs, PlaceIn, SlotAs, Flows, is_piped_kind, IsStuckIn, IsOwnerStuckIn, is_finding, seat_of, is_seated}

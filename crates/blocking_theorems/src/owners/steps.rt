@@ -70,7 +70,7 @@ pub fn jobs()
 {}
 
 /// An owner is asked for whatever it may be asked for: for the result of an operation only where one is pending.
-pub fn calls()
+pub fn every_call()
     // made 0 / asked (to seek)
     ensures accepts_seek { StepLaw one_made (asks (Seek (Start 7)) 1) }
     // made 0 / asked (for an item)
