@@ -487,12 +487,12 @@ HoldsResult (Full m) put found n = (put ≡ true) × (found ≡ false) × (m ≡
 HoldsResult _ put found n = ⊥
 
 -- The place of a result, by what its job does next, whether that gave up, whether it put the result, whether the owner found it, the number, and
--- whether the owner is seated. Who is seated there has reason to be: nothing was put.
+-- whether the owner is seated. Who is seated there has reason to be: its operation's result wasn't put.
 pub record PlaceAs (place : Slot ℕ (Unit {0})) (kind : Kind) (next : JobAction) (given_up put found : Bool) (n : ℕ) (seated : Bool) : Type 0 where
   pub put_is : IsPutBy kind next given_up put
   pub content : HoldsResult place.content put found n
   pub seat : seated ≡ is_some place.seat
-  pub reason : is_some place.seat ≡ true → put ≡ false
+  pub reason : is_some place.seat ≡ true → (kind ≡ Operating) × (put ≡ false)
 
 -- the same, by the acts of the job
 abbrev pub PlaceBy : Slot ℕ (Unit {0}) → Kind → List Act → Bool → Bool → Type 0
@@ -500,10 +500,12 @@ PlaceBy place kind acts found seated =
     PlaceAs place kind (next_but_wake kind acts) (has_given_up acts) (has_result acts) found (number acts) seated
 
 -- the place of the last session's result, if there was one
+abbrev pub PlaceFor : Option Session → Kind → (ℕ → List Act) → Bool → Bool → Type 0
+PlaceFor None kind acts found seated = Unit {0}
+PlaceFor (Some s) kind acts found seated = PlaceBy s.result kind (acts s.number.serial) found seated
+
 abbrev pub PlaceIn : Option Session → List Event → Type 0
-PlaceIn None cut = Unit {0}
-PlaceIn (Some s) cut =
-    PlaceBy s.result (kind_in (last_session (own cut))) (acts_of s.number.serial cut) (has_found (own cut)) (result_seat cut)
+PlaceIn held cut = PlaceFor held (kind_in (last_session (own cut))) (λ s. acts_of s cut) (has_found (own cut)) (result_seat cut)
 
 -- a poll that saw the end of the pipe, and looks for the handle, found it empty, with the job's end closed and its own open
 abbrev pub IsAtEnd : Session → Type 0

@@ -1,12 +1,13 @@
 -- What an owner that is asked only for what owners are asked for yet can't have done.
 use Rattle.std.proofs.Common.{◌≡◌, ◌&&◌, List, [], ◌∷◌, Bool, true, false, refl, ap, ◌∙◌, Option, Some, None}
 use Rattle.std.specs.Prelude.{◌||◌, not}
-use Rattle.blocking_laws.specs.Sessions.{call, is_again, is_closed, is_dropped, is_for_closed, is_into_inner, is_owner_gone, is_pending_operation, may_ask, rests, was_asked_inner}
+use Rattle.blocking_laws.specs.Sessions.{call, is_again, is_closed, is_dropped, is_for_closed, is_into_inner, is_operation, is_owner_gone, is_pending_operation, may_ask, rests, was_asked_inner}
 use Rattle.blocking_laws.specs.Steps.{is_known}
+use Rattle.blocking_laws.specs.Wakes.{is_waiting}
 use Rattle.blocking_laws.specs.declared.event.Act.{Act}
-use Rattle.blocking_laws.specs.declared.event.Act.TheVariants.{Asked, HolderDropped, Replied}
+use Rattle.blocking_laws.specs.declared.event.Act.TheVariants.{Asked, HolderDropped, Replied, Waits}
 use Rattle.blocking_laws.specs.declared.step.HandleCall.{HandleCall}
-use Rattle.blocking_laws.specs.declared.step.HandleCall.TheVariants.{OperateAgain, IntoInner}
+use Rattle.blocking_laws.specs.declared.step.HandleCall.TheVariants.{IntoInner}
 use Rattle.blocking_lanes.specs.OwnerTies.{AskKnown}
 
 -- ---- the handle is never asked for for good
@@ -14,10 +15,6 @@ use Rattle.blocking_lanes.specs.OwnerTies.{AskKnown}
 not_inner : (c : HandleCall) → is_known c ≡ true → is_into_inner (Some c) ≡ false
 not_inner IntoInner known = absurd (cc)
 not_inner _ known = refl
-
-pub not_again : (c : HandleCall) → is_known c ≡ true → is_again c ≡ false
-not_again OperateAgain known = absurd (cc)
-not_again _ known = refl
 
 -- the call that was asked last isn't one for the handle for good
 pub never_inner : (acts : List Act) → AskKnown acts → is_into_inner (call acts) ≡ false
@@ -49,15 +46,26 @@ pub both_true : (a b : Bool) → (a && b) ≡ true → (a ≡ true) × (b ≡ tr
 both_true true b e = (refl, e)
 both_true false b e = absurd (cc)
 
-both : (r c a b : Bool) → a ≡ true → b ≡ true → (r && c && a && b) ≡ (r && c)
-both true true true true e f = refl
-both true false a b e f = refl
-both false c a b e f = refl
-both true true false b e f = absurd (cc)
-both true true a false e f = absurd (cc)
+pub both_are : (a b : Bool) → a ≡ true → b ≡ true → (a && b) ≡ true
+both_are true true e f = refl
+both_are true false e f = absurd (cc)
+both_are false b e f = absurd (cc)
 
--- and it may be asked where it rests, once its handle is gone only to flush and to close
-pub may_ask_known : (acts : List Act) (c : HandleCall) → AskKnown acts → is_known c ≡ true → may_ask acts c ≡ (rests acts && (not (is_closed acts) || is_for_closed c))
-may_ask_known acts c known new =
-    both (rests acts) (not (is_closed acts) || is_for_closed c) (not (was_asked_inner acts) || is_into_inner (Some c)) (not (is_again c) || is_pending_operation acts)
-    (ap (λ b. not b || is_into_inner (Some c)) (never_asked acts known)) (ap (λ b. not b || is_pending_operation acts) (not_again c new))
+-- what is true anyhow may be left out
+anyhow : (a b c : Bool) → b ≡ true → (a && b && c) ≡ (a && c)
+anyhow true true c e = refl
+anyhow false true c e = refl
+anyhow a false c e = absurd (cc)
+
+-- and it may be asked where it rests, once its handle is gone only to flush and to close, and for the result of an operation where one is pending
+pub may_ask_known : (acts : List Act) (c : HandleCall) → AskKnown acts
+    → may_ask acts c ≡ (rests acts && (not (is_closed acts) || is_for_closed c) && (not (is_again c) || is_pending_operation acts))
+may_ask_known acts c known =
+    anyhow (rests acts && (not (is_closed acts) || is_for_closed c)) (not (was_asked_inner acts) || is_into_inner (Some c)) (not (is_again c) || is_pending_operation acts)
+    (ap (λ b. not b || is_into_inner (Some c)) (never_asked acts known))
+
+-- an operation is pending where one was asked, and the owner waits
+pub pending_is : (acts : List Act) → is_pending_operation acts ≡ (is_waiting acts && is_operation (call acts))
+pending_is [] = refl
+pending_is (Waits ∷ past) = refl
+pending_is (_ ∷ past) = refl
