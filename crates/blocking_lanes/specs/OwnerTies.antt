@@ -23,7 +23,7 @@ use Rattle.blocking_laws.specs.OwnerTable.{owner_next_but_wake, note_in, is_at_e
 use Rattle.blocking_laws.specs.OwnerTable as law
 use Rattle.blocking_laws.specs.Passed.{gave, got, answered, was_put, data_of, accepted, peeked, taken as taken_by, removed, kind_in, is_serial}
 use Rattle.blocking_laws.specs.Seen.{IsBeginning, events, acts_of, own, cut}
-use Rattle.blocking_laws.specs.Sessions.{call, under_way, is_made, is_dropped, is_operation, has_begun, last_session, is_shut, jobs_of, kind_of_job, capacity}
+use Rattle.blocking_laws.specs.Sessions.{call, under_way, is_made, is_dropped, is_into_inner, is_operation, is_owner_gone, has_begun, was_asked_inner, last_session, is_shut, jobs_of, kind_of_job, capacity}
 use Rattle.blocking_laws.specs.Sessions as sessions
 use Rattle.blocking_laws.specs.Steps.{owners, is_known}
 use Rattle.blocking_laws.specs.Wakes.{is_waiting, was_woken}
@@ -36,7 +36,7 @@ use Rattle.blocking_laws.specs.declared.event.Reply.{Reply as Told}
 use Rattle.blocking_laws.specs.declared.event.Reply.TheVariants as told
 use Rattle.blocking_laws.specs.declared.step.HandleCall.{HandleCall}
 use Rattle.blocking_laws.specs.declared.step.HandleCall.TheVariants as handle_call
-use Rattle.blocking_lanes.specs.Owners.{Owner, capacity_of, number_of, note_at, is_gone, poll_call_of, reply_as, item_in}
+use Rattle.blocking_lanes.specs.Owners.{Owner, capacity_of, number_of, note_at, is_gone, is_no_more, poll_call_of, reply_as, item_in}
 use Rattle.blocking_lanes.specs.Sessions.{Session, goods_of}
 use Rattle.blocking_lanes.specs.declared.owner.OwnerStage.{OwnerStage}
 use Rattle.blocking_lanes.specs.declared.owner.OwnerStage.TheVariants as stage
@@ -185,6 +185,7 @@ StageBy (stage.Polls poll) x asked at next ended back note = PollAs poll x asked
 StageBy (stage.Wakes poll number) x asked at next ended back note =
     PollAs poll x asked at next ended back × (poll.is_waking ≡ true) × (note ≡ Some number.serial)
 StageBy stage.Dropped x asked at next ended back note = (next ≡ law.Rest) × (note ≡ None)
+StageBy stage.TakenBack x asked at next ended back note = (next ≡ law.Rest) × (note ≡ None)
 
 abbrev pub StageAs : OwnerStage → ℕ → List Event → Type 0
 StageAs here x cut =
@@ -220,7 +221,7 @@ abbrev pub OperatesBy : OwnerStage → Bool → Bool → Bool → Bool → Type 
 OperatesBy (stage.Rests at end) waits operates begun found = EndsAs end at waits operates begun found
 OperatesBy (stage.Polls poll) waits operates begun found = IsOperating poll.next operates begun found
 OperatesBy (stage.Wakes poll number) waits operates begun found = IsOperating poll.next operates begun found
-OperatesBy stage.Dropped waits operates begun found = Unit {0}
+OperatesBy _ waits operates begun found = Unit {0}
 
 abbrev pub OperatesAs : Owner → List Act → Type 0
 OperatesAs owner acts = OperatesBy owner.stage (is_waiting acts) (is_operation owner.asked) (has_begun acts) (has_found acts)
@@ -528,10 +529,14 @@ AskKnown [] = Unit {0}
 AskKnown (Asked call ∷ past) = (is_known call ≡ true) × AskKnown past
 AskKnown (_ ∷ past) = AskKnown past
 
+-- Whether the owner was dropped, whether it is no more, and whether its handle was asked for for good, which then its last call does.
+abbrev pub GoneBy : OwnerStage → Option HandleCall → List Act → Type 0
+GoneBy here asked acts = (is_dropped acts ≡ is_gone here) × (is_owner_gone acts ≡ is_no_more here) × (was_asked_inner acts ≡ is_into_inner asked)
+
 -- An owner, by its cut: what it did itself, and what its jobs did.
 pub record OwnerAs (owner : Owner) (cut : List Event) : Type 0 where
   pub made : is_made (own cut) ≡ true
-  pub gone : is_dropped (own cut) ≡ is_gone owner.stage
+  pub gone : GoneBy owner.stage owner.asked (own cut)
   pub asked : call (own cut) ≡ owner.asked
   pub polled : under_way (own cut) ≡ called_at owner.stage owner.asked
   pub bytes : (kind : Kind) → capacity kind (own cut) ≡ capacity_of owner kind

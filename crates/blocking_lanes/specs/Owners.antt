@@ -37,7 +37,7 @@ use Rattle.blocking_core.specs.declared.unblock.SessionKind.TheVariants as sessi
 use Rattle.blocking_core.specs.declared.unblock.State.{State}
 use Rattle.blocking_core.specs.declared.unblock.State.TheVariants as state
 use Rattle.blocking_laws.specs.JobTable.{Kind}
-use Rattle.blocking_laws.specs.Sessions.{default_capacity, kind_of, is_again, is_for_closed, is_operation}
+use Rattle.blocking_laws.specs.Sessions.{default_capacity, kind_of, is_again, is_for_closed, is_into_inner, is_operation}
 use Rattle.blocking_laws.specs.Steps.{is_known}
 use Rattle.blocking_laws.specs.Seats.{waker_in}
 use Rattle.blocking_laws.specs.declared.event.Act.{Act}
@@ -165,14 +165,23 @@ abbrev pub awaits_operation : OwnerStage → Option HandleCall → Bool
 awaits_operation (stage.Rests at end) asked = is_pending end && is_operation asked
 awaits_operation _ asked = false
 
--- and owners are asked for it yet, and for the result of an operation only where one is pending
+-- and owners are asked for it yet, once the handle was asked for for good only for that, and for the result of an operation only where one is
+-- pending
 abbrev pub may_ask : Owner → HandleCall → Bool
-may_ask owner call = is_known call && may_ask_at owner.stage call && (not (is_again call) || awaits_operation owner.stage owner.asked)
+may_ask owner call =
+    is_known call && may_ask_at owner.stage call && (not (is_into_inner owner.asked) || is_into_inner (Some call))
+    && (not (is_again call) || awaits_operation owner.stage owner.asked)
 
 -- whether it was dropped
 abbrev pub is_gone : OwnerStage → Bool
 is_gone stage.Dropped = true
 is_gone _ = false
+
+-- whether it is no more: it was dropped, or its handle was taken back
+abbrev pub is_no_more : OwnerStage → Bool
+is_no_more stage.Dropped = true
+is_no_more stage.TakenBack = true
+is_no_more _ = false
 
 -- the note that it has to deliver
 abbrev pub note_at : OwnerStage → Option JobNumber
@@ -367,9 +376,15 @@ find_did awaited.Nothing poll session owner =
     Some (record { act = Waits; owner = record owner { stage = stage.Rests poll.state poll_end.WaitsForResult; session = Some session } })
 find_did awaited.Gone poll session owner = None
 
+-- where an owner is once its poll has replied: no more, if the handle was asked for for good
+abbrev pub stage_after_reply : Bool → State → OwnerStage
+stage_after_reply true at = stage.TakenBack
+stage_after_reply false at = stage.Rests at poll_end.Replied
+
 -- it replies, and its poll is over; a reply that the laws have no word for is not told, and nothing is done
 abbrev pub reply_did : Option Told → OwnerMachine ℕ → Owner → Option Did
-reply_did (Some told) poll owner = Some (record { act = Replied told; owner = record owner { stage = stage.Rests poll.state poll_end.Replied } })
+reply_did (Some told) poll owner =
+    Some (record { act = Replied told; owner = record owner { stage = stage_after_reply (is_into_inner owner.asked) poll.state } })
 reply_did None poll owner = None
 
 -- what its poll does next at its session

@@ -1,9 +1,9 @@
 //! The machine of an owner who lends its handle to jobs that read ahead of it, or write behind it.
-ghost use Rattle.std.specs.Prelude.{◌≡◌, ◌<◌, ◌==◌, if◌then◌else◌, None};
+ghost use Rattle.std.specs.Prelude.{◌≡◌, ◌<◌, ◌==◌, if◌then◌else◌, Some, None};
 ghost use Rattle.blocking_core.specs.declared.unblock.OwnerAction.TheVariants as action;
 ghost use Rattle.blocking_lanes.specs.Sessions.{serial_of};
 ghost use Rattle.blocking_lanes.specs.Owners.{poll_call_of, reply_as, back_answer};
-ghost use Rattle.blocking_laws.specs.Sessions.{is_again, is_operation};
+ghost use Rattle.blocking_laws.specs.Sessions.{is_again, is_into_inner, is_operation};
 
 use crate::item::ItemProgress;
 use crate::job::SessionJob;
@@ -65,6 +65,8 @@ pub(crate) enum OwnerStage {
     Wakes(OwnerCall<u64>, WakeNote),
     // It was dropped.
     Dropped,
+    // Its handle was taken back for good, and it is no more.
+    TakenBack,
 }
 
 /// What the poll of an owner does next.
@@ -160,6 +162,13 @@ fn is_operation(asked: &Option<HandleCall>) -> bool
     matches!(asked, Some(HandleCall::Operate | HandleCall::OperateAgain))
 }
 
+// Whether a call asks for the handle for good.
+fn is_into_inner(call: &HandleCall) -> bool
+    ensures { result ≡ is_into_inner (Some call.now) }
+{
+    matches!(call, HandleCall::IntoInner)
+}
+
 // How the machine is told that the handle is back, with this fault, from here: of a seek that went well with where it is.
 fn back(from: State, fault: Option<Fault<u64>>, left: u64) -> OwnerAnswer<u64>
     ensures { result ≡ back_answer from fault left }
@@ -183,7 +192,7 @@ impl Owner {
     ghost use Rattle.std.specs.Prelude.{vec_len, IfOk, OnErr, Some};
     ghost use Rattle.blocking_core.specs.Pipes.{empty_pipe};
     ghost use Rattle.blocking_lanes.specs.Passages.{goods_in, pipe_in};
-    ghost use Rattle.blocking_lanes.specs.Owners.{new_owner, capacity_asked, goods_asked, is_resting, is_gone, note_at, next_of, number_of, bytes_in, rests};
+    ghost use Rattle.blocking_lanes.specs.Owners.{new_owner, capacity_asked, goods_asked, is_resting, is_gone, stage_after_reply, note_at, next_of, number_of, bytes_in, rests};
     ghost use Rattle.blocking_lanes.specs.Owners.{owner_after_ask, did, did_in, reply_did, IsDid, goes_on, reach_in};
     ghost use Rattle.blocking_lanes.specs.Owners.{owner_after_begin, owner_after_refusal, owner_after_delivery, owner_after_drop};
     ghost use Rattle.blocking_laws.specs.Sessions.{is_again, is_operation};
@@ -229,11 +238,15 @@ impl Owner {
     }
 
     /// Whether it may be asked for this: owners are asked for it yet, it is there, no poll of it is under way, once its handle is gone it is
-    /// only flushed and closed, and for the result of an operation it is asked only where one is pending.
+    /// only flushed and closed, once its handle was asked for for good it is only asked for that, and for the result of an operation it is asked
+    /// only where one is pending.
     pub fn may_ask(&self, call: &HandleCall) -> bool
         ensures { result ≡ may_ask self.now call.now }
     {
-        call.is_known() && self.may_begin(call) && (!is_again(call) || self.awaits_operation())
+        call.is_known()
+            && self.may_begin(call)
+            && (!self.was_asked_inner() || is_into_inner(call))
+            && (!is_again(call) || self.awaits_operation())
     }
 
     // Whether an operation is pending: it was asked for one, and waits.
@@ -243,6 +256,16 @@ impl Owner {
         match &self.stage {
             OwnerStage::Rests(_, end) => end.is_pending() && is_operation(&self.asked),
             _ => false,
+        }
+    }
+
+    // Whether its handle was asked for for good, which then its last call does.
+    fn was_asked_inner(&self) -> bool
+        ensures { result ≡ is_into_inner self.now.asked }
+    {
+        match &self.asked {
+            Some(call) => is_into_inner(call),
+            None => false,
         }
     }
 
@@ -281,7 +304,8 @@ impl Owner {
         ensures { result ≡ next_of self.now }
     {
         match &self.stage {
-            OwnerStage::Rests(_, _) | OwnerStage::Dropped => OwnerNext::Rests,
+            OwnerStage::Rests(_, _) | OwnerStage::Dropped | OwnerStage::TakenBack =>
+                OwnerNext::Rests,
             OwnerStage::Wakes(_, _) => OwnerNext::Delivers,
             OwnerStage::Polls(poll) => match poll.next() {
                 OwnerAction::Begin => OwnerNext::Begins,
@@ -339,7 +363,10 @@ impl Owner {
     {
         match mem::replace(&mut self.stage, stage) {
             OwnerStage::Wakes(_poll, _note) => unreachable!(),
-            OwnerStage::Rests(_, _) | OwnerStage::Polls(_) | OwnerStage::Dropped => {}
+            OwnerStage::Rests(_, _)
+            | OwnerStage::Polls(_)
+            | OwnerStage::Dropped
+            | OwnerStage::TakenBack => {}
         }
     }
 
@@ -386,8 +413,20 @@ impl Owner {
         ensures { IsDid (reply_did told poll self.old) self.old result self.new }
     {
         let told = told?;
-        self.turn(OwnerStage::Rests(poll.state(), PollEnd::Replied));
+        let stage = self.after_reply(poll.state());
+        self.turn(stage);
         Some(Act::Replied(told))
+    }
+
+    // Where it is once its poll has replied, by where the handle is.
+    fn after_reply(&self, at: State) -> OwnerStage
+        ensures { result ≡ stage_after_reply (is_into_inner self.now.asked) at }
+    {
+        if self.was_asked_inner() {
+            OwnerStage::TakenBack
+        } else {
+            OwnerStage::Rests(at, PollEnd::Replied)
+        }
     }
 
     // It closes its end of the pipe.
@@ -639,6 +678,10 @@ impl Owner {
                 None
             }
             OwnerStage::Dropped => None,
+            OwnerStage::TakenBack => {
+                self.turn(OwnerStage::TakenBack);
+                None
+            }
         }
     }
 
@@ -663,7 +706,10 @@ impl Owner {
         } = self;
         match stage {
             OwnerStage::Wakes(_poll, note) => Some(note),
-            OwnerStage::Rests(_, _) | OwnerStage::Polls(_) | OwnerStage::Dropped => None,
+            OwnerStage::Rests(_, _)
+            | OwnerStage::Polls(_)
+            | OwnerStage::Dropped
+            | OwnerStage::TakenBack => None,
         }
     }
 

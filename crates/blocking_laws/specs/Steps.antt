@@ -17,7 +17,7 @@ use Rattle.blocking_laws.specs.declared.event.WaitEnd.{WaitEnd}
 use Rattle.blocking_laws.specs.declared.event.WaitEnd.TheVariants.{Woken, TimedOut}
 use Rattle.blocking_laws.specs.declared.step.Answer.{Answer}
 use Rattle.blocking_laws.specs.declared.step.HandleCall.{HandleCall}
-use Rattle.blocking_laws.specs.declared.step.HandleCall.TheVariants.{Read, Write, Flush, Close, Next, GetMut, Seek, Operate, OperateAgain}
+use Rattle.blocking_laws.specs.declared.step.HandleCall.TheVariants.{Read, Write, Flush, Close, Next, GetMut, IntoInner, Seek, Operate, OperateAgain}
 use Rattle.blocking_laws.specs.declared.step.Step.{Step}
 use Rattle.blocking_laws.specs.declared.step.Step.TheVariants.{New, Ask, Own, DropOwner, Spawn, OfTask, Arrive, Take, Job, Io, End, Wait, Late, SetLimit, Sweep, Stray, Strike}
 use Rattle.blocking_laws.specs.declared.step.TaskCall.{TaskCall}
@@ -115,6 +115,7 @@ is_known Flush = true
 is_known Close = true
 is_known Next = true
 is_known GetMut = true
+is_known IntoInner = true
 is_known (Seek goal) = true
 is_known Operate = true
 is_known OperateAgain = true

@@ -123,7 +123,7 @@ impl HandleCall {
         }
     }
 
-    /// Whether owners are asked for this yet: not for the handle for good.
+    /// Whether owners are asked for this yet.
     pub fn is_known(&self) -> bool
         ensures { result ≡ is_known self.now }
     {
@@ -138,6 +138,7 @@ impl HandleCall {
                 | HandleCall::Operate
                 | HandleCall::OperateAgain
                 | HandleCall::GetMut
+                | HandleCall::IntoInner
         )
     }
 }

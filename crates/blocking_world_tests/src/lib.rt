@@ -20,6 +20,8 @@ mod row;
 #[cfg(test)]
 mod streams_and_seeks;
 #[cfg(test)]
+mod taking_back;
+#[cfg(test)]
 mod texts;
 #[cfg(test)]
 mod turns;

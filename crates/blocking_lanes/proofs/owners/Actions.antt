@@ -59,7 +59,6 @@ use Rattle.blocking_lanes.specs.declared.owner.OwnerStage.{OwnerStage}
 use Rattle.blocking_lanes.specs.declared.owner.OwnerStage.TheVariants as stage
 use Rattle.blocking_lanes.proofs.owners.Cuts.{kind_is}
 use Rattle.blocking_lanes.proofs.owners.Goods.{piped_here, through_here}
-use Rattle.blocking_lanes.proofs.owners.Known.{gone_known, may_ask_known}
 use Rattle.blocking_lanes.proofs.owners.PoolAnswers.{pends_so}
 use Rattle.blocking_lanes.proofs.owners.OwnerActs.{owner_by_parts, bound, doing, fits_at}
 use Rattle.blocking_lanes.proofs.owners.States.{gone_is, is_lent, lent, lent_at, looks_lent, may_be_asked, open_lent, open_piped}
@@ -101,6 +100,7 @@ rest_at : (bytes : ℕ) (asked : Option HandleCall) (here : OwnerStage) (last : 
 rest_at bytes asked (stage.Rests st end) last cut t = ap is_poll_over t.polled
 rest_at bytes asked (stage.Wakes p note) last cut t = ap is_poll_over (woken_is bytes asked p note last cut t)
 rest_at bytes asked stage.Dropped last cut t = ap is_poll_over t.polled
+rest_at bytes asked stage.TakenBack last cut t = ap is_poll_over t.polled
 rest_at bytes asked (stage.Polls p) last cut t = ap is_poll_over (polled_is bytes asked p last cut t) ∙ by_next p.next refl
   where
     by_next : (a : OwnerAction ℕ) → p.next ≡ a → false ≡ is_rest (next_by (owner_next p) last)
@@ -122,10 +122,11 @@ rests_next owner cut t = rest_at owner.capacity owner.asked owner.stage owner.se
 
 rests_at : (bytes : ℕ) (asked : Option HandleCall) (here : OwnerStage) (last : Option Session) (cut : List Event) → OwnerAs (owner_by_parts bytes asked here last) cut
     → sessions.rests (own cut) ≡ rests (owner_by_parts bytes asked here last)
-rests_at bytes asked (stage.Rests st end) last cut t = rw (t.made, gone_known (own cut) t.calls ∙ t.gone, t.polled) refl
-rests_at bytes asked (stage.Polls p) last cut t = rw (t.made, gone_known (own cut) t.calls ∙ t.gone, polled_is bytes asked p last cut t) refl
-rests_at bytes asked (stage.Wakes p note) last cut t = rw (t.made, gone_known (own cut) t.calls ∙ t.gone, woken_is bytes asked p note last cut t) refl
-rests_at bytes asked stage.Dropped last cut t = rw (t.made, gone_known (own cut) t.calls ∙ t.gone) refl
+rests_at bytes asked (stage.Rests st end) last cut t = rw (t.made, t.gone.1, t.polled) refl
+rests_at bytes asked (stage.Polls p) last cut t = rw (t.made, t.gone.1, polled_is bytes asked p last cut t) refl
+rests_at bytes asked (stage.Wakes p note) last cut t = rw (t.made, t.gone.1, woken_is bytes asked p note last cut t) refl
+rests_at bytes asked stage.Dropped last cut t = rw (t.made, t.gone.1) refl
+rests_at bytes asked stage.TakenBack last cut t = rw (t.made, t.gone.1) refl
 
 -- and it rests where the law says
 pub rests_is : (owner : Owner) (cut : List Event) → OwnerAs owner cut → sessions.rests (own cut) ≡ rests owner
@@ -142,25 +143,33 @@ asked_at bytes asked (stage.Wakes p note) last cut call t =
     ap (λ b. b && (not (sessions.is_closed (own cut)) || is_for_closed call)) (rests_at bytes asked (stage.Wakes p note) last cut t)
 asked_at bytes asked stage.Dropped last cut call t =
     ap (λ b. b && (not (sessions.is_closed (own cut)) || is_for_closed call)) (rests_at bytes asked stage.Dropped last cut t)
+asked_at bytes asked stage.TakenBack last cut call t =
+    ap (λ b. b && (not (sessions.is_closed (own cut)) || is_for_closed call)) (rests_at bytes asked stage.TakenBack last cut t)
 
 -- and for the result of an operation where one is pending
-again_at : (bytes : ℕ) (asked : Option HandleCall) (here : OwnerStage) (last : Option Session) (cut : List Event) (call : HandleCall) → OwnerAs (owner_by_parts bytes asked here last) cut
-    → (may_ask_at here call && (not (is_again call) || sessions.is_pending_operation (own cut))) ≡ (may_ask_at here call && (not (is_again call) || awaits_operation here asked))
-again_at bytes asked (stage.Rests st end) last cut call t = ap (λ b. may_ask_at (stage.Rests st end) call && (not (is_again call) || b)) (pends_so bytes asked st end last cut t)
-again_at bytes asked (stage.Polls p) last cut call t = refl
-again_at bytes asked (stage.Wakes p note) last cut call t = refl
-again_at bytes asked stage.Dropped last cut call t = refl
+again_at : (bytes : ℕ) (asked : Option HandleCall) (here : OwnerStage) (last : Option Session) (cut : List Event) (call : HandleCall) (inner : Bool) → OwnerAs (owner_by_parts bytes asked here last) cut
+    → (may_ask_at here call && inner && (not (is_again call) || sessions.is_pending_operation (own cut))) ≡ (may_ask_at here call && inner && (not (is_again call) || awaits_operation here asked))
+again_at bytes asked (stage.Rests st end) last cut call inner t = ap (λ b. may_ask_at (stage.Rests st end) call && inner && (not (is_again call) || b)) (pends_so bytes asked st end last cut t)
+again_at bytes asked (stage.Polls p) last cut call inner t = refl
+again_at bytes asked (stage.Wakes p note) last cut call inner t = refl
+again_at bytes asked stage.Dropped last cut call inner t = refl
+again_at bytes asked stage.TakenBack last cut call inner t = refl
 
 -- so it may be asked for what the law says, of what owners are asked for
 pub may_ask_is : (owner : Owner) (cut : List Event) (call : HandleCall) → OwnerAs owner cut → (is_known call && sessions.may_ask (own cut) call) ≡ may_ask owner call
-may_ask_is owner cut call t = by (is_known call) refl
+may_ask_is owner cut call t = by (is_known call)
   where
-    by : (b : Bool) → is_known call ≡ b → (b && sessions.may_ask (own cut) call) ≡ (b && may_ask_at owner.stage call && (not (is_again call) || awaits_operation owner.stage owner.asked))
-    by false is = refl
-    by true is =
-        may_ask_known (own cut) call t.calls
-        ∙ ap (λ b. b && (not (is_again call) || sessions.is_pending_operation (own cut))) (asked_at owner.capacity owner.asked owner.stage owner.session cut call t)
-        ∙ again_at owner.capacity owner.asked owner.stage owner.session cut call t
+    inner : Bool → Bool
+    inner b = not b || sessions.is_into_inner (Some call)
+
+    by : (b : Bool) → (b && sessions.may_ask (own cut) call)
+        ≡ (b && may_ask_at owner.stage call && inner (sessions.is_into_inner owner.asked) && (not (is_again call) || awaits_operation owner.stage owner.asked))
+    by false = refl
+    by true =
+        ap (λ b. b && inner (sessions.was_asked_inner (own cut)) && (not (is_again call) || sessions.is_pending_operation (own cut)))
+        (asked_at owner.capacity owner.asked owner.stage owner.session cut call t)
+        ∙ ap (λ b. may_ask_at owner.stage call && inner b && (not (is_again call) || sessions.is_pending_operation (own cut))) t.gone.2
+        ∙ again_at owner.capacity owner.asked owner.stage owner.session cut call (inner (sessions.is_into_inner owner.asked)) t
 
 -- ---- what it does is there to be done
 
@@ -229,7 +238,7 @@ some_by bytes asked p cut action.PollSlot (Some s) t is n e =
     (session_after_look s.slot.content s) (owner_by_parts bytes asked (stage.Polls p) (Some s)) t.last.result.slot (stays (has_given_up works) refl)
   where
     stays : (b : Bool) → has_given_up (acts_of s.number.serial cut) ≡ b → has_given_up (acts_of s.number.serial cut) ≡ false
-    stays true is = absurd (let gone = t.last.result.let_go is in let here = t.gone in cc)
+    stays true is = absurd (let gone = t.last.result.let_go is in let here = t.gone.0 in cc)
     stays false is = is
 some_by bytes asked p cut action.PollResult (Some s) t is n e =
     let works = acts_of s.number.serial cut in
@@ -259,6 +268,7 @@ some_at bytes asked (stage.Polls p) last cut t n e =
 some_at bytes asked (stage.Rests st end) last cut t n e = absurd (cc)
 some_at bytes asked (stage.Wakes p note) last cut t n e = absurd (cc)
 some_at bytes asked stage.Dropped last cut t n e = absurd (cc)
+some_at bytes asked stage.TakenBack last cut t n e = absurd (cc)
 
 -- an owner that is to act by itself can
 pub acts_some : (owner : Owner) (cut : List Event) → OwnerAs owner cut → (n : ℕ) → next_of owner ≡ Acts n → is_some (did owner) ≡ true

@@ -257,6 +257,7 @@ plain_of Acts owner act e = at (did owner) refl e
     by_stage (stage.Rests st end) done e = absurd (cc)
     by_stage (stage.Wakes p note) done e = absurd (cc)
     by_stage stage.Dropped done e = absurd (cc)
+    by_stage stage.TakenBack done e = absurd (cc)
 
     at : (o : Option Did) → did owner ≡ o → act_in o ≡ Some act → IsPlain [] act
     at None is e = absurd (cc)

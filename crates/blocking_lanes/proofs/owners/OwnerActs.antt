@@ -50,9 +50,9 @@ use Rattle.blocking_laws.specs.declared.step.HandleCall.{HandleCall}
 use Rattle.blocking_laws.specs.declared.step.HandleCall.TheVariants as handle_call
 use Rattle.blocking_pool.specs.Growth.{Growth}
 use Rattle.blocking_pool.specs.Jobs.{JobNumber}
-use Rattle.blocking_lanes.specs.Owners.{Owner, Did, capacity_of, note_at, goes_on, close_did, drain_did, fill_did, fill_did_in, drop_did, look_did, looked_as, poll_call_of, reply_as, reply_did, did_in, did_by, did, is_gone, item_in, receive_did, back_answer, find_did, awaited_as}
+use Rattle.blocking_lanes.specs.Owners.{Owner, Did, capacity_of, note_at, goes_on, close_did, drain_did, fill_did, fill_did_in, drop_did, look_did, looked_as, poll_call_of, reply_as, reply_did, did_in, did_by, did, is_gone, is_no_more, stage_after_reply, item_in, receive_did, back_answer, find_did, awaited_as}
 use Rattle.blocking_lanes.specs.OwnerSteps.{by_owner}
-use Rattle.blocking_lanes.specs.OwnerTies.{OwnerAs, HoldsResult, IsOperating, OperatesBy, PlaceBy, has_found, SlotAs, Passed, passed_by, PassedAs, GaveAll, WrittenAs, wrote_by, PollAs, FitsNext, IsGoneBy, IsLentOpen, LooksFrom, EndAs, StageBy, SessionAs, IsAtEnd, called_at, kind_as, state_as, say, action_as, seat_of, is_piped_kind, is_end_open}
+use Rattle.blocking_lanes.specs.OwnerTies.{OwnerAs, GoneBy, HoldsResult, IsOperating, OperatesBy, PlaceBy, has_found, SlotAs, Passed, passed_by, PassedAs, GaveAll, WrittenAs, wrote_by, PollAs, FitsNext, IsGoneBy, IsLentOpen, LooksFrom, EndAs, StageBy, SessionAs, IsAtEnd, called_at, kind_as, state_as, say, action_as, seat_of, is_piped_kind, is_end_open}
 use Rattle.blocking_lanes.specs.Passages.{OfBytes, OfItems}
 use Rattle.blocking_lanes.specs.Sessions.{Session, serial_of, reach, drained, filled, session_after_close, session_after_drain, session_after_fill, session_after_look, received, session_after_receive, session_after_find}
 use Rattle.blocking_lanes.specs.declared.owner.OwnerStage.{OwnerStage}
@@ -103,9 +103,9 @@ pub goes_on_so : (q : OwnerMachine ℕ) (note : Option JobNumber) (x : ℕ) (ask
 goes_on_so q None x asked at next ended back p waking = (p, waking, refl)
 goes_on_so q (Some number) x asked at next ended back p waking = (p, waking, refl)
 
-pub not_gone : (q : OwnerMachine ℕ) (note : Option JobNumber) → false ≡ is_gone (goes_on q note)
-not_gone q None = refl
-not_gone q (Some number) = refl
+pub still_there : (q : OwnerMachine ℕ) (note : Option JobNumber) (asked : Option HandleCall) (acts : List Act) → GoneBy (stage.Polls q) asked acts → GoneBy (goes_on q note) asked acts
+still_there q None asked acts g = g
+still_there q (Some number) asked acts g = g
 
 pub still_called : (q : OwnerMachine ℕ) (note : Option JobNumber) (asked : Option HandleCall) → asked ≡ called_at (goes_on q note) asked
 still_called q None asked = refl
@@ -281,7 +281,7 @@ module _ (bytes : ℕ) (asked : Option HandleCall) (p : OwnerMachine ℕ) (s : S
         ends = tt;
         tie = record {
           made = t.made;
-          gone = t.gone ∙ not_gone q note;
+          gone = still_there q note asked (own cut) t.gone;
           asked = t.asked;
           polled = t.polled ∙ still_called q note asked;
           bytes = t.bytes;
@@ -339,7 +339,7 @@ module _ (bytes : ℕ) (asked : Option HandleCall) (p : OwnerMachine ℕ) (s : S
         ends = tt;
         tie = record {
           made = t.made;
-          gone = t.gone ∙ not_gone q found.1;
+          gone = still_there q found.1 asked (own cut) t.gone;
           asked = t.asked;
           polled = t.polled ∙ still_called q found.1 asked;
           bytes = t.bytes;
@@ -462,7 +462,7 @@ module _ (bytes : ℕ) (asked : Option HandleCall) (p : OwnerMachine ℕ) (s : S
         ends = tt;
         tie = record {
           made = t.made;
-          gone = t.gone ∙ not_gone q found.1;
+          gone = still_there q found.1 asked (own cut) t.gone;
           asked = t.asked;
           polled = t.polled ∙ still_called q found.1 asked;
           bytes = t.bytes;
@@ -613,7 +613,7 @@ module _ (bytes : ℕ) (asked : Option HandleCall) (p : OwnerMachine ℕ) (s : S
         ends = tt;
         tie = record {
           made = t.made;
-          gone = t.gone ∙ not_gone q went.1;
+          gone = still_there q went.1 asked (own cut) t.gone;
           asked = t.asked;
           polled = t.polled ∙ still_called q went.1 asked;
           bytes = t.bytes;
@@ -829,7 +829,9 @@ module _ (bytes : ℕ) (asked : Option HandleCall) (p : OwnerMachine ℕ) (s : S
   after_back_is k handle_call.OperateAgain st false None of last known looks kept = refl
   after_back_is k handle_call.OperateAgain st false (Some why) of last known looks kept = refl
   after_back_is k handle_call.OperateAgain st true why of last known looks kept = absurd (let seen = only_seen handle_call.OperateAgain st looks in cc)
-  after_back_is k _ st ended why of last known looks kept = absurd (cc)
+  after_back_is k handle_call.IntoInner st false None of last known looks kept = refl
+  after_back_is k handle_call.IntoInner st false (Some why) of last known looks kept = refl
+  after_back_is k handle_call.IntoInner st true why of last known looks kept = absurd (let seen = only_seen handle_call.IntoInner st looks in cc)
 
   -- and once it is back from a seek that went well
   sought_is : (k : Bool) (c : HandleCall) (goal : Position) (end : OwnerEnd) (place : ℕ) → is_known c ≡ true
@@ -850,7 +852,7 @@ module _ (bytes : ℕ) (asked : Option HandleCall) (p : OwnerMachine ℕ) (s : S
   sought_is k handle_call.Next goal end place known = refl
   sought_is k handle_call.Operate goal end place known = refl
   sought_is k handle_call.OperateAgain goal end place known = refl
-  sought_is k _ goal end place known = absurd (cc)
+  sought_is k handle_call.IntoInner goal end place known = refl
 
   -- and it fits
   back_fits : (k : Bool) (q : OwnerMachine ℕ) (c : HandleCall) (st : State) (ended : Bool) (why : Option (Fault ℕ)) (back : Option (List Event)) → is_known c ≡ true → LooksFrom c st ended → q.state ≡ state.Idle → q.is_at_end ≡ ended
@@ -888,7 +890,10 @@ module _ (bytes : ℕ) (asked : Option HandleCall) (p : OwnerMachine ℕ) (s : S
   back_fits k q handle_call.OperateAgain st false None back known looks at end whole taken flushed = (tt, at, end)
   back_fits k q handle_call.OperateAgain st false (Some why) back known looks at end whole taken flushed = (tt, at, end)
   back_fits k q handle_call.OperateAgain st true why back known looks at end whole taken flushed = absurd (let seen = only_seen handle_call.OperateAgain st looks in cc)
-  back_fits k q _ st ended why back known looks at end whole taken flushed = absurd (cc)
+  back_fits k q handle_call.IntoInner st true None back known looks at end whole taken flushed = (refl, tt, tt)
+  back_fits k q handle_call.IntoInner st true (Some why) back known looks at end whole taken flushed = (refl, tt, tt)
+  back_fits k q handle_call.IntoInner st false None back known looks at end whole taken flushed = (refl, tt, tt)
+  back_fits k q handle_call.IntoInner st false (Some why) back known looks at end whole taken flushed = (refl, tt, tt)
 
   sought_fits : (k : Bool) (q : OwnerMachine ℕ) (c : HandleCall) (goal : Position) (end : OwnerEnd) (place : ℕ) (back : Option (List Event)) → is_known c ≡ true → q.state ≡ state.Idle → q.is_at_end ≡ false
       → IsFlushedBack back → FitsNext c q (machine.after_seek (state.Lent (session_kind.Seeking goal) end) (poll_call_of k c) place) false back
@@ -907,7 +912,7 @@ module _ (bytes : ℕ) (asked : Option HandleCall) (p : OwnerMachine ℕ) (s : S
   sought_fits k q handle_call.Next goal end place back known at ended flushed = (tt, at, ended)
   sought_fits k q handle_call.Operate goal end place back known at ended flushed = (tt, at, ended)
   sought_fits k q handle_call.OperateAgain goal end place back known at ended flushed = (tt, at, ended)
-  sought_fits k q _ goal end place back known at ended flushed = absurd (cc)
+  sought_fits k q handle_call.IntoInner goal end place back known at ended flushed = (refl, tt, tt)
 
   -- a job that finished is over
   over_now : Old → has_finished acts ≡ true → next_but_wake kind acts ≡ Over
@@ -1310,35 +1315,54 @@ after_reply x c _ told.Okay closed last shut st same away e = absurd (cc)
 
 reply_goes : (bytes : ℕ) (asked : Option HandleCall) (p : OwnerMachine ℕ) (last : Option Session) (h first : ℕ) (growth : Growth) (cut : List Event) (r : Reply ℕ) (said : Told)
     → p.next ≡ action.Reply r → reply_as (item_in last) r ≡ Some said → OwnerAs (owner_by_parts bytes asked (stage.Polls p) last) cut
-    → Goes (owner_by_parts bytes asked (stage.Rests p.state poll_end.Replied) last) cut (by_owner h (Replied said) first growth)
-reply_goes bytes asked p last h first growth cut r said is same t =
-    let c = t.stage.0.call in
-    let fits = fits_at bytes asked p cut last (action.Reply r) t is in
-    record {
+    → Goes (owner_by_parts bytes asked (stage_after_reply (sessions.is_into_inner asked) p.state) last) cut (by_owner h (Replied said) first growth)
+reply_goes bytes asked p last h first growth cut r said is same t = at (sessions.is_into_inner asked) refl
+  where
+    fits : FitsNext t.stage.0.call p (action.Reply r) (law.is_at_end (own cut)) (came_back cut)
+    fits = fits_at bytes asked p cut last (action.Reply r) t is
+
+    -- where it is after that has no poll under way and no note, and is no more if the handle was asked for for good
+    after : (here : OwnerStage) → called_at here asked ≡ None → note_at here ≡ None → is_gone here ≡ false → is_no_more here ≡ sessions.is_into_inner asked
+        → StageBy here (item_in last) (sessions.call (own cut)) (sessions.state (Replied said ∷ own cut)) law.Rest false (came_back cut) None
+        → OperatesBy here false (is_operation asked) (sessions.has_begun (own cut)) (has_found (own cut))
+        → Goes (owner_by_parts bytes asked here last) cut (by_owner h (Replied said) first growth)
+    after here rests awake there over so operates = record {
       acts = subst (λ n. Polls cut n (Replied said)) (sym (lawful bytes asked p cut last (action.Reply r) t is ∙ ap say same)) refl;
-      ends = subst (λ c. IsTrueEnd c said (came_back cut)) (sym t.stage.0.asked_is) (end_is (item_in last) c r (came_back cut) said same fits.1);
+      ends = subst (λ c. IsTrueEnd c said (came_back cut)) (sym t.stage.0.asked_is) (end_is (item_in last) t.stage.0.call r (came_back cut) said same fits.1);
       tie = record {
         made = t.made;
-        gone = t.gone;
+        gone = (
+          t.gone.0 ∙ sym there,
+          ap (λ c. sessions.is_into_inner c || sessions.is_owner_gone (own cut)) t.asked ∙ or_none (sessions.is_into_inner asked) (sessions.is_owner_gone (own cut)) t.gone.1 ∙ sym over,
+          t.gone.2,
+        );
         asked = t.asked;
-        polled = refl;
+        polled = sym rests;
         bytes = t.bytes;
         calls = t.calls;
-        stage = (
-          ap (λ c. sessions.state_by (sessions.ends_close said c || sessions.is_closed (own cut)) (sessions.session (own cut)) (sessions.is_shut (own cut))) t.stage.0.asked_is
-              ∙ after_reply (item_in last) c r said (sessions.is_closed (own cut)) (sessions.session (own cut)) (sessions.is_shut (own cut)) p.state same fits.2 t.stage.0.at_is,
-          refl,
-          refl,
-        );
-        operates = refl;
-        place = t.place;
+        stage = so;
+        operates = operates;
         last = t.last;
+        place = t.place;
         ended = λ is_end. absurd (cc);
         earlier = t.earlier;
-        noted = λ number is. absurd (cc);
+        noted = λ number is. absurd (let none = awake in cc);
         told = λ waits. absurd (cc);
       };
     }
+      where
+        or_none : (a b : Bool) → b ≡ false → (a || b) ≡ a
+        or_none true b none = refl
+        or_none false b none = none
+
+    at : (b : Bool) → sessions.is_into_inner asked ≡ b → Goes (owner_by_parts bytes asked (stage_after_reply b p.state) last) cut (by_owner h (Replied said) first growth)
+    at true inner = after stage.TakenBack refl refl refl (sym inner) (refl, refl) tt
+    at false not_inner = after (stage.Rests p.state poll_end.Replied) refl refl refl (sym not_inner) (
+      ap (λ c. sessions.state_by (sessions.ends_close said c || sessions.is_closed (own cut)) (sessions.session (own cut)) (sessions.is_shut (own cut))) t.stage.0.asked_is
+          ∙ after_reply (item_in last) t.stage.0.call r said (sessions.is_closed (own cut)) (sessions.session (own cut)) (sessions.is_shut (own cut)) p.state same fits.2 t.stage.0.at_is,
+      refl,
+      refl,
+    ) refl
 
 -- it drops the handle: of a close all is done
 drops_goes : (bytes : ℕ) (asked : Option HandleCall) (p : OwnerMachine ℕ) (last : Option Session) (h first : ℕ) (growth : Growth) (cut : List Event) → p.next ≡ action.DropHandle
@@ -1354,7 +1378,7 @@ drops_goes bytes asked p last h first growth cut is t =
       ends = subst (λ c. IsTrueEnd c told.Okay (came_back cut)) (sym called) fits.2;
       tie = record {
         made = t.made;
-        gone = t.gone;
+        gone = (t.gone.0, ap (λ c. sessions.is_into_inner c || sessions.is_owner_gone (own cut)) called ∙ t.gone.1, t.gone.2);
         asked = t.asked;
         polled = refl;
         bytes = t.bytes;
@@ -1422,6 +1446,7 @@ own_at bytes asked (stage.Polls p) last h first growth cut done t does =
 own_at bytes asked (stage.Rests here end) last h first growth cut done t does = absurd (cc)
 own_at bytes asked (stage.Wakes p note) last h first growth cut done t does = absurd (cc)
 own_at bytes asked stage.Dropped last h first growth cut done t does = absurd (cc)
+own_at bytes asked stage.TakenBack last h first growth cut done t does = absurd (cc)
 
 -- an act of its poll that asks no pool
 pub own_goes : (owner : Owner) (h first : ℕ) (growth : Growth) (cut : List Event) (done : Did) → did owner ≡ Some done → OwnerAs owner cut

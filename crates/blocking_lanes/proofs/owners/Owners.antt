@@ -137,7 +137,7 @@ aside row past now a h =
 new_tied : (h capacity first : ℕ) (growth : Growth) → OwnerAs (new_owner capacity) (by_owner h (Made h capacity) first growth ∷ [])
 new_tied h capacity first growth = record {
   made = refl;
-  gone = refl;
+  gone = (refl, refl, refl);
   asked = refl;
   polled = refl;
   bytes = λ kind. refl;

@@ -50,7 +50,7 @@ use Rattle.blocking_lanes.specs.declared.owner.OwnerStage.TheVariants as stage
 use Rattle.blocking_lanes.specs.declared.owner.PollEnd.{PollEnd}
 use Rattle.blocking_lanes.specs.declared.owner.PollEnd.TheVariants as poll_end
 use Rattle.blocking_lanes.proofs.owners.Cuts.{next_with, next_stays, kind_of_last}
-use Rattle.blocking_lanes.proofs.owners.Known.{both_are, gone_known, may_ask_known, pending_is}
+use Rattle.blocking_lanes.proofs.owners.Known.{all_true, asks_inner, pending_is}
 use Rattle.blocking_lanes.proofs.owners.OwnerActs.{Goes, owner_by_parts, bound, turned, lawful, fits_at, failed_fits, last_is}
 use Rattle.blocking_lanes.proofs.owners.Results.{begun as place_begun}
 use Rattle.blocking_lanes.proofs.owners.States.{IsThere, is_away, gone_is, lent_by, may_be_asked, is_there, of_session}
@@ -76,6 +76,9 @@ table_at x handle_call.GetMut (state.Lent kind end) known may there = of_session
 table_at x (handle_call.Read (suc n)) state.Closed known may there = absurd (cc)
 table_at x (handle_call.Write (byte ∷ more)) state.Closed known may there = absurd (cc)
 table_at x handle_call.GetMut state.Closed known may there = absurd (cc)
+table_at x handle_call.IntoInner state.Closed known may there = absurd (cc)
+table_at x handle_call.IntoInner state.Idle known may there = refl
+table_at x handle_call.IntoInner (state.Lent kind end) known may there = of_session (DoesSo x handle_call.IntoInner) refl refl refl refl refl refl (λ goal. refl) (λ goal. refl) refl refl kind end there
 table_at x handle_call.Flush state.Closed known may there = refl
 table_at x handle_call.Close state.Closed known may there = refl
 table_at x (handle_call.Read (suc n)) state.Idle known may there = refl
@@ -95,7 +98,6 @@ table_at x handle_call.Operate state.Closed known may there = absurd (cc)
 table_at x handle_call.OperateAgain (state.Lent kind end) known may there = of_session (DoesSo x handle_call.OperateAgain) refl refl refl refl refl refl (λ goal. refl) (λ goal. refl) refl refl kind end there
 table_at x handle_call.OperateAgain state.Idle known may there = refl
 table_at x handle_call.OperateAgain state.Closed known may there = absurd (cc)
-table_at x _ at known may there = absurd (cc)
 
 -- who stops a session closes the own end of its pipe, or looks for the handle
 stop_fits : (call : HandleCall) (kind : SessionKind) (end : OwnerEnd) → FitsNext call (new_poll (poll_call_of false call) (state.Lent kind end)) (machine.stop (machine.has_pipe kind) end) false None
@@ -116,7 +118,7 @@ session_fits call kind Shut true is fits = stop_fits call kind Shut
 session_fits call kind Open false is fits = stop_fits call kind Open
 session_fits call kind Shut false is fits = stop_fits call kind Shut
 
--- a flush, a close and the call for the handle have no session of their own
+-- a flush, a close and the calls for the handle have no session of their own
 flush_stops : (kind : SessionKind) → machine.goes_on_in kind poll_call.Flush ≡ true → ⊥
 flush_stops session_kind.Reading own = cc
 flush_stops _ own = cc
@@ -128,6 +130,10 @@ close_stops _ own = cc
 get_stops : (kind : SessionKind) → machine.goes_on_in kind poll_call.GetMut ≡ true → ⊥
 get_stops session_kind.Reading own = cc
 get_stops _ own = cc
+
+inner_stops : (kind : SessionKind) → machine.goes_on_in kind poll_call.IntoInner ≡ true → ⊥
+inner_stops session_kind.Reading own = cc
+inner_stops _ own = cc
 
 -- and an operation that hasn't begun its session stops any other
 operation_stops : (kind : SessionKind) → machine.goes_on_in kind (poll_call.Operate false) ≡ true → ⊥
@@ -162,6 +168,9 @@ table_fits handle_call.Close state.Closed known may = (refl, tt, refl)
 table_fits handle_call.GetMut state.Idle known may = (refl, tt, tt)
 table_fits handle_call.GetMut (state.Lent kind end) known may = session_fits handle_call.GetMut kind end (machine.goes_on_in kind poll_call.GetMut) refl (λ own. absurd (get_stops kind own))
 table_fits handle_call.GetMut state.Closed known may = absurd (cc)
+table_fits handle_call.IntoInner state.Idle known may = (refl, tt, tt)
+table_fits handle_call.IntoInner (state.Lent kind end) known may = session_fits handle_call.IntoInner kind end (machine.goes_on_in kind poll_call.IntoInner) refl (λ own. absurd (inner_stops kind own))
+table_fits handle_call.IntoInner state.Closed known may = absurd (cc)
 table_fits handle_call.Next state.Idle known may = (tt, refl, refl)
 table_fits handle_call.Next (state.Lent kind end) known may = session_fits handle_call.Next kind end (machine.goes_on_in kind poll_call.Next) refl (own kind)
   where
@@ -185,7 +194,6 @@ table_fits handle_call.OperateAgain state.Idle known may = (tt, refl, refl)
 table_fits handle_call.OperateAgain (state.Lent kind end) known may =
     session_fits handle_call.OperateAgain kind end (machine.goes_on_in kind (poll_call.Operate false)) refl (λ own. absurd (operation_stops kind own))
 table_fits handle_call.OperateAgain state.Closed known may = absurd (cc)
-table_fits _ at known may = absurd (cc)
 
 -- ---- its operations
 
@@ -292,11 +300,11 @@ asks_so x (handle_call.Seek goal) end asked at past known may pends there here e
 asks_so x handle_call.Next end asked at past known may pends there here ends = asks_first x handle_call.Next at past known may there here refl (λ is. absurd (cc))
 asks_so x handle_call.Operate end asked at past known may pends there here ends = asks_first x handle_call.Operate at past known may there here refl (λ is. refl)
 asks_so x handle_call.GetMut end asked at past known may pends there here ends = asks_first x handle_call.GetMut at past known may there here refl (λ is. absurd (cc))
-asks_so x handle_call.IntoInner end asked at past known may pends there here ends = absurd (cc)
+asks_so x handle_call.IntoInner end asked at past known may pends there here ends = asks_first x handle_call.IntoInner at past known may there here refl (λ is. absurd (cc))
 
 -- it rests, by the law
 rests_so : (bytes : ℕ) (asked : Option HandleCall) (here : State) (end : PollEnd) (last : Option Session) (cut : List Event) → OwnerAs (owner_by_parts bytes asked (stage.Rests here end) last) cut → sessions.rests (own cut) ≡ true
-rests_so bytes asked here end last cut t = rw (t.made, gone_known (own cut) t.calls ∙ t.gone, t.polled) refl
+rests_so bytes asked here end last cut t = rw (t.made, t.gone.1, t.polled) refl
 
 -- it waits, as its last poll ended
 waits_so : (end : PollEnd) (at : State) (waits operates begun found : Bool) → EndsAs end at waits operates begun found → waits ≡ is_pending end
@@ -312,20 +320,23 @@ pends_so bytes asked here end last cut t =
     ∙ ap (λ b. b && is_operation asked) (waits_so end here (is_waiting (own cut)) (is_operation asked) (has_begun (own cut)) (has_found (own cut)) t.operates)
 
 pub ask_goes : (bytes : ℕ) (asked : Option HandleCall) (here : State) (end : PollEnd) (last : Option Session) (h first : ℕ) (growth : Growth) (cut : List Event) (call : HandleCall)
-    → is_known call ≡ true → may_call_at here call ≡ true → (not (is_again call) || (is_pending end && is_operation asked)) ≡ true → OwnerAs (owner_by_parts bytes asked (stage.Rests here end) last) cut
+    → is_known call ≡ true → may_call_at here call ≡ true → (not (sessions.is_into_inner asked) || sessions.is_into_inner (Some call)) ≡ true
+    → (not (is_again call) || (is_pending end && is_operation asked)) ≡ true → OwnerAs (owner_by_parts bytes asked (stage.Rests here end) last) cut
     → Goes (owner_by_parts bytes (Some call) (stage.Polls (new_poll (poll_call_of (is_for_result end) call) here)) last) cut (by_owner h (Asked call) first growth)
-ask_goes bytes asked here end last h first growth cut call known may pends t =
+ask_goes bytes asked here end last h first growth cut call known may still pends t =
     let a = asks_so (item_in last) call end asked here (own cut) known may pends (is_there last (bound bytes) cut here t.last t.stage.0) t.stage.0 t.operates in
+    let inner : (not (sessions.was_asked_inner (own cut)) || sessions.is_into_inner (Some call)) ≡ true = ap (λ b. not b || sessions.is_into_inner (Some call)) t.gone.2 ∙ still in
     record {
-      acts = may_ask_known (own cut) call t.calls
-          ∙ both_are (sessions.rests (own cut) && (not (sessions.is_closed (own cut)) || is_for_closed call)) (not (is_again call) || sessions.is_pending_operation (own cut))
-          (ap (λ b. b && (not (sessions.is_closed (own cut)) || is_for_closed call)) (rests_so bytes asked here end last cut t)
-          ∙ ap (λ b. not b || is_for_closed call) (gone_is (own cut) here t.stage.0) ∙ may_be_asked here call ∙ may)
+      acts = all_true (sessions.rests (own cut)) (not (sessions.is_closed (own cut)) || is_for_closed call) (not (sessions.was_asked_inner (own cut)) || sessions.is_into_inner (Some call))
+          (not (is_again call) || sessions.is_pending_operation (own cut))
+          (rests_so bytes asked here end last cut t)
+          (ap (λ b. not b || is_for_closed call) (gone_is (own cut) here t.stage.0) ∙ may_be_asked here call ∙ may)
+          inner
           (ap (λ b. not (is_again call) || b) (pends_so bytes asked here end last cut t) ∙ pends);
       ends = tt;
       tie = record {
         made = t.made;
-        gone = t.gone;
+        gone = (t.gone.0, t.gone.1, asks_inner call (own cut) inner);
         asked = refl;
         polled = refl;
         bytes = t.bytes;
@@ -371,7 +382,7 @@ drop_goes bytes asked here end last h first growth cut t = record {
   ends = tt;
   tie = record {
     made = t.made;
-    gone = refl;
+    gone = (refl, refl, t.gone.2);
     asked = t.asked;
     polled = refl;
     bytes = t.bytes;

@@ -65,7 +65,7 @@ use Rattle.blocking_lanes.specs.declared.owner.OwnerStage.TheVariants as stage
 use Rattle.blocking_lanes.proofs.owners.Goods.{through_some, through_none}
 use Rattle.blocking_lanes.proofs.owners.Cuts.{its_kind, kind_is, next_stays, passes}
 use Rattle.blocking_lanes.proofs.owners.JobActs.{WorksOn, room_works, put_works, close_works, finish_works, answer_goes, give_up_goes, peek_works, consume_works, writer_close_works, writer_finish_works, writer_answer_goes, item_answer_goes, send_works, streamer_close_works, streamer_finish_works, asking_goes, seek_finish_works, seek_answer_goes, result_works, operation_finish_works, operation_answer_goes}
-use Rattle.blocking_lanes.proofs.owners.Known.{both_true}
+use Rattle.blocking_lanes.proofs.owners.Known.{both_true, never_all}
 use Rattle.blocking_lanes.proofs.owners.OwnerActs.{Goes, owner_by_parts, bound, value_of, doing, own_goes}
 use Rattle.blocking_lanes.proofs.owners.PoolAnswers.{ask_goes, drop_goes, refuse_goes, deliver_goes, begin_goes}
 use Rattle.blocking_lanes.proofs.owners.ReadJobs as of_reader
@@ -459,7 +459,7 @@ given_up bytes asked here last h v n first growth cut t among gone goes =
     subst (λ m. Goes (owner_by_parts bytes asked here (without_job last)) cut (by_its_job h v m (GaveUp (waker_in (giving_up_wakes last))) first growth)) (sym l.same)
     (subst (λ o. Goes (owner_by_parts bytes asked here (without_job o)) cut (by_its_job h v l.session.number.serial (GaveUp (waker_in (giving_up_wakes o))) first growth)) (sym l.here)
     (give_up_goes bytes asked here l.session h v first growth cut tied (subst (λ m. is_in m (jobs_of (own cut)) ≡ true) l.same among)
-    (subst (λ k. is_over (next_but_wake k (acts_of l.session.number.serial cut)) ≡ false) (kind_is l.session (bound bytes) cut tied.last) goes_on) (t.gone ∙ gone)))
+    (subst (λ k. is_over (next_but_wake k (acts_of l.session.number.serial cut)) ≡ false) (kind_is l.session (bound bytes) cut tied.last) goes_on) (t.gone.0 ∙ gone)))
 
 answered : (bytes : ℕ) (asked : Option HandleCall) (here : OwnerStage) (last : Option Session) (h v n first : ℕ) (growth : Growth) (cut : List Event) → OwnerAs (owner_by_parts bytes asked here last) cut
     → (job : SessionJob) (answer : Answer) → kind_of_job n (own cut) ≡ kind_of job → JobAs job (acts_of n cut) → is_answer (action_of job) answer ≡ true → is_in n (jobs_of (own cut)) ≡ true
@@ -505,22 +505,24 @@ answered bytes asked here last h v n first growth cut t (of_job.Operate p) answe
     (operation_answer_goes bytes asked here l.session h v first growth cut tied p (subst (λ m. OperationAs p (acts_of m cut)) l.same r)
     (kind_at bytes asked here h v first growth cut l.session tied Operating (subst (λ m. kind_of_job m (own cut) ≡ Operating) l.same of)) (subst (λ m. is_in m (jobs_of (own cut)) ≡ true) l.same among) answer is))
 
--- who doesn't rest isn't asked
-not_asked : (known pends : Bool) → (known && false && pends) ≡ true → ⊥
-not_asked true pends e = cc
-not_asked false pends e = cc
-
 module _ (bytes : ℕ) (asked : Option HandleCall) (last : Option Session) (h v n first : ℕ) (growth : Growth) (cut : List Event) (act : Act) where
+  -- who doesn't rest isn't asked
+  not_asked : (call : HandleCall) → (is_known call && false && (not (sessions.is_into_inner asked) || sessions.is_into_inner (Some call)) && (not (is_again call) || false)) ≡ true → ⊥
+  not_asked call may = never_all (is_known call) (not (sessions.is_into_inner asked) || sessions.is_into_inner (Some call)) (not (is_again call) || false) may
+
   step_by : (step : OwnerStep) (here : OwnerStage) → OwnerAs (owner_by_parts bytes asked here last) cut → IsAllowed step (owner_by_parts bytes asked here last) n cut
       → act_of step (owner_by_parts bytes asked here last) ≡ Some act → Goes (owner_after step (owner_by_parts bytes asked here last)) cut (event_by step h v n act first growth)
   step_by (IsAsked call) (stage.Rests st end) t w seen =
-      let may = both_true (is_known call && may_call_at st call) (not (is_again call) || (is_pending end && is_operation asked)) w.may in
-      let first_two = both_true (is_known call) (may_call_at st call) may.0 in
+      let still = not (sessions.is_into_inner asked) || sessions.is_into_inner (Some call) in
+      let pends = both_true (is_known call && may_call_at st call && still) (not (is_again call) || (is_pending end && is_operation asked)) w.may in
+      let inner = both_true (is_known call && may_call_at st call) still pends.0 in
+      let may = both_true (is_known call) (may_call_at st call) inner.0 in
       subst (λ a. Goes (owner_after (IsAsked call) (owner_by_parts bytes asked (stage.Rests st end) last)) cut (by_owner h a first growth)) (ap (value_of act) seen)
-      (ask_goes bytes asked st end last h first growth cut call first_two.0 first_two.1 may.1 t)
-  step_by (IsAsked call) (stage.Polls p) t w seen = absurd (not_asked (is_known call) (not (is_again call) || false) w.may)
-  step_by (IsAsked call) (stage.Wakes p note) t w seen = absurd (not_asked (is_known call) (not (is_again call) || false) w.may)
-  step_by (IsAsked call) stage.Dropped t w seen = absurd (not_asked (is_known call) (not (is_again call) || false) w.may)
+      (ask_goes bytes asked st end last h first growth cut call may.0 may.1 inner.1 pends.1 t)
+  step_by (IsAsked call) (stage.Polls p) t w seen = absurd (not_asked call w.may)
+  step_by (IsAsked call) (stage.Wakes p note) t w seen = absurd (not_asked call w.may)
+  step_by (IsAsked call) stage.Dropped t w seen = absurd (not_asked call w.may)
+  step_by (IsAsked call) stage.TakenBack t w seen = absurd (not_asked call w.may)
   step_by Acts here t w seen = by_did (did (owner_by_parts bytes asked here last)) refl seen
     where
       by_did : (o : Option Did) → did (owner_by_parts bytes asked here last) ≡ o → act_in o ≡ Some act → Goes (owner_in o (owner_by_parts bytes asked here last)) cut (by_owner h act first growth)
@@ -533,22 +535,26 @@ module _ (bytes : ℕ) (asked : Option HandleCall) (last : Option Session) (h v 
   step_by (Begins number) (stage.Rests st end) t w seen = absurd (let no = w.may in cc)
   step_by (Begins number) (stage.Wakes p note) t w seen = absurd (let no = w.may in cc)
   step_by (Begins number) stage.Dropped t w seen = absurd (let no = w.may in cc)
+  step_by (Begins number) stage.TakenBack t w seen = absurd (let no = w.may in cc)
   step_by (IsRefused why) (stage.Polls p) t w seen =
       subst (λ a. Goes (owner_after (IsRefused why) (owner_by_parts bytes asked (stage.Polls p) last)) cut (by_owner h a first growth)) (ap (value_of act) seen)
       (refuse_goes bytes asked p last h first growth cut why (begins_at bytes asked p last cut t w.may) t)
   step_by (IsRefused why) (stage.Rests st end) t w seen = absurd (let no = w.may in cc)
   step_by (IsRefused why) (stage.Wakes p note) t w seen = absurd (let no = w.may in cc)
   step_by (IsRefused why) stage.Dropped t w seen = absurd (let no = w.may in cc)
+  step_by (IsRefused why) stage.TakenBack t w seen = absurd (let no = w.may in cc)
   step_by (Delivers woke) (stage.Wakes p note) t w seen =
       subst (λ a. Goes (owner_after (Delivers woke) (owner_by_parts bytes asked (stage.Wakes p note) last)) cut (by_owner h a first growth)) (ap (value_of act) seen) (deliver_goes bytes asked p note last h first growth cut woke t)
   step_by (Delivers woke) (stage.Rests st end) t w seen = absurd (cc)
   step_by (Delivers woke) (stage.Polls p) t w seen = absurd (cc)
   step_by (Delivers woke) stage.Dropped t w seen = absurd (cc)
+  step_by (Delivers woke) stage.TakenBack t w seen = absurd (cc)
   step_by IsDropped (stage.Rests st end) t w seen =
       subst (λ a. Goes (owner_after IsDropped (owner_by_parts bytes asked (stage.Rests st end) last)) cut (by_owner h a first growth)) (ap (value_of act) seen) (drop_goes bytes asked st end last h first growth cut t)
   step_by IsDropped (stage.Polls p) t w seen = absurd (let no = w.may in cc)
   step_by IsDropped (stage.Wakes p note) t w seen = absurd (let no = w.may in cc)
   step_by IsDropped stage.Dropped t w seen = absurd (let no = w.may in cc)
+  step_by IsDropped stage.TakenBack t w seen = absurd (let no = w.may in cc)
   step_by (DoesWork p) here t w seen = by_work (worked p (owner_by_parts bytes asked here last)) refl seen
     where
       by_work : (o : Option Worked) → worked p (owner_by_parts bytes asked here last) ≡ o → act_of_work o ≡ Some act

@@ -171,7 +171,7 @@ not_lost owner cut t s of waits rests =
     ⊎_elim (λ woken. woken) (λ sits. absurd (lost owner.session t.last t.place (session (own cut)) refl of sits)) (t.told waits).1
   where
     there : is_dropped (own cut) ≡ false
-    there = t.gone ∙ (t.told waits).0
+    there = t.gone.0 ∙ (t.told waits).0
 
     stays : (works : List Act) → (has_given_up works ≡ true → is_dropped (own cut) ≡ true) → (b : Bool) → has_given_up works ≡ b → has_given_up works ≡ false
     stays works let_go true is = absurd (let gone = let_go is in let here = there in cc)

@@ -80,6 +80,7 @@ none_noted (stage.Wakes poll number) x X s t waits noted = let none = waits_unno
 none_noted (stage.Rests at end) x X s t waits noted = cc
 none_noted (stage.Polls poll) x X s t waits noted = cc
 none_noted stage.Dropped x X s t waits noted = cc
+none_noted stage.TakenBack x X s t waits noted = cc
 
 -- so an owner that waits meets a job that is left to it in the pipe
 waits_met : (owner : Owner) (X : List Event) (s : ℕ) → OwnerAs owner X → is_waiting (own X) ≡ true → IsMet owner s → is_job_seated X ≡ true
@@ -114,6 +115,7 @@ noted_under_way (stage.Wakes poll number) x X s t noted = noted_waking (own X) s
 noted_under_way (stage.Rests at end) x X s t noted = absurd cc
 noted_under_way (stage.Polls poll) x X s t noted = absurd cc
 noted_under_way stage.Dropped x X s t noted = absurd cc
+noted_under_way stage.TakenBack x X s t noted = absurd cc
 
 -- so a job that is left to its owner has reason to wait, or a wake of it is under way
 parks_met : (owner : Owner) (X : List Event) (s : ℕ) → OwnerAs owner X → is_waking s (own X) ≡ false → IsMet owner s → HasReason X

@@ -111,6 +111,7 @@ did_next (owner_stage.Polls poll) owner some = acts_next (owner_next poll) poll 
 did_next (owner_stage.Rests at end) owner some = absurd cc
 did_next (owner_stage.Wakes poll note) owner some = absurd cc
 did_next owner_stage.Dropped owner some = absurd cc
+did_next owner_stage.TakenBack owner some = absurd cc
 
 -- so its poll may go on
 may_so : (n : OwnerNext) (finds : Option Did) → is_rest n ≡ false → is_some finds ≡ true → may_own n finds ≡ true
@@ -128,6 +129,7 @@ noted_next (owner_stage.Wakes poll note) last number is = refl
 noted_next (owner_stage.Rests at end) last number is = absurd cc
 noted_next (owner_stage.Polls poll) last number is = absurd cc
 noted_next owner_stage.Dropped last number is = absurd cc
+noted_next owner_stage.TakenBack last number is = absurd cc
 
 -- ---- whose job it is
 

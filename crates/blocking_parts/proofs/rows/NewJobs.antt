@@ -193,6 +193,7 @@ begins_kind bytes asked (stage.Polls poll) last cut t begins =
 begins_kind bytes asked (stage.Rests at end) last cut t begins = absurd cc
 begins_kind bytes asked (stage.Wakes poll note) last cut t begins = absurd cc
 begins_kind bytes asked stage.Dropped last cut t begins = absurd cc
+begins_kind bytes asked stage.TakenBack last cut t begins = absurd cc
 
 -- and that its acceptance tells
 accepted_kind : (h s n first started : ℕ) (refused : Bool) (seen : List Event) → (n == s) ≡ true
@@ -206,6 +207,7 @@ begins_with number goods pipe (stage.Polls poll) owner is = refl
 begins_with number goods pipe (stage.Rests at end) owner is = absurd cc
 begins_with number goods pipe (stage.Wakes poll note) owner is = absurd cc
 begins_with number goods pipe stage.Dropped owner is = absurd cc
+begins_with number goods pipe stage.TakenBack owner is = absurd cc
 
 module _ (setting : ℕ) (plan : List Bool) (w : Parts) (past : List Moment) (t : Tied setting plan w past) (e : Event) (new : Parts) (number : JobNumber)
     (numbers : (s : ℕ) (row : Row) → row_of w.rows s ≡ Some row → IsNumberOf new.crew.pool row.number) where

@@ -73,6 +73,7 @@ of_poll (stage.Polls p) owner done e = of_did (owner_next p) p owner.session own
 of_poll (stage.Rests at end) owner done e = absurd cc
 of_poll (stage.Wakes p note) owner done e = absurd cc
 of_poll stage.Dropped owner done e = absurd cc
+of_poll stage.TakenBack owner done e = absurd cc
 
 -- ---- its job gives up
 
@@ -91,6 +92,7 @@ number_stays (IsAsked call) owner none = at owner.stage
     at (stage.Polls p) = refl
     at (stage.Wakes p note) = refl
     at stage.Dropped = refl
+    at stage.TakenBack = refl
 number_stays Acts owner none = at (did owner) refl
   where
     at : (o : Option Did) → did owner ≡ o → number_of (owner_in o owner) ≡ number_of owner

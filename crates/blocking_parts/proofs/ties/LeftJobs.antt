@@ -97,6 +97,7 @@ begins_idle bytes asked (owner_stage.Polls poll) last X t begins =
 begins_idle bytes asked (owner_stage.Rests at end) last X t begins = absurd cc
 begins_idle bytes asked (owner_stage.Wakes poll note) last X t begins = absurd cc
 begins_idle bytes asked owner_stage.Dropped last X t begins = absurd cc
+begins_idle bytes asked owner_stage.TakenBack last X t begins = absurd cc
 
 -- ---- one act of a job
 

@@ -69,16 +69,18 @@ pub fn jobs()
         (moment (Strike 1) Pool None (JobCancelled 1 Entered) 2) }
 {}
 
-/// Owners are asked for items and to seek, but not yet for an operation, or for the handle for good.
+/// Owners are asked for items, to seek and for the handle for good, but not yet for an operation.
 pub fn not_yet()
     // made 0 / asked (to seek)
     ensures accepts_seek { StepLaw one_made (asks (Seek (Start 7)) 1) }
     // made 0 / asked (for an item)
     ensures accepts_item { StepLaw one_made (asks Next 1) }
+    // made 0 / asked (for the handle, for good)
+    ensures accepts_handle { StepLaw one_made (asks IntoInner 1) }
     // made 0 / nothing
+    ensures refuses_nothing_for_handle { Refuses StepLaw one_made (moment (Ask 0 IntoInner) (Owner 0) None NoAction 1) }
     ensures refuses_nothing_for_item { Refuses StepLaw one_made (moment (Ask 0 Next) (Owner 0) None NoAction 1) }
     ensures accepts_nothing_for_operation { StepLaw one_made (moment (Ask 0 Operate) (Owner 0) None NoAction 1) }
-    ensures accepts_nothing_for_handle { StepLaw one_made (moment (Ask 0 IntoInner) (Owner 0) None NoAction 1) }
     // made 0 / asked (for an operation)
     ensures refuses_operation { Refuses StepLaw one_made (asks Operate 1) }
 {}
