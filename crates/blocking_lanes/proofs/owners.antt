@@ -13,7 +13,7 @@ pub mod Drains
 pub mod Fills
 pub mod Goods
 pub mod States
-pub mod Known
+pub mod Asked
 pub mod Cuts
 pub mod OwnerActs
 pub mod PoolAnswers

@@ -25,10 +25,10 @@ use Rattle.blocking_laws.specs.Passed.{gave, got, answered, was_put, data_of, ac
 use Rattle.blocking_laws.specs.Seen.{IsBeginning, events, acts_of, own, cut}
 use Rattle.blocking_laws.specs.Sessions.{call, under_way, is_made, is_dropped, is_into_inner, is_operation, is_owner_gone, has_begun, was_asked_inner, last_session, is_shut, jobs_of, kind_of_job, capacity}
 use Rattle.blocking_laws.specs.Sessions as sessions
-use Rattle.blocking_laws.specs.Steps.{owners, is_known}
+use Rattle.blocking_laws.specs.Steps.{owners}
 use Rattle.blocking_laws.specs.Wakes.{is_waiting, was_woken}
 use Rattle.blocking_laws.specs.declared.event.Act.{Act}
-use Rattle.blocking_laws.specs.declared.event.Act.TheVariants.{Accepted, Asked, ResultGot}
+use Rattle.blocking_laws.specs.declared.event.Act.TheVariants.{Accepted, ResultGot}
 use Rattle.blocking_laws.specs.declared.event.Event.{Event}
 use Rattle.blocking_laws.specs.declared.event.Moment.{Moment}
 use Rattle.blocking_laws.specs.declared.event.Party.TheVariants.{Owner as ByOwner}
@@ -523,12 +523,6 @@ is_seated (Some s) = is_some s.pipe.owner_seat || (is_some s.slot.seat || is_som
 
 -- ---- one owner
 
--- the owner was asked only for what owners are asked for yet
-abbrev pub AskKnown : List Act → Type 0
-AskKnown [] = Unit {0}
-AskKnown (Asked call ∷ past) = (is_known call ≡ true) × AskKnown past
-AskKnown (_ ∷ past) = AskKnown past
-
 -- Whether the owner was dropped, whether it is no more, and whether its handle was asked for for good, which then its last call does.
 abbrev pub GoneBy : OwnerStage → Option HandleCall → List Act → Type 0
 GoneBy here asked acts = (is_dropped acts ≡ is_gone here) × (is_owner_gone acts ≡ is_no_more here) × (was_asked_inner acts ≡ is_into_inner asked)
@@ -540,7 +534,6 @@ pub record OwnerAs (owner : Owner) (cut : List Event) : Type 0 where
   pub asked : call (own cut) ≡ owner.asked
   pub polled : under_way (own cut) ≡ called_at owner.stage owner.asked
   pub bytes : (kind : Kind) → capacity kind (own cut) ≡ capacity_of owner kind
-  pub calls : AskKnown (own cut)
   pub stage : StageAs owner.stage (item_in owner.session) cut
   pub operates : OperatesAs owner (own cut)
   pub last : LastAs owner.session (capacity_of owner) cut

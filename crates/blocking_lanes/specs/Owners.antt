@@ -38,7 +38,6 @@ use Rattle.blocking_core.specs.declared.unblock.State.{State}
 use Rattle.blocking_core.specs.declared.unblock.State.TheVariants as state
 use Rattle.blocking_laws.specs.JobTable.{Kind}
 use Rattle.blocking_laws.specs.Sessions.{default_capacity, kind_of, is_again, is_for_closed, is_into_inner, is_operation}
-use Rattle.blocking_laws.specs.Steps.{is_known}
 use Rattle.blocking_laws.specs.Seats.{waker_in}
 use Rattle.blocking_laws.specs.declared.event.Act.{Act}
 use Rattle.blocking_laws.specs.declared.event.Act.TheVariants.{OwnerClosed, Got, GotEnd, Filled, FillShut, Waits, Back, ResultGot, Replied, GaveUp, HolderWoken, GotItem}
@@ -165,11 +164,11 @@ abbrev pub awaits_operation : OwnerStage → Option HandleCall → Bool
 awaits_operation (stage.Rests at end) asked = is_pending end && is_operation asked
 awaits_operation _ asked = false
 
--- and owners are asked for it yet, once the handle was asked for for good only for that, and for the result of an operation only where one is
+-- whether it may be asked for this: once the handle was asked for for good only for that, and for the result of an operation only where one is
 -- pending
 abbrev pub may_ask : Owner → HandleCall → Bool
 may_ask owner call =
-    is_known call && may_ask_at owner.stage call && (not (is_into_inner owner.asked) || is_into_inner (Some call))
+    may_ask_at owner.stage call && (not (is_into_inner owner.asked) || is_into_inner (Some call))
     && (not (is_again call) || awaits_operation owner.stage owner.asked)
 
 -- whether it was dropped

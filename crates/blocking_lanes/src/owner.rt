@@ -237,14 +237,13 @@ impl Owner {
         matches!(self.stage, OwnerStage::Rests(_, _))
     }
 
-    /// Whether it may be asked for this: owners are asked for it yet, it is there, no poll of it is under way, once its handle is gone it is
+    /// Whether it may be asked for this: it is there, no poll of it is under way, once its handle is gone it is
     /// only flushed and closed, once its handle was asked for for good it is only asked for that, and for the result of an operation it is asked
     /// only where one is pending.
     pub fn may_ask(&self, call: &HandleCall) -> bool
         ensures { result ≡ may_ask self.now call.now }
     {
-        call.is_known()
-            && self.may_begin(call)
+        self.may_begin(call)
             && (!self.was_asked_inner() || is_into_inner(call))
             && (!is_again(call) || self.awaits_operation())
     }
@@ -269,7 +268,7 @@ impl Owner {
         }
     }
 
-    // The same of a call that owners are asked for.
+    // The same by where the handle is alone.
     fn may_begin(&self, call: &HandleCall) -> bool
         ensures { result ≡ may_ask_at self.now.stage call.now }
     {

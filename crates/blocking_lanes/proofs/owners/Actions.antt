@@ -29,7 +29,6 @@ use Rattle.blocking_laws.specs.Passed.{got, accepted, kind_in}
 use Rattle.blocking_laws.specs.Seen.{own, acts_of}
 use Rattle.blocking_laws.specs.Sessions.{jobs_of, kind_of_job, under_way, is_again, is_operation, is_poll_over, is_for_closed}
 use Rattle.blocking_laws.specs.Sessions as sessions
-use Rattle.blocking_laws.specs.Steps.{is_known}
 use Rattle.blocking_laws.specs.declared.event.Act.{Act}
 use Rattle.blocking_laws.specs.declared.event.Event.{Event}
 use Rattle.blocking_laws.specs.declared.event.Reply.{Reply as Told}
@@ -155,21 +154,16 @@ again_at bytes asked (stage.Wakes p note) last cut call inner t = refl
 again_at bytes asked stage.Dropped last cut call inner t = refl
 again_at bytes asked stage.TakenBack last cut call inner t = refl
 
--- so it may be asked for what the law says, of what owners are asked for
-pub may_ask_is : (owner : Owner) (cut : List Event) (call : HandleCall) → OwnerAs owner cut → (is_known call && sessions.may_ask (own cut) call) ≡ may_ask owner call
-may_ask_is owner cut call t = by (is_known call)
+-- so it may be asked for what the law says
+pub may_ask_is : (owner : Owner) (cut : List Event) (call : HandleCall) → OwnerAs owner cut → sessions.may_ask (own cut) call ≡ may_ask owner call
+may_ask_is owner cut call t =
+    ap (λ b. b && inner (sessions.was_asked_inner (own cut)) && (not (is_again call) || sessions.is_pending_operation (own cut)))
+    (asked_at owner.capacity owner.asked owner.stage owner.session cut call t)
+    ∙ ap (λ b. may_ask_at owner.stage call && inner b && (not (is_again call) || sessions.is_pending_operation (own cut))) t.gone.2
+    ∙ again_at owner.capacity owner.asked owner.stage owner.session cut call (inner (sessions.is_into_inner owner.asked)) t
   where
     inner : Bool → Bool
     inner b = not b || sessions.is_into_inner (Some call)
-
-    by : (b : Bool) → (b && sessions.may_ask (own cut) call)
-        ≡ (b && may_ask_at owner.stage call && inner (sessions.is_into_inner owner.asked) && (not (is_again call) || awaits_operation owner.stage owner.asked))
-    by false = refl
-    by true =
-        ap (λ b. b && inner (sessions.was_asked_inner (own cut)) && (not (is_again call) || sessions.is_pending_operation (own cut)))
-        (asked_at owner.capacity owner.asked owner.stage owner.session cut call t)
-        ∙ ap (λ b. may_ask_at owner.stage call && inner b && (not (is_again call) || sessions.is_pending_operation (own cut))) t.gone.2
-        ∙ again_at owner.capacity owner.asked owner.stage owner.session cut call (inner (sessions.is_into_inner owner.asked)) t
 
 -- ---- what it does is there to be done
 

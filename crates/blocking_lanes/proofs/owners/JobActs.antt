@@ -221,7 +221,6 @@ module _ (bytes : ℕ) (asked : Option HandleCall) (here : OwnerStage) (s : Sess
           asked = t.asked;
           polled = t.polled;
           bytes = t.bytes;
-          calls = t.calls;
           stage = subst (λ n. StageBy here s.item (sessions.call (own cut)) (sessions.state (own cut)) n (law.is_at_end (own cut)) (came_back (e ∷ cut)) (newest_note (own cut))) (sym next)
               (subst (λ b. StageBy here s.item (sessions.call (own cut)) (sessions.state (own cut)) (owner_next_but_wake cut (own cut)) (law.is_at_end (own cut)) b (newest_note (own cut)))
               (sym (k.back (e ∷ cut) (came_back cut))) t.stage);

@@ -38,7 +38,6 @@ use Rattle.blocking_laws.specs.Places.{seen_drain, seen_fill, poll_place, poll_s
 use Rattle.blocking_laws.specs.Seen.{own, acts_of, is_some_worker}
 use Rattle.blocking_laws.specs.Sessions as sessions
 use Rattle.blocking_laws.specs.Sessions.{is_operation}
-use Rattle.blocking_laws.specs.Steps.{is_known}
 use Rattle.blocking_laws.specs.declared.event.Act.{Act}
 use Rattle.blocking_laws.specs.declared.event.Act.TheVariants.{OwnerClosed, Got, GotEnd, Filled, FillShut, Waits, Back, ResultGot, Replied, Answered, GotItem}
 use Rattle.blocking_laws.specs.declared.event.Event.{Event}
@@ -59,7 +58,6 @@ use Rattle.blocking_lanes.specs.declared.owner.OwnerStage.{OwnerStage}
 use Rattle.blocking_lanes.specs.declared.owner.OwnerStage.TheVariants as stage
 use Rattle.blocking_lanes.specs.declared.owner.PollEnd.{PollEnd}
 use Rattle.blocking_lanes.specs.declared.owner.PollEnd.TheVariants as poll_end
-use Rattle.blocking_lanes.proofs.owners.Known.{known_call}
 use Rattle.blocking_lanes.proofs.owners.Cuts.{not_not, next_with, inside_is, room_is, lasts_is, open_is, noted_is, its_job, drain_act, drain_seen, receive_act, receive_shown}
 use Rattle.blocking_lanes.proofs.owners.Fills.{fills, fill_waits, filled_some, filled_note, fill_act, fill_seen}
 use Rattle.blocking_lanes.proofs.owners.Drains.{shuts, takes, waits, returns, waits_for_it, front, at_end, reached, first_item, no_more_items, receives, waits_for_item}
@@ -285,7 +283,6 @@ module _ (bytes : ℕ) (asked : Option HandleCall) (p : OwnerMachine ℕ) (s : S
           asked = t.asked;
           polled = t.polled ∙ still_called q note asked;
           bytes = t.bytes;
-          calls = t.calls;
           stage = goes_on_so q note s.item (sessions.call (own cut)) (sessions.state (own (e ∷ cut))) law.PollSlot false (came_back cut) polled refl;
           operates = operating_so q note false (is_operation asked) begun came (operates_at action.Close is t);
           place = t.place;
@@ -343,7 +340,6 @@ module _ (bytes : ℕ) (asked : Option HandleCall) (p : OwnerMachine ℕ) (s : S
           asked = t.asked;
           polled = t.polled ∙ still_called q found.1 asked;
           bytes = t.bytes;
-          calls = t.calls;
           stage = goes_on_so q found.1 s.item (sessions.call (own cut)) (sessions.state (own cut)) (law.Say (told.Count (length found.0))) false (came_back cut) polled refl;
           operates = operating_so q found.1 false (is_operation asked) begun came tt;
           place = t.place;
@@ -372,7 +368,6 @@ module _ (bytes : ℕ) (asked : Option HandleCall) (p : OwnerMachine ℕ) (s : S
           asked = t.asked;
           polled = refl;
           bytes = t.bytes;
-          calls = t.calls;
           stage = (t.stage.0.at_is, refl, refl);
           operates = (refl, operates_at (action.Drain most) is t);
           place = subst (λ n. PlacedBy (result_seated_by Waits (place_of n) rs)) (sym at_pipe) t.place;
@@ -402,7 +397,6 @@ module _ (bytes : ℕ) (asked : Option HandleCall) (p : OwnerMachine ℕ) (s : S
           asked = t.asked;
           polled = t.polled;
           bytes = t.bytes;
-          calls = t.calls;
           stage = (
             record {
               call = c;
@@ -466,7 +460,6 @@ module _ (bytes : ℕ) (asked : Option HandleCall) (p : OwnerMachine ℕ) (s : S
           asked = t.asked;
           polled = t.polled ∙ still_called q found.1 asked;
           bytes = t.bytes;
-          calls = t.calls;
           stage = goes_on_so q found.1 found.0 (sessions.call (own cut)) (sessions.state (own cut)) (law.Say (told.OneItem found.0)) false (came_back cut) polled refl;
           operates = operating_so q found.1 false (is_operation asked) begun came tt;
           place = t.place;
@@ -491,7 +484,6 @@ module _ (bytes : ℕ) (asked : Option HandleCall) (p : OwnerMachine ℕ) (s : S
           asked = t.asked;
           polled = refl;
           bytes = t.bytes;
-          calls = t.calls;
           stage = (t.stage.0.at_is, refl, refl);
           operates = (refl, operates_at action.Receive is t);
           place = subst (λ n. PlacedBy (result_seated_by Waits (place_of n) rs)) (sym at_pipe) t.place;
@@ -521,7 +513,6 @@ module _ (bytes : ℕ) (asked : Option HandleCall) (p : OwnerMachine ℕ) (s : S
           asked = t.asked;
           polled = t.polled;
           bytes = t.bytes;
-          calls = t.calls;
           stage = (
             record {
               call = c;
@@ -617,7 +608,6 @@ module _ (bytes : ℕ) (asked : Option HandleCall) (p : OwnerMachine ℕ) (s : S
           asked = t.asked;
           polled = t.polled ∙ still_called q went.1 asked;
           bytes = t.bytes;
-          calls = t.calls;
           stage = goes_on_so q went.1 s.item (sessions.call (own cut)) (sessions.state (own cut)) (law.Say (told.Count went.0)) false (came_back cut) polled refl;
           operates = operating_so q went.1 false (is_operation asked) begun came tt;
           place = t.place;
@@ -640,7 +630,6 @@ module _ (bytes : ℕ) (asked : Option HandleCall) (p : OwnerMachine ℕ) (s : S
           asked = t.asked;
           polled = refl;
           bytes = t.bytes;
-          calls = t.calls;
           stage = (t.stage.0.at_is, refl, refl);
           operates = (refl, operates_at (action.Fill (length offered)) w.most_is t);
           place = subst (λ n. PlacedBy (result_seated_by Waits (place_of n) rs)) (sym w.next_is) t.place;
@@ -667,7 +656,6 @@ module _ (bytes : ℕ) (asked : Option HandleCall) (p : OwnerMachine ℕ) (s : S
           asked = t.asked;
           polled = t.polled;
           bytes = t.bytes;
-          calls = t.calls;
           stage = (
             record {
               call = c;
@@ -738,7 +726,6 @@ module _ (bytes : ℕ) (asked : Option HandleCall) (p : OwnerMachine ℕ) (s : S
           asked = t.asked;
           polled = refl;
           bytes = t.bytes;
-          calls = t.calls;
           stage = (t.stage.0.at_is, refl, refl);
           operates = (refl, operates_at action.PollSlot is t);
           place = subst (λ n. PlacedBy (result_seated_by Waits (place_of n) rs)) (sym at_slot) t.place;
@@ -796,123 +783,123 @@ module _ (bytes : ℕ) (asked : Option HandleCall) (p : OwnerMachine ℕ) (s : S
   IsNoSeek of why = Unit {0}
 
   -- what follows once the handle is back
-  after_back_is : (k : Bool) (c : HandleCall) (st : State) (ended : Bool) (why : Option (Fault ℕ)) (of : Kind) (last : ℕ) → is_known c ≡ true → LooksFrom c st ended → IsNoSeek of why
+  after_back_is : (k : Bool) (c : HandleCall) (st : State) (ended : Bool) (why : Option (Fault ℕ)) (of : Kind) (last : ℕ) → LooksFrom c st ended → IsNoSeek of why
       → law.after_back c why ended of last ≡ action_as s.item c (machine.after_back (poll_call_of k c) ended why)
-  after_back_is k (handle_call.Read most) st ended (Some why) of last known looks kept = refl
-  after_back_is k (handle_call.Read most) st true None of last known looks kept = refl
-  after_back_is k (handle_call.Read zero) st false None of last known looks kept = refl
-  after_back_is k (handle_call.Read (suc n)) st false None of last known looks kept = refl
-  after_back_is k (handle_call.Write offered) st ended (Some why) of last known looks kept = refl
-  after_back_is k (handle_call.Write []) st false None of last known looks kept = refl
-  after_back_is k (handle_call.Write (byte ∷ more)) st false None of last known looks kept = refl
-  after_back_is k (handle_call.Write offered) st true None of last known looks kept = absurd (let seen = only_seen (handle_call.Write offered) st looks in cc)
-  after_back_is k handle_call.Flush st ended (Some why) of last known looks kept = refl
-  after_back_is k handle_call.Flush st false None of last known looks kept = refl
-  after_back_is k handle_call.Flush st true None of last known looks kept = absurd (let seen = only_seen handle_call.Flush st looks in cc)
-  after_back_is k handle_call.Close st ended (Some why) of last known looks kept = refl
-  after_back_is k handle_call.Close st false None of last known looks kept = refl
-  after_back_is k handle_call.Close st true None of last known looks kept = absurd (let seen = only_seen handle_call.Close st looks in cc)
-  after_back_is k handle_call.GetMut st false None of last known looks kept = refl
-  after_back_is k handle_call.GetMut st false (Some why) of last known looks kept = refl
-  after_back_is k handle_call.GetMut st true why of last known looks kept = absurd (let seen = only_seen handle_call.GetMut st looks in cc)
-  after_back_is k handle_call.Next st true None of last known looks kept = refl
-  after_back_is k handle_call.Next st true (Some why) of last known looks kept = refl
-  after_back_is k handle_call.Next st false None of last known looks kept = refl
-  after_back_is k handle_call.Next st false (Some why) of last known looks kept = refl
-  after_back_is k (handle_call.Seek goal) st ended (Some why) of last known looks kept = refl
-  after_back_is k (handle_call.Seek goal) st false None (Seeking from) last known looks kept = absurd kept
-  after_back_is k (handle_call.Seek goal) st false None _ last known looks kept = refl
-  after_back_is k (handle_call.Seek goal) st true None of last known looks kept = absurd (let seen = only_seen (handle_call.Seek goal) st looks in cc)
-  after_back_is k handle_call.Operate st false None of last known looks kept = refl
-  after_back_is k handle_call.Operate st false (Some why) of last known looks kept = refl
-  after_back_is k handle_call.Operate st true why of last known looks kept = absurd (let seen = only_seen handle_call.Operate st looks in cc)
-  after_back_is k handle_call.OperateAgain st false None of last known looks kept = refl
-  after_back_is k handle_call.OperateAgain st false (Some why) of last known looks kept = refl
-  after_back_is k handle_call.OperateAgain st true why of last known looks kept = absurd (let seen = only_seen handle_call.OperateAgain st looks in cc)
-  after_back_is k handle_call.IntoInner st false None of last known looks kept = refl
-  after_back_is k handle_call.IntoInner st false (Some why) of last known looks kept = refl
-  after_back_is k handle_call.IntoInner st true why of last known looks kept = absurd (let seen = only_seen handle_call.IntoInner st looks in cc)
+  after_back_is k (handle_call.Read most) st ended (Some why) of last looks kept = refl
+  after_back_is k (handle_call.Read most) st true None of last looks kept = refl
+  after_back_is k (handle_call.Read zero) st false None of last looks kept = refl
+  after_back_is k (handle_call.Read (suc n)) st false None of last looks kept = refl
+  after_back_is k (handle_call.Write offered) st ended (Some why) of last looks kept = refl
+  after_back_is k (handle_call.Write []) st false None of last looks kept = refl
+  after_back_is k (handle_call.Write (byte ∷ more)) st false None of last looks kept = refl
+  after_back_is k (handle_call.Write offered) st true None of last looks kept = absurd (let seen = only_seen (handle_call.Write offered) st looks in cc)
+  after_back_is k handle_call.Flush st ended (Some why) of last looks kept = refl
+  after_back_is k handle_call.Flush st false None of last looks kept = refl
+  after_back_is k handle_call.Flush st true None of last looks kept = absurd (let seen = only_seen handle_call.Flush st looks in cc)
+  after_back_is k handle_call.Close st ended (Some why) of last looks kept = refl
+  after_back_is k handle_call.Close st false None of last looks kept = refl
+  after_back_is k handle_call.Close st true None of last looks kept = absurd (let seen = only_seen handle_call.Close st looks in cc)
+  after_back_is k handle_call.GetMut st false None of last looks kept = refl
+  after_back_is k handle_call.GetMut st false (Some why) of last looks kept = refl
+  after_back_is k handle_call.GetMut st true why of last looks kept = absurd (let seen = only_seen handle_call.GetMut st looks in cc)
+  after_back_is k handle_call.Next st true None of last looks kept = refl
+  after_back_is k handle_call.Next st true (Some why) of last looks kept = refl
+  after_back_is k handle_call.Next st false None of last looks kept = refl
+  after_back_is k handle_call.Next st false (Some why) of last looks kept = refl
+  after_back_is k (handle_call.Seek goal) st ended (Some why) of last looks kept = refl
+  after_back_is k (handle_call.Seek goal) st false None (Seeking from) last looks kept = absurd kept
+  after_back_is k (handle_call.Seek goal) st false None _ last looks kept = refl
+  after_back_is k (handle_call.Seek goal) st true None of last looks kept = absurd (let seen = only_seen (handle_call.Seek goal) st looks in cc)
+  after_back_is k handle_call.Operate st false None of last looks kept = refl
+  after_back_is k handle_call.Operate st false (Some why) of last looks kept = refl
+  after_back_is k handle_call.Operate st true why of last looks kept = absurd (let seen = only_seen handle_call.Operate st looks in cc)
+  after_back_is k handle_call.OperateAgain st false None of last looks kept = refl
+  after_back_is k handle_call.OperateAgain st false (Some why) of last looks kept = refl
+  after_back_is k handle_call.OperateAgain st true why of last looks kept = absurd (let seen = only_seen handle_call.OperateAgain st looks in cc)
+  after_back_is k handle_call.IntoInner st false None of last looks kept = refl
+  after_back_is k handle_call.IntoInner st false (Some why) of last looks kept = refl
+  after_back_is k handle_call.IntoInner st true why of last looks kept = absurd (let seen = only_seen handle_call.IntoInner st looks in cc)
 
   -- and once it is back from a seek that went well
-  sought_is : (k : Bool) (c : HandleCall) (goal : Position) (end : OwnerEnd) (place : ℕ) → is_known c ≡ true
+  sought_is : (k : Bool) (c : HandleCall) (goal : Position) (end : OwnerEnd) (place : ℕ)
       → law.after_back c None false (Seeking goal) place ≡ action_as s.item c (machine.after_seek (state.Lent (session_kind.Seeking goal) end) (poll_call_of k c) place)
-  sought_is k (handle_call.Seek to) goal end place known = by (same_position goal to)
+  sought_is k (handle_call.Seek to) goal end place = by (same_position goal to)
     where
       by : (b : Bool) → (if b then law.Say (told.Count place) else law.Begin)
           ≡ action_as s.item (handle_call.Seek to) (if b then action.Reply (reply.Position place) else action.Begin)
       by true = refl
       by false = refl
-  sought_is k (handle_call.Read zero) goal end place known = refl
-  sought_is k (handle_call.Read (suc n)) goal end place known = refl
-  sought_is k (handle_call.Write []) goal end place known = refl
-  sought_is k (handle_call.Write (byte ∷ more)) goal end place known = refl
-  sought_is k handle_call.Flush goal end place known = refl
-  sought_is k handle_call.Close goal end place known = refl
-  sought_is k handle_call.GetMut goal end place known = refl
-  sought_is k handle_call.Next goal end place known = refl
-  sought_is k handle_call.Operate goal end place known = refl
-  sought_is k handle_call.OperateAgain goal end place known = refl
-  sought_is k handle_call.IntoInner goal end place known = refl
+  sought_is k (handle_call.Read zero) goal end place = refl
+  sought_is k (handle_call.Read (suc n)) goal end place = refl
+  sought_is k (handle_call.Write []) goal end place = refl
+  sought_is k (handle_call.Write (byte ∷ more)) goal end place = refl
+  sought_is k handle_call.Flush goal end place = refl
+  sought_is k handle_call.Close goal end place = refl
+  sought_is k handle_call.GetMut goal end place = refl
+  sought_is k handle_call.Next goal end place = refl
+  sought_is k handle_call.Operate goal end place = refl
+  sought_is k handle_call.OperateAgain goal end place = refl
+  sought_is k handle_call.IntoInner goal end place = refl
 
   -- and it fits
-  back_fits : (k : Bool) (q : OwnerMachine ℕ) (c : HandleCall) (st : State) (ended : Bool) (why : Option (Fault ℕ)) (back : Option (List Event)) → is_known c ≡ true → LooksFrom c st ended → q.state ≡ state.Idle → q.is_at_end ≡ ended
+  back_fits : (k : Bool) (q : OwnerMachine ℕ) (c : HandleCall) (st : State) (ended : Bool) (why : Option (Fault ℕ)) (back : Option (List Event)) → LooksFrom c st ended → q.state ≡ state.Idle → q.is_at_end ≡ ended
       → (ended ≡ true → why ≡ None → st ≡ state.Lent session_kind.Reading Open → IsReadBack back) → (ended ≡ true → st ≡ state.Lent session_kind.Streaming Open → IsReadBack back)
       → (why ≡ None → IsFlushedBack back) → FitsNext c q (machine.after_back (poll_call_of k c) ended why) false back
-  back_fits k q (handle_call.Read most) st ended (Some why) back known looks at end whole taken flushed = failed_fits (handle_call.Read most) q why false back
-  back_fits k q (handle_call.Read zero) st true None back known looks at end whole taken flushed = (refl, tt, tt)
-  back_fits k q (handle_call.Read (suc n)) st true None back known looks at end whole taken flushed = (refl, whole refl refl (seen_reading (suc n) st looks), tt)
-  back_fits k q (handle_call.Read zero) st false None back known looks at end whole taken flushed = (refl, tt, tt)
-  back_fits k q (handle_call.Read (suc n)) st false None back known looks at end whole taken flushed = (tt, at, end)
-  back_fits k q (handle_call.Write offered) st ended (Some why) back known looks at end whole taken flushed = (refl, tt, tt)
-  back_fits k q (handle_call.Write []) st false None back known looks at end whole taken flushed = (refl, tt, tt)
-  back_fits k q (handle_call.Write (byte ∷ more)) st false None back known looks at end whole taken flushed = (tt, at, end)
-  back_fits k q (handle_call.Write offered) st true None back known looks at end whole taken flushed = absurd (let seen = only_seen (handle_call.Write offered) st looks in cc)
-  back_fits k q handle_call.Flush st ended (Some why) back known looks at end whole taken flushed = (refl, tt, tt)
-  back_fits k q handle_call.Flush st true None back known looks at end whole taken flushed = (refl, flushed refl, tt)
-  back_fits k q handle_call.Flush st false None back known looks at end whole taken flushed = (refl, flushed refl, tt)
-  back_fits k q handle_call.Close st ended (Some why) back known looks at end whole taken flushed = (refl, tt, tt)
-  back_fits k q handle_call.Close st true None back known looks at end whole taken flushed = (refl, at, flushed refl)
-  back_fits k q handle_call.Close st false None back known looks at end whole taken flushed = (refl, at, flushed refl)
-  back_fits k q handle_call.GetMut st true None back known looks at end whole taken flushed = (refl, tt, tt)
-  back_fits k q handle_call.GetMut st true (Some why) back known looks at end whole taken flushed = (refl, tt, tt)
-  back_fits k q handle_call.GetMut st false None back known looks at end whole taken flushed = (refl, tt, tt)
-  back_fits k q handle_call.GetMut st false (Some why) back known looks at end whole taken flushed = (refl, tt, tt)
-  back_fits k q handle_call.Next st true None back known looks at end whole taken flushed = (refl, taken refl (seen_streaming st looks), tt)
-  back_fits k q handle_call.Next st true (Some why) back known looks at end whole taken flushed = (refl, taken refl (seen_streaming st looks), tt)
-  back_fits k q handle_call.Next st false None back known looks at end whole taken flushed = (tt, at, end)
-  back_fits k q handle_call.Next st false (Some why) back known looks at end whole taken flushed = (tt, at, end)
-  back_fits k q (handle_call.Seek goal) st ended (Some why) back known looks at end whole taken flushed = (refl, tt, tt)
-  back_fits k q (handle_call.Seek goal) st false None back known looks at end whole taken flushed = (tt, at, end)
-  back_fits k q (handle_call.Seek goal) st true None back known looks at end whole taken flushed = absurd (let seen = only_seen (handle_call.Seek goal) st looks in cc)
-  back_fits k q handle_call.Operate st false None back known looks at end whole taken flushed = (tt, at, end)
-  back_fits k q handle_call.Operate st false (Some why) back known looks at end whole taken flushed = (tt, at, end)
-  back_fits k q handle_call.Operate st true why back known looks at end whole taken flushed = absurd (let seen = only_seen handle_call.Operate st looks in cc)
-  back_fits k q handle_call.OperateAgain st false None back known looks at end whole taken flushed = (tt, at, end)
-  back_fits k q handle_call.OperateAgain st false (Some why) back known looks at end whole taken flushed = (tt, at, end)
-  back_fits k q handle_call.OperateAgain st true why back known looks at end whole taken flushed = absurd (let seen = only_seen handle_call.OperateAgain st looks in cc)
-  back_fits k q handle_call.IntoInner st true None back known looks at end whole taken flushed = (refl, tt, tt)
-  back_fits k q handle_call.IntoInner st true (Some why) back known looks at end whole taken flushed = (refl, tt, tt)
-  back_fits k q handle_call.IntoInner st false None back known looks at end whole taken flushed = (refl, tt, tt)
-  back_fits k q handle_call.IntoInner st false (Some why) back known looks at end whole taken flushed = (refl, tt, tt)
+  back_fits k q (handle_call.Read most) st ended (Some why) back looks at end whole taken flushed = failed_fits (handle_call.Read most) q why false back
+  back_fits k q (handle_call.Read zero) st true None back looks at end whole taken flushed = (refl, tt, tt)
+  back_fits k q (handle_call.Read (suc n)) st true None back looks at end whole taken flushed = (refl, whole refl refl (seen_reading (suc n) st looks), tt)
+  back_fits k q (handle_call.Read zero) st false None back looks at end whole taken flushed = (refl, tt, tt)
+  back_fits k q (handle_call.Read (suc n)) st false None back looks at end whole taken flushed = (tt, at, end)
+  back_fits k q (handle_call.Write offered) st ended (Some why) back looks at end whole taken flushed = (refl, tt, tt)
+  back_fits k q (handle_call.Write []) st false None back looks at end whole taken flushed = (refl, tt, tt)
+  back_fits k q (handle_call.Write (byte ∷ more)) st false None back looks at end whole taken flushed = (tt, at, end)
+  back_fits k q (handle_call.Write offered) st true None back looks at end whole taken flushed = absurd (let seen = only_seen (handle_call.Write offered) st looks in cc)
+  back_fits k q handle_call.Flush st ended (Some why) back looks at end whole taken flushed = (refl, tt, tt)
+  back_fits k q handle_call.Flush st true None back looks at end whole taken flushed = (refl, flushed refl, tt)
+  back_fits k q handle_call.Flush st false None back looks at end whole taken flushed = (refl, flushed refl, tt)
+  back_fits k q handle_call.Close st ended (Some why) back looks at end whole taken flushed = (refl, tt, tt)
+  back_fits k q handle_call.Close st true None back looks at end whole taken flushed = (refl, at, flushed refl)
+  back_fits k q handle_call.Close st false None back looks at end whole taken flushed = (refl, at, flushed refl)
+  back_fits k q handle_call.GetMut st true None back looks at end whole taken flushed = (refl, tt, tt)
+  back_fits k q handle_call.GetMut st true (Some why) back looks at end whole taken flushed = (refl, tt, tt)
+  back_fits k q handle_call.GetMut st false None back looks at end whole taken flushed = (refl, tt, tt)
+  back_fits k q handle_call.GetMut st false (Some why) back looks at end whole taken flushed = (refl, tt, tt)
+  back_fits k q handle_call.Next st true None back looks at end whole taken flushed = (refl, taken refl (seen_streaming st looks), tt)
+  back_fits k q handle_call.Next st true (Some why) back looks at end whole taken flushed = (refl, taken refl (seen_streaming st looks), tt)
+  back_fits k q handle_call.Next st false None back looks at end whole taken flushed = (tt, at, end)
+  back_fits k q handle_call.Next st false (Some why) back looks at end whole taken flushed = (tt, at, end)
+  back_fits k q (handle_call.Seek goal) st ended (Some why) back looks at end whole taken flushed = (refl, tt, tt)
+  back_fits k q (handle_call.Seek goal) st false None back looks at end whole taken flushed = (tt, at, end)
+  back_fits k q (handle_call.Seek goal) st true None back looks at end whole taken flushed = absurd (let seen = only_seen (handle_call.Seek goal) st looks in cc)
+  back_fits k q handle_call.Operate st false None back looks at end whole taken flushed = (tt, at, end)
+  back_fits k q handle_call.Operate st false (Some why) back looks at end whole taken flushed = (tt, at, end)
+  back_fits k q handle_call.Operate st true why back looks at end whole taken flushed = absurd (let seen = only_seen handle_call.Operate st looks in cc)
+  back_fits k q handle_call.OperateAgain st false None back looks at end whole taken flushed = (tt, at, end)
+  back_fits k q handle_call.OperateAgain st false (Some why) back looks at end whole taken flushed = (tt, at, end)
+  back_fits k q handle_call.OperateAgain st true why back looks at end whole taken flushed = absurd (let seen = only_seen handle_call.OperateAgain st looks in cc)
+  back_fits k q handle_call.IntoInner st true None back looks at end whole taken flushed = (refl, tt, tt)
+  back_fits k q handle_call.IntoInner st true (Some why) back looks at end whole taken flushed = (refl, tt, tt)
+  back_fits k q handle_call.IntoInner st false None back looks at end whole taken flushed = (refl, tt, tt)
+  back_fits k q handle_call.IntoInner st false (Some why) back looks at end whole taken flushed = (refl, tt, tt)
 
-  sought_fits : (k : Bool) (q : OwnerMachine ℕ) (c : HandleCall) (goal : Position) (end : OwnerEnd) (place : ℕ) (back : Option (List Event)) → is_known c ≡ true → q.state ≡ state.Idle → q.is_at_end ≡ false
+  sought_fits : (k : Bool) (q : OwnerMachine ℕ) (c : HandleCall) (goal : Position) (end : OwnerEnd) (place : ℕ) (back : Option (List Event)) → q.state ≡ state.Idle → q.is_at_end ≡ false
       → IsFlushedBack back → FitsNext c q (machine.after_seek (state.Lent (session_kind.Seeking goal) end) (poll_call_of k c) place) false back
-  sought_fits k q (handle_call.Seek to) goal end place back known at ended flushed = by (same_position goal to)
+  sought_fits k q (handle_call.Seek to) goal end place back at ended flushed = by (same_position goal to)
     where
       by : (b : Bool) → FitsNext (handle_call.Seek to) q (if b then action.Reply (reply.Position place) else action.Begin) false back
       by true = (refl, tt, tt)
       by false = (tt, at, ended)
-  sought_fits k q (handle_call.Read zero) goal end place back known at ended flushed = (refl, tt, tt)
-  sought_fits k q (handle_call.Read (suc n)) goal end place back known at ended flushed = (tt, at, ended)
-  sought_fits k q (handle_call.Write []) goal end place back known at ended flushed = (refl, tt, tt)
-  sought_fits k q (handle_call.Write (byte ∷ more)) goal end place back known at ended flushed = (tt, at, ended)
-  sought_fits k q handle_call.Flush goal end place back known at ended flushed = (refl, flushed, tt)
-  sought_fits k q handle_call.Close goal end place back known at ended flushed = (refl, at, flushed)
-  sought_fits k q handle_call.GetMut goal end place back known at ended flushed = (refl, tt, tt)
-  sought_fits k q handle_call.Next goal end place back known at ended flushed = (tt, at, ended)
-  sought_fits k q handle_call.Operate goal end place back known at ended flushed = (tt, at, ended)
-  sought_fits k q handle_call.OperateAgain goal end place back known at ended flushed = (tt, at, ended)
-  sought_fits k q handle_call.IntoInner goal end place back known at ended flushed = (refl, tt, tt)
+  sought_fits k q (handle_call.Read zero) goal end place back at ended flushed = (refl, tt, tt)
+  sought_fits k q (handle_call.Read (suc n)) goal end place back at ended flushed = (tt, at, ended)
+  sought_fits k q (handle_call.Write []) goal end place back at ended flushed = (refl, tt, tt)
+  sought_fits k q (handle_call.Write (byte ∷ more)) goal end place back at ended flushed = (tt, at, ended)
+  sought_fits k q handle_call.Flush goal end place back at ended flushed = (refl, flushed, tt)
+  sought_fits k q handle_call.Close goal end place back at ended flushed = (refl, at, flushed)
+  sought_fits k q handle_call.GetMut goal end place back at ended flushed = (refl, tt, tt)
+  sought_fits k q handle_call.Next goal end place back at ended flushed = (tt, at, ended)
+  sought_fits k q handle_call.Operate goal end place back at ended flushed = (tt, at, ended)
+  sought_fits k q handle_call.OperateAgain goal end place back at ended flushed = (tt, at, ended)
+  sought_fits k q handle_call.IntoInner goal end place back at ended flushed = (refl, tt, tt)
 
   -- a job that finished is over
   over_now : Old → has_finished acts ≡ true → next_but_wake kind acts ≡ Over
@@ -1003,7 +990,6 @@ module _ (bytes : ℕ) (asked : Option HandleCall) (p : OwnerMachine ℕ) (s : S
           asked = t.asked;
           polled = t.polled;
           bytes = t.bytes;
-          calls = t.calls;
           stage = (
             record {
               call = c;
@@ -1081,14 +1067,13 @@ module _ (bytes : ℕ) (asked : Option HandleCall) (p : OwnerMachine ℕ) (s : S
       let q : OwnerMachine ℕ = record p { state = state.Idle; next = machine.after_back (poll_call_of k c) p.is_at_end why } in
       let same : owner_after p (by.Back why) ≡ q =
       turned p action.PollSlot (by.Back why) t.stage.1 is ∙ ap (λ k. record p { state = state.Idle; next = machine.after_back k p.is_at_end why }) t.stage.0.call_is in
-      let known = known_call (own cut) c t.calls t.stage.0.asked_is in
       let whole = λ (is_end : p.is_at_end ≡ true) (none : why ≡ None) (there_is : p.state ≡ state.Lent session_kind.Reading Open).
       read_whole t (lent_at (own cut) Reading true (t.stage.0.at_is ∙ ap state_as there_is)).0 (t.ended (sym fits.1 ∙ is_end)) slot.0 slot.1 (sym slot.3 ∙ none) in
       let all_taken = λ (is_end : p.is_at_end ≡ true) (there_is : p.state ≡ state.Lent session_kind.Streaming Open).
       taken_whole t (lent_at (own cut) Streaming true (t.stage.0.at_is ∙ ap state_as there_is)).0 (t.ended (sym fits.1 ∙ is_end)) slot.0 slot.1 in
       let flushed = λ (none : why ≡ None). flushed_if kind (λ writes. flushed_whole t writes slot.0 slot.1 (sym slot.3 ∙ none)) in
-      returned is t why full (by.Back why) (machine.after_back (poll_call_of k c) p.is_at_end why) same (after_back_is k c p.state p.is_at_end why kind (number acts) known fits.0 kept)
-      (back_fits k q c p.state p.is_at_end why (Some (by_owner h Back first growth ∷ cut)) known fits.0 refl refl whole all_taken flushed)
+      returned is t why full (by.Back why) (machine.after_back (poll_call_of k c) p.is_at_end why) same (after_back_is k c p.state p.is_at_end why kind (number acts) fits.0 kept)
+      (back_fits k q c p.state p.is_at_end why (Some (by_owner h Back first growth ∷ cut)) fits.0 refl refl whole all_taken flushed)
       (back_operates (poll_call_of k c) p.is_at_end why (is_operation asked) (operates_at action.PollSlot is t))
 
   -- the handle is back from a seek that went well
@@ -1107,13 +1092,12 @@ module _ (bytes : ℕ) (asked : Option HandleCall) (p : OwnerMachine ℕ) (s : S
       let same : owner_after p (by.Sought s.left) ≡ q =
       turned p action.PollSlot (by.Sought s.left) t.stage.1 is ∙ ap (λ k. record p { state = state.Idle; next = machine.after_seek p.state k s.left }) t.stage.0.call_is
       ∙ ap (λ st. record p { state = state.Idle; next = machine.after_seek st (poll_call_of k c) s.left }) from in
-      let known = known_call (own cut) c t.calls t.stage.0.asked_is in
       let unended = ends_not end p.is_at_end c (subst (λ st. LooksFrom c st p.is_at_end) from fits.0) in
       let flushed = flushed_if kind (λ writes. flushed_whole t writes slot.0 slot.1 (sym slot.3)) in
       returned is t None full (by.Sought s.left) next same
       (ap (λ b. law.after_back c None b kind (number acts)) unended ∙ ap (λ k. law.after_back c None false k (number acts)) of
-      ∙ ap (λ n. law.after_back c None false (Seeking goal) n) (sym place) ∙ sought_is k c goal end s.left known)
-      (sought_fits k q c goal end s.left (Some (by_owner h Back first growth ∷ cut)) known refl unended flushed)
+      ∙ ap (λ n. law.after_back c None false (Seeking goal) n) (sym place) ∙ sought_is k c goal end s.left)
+      (sought_fits k q c goal end s.left (Some (by_owner h Back first growth ∷ cut)) refl unended flushed)
       (sought_operates here (poll_call_of k c) s.left (is_operation asked) (operates_at action.PollSlot is t))
     where
       ends_not : (end : OwnerEnd) (b : Bool) (c : HandleCall) → LooksFrom c (state.Lent (session_kind.Seeking goal) end) b → b ≡ false
@@ -1210,7 +1194,6 @@ module _ (bytes : ℕ) (asked : Option HandleCall) (p : OwnerMachine ℕ) (s : S
           asked = t.asked;
           polled = t.polled;
           bytes = t.bytes;
-          calls = t.calls;
           stage = (
             record {
               call = t.stage.0.call;
@@ -1250,7 +1233,6 @@ module _ (bytes : ℕ) (asked : Option HandleCall) (p : OwnerMachine ℕ) (s : S
           asked = t.asked;
           polled = refl;
           bytes = t.bytes;
-          calls = t.calls;
           stage = (t.stage.0.at_is, refl, refl);
           operates = (refl, o.operates, o.has_begun, o.none_came, o.at);
           last = subst (λ n. SessionAs (session_after_find Empty s) kind (bound bytes kind) began shut over gone took written acts js (pipe_seated_by Waits (place_of n) ps) (slot_seated_by Waits (place_of n) ss)) (sym o.next_is)
@@ -1339,7 +1321,6 @@ reply_goes bytes asked p last h first growth cut r said is same t = at (sessions
         asked = t.asked;
         polled = sym rests;
         bytes = t.bytes;
-        calls = t.calls;
         stage = so;
         operates = operates;
         last = t.last;
@@ -1382,7 +1363,6 @@ drops_goes bytes asked p last h first growth cut is t =
         asked = t.asked;
         polled = refl;
         bytes = t.bytes;
-        calls = t.calls;
         stage = (
           ap (λ c. sessions.state_by (sessions.ends_close told.Okay c || sessions.is_closed (own cut)) (sessions.session (own cut)) (sessions.is_shut (own cut))) called,
           refl,

@@ -141,7 +141,6 @@ new_tied h capacity first growth = record {
   asked = refl;
   polled = refl;
   bytes = λ kind. refl;
-  calls = tt;
   stage = (refl, refl, refl);
   operates = refl;
   last = (refl, refl, refl);

@@ -30,7 +30,6 @@ use Rattle.blocking_laws.specs.Passed.{is_serial, kind_in}
 use Rattle.blocking_laws.specs.Seen.{own, acts_of}
 use Rattle.blocking_laws.specs.Sessions.{jobs_of, kind_of, kind_of_job, default_capacity, has_begun, is_again, is_for_closed, is_operation}
 use Rattle.blocking_laws.specs.Sessions as sessions
-use Rattle.blocking_laws.specs.Steps.{is_known}
 use Rattle.blocking_laws.specs.Wakes.{is_waiting}
 use Rattle.blocking_laws.specs.declared.event.Act.{Act}
 use Rattle.blocking_laws.specs.declared.event.Act.TheVariants.{Asked, Accepted, Refused, JobWoken, HolderDropped, GotEnd}
@@ -50,7 +49,7 @@ use Rattle.blocking_lanes.specs.declared.owner.OwnerStage.TheVariants as stage
 use Rattle.blocking_lanes.specs.declared.owner.PollEnd.{PollEnd}
 use Rattle.blocking_lanes.specs.declared.owner.PollEnd.TheVariants as poll_end
 use Rattle.blocking_lanes.proofs.owners.Cuts.{next_with, next_stays, kind_of_last}
-use Rattle.blocking_lanes.proofs.owners.Known.{all_true, asks_inner, pending_is}
+use Rattle.blocking_lanes.proofs.owners.Asked.{all_true, asks_inner, pending_is}
 use Rattle.blocking_lanes.proofs.owners.OwnerActs.{Goes, owner_by_parts, bound, turned, lawful, fits_at, failed_fits, last_is}
 use Rattle.blocking_lanes.proofs.owners.Results.{begun as place_begun}
 use Rattle.blocking_lanes.proofs.owners.States.{IsThere, is_away, gone_is, lent_by, may_be_asked, is_there, of_session}
@@ -65,39 +64,39 @@ DoesSo x call kind end =
     ≡ action_as x call (machine.in_session (machine.goes_on_in kind (poll_call_of false call)) (poll_call_of false call) kind end)
 
 -- the machine's table is that of the laws, wherever the call may be asked
-table_at : (x : ℕ) (call : HandleCall) (at : State) → is_known call ≡ true → may_call_at at call ≡ true → IsThere at → law.table call (state_as at) ≡ action_as x call (machine.table (poll_call_of false call) at)
-table_at x (handle_call.Read zero) at known may there = refl
-table_at x (handle_call.Write []) at known may there = refl
-table_at x (handle_call.Read (suc n)) (state.Lent kind end) known may there = of_session (DoesSo x (handle_call.Read (suc n))) refl refl refl refl refl refl (λ goal. refl) (λ goal. refl) refl refl kind end there
-table_at x (handle_call.Write (byte ∷ more)) (state.Lent kind end) known may there = of_session (DoesSo x (handle_call.Write (byte ∷ more))) refl refl refl refl refl refl (λ goal. refl) (λ goal. refl) refl refl kind end there
-table_at x handle_call.Flush (state.Lent kind end) known may there = of_session (DoesSo x handle_call.Flush) refl refl refl refl refl refl (λ goal. refl) (λ goal. refl) refl refl kind end there
-table_at x handle_call.Close (state.Lent kind end) known may there = of_session (DoesSo x handle_call.Close) refl refl refl refl refl refl (λ goal. refl) (λ goal. refl) refl refl kind end there
-table_at x handle_call.GetMut (state.Lent kind end) known may there = of_session (DoesSo x handle_call.GetMut) refl refl refl refl refl refl (λ goal. refl) (λ goal. refl) refl refl kind end there
-table_at x (handle_call.Read (suc n)) state.Closed known may there = absurd (cc)
-table_at x (handle_call.Write (byte ∷ more)) state.Closed known may there = absurd (cc)
-table_at x handle_call.GetMut state.Closed known may there = absurd (cc)
-table_at x handle_call.IntoInner state.Closed known may there = absurd (cc)
-table_at x handle_call.IntoInner state.Idle known may there = refl
-table_at x handle_call.IntoInner (state.Lent kind end) known may there = of_session (DoesSo x handle_call.IntoInner) refl refl refl refl refl refl (λ goal. refl) (λ goal. refl) refl refl kind end there
-table_at x handle_call.Flush state.Closed known may there = refl
-table_at x handle_call.Close state.Closed known may there = refl
-table_at x (handle_call.Read (suc n)) state.Idle known may there = refl
-table_at x (handle_call.Write (byte ∷ more)) state.Idle known may there = refl
-table_at x handle_call.Flush state.Idle known may there = refl
-table_at x handle_call.Close state.Idle known may there = refl
-table_at x handle_call.GetMut state.Idle known may there = refl
-table_at x handle_call.Next (state.Lent kind end) known may there = of_session (DoesSo x handle_call.Next) refl refl refl refl refl refl (λ goal. refl) (λ goal. refl) refl refl kind end there
-table_at x handle_call.Next state.Closed known may there = absurd (cc)
-table_at x handle_call.Next state.Idle known may there = refl
-table_at x (handle_call.Seek to) (state.Lent kind end) known may there = of_session (DoesSo x (handle_call.Seek to)) refl refl refl refl refl refl (λ goal. refl) (λ goal. refl) refl refl kind end there
-table_at x (handle_call.Seek to) state.Idle known may there = refl
-table_at x (handle_call.Seek to) state.Closed known may there = absurd (cc)
-table_at x handle_call.Operate (state.Lent kind end) known may there = of_session (DoesSo x handle_call.Operate) refl refl refl refl refl refl (λ goal. refl) (λ goal. refl) refl refl kind end there
-table_at x handle_call.Operate state.Idle known may there = refl
-table_at x handle_call.Operate state.Closed known may there = absurd (cc)
-table_at x handle_call.OperateAgain (state.Lent kind end) known may there = of_session (DoesSo x handle_call.OperateAgain) refl refl refl refl refl refl (λ goal. refl) (λ goal. refl) refl refl kind end there
-table_at x handle_call.OperateAgain state.Idle known may there = refl
-table_at x handle_call.OperateAgain state.Closed known may there = absurd (cc)
+table_at : (x : ℕ) (call : HandleCall) (at : State) → may_call_at at call ≡ true → IsThere at → law.table call (state_as at) ≡ action_as x call (machine.table (poll_call_of false call) at)
+table_at x (handle_call.Read zero) at may there = refl
+table_at x (handle_call.Write []) at may there = refl
+table_at x (handle_call.Read (suc n)) (state.Lent kind end) may there = of_session (DoesSo x (handle_call.Read (suc n))) refl refl refl refl refl refl (λ goal. refl) (λ goal. refl) refl refl kind end there
+table_at x (handle_call.Write (byte ∷ more)) (state.Lent kind end) may there = of_session (DoesSo x (handle_call.Write (byte ∷ more))) refl refl refl refl refl refl (λ goal. refl) (λ goal. refl) refl refl kind end there
+table_at x handle_call.Flush (state.Lent kind end) may there = of_session (DoesSo x handle_call.Flush) refl refl refl refl refl refl (λ goal. refl) (λ goal. refl) refl refl kind end there
+table_at x handle_call.Close (state.Lent kind end) may there = of_session (DoesSo x handle_call.Close) refl refl refl refl refl refl (λ goal. refl) (λ goal. refl) refl refl kind end there
+table_at x handle_call.GetMut (state.Lent kind end) may there = of_session (DoesSo x handle_call.GetMut) refl refl refl refl refl refl (λ goal. refl) (λ goal. refl) refl refl kind end there
+table_at x (handle_call.Read (suc n)) state.Closed may there = absurd (cc)
+table_at x (handle_call.Write (byte ∷ more)) state.Closed may there = absurd (cc)
+table_at x handle_call.GetMut state.Closed may there = absurd (cc)
+table_at x handle_call.IntoInner state.Closed may there = absurd (cc)
+table_at x handle_call.IntoInner state.Idle may there = refl
+table_at x handle_call.IntoInner (state.Lent kind end) may there = of_session (DoesSo x handle_call.IntoInner) refl refl refl refl refl refl (λ goal. refl) (λ goal. refl) refl refl kind end there
+table_at x handle_call.Flush state.Closed may there = refl
+table_at x handle_call.Close state.Closed may there = refl
+table_at x (handle_call.Read (suc n)) state.Idle may there = refl
+table_at x (handle_call.Write (byte ∷ more)) state.Idle may there = refl
+table_at x handle_call.Flush state.Idle may there = refl
+table_at x handle_call.Close state.Idle may there = refl
+table_at x handle_call.GetMut state.Idle may there = refl
+table_at x handle_call.Next (state.Lent kind end) may there = of_session (DoesSo x handle_call.Next) refl refl refl refl refl refl (λ goal. refl) (λ goal. refl) refl refl kind end there
+table_at x handle_call.Next state.Closed may there = absurd (cc)
+table_at x handle_call.Next state.Idle may there = refl
+table_at x (handle_call.Seek to) (state.Lent kind end) may there = of_session (DoesSo x (handle_call.Seek to)) refl refl refl refl refl refl (λ goal. refl) (λ goal. refl) refl refl kind end there
+table_at x (handle_call.Seek to) state.Idle may there = refl
+table_at x (handle_call.Seek to) state.Closed may there = absurd (cc)
+table_at x handle_call.Operate (state.Lent kind end) may there = of_session (DoesSo x handle_call.Operate) refl refl refl refl refl refl (λ goal. refl) (λ goal. refl) refl refl kind end there
+table_at x handle_call.Operate state.Idle may there = refl
+table_at x handle_call.Operate state.Closed may there = absurd (cc)
+table_at x handle_call.OperateAgain (state.Lent kind end) may there = of_session (DoesSo x handle_call.OperateAgain) refl refl refl refl refl refl (λ goal. refl) (λ goal. refl) refl refl kind end there
+table_at x handle_call.OperateAgain state.Idle may there = refl
+table_at x handle_call.OperateAgain state.Closed may there = absurd (cc)
 
 -- who stops a session closes the own end of its pipe, or looks for the handle
 stop_fits : (call : HandleCall) (kind : SessionKind) (end : OwnerEnd) → FitsNext call (new_poll (poll_call_of false call) (state.Lent kind end)) (machine.stop (machine.has_pipe kind) end) false None
@@ -140,60 +139,60 @@ operation_stops : (kind : SessionKind) → machine.goes_on_in kind (poll_call.Op
 operation_stops session_kind.Operating own = cc
 operation_stops _ own = cc
 
-table_fits : (call : HandleCall) (at : State) → is_known call ≡ true → may_call_at at call ≡ true → FitsNext call (new_poll (poll_call_of false call) at) (machine.table (poll_call_of false call) at) false None
-table_fits (handle_call.Read zero) at known may = (refl, tt, tt)
-table_fits (handle_call.Read (suc n)) state.Idle known may = (tt, refl, refl)
-table_fits (handle_call.Read (suc n)) (state.Lent kind end) known may = session_fits (handle_call.Read (suc n)) kind end (machine.goes_on_in kind (poll_call.Read (suc n))) refl (own kind)
+table_fits : (call : HandleCall) (at : State) → may_call_at at call ≡ true → FitsNext call (new_poll (poll_call_of false call) at) (machine.table (poll_call_of false call) at) false None
+table_fits (handle_call.Read zero) at may = (refl, tt, tt)
+table_fits (handle_call.Read (suc n)) state.Idle may = (tt, refl, refl)
+table_fits (handle_call.Read (suc n)) (state.Lent kind end) may = session_fits (handle_call.Read (suc n)) kind end (machine.goes_on_in kind (poll_call.Read (suc n))) refl (own kind)
   where
     own : (kind : SessionKind) → machine.goes_on_in kind (poll_call.Read (suc n)) ≡ true
         → FitsNext (handle_call.Read (suc n)) (new_poll (poll_call.Read (suc n)) (state.Lent kind Open)) (action.Drain (suc n)) false None
     own session_kind.Reading is = (refl, omega arith, refl, refl)
     own _ is = absurd (cc)
-table_fits (handle_call.Read (suc n)) state.Closed known may = absurd (cc)
-table_fits (handle_call.Write []) at known may = (refl, tt, tt)
-table_fits (handle_call.Write (byte ∷ more)) state.Idle known may = (tt, refl, refl)
-table_fits (handle_call.Write (byte ∷ more)) (state.Lent kind end) known may = session_fits (handle_call.Write (byte ∷ more)) kind end (machine.goes_on_in kind (poll_call.Write (length (byte ∷ more)))) refl (own kind)
+table_fits (handle_call.Read (suc n)) state.Closed may = absurd (cc)
+table_fits (handle_call.Write []) at may = (refl, tt, tt)
+table_fits (handle_call.Write (byte ∷ more)) state.Idle may = (tt, refl, refl)
+table_fits (handle_call.Write (byte ∷ more)) (state.Lent kind end) may = session_fits (handle_call.Write (byte ∷ more)) kind end (machine.goes_on_in kind (poll_call.Write (length (byte ∷ more)))) refl (own kind)
   where
     own : (kind : SessionKind) → machine.goes_on_in kind (poll_call.Write (length (byte ∷ more))) ≡ true
         → FitsNext (handle_call.Write (byte ∷ more)) (new_poll (poll_call.Write (length (byte ∷ more))) (state.Lent kind Open)) (action.Fill (length (byte ∷ more))) false None
     own session_kind.Writing is = (byte ∷ more, refl, refl, omega arith, refl, refl)
     own _ is = absurd (cc)
-table_fits (handle_call.Write (byte ∷ more)) state.Closed known may = absurd (cc)
-table_fits handle_call.Flush state.Idle known may = (refl, tt, tt)
-table_fits handle_call.Flush (state.Lent kind end) known may = session_fits handle_call.Flush kind end (machine.goes_on_in kind poll_call.Flush) refl (λ own. absurd (flush_stops kind own))
-table_fits handle_call.Flush state.Closed known may = (refl, tt, tt)
-table_fits handle_call.Close state.Idle known may = (refl, refl, tt)
-table_fits handle_call.Close (state.Lent kind end) known may = session_fits handle_call.Close kind end (machine.goes_on_in kind poll_call.Close) refl (λ own. absurd (close_stops kind own))
-table_fits handle_call.Close state.Closed known may = (refl, tt, refl)
-table_fits handle_call.GetMut state.Idle known may = (refl, tt, tt)
-table_fits handle_call.GetMut (state.Lent kind end) known may = session_fits handle_call.GetMut kind end (machine.goes_on_in kind poll_call.GetMut) refl (λ own. absurd (get_stops kind own))
-table_fits handle_call.GetMut state.Closed known may = absurd (cc)
-table_fits handle_call.IntoInner state.Idle known may = (refl, tt, tt)
-table_fits handle_call.IntoInner (state.Lent kind end) known may = session_fits handle_call.IntoInner kind end (machine.goes_on_in kind poll_call.IntoInner) refl (λ own. absurd (inner_stops kind own))
-table_fits handle_call.IntoInner state.Closed known may = absurd (cc)
-table_fits handle_call.Next state.Idle known may = (tt, refl, refl)
-table_fits handle_call.Next (state.Lent kind end) known may = session_fits handle_call.Next kind end (machine.goes_on_in kind poll_call.Next) refl (own kind)
+table_fits (handle_call.Write (byte ∷ more)) state.Closed may = absurd (cc)
+table_fits handle_call.Flush state.Idle may = (refl, tt, tt)
+table_fits handle_call.Flush (state.Lent kind end) may = session_fits handle_call.Flush kind end (machine.goes_on_in kind poll_call.Flush) refl (λ own. absurd (flush_stops kind own))
+table_fits handle_call.Flush state.Closed may = (refl, tt, tt)
+table_fits handle_call.Close state.Idle may = (refl, refl, tt)
+table_fits handle_call.Close (state.Lent kind end) may = session_fits handle_call.Close kind end (machine.goes_on_in kind poll_call.Close) refl (λ own. absurd (close_stops kind own))
+table_fits handle_call.Close state.Closed may = (refl, tt, refl)
+table_fits handle_call.GetMut state.Idle may = (refl, tt, tt)
+table_fits handle_call.GetMut (state.Lent kind end) may = session_fits handle_call.GetMut kind end (machine.goes_on_in kind poll_call.GetMut) refl (λ own. absurd (get_stops kind own))
+table_fits handle_call.GetMut state.Closed may = absurd (cc)
+table_fits handle_call.IntoInner state.Idle may = (refl, tt, tt)
+table_fits handle_call.IntoInner (state.Lent kind end) may = session_fits handle_call.IntoInner kind end (machine.goes_on_in kind poll_call.IntoInner) refl (λ own. absurd (inner_stops kind own))
+table_fits handle_call.IntoInner state.Closed may = absurd (cc)
+table_fits handle_call.Next state.Idle may = (tt, refl, refl)
+table_fits handle_call.Next (state.Lent kind end) may = session_fits handle_call.Next kind end (machine.goes_on_in kind poll_call.Next) refl (own kind)
   where
     own : (kind : SessionKind) → machine.goes_on_in kind poll_call.Next ≡ true → FitsNext handle_call.Next (new_poll poll_call.Next (state.Lent kind Open)) action.Receive false None
     own session_kind.Streaming is = (refl, refl, refl)
     own _ is = absurd (cc)
-table_fits handle_call.Next state.Closed known may = absurd (cc)
-table_fits (handle_call.Seek to) state.Idle known may = (tt, refl, refl)
-table_fits (handle_call.Seek to) (state.Lent kind end) known may = session_fits (handle_call.Seek to) kind end (machine.goes_on_in kind (poll_call.Seek to)) refl (own kind)
+table_fits handle_call.Next state.Closed may = absurd (cc)
+table_fits (handle_call.Seek to) state.Idle may = (tt, refl, refl)
+table_fits (handle_call.Seek to) (state.Lent kind end) may = session_fits (handle_call.Seek to) kind end (machine.goes_on_in kind (poll_call.Seek to)) refl (own kind)
   where
     own : (kind : SessionKind) → machine.goes_on_in kind (poll_call.Seek to) ≡ true
         → FitsNext (handle_call.Seek to) (new_poll (poll_call.Seek to) (state.Lent kind Open)) action.PollSlot false None
     own (session_kind.Seeking goal) is = (refl, refl)
     own _ is = absurd (cc)
-table_fits (handle_call.Seek to) state.Closed known may = absurd (cc)
-table_fits handle_call.Operate state.Idle known may = (tt, refl, refl)
-table_fits handle_call.Operate (state.Lent kind end) known may =
+table_fits (handle_call.Seek to) state.Closed may = absurd (cc)
+table_fits handle_call.Operate state.Idle may = (tt, refl, refl)
+table_fits handle_call.Operate (state.Lent kind end) may =
     session_fits handle_call.Operate kind end (machine.goes_on_in kind (poll_call.Operate false)) refl (λ own. absurd (operation_stops kind own))
-table_fits handle_call.Operate state.Closed known may = absurd (cc)
-table_fits handle_call.OperateAgain state.Idle known may = (tt, refl, refl)
-table_fits handle_call.OperateAgain (state.Lent kind end) known may =
+table_fits handle_call.Operate state.Closed may = absurd (cc)
+table_fits handle_call.OperateAgain state.Idle may = (tt, refl, refl)
+table_fits handle_call.OperateAgain (state.Lent kind end) may =
     session_fits handle_call.OperateAgain kind end (machine.goes_on_in kind (poll_call.Operate false)) refl (λ own. absurd (operation_stops kind own))
-table_fits handle_call.OperateAgain state.Closed known may = absurd (cc)
+table_fits handle_call.OperateAgain state.Closed may = absurd (cc)
 
 -- ---- its operations
 
@@ -263,12 +262,12 @@ record Asks (x : ℕ) (call : HandleCall) (c : PollCall) (at : State) (past : Li
   pub operates : IsOperating (machine.table c at) (is_operation (Some call)) (has_begun (Asked call ∷ past)) (has_found past)
 
 -- a call goes by the table whose session hasn't begun
-asks_first : (x : ℕ) (call : HandleCall) (at : State) (past : List Act) → is_known call ≡ true → may_call_at at call ≡ true → IsThere at → sessions.state past ≡ state_as at
+asks_first : (x : ℕ) (call : HandleCall) (at : State) (past : List Act) → may_call_at at call ≡ true → IsThere at → sessions.state past ≡ state_as at
     → law.at_asked call (has_begun past) (sessions.state past) ≡ law.table call (sessions.state past) → (is_operation (Some call) ≡ true → has_begun (Asked call ∷ past) ≡ false)
     → Asks x call (poll_call_of false call) at past
-asks_first x call at past known may there here by_table before = record {
-  next_is = by_table ∙ ap (law.table call) here ∙ table_at x call at known may there;
-  fits = table_fits call at known may;
+asks_first x call at past may there here by_table before = record {
+  next_is = by_table ∙ ap (law.table call) here ∙ table_at x call at may there;
+  fits = table_fits call at may;
   operates = table_operates call at (is_operation (Some call)) (has_begun (Asked call ∷ past)) (has_found past) before;
 }
 
@@ -278,7 +277,7 @@ asks_again : (x : ℕ) (end : PollEnd) (asked : Option HandleCall) (at : State) 
     → Asks x handle_call.OperateAgain (poll_call_of (is_for_result end) handle_call.OperateAgain) at past
 asks_again x poll_end.Replied asked at past may there here pends ends = absurd (cc)
 asks_again x poll_end.Waits asked at past may there here pends ends =
-    asks_first x handle_call.OperateAgain at past refl may there here (ap (λ b. law.at_asked handle_call.OperateAgain b (sessions.state past)) (ends.1 pends)) (λ is. ends.1 pends)
+    asks_first x handle_call.OperateAgain at past may there here (ap (λ b. law.at_asked handle_call.OperateAgain b (sessions.state past)) (ends.1 pends)) (λ is. ends.1 pends)
 asks_again x poll_end.WaitsForResult asked at past may there here pends ends =
     subst (λ st. Asks x handle_call.OperateAgain (poll_call.Operate true) st past) (sym ends.4)
     (record {
@@ -288,19 +287,19 @@ asks_again x poll_end.WaitsForResult asked at past may there here pends ends =
     })
 
 -- any call
-asks_so : (x : ℕ) (call : HandleCall) (end : PollEnd) (asked : Option HandleCall) (at : State) (past : List Act) → is_known call ≡ true → may_call_at at call ≡ true
+asks_so : (x : ℕ) (call : HandleCall) (end : PollEnd) (asked : Option HandleCall) (at : State) (past : List Act) → may_call_at at call ≡ true
     → (not (is_again call) || (is_pending end && is_operation asked)) ≡ true → IsThere at → sessions.state past ≡ state_as at
     → EndsAs end at (is_waiting past) (is_operation asked) (has_begun past) (has_found past) → Asks x call (poll_call_of (is_for_result end) call) at past
-asks_so x handle_call.OperateAgain end asked at past known may pends there here ends = asks_again x end asked at past may there here pends ends
-asks_so x (handle_call.Read n) end asked at past known may pends there here ends = asks_first x (handle_call.Read n) at past known may there here refl (λ is. absurd (cc))
-asks_so x (handle_call.Write bytes) end asked at past known may pends there here ends = asks_first x (handle_call.Write bytes) at past known may there here refl (λ is. absurd (cc))
-asks_so x handle_call.Flush end asked at past known may pends there here ends = asks_first x handle_call.Flush at past known may there here refl (λ is. absurd (cc))
-asks_so x handle_call.Close end asked at past known may pends there here ends = asks_first x handle_call.Close at past known may there here refl (λ is. absurd (cc))
-asks_so x (handle_call.Seek goal) end asked at past known may pends there here ends = asks_first x (handle_call.Seek goal) at past known may there here refl (λ is. absurd (cc))
-asks_so x handle_call.Next end asked at past known may pends there here ends = asks_first x handle_call.Next at past known may there here refl (λ is. absurd (cc))
-asks_so x handle_call.Operate end asked at past known may pends there here ends = asks_first x handle_call.Operate at past known may there here refl (λ is. refl)
-asks_so x handle_call.GetMut end asked at past known may pends there here ends = asks_first x handle_call.GetMut at past known may there here refl (λ is. absurd (cc))
-asks_so x handle_call.IntoInner end asked at past known may pends there here ends = asks_first x handle_call.IntoInner at past known may there here refl (λ is. absurd (cc))
+asks_so x handle_call.OperateAgain end asked at past may pends there here ends = asks_again x end asked at past may there here pends ends
+asks_so x (handle_call.Read n) end asked at past may pends there here ends = asks_first x (handle_call.Read n) at past may there here refl (λ is. absurd (cc))
+asks_so x (handle_call.Write bytes) end asked at past may pends there here ends = asks_first x (handle_call.Write bytes) at past may there here refl (λ is. absurd (cc))
+asks_so x handle_call.Flush end asked at past may pends there here ends = asks_first x handle_call.Flush at past may there here refl (λ is. absurd (cc))
+asks_so x handle_call.Close end asked at past may pends there here ends = asks_first x handle_call.Close at past may there here refl (λ is. absurd (cc))
+asks_so x (handle_call.Seek goal) end asked at past may pends there here ends = asks_first x (handle_call.Seek goal) at past may there here refl (λ is. absurd (cc))
+asks_so x handle_call.Next end asked at past may pends there here ends = asks_first x handle_call.Next at past may there here refl (λ is. absurd (cc))
+asks_so x handle_call.Operate end asked at past may pends there here ends = asks_first x handle_call.Operate at past may there here refl (λ is. refl)
+asks_so x handle_call.GetMut end asked at past may pends there here ends = asks_first x handle_call.GetMut at past may there here refl (λ is. absurd (cc))
+asks_so x handle_call.IntoInner end asked at past may pends there here ends = asks_first x handle_call.IntoInner at past may there here refl (λ is. absurd (cc))
 
 -- it rests, by the law
 rests_so : (bytes : ℕ) (asked : Option HandleCall) (here : State) (end : PollEnd) (last : Option Session) (cut : List Event) → OwnerAs (owner_by_parts bytes asked (stage.Rests here end) last) cut → sessions.rests (own cut) ≡ true
@@ -320,11 +319,11 @@ pends_so bytes asked here end last cut t =
     ∙ ap (λ b. b && is_operation asked) (waits_so end here (is_waiting (own cut)) (is_operation asked) (has_begun (own cut)) (has_found (own cut)) t.operates)
 
 pub ask_goes : (bytes : ℕ) (asked : Option HandleCall) (here : State) (end : PollEnd) (last : Option Session) (h first : ℕ) (growth : Growth) (cut : List Event) (call : HandleCall)
-    → is_known call ≡ true → may_call_at here call ≡ true → (not (sessions.is_into_inner asked) || sessions.is_into_inner (Some call)) ≡ true
+    → may_call_at here call ≡ true → (not (sessions.is_into_inner asked) || sessions.is_into_inner (Some call)) ≡ true
     → (not (is_again call) || (is_pending end && is_operation asked)) ≡ true → OwnerAs (owner_by_parts bytes asked (stage.Rests here end) last) cut
     → Goes (owner_by_parts bytes (Some call) (stage.Polls (new_poll (poll_call_of (is_for_result end) call) here)) last) cut (by_owner h (Asked call) first growth)
-ask_goes bytes asked here end last h first growth cut call known may still pends t =
-    let a = asks_so (item_in last) call end asked here (own cut) known may pends (is_there last (bound bytes) cut here t.last t.stage.0) t.stage.0 t.operates in
+ask_goes bytes asked here end last h first growth cut call may still pends t =
+    let a = asks_so (item_in last) call end asked here (own cut) may pends (is_there last (bound bytes) cut here t.last t.stage.0) t.stage.0 t.operates in
     let inner : (not (sessions.was_asked_inner (own cut)) || sessions.is_into_inner (Some call)) ≡ true = ap (λ b. not b || sessions.is_into_inner (Some call)) t.gone.2 ∙ still in
     record {
       acts = all_true (sessions.rests (own cut)) (not (sessions.is_closed (own cut)) || is_for_closed call) (not (sessions.was_asked_inner (own cut)) || sessions.is_into_inner (Some call))
@@ -340,7 +339,6 @@ ask_goes bytes asked here end last h first growth cut call known may still pends
         asked = refl;
         polled = refl;
         bytes = t.bytes;
-        calls = (known, t.calls);
         stage = (
           record {
             call = call;
@@ -386,7 +384,6 @@ drop_goes bytes asked here end last h first growth cut t = record {
     asked = t.asked;
     polled = refl;
     bytes = t.bytes;
-    calls = t.calls;
     stage = (refl, refl);
     operates = tt;
     last = dropped_last last (bound bytes) h first growth cut t.last;
@@ -454,7 +451,6 @@ refuse_goes bytes asked p last h first growth cut reason is t =
         asked = t.asked;
         polled = t.polled;
         bytes = t.bytes;
-        calls = t.calls;
         stage = (
           record {
             call = c;
@@ -517,7 +513,6 @@ deliver_goes bytes asked p note last h first growth cut woke t =
         asked = t.asked;
         polled = t.polled;
         bytes = t.bytes;
-        calls = t.calls;
         stage = (
           record {
             call = t.stage.0.call;
@@ -637,7 +632,6 @@ begin_goes bytes asked p last h first growth cut number is fresh quiet t =
         asked = t.asked;
         polled = t.polled;
         bytes = t.bytes;
-        calls = t.calls;
         stage = (
           record {
             call = c;

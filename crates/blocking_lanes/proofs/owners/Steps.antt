@@ -31,7 +31,6 @@ use Rattle.blocking_laws.specs.Seats.{waker_in}
 use Rattle.blocking_laws.specs.Seen.{own, acts_of}
 use Rattle.blocking_laws.specs.Sessions.{jobs_of, kind_of_job, is_again, is_operation}
 use Rattle.blocking_laws.specs.Sessions as sessions
-use Rattle.blocking_laws.specs.Steps.{is_known}
 use Rattle.std.specs.Prelude.{is_none}
 use Rattle.blocking_laws.specs.declared.event.Act.{Act}
 use Rattle.blocking_laws.specs.declared.event.Act.TheVariants.{Answered, GaveUp, HolderWoken}
@@ -65,7 +64,7 @@ use Rattle.blocking_lanes.specs.declared.owner.OwnerStage.TheVariants as stage
 use Rattle.blocking_lanes.proofs.owners.Goods.{through_some, through_none}
 use Rattle.blocking_lanes.proofs.owners.Cuts.{its_kind, kind_is, next_stays, passes}
 use Rattle.blocking_lanes.proofs.owners.JobActs.{WorksOn, room_works, put_works, close_works, finish_works, answer_goes, give_up_goes, peek_works, consume_works, writer_close_works, writer_finish_works, writer_answer_goes, item_answer_goes, send_works, streamer_close_works, streamer_finish_works, asking_goes, seek_finish_works, seek_answer_goes, result_works, operation_finish_works, operation_answer_goes}
-use Rattle.blocking_lanes.proofs.owners.Known.{both_true, never_all}
+use Rattle.blocking_lanes.proofs.owners.Asked.{both_true}
 use Rattle.blocking_lanes.proofs.owners.OwnerActs.{Goes, owner_by_parts, bound, value_of, doing, own_goes}
 use Rattle.blocking_lanes.proofs.owners.PoolAnswers.{ask_goes, drop_goes, refuse_goes, deliver_goes, begin_goes}
 use Rattle.blocking_lanes.proofs.owners.ReadJobs as of_reader
@@ -121,7 +120,6 @@ module _ (bytes : ℕ) (asked : Option HandleCall) (here : OwnerStage) (last : O
       asked = t.asked;
       polled = t.polled;
       bytes = t.bytes;
-      calls = t.calls;
       stage = subst (λ next. StageBy here (item_in last) (sessions.call (own cut)) (sessions.state (own cut)) next (law.is_at_end (own cut)) (came_back cut) (newest_note (own cut)))
           (sym (next_stays (woken ∷ cut) cut (own cut) (λ back k m. (same_of (fault k) (λ l. refl) m, same_of number (λ l. refl) m)))) t.stage;
       operates = t.operates;
@@ -506,23 +504,18 @@ answered bytes asked here last h v n first growth cut t (of_job.Operate p) answe
     (kind_at bytes asked here h v first growth cut l.session tied Operating (subst (λ m. kind_of_job m (own cut) ≡ Operating) l.same of)) (subst (λ m. is_in m (jobs_of (own cut)) ≡ true) l.same among) answer is))
 
 module _ (bytes : ℕ) (asked : Option HandleCall) (last : Option Session) (h v n first : ℕ) (growth : Growth) (cut : List Event) (act : Act) where
-  -- who doesn't rest isn't asked
-  not_asked : (call : HandleCall) → (is_known call && false && (not (sessions.is_into_inner asked) || sessions.is_into_inner (Some call)) && (not (is_again call) || false)) ≡ true → ⊥
-  not_asked call may = never_all (is_known call) (not (sessions.is_into_inner asked) || sessions.is_into_inner (Some call)) (not (is_again call) || false) may
-
   step_by : (step : OwnerStep) (here : OwnerStage) → OwnerAs (owner_by_parts bytes asked here last) cut → IsAllowed step (owner_by_parts bytes asked here last) n cut
       → act_of step (owner_by_parts bytes asked here last) ≡ Some act → Goes (owner_after step (owner_by_parts bytes asked here last)) cut (event_by step h v n act first growth)
   step_by (IsAsked call) (stage.Rests st end) t w seen =
       let still = not (sessions.is_into_inner asked) || sessions.is_into_inner (Some call) in
-      let pends = both_true (is_known call && may_call_at st call && still) (not (is_again call) || (is_pending end && is_operation asked)) w.may in
-      let inner = both_true (is_known call && may_call_at st call) still pends.0 in
-      let may = both_true (is_known call) (may_call_at st call) inner.0 in
+      let pends = both_true (may_call_at st call && still) (not (is_again call) || (is_pending end && is_operation asked)) w.may in
+      let may = both_true (may_call_at st call) still pends.0 in
       subst (λ a. Goes (owner_after (IsAsked call) (owner_by_parts bytes asked (stage.Rests st end) last)) cut (by_owner h a first growth)) (ap (value_of act) seen)
-      (ask_goes bytes asked st end last h first growth cut call may.0 may.1 inner.1 pends.1 t)
-  step_by (IsAsked call) (stage.Polls p) t w seen = absurd (not_asked call w.may)
-  step_by (IsAsked call) (stage.Wakes p note) t w seen = absurd (not_asked call w.may)
-  step_by (IsAsked call) stage.Dropped t w seen = absurd (not_asked call w.may)
-  step_by (IsAsked call) stage.TakenBack t w seen = absurd (not_asked call w.may)
+      (ask_goes bytes asked st end last h first growth cut call may.0 may.1 pends.1 t)
+  step_by (IsAsked call) (stage.Polls p) t w seen = absurd (let no = w.may in cc)
+  step_by (IsAsked call) (stage.Wakes p note) t w seen = absurd (let no = w.may in cc)
+  step_by (IsAsked call) stage.Dropped t w seen = absurd (let no = w.may in cc)
+  step_by (IsAsked call) stage.TakenBack t w seen = absurd (let no = w.may in cc)
   step_by Acts here t w seen = by_did (did (owner_by_parts bytes asked here last)) refl seen
     where
       by_did : (o : Option Did) → did (owner_by_parts bytes asked here last) ≡ o → act_in o ≡ Some act → Goes (owner_in o (owner_by_parts bytes asked here last)) cut (by_owner h act first growth)

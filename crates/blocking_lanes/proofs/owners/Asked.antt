@@ -2,19 +2,11 @@
 use Rattle.std.proofs.Common.{◌≡◌, ◌&&◌, List, [], ◌∷◌, Bool, true, false, refl, ap, ◌∙◌, Option, Some}
 use Rattle.std.specs.Prelude.{◌||◌, not}
 use Rattle.blocking_laws.specs.Sessions.{call, is_into_inner, is_operation, is_pending_operation, was_asked_inner}
-use Rattle.blocking_laws.specs.Steps.{is_known}
 use Rattle.blocking_laws.specs.Wakes.{is_waiting}
 use Rattle.blocking_laws.specs.declared.event.Act.{Act}
 use Rattle.blocking_laws.specs.declared.event.Act.TheVariants.{Asked, Waits}
 use Rattle.blocking_laws.specs.declared.step.HandleCall.{HandleCall}
 use Rattle.blocking_laws.specs.declared.step.HandleCall.TheVariants.{IntoInner}
-use Rattle.blocking_lanes.specs.OwnerTies.{AskKnown}
-
--- the call that was asked last is one that owners are asked for
-pub known_call : (acts : List Act) (c : HandleCall) → AskKnown acts → call acts ≡ Some c → is_known c ≡ true
-known_call [] c known is = absurd (cc)
-known_call (Asked d ∷ past) c known is = let same : c ≡ d = cc in ap is_known same ∙ known.0
-known_call (_ ∷ past) c known is = known_call past c known is
 
 pub both_true : (a b : Bool) → (a && b) ≡ true → (a ≡ true) × (b ≡ true)
 both_true true b e = (refl, e)
@@ -23,11 +15,6 @@ both_true false b e = absurd (cc)
 -- four that hold
 pub all_true : (a b c d : Bool) → a ≡ true → b ≡ true → c ≡ true → d ≡ true → (a && b && c && d) ≡ true
 all_true a b c d e f g i = ap (λ x. x && b && c && d) e ∙ ap (λ x. x && c && d) f ∙ ap (λ x. x && d) g ∙ i
-
--- four of which the second doesn't hold
-pub never_all : (a c d : Bool) → (a && false && c && d) ≡ true → ⊥
-never_all true c d e = cc
-never_all false c d e = cc
 
 -- once the handle was asked for for good, the last call does so
 pub asks_inner : (c : HandleCall) (acts : List Act) → (not (was_asked_inner acts) || is_into_inner (Some c)) ≡ true → was_asked_inner (Asked c ∷ acts) ≡ is_into_inner (Some c)
