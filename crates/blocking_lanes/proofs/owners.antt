@@ -2,10 +2,13 @@ pub mod ReadJobs
 pub mod WriteJobs
 pub mod StreamJobs
 pub mod SeekJobs
+pub mod OperationJobs
 pub mod ReadSessions
 pub mod WriteSessions
 pub mod StreamSessions
 pub mod SeekSessions
+pub mod OperationSessions
+pub mod Results
 pub mod Drains
 pub mod Fills
 pub mod Goods
