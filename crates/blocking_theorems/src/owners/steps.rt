@@ -80,7 +80,6 @@ pub fn calls_of_each_kind()
     // made 0 / asked (for the handle, for good)
     ensures accepts_handle { StepLaw one_made (asks IntoInner 1) }
     // made 0 / nothing
-    ensures refuses_nothing_for_handle { Refuses StepLaw one_made (moment (Ask 0 IntoInner) (Owner 0) None NoAction 1) }
     ensures refuses_nothing_for_item { Refuses StepLaw one_made (moment (Ask 0 Next) (Owner 0) None NoAction 1) }
     ensures refuses_nothing_for_operation { Refuses StepLaw one_made (moment (Ask 0 Operate) (Owner 0) None NoAction 1) }
     ensures refuses_nothing_for_handle { Refuses StepLaw one_made (moment (Ask 0 IntoInner) (Owner 0) None NoAction 1) }
