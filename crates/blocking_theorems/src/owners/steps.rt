@@ -69,8 +69,8 @@ pub fn jobs()
         (moment (Strike 1) Pool None (JobCancelled 1 Entered) 2) }
 {}
 
-/// An owner is asked for whatever it may be asked for: for the result of an operation only where one is pending.
-pub fn every_call()
+/// An owner that rests is asked for anything, and for the result of an operation where one is pending.
+pub fn calls_of_each_kind()
     // made 0 / asked (to seek)
     ensures accepts_seek { StepLaw one_made (asks (Seek (Start 7)) 1) }
     // made 0 / asked (for an item)
@@ -83,7 +83,7 @@ pub fn every_call()
     ensures refuses_nothing_for_item { Refuses StepLaw one_made (moment (Ask 0 Next) (Owner 0) None NoAction 1) }
     ensures refuses_nothing_for_operation { Refuses StepLaw one_made (moment (Ask 0 Operate) (Owner 0) None NoAction 1) }
     ensures refuses_nothing_for_handle { Refuses StepLaw one_made (moment (Ask 0 IntoInner) (Owner 0) None NoAction 1) }
+    // made 0 / nothing, of a call for a result: no operation is pending
     ensures accepts_nothing_for_result { StepLaw one_made (moment (Ask 0 OperateAgain) (Owner 0) None NoAction 1) }
-    // made 0 / asked (for the result of an operation)
     ensures refuses_result { Refuses StepLaw one_made (asks OperateAgain 1) }
 {}
