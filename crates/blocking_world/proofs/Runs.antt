@@ -5,8 +5,6 @@ use Rattle.blocking_laws.specs.declared.event.Event.{Event}
 use Rattle.blocking_laws.specs.declared.event.Moment.{Moment}
 use Rattle.blocking_laws.specs.declared.step.Step.{Step}
 use Rattle.blocking_laws.specs.Behind.{AllWriteBehind}
-use Rattle.blocking_laws.specs.Solo.{AreIndependent}
-use Rattle.blocking_laws.proofs.Filters.{independent}
 use Rattle.blocking_laws.proofs.WrittenBytes.{all_write_behind}
 use Rattle.blocking_parts.specs.Parts.{Parts}
 use Rattle.blocking_parts.specs.Ties.{IsLawful}
@@ -50,10 +48,6 @@ taken_fewer steps count events old new t less =
 -- ---- what comes of the laws
 
 module _ (setting : ℕ) (plan : List Bool) (w : Parts) (past : List Moment) (lawful : IsLawful setting plan w past) where
-  -- each owner is alone in its cut
-  pub independent_now : AreIndependent past
-  independent_now = independent setting plan past lawful.legal
-
   -- no more of what an owner wrote waits than its pipe holds
   pub behind_now : AllWriteBehind past
   behind_now = all_write_behind setting plan past lawful.legal

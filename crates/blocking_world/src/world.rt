@@ -185,7 +185,7 @@ fn close_with<L: Ledger>(parts: Parts, blank: Blank)
 ///
 /// Err where there was no room for the world's own lists: the world is then where the steps so far left it. The room for a
 /// step and its event is had before the step acts.
-#[tactic(auto, using(blocking_parts::proofs::laws::Whole::served_now, blocking_parts::proofs::laws::Whole::staffed_now, blocking_parts::proofs::laws::Whole::held_now, crate::proofs::Runs::independent_now, crate::proofs::Runs::behind_now))]
+#[tactic(auto, using(blocking_parts::proofs::laws::Whole::served_now, blocking_parts::proofs::laws::Whole::staffed_now, blocking_parts::proofs::laws::Whole::held_now, crate::proofs::Runs::behind_now))]
 pub fn run(alloc: Global, world: &mut World, steps: &[Step]) -> Result<Vec<Event>, AllocError>
     ensures ok { IfOk result
         (λ events. Adds steps.now events.items world.old.history world.new.history) }
