@@ -4,8 +4,6 @@
 #![tactic(auto)]
 
 #[cfg(test)]
-mod independence;
-#[cfg(test)]
 mod letting_go;
 #[cfg(test)]
 mod memory;
