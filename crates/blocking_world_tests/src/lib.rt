@@ -10,6 +10,8 @@ mod memory;
 #[cfg(test)]
 mod no_action;
 #[cfg(test)]
+mod operations;
+#[cfg(test)]
 mod owners;
 #[cfg(test)]
 mod reading;
