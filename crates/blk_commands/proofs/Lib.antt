@@ -4,3 +4,4 @@ pub mod OutcomeLemmas
 pub mod PlayLemmas
 pub mod ScriptLemmas
 pub mod TellLemmas
+pub mod WordCounts

@@ -3,15 +3,16 @@ use Rattle.std.specs.Prelude.{ℕ, ◌==◌, Bool, List, [], ◌∷◌, codes, b
 use Rattle.std.specs.List.{slice_split}
 use Rattle.std.specs.Option.{option_and_then}
 use Rattle.blocking_laws.specs.declared.step.Answer.{Answer}
-use Rattle.blocking_laws.specs.declared.step.Answer.TheVariants.{Number, Gave, Fine, Failed}
+use Rattle.blocking_laws.specs.declared.step.Answer.TheVariants.{Number, Gave, Fine, Item, NoItem, Failed}
 use Rattle.blocking_laws.specs.declared.step.HandleCall.{HandleCall}
-use Rattle.blocking_laws.specs.declared.step.HandleCall.TheVariants.{Read, Write, Flush, Close, GetMut}
+use Rattle.blocking_laws.specs.declared.step.HandleCall.TheVariants.{Read, Write, Flush, Close, Seek, Next, Operate, OperateAgain, GetMut, IntoInner}
 use Rattle.blocking_laws.specs.declared.step.Step.{Step}
 use Rattle.blocking_laws.specs.declared.step.Step.TheVariants.{New, Ask, Own, DropOwner, Spawn, OfTask, Arrive, Take, Job, Io, End, Wait, Late, SetLimit, Sweep, Stray, Strike}
 use Rattle.blocking_laws.specs.declared.step.TaskCall.{TaskCall}
 use Rattle.blocking_laws.specs.declared.step.TaskCall.TheVariants.{Poll, Cancel, Detach, Drop}
 use Rattle.blk_commands.specs.Bytes.{bytes_of}
 use Rattle.blk_commands.specs.Numbers.{number_of}
+use Rattle.blk_commands.specs.Positions.{position_of}
 use Rattle.blk_commands.specs.declared.instruction.Actor.{Actor}
 use Rattle.blk_commands.specs.declared.instruction.Actor.TheVariants.{JobOf, PollOf}
 use Rattle.blk_commands.specs.declared.instruction.Instruction.{Instruction}
@@ -72,11 +73,18 @@ plain_call name =
     if bytes_eq name (codes "mut") then Some GetMut
     else (if bytes_eq name (codes "flush") then Some Flush
     else (if bytes_eq name (codes "close") then Some Close
-    else None))
+    else (if bytes_eq name (codes "next") then Some Next
+    else (if bytes_eq name (codes "op") then Some Operate
+    else (if bytes_eq name (codes "op+") then Some OperateAgain
+    else (if bytes_eq name (codes "inner") then Some IntoInner
+    else None))))))
 
 -- the answer that one word says
 abbrev pub plain_answer : List ℕ → Option Answer
-plain_answer kind = if bytes_eq kind (codes "ok") then Some Fine else None
+plain_answer kind =
+    if bytes_eq kind (codes "ok") then Some Fine
+    else (if bytes_eq kind (codes "none") then Some NoItem
+    else None)
 
 -- what three words ask for: a call of the task or of the owner that the number names, or an answer to its worker's job
 abbrev pub worded_step : List ℕ → List ℕ → List ℕ → Option Step
@@ -98,15 +106,17 @@ abbrev pub longer_call : List ℕ → List ℕ → Option HandleCall
 longer_call name word =
     if bytes_eq name (codes "read") then option_map Read (number_of 64 word)
     else (if bytes_eq name (codes "write") then option_map Write (bytes_of word)
-    else None)
+    else (if bytes_eq name (codes "seek") then option_map Seek (position_of word)
+    else None))
 
 -- the answer that a word of its kind and its value say
 abbrev pub answer_of : List ℕ → List ℕ → Option Answer
 answer_of kind value =
     if bytes_eq kind (codes "n") then option_map Number (number_of 64 value)
     else (if bytes_eq kind (codes "b") then option_map Gave (bytes_of value)
+    else (if bytes_eq kind (codes "item") then option_map Item (number_of 64 value)
     else (if bytes_eq kind (codes "fault") then option_map Failed (number_of 64 value)
-    else None))
+    else None)))
 
 -- what four words ask for: a call of an owner, or an answer to a worker's job
 abbrev pub longer_step : List ℕ → List ℕ → List ℕ → List ℕ → Option Step

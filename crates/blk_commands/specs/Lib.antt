@@ -5,5 +5,6 @@ pub mod Lines
 pub mod Numbers
 pub mod Outcomes
 pub mod Plays
+pub mod Positions
 pub mod Requests
 pub mod Scripts

@@ -4,6 +4,7 @@ ghost use Rattle.blk_commands.specs.Instructions.{actor_named, answer_of, instru
 
 use crate::bytes::bytes_of;
 use crate::number::{count, number};
+use crate::position::position_of;
 use blocking_laws::HandleCall;
 use blocking_world::{Answer, Step, TaskCall};
 use std::alloc::{AllocError, Global};
@@ -35,6 +36,7 @@ pub(crate) fn instruction_in(alloc: Global, line: &str) -> Result<Option<Instruc
 }
 
 // The instruction that words are.
+#[tactic(auto, using(crate::proofs::WordCounts::no_words, crate::proofs::WordCounts::many_words))]
 fn instruction_of(alloc: Global, words: &[&str]) -> Result<Option<Instruction>, AllocError>
     ensures { IfOk result (λ instruction.
         instruction ≡ instruction_of (map (λ word. word.now) words.now)) }
@@ -137,6 +139,10 @@ fn plain_call(name: &str) -> Option<HandleCall>
         "mut" => Some(HandleCall::GetMut),
         "flush" => Some(HandleCall::Flush),
         "close" => Some(HandleCall::Close),
+        "next" => Some(HandleCall::Next),
+        "op" => Some(HandleCall::Operate),
+        "op+" => Some(HandleCall::OperateAgain),
+        "inner" => Some(HandleCall::IntoInner),
         _ => None,
     }
 }
@@ -147,6 +153,7 @@ fn plain_answer(kind: &str) -> Option<Answer>
 {
     match kind {
         "ok" => Some(Answer::Fine),
+        "none" => Some(Answer::NoItem),
         _ => None,
     }
 }
@@ -184,6 +191,7 @@ fn longer_call(alloc: Global, name: &str, word: &str) -> Result<Option<HandleCal
     match name {
         "read" => Ok(number(word).map(HandleCall::Read)),
         "write" => Ok(bytes_of(alloc, word)?.map(HandleCall::Write)),
+        "seek" => Ok(position_of(word).map(HandleCall::Seek)),
         _ => Ok(None),
     }
 }
@@ -195,6 +203,7 @@ fn answer_of(alloc: Global, kind: &str, value: &str) -> Result<Option<Answer>, A
     match kind {
         "n" => Ok(number(value).map(Answer::Number)),
         "b" => Ok(bytes_of(alloc, value)?.map(Answer::Gave)),
+        "item" => Ok(number(value).map(Answer::Item)),
         "fault" => Ok(number(value).map(Answer::Failed)),
         _ => Ok(None),
     }

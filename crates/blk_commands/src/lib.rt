@@ -9,6 +9,7 @@ pub mod fault;
 pub mod instruction;
 pub mod line;
 mod number;
+mod position;
 mod request;
 pub mod script;
 mod steps;

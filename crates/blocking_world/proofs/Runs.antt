@@ -1,9 +1,13 @@
 -- A run: what it has added to a world so far.
-use Rattle.std.proofs.Common.{◌≡◌, ◌<◌, ◌+◌, ℕ, List, [], ◌∷◌, ◌++◌, length, map, take, drop, ap, sym, ◌∙◌, arith}
+use Rattle.std.proofs.Common.{◌≡◌, ◌<◌, ◌+◌, ℕ, Bool, List, [], ◌∷◌, ◌++◌, length, map, take, drop, ap, sym, ◌∙◌, arith}
 use Rattle.std.proofs.lemmas.List.{map-append, reverse-append, length-map, length-take-le, take-append-drop}
 use Rattle.blocking_laws.specs.declared.event.Event.{Event}
 use Rattle.blocking_laws.specs.declared.event.Moment.{Moment}
 use Rattle.blocking_laws.specs.declared.step.Step.{Step}
+use Rattle.blocking_laws.specs.Behind.{AllWriteBehind}
+use Rattle.blocking_laws.proofs.WrittenBytes.{all_write_behind}
+use Rattle.blocking_parts.specs.Parts.{Parts}
+use Rattle.blocking_parts.specs.Ties.{IsLawful}
 use Rattle.blocking_world.specs.Runs.{History, Follow, StopsShort}
 
 -- so many of the steps were taken, with these events
@@ -40,3 +44,10 @@ taken_fewer steps count events old new t less =
       fewer = omega (arith, many, less);
       follow = t.follow;
     }
+
+-- ---- what comes of the laws
+
+module _ (setting : ℕ) (plan : List Bool) (w : Parts) (past : List Moment) (lawful : IsLawful setting plan w past) where
+  -- no more of what an owner wrote waits than its pipe holds
+  pub behind_now : AllWriteBehind past
+  behind_now = all_write_behind setting plan past lawful.legal

@@ -3,11 +3,13 @@ ghost use Rattle.std.specs.Prelude.{◌≡◌, ◌<◌, ◌∷◌, [], length, t
 ghost use Rattle.blocking_pool.specs.Limits.{limit_of_setting};
 ghost use Rattle.blocking_laws.specs.Counts.{workers, idle};
 ghost use Rattle.blocking_laws.specs.Growth.{IsPlanned, known_limit};
+ghost use Rattle.blocking_laws.specs.Behind.{AllWriteBehind};
 ghost use Rattle.blocking_laws.specs.Legal.{Legal};
 ghost use Rattle.blocking_laws.specs.Queue.{queue};
 ghost use Rattle.blocking_parts.specs.Moves.{Steps};
 ghost use Rattle.blocking_world.specs.Runs.{Adds, StopsShort};
 ghost use Rattle.blocking_laws.specs.Served.{IsServed};
+ghost use Rattle.blocking_laws.specs.Solo.{AreIndependent};
 ghost use Rattle.blocking_laws.specs.Staffed.{IsStaffed, AreAsSeen};
 
 use crate::copies::twin_in;
@@ -183,12 +185,14 @@ fn close_with<L: Ledger>(parts: Parts, blank: Blank)
 ///
 /// Err where there was no room for the world's own lists: the world is then where the steps so far left it. The room for a
 /// step and its event is had before the step acts.
-#[tactic(auto, using(blocking_parts::proofs::laws::Whole::served_now, blocking_parts::proofs::laws::Whole::staffed_now, blocking_parts::proofs::laws::Whole::held_now))]
+#[tactic(auto, using(blocking_parts::proofs::laws::Whole::served_now, blocking_parts::proofs::laws::Whole::staffed_now, blocking_parts::proofs::laws::Whole::held_now, crate::proofs::Runs::behind_now))]
 pub fn run(alloc: Global, world: &mut World, steps: &[Step]) -> Result<Vec<Event>, AllocError>
     ensures ok { IfOk result
         (λ events. Adds steps.now events.items world.old.history world.new.history) }
     ensures err { OnErr result (StopsShort steps.now world.old.history world.new.history) }
     ensures legal { Legal world.new.history.setting world.new.history.plan world.new.history.past }
+    ensures independent { AreIndependent world.new.history.past }
+    ensures behind { AllWriteBehind world.new.history.past }
     ensures served { IsServed world.new.history.past }
     ensures staffed { IsStaffed world.new.passes world.new.turns world.new.history.past }
     ensures held { AreAsSeen world.new.passes world.new.turns world.new.history.past }

@@ -4,6 +4,8 @@
 #![tactic(auto)]
 
 #[cfg(test)]
+mod independence;
+#[cfg(test)]
 mod letting_go;
 #[cfg(test)]
 mod memory;

@@ -1,15 +1,18 @@
 //! Worlds whose memory is refused. `rt try --test --fail-alloc N` refuses the Nth piece that a test asks for: the tests here
 //! end as without, whichever it is, and say what came of it.
 use crate::row::PlainStep::{
-    Arrive, AskRead, AskWrite, End, Flushed, Gives, Io, Job, Late, New, OfTask, Own, Spawn, Take,
+    Arrive, AskNext, AskRead, AskSeek, AskWrite, End, Flushed, Gives, GivesItem, HasNoItem, Io,
+    Job, Late, New, OfTask, Own, Spawn, Take,
 };
 use crate::row::{Place, PlainStep, agree, counts};
+use blocking_core::io::Position;
 use blocking_core::pool::Refusal;
-use blocking_laws::event::{Act, Event};
-use blocking_laws::step::Step;
+use blocking_laws::bytes::Bytes;
+use blocking_laws::event::{Act, Event, Party};
 use blocking_laws::step::TaskCall::Poll;
-use blocking_world::{World, run};
-use std::alloc::Global;
+use blocking_laws::step::{Answer, Step};
+use blocking_world::{World, cut, run};
+use std::alloc::{AllocError, Global};
 use std::fmt::Write;
 use std::test::Fail;
 
@@ -22,6 +25,14 @@ fn sees(alloc: Global, world: &mut World, step: PlainStep, text: &str) -> Result
     agree(place(0), format!(in alloc; "{event}")?.as_str(), text)
 }
 
+// How an owner that asked for this is told that its session was refused.
+fn told(asked: PlainStep) -> &'static str {
+    match asked {
+        AskNext(_) => "replied refused memory",
+        _ => "replied fault refused memory",
+    }
+}
+
 // An owner whose session was refused is told so, rests, and asks again for what it asked.
 fn asks_again(
     alloc: Global,
@@ -29,7 +40,7 @@ fn asks_again(
     owner: usize,
     asked: PlainStep,
 ) -> Result<(), Fail> {
-    sees(alloc, world, Own(owner), "replied fault refused memory")?;
+    sees(alloc, world, Own(owner), told(asked))?;
     if world.poll_under_way(owner) {
         return Err(Fail::new("an owner polls that was told"));
     }
@@ -235,6 +246,54 @@ const WRITES: [(PlainStep, &str); 42] = [
     (Own(0), "got 6566"),
 ];
 
+// Two items through a pipe of one, and the end; then the same handle is moved.
+const ITEMS_AND_A_SEEK: [(PlainStep, &str); 44] = [
+    (New(1), "made 0"),
+    (AskNext(0), "asked"),
+    (Own(0), "accepted 1 +1"),
+    (Own(0), "waits"),
+    (Arrive, "arrived 1"),
+    (Take(1), "took 1"),
+    (GivesItem(1, 0), "answered item 0"),
+    (Job(1), "put 1 wake owner"),
+    (Job(1), "delivered owner"),
+    (GivesItem(1, 1), "answered item 1"),
+    (Job(1), "parked"),
+    (End(1), "ended 1 parked"),
+    (AskNext(0), "asked"),
+    (Own(0), "got item 0 wake 1"),
+    (Own(0), "delivered 1 entered"),
+    (Own(0), "replied item 0"),
+    (Take(1), "took 1"),
+    (Job(1), "put 1"),
+    (HasNoItem(1), "answered none"),
+    (Job(1), "closed"),
+    (Job(1), "finished"),
+    (End(1), "ended 1 done"),
+    (AskNext(0), "asked"),
+    (Own(0), "got item 1"),
+    (Own(0), "replied item 1"),
+    (AskNext(0), "asked"),
+    (Own(0), "got end"),
+    (Own(0), "back"),
+    (Own(0), "replied end"),
+    (AskSeek(0, Position::Start(7)), "asked"),
+    (Own(0), "accepted 2"),
+    (Own(0), "waits"),
+    (Take(1), "took 2"),
+    (Io(1, 7), "answered 7"),
+    (Job(1), "finished wake owner"),
+    (Job(1), "delivered owner"),
+    (End(1), "ended 2 done"),
+    (AskSeek(0, Position::Start(7)), "asked"),
+    (Own(0), "back"),
+    (Own(0), "replied ok 7"),
+    (AskNext(0), "asked"),
+    (Own(0), "accepted 3"),
+    (Own(0), "waits"),
+    (Take(1), "took 3"),
+];
+
 // Takes these steps, of which each has an event of its text.
 fn takes_all(
     rt: &impl Print,
@@ -245,7 +304,7 @@ fn takes_all(
     let mut seen = room(rt, alloc)?;
     let mut asked = AskRead(0, 2);
     for (lines, (step, text)) in steps.iter().enumerate() {
-        if let AskRead(_, _) | AskWrite(_, _) = step {
+        if let AskRead(_, _) | AskWrite(_, _) | AskNext(_) | AskSeek(_, _) = step {
             asked = *step;
         }
         let event = insists(rt, alloc, world, *step, asked)?;
@@ -290,4 +349,109 @@ fn each_piece_of_a_writer_refused(rt: HostRuntime) -> Result<(), Fail> {
     let outcome = takes_all(&rt, rt.alloc(), &mut world, &WRITES);
     world.close();
     outcome
+}
+
+#[test]
+fn each_piece_of_a_streamer_refused(rt: HostRuntime) -> Result<(), Fail> {
+    let mut world = World::new(rt.alloc(), Some("4"), Vec::new(rt.alloc()));
+    let outcome = takes_all(&rt, rt.alloc(), &mut world, &ITEMS_AND_A_SEEK);
+    world.close();
+    outcome
+}
+
+// An event with no start, of the job of this owner where it is a worker's.
+fn event(party: Party, owner: Option<usize>, act: Act) -> Event {
+    Event {
+        party,
+        owner,
+        job: None,
+        act,
+        first: 3,
+        started: 0,
+        start_refused: false,
+    }
+}
+
+// These bytes.
+fn bytes(alloc: Global, items: &[u8]) -> Result<Bytes, AllocError> {
+    Ok(Bytes::new(items.to_vec(alloc)?))
+}
+
+// What the reader of this owner gave, which this worker asked.
+fn gave(alloc: Global, worker: usize, owner: usize, items: &[u8]) -> Result<Event, AllocError> {
+    let answer = Answer::Gave(bytes(alloc, items)?);
+    Ok(event(Party::Worker(worker), Some(owner), Act::Answered(answer)))
+}
+
+// What this owner got.
+fn got(alloc: Global, owner: usize, items: &[u8]) -> Result<Event, AllocError> {
+    let act = Act::Got(bytes(alloc, items)?, None);
+    Ok(event(Party::Owner(owner), None, act))
+}
+
+// Events of two owners, and of the pool.
+fn of_two(alloc: Global) -> Result<Vec<Event>, AllocError> {
+    let mut events = Vec::new(alloc);
+    events.push(event(Party::Owner(0), None, Act::Made(0, 4)))?;
+    events.push(event(Party::Owner(1), None, Act::Made(1, 4)))?;
+    events.push(event(Party::Worker(1), Some(0), Act::Took(1)))?;
+    events.push(gave(alloc, 1, 0, b"ab")?)?;
+    events.push(gave(alloc, 2, 1, b"x")?)?;
+    events.push(got(alloc, 1, b"x")?)?;
+    events.push(got(alloc, 0, b"ab")?)?;
+    events.push(event(Party::Owner(0), None, Act::NoAction))?;
+    events.push(event(Party::Pool, None, Act::Swept(0)))?;
+    Ok(events)
+}
+
+// The same, where the first try may be refused.
+fn insists_on_two(rt: &impl Print, alloc: Global) -> Result<Vec<Event>, Fail> {
+    for _ in 0..2 {
+        if let Ok(events) = of_two(alloc) {
+            return Ok(events);
+        }
+        println!(rt; "refused: the test's own events")?;
+    }
+    Err(Fail::new("no room twice"))
+}
+
+// The cut of this owner, where the first try may be refused.
+fn insists_on_cut(
+    rt: &impl Print,
+    alloc: Global,
+    owner: usize,
+    events: &[Event],
+) -> Result<Vec<Event>, Fail> {
+    for _ in 0..2 {
+        if let Ok(kept) = cut(alloc, owner, events) {
+            return Ok(kept);
+        }
+        println!(rt; "refused: the cut of owner {owner}")?;
+    }
+    Err(Fail::new("no room twice"))
+}
+
+// The cut of this owner has three events, with this text together.
+fn has_three(
+    rt: &impl Print,
+    alloc: Global,
+    owner: usize,
+    events: &[Event],
+    text: &str,
+) -> Result<(), Fail> {
+    let kept = insists_on_cut(rt, alloc, owner, events)?;
+    let [first, second, third] = kept.as_slice() else {
+        return Err(Fail::new("not three events"));
+    };
+    let mut seen = room(rt, alloc)?;
+    write!(seen, "{first} / {second} / {third}")?;
+    agree(place(0), seen.as_str(), text)
+}
+
+#[test]
+fn each_piece_of_a_cut_refused(rt: HostRuntime) -> Result<(), Fail> {
+    let alloc = rt.alloc();
+    let events = insists_on_two(&rt, alloc)?;
+    has_three(&rt, alloc, 0, &events, "made 0 / answered 6162 / got 6162")?;
+    has_three(&rt, alloc, 1, &events, "made 1 / answered 78 / got 78")
 }

@@ -1,6 +1,7 @@
 //! Rows: steps, with what is seen of each. And how they are played.
 use blocking_core::io::Position;
 use blocking_laws::bytes::Bytes;
+use blocking_laws::event::Event;
 use blocking_laws::step::{Answer, HandleCall, Step, TaskCall};
 use blocking_world::{World, run};
 use std::alloc::{AllocError, Global};
@@ -239,10 +240,10 @@ fn play_step_by_step(alloc: Global, row: &Row, lines: &[Line]) -> Result<(), Fai
     outcome
 }
 
-// The texts of the events of these steps, all taken at once, each with a line feed.
-fn texts(alloc: Global, world: &mut World, steps: &[Step]) -> Result<String, AllocError> {
+// The texts of these events, each with a line feed.
+pub(crate) fn texts(alloc: Global, events: &[Event]) -> Result<String, AllocError> {
     let mut texts = String::new(alloc);
-    for event in &run(alloc, world, steps)? {
+    for event in events {
         texts.push_str(format!(in alloc; "{event}\n")?.as_str())?;
     }
     Ok(texts)
@@ -259,13 +260,13 @@ fn play_at_once(alloc: Global, row: &Row, lines: &[Line]) -> Result<(), Fail> {
         }
     }
     let mut world = world(alloc, row)?;
-    let seen = texts(alloc, &mut world, &steps);
+    let events = run(alloc, &mut world, &steps);
     world.close();
     let place = Place {
         row: row.name,
         lines: 0,
     };
-    agree(place, seen?.as_str(), text.as_str())
+    agree(place, texts(alloc, &events?)?.as_str(), text.as_str())
 }
 
 // Plays a row, and each beginning of it too: a world ends wherever it stands.

@@ -1,0 +1,11 @@
+-- Each owner is alone in its cut, since what was seen is legal.
+use Rattle.std.proofs.Common.{reverse, subst}
+use Rattle.blocking_laws.proofs.Filters.{independent}
+use Rattle.blocking_laws.specs.Solo.{AreIndependent}
+use Rattle.blocking_world.specs.Runs.{WorldValue}
+use Rattle.blocking_world.proofs.world.run.Goals as goal
+
+pub returns-clause-independent : goal.returns-clause-independent
+returns-clause-independent c =
+    subst (λ (v : WorldValue). AreIndependent v.history.past) c.world.view_is
+    (independent c.world.inside.parts.crew.pool.counts.setting c.world.inside.plan.items (reverse c.world.inside.trace.items) c.world.invariant.legal)
