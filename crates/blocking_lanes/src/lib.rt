@@ -1,5 +1,5 @@
-//! The lanes of a world: each task with the slot in which it meets the job of its call, each owner with the pipe and the slot in which it
-//! meets the job that reads or writes for it, and how far those jobs are.
+//! The lanes of a world: each task with the slot in which it meets the job of its call, each owner with the pipe, the place of a
+//! result and the slot in which it meets the job that works for it, and how far those jobs are.
 //!
 //! A lane knows no pool, no worker and no other lane. What was seen of it is its cut, and by its cut alone it keeps its laws:
 //! [`Task`] and [`Owner`] say what each act does, and [`kept`] that their laws hold after it.

@@ -1,4 +1,5 @@
-//! The machine of an owner who lends its handle to jobs that read ahead of it, or write behind it.
+//! The machine of an owner who lends its handle to jobs that read ahead of it, write behind it, give its items, move it or operate on it,
+//! until it takes the handle back.
 ghost use Rattle.std.specs.Prelude.{◌≡◌, ◌<◌, ◌==◌, if◌then◌else◌, Some, None};
 ghost use Rattle.blocking_core.specs.declared.unblock.OwnerAction.TheVariants as action;
 ghost use Rattle.blocking_lanes.specs.Sessions.{serial_of};

@@ -1,5 +1,6 @@
--- The words that the laws take from the definitions of the pool, of the pipe and of seeks, and all of them. They are about numbers,
--- standings, lists and positions, and name no state of a pool or a pipe. `blocking_pool/specs/Growth.antt`,
+-- The words that the laws take from the definitions of the pool, of the pipe and of seeks. (Beside them they take `without`, `is_in` and
+-- `one_if`, which say what they are called, and types of the code.) They are about numbers, standings, lists and positions, and name no
+-- state of a pool or a pipe. `blocking_pool/specs/Growth.antt`,
 -- `blocking_pool/specs/Wakes.antt`, `blocking_core/specs/Places.antt` and `blocking_core/specs/Positions.antt` say what they mean.
 
 -- The greatest number of 64 bits; whether one more start is due; how a start may be answered; the starts of a growth; and the

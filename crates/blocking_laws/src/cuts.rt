@@ -8,7 +8,7 @@ use std::alloc::{AllocError, Global};
 /// The events of this owner, by its number from 0, and of its jobs, in the order in which they are given. Those that the pool alone
 /// decides aren't among them (a take, the end of a turn, a job that is handed out to be dropped), nor those of steps that did nothing.
 ///
-/// Where nothing was refused, an owner might have seen just these with no other owner beside it (docs/LAWS.md, "Independence").
+/// Of what a world saw in which no new job was refused, they keep the owner's own laws, which name no other owner (docs/LAWS.md, "Solo").
 /// Err where there is no memory for the list or for the bytes in it.
 pub fn cut(alloc: Global, owner: usize, events: &[Event]) -> Result<Vec<Event>, AllocError>
     ensures { IfOk result (λ kept. kept.items ≡ cut owner events.now) }

@@ -24,7 +24,8 @@ use Rattle.blocking_core.specs.declared.unblock.OwnerAnswer.TheVariants as by
 use Rattle.blocking_pool.specs.declared.pool.answer.Refusal.{Refusal}
 use Rattle.futures.specs.declared.task.Poll.{Poll}
 use Rattle.futures.specs.declared.task.Poll.TheVariants.{Ready, Pending}
-use Rattle.blocking_unblock.specs.Owners.{AnswersTo, BackAt, IfRefused, IsAt, IsClosed, IsOfJob, KeepsRefused, Runs, Reaches, state_of, has, wanted, offered}
+use Rattle.std.specs.declared.io.Error.{Error}
+use Rattle.blocking_unblock.specs.Owners.{AnswersTo, BackAt, HasReply, IfRefused, IsAt, IsClosed, IsOfJob, KeepsAtOnce, KeepsRefused, Runs, Reaches, state_of, has, wanted, offered}
 use Rattle.blocking_unblock.specs.Polls.{Kept, Way, Item, Gave, Starts, Operates, HasSession, HasPipe, AtOwnEnd, Onward, FitsReply, IsGoing, Resumes, MayAsk, FitsAction, Stands, CanDo, Brings, KeepsOpen, Drains, Fills, Receives, Does, KeepsFirst, KeepsBrought, last_action}
 use Rattle.blocking_unblock.specs.declared.place.Place.{Place}
 
@@ -941,3 +942,22 @@ module _ {T I H E : Type 0} where
         | inl began ↦ inl (sym was ∙ (sym (ap (λ m. m.state) is) ∙ began))
         | inr asked ↦ inr (sym (ap (λ m. m.call) is) ∙ asked)
       ]
+
+-- ---- what has its reply at once
+
+module _ {E : Type 0} where
+  no_reply_goes : (action : OwnerAction E) → IsGoing action → HasReply action → ⊥
+  no_reply_goes (act.Reply reply) going replied = going
+  no_reply_goes action going replied = replied
+
+  -- a poll that had its reply when it began never goes on
+  pub none_going : (first now : OwnerAction E) → IsGoing now → now ≡ first → HasReply first → ⊥
+  none_going first now going same replied = no_reply_goes now going (subst HasReply (sym same) replied)
+
+module _ {T I H : Type 0} where
+  pub at_once_kept : (first : OwnerMachine Error) (next : OwnerAction Error) (call : PollCall) (state : State) (before place : Place T I H) → first ≡ new_poll call state
+      → state ≡ state_of before → (HasReply first.next → (next ≡ first.next) × (place ≡ before)) → KeepsAtOnce call before place
+  at_once_kept first next call state before place is was kept replied =
+      let P : State → Type 0 = λ s. HasReply {E = Error} (table call s) in
+      let Q : OwnerMachine Error → Type 0 = λ m. HasReply m.next in
+      (kept (subst Q (sym is) (subst P (sym was) replied))).1

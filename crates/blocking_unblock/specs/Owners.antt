@@ -1,6 +1,6 @@
 -- What a poll of an owner does: where the handle is, what it may answer to each action, and what its reply says of it.
 use Rattle.std.specs.Prelude.{◌≡◌, ◌<◌, ◌≤◌, ℕ, Bool, true, false, List, [], ◌∷◌, Option, Some, None, Result, Ok, Err}
-use Rattle.blocking_core.specs.OwnerCalls.{OwnerMachine, new_poll, owner_next, owner_after}
+use Rattle.blocking_core.specs.OwnerCalls.{OwnerMachine, new_poll, owner_next, owner_after, table}
 use Rattle.blocking_core.specs.declared.io.Fault.{Fault}
 use Rattle.blocking_core.specs.declared.io.Fault.TheVariants as fault
 use Rattle.blocking_core.specs.declared.pipe.Drained.{Drained}
@@ -225,3 +225,12 @@ Follows {T} {I} {H} {E} call old reply new =
 -- Where no session could begin the handle is with its owner, and as it was, where it was there before.
 abbrev pub KeepsRefused : {T I H E : Type 0} → Place T I H → Poll (Reply E) → Place T I H → Type 0
 KeepsRefused old reply new = IfRefused reply (IsAt state.Idle new × (IsAt state.Idle old → new ≡ old))
+
+-- the poll has its reply
+abbrev pub HasReply : {E : Type 0} → OwnerAction E → Type 0
+HasReply (act.Reply reply) = Unit {0}
+HasReply action = ⊥
+
+-- A call that has its reply at once, where the handle is, leaves the handle as it is.
+abbrev pub KeepsAtOnce : {T I H : Type 0} → PollCall → Place T I H → Place T I H → Type 0
+KeepsAtOnce call old new = HasReply {E = Error} (table call (state_of old)) → new ≡ old

@@ -1,4 +1,4 @@
-//! Readers and writers that are lent to a pool, and read and written by polls.
+//! Readers, writers, iterators, seekers and whatever is operated on, which are lent to a pool and asked by polls.
 #![tactic(auto)]
 
 mod io;

@@ -41,7 +41,7 @@ impl<T: Drop, I: Drop, J: Job, H: Runtime> Future for IntoInner<T, I, J, H> {
     ghost use Rattle.std.specs.Prelude.{IsSome, IsNone, IfSome};
     ghost use Rattle.blocking_core.specs.declared.unblock.PollCall.TheVariants.{IntoInner as TakeBackCall};
     ghost use Rattle.blocking_unblock.specs.declared.place.Place.TheVariants.{Idle as AtOwner};
-    ghost use Rattle.blocking_unblock.specs.Owners.{Follows, reply_of_get};
+    ghost use Rattle.blocking_unblock.specs.Owners.{Follows, KeepsAtOnce, reply_of_get};
 
     type Output = T;
 
@@ -50,7 +50,7 @@ impl<T: Drop, I: Drop, J: Job, H: Runtime> Future for IntoInner<T, I, J, H> {
     fn poll(&mut self, cx: &mut Context<'_>) -> Poll<T>
         requires { IsSome self.old.owner }
         ensures follows { IfSome self.old.owner (λ owner. (place : _) × Follows TakeBackCall owner.place (reply_of_get result) place
-            × IfReady result (λ handle. place ≡ AtOwner handle)
+            × IfReady result (λ handle. place ≡ AtOwner handle) × KeepsAtOnce TakeBackCall owner.place place
             × OnPending result (IfSome self.new.owner (λ owner. owner.place ≡ place))) }
         ensures taken { IfReady result (λ _. IsNone self.new.owner) }
         ensures again { OnPending result (IsSome self.new.owner) }

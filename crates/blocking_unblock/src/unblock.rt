@@ -159,7 +159,7 @@ impl<T: Drop, I: Drop, J: Job, H: Runtime> Unblock<T, I, J, H> {
     ghost use Rattle.blocking_core.specs.declared.unblock.SessionKind.TheVariants.{Reading, Writing, Streaming};
     ghost use Rattle.blocking_core.specs.declared.unblock.OwnerEnd.TheVariants.{Open};
     ghost use Rattle.blocking_core.specs.declared.unblock.OwnerAction.TheVariants.{Begin as BeginAction, Close as CloseAction, Receive as ReceiveAction, PollSlot as SlotAction};
-    ghost use Rattle.blocking_unblock.specs.Owners.{IsClosed, IsAt, Reaches, Follows, KeepsRefused, state_of, has, reply_of_get, wanted, offered};
+    ghost use Rattle.blocking_unblock.specs.Owners.{IsClosed, IsAt, Reaches, Follows, KeepsRefused, KeepsAtOnce, state_of, has, reply_of_get, wanted, offered};
     ghost use Rattle.blocking_unblock.specs.Polls.{MayAsk, CanDo, Does, Brings, FitsReply, Stands, IsGoing, KeepsFirst, KeepsBrought, KeepsOpen, HasPipe, HasSession, Drains, Fills, Resumes, Kept, last_action};
     ghost use Rattle.blocking_core.specs.OwnerCalls.{begun_by};
 
@@ -168,6 +168,7 @@ impl<T: Drop, I: Drop, J: Job, H: Runtime> Unblock<T, I, J, H> {
         requires ready { (state : StateSeen) × B.begins brought.old state }
         ensures does { Does (B.begins brought.old) BeginAction self.old.place result false self.new.place (Unit {0}) }
         ensures brings { Brings B.begins B.keeps BeginAction result brought.old brought.new }
+        ensures rest { (self.new.capacity ≡ self.old.capacity) × (self.new.executor ≡ self.old.executor) }
     {
         let Place::Idle(handle) = mem::replace(&mut self.place, Place::Closed) else {
             unreachable!()
@@ -186,7 +187,8 @@ impl<T: Drop, I: Drop, J: Job, H: Runtime> Unblock<T, I, J, H> {
 
     fn close_end(&mut self) -> (OwnerAnswer<io::Error>, Option<WakeNote>)
         requires { HasPipe (state_of self.old.place) }
-        ensures { Does (λ _. Unit {0}) CloseAction self.old.place result.0 (has result.1) self.new.place (Unit {0}) }
+        ensures does { Does (λ _. Unit {0}) CloseAction self.old.place result.0 (has result.1) self.new.place (Unit {0}) }
+        ensures rest { (self.new.capacity ≡ self.old.capacity) × (self.new.executor ≡ self.old.executor) }
     {
         let Place::Lent(session) = &mut self.place else {
             unreachable!()
@@ -205,6 +207,7 @@ impl<T: Drop, I: Drop, J: Job, H: Runtime> Unblock<T, I, J, H> {
         requires room { 0 < length out.old }
         ensures drains { Drains (length out.old) result.0 (has result.1) (IsArmed cx.new) }
         ensures at { IsAt (state_of self.old.place) self.new.place }
+        ensures rest { (self.new.capacity ≡ self.old.capacity) × (self.new.executor ≡ self.old.executor) }
         ensures kept { Keeps cx.old cx.new }
     {
         let Place::Lent(session) = &mut self.place else {
@@ -222,6 +225,7 @@ impl<T: Drop, I: Drop, J: Job, H: Runtime> Unblock<T, I, J, H> {
         requires some { 0 < length bytes.now }
         ensures fills { Fills (length bytes.now) result.0 (has result.1) (IsArmed cx.new) }
         ensures at { IsAt (state_of self.old.place) self.new.place }
+        ensures rest { (self.new.capacity ≡ self.old.capacity) × (self.new.executor ≡ self.old.executor) }
         ensures kept { Keeps cx.old cx.new }
     {
         let Place::Lent(session) = &mut self.place else {
@@ -238,6 +242,7 @@ impl<T: Drop, I: Drop, J: Job, H: Runtime> Unblock<T, I, J, H> {
         requires { IsAt (Lent Streaming Open) self.old.place }
         ensures does { Does (λ _. Unit {0}) ReceiveAction self.old.place result.0 (has result.1) self.new.place (IsArmed cx.new) }
         ensures brings { Brings B.begins B.keeps ReceiveAction result.0 brought.old brought.new }
+        ensures rest { (self.new.capacity ≡ self.old.capacity) × (self.new.executor ≡ self.old.executor) }
         ensures kept { Keeps cx.old cx.new }
     {
         let Place::Lent(session) = &mut self.place else {
@@ -257,6 +262,7 @@ impl<T: Drop, I: Drop, J: Job, H: Runtime> Unblock<T, I, J, H> {
     fn poll_slot(&mut self, cx: &mut Context<'_>) -> OwnerAnswer<io::Error>
         requires { HasSession (state_of self.old.place) }
         ensures does { Does (λ _. Unit {0}) SlotAction self.old.place result false self.new.place (IsArmed cx.new) }
+        ensures rest { (self.new.capacity ≡ self.old.capacity) × (self.new.executor ≡ self.old.executor) }
         ensures kept { Keeps cx.old cx.new }
     {
         let Place::Lent(session) = &self.place else {
@@ -284,6 +290,7 @@ impl<T: Drop, I: Drop, J: Job, H: Runtime> Unblock<T, I, J, H> {
         requires can { CanDo B.begins B.keeps action self.old.place (length out.old) (length bytes.now) brought.old }
         ensures does { Does (B.begins brought.old) action self.old.place result.0 (has result.1) self.new.place (IsArmed cx.new) }
         ensures brings { Brings B.begins B.keeps action result.0 brought.old brought.new }
+        ensures rest { (self.new.capacity ≡ self.old.capacity) × (self.new.executor ≡ self.old.executor) }
         ensures kept { Keeps cx.old cx.new }
         ensures same_length { length out.new ≡ length out.old }
     {
@@ -321,6 +328,7 @@ impl<T: Drop, I: Drop, J: Job, H: Runtime> Unblock<T, I, J, H> {
         requires offers { offered poll.old.call ≡ length bytes.now }
         ensures stands { Stands B.begins B.keeps (IsArmed cx.new) poll.new self.new.place brought.new }
         ensures reaches { Reaches poll.old poll.new }
+        ensures went { IsGoing poll.old.next }
         ensures call_same { poll.new.call ≡ poll.old.call }
         ensures kept_open { KeepsOpen poll.old.call poll.old.state poll.new.state }
         ensures keeps { (first : _)
@@ -329,6 +337,7 @@ impl<T: Drop, I: Drop, J: Job, H: Runtime> Unblock<T, I, J, H> {
         ensures brings { (first : _)
             → KeepsBrought B.keeps poll.old.call poll.old.next brought.old first
             → KeepsBrought B.keeps poll.new.call poll.new.next brought.new first }
+        ensures rest { (self.new.capacity ≡ self.old.capacity) × (self.new.executor ≡ self.old.executor) }
         ensures kept { Keeps cx.old cx.new }
         ensures same_length { length out.new ≡ length out.old }
     {
@@ -358,6 +367,8 @@ impl<T: Drop, I: Drop, J: Job, H: Runtime> Unblock<T, I, J, H> {
         ensures resumes { OnPending result
             (Resumes call (state_of self.new.place) (B.begins brought.new (begun_by call)) (B.keeps brought.new Kept.Way)) }
         ensures back { KeepsBrought B.keeps call (last_action result) brought.new brought.old }
+        ensures at_once { KeepsAtOnce call self.old.place self.new.place }
+        ensures rest { (self.new.capacity ≡ self.old.capacity) × (self.new.executor ≡ self.old.executor) }
         ensures closed { IsClosed self.old.place → IsClosed self.new.place }
         ensures closes { IsClosed self.new.place → IsClosed self.old.place ⊎ (call ≡ CloseCall) }
         ensures armed { OnPending result (IsArmed cx.new) }
@@ -383,7 +394,7 @@ impl<T: Drop, I: Drop, J: Job, H: Runtime> Unblock<T, I, J, H> {
     pub fn poll_get_mut(&mut self, cx: &mut Context<'_>) -> Poll<&mut T>
         requires { IsClosed self.old.place → ⊥ }
         ensures follows { (place : _) × Follows GetMutCall self.old.place (reply_of_get result) place
-            × IfReady result (λ handle. place ≡ AtOwner handle.now) }
+            × IfReady result (λ handle. place ≡ AtOwner handle.now) × KeepsAtOnce GetMutCall self.old.place place }
         ensures armed { OnPending result (IsArmed cx.new) }
         ensures kept { Keeps cx.old cx.new }
     {
@@ -402,7 +413,7 @@ impl<T: Read + Drop, I: Drop, J: Job + Carries<ReadJob<T, H>>, H: Runtime> Async
     for Unblock<T, I, J, H> {
     ghost use Rattle.blocking_core.specs.declared.unblock.PollCall.TheVariants.{Read as ReadCall};
     ghost use Rattle.blocking_core.specs.declared.unblock.State.TheVariants.{Idle};
-    ghost use Rattle.blocking_unblock.specs.Owners.{IsClosed, Follows, KeepsRefused, reply_of_count};
+    ghost use Rattle.blocking_unblock.specs.Owners.{IsClosed, Follows, KeepsAtOnce, KeepsRefused, reply_of_count};
 
     ghost closed = { λ owner. IsClosed owner.place };
 
@@ -411,6 +422,8 @@ impl<T: Read + Drop, I: Drop, J: Job + Carries<ReadJob<T, H>>, H: Runtime> Async
         ensures refused { KeepsRefused self.old.place (reply_of_count result) self.new.place }
         ensures follows { Follows (ReadCall (length buf.old)) self.old.place (reply_of_count result) self.new.place }
         ensures open { IsClosed self.new.place → ⊥ }
+        ensures at_once { KeepsAtOnce (ReadCall (length buf.old)) self.old.place self.new.place }
+        ensures rest { (self.new.capacity ≡ self.old.capacity) × (self.new.executor ≡ self.old.executor) }
         ensures count { IfReady result (λ r. IfOk r (λ n. n ≤ length buf.old)) }
         ensures same_length { length buf.new ≡ length buf.old }
         ensures armed { OnPending result (IsArmed cx.new) }
@@ -429,7 +442,7 @@ impl<T: Write + Drop, I: Drop, J: Job + Carries<WriteJob<T, H>>, H: Runtime> Asy
     for Unblock<T, I, J, H> {
     ghost use Rattle.blocking_core.specs.declared.unblock.PollCall.TheVariants.{Write as WriteCall, Flush as FlushCall, Close as CloseCall};
     ghost use Rattle.blocking_core.specs.declared.unblock.State.TheVariants.{Idle};
-    ghost use Rattle.blocking_unblock.specs.Owners.{IsAt, IsClosed, Follows, KeepsRefused, reply_of_count, reply_of_done};
+    ghost use Rattle.blocking_unblock.specs.Owners.{IsAt, IsClosed, Follows, KeepsAtOnce, KeepsRefused, reply_of_count, reply_of_done};
 
     ghost closed = { λ owner. IsClosed owner.place };
 
@@ -438,6 +451,8 @@ impl<T: Write + Drop, I: Drop, J: Job + Carries<WriteJob<T, H>>, H: Runtime> Asy
         ensures refused { KeepsRefused self.old.place (reply_of_count result) self.new.place }
         ensures follows { Follows (WriteCall (length bytes.now)) self.old.place (reply_of_count result) self.new.place }
         ensures open { IsClosed self.new.place → ⊥ }
+        ensures at_once { KeepsAtOnce (WriteCall (length bytes.now)) self.old.place self.new.place }
+        ensures rest { (self.new.capacity ≡ self.old.capacity) × (self.new.executor ≡ self.old.executor) }
         ensures count { IfReady result (λ r. IfOk r (λ n. n ≤ length bytes.now)) }
         ensures armed { OnPending result (IsArmed cx.new) }
         ensures kept { Keeps cx.old cx.new }
@@ -458,7 +473,9 @@ impl<T: Write + Drop, I: Drop, J: Job + Carries<WriteJob<T, H>>, H: Runtime> Asy
 
     fn poll_flush(&mut self, cx: &mut Context<'_>) -> Poll<Result<(), IoFault>>
         ensures follows { Follows FlushCall self.old.place (reply_of_done result) self.new.place }
+        ensures at_once { KeepsAtOnce FlushCall self.old.place self.new.place }
         ensures same { IsClosed self.new.place ↔ IsClosed self.old.place }
+        ensures rest { (self.new.capacity ≡ self.old.capacity) × (self.new.executor ≡ self.old.executor) }
         ensures armed { OnPending result (IsArmed cx.new) }
         ensures kept { Keeps cx.old cx.new }
     {
@@ -474,6 +491,7 @@ impl<T: Write + Drop, I: Drop, J: Job + Carries<WriteJob<T, H>>, H: Runtime> Asy
         ensures follows { Follows CloseCall self.old.place (reply_of_done result) self.new.place }
         ensures closed { IfReady result (λ r. IfOk r (λ _. IsClosed self.new.place)) }
         ensures fault { IfReady result (λ r. IfErr r (λ _. IsAt Idle self.new.place)) }
+        ensures rest { (self.new.capacity ≡ self.old.capacity) × (self.new.executor ≡ self.old.executor) }
         ensures armed { OnPending result (IsArmed cx.new) }
         ensures kept { Keeps cx.old cx.new }
     {
@@ -506,6 +524,7 @@ impl<T: Iterator<Item = I> + Drop, I: Drop, J: Job + Carries<ItemJob<T, I, H>>, 
         requires asked { (at : T) → T.can_next at }
         ensures refused { KeepsRefused self.old.place (reply_of_next result) self.new.place }
         ensures follows { Follows NextCall self.old.place (reply_of_next result) self.new.place }
+        ensures rest { (self.new.capacity ≡ self.old.capacity) × (self.new.executor ≡ self.old.executor) }
         ensures open { IsClosed self.new.place → ⊥ }
         ensures armed { OnPending result (IsArmed cx.new) }
         ensures kept { Keeps cx.old cx.new }
@@ -547,6 +566,7 @@ impl<T: Seek + Drop, I: Drop, J: Job + Carries<SeekJob<T, H>>, H: Runtime> Async
         requires { IsClosed self.old.place → ⊥ }
         ensures refused { KeepsRefused self.old.place (reply_of_seek result) self.new.place }
         ensures follows { Follows (SeekCall (position_of to)) self.old.place (reply_of_seek result) self.new.place }
+        ensures rest { (self.new.capacity ≡ self.old.capacity) × (self.new.executor ≡ self.old.executor) }
         ensures open { IsClosed self.new.place → ⊥ }
         ensures armed { OnPending result (IsArmed cx.new) }
         ensures kept { Keeps cx.old cx.new }

@@ -87,6 +87,9 @@ impl<
         ensures follows { Follows (OperateCall (has_begun self.old.operation.stage)) self.old.owner.now.place
             (reply_of_operate result) self.new.owner.now.place }
         ensures refused { KeepsRefused self.old.owner.now.place (reply_of_operate result) self.new.owner.now.place }
+        ensures owner { self.new.owner.ghost_name ≡ self.old.owner.ghost_name }
+        ensures rest { (self.new.owner.now.capacity ≡ self.old.owner.now.capacity)
+            × (self.new.owner.now.executor ≡ self.old.owner.now.executor) }
         ensures value { IfReady result (OperationGives F.may_give self.old.operation.stage) }
         ensures taken { IfReady result (λ _. is_over self.new.operation.stage ≡ true) }
         ensures again { OnPending result (is_over self.new.operation.stage ≡ false) }

@@ -1,5 +1,6 @@
 //! Sessions whose memory or whose first worker is refused. `rt try --test --fail-alloc N` refuses the Nth piece that a test asks for:
 //! the test here ends as without, whichever it is, and says what came of it.
+use crate::places::{self, Step as PlaceStep, Way};
 use crate::reader::Given::Bytes;
 use crate::scene::Sight::Bytes as Shows;
 use crate::scene::Step::{Begin, Debug, Read, Rests};
@@ -7,6 +8,7 @@ use crate::scene::{Row, first_wrong};
 use crate::writer::Plan;
 use crate::writes::Sight::{Count, Done};
 use crate::writes::{self, ALL, Step as WriteStep};
+use std::io::SeekFrom;
 use std::test::Fail;
 
 const REFUSED: Row = Row {
@@ -62,5 +64,37 @@ fn each_piece_refused_after_a_write(rt: HostRuntime) -> Result<(), Fail> {
         }
     };
     assert_eq!(rt; wrong, None, "{}", REFUSED_AFTER_A_WRITE.name);
+    Ok(())
+}
+
+// Each kind of session stops one of another kind.
+const REFUSED_IN_TURN: &[PlaceStep] = &[
+    PlaceStep::Seek(SeekFrom::Start(7), 7),
+    PlaceStep::Item(7),
+    PlaceStep::Seek(SeekFrom::Start(7), 7),
+    PlaceStep::Jump(3, 7),
+    PlaceStep::Byte(3),
+    PlaceStep::Jump(9, 1000),
+    PlaceStep::Write(b"ab"),
+    PlaceStep::Seek(SeekFrom::Current(0), 11),
+    PlaceStep::Write(b"cd"),
+    PlaceStep::Jump(12, 13),
+    PlaceStep::Item(b'd'),
+];
+
+#[test]
+fn each_piece_refused_in_turn(rt: HostRuntime) -> Result<(), Fail> {
+    let wrong = match places::first_wrong(rt, Way::MayBeRefused, REFUSED_IN_TURN) {
+        Ok(wrong) => wrong,
+        Err(_) => {
+            println!(rt; "refused: a piece of the scene's own")?;
+            places::first_wrong(rt, Way::MayBeRefused, REFUSED_IN_TURN)?
+        }
+    };
+    assert_eq!(rt;
+        wrong,
+        None,
+        "each kind of session stops one of another kind, and may be refused"
+    );
     Ok(())
 }

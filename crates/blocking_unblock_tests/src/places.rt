@@ -1,14 +1,19 @@
 //! Seeks and operations on a handle that can be kept from going on, and reads after them.
 use crate::kinds::Kinds;
 use crate::reader::comes;
-use blocking::{AsyncReadExt, AsyncSeek, AsyncSeekExt, Executor, Host, Runtime, Unblock};
+use crate::writes::Came;
+use blocking::{
+    AsyncReadExt, AsyncSeek, AsyncSeekExt, AsyncWriteExt, Executor, Host, IoFault, Runtime, Unblock,
+};
 use blocking_core::io::Fault;
+use blocking_core::pool::{Refusal, Refused};
 use blocking_core::task::CallOn;
-use futures::Future;
 use futures::executor::block_on;
 use futures::test::MockTask;
+use futures::{Future, StreamExt};
+use std::alloc::Global;
 use std::fmt::{Debug, Formatter};
-use std::io::{Cursor, Read, Seek, SeekFrom};
+use std::io::{Cursor, Read, Seek, SeekFrom, Write};
 use std::sync::Arc;
 use std::sync::atomic::{AtomicBool, AtomicUsize, Ordering};
 use std::test::Fail;
@@ -36,9 +41,48 @@ pub(crate) struct Gated {
     gate: Arc<Gate>,
 }
 
+impl Gated {
+    // A new one, at its start.
+    fn new(alloc: Global, gate: Arc<Gate>) -> io::Result<Gated> {
+        let mut bytes = Vec::with_capacity(alloc, 1000)?;
+        let mut byte = 0u8;
+        for _ in 0..1000 {
+            bytes.push(byte)?;
+            byte = byte.wrapping_add(1);
+        }
+        Ok(Gated {
+            cursor: Cursor::new(bytes),
+            gate,
+        })
+    }
+}
+
 impl Read for Gated {
     fn read(&mut self, buf: &mut [u8]) -> io::Result<usize> {
         self.cursor.read(buf)
+    }
+}
+
+impl Write for Gated {
+    fn write(&mut self, buf: &[u8]) -> io::Result<usize> {
+        self.cursor.write(buf)
+    }
+
+    fn flush(&mut self) -> io::Result<()> {
+        self.cursor.flush()
+    }
+}
+
+// Byte by byte.
+impl Iterator for Gated {
+    type Item = u8;
+
+    fn next(&mut self) -> Option<u8> {
+        let mut one = [0u8; 1];
+        match self.cursor.read(&mut one) {
+            Ok(1) => Some(one[0]),
+            _ => None,
+        }
     }
 }
 
@@ -76,7 +120,7 @@ impl CallOn<Gated> for Jump {
 
 // What is done, and what of it has to be seen.
 #[derive(Clone, Copy)]
-enum Step {
+pub(crate) enum Step {
     // A seek, and where the handle is then.
     Seek(SeekFrom, u64),
     // A seek that is polled once, while the handle can't go on, and given up.
@@ -85,8 +129,16 @@ enum Step {
     Jump(u64, u64),
     // An operation that is polled once, while the handle can't go on, and given up.
     BeginJump(u64),
-    // The next byte.
+    // The next byte that is read.
     Byte(u8),
+    // The next item.
+    Item(u8),
+    // Bytes that are taken for writing.
+    Write(&'static [u8]),
+    // A read, a write, or a call for an item, whose session is refused for want of memory.
+    RefusedRead,
+    RefusedWrite,
+    RefusedItem,
     // How often the handle was moved.
     Moves(usize),
     // The text of the owner.
@@ -145,7 +197,9 @@ const ROWS: &[(&str, &[Step])] = &[
     ),
 ];
 
-type Owner<H> = Unblock<Gated, u8, Kinds<Gated, Jump, H>, H>;
+type Jobs<H> = Kinds<Gated, u8, Jump, H>;
+
+type Owner<H> = Unblock<Gated, u8, Jobs<H>, H>;
 
 // Whether a seek that is polled once waits, while the handle can't go on.
 fn begins_seek<H: Host>(
@@ -175,56 +229,138 @@ fn begins_jump<H: Host>(rt: H, owner: &mut Owner<H>, gate: &Gate, to: u64) -> io
     Ok(waits)
 }
 
-// Whether the next byte is this one.
-fn reads<H: Host>(rt: H, owner: &mut Owner<H>, byte: u8) -> io::Result<bool> {
+// A call that failed: its session was refused, or it answers wrongly.
+fn failed(why: IoFault) -> Came {
+    match why {
+        Fault::Refused(why) => Came::Refused(why),
+        _ => Came::Wrong,
+    }
+}
+
+// Whether the next byte that is read is this one.
+fn reads<H: Host>(rt: H, owner: &mut Owner<H>, byte: u8) -> io::Result<Came> {
     if owner.is_closed() {
-        return Ok(false);
+        return Ok(Came::Wrong);
     }
     let mut one = [0u8; 1];
     let read = block_on(&rt, owner.read(&mut one))?;
-    Ok(matches!(read, Ok(1)) && one == [byte])
+    Ok(match read {
+        Ok(count) => Came::if_right(count == 1 && one == [byte]),
+        Err(why) => failed(why),
+    })
+}
+
+// Whether the next item is this one.
+fn gets<H: Host>(rt: H, owner: &mut Owner<H>, item: u8) -> io::Result<Came> {
+    if owner.is_closed() {
+        return Ok(Came::Wrong);
+    }
+    Ok(match block_on(&rt, owner.next())? {
+        Some(Ok(came)) => Came::if_right(came == item),
+        Some(Err(why)) => Came::Refused(why),
+        None => Came::Wrong,
+    })
+}
+
+// Whether these bytes are taken for writing.
+fn writes<H: Host>(rt: H, owner: &mut Owner<H>, bytes: &[u8]) -> io::Result<Came> {
+    if owner.is_closed() {
+        return Ok(Came::Wrong);
+    }
+    Ok(match block_on(&rt, owner.write_all(bytes))? {
+        Ok(()) => Came::Right,
+        Err(why) => failed(why),
+    })
 }
 
 // Whether a seek comes to this place.
-fn seeks<H: Host>(rt: H, owner: &mut Owner<H>, to: SeekFrom, place: u64) -> io::Result<bool> {
+fn seeks<H: Host>(rt: H, owner: &mut Owner<H>, to: SeekFrom, place: u64) -> io::Result<Came> {
     if owner.is_closed() {
-        return Ok(false);
+        return Ok(Came::Wrong);
     }
-    Ok(matches!(block_on(&rt, owner.seek(to))?, Ok(came) if came == place))
+    Ok(match block_on(&rt, owner.seek(to))? {
+        Ok(came) => Came::if_right(came == place),
+        Err(why) => failed(why),
+    })
 }
 
-// Whether an operation tells that the handle was there before.
-fn jumps<H: Host>(rt: H, owner: &mut Owner<H>, to: u64, before: u64) -> io::Result<bool> {
+// Whether an operation tells that the handle was there before, or is handed back.
+fn jumps<H: Host>(rt: H, owner: &mut Owner<H>, to: u64, before: u64) -> io::Result<Came> {
     if owner.is_closed() {
-        return Ok(false);
+        return Ok(Came::Wrong);
     }
-    Ok(matches!(block_on(&rt, owner.with_mut(Jump { to }))?, Ok(came) if came == before))
+    Ok(match block_on(&rt, owner.with_mut(Jump { to }))? {
+        Ok(came) => Came::if_right(came == before),
+        Err(Refused { back, why }) if back.to == to => Came::Refused(why),
+        Err(_) => Came::Wrong,
+    })
 }
 
-// Whether a step shows what it must.
-fn shows<H: Host>(rt: H, owner: &mut Owner<H>, gate: &Gate, step: Step) -> io::Result<bool> {
+// Whether the owner has this text.
+fn says<H: Host>(rt: H, owner: &Owner<H>, text: &str) -> io::Result<bool> {
+    Ok(format!(in rt.alloc(); "{owner:?}")?.as_str() == text)
+}
+
+// How what a step shows fits.
+fn shows<H: Host>(rt: H, owner: &mut Owner<H>, gate: &Gate, step: Step) -> io::Result<Came> {
     match step {
         Step::Seek(to, place) => seeks(rt, owner, to, place),
-        Step::BeginSeek(to) => begins_seek(rt, owner, gate, to),
         Step::Jump(to, before) => jumps(rt, owner, to, before),
-        Step::BeginJump(to) => begins_jump(rt, owner, gate, to),
         Step::Byte(byte) => reads(rt, owner, byte),
-        Step::Moves(moves) => Ok(gate.moves.load(Ordering::SeqCst) == moves),
-        Step::Debug(text) => Ok(format!(in rt.alloc(); "{owner:?}")?.as_str() == text),
+        Step::Item(item) => gets(rt, owner, item),
+        Step::Write(bytes) => writes(rt, owner, bytes),
+        Step::RefusedRead => Ok(is_refused(reads(rt, owner, 0)?)),
+        Step::RefusedWrite => Ok(is_refused(writes(rt, owner, b"a")?)),
+        Step::RefusedItem => Ok(is_refused(gets(rt, owner, 0)?)),
+        Step::BeginSeek(to) => Ok(Came::if_right(begins_seek(rt, owner, gate, to)?)),
+        Step::BeginJump(to) => Ok(Came::if_right(begins_jump(rt, owner, gate, to)?)),
+        Step::Moves(moves) => Ok(Came::if_right(gate.moves.load(Ordering::SeqCst) == moves)),
+        Step::Debug(text) => Ok(Came::if_right(says(rt, owner, text)?)),
     }
 }
 
-// The place of the first step that shows something else, if there is one.
-fn first_wrong<H: Host>(rt: H, steps: &[Step]) -> io::Result<Option<usize>> {
-    let Ok(executor) = Executor::<Kinds<Gated, Jump, H>, H>::new(rt, Some("1")) else {
+// That a session was refused for want of memory is right.
+fn is_refused(came: Came) -> Came {
+    Came::if_right(matches!(came, Came::Refused(Refusal::Memory)))
+}
+
+// Whether a step shows what it must. A session may be refused once: that is printed, the owner has its handle, and it tries once more.
+fn is_shown<H: Host + Print>(
+    rt: H,
+    owner: &mut Owner<H>,
+    gate: &Gate,
+    step: Step,
+) -> io::Result<bool> {
+    match shows(rt, owner, gate, step)? {
+        Came::Refused(why) => {
+            println!(rt; "refused: {why}")?;
+            Ok(
+                !says(rt, owner, "Unblock { io: <blocked> }")?
+                    && shows(rt, owner, gate, step)?.is_right(),
+            )
+        }
+        came => Ok(came.is_right()),
+    }
+}
+
+/// How an owner's steps are played: how much the pipes of its sessions hold, and whether its sessions may be refused, each once.
+#[derive(Clone, Copy)]
+pub(crate) enum Way {
+    Default,
+    // As much as no memory does.
+    TooMuch,
+    MayBeRefused,
+}
+
+/// The place of the first step that shows something else than it must, if there is one.
+pub(crate) fn first_wrong<H: Host + Print>(
+    rt: H,
+    way: Way,
+    steps: &[Step],
+) -> io::Result<Option<usize>> {
+    let Ok(executor) = Executor::<Jobs<H>, H>::new(rt, Some("1")) else {
         return Err(io::Error::from(io::ErrorKind::Other));
     };
-    let mut bytes = Vec::with_capacity(rt.alloc(), 1000)?;
-    let mut byte = 0u8;
-    for _ in 0..1000 {
-        bytes.push(byte)?;
-        byte = byte.wrapping_add(1);
-    }
     let gate = Arc::new(
         rt.alloc(),
         Gate {
@@ -232,13 +368,17 @@ fn first_wrong<H: Host>(rt: H, steps: &[Step]) -> io::Result<Option<usize>> {
             moves: AtomicUsize::new(0),
         },
     )?;
-    let handle = Gated {
-        cursor: Cursor::new(bytes),
-        gate: Arc::try_clone(&gate)?,
+    let handle = Gated::new(rt.alloc(), Arc::try_clone(&gate)?)?;
+    let mut owner = match way {
+        Way::TooMuch => Unblock::with_capacity(usize::MAX, executor, handle),
+        Way::Default | Way::MayBeRefused => Unblock::new(executor, handle),
     };
-    let mut owner = Unblock::new(executor, handle);
     for (place, step) in steps.iter().enumerate() {
-        if !shows(rt, &mut owner, &gate, *step)? {
+        let is_right = match way {
+            Way::MayBeRefused => is_shown(rt, &mut owner, &gate, *step)?,
+            Way::Default | Way::TooMuch => shows(rt, &mut owner, &gate, *step)?.is_right(),
+        };
+        if !is_right {
             return Ok(Some(place));
         }
     }
@@ -248,7 +388,62 @@ fn first_wrong<H: Host>(rt: H, steps: &[Step]) -> io::Result<Option<usize>> {
 #[test]
 fn seeks_and_operations(rt: HostRuntime) -> Result<(), Fail> {
     for (name, steps) in ROWS {
-        let wrong = first_wrong(rt, steps)?;
+        let wrong = first_wrong(rt, Way::Default, steps)?;
+        assert_eq!(rt; wrong, None, "{name}");
+    }
+    Ok(())
+}
+
+// A pipe that would hold as much as no memory does.
+const REFUSED_ROWS: &[(&str, &[Step])] = &[
+    (
+        "a read, a write and a call for an item are refused, and leave the handle where it is",
+        &[
+            Step::RefusedRead,
+            Step::Debug("Unblock { io: at 0 }"),
+            Step::RefusedWrite,
+            Step::Debug("Unblock { io: at 0 }"),
+            Step::RefusedItem,
+            Step::Debug("Unblock { io: at 0 }"),
+            Step::Moves(0),
+        ],
+    ),
+    (
+        "they stop a seek first, and are refused then",
+        &[
+            Step::BeginSeek(SeekFrom::Start(3)),
+            Step::RefusedRead,
+            Step::Debug("Unblock { io: at 3 }"),
+            Step::BeginSeek(SeekFrom::Current(3)),
+            Step::RefusedWrite,
+            Step::Debug("Unblock { io: at 6 }"),
+            Step::BeginSeek(SeekFrom::Current(3)),
+            Step::RefusedItem,
+            Step::Debug("Unblock { io: at 9 }"),
+            Step::Seek(SeekFrom::Current(3), 12),
+        ],
+    ),
+    (
+        "they stop an operation first, and are refused then",
+        &[
+            Step::BeginJump(3),
+            Step::RefusedRead,
+            Step::Debug("Unblock { io: at 3 }"),
+            Step::BeginJump(6),
+            Step::RefusedWrite,
+            Step::Debug("Unblock { io: at 6 }"),
+            Step::BeginJump(9),
+            Step::RefusedItem,
+            Step::Debug("Unblock { io: at 9 }"),
+            Step::Jump(12, 9),
+        ],
+    ),
+];
+
+#[test]
+fn sessions_without_memory(rt: HostRuntime) -> Result<(), Fail> {
+    for (name, steps) in REFUSED_ROWS {
+        let wrong = first_wrong(rt, Way::TooMuch, steps)?;
         assert_eq!(rt; wrong, None, "{name}");
     }
     Ok(())

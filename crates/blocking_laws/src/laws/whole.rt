@@ -42,7 +42,8 @@ pub fn writing_behind()
     ensures { (setting : ℕ) (plan : List Bool) (past : List Moment) → Legal setting plan past → AllWriteBehind past }
 {}
 
-/// What an owner sees depends on no other owner: where no new job was refused, the cut of each owner is what it might have seen alone.
+/// What an owner sees rests on itself and on its own jobs: where no new job was refused, the cut of each owner keeps that owner's laws,
+/// which name no other.
 ///
 /// A cut keeps the order: what is cut of events with the oldest first, as worlds tell them, is in reverse what is cut of the past.
 pub fn independence()

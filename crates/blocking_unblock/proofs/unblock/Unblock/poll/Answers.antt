@@ -1,7 +1,7 @@
 use Rattle.std.proofs.Common.{◌∙◌, sym, refl, subst, []}
 use Rattle.blocking_core.specs.declared.unblock.PollCall.{PollCall}
 use Rattle.blocking_unblock.specs.Polls.{KeepsOpen}
-use Rattle.blocking_unblock.proofs.Turns.{closes_only, first_brought, first_kept, first_stands, open_on, reaches_on, refused_by, same_open, stays_closed}
+use Rattle.blocking_unblock.proofs.Turns.{at_once_kept, closes_only, first_brought, first_kept, first_stands, none_going, open_on, reaches_on, refused_by, same_open, stays_closed}
 use Rattle.blocking_unblock.proofs.unblock.Unblock.poll.Goals as goal
 
 pub loop-init : goal.loop-init
@@ -16,6 +16,9 @@ loop-init g c = (
   refl,
   λ idle. first_kept _ _ _ _ c.new-poll.ensures c.state.ensures idle,
   first_brought g.B.Lends.keeps c.new-poll.result.call c.new-poll.result.next c.args.brought.now,
+  λ at_once. (refl, refl),
+  refl,
+  refl,
 )
 
 pub loop-preserved : goal.loop-preserved
@@ -31,6 +34,9 @@ loop-preserved g c = (
   c.turn.ensures.same_length ∙ c.loop.invariant.7,
   λ idle. c.turn.ensures.keeps _ (c.loop.invariant.8 idle),
   c.turn.ensures.brings _ c.loop.invariant.9,
+  λ at_once. absurd (none_going _ _ c.turn.ensures.went (c.loop.invariant.10 at_once).0 at_once),
+  c.turn.ensures.rest.0 ∙ c.loop.invariant.11,
+  c.turn.ensures.rest.1 ∙ c.loop.invariant.12,
 )
 
 pub returns-in-Reply-clause-refused : goal.returns-in-Reply-clause-refused
@@ -48,3 +54,9 @@ returns-in-Pending-clause-closed g c = stays_closed _ c.loop.poll _ _ _ _ c.new-
 
 pub returns-in-Pending-clause-closes : goal.returns-in-Pending-clause-closes
 returns-in-Pending-clause-closes g c = closes_only _ c.loop.poll _ _ _ _ c.new-poll.ensures c.state.ensures c.loop.invariant.2.at c.loop.invariant.5
+
+pub returns-in-Reply-clause-at_once : goal.returns-in-Reply-clause-at_once
+returns-in-Reply-clause-at_once g c = at_once_kept _ _ _ _ _ _ c.new-poll.ensures c.state.ensures c.loop.invariant.10
+
+pub returns-in-Pending-clause-at_once : goal.returns-in-Pending-clause-at_once
+returns-in-Pending-clause-at_once g c = at_once_kept _ _ _ _ _ _ c.new-poll.ensures c.state.ensures c.loop.invariant.10

@@ -1,7 +1,7 @@
 use Rattle.std.proofs.Common.{◌≡◌, length}
 use Rattle.blocking_core.specs.declared.unblock.State.TheVariants.{Idle}
 use Rattle.futures.specs.Task.{IsArmed, Keeps}
-use Rattle.blocking_unblock.specs.Owners.{IsAt, Reaches}
+use Rattle.blocking_unblock.specs.Owners.{HasReply, IsAt, Reaches}
 use Rattle.blocking_unblock.specs.Polls.{Stands, KeepsFirst, KeepsBrought, KeepsOpen}
 use Rattle.blocking_unblock.proofs.unblock.Unblock.poll.Given as goal
 
@@ -16,3 +16,6 @@ invariant-loop g l =
     × (length l.out ≡ length l.initial.out)
     × (IsAt Idle l.initial.self.place → KeepsFirst l.poll.call l.poll.state l.poll.next l.poll.is_at_end l.self.place l.initial.self.place)
     × KeepsBrought g.B.Lends.keeps l.poll.call l.poll.next l.brought l.initial.brought
+    × (HasReply l.initial.poll.next → (l.poll.next ≡ l.initial.poll.next) × (l.self.place ≡ l.initial.self.place))
+    × (l.self.capacity ≡ l.initial.self.capacity)
+    × (l.self.executor ≡ l.initial.self.executor)
