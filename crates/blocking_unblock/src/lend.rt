@@ -171,9 +171,8 @@ impl<T: Write + Drop, I: Drop, J: Job + Carries<WriteJob<T, H>>, H: Runtime> Len
             session,
             end,
             link,
-            piece,
         } = parts;
-        match enter(executor, WriteJob::new(rt, handle, piece, end, link)) {
+        match enter(executor, WriteJob::new(rt, handle, end, link)) {
             Ok(()) => Ok(session),
             Err(Refused { back, why }) => match back.into_writer() {
                 Some(back) => Err(Refused { back, why }),
