@@ -44,6 +44,14 @@ module _ {X : Type 0} (holds : ℕ → X → Type 0) where
       let here : n + (count + i) ≡ n + count + i = omega arith in
       subst (λ place. holds place x) here (held (count + i) x (sym (slice_get-drop count items i (count + i) refl) ∙ at))
 
+  -- of those that are left some more go
+  pub hold_more : (n m gone count : ℕ) (items : List X) → m ≡ n + count → HoldFrom holds n (drop gone items) → HoldFrom holds m (drop (gone + count) items)
+  hold_more n m gone count items is held i x at =
+      let place : n + (count + i) ≡ m + i = omega (arith, is) in
+      let there = slice_get-drop items (gone + count) i (gone + (count + i)) (omega arith) in
+      let here = slice_get-drop items gone (count + i) (gone + (count + i)) refl in
+      subst (λ k. holds k x) place (held (count + i) x (here ∙ sym there ∙ at))
+
   -- items that join at the end hold from there on
   pub hold_joined : (n m : ℕ) (items more : List X) → m ≡ n + length items → HoldFrom holds n items → HoldFrom holds m more → HoldFrom holds n (items ++ more)
   hold_joined n m items more is held also i x at = by (slice_get_cases items i).1 where
@@ -186,9 +194,11 @@ module _ {X : Type 0} (holds : ℕ → X → Type 0) (ended : ℕ → Type 0) wh
         → (is_open ≡ new.pipe.is_owner_open) × IsKept holds ended new.pipe.items sent (received + new.lent) new.pipe.is_owner_open
     lent_kept old new me (peeking.Some n) piece sent received is_open lends none same kept =
         let here : received + old.lent ≡ received = omega (arith, none) in
-        subst (λ p. (is_open ≡ p.pipe.is_owner_open) × IsKept holds ended p.pipe.items sent (received + p.lent) p.pipe.is_owner_open) (sym lends.3)
-        (same, left_kept old.pipe.items sent received n old.pipe.is_owner_open lends.1
-            (subst (λ m. IsKept holds ended old.pipe.items sent m old.pipe.is_owner_open) here kept))
+        subst (λ p. (is_open ≡ p.pipe.is_owner_open) × IsKept holds ended p.pipe.items sent (received + p.lent) p.pipe.is_owner_open) (sym lends.3) (
+          same,
+          left_kept old.pipe.items sent received n old.pipe.is_owner_open lends.1
+              (subst (λ m. IsKept holds ended old.pipe.items sent m old.pipe.is_owner_open) here kept),
+        )
     lent_kept old new me peeking.Parked piece sent received is_open lends none same kept =
         subst (λ p. (is_open ≡ p.pipe.is_owner_open) × IsKept holds ended p.pipe.items sent (received + p.lent) p.pipe.is_owner_open) (sym lends.2)
         (same, kept)

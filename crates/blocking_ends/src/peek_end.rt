@@ -26,6 +26,12 @@ pub struct PeekEnd<X: Drop, R: PlaceRule<X>, H: Wait + Copy> {
     rt: H,
 }
 
+// What came of a consume: the waker of an owner who waited, and how many items were consumed until then.
+struct Parted {
+    waker: Option<OwnerWaker>,
+    received: u64,
+}
+
 impl<X: Drop, R: PlaceRule<X>, H: Wait + Copy> Model for PeekEnd<X, R, H> {
     ghost use Rattle.std.specs.Prelude.{◌<◌, ◌≤◌, drop, vec_len, vec_capacity};
     ghost use Rattle.blocking_ends.specs.Counted.{Peeking, peeking_code};
@@ -70,24 +76,35 @@ impl<X: Drop, R: PlaceRule<X>, H: Wait + Copy> PeekEnd<X, R, H> {
         &self.piece[self.gone..]
     }
 
+    // Lets items go under the lock, where so many are lent.
+    fn part(&self, lent: usize, count: usize) -> Parted
+        requires { count ≤ lent }
+        ensures { result.received ≡ self.now.received + count }
+    {
+        for _ in self.rt.forever() {
+            let mut pipe = enter(&self.pipe, &self.rt);
+            if pipe.received() == self.received && pipe.lent() == lent {
+                let waker = pipe.consume(count);
+                let received = pipe.received();
+                return Parted { waker, received };
+            }
+        }
+        unreachable!()
+    }
+
     /// Lets the first `count` items go, of those that the last peek showed and that weren't consumed since. Answers the waker of an
     /// owner who waits.
+    #[tactic(auto, using(crate::proofs::Kept::hold_more))]
     pub fn consume(&mut self, count: usize) -> Option<OwnerWaker>
         requires { count ≤ length self.old.shown }
         ensures received { self.new.received ≡ self.old.received + count }
         ensures shown { self.new.shown ≡ drop count self.old.shown }
     {
-        for _ in self.rt.forever() {
-            let mut pipe = enter(&self.pipe, &self.rt);
-            if pipe.received() != self.received || pipe.lent() != self.piece.len() - self.gone {
-                continue;
-            }
-            let waker = pipe.consume(count);
-            self.received = pipe.received();
-            self.gone += count;
-            return waker;
-        }
-        unreachable!()
+        let left = self.piece.len() - self.gone;
+        let parted = self.part(left, count);
+        self.received = parted.received;
+        self.gone += count;
+        parted.waker
     }
 
     /// Closes this end: nothing more is sent. Answers the waker of an owner who waits.

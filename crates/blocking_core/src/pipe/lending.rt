@@ -146,9 +146,15 @@ impl<X: Drop, W: Drop> LendingPipe<X, W> {
         ensures left { OnFalse result ((ready.new.items ≡ ready.old.items) × (self.new ≡ self.old)) }
     {
         let count = ready.len();
-        if count == 0 || count > self.room() || self.pipe.len() > 0 || self.pieces.is_full() {
+        if count == 0 || count > self.room() || self.pipe.len() > 0 {
             return false;
         }
+        if self.pieces.len() >= self.pieces.capacity() {
+            return false;
+        }
+        let Some(queued) = self.queued.checked_add(count) else {
+            return false;
+        };
         let Some(mut next) = self.spent.pop() else {
             return false;
         };
@@ -157,7 +163,7 @@ impl<X: Drop, W: Drop> LendingPipe<X, W> {
         let Ok(()) = self.pieces.try_push_back(Piece { items }) else {
             unreachable!()
         };
-        self.queued += count;
+        self.queued = queued;
         true
     }
 }
