@@ -16,7 +16,7 @@ use Rattle.blocking_laws.specs.Answers.{wait_act}
 use Rattle.blocking_laws.specs.Jobs.{lets_go}
 use Rattle.blocking_laws.specs.Seen.{has_timed_out}
 use Rattle.blocking_laws.specs.declared.event.Act.{Act}
-use Rattle.blocking_laws.specs.declared.event.Act.TheVariants.{Made, Asked, OwnerClosed, Got, GotItem, GotEnd, Filled, FillShut, Back, Replied, Accepted, Refused, JobWoken, JobCancelled, LimitSet, Swept, Waits, TaskGot, TaskGotNone, TaskDetached, Arrived, Took, TookDropped, TookNone, Ended, HandedOut, NoAction}
+use Rattle.blocking_laws.specs.declared.event.Act.TheVariants.{Made, Asked, OwnerClosed, Got, GotItem, GotEnd, Filled, FillShut, Back, ResultGot, Replied, Accepted, Refused, JobWoken, JobCancelled, LimitSet, Swept, Waits, TaskGot, TaskGotNone, TaskDetached, Arrived, Took, TookDropped, TookNone, Ended, HandedOut, NoAction}
 use Rattle.blocking_laws.specs.declared.event.Event.{Event}
 use Rattle.blocking_laws.specs.declared.event.Party.{Party}
 use Rattle.blocking_laws.specs.declared.event.Party.TheVariants.{Worker, Pool}
@@ -253,6 +253,7 @@ is_aside GotEnd = true
 is_aside (Filled n told) = true
 is_aside FillShut = true
 is_aside Back = true
+is_aside (ResultGot n) = true
 is_aside (Replied reply) = true
 is_aside Waits = true
 is_aside (TaskGot n) = true

@@ -6,6 +6,7 @@ pub mod Reads
 pub mod Writes
 pub mod Streams
 pub mod Seeks
+pub mod Operations
 pub mod SessionJobs
 pub mod Passages
 pub mod Sessions

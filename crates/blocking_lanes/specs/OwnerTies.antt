@@ -2,7 +2,7 @@
 use Rattle.std.specs.Prelude.{◌≡◌, ◌<◌, ◌≤◌, ◌+◌, ◌⊎◌, ◌||◌, ℕ, zero, suc, not, Bool, true, false, List, [], ◌∷◌, ◌++◌, length, take, slice_get, Option, Some, None, is_some, is_none}
 use Rattle.blocking_core.specs.OwnerCalls.{OwnerMachine, has_pipe}
 use Rattle.blocking_core.specs.Pipes.{room}
-use Rattle.blocking_core.specs.Slots.{Content, Empty, Full, GivenUp, Abandoned}
+use Rattle.blocking_core.specs.Slots.{Slot, Content, Empty, Full, GivenUp, Abandoned}
 use Rattle.blocking_core.specs.declared.io.Fault.{Fault}
 use Rattle.blocking_core.specs.declared.unblock.OwnerAction.{OwnerAction}
 use Rattle.blocking_core.specs.declared.unblock.OwnerAction.TheVariants as action
@@ -15,20 +15,20 @@ use Rattle.blocking_core.specs.declared.unblock.SessionKind.TheVariants as sessi
 use Rattle.blocking_core.specs.declared.unblock.State.{State}
 use Rattle.blocking_core.specs.declared.unblock.State.TheVariants as state
 use Rattle.blocking_laws.specs.Ends.{handle_answers, has_failure, has_failed_write, has_flush, last_is_end, came_back, IsReadBack, IsFlushedBack}
-use Rattle.blocking_laws.specs.JobTable.{Kind, Reading, Writing, Streaming, Seeking, Operating, JobAction, FindRoom, AskBytes, PutPiece, Peek, OfferBytes, Consume, AskFlush, AskItem, SendItem, CloseEnd, Finish, Over, next_but_wake, is_over, fault, has_closed, has_finished, has_given_up, AskSeek, number}
+use Rattle.blocking_laws.specs.JobTable.{Kind, Reading, Writing, Streaming, Seeking, Operating, JobAction, FindRoom, AskBytes, PutPiece, Peek, OfferBytes, Consume, AskFlush, AskItem, SendItem, CloseEnd, AskResult, PutResult, Finish, Over, next_but_wake, is_over, fault, has_closed, has_result, has_finished, has_given_up, AskSeek, number}
 use Rattle.blocking_laws.specs.Jobs.{holder}
 use Rattle.blocking_laws.specs.OwnerLaws.{OwnerLaws}
-use Rattle.blocking_laws.specs.OwnerSeats.{is_job_seated, pipe_seat, slot_seat}
+use Rattle.blocking_laws.specs.OwnerSeats.{is_job_seated, pipe_seat, result_seat, slot_seat}
 use Rattle.blocking_laws.specs.OwnerTable.{owner_next_but_wake, note_in, is_at_end}
 use Rattle.blocking_laws.specs.OwnerTable as law
 use Rattle.blocking_laws.specs.Passed.{gave, got, answered, was_put, data_of, accepted, peeked, taken as taken_by, removed, kind_in, is_serial}
 use Rattle.blocking_laws.specs.Seen.{IsBeginning, events, acts_of, own, cut}
-use Rattle.blocking_laws.specs.Sessions.{call, under_way, is_made, is_dropped, last_session, is_shut, jobs_of, kind_of_job, capacity}
+use Rattle.blocking_laws.specs.Sessions.{call, under_way, is_made, is_dropped, is_into_inner, is_operation, is_owner_gone, has_begun, was_asked_inner, last_session, is_shut, jobs_of, kind_of_job, capacity}
 use Rattle.blocking_laws.specs.Sessions as sessions
-use Rattle.blocking_laws.specs.Steps.{owners, is_known}
+use Rattle.blocking_laws.specs.Steps.{owners}
 use Rattle.blocking_laws.specs.Wakes.{is_waiting, was_woken}
 use Rattle.blocking_laws.specs.declared.event.Act.{Act}
-use Rattle.blocking_laws.specs.declared.event.Act.TheVariants.{Asked}
+use Rattle.blocking_laws.specs.declared.event.Act.TheVariants.{Accepted, ResultGot}
 use Rattle.blocking_laws.specs.declared.event.Event.{Event}
 use Rattle.blocking_laws.specs.declared.event.Moment.{Moment}
 use Rattle.blocking_laws.specs.declared.event.Party.TheVariants.{Owner as ByOwner}
@@ -36,10 +36,12 @@ use Rattle.blocking_laws.specs.declared.event.Reply.{Reply as Told}
 use Rattle.blocking_laws.specs.declared.event.Reply.TheVariants as told
 use Rattle.blocking_laws.specs.declared.step.HandleCall.{HandleCall}
 use Rattle.blocking_laws.specs.declared.step.HandleCall.TheVariants as handle_call
-use Rattle.blocking_lanes.specs.Owners.{Owner, capacity_of, number_of, note_at, is_gone, poll_call_of, reply_as, item_in}
+use Rattle.blocking_lanes.specs.Owners.{Owner, capacity_of, number_of, note_at, is_gone, is_no_more, poll_call_of, reply_as, item_in}
 use Rattle.blocking_lanes.specs.Sessions.{Session, goods_of}
 use Rattle.blocking_lanes.specs.declared.owner.OwnerStage.{OwnerStage}
 use Rattle.blocking_lanes.specs.declared.owner.OwnerStage.TheVariants as stage
+use Rattle.blocking_lanes.specs.declared.owner.PollEnd.{PollEnd}
+use Rattle.blocking_lanes.specs.declared.owner.PollEnd.TheVariants as poll_end
 use Rattle.blocking_pool.specs.Jobs.{JobNumber}
 use Rattle.blocking_pool.specs.Lists.{is_in}
 
@@ -75,7 +77,7 @@ abbrev pub say : Option Told → law.OwnerAction
 say None = law.Rest
 say (Some told) = law.Say told
 
--- What the machine does next that was asked for this, in the words of the laws, where this item came out last. To drop its handle is to reply that all is done. Where it
+-- What the machine does next that was asked for this, in the words of the laws, where this item or result came out last. To drop its handle is to reply that all is done. Where it
 -- would deliver or wait the law has no such thing.
 abbrev pub action_as : ℕ → HandleCall → OwnerAction ℕ → law.OwnerAction
 action_as x call action.Begin = law.Begin
@@ -94,11 +96,13 @@ abbrev pub newest_note : List Act → Option ℕ
 newest_note [] = None
 newest_note (act ∷ past) = note_in act
 
--- a reply that tells the end of the reader, or that all is done, comes after the handle came back so; one that tells a position answers a seek
+-- a reply that tells the end of the reader, or that all is done, comes after the handle came back so; one that tells a position answers a seek,
+-- and one that tells a result an operation
 abbrev pub EndAs : HandleCall → Reply ℕ → Option (List Event) → Type 0
 EndAs (handle_call.Read (suc n)) (reply.Count zero) back = IsReadBack back
 EndAs (handle_call.Seek goal) (reply.Position place) back = Unit {0}
 EndAs call (reply.Position place) back = ⊥
+EndAs call reply.Result back = is_operation (Some call) ≡ true
 EndAs handle_call.Next reply.End back = IsReadBack back
 EndAs handle_call.Flush reply.Done back = IsFlushedBack back
 EndAs handle_call.Close reply.Done back = IsFlushedBack back
@@ -123,12 +127,14 @@ LooksFrom (handle_call.Read most) (state.Lent session_kind.Reading Open) true = 
 LooksFrom handle_call.Next (state.Lent session_kind.Streaming Open) true = Unit {0}
 LooksFrom _ _ _ = ⊥
 
--- a call that begins a session reads some bytes, or writes some, or wants an item, or seeks
+-- a call that begins a session reads some bytes, or writes some, or wants an item, or seeks, or operates
 abbrev pub BeginsBy : HandleCall → Type 0
 BeginsBy (handle_call.Read (suc n)) = Unit {0}
 BeginsBy (handle_call.Write (byte ∷ bytes)) = Unit {0}
 BeginsBy handle_call.Next = Unit {0}
 BeginsBy (handle_call.Seek goal) = Unit {0}
+BeginsBy handle_call.Operate = Unit {0}
+BeginsBy handle_call.OperateAgain = Unit {0}
 BeginsBy _ = ⊥
 
 -- the handle is with a job, and there is a pipe, whose own end is open
@@ -136,9 +142,8 @@ abbrev pub IsLentOpen : State → Type 0
 IsLentOpen (state.Lent kind Open) = has_pipe kind ≡ true
 IsLentOpen _ = ⊥
 
--- whether a reply is told to those who ask an owner so far
+-- whether a reply is told to those who ask an owner
 abbrev pub is_told : Reply ℕ → Bool
-is_told reply.Result = false
 is_told reply.Closed = false
 is_told _ = true
 
@@ -153,34 +158,73 @@ FitsNext call poll (action.Fill most) ended back =
     × (poll.state ≡ state.Lent session_kind.Writing Open) × (poll.is_at_end ≡ false)
 FitsNext call poll action.Receive ended back =
     (call ≡ handle_call.Next) × (poll.state ≡ state.Lent session_kind.Streaming Open) × (poll.is_at_end ≡ false)
+FitsNext call poll action.PollResult ended back =
+    (is_operation (Some call) ≡ true) × (poll.state ≡ state.Lent session_kind.Operating Open) × (poll.is_at_end ≡ false)
 FitsNext call poll action.PollSlot ended back = LooksFrom call poll.state poll.is_at_end × (poll.is_at_end ≡ ended)
 FitsNext call poll action.DropHandle ended back = (call ≡ handle_call.Close) × (poll.state ≡ state.Idle) × IsFlushedBack back
 FitsNext call poll (action.Reply reply) ended back = (is_told reply ≡ true) × EndAs call reply back × IsGoneBy reply call poll.state
 FitsNext call poll _ ended back = ⊥
 
--- A poll that is under way, by the item that came out last, the call that was asked last, where the handle is, what is next, whether the end of the pipe was just
+-- A poll that is under way, by the item or result that came out last, the call that was asked last, where the handle is, what is next, whether the end of the pipe was just
 -- seen, and what came back in the poll.
 pub record PollAs (poll : OwnerMachine ℕ) (x : ℕ) (asked : Option HandleCall) (at : sessions.State) (next : law.OwnerAction) (ended : Bool)
     (back : Option (List Event)) : Type 0 where
   pub call : HandleCall
   pub asked_is : asked ≡ Some call
-  pub call_is : poll.call ≡ poll_call_of call
+  -- whether its session had begun before
+  pub begun : Bool
+  pub call_is : poll.call ≡ poll_call_of begun call
   pub at_is : at ≡ state_as poll.state
   pub next_is : next ≡ action_as x call poll.next
   pub fits : FitsNext call poll poll.next ended back
 
 -- where an owner is in its polls, by the same, and by the note that it has to deliver
 abbrev pub StageBy : OwnerStage → ℕ → Option HandleCall → sessions.State → law.OwnerAction → Bool → Option (List Event) → Option ℕ → Type 0
-StageBy (stage.Rests here) x asked at next ended back note = (at ≡ state_as here) × (next ≡ law.Rest) × (note ≡ None)
+StageBy (stage.Rests here end) x asked at next ended back note = (at ≡ state_as here) × (next ≡ law.Rest) × (note ≡ None)
 StageBy (stage.Polls poll) x asked at next ended back note = PollAs poll x asked at next ended back × (poll.is_waking ≡ false) × (note ≡ None)
 StageBy (stage.Wakes poll number) x asked at next ended back note =
     PollAs poll x asked at next ended back × (poll.is_waking ≡ true) × (note ≡ Some number.serial)
 StageBy stage.Dropped x asked at next ended back note = (next ≡ law.Rest) × (note ≡ None)
+StageBy stage.TakenBack x asked at next ended back note = (next ≡ law.Rest) × (note ≡ None)
 
 abbrev pub StageAs : OwnerStage → ℕ → List Event → Type 0
 StageAs here x cut =
     StageBy here x (call (own cut)) (sessions.state (own cut)) (owner_next_but_wake cut (own cut)) (is_at_end (own cut)) (came_back cut)
     (newest_note (own cut))
+
+-- ---- its operations
+
+-- whether the result of the last session's operation came out of its place
+abbrev pub has_found : List Act → Bool
+has_found [] = false
+has_found (Accepted s ∷ past) = false
+has_found (ResultGot n ∷ past) = true
+has_found (_ ∷ past) = has_found past
+
+-- An operation looks for its result once its session has begun, and until that was found; what it does before that it does where its session
+-- hasn't begun.
+abbrev pub IsOperating : OwnerAction ℕ → Bool → Bool → Bool → Type 0
+IsOperating action.PollResult operates begun found = (begun ≡ true) × (found ≡ false)
+IsOperating (action.Reply reply) operates begun found = Unit {0}
+IsOperating _ operates begun found = operates ≡ true → begun ≡ false
+
+-- How the last poll ended. An operation that waits elsewhere than for its result hasn't begun its session.
+abbrev pub EndsAs : PollEnd → State → Bool → Bool → Bool → Bool → Type 0
+EndsAs poll_end.Replied at waits operates begun found = waits ≡ false
+EndsAs poll_end.Waits at waits operates begun found = (waits ≡ true) × (operates ≡ true → begun ≡ false)
+EndsAs poll_end.WaitsForResult at waits operates begun found =
+    (waits ≡ true) × (operates ≡ true) × (begun ≡ true) × (found ≡ false) × (at ≡ state.Lent session_kind.Operating Open)
+
+-- where an owner is in its operations, by whether it waits, whether it was asked for an operation, whether the session of that has begun, and
+-- whether the result was found
+abbrev pub OperatesBy : OwnerStage → Bool → Bool → Bool → Bool → Type 0
+OperatesBy (stage.Rests at end) waits operates begun found = EndsAs end at waits operates begun found
+OperatesBy (stage.Polls poll) waits operates begun found = IsOperating poll.next operates begun found
+OperatesBy (stage.Wakes poll number) waits operates begun found = IsOperating poll.next operates begun found
+OperatesBy _ waits operates begun found = Unit {0}
+
+abbrev pub OperatesAs : Owner → List Act → Type 0
+OperatesAs owner acts = OperatesBy owner.stage (is_waiting acts) (is_operation owner.asked) (has_begun acts) (has_found acts)
 
 -- ---- what passes between it and its job
 
@@ -335,12 +379,26 @@ pub record SeekFlowAs (s : Session) (got accepted : List ℕ) (next : JobAction)
   pub next_is : IsSeekAction next
   pub place : has_finished acts ≡ true → s.left ≡ number acts
 
+-- A job that runs an operation runs it, puts its result, then its own, or is over.
+abbrev pub IsOperationAction : JobAction → Type 0
+IsOperationAction AskResult = Unit {0}
+IsOperationAction PutResult = Unit {0}
+IsOperationAction Finish = Unit {0}
+IsOperationAction Over = Unit {0}
+IsOperationAction _ = ⊥
+
+-- A session that runs an operation has no pipe.
+pub record OperationFlowAs (s : Session) (got accepted : List ℕ) (next : JobAction) (acts : List Act) : Type 0 where
+  pub plain : PlainFlow s got accepted (has_closed acts) (gave acts) (peeked acts) (taken_by acts)
+  pub next_is : IsOperationAction next
+
 -- what went through the pipe of a session of this kind
 abbrev pub Flows : Kind → Session → Bool → List ℕ → List ℕ → JobAction → List Act → Type 0
 Flows Reading s shut got accepted next acts = FlowAs 0 s shut got next (has_closed acts) (has_given_up acts) (passed_by acts)
 Flows Streaming s shut got accepted next acts = FlowAs 1 s shut got next (has_closed acts) (has_given_up acts) (passed_by acts)
 Flows Writing s shut got accepted next acts = WriteFlowAs s shut got accepted next (has_closed acts) (has_given_up acts) (wrote_by acts)
 Flows (Seeking goal) s shut got accepted next acts = SeekFlowAs s got accepted next acts
+Flows Operating s shut got accepted next acts = OperationFlowAs s got accepted next acts
 Flows _ s shut got accepted next acts = ⊥
 
 -- what stands in the slot, by whether the job finished or gave up, whether the handle is back, and the job's fault
@@ -415,6 +473,41 @@ LastAs held capacity cut =
     LastBy held capacity (last_session (own cut)) (is_shut (own cut)) (is_none (sessions.session (own cut))) (is_dropped (own cut))
     (got (own cut)) (accepted (own cut)) (λ s. acts_of s cut) (is_job_seated cut) (pipe_seat cut) (slot_seat cut)
 
+-- ---- the place of a result
+
+-- The result of an operation was put before its job puts its own, and that of no other job.
+abbrev pub IsPutBy : Kind → JobAction → Bool → Bool → Type 0
+IsPutBy Operating Finish given_up put = put ≡ true
+IsPutBy Operating Over given_up put = given_up ≡ false → put ≡ true
+IsPutBy kind next given_up put = put ≡ false
+
+-- what stands in the place, by whether the job put the result, whether the owner found it, and the number that the job was answered
+abbrev pub HoldsResult : Content ℕ → Bool → Bool → ℕ → Type 0
+HoldsResult Empty put found n = put ≡ found
+HoldsResult (Full m) put found n = (put ≡ true) × (found ≡ false) × (m ≡ n)
+HoldsResult _ put found n = ⊥
+
+-- The place of a result, by what its job does next, whether that gave up, whether it put the result, whether the owner found it, the number, and
+-- whether the owner is seated. Who is seated there has reason to be: its operation's result wasn't put.
+pub record PlaceAs (place : Slot ℕ (Unit {0})) (kind : Kind) (next : JobAction) (given_up put found : Bool) (n : ℕ) (seated : Bool) : Type 0 where
+  pub put_is : IsPutBy kind next given_up put
+  pub content : HoldsResult place.content put found n
+  pub seat : seated ≡ is_some place.seat
+  pub reason : is_some place.seat ≡ true → (kind ≡ Operating) × (put ≡ false)
+
+-- the same, by the acts of the job
+abbrev pub PlaceBy : Slot ℕ (Unit {0}) → Kind → List Act → Bool → Bool → Type 0
+PlaceBy place kind acts found seated =
+    PlaceAs place kind (next_but_wake kind acts) (has_given_up acts) (has_result acts) found (number acts) seated
+
+-- the place of the last session's result, if there was one
+abbrev pub PlaceFor : Option Session → Kind → (ℕ → List Act) → Bool → Bool → Type 0
+PlaceFor None kind acts found seated = Unit {0}
+PlaceFor (Some s) kind acts found seated = PlaceBy s.result kind (acts s.number.serial) found seated
+
+abbrev pub PlaceIn : Option Session → List Event → Type 0
+PlaceIn held cut = PlaceFor held (kind_in (last_session (own cut))) (λ s. acts_of s cut) (has_found (own cut)) (result_seat cut)
+
 -- a poll that saw the end of the pipe, and looks for the handle, found it empty, with the job's end closed and its own open
 abbrev pub IsAtEnd : Session → Type 0
 IsAtEnd s = (s.pipe.items ≡ []) × (s.pipe.is_job_open ≡ false) × (s.pipe.is_owner_open ≡ true)
@@ -426,26 +519,25 @@ EndedIn (Some s) = IsAtEnd s
 -- whether the owner is seated
 abbrev pub is_seated : Option Session → Bool
 is_seated None = false
-is_seated (Some s) = is_some s.pipe.owner_seat || is_some s.slot.seat
+is_seated (Some s) = is_some s.pipe.owner_seat || (is_some s.slot.seat || is_some s.result.seat)
 
 -- ---- one owner
 
--- the owner was asked only for what owners are asked for yet
-abbrev pub AskKnown : List Act → Type 0
-AskKnown [] = Unit {0}
-AskKnown (Asked call ∷ past) = (is_known call ≡ true) × AskKnown past
-AskKnown (_ ∷ past) = AskKnown past
+-- Whether the owner was dropped, whether it is no more, and whether its handle was asked for for good, which then its last call does.
+abbrev pub GoneBy : OwnerStage → Option HandleCall → List Act → Type 0
+GoneBy here asked acts = (is_dropped acts ≡ is_gone here) × (is_owner_gone acts ≡ is_no_more here) × (was_asked_inner acts ≡ is_into_inner asked)
 
 -- An owner, by its cut: what it did itself, and what its jobs did.
 pub record OwnerAs (owner : Owner) (cut : List Event) : Type 0 where
   pub made : is_made (own cut) ≡ true
-  pub gone : is_dropped (own cut) ≡ is_gone owner.stage
+  pub gone : GoneBy owner.stage owner.asked (own cut)
   pub asked : call (own cut) ≡ owner.asked
   pub polled : under_way (own cut) ≡ called_at owner.stage owner.asked
   pub bytes : (kind : Kind) → capacity kind (own cut) ≡ capacity_of owner kind
-  pub calls : AskKnown (own cut)
   pub stage : StageAs owner.stage (item_in owner.session) cut
+  pub operates : OperatesAs owner (own cut)
   pub last : LastAs owner.session (capacity_of owner) cut
+  pub place : PlaceIn owner.session cut
   pub ended : is_at_end (own cut) ≡ true → EndedIn owner.session
   -- a job of an earlier session is over but for the waker that it has to call
   pub earlier :

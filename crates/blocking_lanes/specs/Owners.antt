@@ -1,11 +1,12 @@
 -- The machine of an owner, as contracts see it, and what each call of the owner and each act of its job does to it.
-use Rattle.std.specs.Prelude.{◌≡◌, ℕ, ◌==◌, ◌&&◌, if◌then◌else◌, Bool, true, false, List, ◌∷◌, length, Option, Some, None, is_some}
+use Rattle.std.specs.Prelude.{◌≡◌, ℕ, ◌==◌, ◌&&◌, ◌||◌, not, if◌then◌else◌, Bool, true, false, List, ◌∷◌, length, Option, Some, None, is_some}
 use Rattle.blocking_core.specs.OwnerCalls.{OwnerMachine, new_poll, owner_next, owner_after}
 use Rattle.blocking_core.specs.Pipes.{Pipe}
 use Rattle.blocking_core.specs.Places.{Met, Served, Waiting, Closed}
 use Rattle.blocking_core.specs.Reading.{read_next}
 use Rattle.blocking_core.specs.Writing.{write_next}
 use Rattle.blocking_core.specs.Seeks.{seek_next}
+use Rattle.blocking_core.specs.Operations.{operation_next}
 use Rattle.blocking_core.specs.Slots.{Content, Empty, Full, GivenUp, Abandoned, empty_slot}
 use Rattle.blocking_core.specs.declared.io.Fault.{Fault}
 use Rattle.blocking_core.specs.Items.{item_next}
@@ -21,6 +22,9 @@ use Rattle.blocking_core.specs.declared.job.write.WriteAnswer.TheVariants as wro
 use Rattle.blocking_core.specs.declared.job.seek.SeekAction.{SeekAction}
 use Rattle.blocking_core.specs.declared.job.seek.SeekAction.TheVariants as seek
 use Rattle.blocking_core.specs.declared.job.seek.SeekAnswer.TheVariants as sought
+use Rattle.blocking_core.specs.declared.job.operation.OperationAction.{OperationAction}
+use Rattle.blocking_core.specs.declared.job.operation.OperationAction.TheVariants as operation
+use Rattle.blocking_core.specs.declared.job.operation.OperationAnswer.TheVariants as ran
 use Rattle.blocking_core.specs.declared.unblock.OwnerAction.{OwnerAction}
 use Rattle.blocking_core.specs.declared.unblock.OwnerAction.TheVariants as action
 use Rattle.blocking_core.specs.declared.unblock.OwnerAnswer.{OwnerAnswer}
@@ -33,11 +37,10 @@ use Rattle.blocking_core.specs.declared.unblock.SessionKind.TheVariants as sessi
 use Rattle.blocking_core.specs.declared.unblock.State.{State}
 use Rattle.blocking_core.specs.declared.unblock.State.TheVariants as state
 use Rattle.blocking_laws.specs.JobTable.{Kind}
-use Rattle.blocking_laws.specs.Sessions.{default_capacity, kind_of, is_for_closed}
-use Rattle.blocking_laws.specs.Steps.{is_known}
+use Rattle.blocking_laws.specs.Sessions.{default_capacity, kind_of, is_again, is_for_closed, is_into_inner, is_operation}
 use Rattle.blocking_laws.specs.Seats.{waker_in}
 use Rattle.blocking_laws.specs.declared.event.Act.{Act}
-use Rattle.blocking_laws.specs.declared.event.Act.TheVariants.{OwnerClosed, Got, GotEnd, Filled, FillShut, Waits, Back, Replied, GaveUp, HolderWoken, GotItem}
+use Rattle.blocking_laws.specs.declared.event.Act.TheVariants.{OwnerClosed, Got, GotEnd, Filled, FillShut, Waits, Back, ResultGot, Replied, GaveUp, HolderWoken, GotItem}
 use Rattle.blocking_laws.specs.declared.event.Reply.{Reply as Told}
 use Rattle.blocking_laws.specs.declared.event.Reply.TheVariants as told
 use Rattle.blocking_laws.specs.declared.step.HandleCall.{HandleCall}
@@ -45,16 +48,21 @@ use Rattle.blocking_laws.specs.declared.step.HandleCall.TheVariants as handle_ca
 use Rattle.blocking_lanes.specs.Passages.{Goods, OfBytes, OfItems, through, if_piped}
 use Rattle.blocking_lanes.specs.Reads as reads
 use Rattle.blocking_lanes.specs.SessionJobs.{new_job}
-use Rattle.blocking_lanes.specs.Sessions.{Session, Work, goods_of, serial_of, drained, filled, reach, front, session_after_close, session_after_drain, session_after_fill, session_after_look, session_after_give_up, give_up_wakes, streamer_works, work_by, writer_works, received, session_after_receive, seek_works}
+use Rattle.blocking_lanes.specs.Sessions.{Session, Work, goods_of, serial_of, drained, filled, reach, front, session_after_close, session_after_drain, session_after_fill, session_after_look, session_after_give_up, give_up_wakes, streamer_works, work_by, writer_works, received, session_after_receive, session_after_find, seek_works, operation_works}
 use Rattle.blocking_lanes.specs.Streams as streams
 use Rattle.blocking_lanes.specs.Writes as writes
 use Rattle.blocking_lanes.specs.Seeks as seeks
+use Rattle.blocking_lanes.specs.Operations as operations
 use Rattle.blocking_lanes.specs.declared.job.SessionJob.{SessionJob}
 use Rattle.blocking_lanes.specs.declared.job.SessionJob.TheVariants as of_job
 use Rattle.blocking_lanes.specs.declared.owner.OwnerNext.{OwnerNext}
 use Rattle.blocking_lanes.specs.declared.owner.OwnerNext.TheVariants.{Rests, Begins, Delivers, Acts}
 use Rattle.blocking_lanes.specs.declared.owner.OwnerStage.{OwnerStage}
 use Rattle.blocking_lanes.specs.declared.owner.OwnerStage.TheVariants as stage
+use Rattle.blocking_lanes.specs.declared.owner.PollEnd.{PollEnd}
+use Rattle.blocking_lanes.specs.declared.owner.PollEnd.TheVariants as poll_end
+use Rattle.blocking_lanes.specs.declared.session.Awaited.{Awaited}
+use Rattle.blocking_lanes.specs.declared.session.Awaited.TheVariants as awaited
 use Rattle.blocking_lanes.specs.declared.session.Entered.{Entered}
 use Rattle.blocking_lanes.specs.declared.session.Entered.TheVariants as entered
 use Rattle.blocking_lanes.specs.declared.session.Found.{Found}
@@ -76,7 +84,7 @@ pub record Owner : Type 0 where
 
 -- an owner that was made with this number of bytes
 abbrev pub new_owner : ℕ → Owner
-new_owner capacity = record { capacity = capacity; asked = None; stage = stage.Rests state.Idle; session = None }
+new_owner capacity = record { capacity = capacity; asked = None; stage = stage.Rests state.Idle poll_end.Replied; session = None }
 
 -- how many bytes or items the pipe of a session of this kind holds
 abbrev pub capacity_of : Owner → Kind → ℕ
@@ -92,29 +100,29 @@ number_of owner = number_in owner.session
 
 -- ---- polls
 
--- a call, in the words of the machine; owners aren't asked for the result of an operation again yet, and its session counts as begun
-abbrev pub poll_call_of : HandleCall → PollCall
-poll_call_of (handle_call.Read most) = poll_call.Read most
-poll_call_of (handle_call.Write bytes) = poll_call.Write (length bytes)
-poll_call_of handle_call.Flush = poll_call.Flush
-poll_call_of handle_call.Close = poll_call.Close
-poll_call_of (handle_call.Seek position) = poll_call.Seek position
-poll_call_of handle_call.Next = poll_call.Next
-poll_call_of handle_call.Operate = poll_call.Operate false
-poll_call_of handle_call.OperateAgain = poll_call.Operate true
-poll_call_of handle_call.GetMut = poll_call.GetMut
-poll_call_of handle_call.IntoInner = poll_call.IntoInner
+-- a call, in the words of the machine, by whether the session of a pending operation has begun
+abbrev pub poll_call_of : Bool → HandleCall → PollCall
+poll_call_of begun (handle_call.Read most) = poll_call.Read most
+poll_call_of begun (handle_call.Write bytes) = poll_call.Write (length bytes)
+poll_call_of begun handle_call.Flush = poll_call.Flush
+poll_call_of begun handle_call.Close = poll_call.Close
+poll_call_of begun (handle_call.Seek position) = poll_call.Seek position
+poll_call_of begun handle_call.Next = poll_call.Next
+poll_call_of begun handle_call.Operate = poll_call.Operate false
+poll_call_of begun handle_call.OperateAgain = poll_call.Operate begun
+poll_call_of begun handle_call.GetMut = poll_call.GetMut
+poll_call_of begun handle_call.IntoInner = poll_call.IntoInner
 
--- the item that came out of the pipe of the last session last
+-- the item that came out of the pipe of the last session last, or the result of its operation
 abbrev pub item_in : Option Session → ℕ
 item_in None = 0
 item_in (Some session) = session.item
 
--- a reply, in the words of the laws, where this item came out last; there is none for a call that isn't asked once the handle is gone, and for a
--- result, which owners aren't asked for yet
+-- a reply, in the words of the laws, where this item or result came out last; there is none for a call that isn't asked once the handle is gone
 abbrev pub reply_as : ℕ → Reply ℕ → Option Told
 reply_as x (reply.Count count) = Some (told.Count count)
 reply_as x reply.Item = Some (told.OneItem x)
+reply_as x reply.Result = Some (told.Count x)
 reply_as x (reply.Position place) = Some (told.Count place)
 reply_as x reply.End = Some told.NoMore
 reply_as x reply.Handle = Some told.Handle
@@ -125,7 +133,7 @@ reply_as x _ = None
 
 -- whether it is there and no poll of it is under way
 abbrev pub is_resting : OwnerStage → Bool
-is_resting (stage.Rests at) = true
+is_resting (stage.Rests at end) = true
 is_resting _ = false
 
 abbrev pub rests : Owner → Bool
@@ -137,17 +145,42 @@ may_call_at state.Closed call = is_for_closed call
 may_call_at at call = true
 
 abbrev pub may_ask_at : OwnerStage → HandleCall → Bool
-may_ask_at (stage.Rests at) call = may_call_at at call
+may_ask_at (stage.Rests at end) call = may_call_at at call
 may_ask_at _ call = false
 
--- and owners are asked for it yet
+-- whether the last poll waits
+abbrev pub is_pending : PollEnd → Bool
+is_pending poll_end.Replied = false
+is_pending poll_end.Waits = true
+is_pending poll_end.WaitsForResult = true
+
+-- whether it waits for the result of an operation, whose session has begun
+abbrev pub is_for_result : PollEnd → Bool
+is_for_result poll_end.WaitsForResult = true
+is_for_result _ = false
+
+-- whether an operation is pending, in its own session or in the stop of another
+abbrev pub awaits_operation : OwnerStage → Option HandleCall → Bool
+awaits_operation (stage.Rests at end) asked = is_pending end && is_operation asked
+awaits_operation _ asked = false
+
+-- whether it may be asked for this: once the handle was asked for for good only for that, and for the result of an operation only where one is
+-- pending
 abbrev pub may_ask : Owner → HandleCall → Bool
-may_ask owner call = is_known call && may_ask_at owner.stage call
+may_ask owner call =
+    may_ask_at owner.stage call && (not (is_into_inner owner.asked) || is_into_inner (Some call))
+    && (not (is_again call) || awaits_operation owner.stage owner.asked)
 
 -- whether it was dropped
 abbrev pub is_gone : OwnerStage → Bool
 is_gone stage.Dropped = true
 is_gone _ = false
+
+-- whether it is no more: it was dropped, or its handle was taken back
+abbrev pub is_no_more : OwnerStage → Bool
+is_no_more stage.Dropped = true
+is_no_more stage.TakenBack = true
+is_no_more _ = false
 
 -- the note that it has to deliver
 abbrev pub note_at : OwnerStage → Option JobNumber
@@ -182,6 +215,7 @@ next_by action.Close session = Acts 0
 next_by action.Receive session = Acts 0
 next_by (action.Fill most) session = Acts 0
 next_by action.PollSlot session = Acts 0
+next_by action.PollResult session = Acts 0
 next_by action.DropHandle session = Acts 0
 next_by (action.Reply reply) session = next_to_say (reply_as (item_in session) reply)
 next_by _ session = Rests
@@ -202,7 +236,8 @@ bytes_in _ = 0
 
 -- the owner after a poll of it began
 abbrev pub after_ask : HandleCall → OwnerStage → Owner → Owner
-after_ask call (stage.Rests at) owner = record owner { asked = Some call; stage = stage.Polls (new_poll (poll_call_of call) at) }
+after_ask call (stage.Rests at end) owner =
+    record owner { asked = Some call; stage = stage.Polls (new_poll (poll_call_of (is_for_result end) call) at) }
 after_ask call at owner = owner
 
 abbrev pub owner_after_ask : HandleCall → Owner → Owner
@@ -215,7 +250,7 @@ pub record Did : Type 0 where
   pub act : Act
   pub owner : Owner
 
--- what a drain finds, a receipt, a fill, and a look into the slot
+-- what a drain finds, a receipt, a fill, a look into the slot, and one for a result
 abbrev pub found_as : Met (List ℕ × Option JobNumber) → Found
 found_as (Served got) = found.Bytes got.0 got.1
 found_as Waiting = found.Nothing
@@ -238,6 +273,13 @@ looked_as GivenUp = looked.Gone
 looked_as (Abandoned true) = looked.Gone
 looked_as (Abandoned false) = looked.Nothing
 
+abbrev pub awaited_as : Content ℕ → Awaited
+awaited_as Empty = awaited.Nothing
+awaited_as (Full n) = awaited.Result n
+awaited_as GivenUp = awaited.Gone
+awaited_as (Abandoned true) = awaited.Gone
+awaited_as (Abandoned false) = awaited.Nothing
+
 -- it closes its end of the pipe
 abbrev pub close_did : OwnerMachine ℕ → Session → Owner → Did
 close_did poll session owner = record {
@@ -259,7 +301,7 @@ drain_did (Served got) poll session owner = record {
 }
 drain_did Waiting poll session owner = record {
   act = Waits;
-  owner = record owner { stage = stage.Rests poll.state; session = Some (session_after_drain Waiting session) };
+  owner = record owner { stage = stage.Rests poll.state poll_end.Waits; session = Some (session_after_drain Waiting session) };
 }
 drain_did Closed poll session owner = record {
   act = GotEnd;
@@ -277,7 +319,7 @@ receive_did (Served got) poll session owner = record {
 }
 receive_did Waiting poll session owner = record {
   act = Waits;
-  owner = record owner { stage = stage.Rests poll.state; session = Some (session_after_receive Waiting session) };
+  owner = record owner { stage = stage.Rests poll.state poll_end.Waits; session = Some (session_after_receive Waiting session) };
 }
 receive_did Closed poll session owner = record {
   act = GotEnd;
@@ -295,7 +337,7 @@ fill_did bytes (Served went) poll session owner = record {
 }
 fill_did bytes Waiting poll session owner = record {
   act = Waits;
-  owner = record owner { stage = stage.Rests poll.state; session = Some (session_after_fill bytes Waiting session) };
+  owner = record owner { stage = stage.Rests poll.state poll_end.Waits; session = Some (session_after_fill bytes Waiting session) };
 }
 fill_did bytes Closed poll session owner = record {
   act = FillShut;
@@ -310,7 +352,7 @@ fill_did_in poll asked session owner = None
 
 -- it drops the handle, and its poll is over
 abbrev pub drop_did : OwnerMachine ℕ → Owner → Did
-drop_did poll owner = record { act = Replied told.Okay; owner = record owner { stage = stage.Rests (owner_after poll by.Dropped).state } }
+drop_did poll owner = record { act = Replied told.Okay; owner = record owner { stage = stage.Rests (owner_after poll by.Dropped).state poll_end.Replied } }
 
 -- how the machine is told that the handle is back: of a seek that went well with where it is
 abbrev pub back_answer : State → Option (Fault ℕ) → ℕ → OwnerAnswer ℕ
@@ -322,12 +364,26 @@ abbrev pub look_did : Looked → OwnerMachine ℕ → Session → Owner → Opti
 look_did (looked.Handle why) poll session owner =
     Some (record { act = Back; owner = record owner { stage = stage.Polls (owner_after poll (back_answer poll.state why session.left)); session = Some session } })
 look_did looked.Nothing poll session owner =
-    Some (record { act = Waits; owner = record owner { stage = stage.Rests poll.state; session = Some session } })
+    Some (record { act = Waits; owner = record owner { stage = stage.Rests poll.state poll_end.Waits; session = Some session } })
 look_did looked.Gone poll session owner = None
+
+-- it looks for the result of its operation, and finds this: a poll that waits is over; where none will come nothing is done
+abbrev pub find_did : Awaited → OwnerMachine ℕ → Session → Owner → Option Did
+find_did (awaited.Result n) poll session owner =
+    Some (record { act = ResultGot n; owner = record owner { stage = stage.Polls (owner_after poll by.Resulted); session = Some session } })
+find_did awaited.Nothing poll session owner =
+    Some (record { act = Waits; owner = record owner { stage = stage.Rests poll.state poll_end.WaitsForResult; session = Some session } })
+find_did awaited.Gone poll session owner = None
+
+-- where an owner is once its poll has replied: no more, if the handle was asked for for good
+abbrev pub stage_after_reply : Bool → State → OwnerStage
+stage_after_reply true at = stage.TakenBack
+stage_after_reply false at = stage.Rests at poll_end.Replied
 
 -- it replies, and its poll is over; a reply that the laws have no word for is not told, and nothing is done
 abbrev pub reply_did : Option Told → OwnerMachine ℕ → Owner → Option Did
-reply_did (Some told) poll owner = Some (record { act = Replied told; owner = record owner { stage = stage.Rests poll.state } })
+reply_did (Some told) poll owner =
+    Some (record { act = Replied told; owner = record owner { stage = stage_after_reply (is_into_inner owner.asked) poll.state } })
 reply_did None poll owner = None
 
 -- what its poll does next at its session
@@ -337,6 +393,8 @@ did_at (action.Drain most) poll session owner = through OfBytes session.goods (S
 did_at action.Receive poll session owner = through OfItems session.goods (Some (receive_did (received session) poll session owner))
 did_at action.PollSlot poll session owner =
     look_did (looked_as session.slot.content) poll (session_after_look session.slot.content session) owner
+did_at action.PollResult poll session owner =
+    find_did (awaited_as session.result.content) poll (session_after_find session.result.content session) owner
 did_at _ poll session owner = None
 
 abbrev pub did_in : OwnerAction ℕ → OwnerMachine ℕ → Option Session → Owner → Option Did
@@ -376,7 +434,7 @@ goods_asked owner = goods_of (kind_of owner.asked)
 abbrev pub after_begin : JobNumber → Goods → Pipe ℕ (Unit {0}) → OwnerStage → Owner → Owner
 after_begin number goods pipe (stage.Polls poll) owner = record owner {
   stage = stage.Polls (owner_after poll by.Begun);
-  session = Some (record { number = number; goods = goods; item = 0; pipe = pipe; slot = empty_slot; left = 0 });
+  session = Some (record { number = number; goods = goods; item = 0; pipe = pipe; result = empty_slot; slot = empty_slot; left = 0 });
 }
 after_begin number goods pipe _ owner = owner
 
@@ -402,7 +460,7 @@ owner_after_delivery owner = record owner { stage = stage_after_delivery owner.s
 -- ---- it is dropped
 
 abbrev pub stage_after_drop : OwnerStage → OwnerStage
-stage_after_drop (stage.Rests at) = stage.Dropped
+stage_after_drop (stage.Rests at end) = stage.Dropped
 stage_after_drop at = at
 
 abbrev pub owner_after_drop : Owner → Owner
@@ -462,12 +520,22 @@ abbrev pub seek_as : SeekAction → seeks.Progress → Owner → Option Worked
 seek_as seek.Deliver job owner = calls_waker (of_job.Seek (seeks.progress_with job sought.Delivered)) owner
 seek_as next job owner = seek_in next owner.session job owner
 
+-- the same of a job that runs an operation
+abbrev pub operate_in : OperationAction → Option Session → operations.Progress → Owner → Option Worked
+operate_in next None job owner = None
+operate_in next (Some session) job owner = worked_by of_job.Operate (operation_works next job session) owner
+
+abbrev pub operate_as : OperationAction → operations.Progress → Owner → Option Worked
+operate_as operation.Deliver job owner = calls_waker (of_job.Operate (operations.progress_with job ran.Delivered)) owner
+operate_as next job owner = operate_in next owner.session job owner
+
 -- What its job does next, where that is the job's own.
 abbrev pub worked : SessionJob → Owner → Option Worked
 worked (of_job.Read job) owner = read_as (read_next job.core) job owner
 worked (of_job.Write job) owner = write_as (write_next job.core) job owner
 worked (of_job.Items job) owner = stream_as (item_next job.core) job owner
 worked (of_job.Seek job) owner = seek_as (seek_next job.core) job owner
+worked (of_job.Operate job) owner = operate_as (operation_next job.core) job owner
 
 -- the answer of a call by which the job may act, and what it leaves: where it has no such act nothing changes
 abbrev pub IsWorked : Option Worked → SessionJob → Owner → Option Act → SessionJob → Owner → Type 0

@@ -15,29 +15,34 @@ use Rattle.blocking_core.specs.declared.job.read.ReadAnswer.TheVariants as by
 use Rattle.blocking_core.specs.declared.job.write.WriteAction.{WriteAction}
 use Rattle.blocking_core.specs.declared.job.write.WriteAction.TheVariants as write
 use Rattle.blocking_core.specs.declared.job.write.WriteAnswer.TheVariants as wrote
-use Rattle.blocking_laws.specs.JobTable.{Kind, Streaming, piece as largest_piece, Seeking}
+use Rattle.blocking_laws.specs.JobTable.{Kind, Streaming, piece as largest_piece, Seeking, Operating}
 use Rattle.blocking_core.specs.declared.job.seek.SeekAction.{SeekAction}
 use Rattle.blocking_core.specs.declared.job.seek.SeekAction.TheVariants as seek
 use Rattle.blocking_core.specs.declared.job.seek.SeekAnswer.TheVariants as sought
+use Rattle.blocking_core.specs.declared.job.operation.OperationAction.{OperationAction}
+use Rattle.blocking_core.specs.declared.job.operation.OperationAction.TheVariants as operation
+use Rattle.blocking_core.specs.declared.job.operation.OperationAnswer.TheVariants as ran
 use Rattle.blocking_laws.specs.Places.{seen_room, seen_put, seen_peek}
 use Rattle.blocking_laws.specs.Seats.{waker_in}
 use Rattle.blocking_laws.specs.declared.event.Act.{Act}
-use Rattle.blocking_laws.specs.declared.event.Act.TheVariants.{Taken, JobClosed, Finished}
+use Rattle.blocking_laws.specs.declared.event.Act.TheVariants.{Taken, JobClosed, ResultPut, Finished}
 use Rattle.blocking_lanes.specs.Passages.{Goods, OfBytes, OfItems, closed_by_owner, closed_by_job, OfNothing}
 use Rattle.blocking_lanes.specs.Reads.{Progress, progress_with}
 use Rattle.blocking_lanes.specs.Streams as streams
 use Rattle.blocking_lanes.specs.Writes as writes
 use Rattle.blocking_lanes.specs.Seeks as seeks
+use Rattle.blocking_lanes.specs.Operations as operations
 use Rattle.blocking_pool.specs.Jobs.{JobNumber}
 
--- A session: the number of its job, what passes through its pipe, the item that came out of it last, 0 before the first, which is kept until
--- it is told, the pipe itself, the slot in which the handle comes back with the fault of the job, and beside it where a seek left the handle.
--- Wakers are told as units.
+-- A session: the number of its job, what passes through its pipe, the item that came out of it last, or the result of its operation, 0 before
+-- the first, which is kept until it is told, the pipe itself, the place in which the result of its operation comes, the slot in which the handle
+-- comes back with the fault of the job, and beside it where a seek left the handle. Wakers are told as units.
 pub record Session : Type 0 where
   pub number : JobNumber
   pub goods : Goods
   pub item : ℕ
   pub pipe : Pipe ℕ (Unit {0})
+  pub result : Slot ℕ (Unit {0})
   pub slot : Slot (Option (Fault ℕ)) (Unit {0})
   pub left : ℕ
 
@@ -45,11 +50,13 @@ pub record Session : Type 0 where
 abbrev pub goods_of : Kind → Goods
 goods_of Streaming = OfItems
 goods_of (Seeking goal) = OfNothing
+goods_of Operating = OfNothing
 goods_of kind = OfBytes
 
 -- a session that begins, with this job and a pipe for so many bytes or items
 abbrev pub new_session : JobNumber → Goods → ℕ → Session
-new_session number goods capacity = record { number = number; goods = goods; item = 0; pipe = empty_pipe capacity; slot = empty_slot; left = 0 }
+new_session number goods capacity =
+    record { number = number; goods = goods; item = 0; pipe = empty_pipe capacity; result = empty_slot; slot = empty_slot; left = 0 }
 
 -- ---- its owner acts
 
@@ -95,6 +102,15 @@ session_after_look (Full why) session = record session { slot = record session.s
 session_after_look GivenUp session = session
 session_after_look (Abandoned true) session = session
 session_after_look (Abandoned false) session = record session { slot = record session.slot { seat = Some tt } }
+
+-- the session after its owner looked for the result of its operation: that leaves its place, and is kept; or the owner is seated there where it
+-- may still come
+abbrev pub session_after_find : Content ℕ → Session → Session
+session_after_find Empty session = record session { result = record session.result { seat = Some tt } }
+session_after_find (Full n) session = record session { item = n; result = record session.result { content = Empty } }
+session_after_find GivenUp session = session
+session_after_find (Abandoned true) session = session
+session_after_find (Abandoned false) session = record session { result = record session.result { seat = Some tt } }
 
 -- what the owner finds that fills the pipe with so many bytes
 abbrev pub filled : ℕ → Session → Met (ℕ × Option JobNumber)
@@ -327,6 +343,34 @@ seek_finishes job session = record {
 abbrev pub seek_works : SeekAction → seeks.Progress → Session → Option (Work seeks.Progress)
 seek_works seek.Finish job session = Some (seek_finishes job session)
 seek_works _ job session = None
+
+-- ---- the same of a job that runs an operation
+
+-- whether the owner's waker is taken where the job puts the result of its operation
+abbrev pub result_wakes : ℕ → Session → Bool
+result_wakes n session = is_some (put_in session.result n).wake
+
+-- it puts the result of its operation
+abbrev pub operation_puts : operations.Progress → Session → Work operations.Progress
+operation_puts job session = record {
+  act = ResultPut (waker_in (result_wakes job.number session));
+  job = operations.progress_with job (ran.ResultPut (result_wakes job.number session));
+  session = record session { result = after_put session.result job.number };
+}
+
+-- it puts its own result, which is never a fault
+abbrev pub operation_finishes : operations.Progress → Session → Work operations.Progress
+operation_finishes job session = record {
+  act = Finished (waker_in (finish_wakes None session));
+  job = operations.progress_with job (ran.Finished (finish_wakes None session));
+  session = session_after_finish None session;
+}
+
+-- What it does next at its session, where that is its own to do.
+abbrev pub operation_works : OperationAction → operations.Progress → Session → Option (Work operations.Progress)
+operation_works operation.PutResult job session = Some (operation_puts job session)
+operation_works operation.Finish job session = Some (operation_finishes job session)
+operation_works _ job session = None
 
 -- the answer of a call by which a job may act, and what it leaves: where it has no such act nothing changes
 abbrev pub IsWork : {J : Type 0} → Option (Work J) → J → Session → Option Act → J → Session → Type 0

@@ -2,10 +2,11 @@
 ghost use Rattle.std.specs.Prelude.{◌≡◌};
 
 use crate::item::ItemProgress;
+use crate::operation::OperationProgress;
 use crate::read::ReadProgress;
 use crate::seek::SeekProgress;
 use crate::write::WriteProgress;
-use blocking_core::job::{ItemAction, ReadAction, SeekAction, WriteAction};
+use blocking_core::job::{ItemAction, OperationAction, ReadAction, SeekAction, WriteAction};
 use blocking_laws::step::Answer;
 
 /// The job of a session, and how far it is.
@@ -19,6 +20,8 @@ pub enum SessionJob {
     Items(ItemProgress),
     /// It moves the handle to a position.
     Seek(SeekProgress),
+    /// It runs its owner's operation on the handle.
+    Operate(OperationProgress),
 }
 
 impl SessionJob {
@@ -37,6 +40,7 @@ impl SessionJob {
             }
             SessionJob::Items(items) => matches!(items.next(), ItemAction::Next),
             SessionJob::Seek(seek) => matches!(seek.next(), SeekAction::Seek),
+            SessionJob::Operate(operation) => matches!(operation.next(), OperationAction::Call),
         }
     }
 
@@ -49,6 +53,7 @@ impl SessionJob {
             SessionJob::Write(write) => matches!(write.next(), WriteAction::Done),
             SessionJob::Items(items) => matches!(items.next(), ItemAction::Done),
             SessionJob::Seek(seek) => matches!(seek.next(), SeekAction::Done),
+            SessionJob::Operate(operation) => matches!(operation.next(), OperationAction::Done),
         }
     }
 
@@ -61,6 +66,7 @@ impl SessionJob {
             SessionJob::Write(write) => write.may_be_answered(answer),
             SessionJob::Items(items) => items.may_be_answered(answer),
             SessionJob::Seek(seek) => seek.may_be_answered(answer),
+            SessionJob::Operate(operation) => operation.may_be_answered(answer),
         }
     }
 
@@ -73,6 +79,7 @@ impl SessionJob {
             SessionJob::Write(write) => write.answer(answer),
             SessionJob::Items(items) => items.answer(answer),
             SessionJob::Seek(seek) => seek.answer(answer),
+            SessionJob::Operate(operation) => operation.answer(answer),
         }
     }
 }

@@ -1,18 +1,20 @@
 //! The machine of an owner who lends its handle to jobs that read ahead of it, or write behind it.
-ghost use Rattle.std.specs.Prelude.{◌≡◌, ◌<◌, ◌==◌, if◌then◌else◌, None};
+ghost use Rattle.std.specs.Prelude.{◌≡◌, ◌<◌, ◌==◌, if◌then◌else◌, Some, None};
 ghost use Rattle.blocking_core.specs.declared.unblock.OwnerAction.TheVariants as action;
 ghost use Rattle.blocking_lanes.specs.Sessions.{serial_of};
 ghost use Rattle.blocking_lanes.specs.Owners.{poll_call_of, reply_as, back_answer};
+ghost use Rattle.blocking_laws.specs.Sessions.{is_again, is_into_inner, is_operation};
 
 use crate::item::ItemProgress;
 use crate::job::SessionJob;
+use crate::operation::OperationProgress;
 use crate::passage::Passage;
 use crate::read::ReadProgress;
 use crate::seek::SeekProgress;
-use crate::session::{Entered, Found, Looked, Obtained, Session};
+use crate::session::{Awaited, Entered, Found, Looked, Obtained, Session};
 use crate::write::WriteProgress;
 use blocking_core::io::Fault;
-use blocking_core::job::{ItemAction, ReadAction, SeekAction, WriteAction};
+use blocking_core::job::{ItemAction, OperationAction, ReadAction, SeekAction, WriteAction};
 use blocking_core::pipe::{DEFAULT_BYTES, DEFAULT_ITEMS, Pipe};
 use blocking_core::pool::{JobNo, Refusal, WakeNote};
 use blocking_core::unblock::{
@@ -24,16 +26,47 @@ use std::alloc::{AllocError, Global};
 use std::marker::Model;
 use std::mem;
 
+// How the last poll of an owner ended.
+#[derive(Clone, Copy)]
+pub(crate) enum PollEnd {
+    // It replied, or there was none.
+    Replied,
+    // It waits, at the pipe or for the handle.
+    Waits,
+    // It waits for the result of its operation, whose session has begun.
+    WaitsForResult,
+}
+
+impl PollEnd {
+    ghost use Rattle.blocking_lanes.specs.Owners.{is_pending, is_for_result};
+
+    // Whether it waits.
+    fn is_pending(self) -> bool
+        ensures { result ≡ is_pending self }
+    {
+        !matches!(self, PollEnd::Replied)
+    }
+
+    // Whether it waits for the result of its operation.
+    fn is_for_result(self) -> bool
+        ensures { result ≡ is_for_result self }
+    {
+        matches!(self, PollEnd::WaitsForResult)
+    }
+}
+
 // Where an owner is in its polls.
 pub(crate) enum OwnerStage {
-    // No poll is under way, and the handle is there.
-    Rests(State),
+    // No poll is under way, this is where the handle is, and the last poll ended so.
+    Rests(State, PollEnd),
     // This poll is under way.
     Polls(OwnerCall<u64>),
     // This poll is under way, and has to spend this note first.
     Wakes(OwnerCall<u64>, WakeNote),
     // It was dropped.
     Dropped,
+    // Its handle was taken back for good, and it is no more.
+    TakenBack,
 }
 
 /// What the poll of an owner does next.
@@ -79,9 +112,9 @@ fn serial_of(note: &Option<WakeNote>) -> Option<u64>
     }
 }
 
-// A call, in the words of the machine. Owners aren't asked for the result of an operation again yet: its session counts as begun.
-fn poll_call(call: &HandleCall) -> PollCall
-    ensures { result ≡ poll_call_of call.now }
+// A call, in the words of the machine, by whether the session of a pending operation has begun.
+fn poll_call(call: &HandleCall, has_begun: bool) -> PollCall
+    ensures { result ≡ poll_call_of has_begun call.now }
 {
     match call {
         HandleCall::Read(most) => PollCall::Read(*most as usize),
@@ -91,28 +124,49 @@ fn poll_call(call: &HandleCall) -> PollCall
         HandleCall::Seek(position) => PollCall::Seek(*position),
         HandleCall::Next => PollCall::Next,
         HandleCall::Operate => PollCall::Operate { has_begun: false },
-        HandleCall::OperateAgain => PollCall::Operate { has_begun: true },
+        HandleCall::OperateAgain => PollCall::Operate { has_begun },
         HandleCall::GetMut => PollCall::GetMut,
         HandleCall::IntoInner => PollCall::IntoInner,
     }
 }
 
-// A reply, as it is told, where this item came out last. None for the one to a call that isn't asked of an owner whose handle is gone, and for a
-// result, which owners aren't asked for yet.
+// A reply, as it is told, where this item or result came out last. None for the one to a call that isn't asked of an owner whose handle is gone.
 fn told(reply: Reply<u64>, item: u64) -> Option<Told>
     ensures { result ≡ reply_as item reply }
 {
     match reply {
         Reply::Count(count) => Some(Told::Count(count as u64)),
         Reply::Item => Some(Told::OneItem(item)),
+        Reply::Result => Some(Told::Count(item)),
         Reply::Position(place) => Some(Told::Count(place)),
         Reply::End => Some(Told::NoMore),
         Reply::Handle => Some(Told::Handle),
         Reply::Failed(why) => Some(Told::Failed(why)),
         Reply::NotBegun(why) => Some(Told::NotBegun(why)),
         Reply::Done => Some(Told::Okay),
-        Reply::Result | Reply::Closed => None,
+        Reply::Closed => None,
     }
+}
+
+// Whether a call asks for the result of a pending operation.
+fn is_again(call: &HandleCall) -> bool
+    ensures { result ≡ is_again call.now }
+{
+    matches!(call, HandleCall::OperateAgain)
+}
+
+// Whether this asks for an operation, or for its result.
+fn is_operation(asked: &Option<HandleCall>) -> bool
+    ensures { result ≡ is_operation asked.now }
+{
+    matches!(asked, Some(HandleCall::Operate | HandleCall::OperateAgain))
+}
+
+// Whether a call asks for the handle for good.
+fn is_into_inner(call: &HandleCall) -> bool
+    ensures { result ≡ is_into_inner (Some call.now) }
+{
+    matches!(call, HandleCall::IntoInner)
 }
 
 // How the machine is told that the handle is back, with this fault, from here: of a seek that went well with where it is.
@@ -138,10 +192,11 @@ impl Owner {
     ghost use Rattle.std.specs.Prelude.{vec_len, IfOk, OnErr, Some};
     ghost use Rattle.blocking_core.specs.Pipes.{empty_pipe};
     ghost use Rattle.blocking_lanes.specs.Passages.{goods_in, pipe_in};
-    ghost use Rattle.blocking_lanes.specs.Owners.{new_owner, capacity_asked, goods_asked, is_resting, is_gone, note_at, next_of, number_of, bytes_in, rests};
+    ghost use Rattle.blocking_lanes.specs.Owners.{new_owner, capacity_asked, goods_asked, is_resting, is_gone, stage_after_reply, note_at, next_of, number_of, bytes_in, rests};
     ghost use Rattle.blocking_lanes.specs.Owners.{owner_after_ask, did, did_in, reply_did, IsDid, goes_on, reach_in};
     ghost use Rattle.blocking_lanes.specs.Owners.{owner_after_begin, owner_after_refusal, owner_after_delivery, owner_after_drop};
-    ghost use Rattle.blocking_lanes.specs.Owners.{may_ask, may_ask_at, front_in, fill_did_in, item_in, drop_did, new_job_of, worked, IsWorked, give_up_act, owner_after_give_up};
+    ghost use Rattle.blocking_laws.specs.Sessions.{is_again, is_operation};
+    ghost use Rattle.blocking_lanes.specs.Owners.{may_ask, may_ask_at, awaits_operation, front_in, fill_did_in, item_in, drop_did, new_job_of, worked, IsWorked, give_up_act, owner_after_give_up};
     ghost use Rattle.blocking_lanes.specs.declared.job.SessionJob.TheVariants as of_job;
 
     /// An owner, with an idle handle. The pipes of its sessions hold so many bytes or items; 0 stands for 8,388,608 bytes and 8,192 items.
@@ -151,7 +206,7 @@ impl Owner {
         Owner {
             capacity,
             asked: None,
-            stage: OwnerStage::Rests(State::Idle),
+            stage: OwnerStage::Rests(State::Idle, PollEnd::Replied),
             session: None,
         }
     }
@@ -166,7 +221,10 @@ impl Owner {
             return Ok(Passage::Items(Pipe::new(alloc, capacity)?));
         }
         let capacity = or_default(self.capacity, DEFAULT_BYTES);
-        if let Some(HandleCall::Seek(_)) = &self.asked {
+        if let Some(
+            HandleCall::Seek(_) | HandleCall::Operate | HandleCall::OperateAgain,
+        ) = &self.asked
+        {
             return Ok(Passage::Without(capacity));
         }
         Ok(Passage::Bytes(Pipe::new(alloc, capacity)?))
@@ -176,26 +234,49 @@ impl Owner {
     pub fn rests(&self) -> bool
         ensures { result ≡ rests self.now }
     {
-        matches!(self.stage, OwnerStage::Rests(_))
+        matches!(self.stage, OwnerStage::Rests(_, _))
     }
 
-    /// Whether it may be asked for this: owners are asked for it yet, it is there, no poll of it is under way, and once its handle is gone it
-    /// is only flushed and closed.
+    /// Whether it may be asked for this: it is there, no poll of it is under way, once its handle is gone it is
+    /// only flushed and closed, once its handle was asked for for good it is only asked for that, and for the result of an operation it is asked
+    /// only where one is pending.
     pub fn may_ask(&self, call: &HandleCall) -> bool
         ensures { result ≡ may_ask self.now call.now }
     {
-        call.is_known() && self.may_begin(call)
+        self.may_begin(call)
+            && (!self.was_asked_inner() || is_into_inner(call))
+            && (!is_again(call) || self.awaits_operation())
     }
 
-    // The same of a call that owners are asked for.
+    // Whether an operation is pending: it was asked for one, and waits.
+    fn awaits_operation(&self) -> bool
+        ensures { result ≡ awaits_operation self.now.stage self.now.asked }
+    {
+        match &self.stage {
+            OwnerStage::Rests(_, end) => end.is_pending() && is_operation(&self.asked),
+            _ => false,
+        }
+    }
+
+    // Whether its handle was asked for for good, which then its last call does.
+    fn was_asked_inner(&self) -> bool
+        ensures { result ≡ is_into_inner self.now.asked }
+    {
+        match &self.asked {
+            Some(call) => is_into_inner(call),
+            None => false,
+        }
+    }
+
+    // The same by where the handle is alone.
     fn may_begin(&self, call: &HandleCall) -> bool
         ensures { result ≡ may_ask_at self.now.stage call.now }
     {
         match self.stage {
-            OwnerStage::Rests(State::Closed) => {
+            OwnerStage::Rests(State::Closed, _) => {
                 matches!(call, HandleCall::Flush | HandleCall::Close)
             }
-            OwnerStage::Rests(_) => true,
+            OwnerStage::Rests(_, _) => true,
             _ => false,
         }
     }
@@ -222,7 +303,8 @@ impl Owner {
         ensures { result ≡ next_of self.now }
     {
         match &self.stage {
-            OwnerStage::Rests(_) | OwnerStage::Dropped => OwnerNext::Rests,
+            OwnerStage::Rests(_, _) | OwnerStage::Dropped | OwnerStage::TakenBack =>
+                OwnerNext::Rests,
             OwnerStage::Wakes(_, _) => OwnerNext::Delivers,
             OwnerStage::Polls(poll) => match poll.next() {
                 OwnerAction::Begin => OwnerNext::Begins,
@@ -231,19 +313,18 @@ impl Owner {
                 | OwnerAction::Fill(_)
                 | OwnerAction::Receive
                 | OwnerAction::PollSlot
+                | OwnerAction::PollResult
                 | OwnerAction::DropHandle => OwnerNext::Acts(0),
                 OwnerAction::Reply(reply) => match told(reply, self.item()) {
                     Some(_) => OwnerNext::Acts(0),
                     None => OwnerNext::Rests,
                 },
-                OwnerAction::PollResult | OwnerAction::Deliver | OwnerAction::Pending => {
-                    OwnerNext::Rests
-                }
+                OwnerAction::Deliver | OwnerAction::Pending => OwnerNext::Rests,
             },
         }
     }
 
-    // The item that came out of the pipe of its last session last.
+    // The item that came out of the pipe of its last session last, or the result of its operation.
     fn item(&self) -> u64
         ensures { result ≡ item_in self.now.session }
     {
@@ -267,8 +348,8 @@ impl Owner {
     pub fn ask(&mut self, call: HandleCall)
         ensures { self.new ≡ owner_after_ask call self.old }
     {
-        if let OwnerStage::Rests(state) = &self.stage {
-            let poll = OwnerCall::new(poll_call(&call), *state);
+        if let OwnerStage::Rests(state, end) = &self.stage {
+            let poll = OwnerCall::new(poll_call(&call, end.is_for_result()), *state);
             self.asked = Some(call);
             self.turn(OwnerStage::Polls(poll));
         }
@@ -281,7 +362,10 @@ impl Owner {
     {
         match mem::replace(&mut self.stage, stage) {
             OwnerStage::Wakes(_poll, _note) => unreachable!(),
-            OwnerStage::Rests(_) | OwnerStage::Polls(_) | OwnerStage::Dropped => {}
+            OwnerStage::Rests(_, _)
+            | OwnerStage::Polls(_)
+            | OwnerStage::Dropped
+            | OwnerStage::TakenBack => {}
         }
     }
 
@@ -312,15 +396,13 @@ impl Owner {
             OwnerAction::Fill(_) => self.fill(poll),
             OwnerAction::Receive => self.receive(poll),
             OwnerAction::PollSlot => self.look(poll),
+            OwnerAction::PollResult => self.find_result(poll),
             OwnerAction::DropHandle => self.drop_handle(poll),
             OwnerAction::Reply(reply) => {
                 let told = told(reply, self.item());
                 self.reply(poll, told)
             }
-            OwnerAction::Begin
-            | OwnerAction::PollResult
-            | OwnerAction::Deliver
-            | OwnerAction::Pending => None,
+            OwnerAction::Begin | OwnerAction::Deliver | OwnerAction::Pending => None,
         }
     }
 
@@ -330,8 +412,20 @@ impl Owner {
         ensures { IsDid (reply_did told poll self.old) self.old result self.new }
     {
         let told = told?;
-        self.turn(OwnerStage::Rests(poll.state()));
+        let stage = self.after_reply(poll.state());
+        self.turn(stage);
         Some(Act::Replied(told))
+    }
+
+    // Where it is once its poll has replied, by where the handle is.
+    fn after_reply(&self, at: State) -> OwnerStage
+        ensures { result ≡ stage_after_reply (is_into_inner self.now.asked) at }
+    {
+        if self.was_asked_inner() {
+            OwnerStage::TakenBack
+        } else {
+            OwnerStage::Rests(at, PollEnd::Replied)
+        }
     }
 
     // It closes its end of the pipe.
@@ -385,7 +479,7 @@ impl Owner {
                 Some(Act::GotEnd)
             }
             Found::Nothing => {
-                self.turn(OwnerStage::Rests(poll.state()));
+                self.turn(OwnerStage::Rests(poll.state(), PollEnd::Waits));
                 Some(Act::Waits)
             }
         }
@@ -418,7 +512,7 @@ impl Owner {
                 Some(Act::GotEnd)
             }
             Obtained::Nothing => {
-                self.turn(OwnerStage::Rests(poll.state()));
+                self.turn(OwnerStage::Rests(poll.state(), PollEnd::Waits));
                 Some(Act::Waits)
             }
         }
@@ -455,7 +549,7 @@ impl Owner {
                 Some(Act::FillShut)
             }
             Entered::Nothing => {
-                self.turn(OwnerStage::Rests(poll.state()));
+                self.turn(OwnerStage::Rests(poll.state(), PollEnd::Waits));
                 Some(Act::Waits)
             }
         }
@@ -468,7 +562,7 @@ impl Owner {
     {
         let mut poll = poll;
         poll.answer(OwnerAnswer::Dropped);
-        self.turn(OwnerStage::Rests(poll.state()));
+        self.turn(OwnerStage::Rests(poll.state(), PollEnd::Replied));
         Some(Act::Replied(Told::Okay))
     }
 
@@ -488,10 +582,33 @@ impl Owner {
                 Some(Act::Back)
             }
             Looked::Nothing => {
-                self.turn(OwnerStage::Rests(poll.state()));
+                self.turn(OwnerStage::Rests(poll.state(), PollEnd::Waits));
                 Some(Act::Waits)
             }
             Looked::Gone => None,
+        }
+    }
+
+    // It looks for the result of its operation, which is kept until the reply.
+    fn find_result(&mut self, poll: OwnerCall<u64>) -> Option<Act>
+        requires { note_at self.old.stage ≡ None }
+        ensures { IsDid (did_in action.PollResult poll self.old.session self.old) self.old result self.new }
+    {
+        let Some(session) = &mut self.session else {
+            return None;
+        };
+        match session.find_result() {
+            Awaited::Result(number) => {
+                let mut poll = poll;
+                poll.answer(OwnerAnswer::Resulted);
+                self.turn(OwnerStage::Polls(poll));
+                Some(Act::ResultGot(number))
+            }
+            Awaited::Nothing => {
+                self.turn(OwnerStage::Rests(poll.state(), PollEnd::WaitsForResult));
+                Some(Act::Waits)
+            }
+            Awaited::Gone => None,
         }
     }
 
@@ -503,6 +620,9 @@ impl Owner {
             Some(HandleCall::Write(_)) => SessionJob::Write(WriteProgress::new(alloc)),
             Some(HandleCall::Next) => SessionJob::Items(ItemProgress::new()),
             Some(HandleCall::Seek(goal)) => SessionJob::Seek(SeekProgress::new(*goal)),
+            Some(HandleCall::Operate | HandleCall::OperateAgain) => {
+                SessionJob::Operate(OperationProgress::new())
+            }
             _ => SessionJob::Read(ReadProgress::new(alloc)),
         }
     }
@@ -548,8 +668,8 @@ impl Owner {
                 self.turn(OwnerStage::Polls(poll));
                 Some(note)
             }
-            OwnerStage::Rests(state) => {
-                self.turn(OwnerStage::Rests(state));
+            OwnerStage::Rests(state, end) => {
+                self.turn(OwnerStage::Rests(state, end));
                 None
             }
             OwnerStage::Polls(poll) => {
@@ -557,6 +677,10 @@ impl Owner {
                 None
             }
             OwnerStage::Dropped => None,
+            OwnerStage::TakenBack => {
+                self.turn(OwnerStage::TakenBack);
+                None
+            }
         }
     }
 
@@ -564,7 +688,7 @@ impl Owner {
     pub fn release(&mut self)
         ensures { self.new ≡ owner_after_drop self.old }
     {
-        if let OwnerStage::Rests(_) = &self.stage {
+        if let OwnerStage::Rests(_, _) = &self.stage {
             self.turn(OwnerStage::Dropped);
         }
     }
@@ -581,7 +705,10 @@ impl Owner {
         } = self;
         match stage {
             OwnerStage::Wakes(_poll, note) => Some(note),
-            OwnerStage::Rests(_) | OwnerStage::Polls(_) | OwnerStage::Dropped => None,
+            OwnerStage::Rests(_, _)
+            | OwnerStage::Polls(_)
+            | OwnerStage::Dropped
+            | OwnerStage::TakenBack => None,
         }
     }
 
@@ -596,6 +723,7 @@ impl Owner {
             SessionJob::Write(write) => self.write(alloc, write),
             SessionJob::Items(items) => Ok(self.stream(items)),
             SessionJob::Seek(seek) => Ok(self.seek(seek)),
+            SessionJob::Operate(operation) => Ok(self.operate(operation)),
         }
     }
 
@@ -655,6 +783,20 @@ impl Owner {
             return None;
         };
         session.seek(job)
+    }
+
+    // A job that runs an operation takes its next action.
+    fn operate(&mut self, job: &mut OperationProgress) -> Option<Act>
+        ensures { IsWorked (worked (of_job.Operate job.old) self.old) (of_job.Operate job.old) self.old result (of_job.Operate job.new) self.new }
+    {
+        if let OperationAction::Deliver = job.next() {
+            job.wake();
+            return Some(Act::HolderWoken);
+        }
+        let Some(session) = &mut self.session else {
+            return None;
+        };
+        session.operate(job)
     }
 
     /// The job of its session gives up: the handle won't come back. What is seen of that.

@@ -2,14 +2,15 @@
 ghost use Rattle.std.specs.Prelude.{◌≡◌, ◌<◌, ◌≤◌, true, length, []};
 
 use crate::item::ItemProgress;
+use crate::operation::OperationProgress;
 use crate::passage::Passage;
 use crate::read::ReadProgress;
 use crate::seek::SeekProgress;
 use crate::write::WriteProgress;
 use blocking_core::io::Fault;
 use blocking_core::job::{
-    ItemAction, ItemAnswer, PIECE, ReadAction, ReadAnswer, SeekAction, SeekAnswer, WriteAction,
-    WriteAnswer,
+    ItemAction, ItemAnswer, OperationAction, OperationAnswer, PIECE, ReadAction, ReadAnswer,
+    SeekAction, SeekAnswer, WriteAction, WriteAnswer,
 };
 use blocking_core::pipe::{Answered, Drained, Filled, Peeked, Put, Received, Room, Sending};
 use blocking_core::pool::{JobNo, WakeNote};
@@ -19,14 +20,15 @@ use blocking_laws::event::{Act, HolderWaker};
 use std::alloc::{AllocError, Global};
 use std::marker::Model;
 
-/// A session of an owner: the number of its job, the pipe between the two, the slot in which the handle comes back, and where a seek left
-/// the handle.
+/// A session of an owner: the number of its job, the pipe between the two, the place in which the result of its operation comes, the slot
+/// in which the handle comes back, and where a seek left the handle.
 #[derive(Drop)]
 pub(crate) struct Session {
     number: JobNo,
     passage: Passage,
-    // (the one that came out last, 0 before the first)
+    // (the one that came out last, 0 before the first; or the result)
     item: u64,
+    result: Slot<u64, ()>,
     slot: Slot<Option<Fault<u64>>, ()>,
     left: u64,
 }
@@ -71,6 +73,16 @@ pub(crate) enum Looked {
     Gone,
 }
 
+/// What an owner finds that looks for the result of its operation.
+pub(crate) enum Awaited {
+    /// This number.
+    Result(u64),
+    /// Nothing yet: the owner is seated.
+    Nothing,
+    /// Nothing, and nothing will come.
+    Gone,
+}
+
 impl Model for Session {
     ghost use Rattle.blocking_lanes.specs.Passages.{goods_in, pipe_in};
     ghost use Rattle.blocking_lanes.specs.Sessions.{Session as Seen};
@@ -82,6 +94,7 @@ impl Model for Session {
       goods = goods_in s.passage;
       item = s.item;
       pipe = pipe_in s.passage;
+      result = s.result;
       slot = s.slot;
       left = s.left;
     } };
@@ -95,14 +108,16 @@ impl Session {
     ghost use Rattle.blocking_core.specs.Writing.{write_next};
     ghost use Rattle.blocking_lanes.specs.Passages.{OfBytes, OfItems, is_bytes, is_items, goods_in, pipe_in, through, is_piped};
     ghost use Rattle.blocking_core.specs.Seeks.{seek_next};
+    ghost use Rattle.blocking_core.specs.Operations.{operation_next};
     ghost use Rattle.blocking_lanes.specs.Sessions.{filled, session_after_fill, front, found_piece, holds, work_at_peek, work_of_consume};
     ghost use Rattle.blocking_lanes.specs.Sessions.{found_send, streamer_closes, streamer_finishes, streamer_works, work_at_send, seek_finishes, seek_works};
     ghost use Rattle.blocking_lanes.specs.Sessions.{writer_closes, writer_finishes, writer_works, seek_finishes, seek_works};
     ghost use Rattle.blocking_lanes.specs.Sessions.{reach, drained, session_after_close, session_after_drain, session_after_look};
     ghost use Rattle.blocking_lanes.specs.Sessions.{work_by, work_at_room, work_at_put, work_of_close, work_of_finish, found_room, found_put, fits_in};
     ghost use Rattle.blocking_lanes.specs.Sessions.{give_up_wakes, session_after_give_up, IsWork};
-    ghost use Rattle.blocking_lanes.specs.Sessions.{received, session_after_receive};
-    ghost use Rattle.blocking_lanes.specs.Owners.{obtained_as, found_as, entered_as, looked_as};
+    ghost use Rattle.blocking_lanes.specs.Sessions.{received, session_after_receive, session_after_find};
+    ghost use Rattle.blocking_lanes.specs.Sessions.{operation_puts, operation_finishes, operation_works};
+    ghost use Rattle.blocking_lanes.specs.Owners.{obtained_as, found_as, entered_as, looked_as, awaited_as};
 
     /// A session that begins, with this job and this empty pipe.
     pub(crate) fn new(number: JobNo, passage: Passage) -> Session
@@ -111,6 +126,7 @@ impl Session {
           goods = goods_in passage;
           item = 0;
           pipe = pipe_in passage;
+          result = empty_slot;
           slot = empty_slot;
           left = 0;
         } }
@@ -119,6 +135,7 @@ impl Session {
             number,
             passage,
             item: 0,
+            result: Slot::new(),
             slot: Slot::new(),
             left: 0,
         }
@@ -225,7 +242,7 @@ impl Session {
         }
     }
 
-    /// The item that came out of the pipe last.
+    /// The item that came out of the pipe last, or the result of the operation.
     pub(crate) fn item(&self) -> u64
         ensures { result ≡ self.now.item }
     {
@@ -285,6 +302,21 @@ impl Session {
             Slotted::Value(fault) => Looked::Handle(fault),
             Slotted::Waits(_at_the_slot) => Looked::Nothing,
             Slotted::Gone => Looked::Gone,
+        }
+    }
+
+    /// The owner looks for the result of its operation, which is kept, and is seated where it may still come.
+    pub(crate) fn find_result(&mut self) -> Awaited
+        ensures found { result ≡ awaited_as self.old.result.content }
+        ensures session { self.new ≡ session_after_find self.old.result.content self.old }
+    {
+        match self.result.poll(()).answer {
+            Slotted::Value(number) => {
+                self.item = number;
+                Awaited::Result(number)
+            }
+            Slotted::Waits(_at_the_place) => Awaited::Nothing,
+            Slotted::Gone => Awaited::Gone,
         }
     }
 
@@ -588,7 +620,40 @@ impl Session {
         }
     }
 
-    // ---- either
+    // ---- a job that runs an operation
+
+    // The job puts the result of its operation.
+    fn put_result(&mut self, job: &mut OperationProgress) -> Act
+        ensures { operation_puts job.old self.old
+            ≡ record { act = result; job = job.new; session = self.new } }
+    {
+        let woke = self.result.put(job.number()).wake.is_some();
+        job.meet(OperationAnswer::ResultPut { woke });
+        Act::ResultPut(HolderWaker::in_seat(woke))
+    }
+
+    // The job puts its own result into the slot.
+    fn finish_operation(&mut self, job: &mut OperationProgress) -> Act
+        ensures { operation_finishes job.old self.old
+            ≡ record { act = result; job = job.new; session = self.new } }
+    {
+        let woke = self.slot.put(None).wake.is_some();
+        job.meet(OperationAnswer::Finished { woke });
+        Act::Finished(HolderWaker::in_seat(woke))
+    }
+
+    /// A job that runs an operation takes its next action, where it takes it at its session: what is seen of it.
+    pub(crate) fn operate(&mut self, job: &mut OperationProgress) -> Option<Act>
+        ensures { IsWork (operation_works (operation_next job.old.core) job.old self.old) job.old self.old result job.new self.new }
+    {
+        match job.next() {
+            OperationAction::PutResult => Some(self.put_result(job)),
+            OperationAction::Finish => Some(self.finish_operation(job)),
+            OperationAction::Call | OperationAction::Deliver | OperationAction::Done => None,
+        }
+    }
+
+    // ---- any
 
     /// The job gives up: the handle won't come back. Whether it took the waker of an owner who waited.
     pub(crate) fn give_up(&mut self) -> bool

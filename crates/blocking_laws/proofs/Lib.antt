@@ -1,3 +1,4 @@
 pub mod Beginnings
 pub mod Filters
 pub mod Queues
+pub mod WrittenBytes

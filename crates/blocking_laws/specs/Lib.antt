@@ -14,6 +14,7 @@ pub mod Seats
 pub mod Places
 pub mod Sessions
 pub mod Passed
+pub mod Behind
 pub mod OwnerTable
 pub mod OwnerSeats
 pub mod Ends

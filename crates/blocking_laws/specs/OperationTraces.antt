@@ -67,6 +67,10 @@ nine_unasked = nine_put ▸ works 1 (Finished Absent) ▸ ends 1 (Ended 1 Done)
 abbrev pub second_begun : List Moment
 second_begun = nine_unasked ▸ asks Operate 2 ▸ polls Back 2 ▸ polls (Accepted 2) 2
 
+-- .. / delivered owner / asked (for an operation) / waits / asked (for the result): the job of the one before has the handle
+abbrev pub older_asked : List Moment
+older_asked = nine_put ▸ asks Operate 2 ▸ polls Waits 2 ▸ asks OperateAgain 2
+
 -- ---- an operation that first stops a session
 
 -- .. / ended 1 parked / asked (for an operation) / closed wake 1 / delivered 1 entered / waits

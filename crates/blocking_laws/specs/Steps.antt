@@ -16,8 +16,6 @@ use Rattle.blocking_laws.specs.declared.event.Party.TheVariants.{Owner, Task, Wo
 use Rattle.blocking_laws.specs.declared.event.WaitEnd.{WaitEnd}
 use Rattle.blocking_laws.specs.declared.event.WaitEnd.TheVariants.{Woken, TimedOut}
 use Rattle.blocking_laws.specs.declared.step.Answer.{Answer}
-use Rattle.blocking_laws.specs.declared.step.HandleCall.{HandleCall}
-use Rattle.blocking_laws.specs.declared.step.HandleCall.TheVariants.{Read, Write, Flush, Close, Next, GetMut, Seek}
 use Rattle.blocking_laws.specs.declared.step.Step.{Step}
 use Rattle.blocking_laws.specs.declared.step.Step.TheVariants.{New, Ask, Own, DropOwner, Spawn, OfTask, Arrive, Take, Job, Io, End, Wait, Late, SetLimit, Sweep, Stray, Strike}
 use Rattle.blocking_laws.specs.declared.step.TaskCall.{TaskCall}
@@ -107,17 +105,6 @@ is_making _ = false
 abbrev pub owners : List Moment → ℕ
 owners past = length (filter (λ now. is_making now.event.act) past)
 
--- whether owners are asked for this yet
-abbrev pub is_known : HandleCall → Bool
-is_known (Read n) = true
-is_known (Write bytes) = true
-is_known Flush = true
-is_known Close = true
-is_known Next = true
-is_known GetMut = true
-is_known (Seek goal) = true
-is_known _ = false
-
 -- whether the holder of a job let it go, so that it may be cancelled in the pool
 abbrev pub may_cancel : Option Party → List Moment → Bool
 may_cancel (Some (Owner h)) past = is_dropped (acts_of_owner h (events past))
@@ -130,7 +117,7 @@ may_cancel _ past = false
 -- dropped where it rests; and its poll goes on while it is under way.
 abbrev pub has_action : List Moment → Step → Bool
 has_action past (New capacity) = true
-has_action past (Ask h call) = is_known call && may_ask (acts_of_owner h (events past)) call
+has_action past (Ask h call) = may_ask (acts_of_owner h (events past)) call
 has_action past (Own h) = not (is_poll_over (under_way (acts_of_owner h (events past))))
 has_action past (DropOwner h) = rests (acts_of_owner h (events past))
 has_action past Spawn = true

@@ -102,7 +102,6 @@ pub enum HandleCall {
 impl HandleCall {
     ghost use Rattle.std.specs.Prelude.{IsOk, true};
     ghost use Rattle.blocking_laws.specs.Bare.{is_bare_call};
-    ghost use Rattle.blocking_laws.specs.Steps.{is_known};
 
     /// The same call once more. Err where there is no memory for its bytes: a call without bytes is always had.
     pub fn try_clone(&self) -> Result<HandleCall, AllocError>
@@ -121,22 +120,6 @@ impl HandleCall {
             HandleCall::GetMut => Ok(HandleCall::GetMut),
             HandleCall::IntoInner => Ok(HandleCall::IntoInner),
         }
-    }
-
-    /// Whether owners are asked for this yet: not for an operation, or for the handle for good.
-    pub fn is_known(&self) -> bool
-        ensures { result ≡ is_known self.now }
-    {
-        matches!(
-            self,
-            HandleCall::Read(_)
-                | HandleCall::Write(_)
-                | HandleCall::Flush
-                | HandleCall::Close
-                | HandleCall::Next
-                | HandleCall::Seek(_)
-                | HandleCall::GetMut
-        )
     }
 }
 

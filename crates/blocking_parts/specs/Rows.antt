@@ -13,7 +13,7 @@ use Rattle.blocking_lanes.specs.declared.job.SessionJob.{SessionJob}
 use Rattle.blocking_lanes.specs.Steps as tasks
 use Rattle.blocking_lanes.specs.Steps.{TaskStep}
 use Rattle.blocking_lanes.specs.Tasks.{Task, finish_wakes}
-use Rattle.blocking_laws.specs.JobTable.{JobAction, Kind, Calling, AskCall, Finish, FindRoom, Peek, WakeHolder, Over, AskItem, SendItem, AskSeek}
+use Rattle.blocking_laws.specs.JobTable.{JobAction, Kind, Calling, AskCall, Finish, FindRoom, Peek, WakeHolder, Over, AskItem, SendItem, AskSeek, AskResult}
 use Rattle.blocking_laws.specs.Steps.{WorkerAction, Does, GivesUp, EndsTurn, next_in_turn}
 use Rattle.blocking_laws.specs.Turns.{GoesOn}
 use Rattle.blocking_laws.specs.declared.event.Act.{Act}
@@ -80,6 +80,7 @@ is_first FindRoom = true
 is_first Peek = true
 is_first AskItem = true
 is_first AskSeek = true
+is_first AskResult = true
 is_first (SendItem x) = true
 is_first _ = false
 

@@ -10,6 +10,8 @@ mod memory;
 #[cfg(test)]
 mod no_action;
 #[cfg(test)]
+mod operations;
+#[cfg(test)]
 mod owners;
 #[cfg(test)]
 mod reading;
@@ -17,6 +19,8 @@ mod reading;
 mod row;
 #[cfg(test)]
 mod streams_and_seeks;
+#[cfg(test)]
+mod taking_back;
 #[cfg(test)]
 mod texts;
 #[cfg(test)]

@@ -3,7 +3,7 @@ use Rattle.std.proofs.Common.{◌≡◌, ℕ, true, false, refl, Option, Some}
 use Rattle.blocking_core.specs.Slots.{Content, Empty, Full, GivenUp, Abandoned}
 use Rattle.blocking_laws.specs.Seen.{is_nothing}
 use Rattle.blocking_laws.specs.Steps.{IsPolled}
-use Rattle.blocking_lanes.specs.Tasks.{Task, task_act, task_after_call, has_let_go, stage_after_answer, may_be, poll_of, poll_at, poll_in, task_after_poll, task_after_poll_at, task_after_poll_in}
+use Rattle.blocking_lanes.specs.Tasks.{Task, task_act, task_after_call, has_let_go, stage_after_answer, poll_of, poll_at, poll_in, task_after_poll, task_after_poll_at, task_after_poll_in}
 use Rattle.blocking_laws.specs.declared.event.Act.{Act}
 use Rattle.blocking_laws.specs.declared.event.Act.TheVariants.{Waits, TaskGot, TaskGotNone, TaskCancelled, TaskDetached, HolderDropped}
 use Rattle.blocking_laws.specs.declared.step.TaskCall.{TaskCall}

@@ -17,35 +17,39 @@ use Rattle.blocking_core.specs.declared.job.write.WriteAction.{WriteAction}
 use Rattle.blocking_core.specs.declared.job.write.WriteAction.TheVariants as write
 use Rattle.blocking_core.specs.declared.job.seek.SeekAction.{SeekAction}
 use Rattle.blocking_core.specs.declared.job.seek.SeekAction.TheVariants as seek
+use Rattle.blocking_core.specs.Operations.{operation_next}
+use Rattle.blocking_core.specs.declared.job.operation.OperationAction.{OperationAction}
+use Rattle.blocking_core.specs.declared.job.operation.OperationAction.TheVariants as operation
 use Rattle.blocking_core.specs.declared.unblock.OwnerAction.{OwnerAction}
 use Rattle.blocking_core.specs.declared.unblock.OwnerAction.TheVariants as action
 use Rattle.blocking_core.specs.declared.unblock.Reply.{Reply}
 use Rattle.blocking_core.specs.declared.unblock.Reply.TheVariants as reply
-use Rattle.blocking_laws.specs.JobTable.{Kind, Reading, Writing, Streaming, JobAction, PutPiece, Consume, next_but_wake, is_asking, is_over, fault, has_finished, has_given_up, Seeking}
+use Rattle.blocking_laws.specs.JobTable.{Kind, Reading, Writing, Streaming, JobAction, PutPiece, Consume, next_but_wake, is_asking, is_over, fault, number, has_finished, has_given_up, has_result, Seeking, Operating}
 use Rattle.blocking_laws.specs.Passed.{got, accepted, kind_in}
 use Rattle.blocking_laws.specs.Seen.{own, acts_of}
-use Rattle.blocking_laws.specs.Sessions.{jobs_of, kind_of_job, under_way, is_poll_over, is_for_closed}
+use Rattle.blocking_laws.specs.Sessions.{jobs_of, kind_of_job, under_way, is_again, is_operation, is_poll_over, is_for_closed}
 use Rattle.blocking_laws.specs.Sessions as sessions
-use Rattle.blocking_laws.specs.Steps.{is_known}
 use Rattle.blocking_laws.specs.declared.event.Act.{Act}
 use Rattle.blocking_laws.specs.declared.event.Event.{Event}
 use Rattle.blocking_laws.specs.declared.event.Reply.{Reply as Told}
 use Rattle.blocking_laws.specs.declared.step.HandleCall.{HandleCall}
 use Rattle.blocking_laws.specs.declared.step.HandleCall.TheVariants as handle_call
 use Rattle.blocking_pool.specs.Lists.{is_in}
-use Rattle.blocking_lanes.specs.Owners.{Owner, rests, may_ask, may_ask_at, next_of, next_at, next_by, next_to_say, did, did_in, drain_did, fill_did, fill_did_in, look_did, looked_as, reply_as, reply_did, worked, worked_by, read_as, read_in, stream_as, stream_in, write_as, write_in, item_in, receive_did, close_did, seek_as, seek_in}
-use Rattle.blocking_lanes.specs.OwnerTies.{OwnerAs, LastAs, SlotAs, Flows, state_as, is_told}
+use Rattle.blocking_lanes.specs.Owners.{Owner, awaits_operation, rests, may_ask, may_ask_at, next_of, next_at, next_by, next_to_say, did, did_in, drain_did, fill_did, fill_did_in, look_did, looked_as, reply_as, reply_did, worked, worked_by, read_as, read_in, stream_as, stream_in, write_as, write_in, item_in, receive_did, close_did, seek_as, seek_in, operate_as, operate_in, find_did, awaited_as}
+use Rattle.blocking_lanes.specs.OwnerTies.{OwnerAs, HoldsResult, LastAs, SlotAs, Flows, has_found, state_as, is_told}
 use Rattle.blocking_lanes.specs.Passages.{OfBytes, OfItems, is_piped}
 use Rattle.blocking_lanes.specs.Reads as reads
 use Rattle.blocking_lanes.specs.Reads.{ReadAs}
 use Rattle.blocking_lanes.specs.SessionJobs.{JobAs, kind_of, action_of}
-use Rattle.blocking_lanes.specs.Sessions.{Session, drained, filled, fits_in, found_put, goods_of, holds, reach, session_after_look, streamer_works, work_at_put, work_by, work_of_consume, writer_works, received}
+use Rattle.blocking_lanes.specs.Sessions.{Session, drained, filled, fits_in, found_put, goods_of, holds, reach, session_after_look, streamer_works, work_at_put, work_by, work_of_consume, writer_works, received, session_after_find, operation_works}
 use Rattle.blocking_lanes.specs.Streams as streams
 use Rattle.blocking_lanes.specs.Streams.{ItemAs}
 use Rattle.blocking_lanes.specs.Writes as writes
 use Rattle.blocking_lanes.specs.Writes.{WriteAs}
 use Rattle.blocking_lanes.specs.Seeks as seeks
 use Rattle.blocking_lanes.specs.Seeks.{SeekAs}
+use Rattle.blocking_lanes.specs.Operations as operations
+use Rattle.blocking_lanes.specs.Operations.{OperationAs}
 use Rattle.blocking_lanes.specs.declared.job.SessionJob.{SessionJob}
 use Rattle.blocking_lanes.specs.declared.job.SessionJob.TheVariants as of_job
 use Rattle.blocking_lanes.specs.declared.owner.OwnerNext.{OwnerNext}
@@ -54,13 +58,14 @@ use Rattle.blocking_lanes.specs.declared.owner.OwnerStage.{OwnerStage}
 use Rattle.blocking_lanes.specs.declared.owner.OwnerStage.TheVariants as stage
 use Rattle.blocking_lanes.proofs.owners.Cuts.{kind_is}
 use Rattle.blocking_lanes.proofs.owners.Goods.{piped_here, through_here}
-use Rattle.blocking_lanes.proofs.owners.Known.{gone_known, may_ask_known}
+use Rattle.blocking_lanes.proofs.owners.PoolAnswers.{pends_so}
 use Rattle.blocking_lanes.proofs.owners.OwnerActs.{owner_by_parts, bound, doing, fits_at}
 use Rattle.blocking_lanes.proofs.owners.States.{gone_is, is_lent, lent, lent_at, looks_lent, may_be_asked, open_lent, open_piped}
 use Rattle.blocking_lanes.proofs.owners.ReadJobs as read_job
 use Rattle.blocking_lanes.proofs.owners.StreamJobs as stream_job
 use Rattle.blocking_lanes.proofs.owners.WriteJobs as write_job
 use Rattle.blocking_lanes.proofs.owners.SeekJobs as seek_job
+use Rattle.blocking_lanes.proofs.owners.OperationJobs as operation_job
 use Rattle.blocking_lanes.proofs.owners.Steps.{its_last}
 
 -- ---- its poll
@@ -72,7 +77,6 @@ is_rest _ = false
 
 -- the laws have a word for a reply that is told
 is_some_reply : (x : ℕ) (r : Reply ℕ) → is_told r ≡ true → is_some (reply_as x r) ≡ true
-is_some_reply x reply.Result told = absurd (cc)
 is_some_reply x reply.Closed told = absurd (cc)
 is_some_reply x _ told = refl
 
@@ -92,9 +96,10 @@ woken_is bytes asked p note last cut t = t.polled ∙ sym t.asked ∙ t.stage.0.
 
 rest_at : (bytes : ℕ) (asked : Option HandleCall) (here : OwnerStage) (last : Option Session) (cut : List Event) → OwnerAs (owner_by_parts bytes asked here last) cut
     → is_poll_over (under_way (own cut)) ≡ is_rest (next_at here last)
-rest_at bytes asked (stage.Rests st) last cut t = ap is_poll_over t.polled
+rest_at bytes asked (stage.Rests st end) last cut t = ap is_poll_over t.polled
 rest_at bytes asked (stage.Wakes p note) last cut t = ap is_poll_over (woken_is bytes asked p note last cut t)
 rest_at bytes asked stage.Dropped last cut t = ap is_poll_over t.polled
+rest_at bytes asked stage.TakenBack last cut t = ap is_poll_over t.polled
 rest_at bytes asked (stage.Polls p) last cut t = ap is_poll_over (polled_is bytes asked p last cut t) ∙ by_next p.next refl
   where
     by_next : (a : OwnerAction ℕ) → p.next ≡ a → false ≡ is_rest (next_by (owner_next p) last)
@@ -106,7 +111,7 @@ rest_at bytes asked (stage.Polls p) last cut t = ap is_poll_over (polled_is byte
     by_next action.DropHandle is = sym (ap (λ a. is_rest (next_by a last)) (doing p t.stage.1 ∙ is))
     by_next (action.Reply r) is = sym (ap (λ a. is_rest (next_by a last)) (doing p t.stage.1 ∙ is) ∙ to_say (reply_as (item_in last) r) (is_some_reply (item_in last) r (fits_at bytes asked p cut last (action.Reply r) t is).0))
     by_next action.Receive is = sym (ap (λ a. is_rest (next_by a last)) (doing p t.stage.1 ∙ is))
-    by_next action.PollResult is = absurd (fits_at bytes asked p cut last action.PollResult t is)
+    by_next action.PollResult is = sym (ap (λ a. is_rest (next_by a last)) (doing p t.stage.1 ∙ is))
     by_next action.Deliver is = absurd (fits_at bytes asked p cut last action.Deliver t is)
     by_next action.Pending is = absurd (fits_at bytes asked p cut last action.Pending t is)
 
@@ -116,10 +121,11 @@ rests_next owner cut t = rest_at owner.capacity owner.asked owner.stage owner.se
 
 rests_at : (bytes : ℕ) (asked : Option HandleCall) (here : OwnerStage) (last : Option Session) (cut : List Event) → OwnerAs (owner_by_parts bytes asked here last) cut
     → sessions.rests (own cut) ≡ rests (owner_by_parts bytes asked here last)
-rests_at bytes asked (stage.Rests st) last cut t = rw (t.made, gone_known (own cut) t.calls ∙ t.gone, t.polled) refl
-rests_at bytes asked (stage.Polls p) last cut t = rw (t.made, gone_known (own cut) t.calls ∙ t.gone, polled_is bytes asked p last cut t) refl
-rests_at bytes asked (stage.Wakes p note) last cut t = rw (t.made, gone_known (own cut) t.calls ∙ t.gone, woken_is bytes asked p note last cut t) refl
-rests_at bytes asked stage.Dropped last cut t = rw (t.made, gone_known (own cut) t.calls ∙ t.gone) refl
+rests_at bytes asked (stage.Rests st end) last cut t = rw (t.made, t.gone.1, t.polled) refl
+rests_at bytes asked (stage.Polls p) last cut t = rw (t.made, t.gone.1, polled_is bytes asked p last cut t) refl
+rests_at bytes asked (stage.Wakes p note) last cut t = rw (t.made, t.gone.1, woken_is bytes asked p note last cut t) refl
+rests_at bytes asked stage.Dropped last cut t = rw (t.made, t.gone.1) refl
+rests_at bytes asked stage.TakenBack last cut t = rw (t.made, t.gone.1) refl
 
 -- and it rests where the law says
 pub rests_is : (owner : Owner) (cut : List Event) → OwnerAs owner cut → sessions.rests (own cut) ≡ rests owner
@@ -127,8 +133,8 @@ rests_is owner cut t = rests_at owner.capacity owner.asked owner.stage owner.ses
 
 asked_at : (bytes : ℕ) (asked : Option HandleCall) (here : OwnerStage) (last : Option Session) (cut : List Event) (call : HandleCall) → OwnerAs (owner_by_parts bytes asked here last) cut
     → (sessions.rests (own cut) && (not (sessions.is_closed (own cut)) || is_for_closed call)) ≡ may_ask_at here call
-asked_at bytes asked (stage.Rests st) last cut call t =
-    ap (λ b. b && (not (sessions.is_closed (own cut)) || is_for_closed call)) (rests_at bytes asked (stage.Rests st) last cut t)
+asked_at bytes asked (stage.Rests st end) last cut call t =
+    ap (λ b. b && (not (sessions.is_closed (own cut)) || is_for_closed call)) (rests_at bytes asked (stage.Rests st end) last cut t)
     ∙ ap (λ b. not b || is_for_closed call) (gone_is (own cut) st t.stage.0) ∙ may_be_asked st call
 asked_at bytes asked (stage.Polls p) last cut call t =
     ap (λ b. b && (not (sessions.is_closed (own cut)) || is_for_closed call)) (rests_at bytes asked (stage.Polls p) last cut t)
@@ -136,14 +142,28 @@ asked_at bytes asked (stage.Wakes p note) last cut call t =
     ap (λ b. b && (not (sessions.is_closed (own cut)) || is_for_closed call)) (rests_at bytes asked (stage.Wakes p note) last cut t)
 asked_at bytes asked stage.Dropped last cut call t =
     ap (λ b. b && (not (sessions.is_closed (own cut)) || is_for_closed call)) (rests_at bytes asked stage.Dropped last cut t)
+asked_at bytes asked stage.TakenBack last cut call t =
+    ap (λ b. b && (not (sessions.is_closed (own cut)) || is_for_closed call)) (rests_at bytes asked stage.TakenBack last cut t)
 
--- and there it may be asked for what the law says, of what owners are asked for
-pub may_ask_is : (owner : Owner) (cut : List Event) (call : HandleCall) → OwnerAs owner cut → (is_known call && sessions.may_ask (own cut) call) ≡ may_ask owner call
-may_ask_is owner cut call t = by (is_known call) refl
+-- and for the result of an operation where one is pending
+again_at : (bytes : ℕ) (asked : Option HandleCall) (here : OwnerStage) (last : Option Session) (cut : List Event) (call : HandleCall) (inner : Bool) → OwnerAs (owner_by_parts bytes asked here last) cut
+    → (may_ask_at here call && inner && (not (is_again call) || sessions.is_pending_operation (own cut))) ≡ (may_ask_at here call && inner && (not (is_again call) || awaits_operation here asked))
+again_at bytes asked (stage.Rests st end) last cut call inner t = ap (λ b. may_ask_at (stage.Rests st end) call && inner && (not (is_again call) || b)) (pends_so bytes asked st end last cut t)
+again_at bytes asked (stage.Polls p) last cut call inner t = refl
+again_at bytes asked (stage.Wakes p note) last cut call inner t = refl
+again_at bytes asked stage.Dropped last cut call inner t = refl
+again_at bytes asked stage.TakenBack last cut call inner t = refl
+
+-- so it may be asked for what the law says
+pub may_ask_is : (owner : Owner) (cut : List Event) (call : HandleCall) → OwnerAs owner cut → sessions.may_ask (own cut) call ≡ may_ask owner call
+may_ask_is owner cut call t =
+    ap (λ b. b && inner (sessions.was_asked_inner (own cut)) && (not (is_again call) || sessions.is_pending_operation (own cut)))
+    (asked_at owner.capacity owner.asked owner.stage owner.session cut call t)
+    ∙ ap (λ b. may_ask_at owner.stage call && inner b && (not (is_again call) || sessions.is_pending_operation (own cut))) t.gone.2
+    ∙ again_at owner.capacity owner.asked owner.stage owner.session cut call (inner (sessions.is_into_inner owner.asked)) t
   where
-    by : (b : Bool) → is_known call ≡ b → (b && sessions.may_ask (own cut) call) ≡ (b && may_ask_at owner.stage call)
-    by false is = refl
-    by true is = may_ask_known (own cut) call t.calls is ∙ asked_at owner.capacity owner.asked owner.stage owner.session cut call t
+    inner : Bool → Bool
+    inner b = not b || sessions.is_into_inner (Some call)
 
 -- ---- what it does is there to be done
 
@@ -153,6 +173,13 @@ look_some Empty finished given_up back why p s owner slot stays = refl
 look_some (Full found) finished given_up back why p s owner slot stays = refl
 look_some GivenUp finished given_up back why p s owner slot stays = absurd (let gave = slot.1 in cc)
 look_some (Abandoned over) finished given_up back why p s owner slot stays = absurd slot
+
+find_some : (content : Content ℕ) (put found : Bool) (number : ℕ) (p : OwnerMachine ℕ) (s : Session) (owner : Owner) → HoldsResult content put found number
+    → is_some (find_did (awaited_as content) p s owner) ≡ true
+find_some Empty put found number p s owner holds = refl
+find_some (Full n) put found number p s owner holds = refl
+find_some GivenUp put found number p s owner holds = absurd holds
+find_some (Abandoned over) put found number p s owner holds = absurd holds
 
 told_some : (told : Option Told) (p : OwnerMachine ℕ) (owner : Owner) → is_some told ≡ true → is_some (reply_did told p owner) ≡ true
 told_some None p owner known = absurd (cc)
@@ -205,8 +232,11 @@ some_by bytes asked p cut action.PollSlot (Some s) t is n e =
     (session_after_look s.slot.content s) (owner_by_parts bytes asked (stage.Polls p) (Some s)) t.last.result.slot (stays (has_given_up works) refl)
   where
     stays : (b : Bool) → has_given_up (acts_of s.number.serial cut) ≡ b → has_given_up (acts_of s.number.serial cut) ≡ false
-    stays true is = absurd (let gone = t.last.result.let_go is in let here = t.gone in cc)
+    stays true is = absurd (let gone = t.last.result.let_go is in let here = t.gone.0 in cc)
     stays false is = is
+some_by bytes asked p cut action.PollResult (Some s) t is n e =
+    let works = acts_of s.number.serial cut in
+    find_some s.result.content (has_result works) (has_found (own cut)) (number works) p (session_after_find s.result.content s) (owner_by_parts bytes asked (stage.Polls p) (Some s)) t.place.content
 some_by bytes asked p cut action.Close None t is n e =
     let fits = fits_at bytes asked p cut None action.Close t is in
     lent None (bound bytes) cut p.state t.last t.stage.0.at_is (open_lent p.state fits.0)
@@ -219,6 +249,9 @@ some_by bytes asked p cut action.Receive None t is n e =
 some_by bytes asked p cut action.PollSlot None t is n e =
     let fits = fits_at bytes asked p cut None action.PollSlot t is in
     lent None (bound bytes) cut p.state t.last t.stage.0.at_is (looks_lent t.stage.0.call p.state p.is_at_end fits.0)
+some_by bytes asked p cut action.PollResult None t is n e =
+    let fits = fits_at bytes asked p cut None action.PollResult t is in
+    lent None (bound bytes) cut p.state t.last t.stage.0.at_is (ap is_lent fits.1)
 some_by bytes asked p cut _ last t is n e = absurd (cc)
 
 some_at : (bytes : ℕ) (asked : Option HandleCall) (here : OwnerStage) (last : Option Session) (cut : List Event) → OwnerAs (owner_by_parts bytes asked here last) cut → (n : ℕ)
@@ -226,9 +259,10 @@ some_at : (bytes : ℕ) (asked : Option HandleCall) (here : OwnerStage) (last : 
 some_at bytes asked (stage.Polls p) last cut t n e =
     let turn = doing p t.stage.1 in
     ap (λ a. is_some (did_in a p last (owner_by_parts bytes asked (stage.Polls p) last))) turn ∙ some_by bytes asked p cut p.next last t refl n (ap (λ a. next_by a last) (sym turn) ∙ e)
-some_at bytes asked (stage.Rests st) last cut t n e = absurd (cc)
+some_at bytes asked (stage.Rests st end) last cut t n e = absurd (cc)
 some_at bytes asked (stage.Wakes p note) last cut t n e = absurd (cc)
 some_at bytes asked stage.Dropped last cut t n e = absurd (cc)
+some_at bytes asked stage.TakenBack last cut t n e = absurd (cc)
 
 -- an owner that is to act by itself can
 pub acts_some : (owner : Owner) (cut : List Event) → OwnerAs owner cut → (n : ℕ) → next_of owner ≡ Acts n → is_some (did owner) ≡ true
@@ -369,6 +403,24 @@ seek_some owner cut n p t of r among asks over = by_next (seek_next p.core) refl
     by_next seek.Seek is asks over = absurd (cc)
     by_next seek.Done is asks over = absurd (cc)
 
+-- and one that runs an operation
+operate_some : (owner : Owner) (cut : List Event) (n : ℕ) (p : operations.Progress) → OwnerAs owner cut → kind_of_job n (own cut) ≡ Operating → OperationAs p (acts_of n cut) → is_in n (jobs_of (own cut)) ≡ true
+    → is_asking (operations.action_of p) ≡ false → is_over (operations.action_of p) ≡ false → is_some (worked (of_job.Operate p) owner) ≡ true
+operate_some owner cut n p t of r among asks over = by_next (operation_next p.core) refl asks over
+  where
+    at_last : (a : OperationAction) → operation_next p.core ≡ a → (a ≡ operation.Deliver → ⊥) → is_over (operations.action_as a) ≡ false
+        → ((s : Session) → is_some (worked_by of_job.Operate (operation_works a p s) owner) ≡ true) → is_some (operate_in a owner.session p owner) ≡ true
+    at_last a is other goes here =
+        let m = meets owner cut n Operating (operations.action_as a) t of among (sym r.next ∙ ap operations.action_as (operation_job.awake p a is other).next_is) goes in
+        subst (λ o. is_some (operate_in a o p owner) ≡ true) (sym m.here) (here m.session)
+
+    by_next : (a : OperationAction) → operation_next p.core ≡ a → is_asking (operations.action_as a) ≡ false → is_over (operations.action_as a) ≡ false → is_some (operate_as a p owner) ≡ true
+    by_next operation.Deliver is asks over = refl
+    by_next operation.PutResult is asks over = at_last operation.PutResult is (λ e. cc) refl (λ s. refl)
+    by_next operation.Finish is asks over = at_last operation.Finish is (λ e. cc) refl (λ s. refl)
+    by_next operation.Call is asks over = absurd (cc)
+    by_next operation.Done is asks over = absurd (cc)
+
 -- a job whose next action is its own can take it
 pub works_some : (owner : Owner) (cut : List Event) (n : ℕ) (p : SessionJob) → OwnerAs owner cut → kind_of_job n (own cut) ≡ kind_of p → JobAs p (acts_of n cut)
     → is_in n (jobs_of (own cut)) ≡ true → is_asking (action_of p) ≡ false → is_over (action_of p) ≡ false → is_some (worked p owner) ≡ true
@@ -376,3 +428,4 @@ works_some owner cut n (of_job.Read p) t of r among asks over = read_some owner 
 works_some owner cut n (of_job.Write p) t of r among asks over = write_some owner cut n p t of r among asks over
 works_some owner cut n (of_job.Items p) t of r among asks over = stream_some owner cut n p t of r among asks over
 works_some owner cut n (of_job.Seek p) t of r among asks over = seek_some owner cut n p t of r among asks over
+works_some owner cut n (of_job.Operate p) t of r among asks over = operate_some owner cut n p t of r among asks over

@@ -5,7 +5,7 @@ use Rattle.std.proofs.lemmas.Bool.{eq-eqb}
 use Rattle.std.proofs.Math.Seq.{drop-append_seam}
 use Rattle.blocking_core.specs.Places.{Met, Served, Waiting, Closed, drain, receive}
 use Rattle.blocking_core.specs.Pipes.{room}
-use Rattle.blocking_laws.specs.JobTable.{Kind, Reading, Writing, Streaming, JobAction, next_but_wake, fault, number, has_closed, Seeking}
+use Rattle.blocking_laws.specs.JobTable.{Kind, Reading, Writing, Streaming, JobAction, next_but_wake, fault, number, has_closed, Seeking, Operating}
 use Rattle.blocking_laws.specs.OwnerSeats.{note_of, noted, is_job_seated}
 use Rattle.blocking_laws.specs.OwnerTable.{owner_next_but_wake, next_of_owner, next_of_owner_by, deliver_first, at_back, after_back, is_at_end}
 use Rattle.blocking_laws.specs.Passed.{inside, inside_by, last_job, last_kind, kind_in, in_hand, room_in, gave, got, accepted, taken, is_of_session, PassesOn}
@@ -48,6 +48,7 @@ module _ (s : Session) (shut : Bool) (next : JobAction) (owner acts : List Act) 
   inside_at Streaming t = ap (λ l. drop (length (got owner)) l) t.inside ∙ drop-append_seam (got owner) s.pipe.items
   inside_at Writing t = ap (λ n. drop n (accepted owner)) t.removed ∙ ap (λ l. drop (length t.out) l) t.inside ∙ drop-append_seam t.out s.pipe.items
   inside_at (Seeking goal) t = sym t.plain.inside
+  inside_at Operating t = sym t.plain.inside
   inside_at _ t = absurd t
 
   closed_at : (kind : Kind) → Flows kind s shut (got owner) (accepted owner) next acts → has_closed acts ≡ not s.pipe.is_job_open
@@ -55,6 +56,7 @@ module _ (s : Session) (shut : Bool) (next : JobAction) (owner acts : List Act) 
   closed_at Streaming t = t.closed_is
   closed_at Writing t = t.closed_is
   closed_at (Seeking goal) t = t.plain.closed_is
+  closed_at Operating t = t.plain.closed_is
   closed_at _ t = absurd t
 
   read_at : (kind : Kind) → Flows kind s shut (got owner) (accepted owner) next acts → IsBeginning (got owner) (gave acts)
@@ -62,6 +64,7 @@ module _ (s : Session) (shut : Bool) (next : JobAction) (owner acts : List Act) 
   read_at Streaming t = (s.pipe.items ++ t.put.0, t.put.1 ∙ ap (λ l. l ++ t.put.0) t.inside ∙ append_assoc (got owner) s.pipe.items t.put.0)
   read_at Writing t = (gave acts, ap (λ l. l ++ gave acts) (sym t.ungot))
   read_at (Seeking goal) t = (gave acts, ap (λ l. l ++ gave acts) (sym t.plain.ungot))
+  read_at Operating t = (gave acts, ap (λ l. l ++ gave acts) (sym t.plain.ungot))
   read_at _ t = absurd t
 
   written_at : (kind : Kind) → Flows kind s shut (got owner) (accepted owner) next acts → IsBeginning (taken acts) (accepted owner)
@@ -69,6 +72,7 @@ module _ (s : Session) (shut : Bool) (next : JobAction) (owner acts : List Act) 
   written_at Streaming t = (accepted owner, ap (λ l. l ++ accepted owner) (sym t.unwritten))
   written_at Writing t = t.begun
   written_at (Seeking goal) t = (accepted owner, ap (λ l. l ++ accepted owner) (sym t.plain.unwritten))
+  written_at Operating t = (accepted owner, ap (λ l. l ++ accepted owner) (sym t.plain.unwritten))
   written_at _ t = absurd t
 
   bounded_at : (kind : Kind) → Flows kind s shut (got owner) (accepted owner) next acts → length (gave acts) ≤ length (got owner) + s.pipe.capacity + in_hand kind
@@ -76,6 +80,7 @@ module _ (s : Session) (shut : Bool) (next : JobAction) (owner acts : List Act) 
   bounded_at Streaming t = t.bounded
   bounded_at Writing t = subst (λ l. length l ≤ length (got owner) + s.pipe.capacity + 0) (sym t.ungiven) (omega arith)
   bounded_at (Seeking goal) t = subst (λ l. length l ≤ length (got owner) + s.pipe.capacity + 0) (sym t.plain.ungiven) (omega arith)
+  bounded_at Operating t = subst (λ l. length l ≤ length (got owner) + s.pipe.capacity + 0) (sym t.plain.ungiven) (omega arith)
   bounded_at _ t = absurd t
 
 module _ (s : Session) (bytes : Kind → ℕ) (cut : List Event) (t : LastAs (Some s) bytes cut) where

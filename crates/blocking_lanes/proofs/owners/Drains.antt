@@ -6,7 +6,7 @@ use Rattle.blocking_core.specs.Pipes.{room}
 use Rattle.blocking_core.specs.Places.{Served, Waiting, Closed, drain, receive}
 use Rattle.blocking_core.specs.Slots.{Slot, Empty, Full}
 use Rattle.blocking_core.specs.declared.io.Fault.{Fault}
-use Rattle.blocking_laws.specs.JobTable.{Kind, Reading, Writing, Streaming, JobAction, FindRoom, AskBytes, PutPiece, Peek, OfferBytes, Consume, AskFlush, AskItem, SendItem, CloseEnd, Finish, Over, next_but_wake, fault, has_finished, has_given_up, Seeking, has_closed}
+use Rattle.blocking_laws.specs.JobTable.{Kind, Reading, Writing, Streaming, JobAction, FindRoom, AskBytes, PutPiece, Peek, OfferBytes, Consume, AskFlush, AskItem, SendItem, CloseEnd, Finish, Over, next_but_wake, fault, has_finished, has_given_up, Seeking, Operating, has_closed}
 use Rattle.blocking_laws.specs.Passed.{gave, peeked, taken as taken_by}
 use Rattle.blocking_laws.specs.Sessions as sessions
 use Rattle.blocking_laws.specs.declared.event.Act.{Act}
@@ -154,6 +154,7 @@ shut_flow s Writing shut took accepted next acts t = record {
   unclosed = t.unclosed;
 }
 shut_flow s (Seeking goal) shut took accepted next acts t = record { plain = shut_plain s took accepted acts t.plain; next_is = t.next_is; place = t.place }
+shut_flow s Operating shut took accepted next acts t = record { plain = shut_plain s took accepted acts t.plain; next_is = t.next_is }
 shut_flow s _ shut took accepted next acts t = absurd t
 
 -- where the slot is another, what went through the pipe is the same
@@ -195,6 +196,10 @@ same_flow s slot (Seeking goal) shut took accepted next acts t = record {
   plain = same_plain s slot s.left took accepted (has_closed acts) (gave acts) (peeked acts) (taken_by acts) t.plain;
   next_is = t.next_is;
   place = t.place;
+}
+same_flow s slot Operating shut took accepted next acts t = record {
+  plain = same_plain s slot s.left took accepted (has_closed acts) (gave acts) (peeked acts) (taken_by acts) t.plain;
+  next_is = t.next_is;
 }
 same_flow s slot _ shut took accepted next acts t = absurd t
 
@@ -418,12 +423,13 @@ module _ (s : Session) (capacity : ℕ) (last : Option sessions.Session) (shut b
 
 -- ---- a session that begins
 
--- jobs that are lent a handle, with a pipe
+-- jobs that are lent a handle
 abbrev pub IsLending : Kind → Type 0
 IsLending Reading = Unit {0}
 IsLending Streaming = Unit {0}
 IsLending Writing = Unit {0}
 IsLending (Seeking goal) = Unit {0}
+IsLending Operating = Unit {0}
 IsLending _ = ⊥
 
 -- what goes through a session's pipe tells that it is such a one
@@ -432,6 +438,7 @@ lends s shut got accepted next acts Reading flow = tt
 lends s shut got accepted next acts Streaming flow = tt
 lends s shut got accepted next acts Writing flow = tt
 lends s shut got accepted next acts (Seeking goal) flow = tt
+lends s shut got accepted next acts Operating flow = tt
 lends s shut got accepted next acts _ flow = absurd flow
 
 pub begins : (number : JobNumber) (kind : Kind) (capacity : ℕ) (dropped : Bool) → IsLending kind → 0 < capacity
@@ -486,6 +493,20 @@ begins number (Seeking goal) capacity dropped lending some = record {
     plain = record { closed_is = refl; inside = refl; unseated = refl; ungot = refl; unfilled = refl; ungiven = refl; unfound = refl; unwritten = refl };
     next_is = tt;
     place = λ is. absurd (cc);
+  };
+  result = record { slot = (refl, refl); over_is = refl; let_go = λ is. absurd (cc) };
+  seats = record {
+    job = refl;
+    owner = refl;
+    slot = refl;
+    reason = record { job = λ seated. absurd (cc); owner = λ seated. absurd (cc); slot = λ seated. absurd (cc) };
+  };
+}
+begins number Operating capacity dropped lending some = record {
+  lent = record { begun = refl; goods = refl; some = some; holds = refl; within = omega arith; shut_is = refl };
+  flow = record {
+    plain = record { closed_is = refl; inside = refl; unseated = refl; ungot = refl; unfilled = refl; ungiven = refl; unfound = refl; unwritten = refl };
+    next_is = tt;
   };
   result = record { slot = (refl, refl); over_is = refl; let_go = λ is. absurd (cc) };
   seats = record {

@@ -16,6 +16,9 @@ use Rattle.blocking_core.specs.Writing.{write_next}
 use Rattle.blocking_core.specs.Seeks.{seek_next}
 use Rattle.blocking_core.specs.declared.job.seek.SeekAction.{SeekAction}
 use Rattle.blocking_core.specs.declared.job.seek.SeekAction.TheVariants as seek
+use Rattle.blocking_core.specs.Operations.{operation_next}
+use Rattle.blocking_core.specs.declared.job.operation.OperationAction.{OperationAction}
+use Rattle.blocking_core.specs.declared.job.operation.OperationAction.TheVariants as operation
 use Rattle.blocking_core.specs.declared.unblock.OwnerAction.{OwnerAction}
 use Rattle.blocking_core.specs.declared.unblock.OwnerAction.TheVariants as action
 use Rattle.blocking_laws.specs.Jobs.{accepted_by}
@@ -27,14 +30,15 @@ use Rattle.blocking_laws.specs.declared.event.Reply.{Reply as Told}
 use Rattle.blocking_laws.specs.declared.step.HandleCall.{HandleCall}
 use Rattle.blocking_laws.specs.declared.step.HandleCall.TheVariants as handle_call
 use Rattle.blocking_pool.specs.Jobs.{JobNumber}
-use Rattle.blocking_lanes.specs.Owners.{Owner, Did, Worked, note_at, drain_did, fill_did, fill_did_in, look_did, looked_as, reply_as, reply_did, did_in, did_by, did, worked_by, read_in, read_as, stream_in, stream_as, write_in, write_as, worked, item_in, receive_did, seek_in, seek_as}
+use Rattle.blocking_lanes.specs.Owners.{Owner, Did, Worked, note_at, drain_did, fill_did, fill_did_in, look_did, looked_as, reply_as, reply_did, did_in, did_by, did, worked_by, read_in, read_as, stream_in, stream_as, write_in, write_as, worked, item_in, receive_did, seek_in, seek_as, find_did, awaited_as, operate_in, operate_as}
 use Rattle.blocking_lanes.specs.OwnerSteps.{OwnerStep, IsAsked, Acts, Begins, IsRefused, Delivers, IsDropped, Works, IsAnswered, GivesUp, CallsWaker, act_of, act_in, act_of_work, delivered}
 use Rattle.blocking_lanes.specs.Passages.{OfBytes, OfItems, through}
 use Rattle.blocking_lanes.specs.Reads as reads
 use Rattle.blocking_lanes.specs.Streams as streams
 use Rattle.blocking_lanes.specs.Writes as writes
-use Rattle.blocking_lanes.specs.Sessions.{Session, Work, found_send, streamer_works, work_by, work_at_put, writer_works, work_of_consume, holds, fits_in, found_room, found_put, found_piece, drained, filled, reach, session_after_look, received}
+use Rattle.blocking_lanes.specs.Sessions.{Session, Work, found_send, streamer_works, work_by, work_at_put, writer_works, work_of_consume, holds, fits_in, found_room, found_put, found_piece, drained, filled, reach, session_after_look, received, session_after_find}
 use Rattle.blocking_lanes.specs.Seeks as seeks
+use Rattle.blocking_lanes.specs.Operations as operations
 use Rattle.blocking_lanes.specs.declared.job.SessionJob.{SessionJob}
 use Rattle.blocking_lanes.specs.declared.job.SessionJob.TheVariants as of_job
 use Rattle.blocking_lanes.specs.declared.owner.OwnerStage.{OwnerStage}
@@ -88,6 +92,13 @@ plain_look GivenUp p s owner done e = absurd (cc)
 plain_look (Abandoned true) p s owner done e = absurd (cc)
 plain_look (Abandoned false) p s owner done e = moved (λ (d : Did). IsPlain [] d.act) _ done e (record { pool = refl; nothing = refl; made = refl; new = refl })
 
+plain_find : (content : Content ℕ) (p : OwnerMachine ℕ) (s : Session) (owner : Owner) (done : Did) → find_did (awaited_as content) p s owner ≡ Some done → IsPlain [] done.act
+plain_find Empty p s owner done e = moved (λ (d : Did). IsPlain [] d.act) _ done e (record { pool = refl; nothing = refl; made = refl; new = refl })
+plain_find (Full n) p s owner done e = moved (λ (d : Did). IsPlain [] d.act) _ done e (record { pool = refl; nothing = refl; made = refl; new = refl })
+plain_find GivenUp p s owner done e = absurd (cc)
+plain_find (Abandoned true) p s owner done e = absurd (cc)
+plain_find (Abandoned false) p s owner done e = moved (λ (d : Did). IsPlain [] d.act) _ done e (record { pool = refl; nothing = refl; made = refl; new = refl })
+
 plain_did : (next : OwnerAction ℕ) (p : OwnerMachine ℕ) (last : Option Session) (owner : Owner) (done : Did) → did_in next p last owner ≡ Some done → IsPlain [] done.act
 plain_did (action.Reply r) p last owner done e = by_told (reply_as (item_in last) r) e
   where
@@ -100,6 +111,7 @@ plain_did action.Close p (Some s) owner done e = moved (λ (d : Did). IsPlain []
 plain_did (action.Drain most) p (Some s) owner done e = moved (λ (d : Did). IsPlain [] d.act) _ done (through_some OfBytes s.goods _ done e).1 (plain_drain (drained (reach most s) s) p s owner)
 plain_did action.Receive p (Some s) owner done e = moved (λ (d : Did). IsPlain [] d.act) _ done (through_some OfItems s.goods _ done e).1 (plain_receive (received s) p s owner)
 plain_did action.PollSlot p (Some s) owner done e = plain_look s.slot.content p (session_after_look s.slot.content s) owner done e
+plain_did action.PollResult p (Some s) owner done e = plain_find s.result.content p (session_after_find s.result.content s) owner done e
 plain_did _ p None owner done e = absurd (cc)
 plain_did _ p (Some s) owner done e = absurd (cc)
 
@@ -212,12 +224,28 @@ plain_seek seek.Seek p owner done e = plain_sought seek.Seek owner.session p own
 plain_seek seek.Finish p owner done e = plain_sought seek.Finish owner.session p owner done e
 plain_seek seek.Done p owner done e = plain_sought seek.Done owner.session p owner done e
 
+plain_operated : (a : OperationAction) (last : Option Session) (p : operations.Progress) (owner : Owner) (done : Worked) → operate_in a last p owner ≡ Some done → IsPlain [] done.act
+plain_operated a None p owner done e = absurd (cc)
+plain_operated operation.PutResult (Some s) p owner done e = moved (λ (d : Worked). IsPlain [] d.act) _ done e (record { pool = refl; nothing = refl; made = refl; new = refl })
+plain_operated operation.Finish (Some s) p owner done e = moved (λ (d : Worked). IsPlain [] d.act) _ done e (record { pool = refl; nothing = refl; made = refl; new = refl })
+plain_operated operation.Call (Some s) p owner done e = absurd (cc)
+plain_operated operation.Deliver (Some s) p owner done e = absurd (cc)
+plain_operated operation.Done (Some s) p owner done e = absurd (cc)
+
+plain_operate : (a : OperationAction) (p : operations.Progress) (owner : Owner) (done : Worked) → operate_as a p owner ≡ Some done → IsPlain [] done.act
+plain_operate operation.Deliver p owner done e = moved (λ (d : Worked). IsPlain [] d.act) _ done e (record { pool = refl; nothing = refl; made = refl; new = refl })
+plain_operate operation.Call p owner done e = plain_operated operation.Call owner.session p owner done e
+plain_operate operation.PutResult p owner done e = plain_operated operation.PutResult owner.session p owner done e
+plain_operate operation.Finish p owner done e = plain_operated operation.Finish owner.session p owner done e
+plain_operate operation.Done p owner done e = plain_operated operation.Done owner.session p owner done e
+
 -- an act of a job, whatever it does
 plain_worked : (p : SessionJob) (owner : Owner) (done : Worked) → worked p owner ≡ Some done → IsPlain [] done.act
 plain_worked (of_job.Read p) owner done e = plain_read (read_next p.core) p owner done e
 plain_worked (of_job.Write p) owner done e = plain_write (write_next p.core) p owner done e
 plain_worked (of_job.Items p) owner done e = plain_stream (item_next p.core) p owner done e
 plain_worked (of_job.Seek p) owner done e = plain_seek (seek_next p.core) p owner done e
+plain_worked (of_job.Operate p) owner done e = plain_operate (operation_next p.core) p owner done e
 
 -- each step
 pub plain_of : (step : OwnerStep) (owner : Owner) (act : Act) → act_of step owner ≡ Some act → IsPlain (brought step) act
@@ -226,9 +254,10 @@ plain_of Acts owner act e = at (did owner) refl e
   where
     by_stage : (here : OwnerStage) (done : Did) → did_by here owner ≡ Some done → IsPlain [] done.act
     by_stage (stage.Polls p) done e = plain_did (owner_next p) p owner.session owner done e
-    by_stage (stage.Rests st) done e = absurd (cc)
+    by_stage (stage.Rests st end) done e = absurd (cc)
     by_stage (stage.Wakes p note) done e = absurd (cc)
     by_stage stage.Dropped done e = absurd (cc)
+    by_stage stage.TakenBack done e = absurd (cc)
 
     at : (o : Option Did) → did owner ≡ o → act_in o ≡ Some act → IsPlain [] act
     at None is e = absurd (cc)

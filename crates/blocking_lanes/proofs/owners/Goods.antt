@@ -1,5 +1,5 @@
 -- What is done at a session only where such things pass as are wanted.
-use Rattle.std.proofs.Common.{◌≡◌, refl, sym, true, Option, Some, None}
+use Rattle.std.proofs.Common.{◌≡◌, refl, true, Option, Some, None}
 use Rattle.blocking_lanes.specs.Passages.{Goods, OfBytes, OfItems, OfNothing, through, if_piped, is_piped}
 
 module _ {A : Type 0} where

@@ -8,7 +8,8 @@ use Rattle.blocking_core.specs.Places.{Met, Served, Waiting, Closed, find_room, 
 use Rattle.blocking_core.specs.Reading.{read_next}
 use Rattle.blocking_core.specs.Writing.{write_next}
 use Rattle.blocking_core.specs.Seeks.{seek_next}
-use Rattle.blocking_core.specs.Slots.{Slot, slot_after, slot_without_job, answer_of, waker_out_of}
+use Rattle.blocking_core.specs.Operations.{operation_next}
+use Rattle.blocking_core.specs.Slots.{Slot, after_put, slot_after, slot_without_job, answer_of, waker_out_of}
 use Rattle.blocking_core.specs.declared.io.Fault.{Fault}
 use Rattle.blocking_core.specs.Items.{item_next}
 use Rattle.blocking_core.specs.declared.job.item.ItemAction.{ItemAction}
@@ -18,11 +19,13 @@ use Rattle.blocking_core.specs.declared.job.read.ReadAction.TheVariants as read
 use Rattle.blocking_core.specs.declared.job.write.WriteAction.{WriteAction}
 use Rattle.blocking_core.specs.declared.job.write.WriteAction.TheVariants as write
 use Rattle.blocking_core.specs.declared.job.seek.SeekAction.TheVariants as seek
+use Rattle.blocking_core.specs.declared.job.operation.OperationAction.{OperationAction}
+use Rattle.blocking_core.specs.declared.job.operation.OperationAction.TheVariants as operation
 use Rattle.blocking_laws.specs.Ends.{EndsTruly, back_by, came_back}
-use Rattle.blocking_laws.specs.JobTable.{Kind, Reading, Writing, Streaming, JobAction, SendItem, AskCall, AskItem, AskSeek, AskResult, FindRoom, AskBytes, PutPiece, Peek, OfferBytes, Consume, AskFlush, piece, CloseEnd, Finish, WakeHolder, Over, next_but_wake, next_of_job, is_over, is_answer, takes_waker, is_taken, fault, number, has_finished, has_given_up, Seeking}
+use Rattle.blocking_laws.specs.JobTable.{Kind, Reading, Writing, Streaming, JobAction, SendItem, AskCall, AskItem, AskSeek, AskResult, FindRoom, AskBytes, PutPiece, Peek, OfferBytes, Consume, AskFlush, piece, CloseEnd, PutResult, Finish, WakeHolder, Over, next_but_wake, next_of_job, is_over, is_answer, takes_waker, is_taken, fault, number, has_result, has_finished, has_given_up, Seeking, Operating}
 use Rattle.blocking_laws.specs.JobTable as job
 use Rattle.blocking_laws.specs.OwnerLaws.{JobActs, Works}
-use Rattle.blocking_laws.specs.OwnerSeats.{place_of, is_job_seated, job_seated_by, pipe_seat, pipe_seated_by, slot_seat, slot_seated_by}
+use Rattle.blocking_laws.specs.OwnerSeats.{place_of, is_job_seated, job_seated_by, pipe_seat, pipe_seated_by, result_seat, result_seated_by, slot_seat, slot_seated_by}
 use Rattle.blocking_laws.specs.OwnerTable.{next_of_owner, owner_next_but_wake}
 use Rattle.blocking_laws.specs.OwnerTable as law
 use Rattle.blocking_laws.specs.Passed.{got, accepted, inside, room_in, is_serial}
@@ -33,22 +36,24 @@ use Rattle.blocking_laws.specs.Sessions.{jobs_of, kind_of_job}
 use Rattle.blocking_laws.specs.Sessions as sessions
 use Rattle.blocking_laws.specs.Wakes.{was_woken}
 use Rattle.blocking_laws.specs.declared.event.Act.{Act}
-use Rattle.blocking_laws.specs.declared.event.Act.TheVariants.{RoomFree, RoomShut, JobParked, Answered, Put, Lost, Peeked, Drained, Taken as TakenOut, JobClosed, Finished, GaveUp}
+use Rattle.blocking_laws.specs.declared.event.Act.TheVariants.{RoomFree, RoomShut, JobParked, Answered, Put, Lost, Peeked, Drained, Taken as TakenOut, JobClosed, ResultPut, Finished, GaveUp}
 use Rattle.blocking_laws.specs.declared.event.Event.{Event}
 use Rattle.blocking_laws.specs.declared.step.Answer.{Answer}
 use Rattle.blocking_laws.specs.declared.step.HandleCall.{HandleCall}
 use Rattle.blocking_pool.specs.Growth.{Growth}
 use Rattle.blocking_pool.specs.Lists.{is_in}
 use Rattle.blocking_lanes.specs.OwnerSteps.{by_its_job}
-use Rattle.blocking_lanes.specs.OwnerTies.{OwnerAs, StageBy, SessionAs, ResultAs, IsAtEnd, is_seated, newest_note}
+use Rattle.blocking_lanes.specs.OwnerTies.{OwnerAs, StageBy, SessionAs, ResultAs, PlaceAs, PlaceBy, has_found, IsAtEnd, is_seated, newest_note}
 use Rattle.blocking_lanes.specs.Reads.{Progress, ReadAs, action_as, action_of}
-use Rattle.blocking_lanes.specs.Sessions.{Session, Work, found_piece, found_send, streamer_closes, streamer_finishes, work_at_send, work_at_peek, work_of_consume, writer_closes, writer_finishes, work_at_room, work_at_put, work_of_close, work_of_finish, found_room, found_put, fits_in, finish_wakes, give_up_wakes, session_after_give_up, seek_finishes}
+use Rattle.blocking_lanes.specs.Sessions.{Session, Work, found_piece, found_send, streamer_closes, streamer_finishes, work_at_send, work_at_peek, work_of_consume, writer_closes, writer_finishes, work_at_room, work_at_put, work_of_close, work_of_finish, found_room, found_put, fits_in, finish_wakes, give_up_wakes, session_after_give_up, seek_finishes, result_wakes, operation_puts, operation_finishes}
 use Rattle.blocking_lanes.specs.Streams as streams
 use Rattle.blocking_lanes.specs.Streams.{ItemAs}
 use Rattle.blocking_lanes.specs.Writes as writes
 use Rattle.blocking_lanes.specs.Writes.{WriteAs}
 use Rattle.blocking_lanes.specs.Seeks as seeks
 use Rattle.blocking_lanes.specs.Seeks.{SeekAs}
+use Rattle.blocking_lanes.specs.Operations as operations
+use Rattle.blocking_lanes.specs.Operations.{OperationAs}
 use Rattle.blocking_lanes.specs.declared.owner.OwnerStage.{OwnerStage}
 use Rattle.blocking_lanes.proofs.owners.Jobs.{no_wait}
 use Rattle.blocking_lanes.proofs.owners.Cuts.{its_kind, kind_is, inside_is, next_stays, room_is, open_is}
@@ -62,6 +67,10 @@ use Rattle.blocking_lanes.proofs.owners.StreamJobs as of_streamer
 use Rattle.blocking_lanes.proofs.owners.StreamSessions.{item_answers, send_loses, send_parks, sends}
 use Rattle.blocking_lanes.proofs.owners.SeekJobs as of_seeker
 use Rattle.blocking_lanes.proofs.owners.SeekSessions.{seek_answers, seek_puts}
+use Rattle.blocking_lanes.proofs.owners.OperationJobs as of_operator
+use Rattle.blocking_lanes.proofs.owners.OperationSessions.{operation_answers, result_puts}
+use Rattle.blocking_lanes.proofs.owners.Results as results
+use Rattle.blocking_lanes.proofs.owners.Results.{is_operating}
 
 -- ---- seats that acts empty
 
@@ -69,14 +78,20 @@ pub seated_is : (o : Option (Unit {0})) → o ≡ seated (is_some o)
 seated_is None = refl
 seated_is (Some tt) = refl
 
--- an owner that was seated is taken out of the first of two seats, or still sits in the other
+-- an owner that was seated is taken out of the first of three seats, or still sits in another
 pub taken_first : (a b : Bool) → a || b ≡ true → (is_taken (waker_in a) ≡ true) ⊎ (b ≡ true)
 taken_first true b e = inl refl
 taken_first false b e = inr e
 
-pub taken_last : (a b woke after : Bool) → woke ≡ b → a || b ≡ true → (is_taken (waker_in woke) ≡ true) ⊎ (a || after ≡ true)
-taken_last true b woke after same e = inr refl
-taken_last false b woke after same e = inl (ap (λ c. is_taken (waker_in c)) (same ∙ e))
+pub taken_second : (a b c woke after : Bool) → woke ≡ b → a || (b || c) ≡ true → (is_taken (waker_in woke) ≡ true) ⊎ (a || (after || c) ≡ true)
+taken_second true b c woke after same e = inr refl
+taken_second false true c woke after same e = inl (ap (λ d. is_taken (waker_in d)) same)
+taken_second false false c woke after same e = inr (or_right after c e)
+
+pub taken_third : (a b c woke after : Bool) → woke ≡ c → a || (b || c) ≡ true → (is_taken (waker_in woke) ≡ true) ⊎ (a || (b || after) ≡ true)
+taken_third true b c woke after same e = inr refl
+taken_third false true c woke after same e = inr refl
+taken_third false false c woke after same e = inl (ap (λ d. is_taken (waker_in d)) (same ∙ e))
 
 -- what is answered asks, and isn't over
 pub asking_goes : (action : JobAction) (answer : Answer) → is_answer action answer ≡ true → is_over action ≡ false
@@ -128,6 +143,12 @@ module _ (bytes : ℕ) (asked : Option HandleCall) (here : OwnerStage) (s : Sess
   abbrev ss : Bool
   ss = slot_seat cut
 
+  abbrev rs : Bool
+  rs = result_seat cut
+
+  abbrev came : Bool
+  came = has_found (own cut)
+
   -- the job's event
   abbrev event : Act → Event
   event act = by_its_job h v s.number.serial act first growth
@@ -145,12 +166,12 @@ module _ (bytes : ℕ) (asked : Option HandleCall) (here : OwnerStage) (s : Sess
   pub last_as : (k : Kind) → kind ≡ k → Tied s k acts js ps ss
   last_as k same = subst (λ k. Tied s k acts js ps ss) same t.last
 
-  -- the session with this pipe, slot and number
-  abbrev now_at : Pipe ℕ (Unit {0}) → Slot (Option (Fault ℕ)) (Unit {0}) → ℕ → Session
-  now_at pipe slot left = record { number = s.number; goods = s.goods; item = s.item; pipe = pipe; slot = slot; left = left }
+  -- the session with this pipe, place of the result, slot and number
+  abbrev now_at : Pipe ℕ (Unit {0}) → Slot ℕ (Unit {0}) → Slot (Option (Fault ℕ)) (Unit {0}) → ℕ → Session
+  now_at pipe result slot left = record { number = s.number; goods = s.goods; item = s.item; pipe = pipe; result = result; slot = slot; left = left }
 
   -- What an act of the job, which is of this kind, has to keep, so that the tie and the law do.
-  pub record KeepsLeft (k : Kind) (act : Act) (pipe : Pipe ℕ (Unit {0})) (slot : Slot (Option (Fault ℕ)) (Unit {0})) (left : ℕ) : Type 0 where
+  pub record KeepsAll (k : Kind) (act : Act) (pipe : Pipe ℕ (Unit {0})) (result : Slot ℕ (Unit {0})) (slot : Slot (Option (Fault ℕ)) (Unit {0})) (left : ℕ) : Type 0 where
     pub pool : is_of_pool act ≡ false
     pub nothing : is_nothing act ≡ false
     pub lawful : JobActs cut s.number.serial k act
@@ -158,25 +179,35 @@ module _ (bytes : ℕ) (asked : Option HandleCall) (here : OwnerStage) (s : Sess
     pub back : (here : List Event) (before : Option (List Event)) → back_by act here before ≡ before
     pub faults : over ≡ true → (any : Kind) → (fault any (act ∷ acts) ≡ fault any acts) × (number (act ∷ acts) ≡ number acts)
     pub session :
-        Tied (now_at pipe slot left) k (act ∷ acts)
+        Tied (now_at pipe result slot left) k (act ∷ acts)
         (job_seated_by act (is_job_seated cut)) (pipe_seated_by act (place_of (next_of_owner cut)) (pipe_seat cut))
         (slot_seated_by act (place_of (next_of_owner cut)) (slot_seat cut))
-    pub ended : IsAtEnd s → IsAtEnd (now_at pipe slot left)
-    pub told : is_seated (Some s) ≡ true → (takes_waker act ≡ true) ⊎ (is_seated (Some (now_at pipe slot left)) ≡ true)
+    pub place : PlaceBy result k (act ∷ acts) came (result_seated_by act (place_of (next_of_owner cut)) rs)
+    pub ended : IsAtEnd s → IsAtEnd (now_at pipe result slot left)
+    pub told : is_seated (Some s) ≡ true → (takes_waker act ≡ true) ⊎ (is_seated (Some (now_at pipe result slot left)) ≡ true)
 
-  -- where it leaves no number
+  -- where it leaves the place of the result, and no number
   abbrev pub Keeps : Kind → Act → Pipe ℕ (Unit {0}) → Slot (Option (Fault ℕ)) (Unit {0}) → Type 0
-  Keeps k act pipe slot = KeepsLeft k act pipe slot s.left
+  Keeps k act pipe slot = KeepsAll k act pipe s.result slot s.left
+
+  -- the job of a session that runs no operation leaves it
+  same_place : (k : Kind) → kind ≡ k → is_operating k ≡ false → (act : Act) → has_result (act ∷ acts) ≡ has_result acts → result_seated_by act (place_of (next_of_owner cut)) rs ≡ rs
+      → PlaceBy s.result k (act ∷ acts) came (result_seated_by act (place_of (next_of_owner cut)) rs)
+  same_place k of other act put seated =
+      subst (λ b. PlaceBy s.result k (act ∷ acts) came b) (sym seated)
+      (subst (λ b. PlaceAs s.result k (next_but_wake k (act ∷ acts)) (has_given_up (act ∷ acts)) b came (number (act ∷ acts)) rs) (sym put)
+      (results.kept s.result (has_given_up acts) (has_result acts) came (number acts) rs k (next_but_wake k acts) (next_but_wake k (act ∷ acts)) (has_given_up (act ∷ acts)) (number (act ∷ acts)) other
+      (subst (λ any. PlaceBy s.result any acts came rs) of t.place)))
 
   serial_test : (n : ℕ) → is_serial began (Some n) ≡ false → (s.number.serial == n) ≡ false
   serial_test n other =
       let test : (n == s.number.serial) ≡ false = ap (λ r. is_serial r (Some n)) (sym t.last.lent.begun) ∙ other in
       grind (arith, nat_tests)
 
-  pub keeps_left : (of : Kind) → kind ≡ of → (act : Act) (pipe : Pipe ℕ (Unit {0})) (slot : Slot (Option (Fault ℕ)) (Unit {0})) (left : ℕ) → is_in s.number.serial (jobs_of (own cut)) ≡ true
-      → KeepsLeft of act pipe slot left
-      → Goes (owner_by_parts bytes asked here (Some (now_at pipe slot left))) cut (event act)
-  keeps_left of same act pipe slot left among k =
+  pub keeps_all : (of : Kind) → kind ≡ of → (act : Act) (pipe : Pipe ℕ (Unit {0})) (result : Slot ℕ (Unit {0})) (slot : Slot (Option (Fault ℕ)) (Unit {0})) (left : ℕ) → is_in s.number.serial (jobs_of (own cut)) ≡ true
+      → KeepsAll of act pipe result slot left
+      → Goes (owner_by_parts bytes asked here (Some (now_at pipe result slot left))) cut (event act)
+  keeps_all of same act pipe result slot left among k =
       let e = event act in
       let more = acts_more act k.pool k.nothing in
       let faults = λ (is : over ≡ true) (any : Kind) (n : ℕ). same_fault is any n (s.number.serial == n) refl in
@@ -190,16 +221,18 @@ module _ (bytes : ℕ) (asked : Option HandleCall) (here : OwnerStage) (s : Sess
           asked = t.asked;
           polled = t.polled;
           bytes = t.bytes;
-          calls = t.calls;
           stage = subst (λ n. StageBy here s.item (sessions.call (own cut)) (sessions.state (own cut)) n (law.is_at_end (own cut)) (came_back (e ∷ cut)) (newest_note (own cut))) (sym next)
               (subst (λ b. StageBy here s.item (sessions.call (own cut)) (sessions.state (own cut)) (owner_next_but_wake cut (own cut)) (law.is_at_end (own cut)) b (newest_note (own cut)))
               (sym (k.back (e ∷ cut) (came_back cut))) t.stage);
-          last = subst (λ (l : List Act). Tied (now_at pipe slot left) kind l
+          last = subst (λ (l : List Act). Tied (now_at pipe result slot left) kind l
               (job_seated_by act (is_job_seated cut)) (pipe_seated_by act (place_of (next_of_owner cut)) (pipe_seat cut)) (slot_seated_by act (place_of (next_of_owner cut)) (slot_seat cut)))
               (sym more)
-              (subst (λ any. Tied (now_at pipe slot left) any (act ∷ acts)
+              (subst (λ any. Tied (now_at pipe result slot left) any (act ∷ acts)
               (job_seated_by act (is_job_seated cut)) (pipe_seated_by act (place_of (next_of_owner cut)) (pipe_seat cut)) (slot_seated_by act (place_of (next_of_owner cut)) (slot_seat cut)))
               (sym same) k.session);
+          operates = t.operates;
+          place = subst (λ (l : List Act). PlaceBy result kind l came (result_seated_by act (place_of (next_of_owner cut)) rs)) (sym more)
+              (subst (λ any. PlaceBy result any (act ∷ acts) came (result_seated_by act (place_of (next_of_owner cut)) rs)) (sym same) k.place);
           ended = λ is_end. k.ended (t.ended is_end);
           earlier = λ n among other. ap (next_but_wake (kind_of_job n (own cut))) (acts_other act n k.pool k.nothing (serial_test n other)) ∙ t.earlier n among other;
           noted = t.noted;
@@ -221,8 +254,8 @@ module _ (bytes : ℕ) (asked : Option HandleCall) (here : OwnerStage) (s : Sess
       same_fault is any n false test = let other = acts_other act n k.pool k.nothing test in (ap (fault any) other, ap number other)
 
   pub keeps_goes : (of : Kind) → kind ≡ of → (act : Act) (pipe : Pipe ℕ (Unit {0})) (slot : Slot (Option (Fault ℕ)) (Unit {0})) → is_in s.number.serial (jobs_of (own cut)) ≡ true
-      → Keeps of act pipe slot → Goes (owner_by_parts bytes asked here (Some (now_at pipe slot s.left))) cut (event act)
-  keeps_goes of same act pipe slot among k = keeps_left of same act pipe slot s.left among k
+      → Keeps of act pipe slot → Goes (owner_by_parts bytes asked here (Some (now_at pipe s.result slot s.left))) cut (event act)
+  keeps_goes of same act pipe slot among k = keeps_all of same act pipe s.result slot s.left among k
 
   -- ---- the acts of a job that reads, at the session
 
@@ -260,6 +293,7 @@ module _ (bytes : ℕ) (asked : Option HandleCall) (here : OwnerStage) (s : Sess
         keeps_goes Reading reads (RoomFree (suc n)) s.pipe s.slot among (record {
           pool = refl;
           nothing = refl;
+          place = same_place Reading reads refl (RoomFree (suc n)) refl refl;
           lawful = lawful_at p FindRoom (RoomFree (suc n)) r (ap (action_as p.piece) is) (ap seen_room (sym found ∙ room_found));
           ends = tt;
           back = λ here before. refl;
@@ -273,6 +307,7 @@ module _ (bytes : ℕ) (asked : Option HandleCall) (here : OwnerStage) (s : Sess
         keeps_goes Reading reads JobParked (record s.pipe { job_seat = Some s.number }) s.slot among (record {
           pool = refl;
           nothing = refl;
+          place = same_place Reading reads refl JobParked refl refl;
           lawful = lawful_at p FindRoom JobParked r (ap (action_as p.piece) is) (ap seen_room (sym found ∙ room_found));
           ends = tt;
           back = λ here before. refl;
@@ -286,6 +321,7 @@ module _ (bytes : ℕ) (asked : Option HandleCall) (here : OwnerStage) (s : Sess
         keeps_goes Reading reads RoomShut s.pipe s.slot among (record {
           pool = refl;
           nothing = refl;
+          place = same_place Reading reads refl RoomShut refl refl;
           lawful = lawful_at p FindRoom RoomShut r (ap (action_as p.piece) is) (ap seen_room (sym found ∙ room_found));
           ends = tt;
           back = λ here before. refl;
@@ -312,13 +348,14 @@ module _ (bytes : ℕ) (asked : Option HandleCall) (here : OwnerStage) (s : Sess
         keeps_goes Reading reads act (record s.pipe { items = s.pipe.items ++ p.piece; owner_seat = None }) s.slot among (record {
           pool = refl;
           nothing = refl;
+          place = same_place Reading reads refl act refl refl;
           lawful = lawful_at p (PutPiece p.piece) act r (ap (action_as p.piece) is) (ap (seen_put (length p.piece)) (sym found ∙ put_found));
           ends = tt;
           back = λ here before. refl;
           faults = λ is kind. (refl, refl);
           session = puts s (bound bytes Reading) began shut over gone took written acts js ps ss p.piece (waker_in (is_some seat)) seat found here;
           ended = λ e. absurd (let closed = e.1 in let lasts = here.flow.passed_is.0 in cc);
-          told = λ e. subst (λ o. (is_taken (waker_in (is_some o)) ≡ true) ⊎ (is_some s.slot.seat ≡ true)) (sym took_it) (taken_first (is_some s.pipe.owner_seat) (is_some s.slot.seat) e);
+          told = λ e. subst (λ o. (is_taken (waker_in (is_some o)) ≡ true) ⊎ (is_some s.slot.seat || is_some s.result.seat ≡ true)) (sym took_it) (taken_first (is_some s.pipe.owner_seat) (is_some s.slot.seat || is_some s.result.seat) e);
         })
     put_works count is fits Closed found =
         let a = awake p (read.Put count) is (λ e. cc) in
@@ -326,6 +363,7 @@ module _ (bytes : ℕ) (asked : Option HandleCall) (here : OwnerStage) (s : Sess
         keeps_goes Reading reads act s.pipe s.slot among (record {
           pool = refl;
           nothing = refl;
+          place = same_place Reading reads refl act refl refl;
           lawful = lawful_at p (PutPiece p.piece) act r (ap (action_as p.piece) is) (ap (seen_put (length p.piece)) (sym found ∙ put_found));
           ends = tt;
           back = λ here before. refl;
@@ -345,13 +383,14 @@ module _ (bytes : ℕ) (asked : Option HandleCall) (here : OwnerStage) (s : Sess
         keeps_goes Reading reads act (record s.pipe { is_job_open = false; owner_seat = None }) s.slot among (record {
           pool = refl;
           nothing = refl;
+          place = same_place Reading reads refl act refl refl;
           lawful = lawful_at p CloseEnd act r (ap (action_as p.piece) is) (ap (λ b. JobClosed (waker_in b)) (sym t.last.seats.owner));
           ends = tt;
           back = λ here before. refl;
           faults = λ is kind. (refl, refl);
           session = closes s Reading (bound bytes Reading) began shut over gone took written acts js ps ss (waker_in woke) here;
           ended = λ e. absurd (let closed = e.1 in let lasts = here.flow.passed_is.0 in cc);
-          told = λ e. taken_first (is_some s.pipe.owner_seat) (is_some s.slot.seat) e;
+          told = λ e. taken_first (is_some s.pipe.owner_seat) (is_some s.slot.seat || is_some s.result.seat) e;
         })
 
     -- it puts its result
@@ -366,13 +405,14 @@ module _ (bytes : ℕ) (asked : Option HandleCall) (here : OwnerStage) (s : Sess
         keeps_goes Reading reads act s.pipe (slot_after s.slot.content s.slot.seat p.fault) among (record {
           pool = refl;
           nothing = refl;
+          place = same_place Reading reads refl act refl refl;
           lawful = lawful_at p Finish act r (ap (action_as p.piece) is) (ap (λ b. Finished (waker_in b)) (sits ∙ sym t.last.seats.slot));
           ends = tt;
           back = λ here before. refl;
           faults = λ is kind. (refl, refl);
           session = finishes s Reading (bound bytes Reading) began shut over gone took written acts js ps ss (waker_in woke) p.fault r.fault_is tt here;
           ended = λ e. e;
-          told = λ e. taken_last (is_some s.pipe.owner_seat) (is_some s.slot.seat) woke _ sits e;
+          told = λ e. taken_second (is_some s.pipe.owner_seat) (is_some s.slot.seat) (is_some s.result.seat) woke _ sits e;
         })
 
     -- its reader answers
@@ -385,6 +425,7 @@ module _ (bytes : ℕ) (asked : Option HandleCall) (here : OwnerStage) (s : Sess
         keeps_goes Reading reads (Answered answer) s.pipe s.slot among (record {
           pool = refl;
           nothing = refl;
+          place = same_place Reading reads refl (Answered answer) refl refl;
           lawful = subst (λ a. Works cut a (Answered answer)) (sym next) q.fits;
           ends = tt;
           back = λ here before. refl;
@@ -424,6 +465,7 @@ module _ (bytes : ℕ) (asked : Option HandleCall) (here : OwnerStage) (s : Sess
         keeps_goes Writing writing (Peeked found) s.pipe s.slot among (record {
           pool = refl;
           nothing = refl;
+          place = same_place Writing writing refl (Peeked found) refl refl;
           lawful = writer_lawful p Peek (Peeked found) r (ap (writes.action_as p.piece) is) (ap seen_peek (sym shows ∙ piece_found));
           ends = tt;
           back = λ here before. refl;
@@ -437,6 +479,7 @@ module _ (bytes : ℕ) (asked : Option HandleCall) (here : OwnerStage) (s : Sess
         keeps_goes Writing writing JobParked (record s.pipe { job_seat = Some s.number }) s.slot among (record {
           pool = refl;
           nothing = refl;
+          place = same_place Writing writing refl JobParked refl refl;
           lawful = writer_lawful p Peek JobParked r (ap (writes.action_as p.piece) is) (ap seen_peek (sym shows ∙ piece_found));
           ends = tt;
           back = λ here before. refl;
@@ -450,6 +493,7 @@ module _ (bytes : ℕ) (asked : Option HandleCall) (here : OwnerStage) (s : Sess
         keeps_goes Writing writing Drained s.pipe s.slot among (record {
           pool = refl;
           nothing = refl;
+          place = same_place Writing writing refl Drained refl refl;
           lawful = writer_lawful p Peek Drained r (ap (writes.action_as p.piece) is) (ap seen_peek (sym shows ∙ piece_found));
           ends = tt;
           back = λ here before. refl;
@@ -469,13 +513,14 @@ module _ (bytes : ℕ) (asked : Option HandleCall) (here : OwnerStage) (s : Sess
         keeps_goes Writing writing act (record s.pipe { items = drop n s.pipe.items; owner_seat = None }) s.slot among (record {
           pool = refl;
           nothing = refl;
+          place = same_place Writing writing refl act refl refl;
           lawful = writer_lawful p (Consume n) act r (ap (writes.action_as p.piece) is) (ap (λ b. TakenOut n (waker_in b)) (sym t.last.seats.owner));
           ends = tt;
           back = λ here before. refl;
           faults = λ is kind. (refl, refl);
           session = consumes s (bound bytes Writing) began shut over gone took written acts js ps ss n (waker_in woke) here;
           ended = λ e. absurd (let closed = e.1 in let lasts = here.flow.written_is.0 in cc);
-          told = λ e. taken_first (is_some s.pipe.owner_seat) (is_some s.slot.seat) e;
+          told = λ e. taken_first (is_some s.pipe.owner_seat) (is_some s.slot.seat || is_some s.result.seat) e;
         })
 
     -- it closes its end of the pipe
@@ -488,13 +533,14 @@ module _ (bytes : ℕ) (asked : Option HandleCall) (here : OwnerStage) (s : Sess
         keeps_goes Writing writing act (record s.pipe { is_job_open = false; owner_seat = None }) s.slot among (record {
           pool = refl;
           nothing = refl;
+          place = same_place Writing writing refl act refl refl;
           lawful = writer_lawful p CloseEnd act r (ap (writes.action_as p.piece) is) (ap (λ b. JobClosed (waker_in b)) (sym t.last.seats.owner));
           ends = tt;
           back = λ here before. refl;
           faults = λ is kind. (refl, refl);
           session = closes s Writing (bound bytes Writing) began shut over gone took written acts js ps ss (waker_in woke) here;
           ended = λ e. absurd (let closed = e.1 in let lasts = here.flow.written_is.0 in cc);
-          told = λ e. taken_first (is_some s.pipe.owner_seat) (is_some s.slot.seat) e;
+          told = λ e. taken_first (is_some s.pipe.owner_seat) (is_some s.slot.seat || is_some s.result.seat) e;
         })
 
     -- it puts its result
@@ -510,13 +556,14 @@ module _ (bytes : ℕ) (asked : Option HandleCall) (here : OwnerStage) (s : Sess
         keeps_goes Writing writing act s.pipe (slot_after s.slot.content s.slot.seat why) among (record {
           pool = refl;
           nothing = refl;
+          place = same_place Writing writing refl act refl refl;
           lawful = writer_lawful p Finish act r (ap (writes.action_as p.piece) is) (ap (λ b. Finished (waker_in b)) (sits ∙ sym t.last.seats.slot));
           ends = tt;
           back = λ here before. refl;
           faults = λ is kind. (refl, refl);
           session = finishes s Writing (bound bytes Writing) began shut over gone took written acts js ps ss (waker_in woke) why r.fault_is tt here;
           ended = λ e. e;
-          told = λ e. taken_last (is_some s.pipe.owner_seat) (is_some s.slot.seat) woke _ sits e;
+          told = λ e. taken_second (is_some s.pipe.owner_seat) (is_some s.slot.seat) (is_some s.result.seat) woke _ sits e;
         })
 
     -- its writer answers
@@ -531,6 +578,7 @@ module _ (bytes : ℕ) (asked : Option HandleCall) (here : OwnerStage) (s : Sess
         keeps_goes Writing writing (Answered answer) s.pipe s.slot among (record {
           pool = refl;
           nothing = refl;
+          place = same_place Writing writing refl (Answered answer) refl refl;
           lawful = subst (λ a. Works cut a (Answered answer)) (sym next) (answers_it cut (writes.action_as p.piece q.now) answer q.fits);
           ends = tt;
           back = λ here before. refl;
@@ -574,19 +622,21 @@ module _ (bytes : ℕ) (asked : Option HandleCall) (here : OwnerStage) (s : Sess
         keeps_goes Streaming streaming act (record s.pipe { items = s.pipe.items ++ p.item ∷ []; owner_seat = None }) s.slot among (record {
           pool = refl;
           nothing = refl;
+          place = same_place Streaming streaming refl act refl refl;
           lawful = streamer_lawful p (SendItem p.item) act r (ap (streams.action_as p.item) is) (ap (seen_put 1) (sym found ∙ send_found));
           ends = tt;
           back = λ here before. refl;
           faults = λ is kind. (refl, refl);
           session = sends s (bound bytes Streaming) began shut over gone took written acts js ps ss p.item (waker_in (is_some seat)) seat found here;
           ended = λ e. absurd (let closed = e.1 in let lasts = here.flow.passed_is.0 in cc);
-          told = λ e. subst (λ o. (is_taken (waker_in (is_some o)) ≡ true) ⊎ (is_some s.slot.seat ≡ true)) (sym took_it) (taken_first (is_some s.pipe.owner_seat) (is_some s.slot.seat) e);
+          told = λ e. subst (λ o. (is_taken (waker_in (is_some o)) ≡ true) ⊎ (is_some s.slot.seat || is_some s.result.seat ≡ true)) (sym took_it) (taken_first (is_some s.pipe.owner_seat) (is_some s.slot.seat || is_some s.result.seat) e);
         })
     send_works is Waiting found =
         let a = of_streamer.awake p item.Send is (λ e. cc) in
         keeps_goes Streaming streaming JobParked (record s.pipe { job_seat = Some s.number }) s.slot among (record {
           pool = refl;
           nothing = refl;
+          place = same_place Streaming streaming refl JobParked refl refl;
           lawful = streamer_lawful p (SendItem p.item) JobParked r (ap (streams.action_as p.item) is) (ap (seen_put 1) (sym found ∙ send_found));
           ends = tt;
           back = λ here before. refl;
@@ -600,6 +650,7 @@ module _ (bytes : ℕ) (asked : Option HandleCall) (here : OwnerStage) (s : Sess
         keeps_goes Streaming streaming (Lost 1) s.pipe s.slot among (record {
           pool = refl;
           nothing = refl;
+          place = same_place Streaming streaming refl (Lost 1) refl refl;
           lawful = streamer_lawful p (SendItem p.item) (Lost 1) r (ap (streams.action_as p.item) is) (ap (seen_put 1) (sym found ∙ send_found));
           ends = tt;
           back = λ here before. refl;
@@ -619,13 +670,14 @@ module _ (bytes : ℕ) (asked : Option HandleCall) (here : OwnerStage) (s : Sess
         keeps_goes Streaming streaming act (record s.pipe { is_job_open = false; owner_seat = None }) s.slot among (record {
           pool = refl;
           nothing = refl;
+          place = same_place Streaming streaming refl act refl refl;
           lawful = streamer_lawful p CloseEnd act r (ap (streams.action_as p.item) is) (ap (λ b. JobClosed (waker_in b)) (sym t.last.seats.owner));
           ends = tt;
           back = λ here before. refl;
           faults = λ is kind. (refl, refl);
           session = closes s Streaming (bound bytes Streaming) began shut over gone took written acts js ps ss (waker_in woke) here;
           ended = λ e. absurd (let closed = e.1 in let lasts = here.flow.passed_is.0 in cc);
-          told = λ e. taken_first (is_some s.pipe.owner_seat) (is_some s.slot.seat) e;
+          told = λ e. taken_first (is_some s.pipe.owner_seat) (is_some s.slot.seat || is_some s.result.seat) e;
         })
 
     -- it puts its result
@@ -640,13 +692,14 @@ module _ (bytes : ℕ) (asked : Option HandleCall) (here : OwnerStage) (s : Sess
         keeps_goes Streaming streaming act s.pipe (slot_after s.slot.content s.slot.seat None) among (record {
           pool = refl;
           nothing = refl;
+          place = same_place Streaming streaming refl act refl refl;
           lawful = streamer_lawful p Finish act r (ap (streams.action_as p.item) is) (ap (λ b. Finished (waker_in b)) (sits ∙ sym t.last.seats.slot));
           ends = tt;
           back = λ here before. refl;
           faults = λ is kind. (refl, refl);
           session = finishes s Streaming (bound bytes Streaming) began shut over gone took written acts js ps ss (waker_in woke) None (sym r.fault_is) tt here;
           ended = λ e. e;
-          told = λ e. taken_last (is_some s.pipe.owner_seat) (is_some s.slot.seat) woke _ sits e;
+          told = λ e. taken_second (is_some s.pipe.owner_seat) (is_some s.slot.seat) (is_some s.result.seat) woke _ sits e;
         })
 
     -- its handle answers
@@ -659,6 +712,7 @@ module _ (bytes : ℕ) (asked : Option HandleCall) (here : OwnerStage) (s : Sess
         keeps_goes Streaming streaming (Answered answer) s.pipe s.slot among (record {
           pool = refl;
           nothing = refl;
+          place = same_place Streaming streaming refl (Answered answer) refl refl;
           lawful = subst (λ a. Works cut a (Answered answer)) (sym next) q.fits;
           ends = tt;
           back = λ here before. refl;
@@ -687,16 +741,17 @@ module _ (bytes : ℕ) (asked : Option HandleCall) (here : OwnerStage) (s : Sess
         let sits : woke ≡ is_some s.slot.seat = ap (λ c. is_some (answer_of c s.slot.seat p.fault).wake) empty in
         let act = Finished (waker_in woke) in
         let lawful = subst (λ a. Works cut a act) (sym (ap seeks.action_as is) ∙ of_seeker.action_is p acts r) (ap (λ b. Finished (waker_in b)) (sits ∙ sym t.last.seats.slot)) in
-        keeps_left (Seeking p.goal) seeking act s.pipe (slot_after s.slot.content s.slot.seat p.fault) p.place among (record {
+        keeps_all (Seeking p.goal) seeking act s.pipe s.result (slot_after s.slot.content s.slot.seat p.fault) p.place among (record {
           pool = refl;
           nothing = refl;
+          place = same_place (Seeking p.goal) seeking refl act refl refl;
           lawful = lawful;
           ends = tt;
           back = λ here before. refl;
           faults = λ is kind. (refl, refl);
           session = seek_puts s p.goal (bound bytes (Seeking p.goal)) began shut over gone took written acts js ps ss (waker_in woke) p.fault p.place r.fault_is r.place_is here;
           ended = λ e. e;
-          told = λ e. taken_last (is_some s.pipe.owner_seat) (is_some s.slot.seat) woke _ sits e;
+          told = λ e. taken_second (is_some s.pipe.owner_seat) (is_some s.slot.seat) (is_some s.result.seat) woke _ sits e;
         })
 
     -- its handle answers
@@ -709,11 +764,99 @@ module _ (bytes : ℕ) (asked : Option HandleCall) (here : OwnerStage) (s : Sess
         keeps_goes (Seeking p.goal) seeking (Answered answer) s.pipe s.slot among (record {
           pool = refl;
           nothing = refl;
+          place = same_place (Seeking p.goal) seeking refl (Answered answer) refl refl;
           lawful = subst (λ a. Works cut a (Answered answer)) (sym next) q.fits;
           ends = tt;
           back = λ here before. refl;
           faults = λ is. absurd (let lent = going_on.lent in cc);
           session = seek_answers s p.goal (bound bytes (Seeking p.goal)) began shut over gone took written acts js ps ss answer q.fits q.table here;
+          ended = λ e. e;
+          told = λ e. inr e;
+        })
+
+  -- ---- the acts of a job that runs an operation, at the session
+
+  abbrev Operates : Work operations.Progress → Type 0
+  Operates work = WorksOn operations.Progress work
+
+  module _ (p : operations.Progress) (r : OperationAs p acts) (operating : kind ≡ Operating) (among : is_in s.number.serial (jobs_of (own cut)) ≡ true) where
+    operation_tied : (next : JobAction) → next_but_wake Operating acts ≡ next → At s Operating (bound bytes Operating) began shut over gone took written acts js ps ss next
+    operation_tied next e = at s Operating (bound bytes Operating) began shut over gone took written acts js ps ss next e (last_as Operating operating)
+
+    -- the place of the result, by the job's next action
+    placed : (next : JobAction) → next_but_wake Operating acts ≡ next → PlaceAs s.result Operating next (has_given_up acts) (has_result acts) came (number acts) rs
+    placed next e =
+        subst (λ a. PlaceAs s.result Operating a (has_given_up acts) (has_result acts) came (number acts) rs) e (subst (λ any. PlaceBy s.result any acts came rs) operating t.place)
+
+    operation_table : (now : OperationAction) → of_operator.Awake p now → next_but_wake Operating acts ≡ operations.action_as now
+    operation_table now a = sym r.next ∙ ap operations.action_as a.next_is
+
+    operation_lawful : (next : OperationAction) (act : Act) → operation_next p.core ≡ next → Works cut (operations.action_as next) act → Works cut (next_of_job Operating acts) act
+    operation_lawful next act is law = subst (λ a. Works cut a act) (sym (ap operations.action_as is) ∙ of_operator.action_is p acts r) law
+
+    -- it puts the result
+    pub result_works : operation_next p.core ≡ operation.PutResult → Operates (operation_puts p s)
+    result_works is =
+        let a = of_operator.awake p operation.PutResult is (λ e. cc) in
+        let table = operation_table operation.PutResult a in
+        let here = placed PutResult table in
+        let empty = results.unfilled s.result (has_given_up acts) (has_result acts) came (number acts) rs here in
+        let woke = result_wakes p.number s in
+        let sits : woke ≡ is_some s.result.seat = ap (λ c. is_some (answer_of c s.result.seat p.number).wake) empty in
+        let act = ResultPut (waker_in woke) in
+        keeps_all Operating operating act s.pipe (after_put s.result p.number) s.slot s.left among (record {
+          pool = refl;
+          nothing = refl;
+          place = results.filled s.result (has_given_up acts) (has_result acts) came (number acts) rs p.number r.number_is here;
+          lawful = operation_lawful operation.PutResult act is (ap (λ b. ResultPut (waker_in b)) (sits ∙ sym here.seat));
+          ends = tt;
+          back = λ here before. refl;
+          faults = λ is kind. (refl, refl);
+          session = result_puts s (bound bytes Operating) began shut over gone took written acts js ps ss (waker_in woke) (after_put s.result p.number) (operation_tied PutResult table);
+          ended = λ e. e;
+          told = λ e. taken_third (is_some s.pipe.owner_seat) (is_some s.slot.seat) (is_some s.result.seat) woke _ sits e;
+        })
+
+    -- it puts its own result
+    pub operation_finish_works : operation_next p.core ≡ operation.Finish → Operates (operation_finishes p s)
+    operation_finish_works is =
+        let a = of_operator.awake p operation.Finish is (λ e. cc) in
+        let table = operation_table operation.Finish a in
+        let here = operation_tied Finish table in
+        let empty = (going s.slot.content (has_finished acts) (has_given_up acts) over gone (fault Operating acts) here.result).empty in
+        let woke = finish_wakes None s in
+        let sits : woke ≡ is_some s.slot.seat = ap (λ c. is_some (answer_of c s.slot.seat None).wake) empty in
+        let act = Finished (waker_in woke) in
+        keeps_goes Operating operating act s.pipe (slot_after s.slot.content s.slot.seat None) among (record {
+          pool = refl;
+          nothing = refl;
+          place = results.finished s.result (has_given_up acts) (has_result acts) came (number acts) rs (placed Finish table);
+          lawful = operation_lawful operation.Finish act is (ap (λ b. Finished (waker_in b)) (sits ∙ sym t.last.seats.slot));
+          ends = tt;
+          back = λ here before. refl;
+          faults = λ is kind. (refl, refl);
+          session = finishes s Operating (bound bytes Operating) began shut over gone took written acts js ps ss (waker_in woke) None (sym r.fault_is) tt here;
+          ended = λ e. e;
+          told = λ e. taken_second (is_some s.pipe.owner_seat) (is_some s.slot.seat) (is_some s.result.seat) woke _ sits e;
+        })
+
+    -- its operation answers
+    pub operation_answer_goes : (answer : Answer) → is_answer (operations.action_of p) answer ≡ true → Goes (owner_by_parts bytes asked here (Some s)) cut (event (Answered answer))
+    operation_answer_goes answer is =
+        let q = of_operator.asks p acts answer r is in
+        let here = operation_tied AskResult q.table in
+        let next = of_operator.next_by acts ∙ ap (λ b. job.wake_first b (next_but_wake Operating acts)) (sym r.waking ∙ q.a.waking) ∙ q.table in
+        let going_on = going s.slot.content (has_finished acts) (has_given_up acts) over gone (fault Operating acts) here.result in
+        keeps_goes Operating operating (Answered answer) s.pipe s.slot among (record {
+          pool = refl;
+          nothing = refl;
+          place = subst (λ a. PlaceAs s.result Operating a (has_given_up acts) (has_result acts) came (number (Answered answer ∷ acts)) rs) (sym (ap (λ a. job.next_after_answer a answer) q.table))
+              (results.answered s.result (has_given_up acts) (has_result acts) came (number acts) rs (number (Answered answer ∷ acts)) (placed AskResult q.table));
+          lawful = subst (λ a. Works cut a (Answered answer)) (sym next) q.fits;
+          ends = tt;
+          back = λ here before. refl;
+          faults = λ is. absurd (let lent = going_on.lent in cc);
+          session = operation_answers s (bound bytes Operating) began shut over gone took written acts js ps ss answer q.fits q.table here;
           ended = λ e. e;
           told = λ e. inr e;
         })
@@ -732,10 +875,11 @@ module _ (bytes : ℕ) (asked : Option HandleCall) (here : OwnerStage) (s : Sess
         pool = refl;
         nothing = refl;
         lawful = (dropped, goes, ap waker_in (sits ∙ sym t.last.seats.slot));
+        place = results.given_up s.result (has_given_up acts) (has_result acts) came (number acts) rs kind (next_but_wake kind acts) t.place;
         ends = tt;
         back = λ here before. refl;
         faults = λ is any. (refl, refl);
         session = gives_up s kind (bound bytes kind) began shut over gone took written acts js ps ss (waker_in woke) goes dropped t.last;
         ended = λ e. e;
-        told = λ e. taken_last (is_some s.pipe.owner_seat) (is_some s.slot.seat) woke _ sits e;
+        told = λ e. taken_second (is_some s.pipe.owner_seat) (is_some s.slot.seat) (is_some s.result.seat) woke _ sits e;
       })

@@ -11,6 +11,7 @@ use Rattle.blocking_core.specs.declared.job.item.ItemAction.{ItemAction}
 use Rattle.blocking_core.specs.declared.job.item.ItemAction.TheVariants as item
 use Rattle.blocking_core.specs.declared.job.item.ItemAnswer.TheVariants as sent
 use Rattle.blocking_core.specs.Seeks.{seek_next}
+use Rattle.blocking_core.specs.Operations.{operation_next}
 use Rattle.blocking_core.specs.declared.job.read.ReadAction.{ReadAction}
 use Rattle.blocking_core.specs.declared.job.read.ReadAction.TheVariants as read
 use Rattle.blocking_core.specs.declared.job.read.ReadAnswer.TheVariants as by
@@ -20,22 +21,27 @@ use Rattle.blocking_core.specs.declared.job.write.WriteAnswer.TheVariants as wro
 use Rattle.blocking_core.specs.declared.job.seek.SeekAction.{SeekAction}
 use Rattle.blocking_core.specs.declared.job.seek.SeekAction.TheVariants as seek
 use Rattle.blocking_core.specs.declared.job.seek.SeekAnswer.TheVariants as sought
+use Rattle.blocking_core.specs.declared.job.operation.OperationAction.{OperationAction}
+use Rattle.blocking_core.specs.declared.job.operation.OperationAction.TheVariants as operation
+use Rattle.blocking_core.specs.declared.job.operation.OperationAnswer.TheVariants as ran
 use Rattle.blocking_laws.specs.JobTable.{piece, is_taken}
 use Rattle.blocking_laws.specs.Seats.{waker_in}
 use Rattle.blocking_laws.specs.declared.event.Act.{Act}
-use Rattle.blocking_laws.specs.declared.event.Act.TheVariants.{RoomFree, RoomShut, JobParked, Put, Lost, Drained, Taken as TakenOut, JobClosed, Finished}
-use Rattle.blocking_lanes.specs.Owners.{Owner, Worked, worked, worked_by, read_in, read_as, stream_in, stream_as, write_in, write_as, seek_in, seek_as}
+use Rattle.blocking_laws.specs.declared.event.Act.TheVariants.{RoomFree, RoomShut, JobParked, Put, Lost, Drained, Taken as TakenOut, JobClosed, ResultPut, Finished}
+use Rattle.blocking_lanes.specs.Owners.{Owner, Worked, worked, worked_by, read_in, read_as, stream_in, stream_as, write_in, write_as, seek_in, seek_as, operate_in, operate_as}
 use Rattle.blocking_lanes.specs.Passages.{OfBytes, OfItems, through}
 use Rattle.blocking_lanes.specs.Reads as reads
 use Rattle.blocking_lanes.specs.Reads.{ReadAs}
 use Rattle.blocking_lanes.specs.SessionJobs.{JobAs}
-use Rattle.blocking_lanes.specs.Sessions.{Session, Work, closing_wakes, finish_wakes, found_piece, found_put, found_room, found_send, streamer_closes, streamer_finishes, streamer_works, work_at_send, fits_in, holds, work_at_peek, work_at_put, work_at_room, work_by, work_of_close, work_of_consume, work_of_finish, writer_closes, writer_finishes, writer_works, seek_works}
+use Rattle.blocking_lanes.specs.Sessions.{Session, Work, closing_wakes, finish_wakes, found_piece, found_put, found_room, found_send, streamer_closes, streamer_finishes, streamer_works, work_at_send, fits_in, holds, work_at_peek, work_at_put, work_at_room, work_by, work_of_close, work_of_consume, work_of_finish, writer_closes, writer_finishes, writer_works, seek_works, operation_works, result_wakes}
 use Rattle.blocking_lanes.specs.Streams as streams
 use Rattle.blocking_lanes.specs.Streams.{ItemAs}
 use Rattle.blocking_lanes.specs.Writes as writes
 use Rattle.blocking_lanes.specs.Writes.{WriteAs}
 use Rattle.blocking_lanes.specs.Seeks as seeks
 use Rattle.blocking_lanes.specs.Seeks.{SeekAs}
+use Rattle.blocking_lanes.specs.Operations as operations
+use Rattle.blocking_lanes.specs.Operations.{OperationAs}
 use Rattle.blocking_lanes.specs.declared.job.SessionJob.{SessionJob}
 use Rattle.blocking_lanes.specs.declared.job.SessionJob.TheVariants as of_job
 use Rattle.blocking_lanes.proofs.owners.Goods.{through_some}
@@ -46,6 +52,7 @@ use Rattle.blocking_lanes.proofs.owners.WriteSessions.{some_piece}
 use Rattle.blocking_lanes.proofs.owners.StreamJobs as of_streamer
 use Rattle.blocking_lanes.proofs.owners.WriteJobs as of_writer
 use Rattle.blocking_lanes.proofs.owners.SeekJobs as of_seeker
+use Rattle.blocking_lanes.proofs.owners.OperationJobs as of_operator
 
 -- what a job takes of wakers is what is seen
 taken_is : (b : Bool) → b ≡ is_taken (waker_in b)
@@ -216,6 +223,23 @@ seeks_on p acts s r seek.Seek is work does = absurd (cc)
 seeks_on p acts s r seek.Deliver is work does = absurd (cc)
 seeks_on p acts s r seek.Done is work does = absurd (cc)
 
+-- ---- a job that runs an operation, at its session
+
+-- what it does next there
+operates_on : (p : operations.Progress) (acts : List Act) (s : Session) → OperationAs p acts → (a : OperationAction) → operation_next p.core ≡ a → (work : Work operations.Progress) → operation_works a p s ≡ Some work
+    → OperationAs work.job (work.act ∷ acts)
+operates_on p acts s r operation.PutResult is work does =
+    let woke = result_wakes p.number s in
+    subst (λ (w : Work operations.Progress). OperationAs w.job (w.act ∷ acts)) (ap (value_of work) does)
+    (of_operator.meets p acts operation.PutResult operation.Finish woke (ran.ResultPut woke) (ResultPut (waker_in woke)) r (of_operator.awake p operation.PutResult is (λ e. cc)) refl refl (taken_is woke) refl refl)
+operates_on p acts s r operation.Finish is work does =
+    let woke = finish_wakes None s in
+    subst (λ (w : Work operations.Progress). OperationAs w.job (w.act ∷ acts)) (ap (value_of work) does)
+    (of_operator.meets p acts operation.Finish operation.Done woke (ran.Finished woke) (Finished (waker_in woke)) r (of_operator.awake p operation.Finish is (λ e. cc)) refl refl (taken_is woke) refl refl)
+operates_on p acts s r operation.Call is work does = absurd (cc)
+operates_on p acts s r operation.Deliver is work does = absurd (cc)
+operates_on p acts s r operation.Done is work does = absurd (cc)
+
 -- ---- a job of an owner
 
 -- what an act at a session leaves of a job, if there is one
@@ -244,6 +268,11 @@ seek_goes : (p : seeks.Progress) (acts : List Act) (last : Option Session) (owne
     → (done : Worked) → seek_in a last p owner ≡ Some done → JobAs done.job (done.act ∷ acts)
 seek_goes p acts None owner r a is done does = absurd (cc)
 seek_goes p acts (Some s) owner r a is done does = at_work seeks.Progress of_job.Seek acts owner (seek_works a p s) (λ work e. seeks_on p acts s r a is work e) done does
+
+operate_goes : (p : operations.Progress) (acts : List Act) (last : Option Session) (owner : Owner) → OperationAs p acts → (a : OperationAction) → operation_next p.core ≡ a
+    → (done : Worked) → operate_in a last p owner ≡ Some done → JobAs done.job (done.act ∷ acts)
+operate_goes p acts None owner r a is done does = absurd (cc)
+operate_goes p acts (Some s) owner r a is done does = at_work operations.Progress of_job.Operate acts owner (operation_works a p s) (λ work e. operates_on p acts s r a is work e) done does
 
 -- how far it is after what it does next by itself
 pub worked_on : (p : SessionJob) (acts : List Act) (owner : Owner) (done : Worked) → JobAs p acts → worked p owner ≡ Some done → JobAs done.job (done.act ∷ acts)
@@ -284,3 +313,11 @@ worked_on (of_job.Seek p) acts owner done r does = by (seek_next p.core) refl do
     by seek.Seek is does = seek_goes p acts owner.session owner r seek.Seek is done does
     by seek.Finish is does = seek_goes p acts owner.session owner r seek.Finish is done does
     by seek.Done is does = seek_goes p acts owner.session owner r seek.Done is done does
+worked_on (of_job.Operate p) acts owner done r does = by (operation_next p.core) refl does
+  where
+    by : (a : OperationAction) → operation_next p.core ≡ a → operate_as a p owner ≡ Some done → JobAs done.job (done.act ∷ acts)
+    by operation.Deliver is does = subst (λ (d : Worked). JobAs d.job (d.act ∷ acts)) (ap (value_of done) does) (of_operator.wakes p acts r is)
+    by operation.Call is does = operate_goes p acts owner.session owner r operation.Call is done does
+    by operation.PutResult is does = operate_goes p acts owner.session owner r operation.PutResult is done does
+    by operation.Finish is does = operate_goes p acts owner.session owner r operation.Finish is done does
+    by operation.Done is does = operate_goes p acts owner.session owner r operation.Done is done does

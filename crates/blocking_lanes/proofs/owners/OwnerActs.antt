@@ -9,7 +9,7 @@ use Rattle.blocking_core.specs.OwnerCalls.{OwnerMachine, owner_next, owner_after
 use Rattle.blocking_core.specs.OwnerCalls as machine
 use Rattle.blocking_core.specs.Pipes.{room}
 use Rattle.blocking_core.specs.Places.{Met, Served, Waiting, Closed, drain, fill, receive}
-use Rattle.blocking_core.specs.Slots.{Content, Empty, Full, GivenUp, Abandoned}
+use Rattle.blocking_core.specs.Slots.{Slot, Content, Empty, Full, GivenUp, Abandoned}
 use Rattle.blocking_core.specs.Positions.{same_position}
 use Rattle.blocking_core.specs.declared.io.Fault.{Fault}
 use Rattle.blocking_core.specs.declared.io.Position.{Position}
@@ -19,6 +19,8 @@ use Rattle.blocking_core.specs.declared.unblock.OwnerAnswer.{OwnerAnswer}
 use Rattle.blocking_core.specs.declared.unblock.OwnerAnswer.TheVariants as by
 use Rattle.blocking_core.specs.declared.unblock.OwnerEnd.{OwnerEnd}
 use Rattle.blocking_core.specs.declared.unblock.OwnerEnd.TheVariants.{Open, Shut}
+use Rattle.blocking_core.specs.declared.unblock.PollCall.{PollCall}
+use Rattle.blocking_core.specs.declared.unblock.PollCall.TheVariants as poll_call
 use Rattle.blocking_core.specs.declared.unblock.Reply.{Reply}
 use Rattle.blocking_core.specs.declared.unblock.Reply.TheVariants as reply
 use Rattle.blocking_core.specs.declared.unblock.SessionKind.{SessionKind}
@@ -26,18 +28,18 @@ use Rattle.blocking_core.specs.declared.unblock.SessionKind.TheVariants as sessi
 use Rattle.blocking_core.specs.declared.unblock.State.{State}
 use Rattle.blocking_core.specs.declared.unblock.State.TheVariants as state
 use Rattle.blocking_laws.specs.Ends.{EndsTruly, IsTrueEnd, came_back, IsReadBack, IsReadWhole, IsFlushed, IsFlushedIf, IsFlushedBack, handle_answers, has_failure, has_failed_write, has_flush, is_failure, last_is_end}
-use Rattle.blocking_laws.specs.JobTable.{Kind, Reading, Writing, JobAction, Over, next_but_wake, is_over, earlier, fault, fault_in, number, has_closed, has_finished, has_given_up, Streaming, Seeking}
+use Rattle.blocking_laws.specs.JobTable.{Kind, Reading, Writing, JobAction, Over, next_but_wake, is_over, earlier, fault, fault_in, number, has_closed, has_result, has_finished, has_given_up, Streaming, Seeking, Operating}
 use Rattle.blocking_laws.specs.OwnerLaws.{OwnerMayAct, Polls}
 use Rattle.blocking_laws.specs.OwnerTable.{next_of_owner, deliver_first, owner_next_but_wake}
 use Rattle.blocking_laws.specs.OwnerTable as law
-use Rattle.blocking_laws.specs.OwnerSeats.{noted, place_of, is_job_seated, pipe_seat, pipe_seated_by, slot_seat, slot_seated_by}
+use Rattle.blocking_laws.specs.OwnerSeats.{noted, place_of, is_job_seated, pipe_seat, pipe_seated_by, result_seat, result_seated_by, slot_seat, slot_seated_by}
 use Rattle.blocking_laws.specs.Passed.{gave, got, accepted, data_of, taken as taken_by, inside, room_in, last_job, kind_in}
-use Rattle.blocking_laws.specs.Places.{seen_drain, seen_fill, poll_slot, seen_receive}
+use Rattle.blocking_laws.specs.Places.{seen_drain, seen_fill, poll_place, poll_slot, seen_receive}
 use Rattle.blocking_laws.specs.Seen.{own, acts_of, is_some_worker}
 use Rattle.blocking_laws.specs.Sessions as sessions
-use Rattle.blocking_laws.specs.Steps.{is_known}
+use Rattle.blocking_laws.specs.Sessions.{is_operation}
 use Rattle.blocking_laws.specs.declared.event.Act.{Act}
-use Rattle.blocking_laws.specs.declared.event.Act.TheVariants.{OwnerClosed, Got, GotEnd, Filled, FillShut, Waits, Back, Replied, Answered, GotItem}
+use Rattle.blocking_laws.specs.declared.event.Act.TheVariants.{OwnerClosed, Got, GotEnd, Filled, FillShut, Waits, Back, ResultGot, Replied, Answered, GotItem}
 use Rattle.blocking_laws.specs.declared.event.Event.{Event}
 use Rattle.blocking_laws.specs.declared.event.Reply.{Reply as Told}
 use Rattle.blocking_laws.specs.declared.event.Reply.TheVariants as told
@@ -47,18 +49,20 @@ use Rattle.blocking_laws.specs.declared.step.HandleCall.{HandleCall}
 use Rattle.blocking_laws.specs.declared.step.HandleCall.TheVariants as handle_call
 use Rattle.blocking_pool.specs.Growth.{Growth}
 use Rattle.blocking_pool.specs.Jobs.{JobNumber}
-use Rattle.blocking_lanes.specs.Owners.{Owner, Did, capacity_of, note_at, goes_on, close_did, drain_did, fill_did, fill_did_in, drop_did, look_did, looked_as, poll_call_of, reply_as, reply_did, did_in, did_by, did, is_gone, item_in, receive_did, back_answer}
+use Rattle.blocking_lanes.specs.Owners.{Owner, Did, capacity_of, note_at, goes_on, close_did, drain_did, fill_did, fill_did_in, drop_did, look_did, looked_as, poll_call_of, reply_as, reply_did, did_in, did_by, did, is_gone, is_no_more, stage_after_reply, item_in, receive_did, back_answer, find_did, awaited_as}
 use Rattle.blocking_lanes.specs.OwnerSteps.{by_owner}
-use Rattle.blocking_lanes.specs.OwnerTies.{OwnerAs, SlotAs, Passed, passed_by, PassedAs, GaveAll, WrittenAs, wrote_by, PollAs, FitsNext, IsGoneBy, IsLentOpen, LooksFrom, EndAs, StageBy, SessionAs, IsAtEnd, called_at, kind_as, state_as, say, action_as, seat_of, is_piped_kind, is_end_open}
+use Rattle.blocking_lanes.specs.OwnerTies.{OwnerAs, GoneBy, HoldsResult, IsOperating, OperatesBy, PlaceBy, has_found, SlotAs, Passed, passed_by, PassedAs, GaveAll, WrittenAs, wrote_by, PollAs, FitsNext, IsGoneBy, IsLentOpen, LooksFrom, EndAs, StageBy, SessionAs, IsAtEnd, called_at, kind_as, state_as, say, action_as, seat_of, is_piped_kind, is_end_open}
 use Rattle.blocking_lanes.specs.Passages.{OfBytes, OfItems}
-use Rattle.blocking_lanes.specs.Sessions.{Session, serial_of, reach, drained, filled, session_after_close, session_after_drain, session_after_fill, session_after_look, received, session_after_receive}
+use Rattle.blocking_lanes.specs.Sessions.{Session, serial_of, reach, drained, filled, session_after_close, session_after_drain, session_after_fill, session_after_look, received, session_after_receive, session_after_find}
 use Rattle.blocking_lanes.specs.declared.owner.OwnerStage.{OwnerStage}
 use Rattle.blocking_lanes.specs.declared.owner.OwnerStage.TheVariants as stage
-use Rattle.blocking_lanes.proofs.owners.Known.{known_call}
+use Rattle.blocking_lanes.specs.declared.owner.PollEnd.TheVariants as poll_end
 use Rattle.blocking_lanes.proofs.owners.Cuts.{not_not, next_with, inside_is, room_is, lasts_is, open_is, noted_is, its_job, drain_act, drain_seen, receive_act, receive_shown}
 use Rattle.blocking_lanes.proofs.owners.Fills.{fills, fill_waits, filled_some, filled_note, fill_act, fill_seen}
 use Rattle.blocking_lanes.proofs.owners.Drains.{shuts, takes, waits, returns, waits_for_it, front, at_end, reached, first_item, no_more_items, receives, waits_for_item}
 use Rattle.blocking_lanes.proofs.owners.Goods.{through_some, piped_some}
+use Rattle.blocking_lanes.proofs.owners.OperationSessions.{kept_with}
+use Rattle.blocking_lanes.proofs.owners.Results.{taken as result_taken, waits as result_waits}
 use Rattle.blocking_lanes.proofs.owners.States.{is_away, gone_is, lent_at, lent_by, piped_is}
 
 -- an owner by its parts
@@ -67,7 +71,7 @@ owner_by_parts bytes asked here last = record { capacity = bytes; asked = asked;
 
 -- how much the pipes of its sessions hold, by their kind
 abbrev pub bound : ℕ → Kind → ℕ
-bound bytes kind = capacity_of (owner_by_parts bytes None (stage.Rests state.Idle) None) kind
+bound bytes kind = capacity_of (owner_by_parts bytes None (stage.Rests state.Idle poll_end.Replied) None) kind
 
 -- An event keeps the law of its owner but for what passed, and leaves the owner tied.
 pub record Goes (new : Owner) (cut : List Event) (e : Event) : Type 0 where
@@ -96,9 +100,9 @@ pub goes_on_so : (q : OwnerMachine ℕ) (note : Option JobNumber) (x : ℕ) (ask
 goes_on_so q None x asked at next ended back p waking = (p, waking, refl)
 goes_on_so q (Some number) x asked at next ended back p waking = (p, waking, refl)
 
-pub not_gone : (q : OwnerMachine ℕ) (note : Option JobNumber) → false ≡ is_gone (goes_on q note)
-not_gone q None = refl
-not_gone q (Some number) = refl
+pub still_there : (q : OwnerMachine ℕ) (note : Option JobNumber) (asked : Option HandleCall) (acts : List Act) → GoneBy (stage.Polls q) asked acts → GoneBy (goes_on q note) asked acts
+still_there q None asked acts g = g
+still_there q (Some number) asked acts g = g
 
 pub still_called : (q : OwnerMachine ℕ) (note : Option JobNumber) (asked : Option HandleCall) → asked ≡ called_at (goes_on q note) asked
 still_called q None asked = refl
@@ -113,6 +117,11 @@ lawful bytes asked p cut last next t is =
 pub fits_at : (bytes : ℕ) (asked : Option HandleCall) (p : OwnerMachine ℕ) (cut : List Event) (last : Option Session) (next : OwnerAction ℕ)
     → (t : OwnerAs (owner_by_parts bytes asked (stage.Polls p) last) cut) → p.next ≡ next → FitsNext t.stage.0.call p next (law.is_at_end (own cut)) (came_back cut)
 fits_at bytes asked p cut last next t is = subst (λ n. FitsNext t.stage.0.call p n (law.is_at_end (own cut)) (came_back cut)) is t.stage.0.fits
+
+-- a poll that goes on, first by a note that it took, is where it is in its operations
+operating_so : (q : OwnerMachine ℕ) (note : Option JobNumber) (waits operates begun found : Bool) → IsOperating q.next operates begun found → OperatesBy (goes_on q note) waits operates begun found
+operating_so q None waits operates begun found is = is
+operating_so q (Some number) waits operates begun found is = is
 
 -- the note that it took is of the job in the seat
 noted_so : (q : OwnerMachine ℕ) (note : Option JobNumber) (sits : Bool) (seated : JobNumber) → note ≡ seat_of sits seated → (number : JobNumber) → note_at (goes_on q note) ≡ Some number
@@ -206,6 +215,19 @@ module _ (bytes : ℕ) (asked : Option HandleCall) (p : OwnerMachine ℕ) (s : S
   abbrev ss : Bool
   ss = slot_seat cut
 
+  abbrev rs : Bool
+  rs = result_seat cut
+
+  abbrev begun : Bool
+  begun = sessions.has_begun (own cut)
+
+  abbrev came : Bool
+  came = has_found (own cut)
+
+  -- the place of the result, by whether the owner is seated there
+  abbrev PlacedBy : Bool → Type 0
+  PlacedBy seated = PlaceBy s.result kind acts came seated
+
   abbrev Old : Type 0
   Old = OwnerAs (owner_by_parts bytes asked (stage.Polls p) (Some s)) cut
 
@@ -215,6 +237,10 @@ module _ (bytes : ℕ) (asked : Option HandleCall) (p : OwnerMachine ℕ) (s : S
   -- the session, where its kind is known
   of_kind : (k : Kind) → kind ≡ k → Old → SessionAs s k (bound bytes k) began shut over gone took written acts js ps ss
   of_kind k e t = subst (λ k. SessionAs s k (bound bytes k) began shut over gone took written acts js ps ss) e t.last
+
+  -- where it is in its operations, by what it does next
+  operates_at : (next : OwnerAction ℕ) → p.next ≡ next → Old → IsOperating next (is_operation asked) begun came
+  operates_at next is t = subst (λ n. IsOperating n (is_operation asked) begun came) is t.operates
 
   -- ---- it closes its end of the pipe
 
@@ -240,6 +266,7 @@ module _ (bytes : ℕ) (asked : Option HandleCall) (p : OwnerMachine ℕ) (s : S
       let polled : PollAs q s.item (sessions.call (own cut)) (sessions.state (own (e ∷ cut))) law.PollSlot false (came_back cut) = record {
         call = c;
         asked_is = t.stage.0.asked_is;
+        begun = t.stage.0.begun;
         call_is = t.stage.0.call_is;
         at_is = shut_state (sessions.is_closed (own cut)) (sessions.session (own cut)) shut p.state fits.0 t.stage.0.at_is;
         next_is = refl;
@@ -251,12 +278,13 @@ module _ (bytes : ℕ) (asked : Option HandleCall) (p : OwnerMachine ℕ) (s : S
         ends = tt;
         tie = record {
           made = t.made;
-          gone = t.gone ∙ not_gone q note;
+          gone = still_there q note asked (own cut) t.gone;
           asked = t.asked;
           polled = t.polled ∙ still_called q note asked;
           bytes = t.bytes;
-          calls = t.calls;
           stage = goes_on_so q note s.item (sessions.call (own cut)) (sessions.state (own (e ∷ cut))) law.PollSlot false (came_back cut) polled refl;
+          operates = operating_so q note false (is_operation asked) begun came (operates_at action.Close is t);
+          place = t.place;
           last = shuts s kind (bound bytes kind) began shut over gone took written acts js ps ss t.last;
           ended = λ is_end. absurd (cc);
           earlier = t.earlier;
@@ -294,6 +322,7 @@ module _ (bytes : ℕ) (asked : Option HandleCall) (p : OwnerMachine ℕ) (s : S
       let polled : PollAs q s.item (sessions.call (own cut)) (sessions.state (own cut)) (law.Say (told.Count (length found.0))) false (came_back cut) = record {
         call = c;
         asked_is = t.stage.0.asked_is;
+        begun = t.stage.0.begun;
         call_is = t.stage.0.call_is;
         at_is = t.stage.0.at_is;
         next_is = refl;
@@ -306,12 +335,13 @@ module _ (bytes : ℕ) (asked : Option HandleCall) (p : OwnerMachine ℕ) (s : S
         ends = tt;
         tie = record {
           made = t.made;
-          gone = t.gone ∙ not_gone q found.1;
+          gone = still_there q found.1 asked (own cut) t.gone;
           asked = t.asked;
           polled = t.polled ∙ still_called q found.1 asked;
           bytes = t.bytes;
-          calls = t.calls;
           stage = goes_on_so q found.1 s.item (sessions.call (own cut)) (sessions.state (own cut)) (law.Say (told.Count (length found.0))) false (came_back cut) polled refl;
+          operates = operating_so q found.1 false (is_operation asked) begun came tt;
+          place = t.place;
           last = subst (λ k. SessionAs (session_after_drain (Served found) s) k (bound bytes k) began shut over gone (took ++ found.0) written acts false ps ss) (sym lent.0) last;
           ended = λ is_end. absurd (cc);
           earlier = t.earlier;
@@ -337,8 +367,9 @@ module _ (bytes : ℕ) (asked : Option HandleCall) (p : OwnerMachine ℕ) (s : S
           asked = t.asked;
           polled = refl;
           bytes = t.bytes;
-          calls = t.calls;
           stage = (t.stage.0.at_is, refl, refl);
+          operates = (refl, operates_at (action.Drain most) is t);
+          place = subst (λ n. PlacedBy (result_seated_by Waits (place_of n) rs)) (sym at_pipe) t.place;
           last = subst (λ n. SessionAs (session_after_drain Waiting s) kind (bound bytes kind) began shut over gone took written acts js (pipe_seated_by Waits (place_of n) ps) (slot_seated_by Waits (place_of n) ss)) (sym at_pipe)
               (subst (λ k. SessionAs (session_after_drain Waiting s) k (bound bytes k) began shut over gone took written acts js true ss) (sym lent.0) last);
           ended = λ is_end. absurd (cc);
@@ -365,11 +396,11 @@ module _ (bytes : ℕ) (asked : Option HandleCall) (p : OwnerMachine ℕ) (s : S
           asked = t.asked;
           polled = t.polled;
           bytes = t.bytes;
-          calls = t.calls;
           stage = (
             record {
               call = c;
               asked_is = t.stage.0.asked_is;
+              begun = t.stage.0.begun;
               call_is = t.stage.0.call_is;
               at_is = t.stage.0.at_is;
               next_is = refl;
@@ -378,6 +409,8 @@ module _ (bytes : ℕ) (asked : Option HandleCall) (p : OwnerMachine ℕ) (s : S
             t.stage.1,
             refl,
           );
+          operates = operates_at (action.Drain most) is t;
+          place = t.place;
           last = t.last;
           ended = λ is_end. (closed.0, closed.1, sym (open_is s (bound bytes) cut t.last) ∙ lent.1);
           earlier = t.earlier;
@@ -409,6 +442,7 @@ module _ (bytes : ℕ) (asked : Option HandleCall) (p : OwnerMachine ℕ) (s : S
       let polled : PollAs q found.0 (sessions.call (own cut)) (sessions.state (own cut)) (law.Say (told.OneItem found.0)) false (came_back cut) = record {
         call = c;
         asked_is = t.stage.0.asked_is;
+        begun = t.stage.0.begun;
         call_is = t.stage.0.call_is;
         at_is = t.stage.0.at_is;
         next_is = refl;
@@ -421,12 +455,13 @@ module _ (bytes : ℕ) (asked : Option HandleCall) (p : OwnerMachine ℕ) (s : S
         ends = tt;
         tie = record {
           made = t.made;
-          gone = t.gone ∙ not_gone q found.1;
+          gone = still_there q found.1 asked (own cut) t.gone;
           asked = t.asked;
           polled = t.polled ∙ still_called q found.1 asked;
           bytes = t.bytes;
-          calls = t.calls;
           stage = goes_on_so q found.1 found.0 (sessions.call (own cut)) (sessions.state (own cut)) (law.Say (told.OneItem found.0)) false (came_back cut) polled refl;
+          operates = operating_so q found.1 false (is_operation asked) begun came tt;
+          place = t.place;
           last = subst (λ k. SessionAs (session_after_receive (Served found) s) k (bound bytes k) began shut over gone (took ++ found.0 ∷ []) written acts false ps ss) (sym lent.0) last;
           ended = λ is_end. absurd (cc);
           earlier = t.earlier;
@@ -448,8 +483,9 @@ module _ (bytes : ℕ) (asked : Option HandleCall) (p : OwnerMachine ℕ) (s : S
           asked = t.asked;
           polled = refl;
           bytes = t.bytes;
-          calls = t.calls;
           stage = (t.stage.0.at_is, refl, refl);
+          operates = (refl, operates_at action.Receive is t);
+          place = subst (λ n. PlacedBy (result_seated_by Waits (place_of n) rs)) (sym at_pipe) t.place;
           last = subst (λ n. SessionAs (session_after_receive Waiting s) kind (bound bytes kind) began shut over gone took written acts js (pipe_seated_by Waits (place_of n) ps) (slot_seated_by Waits (place_of n) ss)) (sym at_pipe)
               (subst (λ k. SessionAs (session_after_receive Waiting s) k (bound bytes k) began shut over gone took written acts js true ss) (sym lent.0) last);
           ended = λ is_end. absurd (cc);
@@ -476,11 +512,11 @@ module _ (bytes : ℕ) (asked : Option HandleCall) (p : OwnerMachine ℕ) (s : S
           asked = t.asked;
           polled = t.polled;
           bytes = t.bytes;
-          calls = t.calls;
           stage = (
             record {
               call = c;
               asked_is = t.stage.0.asked_is;
+              begun = t.stage.0.begun;
               call_is = t.stage.0.call_is;
               at_is = t.stage.0.at_is;
               next_is = refl;
@@ -489,6 +525,8 @@ module _ (bytes : ℕ) (asked : Option HandleCall) (p : OwnerMachine ℕ) (s : S
             t.stage.1,
             refl,
           );
+          operates = operates_at action.Receive is t;
+          place = t.place;
           last = t.last;
           ended = λ is_end. (closed.0, closed.1, sym (open_is s (bound bytes) cut t.last) ∙ lent.1);
           earlier = t.earlier;
@@ -551,6 +589,7 @@ module _ (bytes : ℕ) (asked : Option HandleCall) (p : OwnerMachine ℕ) (s : S
       let polled : PollAs q s.item (sessions.call (own cut)) (sessions.state (own cut)) (law.Say (told.Count went.0)) false (came_back cut) = record {
         call = c;
         asked_is = t.stage.0.asked_is;
+        begun = t.stage.0.begun;
         call_is = t.stage.0.call_is;
         at_is = t.stage.0.at_is;
         next_is = refl;
@@ -564,12 +603,13 @@ module _ (bytes : ℕ) (asked : Option HandleCall) (p : OwnerMachine ℕ) (s : S
         ends = tt;
         tie = record {
           made = t.made;
-          gone = t.gone ∙ not_gone q went.1;
+          gone = still_there q went.1 asked (own cut) t.gone;
           asked = t.asked;
           polled = t.polled ∙ still_called q went.1 asked;
           bytes = t.bytes;
-          calls = t.calls;
           stage = goes_on_so q went.1 s.item (sessions.call (own cut)) (sessions.state (own cut)) (law.Say (told.Count went.0)) false (came_back cut) polled refl;
+          operates = operating_so q went.1 false (is_operation asked) begun came tt;
+          place = t.place;
           last = subst (λ k. SessionAs (session_after_fill offered (Served went) s) k (bound bytes k) began shut over gone took (accepted (own (seen ∷ cut))) acts false ps ss) (sym w.kind_is)
               (subst (λ l. SessionAs (session_after_fill offered (Served went) s) Writing (bound bytes Writing) began shut over gone took (written ++ take went.0 l) acts false ps ss) offer last);
           ended = λ is_end. absurd (cc);
@@ -589,8 +629,9 @@ module _ (bytes : ℕ) (asked : Option HandleCall) (p : OwnerMachine ℕ) (s : S
           asked = t.asked;
           polled = refl;
           bytes = t.bytes;
-          calls = t.calls;
           stage = (t.stage.0.at_is, refl, refl);
+          operates = (refl, operates_at (action.Fill (length offered)) w.most_is t);
+          place = subst (λ n. PlacedBy (result_seated_by Waits (place_of n) rs)) (sym w.next_is) t.place;
           last = subst (λ n. SessionAs (session_after_fill offered Waiting s) kind (bound bytes kind) began shut over gone took written acts js (pipe_seated_by Waits (place_of n) ps) (slot_seated_by Waits (place_of n) ss)) (sym w.next_is)
               (subst (λ k. SessionAs (session_after_fill offered Waiting s) k (bound bytes k) began shut over gone took written acts js true ss) (sym w.kind_is) last);
           ended = λ is_end. absurd (cc);
@@ -614,11 +655,11 @@ module _ (bytes : ℕ) (asked : Option HandleCall) (p : OwnerMachine ℕ) (s : S
           asked = t.asked;
           polled = t.polled;
           bytes = t.bytes;
-          calls = t.calls;
           stage = (
             record {
               call = c;
               asked_is = t.stage.0.asked_is;
+              begun = t.stage.0.begun;
               call_is = t.stage.0.call_is;
               at_is = t.stage.0.at_is;
               next_is = refl;
@@ -627,6 +668,8 @@ module _ (bytes : ℕ) (asked : Option HandleCall) (p : OwnerMachine ℕ) (s : S
             t.stage.1,
             refl,
           );
+          operates = tt;
+          place = t.place;
           last = t.last;
           ended = λ is_end. absurd (cc);
           earlier = t.earlier;
@@ -663,7 +706,7 @@ module _ (bytes : ℕ) (asked : Option HandleCall) (p : OwnerMachine ℕ) (s : S
 
   -- it finds nothing yet, and is seated
   slot_waits : p.next ≡ action.PollSlot → Old → s.slot.content ≡ Empty
-      → Goes (owner_by_parts bytes asked (stage.Rests p.state) (Some (session_after_look Empty s))) cut (by_owner h Waits first growth)
+      → Goes (owner_by_parts bytes asked (stage.Rests p.state poll_end.Waits) (Some (session_after_look Empty s))) cut (by_owner h Waits first growth)
   slot_waits is t empty =
       let c = t.stage.0.call in
       let fits = fits_at bytes asked p cut (Some s) action.PollSlot t is in
@@ -682,8 +725,9 @@ module _ (bytes : ℕ) (asked : Option HandleCall) (p : OwnerMachine ℕ) (s : S
           asked = t.asked;
           polled = refl;
           bytes = t.bytes;
-          calls = t.calls;
           stage = (t.stage.0.at_is, refl, refl);
+          operates = (refl, operates_at action.PollSlot is t);
+          place = subst (λ n. PlacedBy (result_seated_by Waits (place_of n) rs)) (sym at_slot) t.place;
           last = subst (λ n. SessionAs (session_after_look Empty s) kind (bound bytes kind) began shut over gone took written acts js (pipe_seated_by Waits (place_of n) ps) (slot_seated_by Waits (place_of n) ss)) (sym at_slot)
               (waits_for_it s kind (bound bytes kind) began shut over gone took written acts js ps ss empty closed t.last);
           ended = λ is_end. absurd (cc);
@@ -738,102 +782,123 @@ module _ (bytes : ℕ) (asked : Option HandleCall) (p : OwnerMachine ℕ) (s : S
   IsNoSeek of why = Unit {0}
 
   -- what follows once the handle is back
-  after_back_is : (c : HandleCall) (st : State) (ended : Bool) (why : Option (Fault ℕ)) (of : Kind) (last : ℕ) → is_known c ≡ true → LooksFrom c st ended → IsNoSeek of why
-      → law.after_back c why ended of last ≡ action_as s.item c (machine.after_back (poll_call_of c) ended why)
-  after_back_is (handle_call.Read most) st ended (Some why) of last known looks kept = refl
-  after_back_is (handle_call.Read most) st true None of last known looks kept = refl
-  after_back_is (handle_call.Read zero) st false None of last known looks kept = refl
-  after_back_is (handle_call.Read (suc n)) st false None of last known looks kept = refl
-  after_back_is (handle_call.Write offered) st ended (Some why) of last known looks kept = refl
-  after_back_is (handle_call.Write []) st false None of last known looks kept = refl
-  after_back_is (handle_call.Write (byte ∷ more)) st false None of last known looks kept = refl
-  after_back_is (handle_call.Write offered) st true None of last known looks kept = absurd (let seen = only_seen (handle_call.Write offered) st looks in cc)
-  after_back_is handle_call.Flush st ended (Some why) of last known looks kept = refl
-  after_back_is handle_call.Flush st false None of last known looks kept = refl
-  after_back_is handle_call.Flush st true None of last known looks kept = absurd (let seen = only_seen handle_call.Flush st looks in cc)
-  after_back_is handle_call.Close st ended (Some why) of last known looks kept = refl
-  after_back_is handle_call.Close st false None of last known looks kept = refl
-  after_back_is handle_call.Close st true None of last known looks kept = absurd (let seen = only_seen handle_call.Close st looks in cc)
-  after_back_is handle_call.GetMut st false None of last known looks kept = refl
-  after_back_is handle_call.GetMut st false (Some why) of last known looks kept = refl
-  after_back_is handle_call.GetMut st true why of last known looks kept = absurd (let seen = only_seen handle_call.GetMut st looks in cc)
-  after_back_is handle_call.Next st true None of last known looks kept = refl
-  after_back_is handle_call.Next st true (Some why) of last known looks kept = refl
-  after_back_is handle_call.Next st false None of last known looks kept = refl
-  after_back_is handle_call.Next st false (Some why) of last known looks kept = refl
-  after_back_is (handle_call.Seek goal) st ended (Some why) of last known looks kept = refl
-  after_back_is (handle_call.Seek goal) st false None (Seeking from) last known looks kept = absurd kept
-  after_back_is (handle_call.Seek goal) st false None _ last known looks kept = refl
-  after_back_is (handle_call.Seek goal) st true None of last known looks kept = absurd (let seen = only_seen (handle_call.Seek goal) st looks in cc)
-  after_back_is _ st ended why of last known looks kept = absurd (cc)
+  after_back_is : (k : Bool) (c : HandleCall) (st : State) (ended : Bool) (why : Option (Fault ℕ)) (of : Kind) (last : ℕ) → LooksFrom c st ended → IsNoSeek of why
+      → law.after_back c why ended of last ≡ action_as s.item c (machine.after_back (poll_call_of k c) ended why)
+  after_back_is k (handle_call.Read most) st ended (Some why) of last looks kept = refl
+  after_back_is k (handle_call.Read most) st true None of last looks kept = refl
+  after_back_is k (handle_call.Read zero) st false None of last looks kept = refl
+  after_back_is k (handle_call.Read (suc n)) st false None of last looks kept = refl
+  after_back_is k (handle_call.Write offered) st ended (Some why) of last looks kept = refl
+  after_back_is k (handle_call.Write []) st false None of last looks kept = refl
+  after_back_is k (handle_call.Write (byte ∷ more)) st false None of last looks kept = refl
+  after_back_is k (handle_call.Write offered) st true None of last looks kept = absurd (let seen = only_seen (handle_call.Write offered) st looks in cc)
+  after_back_is k handle_call.Flush st ended (Some why) of last looks kept = refl
+  after_back_is k handle_call.Flush st false None of last looks kept = refl
+  after_back_is k handle_call.Flush st true None of last looks kept = absurd (let seen = only_seen handle_call.Flush st looks in cc)
+  after_back_is k handle_call.Close st ended (Some why) of last looks kept = refl
+  after_back_is k handle_call.Close st false None of last looks kept = refl
+  after_back_is k handle_call.Close st true None of last looks kept = absurd (let seen = only_seen handle_call.Close st looks in cc)
+  after_back_is k handle_call.GetMut st false None of last looks kept = refl
+  after_back_is k handle_call.GetMut st false (Some why) of last looks kept = refl
+  after_back_is k handle_call.GetMut st true why of last looks kept = absurd (let seen = only_seen handle_call.GetMut st looks in cc)
+  after_back_is k handle_call.Next st true None of last looks kept = refl
+  after_back_is k handle_call.Next st true (Some why) of last looks kept = refl
+  after_back_is k handle_call.Next st false None of last looks kept = refl
+  after_back_is k handle_call.Next st false (Some why) of last looks kept = refl
+  after_back_is k (handle_call.Seek goal) st ended (Some why) of last looks kept = refl
+  after_back_is k (handle_call.Seek goal) st false None (Seeking from) last looks kept = absurd kept
+  after_back_is k (handle_call.Seek goal) st false None _ last looks kept = refl
+  after_back_is k (handle_call.Seek goal) st true None of last looks kept = absurd (let seen = only_seen (handle_call.Seek goal) st looks in cc)
+  after_back_is k handle_call.Operate st false None of last looks kept = refl
+  after_back_is k handle_call.Operate st false (Some why) of last looks kept = refl
+  after_back_is k handle_call.Operate st true why of last looks kept = absurd (let seen = only_seen handle_call.Operate st looks in cc)
+  after_back_is k handle_call.OperateAgain st false None of last looks kept = refl
+  after_back_is k handle_call.OperateAgain st false (Some why) of last looks kept = refl
+  after_back_is k handle_call.OperateAgain st true why of last looks kept = absurd (let seen = only_seen handle_call.OperateAgain st looks in cc)
+  after_back_is k handle_call.IntoInner st false None of last looks kept = refl
+  after_back_is k handle_call.IntoInner st false (Some why) of last looks kept = refl
+  after_back_is k handle_call.IntoInner st true why of last looks kept = absurd (let seen = only_seen handle_call.IntoInner st looks in cc)
 
   -- and once it is back from a seek that went well
-  sought_is : (c : HandleCall) (goal : Position) (end : OwnerEnd) (place : ℕ) → is_known c ≡ true
-      → law.after_back c None false (Seeking goal) place ≡ action_as s.item c (machine.after_seek (state.Lent (session_kind.Seeking goal) end) (poll_call_of c) place)
-  sought_is (handle_call.Seek to) goal end place known = by (same_position goal to)
+  sought_is : (k : Bool) (c : HandleCall) (goal : Position) (end : OwnerEnd) (place : ℕ)
+      → law.after_back c None false (Seeking goal) place ≡ action_as s.item c (machine.after_seek (state.Lent (session_kind.Seeking goal) end) (poll_call_of k c) place)
+  sought_is k (handle_call.Seek to) goal end place = by (same_position goal to)
     where
       by : (b : Bool) → (if b then law.Say (told.Count place) else law.Begin)
           ≡ action_as s.item (handle_call.Seek to) (if b then action.Reply (reply.Position place) else action.Begin)
       by true = refl
       by false = refl
-  sought_is (handle_call.Read zero) goal end place known = refl
-  sought_is (handle_call.Read (suc n)) goal end place known = refl
-  sought_is (handle_call.Write []) goal end place known = refl
-  sought_is (handle_call.Write (byte ∷ more)) goal end place known = refl
-  sought_is handle_call.Flush goal end place known = refl
-  sought_is handle_call.Close goal end place known = refl
-  sought_is handle_call.GetMut goal end place known = refl
-  sought_is handle_call.Next goal end place known = refl
-  sought_is _ goal end place known = absurd (cc)
+  sought_is k (handle_call.Read zero) goal end place = refl
+  sought_is k (handle_call.Read (suc n)) goal end place = refl
+  sought_is k (handle_call.Write []) goal end place = refl
+  sought_is k (handle_call.Write (byte ∷ more)) goal end place = refl
+  sought_is k handle_call.Flush goal end place = refl
+  sought_is k handle_call.Close goal end place = refl
+  sought_is k handle_call.GetMut goal end place = refl
+  sought_is k handle_call.Next goal end place = refl
+  sought_is k handle_call.Operate goal end place = refl
+  sought_is k handle_call.OperateAgain goal end place = refl
+  sought_is k handle_call.IntoInner goal end place = refl
 
   -- and it fits
-  back_fits : (q : OwnerMachine ℕ) (c : HandleCall) (st : State) (ended : Bool) (why : Option (Fault ℕ)) (back : Option (List Event)) → is_known c ≡ true → LooksFrom c st ended → q.state ≡ state.Idle → q.is_at_end ≡ ended
+  back_fits : (k : Bool) (q : OwnerMachine ℕ) (c : HandleCall) (st : State) (ended : Bool) (why : Option (Fault ℕ)) (back : Option (List Event)) → LooksFrom c st ended → q.state ≡ state.Idle → q.is_at_end ≡ ended
       → (ended ≡ true → why ≡ None → st ≡ state.Lent session_kind.Reading Open → IsReadBack back) → (ended ≡ true → st ≡ state.Lent session_kind.Streaming Open → IsReadBack back)
-      → (why ≡ None → IsFlushedBack back) → FitsNext c q (machine.after_back (poll_call_of c) ended why) false back
-  back_fits q (handle_call.Read most) st ended (Some why) back known looks at end whole taken flushed = failed_fits (handle_call.Read most) q why false back
-  back_fits q (handle_call.Read zero) st true None back known looks at end whole taken flushed = (refl, tt, tt)
-  back_fits q (handle_call.Read (suc n)) st true None back known looks at end whole taken flushed = (refl, whole refl refl (seen_reading (suc n) st looks), tt)
-  back_fits q (handle_call.Read zero) st false None back known looks at end whole taken flushed = (refl, tt, tt)
-  back_fits q (handle_call.Read (suc n)) st false None back known looks at end whole taken flushed = (tt, at, end)
-  back_fits q (handle_call.Write offered) st ended (Some why) back known looks at end whole taken flushed = (refl, tt, tt)
-  back_fits q (handle_call.Write []) st false None back known looks at end whole taken flushed = (refl, tt, tt)
-  back_fits q (handle_call.Write (byte ∷ more)) st false None back known looks at end whole taken flushed = (tt, at, end)
-  back_fits q (handle_call.Write offered) st true None back known looks at end whole taken flushed = absurd (let seen = only_seen (handle_call.Write offered) st looks in cc)
-  back_fits q handle_call.Flush st ended (Some why) back known looks at end whole taken flushed = (refl, tt, tt)
-  back_fits q handle_call.Flush st true None back known looks at end whole taken flushed = (refl, flushed refl, tt)
-  back_fits q handle_call.Flush st false None back known looks at end whole taken flushed = (refl, flushed refl, tt)
-  back_fits q handle_call.Close st ended (Some why) back known looks at end whole taken flushed = (refl, tt, tt)
-  back_fits q handle_call.Close st true None back known looks at end whole taken flushed = (refl, at, flushed refl)
-  back_fits q handle_call.Close st false None back known looks at end whole taken flushed = (refl, at, flushed refl)
-  back_fits q handle_call.GetMut st true None back known looks at end whole taken flushed = (refl, tt, tt)
-  back_fits q handle_call.GetMut st true (Some why) back known looks at end whole taken flushed = (refl, tt, tt)
-  back_fits q handle_call.GetMut st false None back known looks at end whole taken flushed = (refl, tt, tt)
-  back_fits q handle_call.GetMut st false (Some why) back known looks at end whole taken flushed = (refl, tt, tt)
-  back_fits q handle_call.Next st true None back known looks at end whole taken flushed = (refl, taken refl (seen_streaming st looks), tt)
-  back_fits q handle_call.Next st true (Some why) back known looks at end whole taken flushed = (refl, taken refl (seen_streaming st looks), tt)
-  back_fits q handle_call.Next st false None back known looks at end whole taken flushed = (tt, at, end)
-  back_fits q handle_call.Next st false (Some why) back known looks at end whole taken flushed = (tt, at, end)
-  back_fits q (handle_call.Seek goal) st ended (Some why) back known looks at end whole taken flushed = (refl, tt, tt)
-  back_fits q (handle_call.Seek goal) st false None back known looks at end whole taken flushed = (tt, at, end)
-  back_fits q (handle_call.Seek goal) st true None back known looks at end whole taken flushed = absurd (let seen = only_seen (handle_call.Seek goal) st looks in cc)
-  back_fits q _ st ended why back known looks at end whole taken flushed = absurd (cc)
+      → (why ≡ None → IsFlushedBack back) → FitsNext c q (machine.after_back (poll_call_of k c) ended why) false back
+  back_fits k q (handle_call.Read most) st ended (Some why) back looks at end whole taken flushed = failed_fits (handle_call.Read most) q why false back
+  back_fits k q (handle_call.Read zero) st true None back looks at end whole taken flushed = (refl, tt, tt)
+  back_fits k q (handle_call.Read (suc n)) st true None back looks at end whole taken flushed = (refl, whole refl refl (seen_reading (suc n) st looks), tt)
+  back_fits k q (handle_call.Read zero) st false None back looks at end whole taken flushed = (refl, tt, tt)
+  back_fits k q (handle_call.Read (suc n)) st false None back looks at end whole taken flushed = (tt, at, end)
+  back_fits k q (handle_call.Write offered) st ended (Some why) back looks at end whole taken flushed = (refl, tt, tt)
+  back_fits k q (handle_call.Write []) st false None back looks at end whole taken flushed = (refl, tt, tt)
+  back_fits k q (handle_call.Write (byte ∷ more)) st false None back looks at end whole taken flushed = (tt, at, end)
+  back_fits k q (handle_call.Write offered) st true None back looks at end whole taken flushed = absurd (let seen = only_seen (handle_call.Write offered) st looks in cc)
+  back_fits k q handle_call.Flush st ended (Some why) back looks at end whole taken flushed = (refl, tt, tt)
+  back_fits k q handle_call.Flush st true None back looks at end whole taken flushed = (refl, flushed refl, tt)
+  back_fits k q handle_call.Flush st false None back looks at end whole taken flushed = (refl, flushed refl, tt)
+  back_fits k q handle_call.Close st ended (Some why) back looks at end whole taken flushed = (refl, tt, tt)
+  back_fits k q handle_call.Close st true None back looks at end whole taken flushed = (refl, at, flushed refl)
+  back_fits k q handle_call.Close st false None back looks at end whole taken flushed = (refl, at, flushed refl)
+  back_fits k q handle_call.GetMut st true None back looks at end whole taken flushed = (refl, tt, tt)
+  back_fits k q handle_call.GetMut st true (Some why) back looks at end whole taken flushed = (refl, tt, tt)
+  back_fits k q handle_call.GetMut st false None back looks at end whole taken flushed = (refl, tt, tt)
+  back_fits k q handle_call.GetMut st false (Some why) back looks at end whole taken flushed = (refl, tt, tt)
+  back_fits k q handle_call.Next st true None back looks at end whole taken flushed = (refl, taken refl (seen_streaming st looks), tt)
+  back_fits k q handle_call.Next st true (Some why) back looks at end whole taken flushed = (refl, taken refl (seen_streaming st looks), tt)
+  back_fits k q handle_call.Next st false None back looks at end whole taken flushed = (tt, at, end)
+  back_fits k q handle_call.Next st false (Some why) back looks at end whole taken flushed = (tt, at, end)
+  back_fits k q (handle_call.Seek goal) st ended (Some why) back looks at end whole taken flushed = (refl, tt, tt)
+  back_fits k q (handle_call.Seek goal) st false None back looks at end whole taken flushed = (tt, at, end)
+  back_fits k q (handle_call.Seek goal) st true None back looks at end whole taken flushed = absurd (let seen = only_seen (handle_call.Seek goal) st looks in cc)
+  back_fits k q handle_call.Operate st false None back looks at end whole taken flushed = (tt, at, end)
+  back_fits k q handle_call.Operate st false (Some why) back looks at end whole taken flushed = (tt, at, end)
+  back_fits k q handle_call.Operate st true why back looks at end whole taken flushed = absurd (let seen = only_seen handle_call.Operate st looks in cc)
+  back_fits k q handle_call.OperateAgain st false None back looks at end whole taken flushed = (tt, at, end)
+  back_fits k q handle_call.OperateAgain st false (Some why) back looks at end whole taken flushed = (tt, at, end)
+  back_fits k q handle_call.OperateAgain st true why back looks at end whole taken flushed = absurd (let seen = only_seen handle_call.OperateAgain st looks in cc)
+  back_fits k q handle_call.IntoInner st true None back looks at end whole taken flushed = (refl, tt, tt)
+  back_fits k q handle_call.IntoInner st true (Some why) back looks at end whole taken flushed = (refl, tt, tt)
+  back_fits k q handle_call.IntoInner st false None back looks at end whole taken flushed = (refl, tt, tt)
+  back_fits k q handle_call.IntoInner st false (Some why) back looks at end whole taken flushed = (refl, tt, tt)
 
-  sought_fits : (q : OwnerMachine ℕ) (c : HandleCall) (goal : Position) (end : OwnerEnd) (place : ℕ) (back : Option (List Event)) → is_known c ≡ true → q.state ≡ state.Idle → q.is_at_end ≡ false
-      → IsFlushedBack back → FitsNext c q (machine.after_seek (state.Lent (session_kind.Seeking goal) end) (poll_call_of c) place) false back
-  sought_fits q (handle_call.Seek to) goal end place back known at ended flushed = by (same_position goal to)
+  sought_fits : (k : Bool) (q : OwnerMachine ℕ) (c : HandleCall) (goal : Position) (end : OwnerEnd) (place : ℕ) (back : Option (List Event)) → q.state ≡ state.Idle → q.is_at_end ≡ false
+      → IsFlushedBack back → FitsNext c q (machine.after_seek (state.Lent (session_kind.Seeking goal) end) (poll_call_of k c) place) false back
+  sought_fits k q (handle_call.Seek to) goal end place back at ended flushed = by (same_position goal to)
     where
       by : (b : Bool) → FitsNext (handle_call.Seek to) q (if b then action.Reply (reply.Position place) else action.Begin) false back
       by true = (refl, tt, tt)
       by false = (tt, at, ended)
-  sought_fits q (handle_call.Read zero) goal end place back known at ended flushed = (refl, tt, tt)
-  sought_fits q (handle_call.Read (suc n)) goal end place back known at ended flushed = (tt, at, ended)
-  sought_fits q (handle_call.Write []) goal end place back known at ended flushed = (refl, tt, tt)
-  sought_fits q (handle_call.Write (byte ∷ more)) goal end place back known at ended flushed = (tt, at, ended)
-  sought_fits q handle_call.Flush goal end place back known at ended flushed = (refl, flushed, tt)
-  sought_fits q handle_call.Close goal end place back known at ended flushed = (refl, at, flushed)
-  sought_fits q handle_call.GetMut goal end place back known at ended flushed = (refl, tt, tt)
-  sought_fits q handle_call.Next goal end place back known at ended flushed = (tt, at, ended)
-  sought_fits q _ goal end place back known at ended flushed = absurd (cc)
+  sought_fits k q (handle_call.Read zero) goal end place back at ended flushed = (refl, tt, tt)
+  sought_fits k q (handle_call.Read (suc n)) goal end place back at ended flushed = (tt, at, ended)
+  sought_fits k q (handle_call.Write []) goal end place back at ended flushed = (refl, tt, tt)
+  sought_fits k q (handle_call.Write (byte ∷ more)) goal end place back at ended flushed = (tt, at, ended)
+  sought_fits k q handle_call.Flush goal end place back at ended flushed = (refl, flushed, tt)
+  sought_fits k q handle_call.Close goal end place back at ended flushed = (refl, at, flushed)
+  sought_fits k q handle_call.GetMut goal end place back at ended flushed = (refl, tt, tt)
+  sought_fits k q handle_call.Next goal end place back at ended flushed = (tt, at, ended)
+  sought_fits k q handle_call.Operate goal end place back at ended flushed = (tt, at, ended)
+  sought_fits k q handle_call.OperateAgain goal end place back at ended flushed = (tt, at, ended)
+  sought_fits k q handle_call.IntoInner goal end place back at ended flushed = (refl, tt, tt)
 
   -- a job that finished is over
   over_now : Old → has_finished acts ≡ true → next_but_wake kind acts ≡ Over
@@ -897,8 +962,9 @@ module _ (bytes : ℕ) (asked : Option HandleCall) (p : OwnerMachine ℕ) (s : S
       → owner_after p answer ≡ record p { state = state.Idle; next = next }
       → law.after_back t.stage.0.call why p.is_at_end kind (number acts) ≡ action_as s.item t.stage.0.call next
       → FitsNext t.stage.0.call (record p { state = state.Idle; next = next }) next false (Some (by_owner h Back first growth ∷ cut))
+      → IsOperating next (is_operation asked) begun came
       → Goes (owner_by_parts bytes asked (stage.Polls (owner_after p answer)) (Some (session_after_look (Full why) s))) cut (by_owner h Back first growth)
-  returned is t why full answer next same follows fit =
+  returned is t why full answer next same follows fit goes =
       let c = t.stage.0.call in
       let fits = fits_at bytes asked p cut (Some s) action.PollSlot t is in
       let e = by_owner h Back first growth in
@@ -923,11 +989,11 @@ module _ (bytes : ℕ) (asked : Option HandleCall) (p : OwnerMachine ℕ) (s : S
           asked = t.asked;
           polled = t.polled;
           bytes = t.bytes;
-          calls = t.calls;
           stage = (
             record {
               call = c;
               asked_is = t.stage.0.asked_is;
+              begun = t.stage.0.begun;
               call_is = t.stage.0.call_is;
               at_is = ap (λ b. sessions.state_by b None shut) (gone_is (own cut) p.state t.stage.0.at_is ∙ there);
               next_is = table ∙ follows;
@@ -936,6 +1002,8 @@ module _ (bytes : ℕ) (asked : Option HandleCall) (p : OwnerMachine ℕ) (s : S
             t.stage.1,
             refl,
           );
+          operates = goes;
+          place = t.place;
           last = returns s kind (bound bytes kind) began shut over gone took written acts js ps ss why full t.last;
           ended = λ is_end. absurd (cc);
           earlier = t.earlier;
@@ -944,46 +1012,92 @@ module _ (bytes : ℕ) (asked : Option HandleCall) (p : OwnerMachine ℕ) (s : S
         };
       })
 
+  -- once the handle is back, an operation hasn't begun its session
+  idle_operates : (c : PollCall) (operates : Bool) → (operates ≡ true → begun ≡ false) → IsOperating (machine.table c state.Idle) operates begun came
+  idle_operates (poll_call.Read zero) operates before = tt
+  idle_operates (poll_call.Read (suc n)) operates before = before
+  idle_operates (poll_call.Write zero) operates before = tt
+  idle_operates (poll_call.Write (suc n)) operates before = before
+  idle_operates poll_call.Flush operates before = tt
+  idle_operates poll_call.Close operates before = before
+  idle_operates (poll_call.Seek goal) operates before = before
+  idle_operates poll_call.Next operates before = before
+  idle_operates (poll_call.Operate has_begun) operates before = before
+  idle_operates poll_call.GetMut operates before = tt
+  idle_operates poll_call.IntoInner operates before = tt
+
+  end_operates : (c : PollCall) (ended operates : Bool) → (operates ≡ true → begun ≡ false) → IsOperating (machine.after_end c ended) operates begun came
+  end_operates c false operates before = idle_operates c operates before
+  end_operates c true operates before = at_end c
+    where
+      at_end : (c : PollCall) → IsOperating (machine.at_end c) operates begun came
+      at_end (poll_call.Read n) = tt
+      at_end poll_call.Next = tt
+      at_end (poll_call.Write n) = idle_operates (poll_call.Write n) operates before
+      at_end poll_call.Flush = idle_operates poll_call.Flush operates before
+      at_end poll_call.Close = idle_operates poll_call.Close operates before
+      at_end (poll_call.Seek goal) = idle_operates (poll_call.Seek goal) operates before
+      at_end (poll_call.Operate has_begun) = idle_operates (poll_call.Operate has_begun) operates before
+      at_end poll_call.GetMut = idle_operates poll_call.GetMut operates before
+      at_end poll_call.IntoInner = idle_operates poll_call.IntoInner operates before
+
+  back_operates : (c : PollCall) (ended : Bool) (why : Option (Fault ℕ)) (operates : Bool) → (operates ≡ true → begun ≡ false) → IsOperating (machine.after_back c ended why) operates begun came
+  back_operates c ended None operates before = end_operates c ended operates before
+  back_operates c ended (Some why) operates before = by (machine.tells_faults c)
+    where
+      by : (b : Bool) → IsOperating (if b then action.Reply (reply.Failed why) else machine.after_end c ended) operates begun came
+      by true = tt
+      by false = end_operates c ended operates before
+
+  sought_operates : (st : State) (c : PollCall) (place : ℕ) (operates : Bool) → (operates ≡ true → begun ≡ false) → IsOperating (machine.after_seek st c place) operates begun came
+  sought_operates st c place operates before = by (machine.sought_by st c)
+    where
+      by : (b : Bool) → IsOperating (if b then action.Reply (reply.Position place) else machine.table c state.Idle) operates begun came
+      by true = tt
+      by false = idle_operates c operates before
+
   back_goes : p.next ≡ action.PollSlot → Old → (why : Option (Fault ℕ)) → s.slot.content ≡ Full why → IsNoSeek kind why
       → Goes (owner_by_parts bytes asked (stage.Polls (owner_after p (by.Back why))) (Some (session_after_look (Full why) s))) cut (by_owner h Back first growth)
   back_goes is t why full kept =
       let c = t.stage.0.call in
+      let k = t.stage.0.begun in
       let fits = fits_at bytes asked p cut (Some s) action.PollSlot t is in
       let slot = subst (λ c. SlotAs c (has_finished acts) (has_given_up acts) over (fault kind acts)) full t.last.result.slot in
-      let q : OwnerMachine ℕ = record p { state = state.Idle; next = machine.after_back (poll_call_of c) p.is_at_end why } in
+      let q : OwnerMachine ℕ = record p { state = state.Idle; next = machine.after_back (poll_call_of k c) p.is_at_end why } in
       let same : owner_after p (by.Back why) ≡ q =
       turned p action.PollSlot (by.Back why) t.stage.1 is ∙ ap (λ k. record p { state = state.Idle; next = machine.after_back k p.is_at_end why }) t.stage.0.call_is in
-      let known = known_call (own cut) c t.calls t.stage.0.asked_is in
       let whole = λ (is_end : p.is_at_end ≡ true) (none : why ≡ None) (there_is : p.state ≡ state.Lent session_kind.Reading Open).
       read_whole t (lent_at (own cut) Reading true (t.stage.0.at_is ∙ ap state_as there_is)).0 (t.ended (sym fits.1 ∙ is_end)) slot.0 slot.1 (sym slot.3 ∙ none) in
       let all_taken = λ (is_end : p.is_at_end ≡ true) (there_is : p.state ≡ state.Lent session_kind.Streaming Open).
       taken_whole t (lent_at (own cut) Streaming true (t.stage.0.at_is ∙ ap state_as there_is)).0 (t.ended (sym fits.1 ∙ is_end)) slot.0 slot.1 in
       let flushed = λ (none : why ≡ None). flushed_if kind (λ writes. flushed_whole t writes slot.0 slot.1 (sym slot.3 ∙ none)) in
-      returned is t why full (by.Back why) (machine.after_back (poll_call_of c) p.is_at_end why) same (after_back_is c p.state p.is_at_end why kind (number acts) known fits.0 kept)
-      (back_fits q c p.state p.is_at_end why (Some (by_owner h Back first growth ∷ cut)) known fits.0 refl refl whole all_taken flushed)
+      returned is t why full (by.Back why) (machine.after_back (poll_call_of k c) p.is_at_end why) same (after_back_is k c p.state p.is_at_end why kind (number acts) fits.0 kept)
+      (back_fits k q c p.state p.is_at_end why (Some (by_owner h Back first growth ∷ cut)) fits.0 refl refl whole all_taken flushed)
+      (back_operates (poll_call_of k c) p.is_at_end why (is_operation asked) (operates_at action.PollSlot is t))
 
   -- the handle is back from a seek that went well
   sought_goes : p.next ≡ action.PollSlot → Old → (goal : Position) (end : OwnerEnd) → p.state ≡ state.Lent (session_kind.Seeking goal) end → s.slot.content ≡ Full None
       → Goes (owner_by_parts bytes asked (stage.Polls (owner_after p (by.Sought s.left))) (Some (session_after_look (Full None) s))) cut (by_owner h Back first growth)
   sought_goes is t goal end from full =
       let c = t.stage.0.call in
+      let k = t.stage.0.begun in
       let fits = fits_at bytes asked p cut (Some s) action.PollSlot t is in
       let slot = subst (λ c. SlotAs c (has_finished acts) (has_given_up acts) over (fault kind acts)) full t.last.result.slot in
       let of : kind ≡ Seeking goal = (lent_at (own cut) (Seeking goal) (is_end_open end) (t.stage.0.at_is ∙ ap state_as from)).0 in
       let place = (of_kind (Seeking goal) of t).flow.place slot.0 in
       let here = state.Lent (session_kind.Seeking goal) end in
-      let next = machine.after_seek here (poll_call_of c) s.left in
+      let next = machine.after_seek here (poll_call_of k c) s.left in
       let q : OwnerMachine ℕ = record p { state = state.Idle; next = next } in
       let same : owner_after p (by.Sought s.left) ≡ q =
       turned p action.PollSlot (by.Sought s.left) t.stage.1 is ∙ ap (λ k. record p { state = state.Idle; next = machine.after_seek p.state k s.left }) t.stage.0.call_is
-      ∙ ap (λ st. record p { state = state.Idle; next = machine.after_seek st (poll_call_of c) s.left }) from in
-      let known = known_call (own cut) c t.calls t.stage.0.asked_is in
+      ∙ ap (λ st. record p { state = state.Idle; next = machine.after_seek st (poll_call_of k c) s.left }) from in
       let unended = ends_not end p.is_at_end c (subst (λ st. LooksFrom c st p.is_at_end) from fits.0) in
       let flushed = flushed_if kind (λ writes. flushed_whole t writes slot.0 slot.1 (sym slot.3)) in
       returned is t None full (by.Sought s.left) next same
       (ap (λ b. law.after_back c None b kind (number acts)) unended ∙ ap (λ k. law.after_back c None false k (number acts)) of
-      ∙ ap (λ n. law.after_back c None false (Seeking goal) n) (sym place) ∙ sought_is c goal end s.left known)
-      (sought_fits q c goal end s.left (Some (by_owner h Back first growth ∷ cut)) known refl unended flushed)
+      ∙ ap (λ n. law.after_back c None false (Seeking goal) n) (sym place) ∙ sought_is k c goal end s.left)
+      (sought_fits k q c goal end s.left (Some (by_owner h Back first growth ∷ cut)) refl unended flushed)
+      (sought_operates here (poll_call_of k c) s.left (is_operation asked) (operates_at action.PollSlot is t))
     where
       ends_not : (end : OwnerEnd) (b : Bool) (c : HandleCall) → LooksFrom c (state.Lent (session_kind.Seeking goal) end) b → b ≡ false
       ends_not end false c looks = refl
@@ -1020,6 +1134,126 @@ module _ (bytes : ℕ) (asked : Option HandleCall) (p : OwnerMachine ℕ) (s : S
   look_goes is t GivenUp e done does = absurd (cc)
   look_goes is t (Abandoned was) e done does = absurd (subst (λ c. SlotAs c (has_finished acts) (has_given_up acts) over (fault kind acts)) e t.last.result.slot)
 
+  -- ---- it looks for the result of its operation
+
+  -- the call asks for an operation, whose session has begun, and the result wasn't found
+  pub record Operates (t : Old) : Type 0 where
+    pub asks : is_operation (Some t.stage.0.call) ≡ true
+    pub operates : is_operation asked ≡ true
+    pub at : p.state ≡ state.Lent session_kind.Operating Open
+    pub kind_is : kind ≡ Operating
+    pub has_begun : begun ≡ true
+    pub none_came : came ≡ false
+    pub next_is : next_of_owner cut ≡ law.PollPlace
+    pub tied : SessionAs s Operating (bound bytes Operating) began shut over gone took written acts js ps ss
+
+  operates_so : p.next ≡ action.PollResult → (t : Old) → Operates t
+  operates_so is t =
+      let fits = fits_at bytes asked p cut (Some s) action.PollResult t is in
+      let begins = operates_at action.PollResult is t in
+      let lent = lent_at (own cut) Operating true (t.stage.0.at_is ∙ ap state_as fits.1) in
+      record {
+        asks = fits.0;
+        operates = ap is_operation (sym t.asked ∙ t.stage.0.asked_is) ∙ fits.0;
+        at = fits.1;
+        kind_is = lent.0;
+        has_begun = begins.0;
+        none_came = begins.1;
+        next_is = lawful bytes asked p cut (Some s) action.PollResult t is;
+        tied = of_kind Operating lent.0 t;
+      }
+
+  -- the result answers an operation
+  result_fits : (c : HandleCall) (q : OwnerMachine ℕ) (back : Option (List Event)) → is_operation (Some c) ≡ true → FitsNext c q (action.Reply reply.Result) false back
+  result_fits handle_call.Operate q back asks = (refl, refl, tt)
+  result_fits handle_call.OperateAgain q back asks = (refl, refl, tt)
+  result_fits _ q back asks = absurd (cc)
+
+  -- the session, whatever is kept and whatever stands in the place of the result
+  tied_with : (t : Old) → Operates t → (kept : ℕ) (result : Slot ℕ (Unit {0})) → SessionAs (record s { item = kept; result = result }) kind (bound bytes kind) began shut over gone took written acts js ps ss
+  tied_with t o kept result =
+      subst (λ k. SessionAs (record s { item = kept; result = result }) k (bound bytes k) began shut over gone took written acts js ps ss) (sym o.kind_is)
+      (kept_with s (bound bytes Operating) began shut over gone took written acts js ps ss kept result o.tied)
+
+  result_found : p.next ≡ action.PollResult → (t : Old) → Operates t → (n : ℕ) → s.result.content ≡ Full n
+      → Goes (owner_by_parts bytes asked (stage.Polls (owner_after p by.Resulted)) (Some (session_after_find (Full n) s))) cut (by_owner h (ResultGot n) first growth)
+  result_found is t o n full =
+      let holds = subst (λ c. HoldsResult c (has_result acts) came (number acts)) full t.place.content in
+      let job = its_job s (bound bytes) cut t.last in
+      let q : OwnerMachine ℕ = record p { next = action.Reply reply.Result } in
+      let same : owner_after p by.Resulted ≡ q = turned p action.PollResult by.Resulted t.stage.1 is in
+      subst (λ (m : OwnerMachine ℕ). Goes (owner_by_parts bytes asked (stage.Polls m) (Some (session_after_find (Full n) s))) cut (by_owner h (ResultGot n) first growth)) (sym same)
+      (record {
+        acts = subst (λ next. Polls cut next (ResultGot n)) (sym o.next_is)
+            (ap ResultGot holds.2 ∙ ap (λ b. poll_place b (number acts)) (sym holds.0) ∙ ap (λ l. poll_place (has_result l) (number l)) (sym job));
+        ends = tt;
+        tie = record {
+          made = t.made;
+          gone = t.gone;
+          asked = t.asked;
+          polled = t.polled;
+          bytes = t.bytes;
+          stage = (
+            record {
+              call = t.stage.0.call;
+              asked_is = t.stage.0.asked_is;
+              begun = t.stage.0.begun;
+              call_is = t.stage.0.call_is;
+              at_is = t.stage.0.at_is;
+              next_is = refl;
+              fits = result_fits t.stage.0.call q (came_back cut) o.asks;
+            },
+            t.stage.1,
+            refl,
+          );
+          operates = tt;
+          last = tied_with t o n (record s.result { content = Empty });
+          place = result_taken s.result (has_given_up acts) (has_result acts) came (number acts) rs kind (next_but_wake kind acts) t.place n full;
+          ended = λ is_end. absurd (cc);
+          earlier = t.earlier;
+          noted = λ number is. absurd (cc);
+          told = λ waits. absurd (cc);
+        };
+      })
+
+  result_awaited : p.next ≡ action.PollResult → (t : Old) → Operates t → s.result.content ≡ Empty
+      → Goes (owner_by_parts bytes asked (stage.Rests p.state poll_end.WaitsForResult) (Some (session_after_find Empty s))) cut (by_owner h Waits first growth)
+  result_awaited is t o empty =
+      let holds = subst (λ c. HoldsResult c (has_result acts) came (number acts)) empty t.place.content in
+      let none : has_result acts ≡ false = holds ∙ o.none_came in
+      let job = its_job s (bound bytes) cut t.last in
+      let sat : Slot ℕ (Unit {0}) = record s.result { seat = Some tt } in
+      record {
+        acts = subst (λ next. Polls cut next Waits) (sym o.next_is) (ap (λ b. poll_place b (number acts)) (sym none) ∙ ap (λ l. poll_place (has_result l) (number l)) (sym job));
+        ends = tt;
+        tie = record {
+          made = t.made;
+          gone = t.gone;
+          asked = t.asked;
+          polled = refl;
+          bytes = t.bytes;
+          stage = (t.stage.0.at_is, refl, refl);
+          operates = (refl, o.operates, o.has_begun, o.none_came, o.at);
+          last = subst (λ n. SessionAs (session_after_find Empty s) kind (bound bytes kind) began shut over gone took written acts js (pipe_seated_by Waits (place_of n) ps) (slot_seated_by Waits (place_of n) ss)) (sym o.next_is)
+              (tied_with t o s.item sat);
+          place = subst (λ n. PlaceBy sat kind acts came (result_seated_by Waits (place_of n) rs)) (sym o.next_is)
+              (result_waits s.result (has_given_up acts) (has_result acts) came (number acts) rs kind (next_but_wake kind acts) t.place o.kind_is none);
+          ended = λ is_end. absurd (cc);
+          earlier = t.earlier;
+          noted = λ number is. absurd (cc);
+          told = λ waits. (refl, inr (or_right (is_some s.pipe.owner_seat) (is_some s.slot.seat || true) (or_right (is_some s.slot.seat) true refl)));
+        };
+      }
+
+  find_goes : p.next ≡ action.PollResult → Old → (content : Content ℕ) → s.result.content ≡ content → (done : Did)
+      → find_did (awaited_as content) p (session_after_find content s) polling ≡ Some done → Goes done.owner cut (by_owner h done.act first growth)
+  find_goes is t Empty e done does =
+      subst (λ (d : Did). Goes d.owner cut (by_owner h d.act first growth)) (ap (value_of done) does) (result_awaited is t (operates_so is t) e)
+  find_goes is t (Full n) e done does =
+      subst (λ (d : Did). Goes d.owner cut (by_owner h d.act first growth)) (ap (value_of done) does) (result_found is t (operates_so is t) n e)
+  find_goes is t GivenUp e done does = absurd (cc)
+  find_goes is t (Abandoned was) e done does = absurd (subst (λ c. HoldsResult c (has_result acts) came (number acts)) e t.place.content)
+
 -- ---- it replies
 
 end_is : (x : ℕ) (c : HandleCall) (r : Reply ℕ) (back : Option (List Event)) (said : Told) → reply_as x r ≡ Some said → EndAs c r back → IsTrueEnd (Some c) said back
@@ -1033,8 +1267,10 @@ end_is x c r back said same e = subst (λ told. IsTrueEnd (Some c) (value_of sai
     by_reply (handle_call.Seek goal) (reply.Position place) same e = tt
     by_reply _ (reply.Position place) same e = absurd e
     by_reply handle_call.Next reply.End same e = e
-    by_reply c reply.Result same e = absurd (cc)
     by_reply c reply.Closed same e = absurd (cc)
+    by_reply handle_call.Operate reply.Result same e = tt
+    by_reply handle_call.OperateAgain reply.Result same e = tt
+    by_reply _ reply.Result same e = absurd (cc)
     by_reply _ _ same e = tt
 
 -- where the handle is after a reply: a close that is all done has none
@@ -1060,33 +1296,53 @@ after_reply x c _ told.Okay closed last shut st same away e = absurd (cc)
 
 reply_goes : (bytes : ℕ) (asked : Option HandleCall) (p : OwnerMachine ℕ) (last : Option Session) (h first : ℕ) (growth : Growth) (cut : List Event) (r : Reply ℕ) (said : Told)
     → p.next ≡ action.Reply r → reply_as (item_in last) r ≡ Some said → OwnerAs (owner_by_parts bytes asked (stage.Polls p) last) cut
-    → Goes (owner_by_parts bytes asked (stage.Rests p.state) last) cut (by_owner h (Replied said) first growth)
-reply_goes bytes asked p last h first growth cut r said is same t =
-    let c = t.stage.0.call in
-    let fits = fits_at bytes asked p cut last (action.Reply r) t is in
-    record {
+    → Goes (owner_by_parts bytes asked (stage_after_reply (sessions.is_into_inner asked) p.state) last) cut (by_owner h (Replied said) first growth)
+reply_goes bytes asked p last h first growth cut r said is same t = at (sessions.is_into_inner asked) refl
+  where
+    fits : FitsNext t.stage.0.call p (action.Reply r) (law.is_at_end (own cut)) (came_back cut)
+    fits = fits_at bytes asked p cut last (action.Reply r) t is
+
+    -- where it is after that has no poll under way and no note, and is no more if the handle was asked for for good
+    after : (here : OwnerStage) → called_at here asked ≡ None → note_at here ≡ None → is_gone here ≡ false → is_no_more here ≡ sessions.is_into_inner asked
+        → StageBy here (item_in last) (sessions.call (own cut)) (sessions.state (Replied said ∷ own cut)) law.Rest false (came_back cut) None
+        → OperatesBy here false (is_operation asked) (sessions.has_begun (own cut)) (has_found (own cut))
+        → Goes (owner_by_parts bytes asked here last) cut (by_owner h (Replied said) first growth)
+    after here rests awake there over so operates = record {
       acts = subst (λ n. Polls cut n (Replied said)) (sym (lawful bytes asked p cut last (action.Reply r) t is ∙ ap say same)) refl;
-      ends = subst (λ c. IsTrueEnd c said (came_back cut)) (sym t.stage.0.asked_is) (end_is (item_in last) c r (came_back cut) said same fits.1);
+      ends = subst (λ c. IsTrueEnd c said (came_back cut)) (sym t.stage.0.asked_is) (end_is (item_in last) t.stage.0.call r (came_back cut) said same fits.1);
       tie = record {
         made = t.made;
-        gone = t.gone;
-        asked = t.asked;
-        polled = refl;
-        bytes = t.bytes;
-        calls = t.calls;
-        stage = (
-          ap (λ c. sessions.state_by (sessions.ends_close said c || sessions.is_closed (own cut)) (sessions.session (own cut)) (sessions.is_shut (own cut))) t.stage.0.asked_is
-              ∙ after_reply (item_in last) c r said (sessions.is_closed (own cut)) (sessions.session (own cut)) (sessions.is_shut (own cut)) p.state same fits.2 t.stage.0.at_is,
-          refl,
-          refl,
+        gone = (
+          t.gone.0 ∙ sym there,
+          ap (λ c. sessions.is_into_inner c || sessions.is_owner_gone (own cut)) t.asked ∙ or_none (sessions.is_into_inner asked) (sessions.is_owner_gone (own cut)) t.gone.1 ∙ sym over,
+          t.gone.2,
         );
+        asked = t.asked;
+        polled = sym rests;
+        bytes = t.bytes;
+        stage = so;
+        operates = operates;
         last = t.last;
+        place = t.place;
         ended = λ is_end. absurd (cc);
         earlier = t.earlier;
-        noted = λ number is. absurd (cc);
+        noted = λ number is. absurd (let none = awake in cc);
         told = λ waits. absurd (cc);
       };
     }
+      where
+        or_none : (a b : Bool) → b ≡ false → (a || b) ≡ a
+        or_none true b none = refl
+        or_none false b none = none
+
+    at : (b : Bool) → sessions.is_into_inner asked ≡ b → Goes (owner_by_parts bytes asked (stage_after_reply b p.state) last) cut (by_owner h (Replied said) first growth)
+    at true inner = after stage.TakenBack refl refl refl (sym inner) (refl, refl) tt
+    at false not_inner = after (stage.Rests p.state poll_end.Replied) refl refl refl (sym not_inner) (
+      ap (λ c. sessions.state_by (sessions.ends_close said c || sessions.is_closed (own cut)) (sessions.session (own cut)) (sessions.is_shut (own cut))) t.stage.0.asked_is
+          ∙ after_reply (item_in last) t.stage.0.call r said (sessions.is_closed (own cut)) (sessions.session (own cut)) (sessions.is_shut (own cut)) p.state same fits.2 t.stage.0.at_is,
+      refl,
+      refl,
+    ) refl
 
 -- it drops the handle: of a close all is done
 drops_goes : (bytes : ℕ) (asked : Option HandleCall) (p : OwnerMachine ℕ) (last : Option Session) (h first : ℕ) (growth : Growth) (cut : List Event) → p.next ≡ action.DropHandle
@@ -1096,22 +1352,23 @@ drops_goes bytes asked p last h first growth cut is t =
     let fits = fits_at bytes asked p cut last action.DropHandle t is in
     let called : sessions.call (own cut) ≡ Some handle_call.Close = t.stage.0.asked_is ∙ ap Some fits.0 in
     let same : owner_after p by.Dropped ≡ record p { state = state.Closed; next = action.Reply reply.Done } = turned p action.DropHandle by.Dropped t.stage.1 is in
-    subst (λ (m : OwnerMachine ℕ). Goes (owner_by_parts bytes asked (stage.Rests m.state) last) cut (by_owner h (Replied told.Okay) first growth)) (sym same)
+    subst (λ (m : OwnerMachine ℕ). Goes (owner_by_parts bytes asked (stage.Rests m.state poll_end.Replied) last) cut (by_owner h (Replied told.Okay) first growth)) (sym same)
     (record {
       acts = subst (λ n. Polls cut n (Replied told.Okay)) (sym (lawful bytes asked p cut last action.DropHandle t is)) refl;
       ends = subst (λ c. IsTrueEnd c told.Okay (came_back cut)) (sym called) fits.2;
       tie = record {
         made = t.made;
-        gone = t.gone;
+        gone = (t.gone.0, ap (λ c. sessions.is_into_inner c || sessions.is_owner_gone (own cut)) called ∙ t.gone.1, t.gone.2);
         asked = t.asked;
         polled = refl;
         bytes = t.bytes;
-        calls = t.calls;
         stage = (
           ap (λ c. sessions.state_by (sessions.ends_close told.Okay c || sessions.is_closed (own cut)) (sessions.session (own cut)) (sessions.is_shut (own cut))) called,
           refl,
           refl,
         );
+        operates = refl;
+        place = t.place;
         last = t.last;
         ended = λ is_end. absurd (cc);
         earlier = t.earlier;
@@ -1156,6 +1413,7 @@ own_by bytes asked p h first growth cut done action.Receive (Some s) is t does =
     subst (λ (d : Did). Goes d.owner cut (by_owner h d.act first growth)) (ap (value_of done) (through_some OfItems s.goods _ done does).1)
     (receive_goes bytes asked p s h first growth cut is t (received s) refl)
 own_by bytes asked p h first growth cut done action.PollSlot (Some s) is t does = look_goes bytes asked p s h first growth cut is t s.slot.content refl done does
+own_by bytes asked p h first growth cut done action.PollResult (Some s) is t does = find_goes bytes asked p s h first growth cut is t s.result.content refl done does
 own_by bytes asked p h first growth cut done _ None is t does = absurd (cc)
 own_by bytes asked p h first growth cut done _ (Some s) is t does = absurd (cc)
 
@@ -1164,9 +1422,10 @@ own_at : (bytes : ℕ) (asked : Option HandleCall) (here : OwnerStage) (last : O
 own_at bytes asked (stage.Polls p) last h first growth cut done t does =
     own_by bytes asked p h first growth cut done p.next last refl t
     (ap (λ n. did_in n p last (owner_by_parts bytes asked (stage.Polls p) last)) (sym (doing p t.stage.1)) ∙ does)
-own_at bytes asked (stage.Rests here) last h first growth cut done t does = absurd (cc)
+own_at bytes asked (stage.Rests here end) last h first growth cut done t does = absurd (cc)
 own_at bytes asked (stage.Wakes p note) last h first growth cut done t does = absurd (cc)
 own_at bytes asked stage.Dropped last h first growth cut done t does = absurd (cc)
+own_at bytes asked stage.TakenBack last h first growth cut done t does = absurd (cc)
 
 -- an act of its poll that asks no pool
 pub own_goes : (owner : Owner) (h first : ℕ) (growth : Growth) (cut : List Event) (done : Did) → did owner ≡ Some done → OwnerAs owner cut

@@ -137,13 +137,14 @@ aside row past now a h =
 new_tied : (h capacity first : ℕ) (growth : Growth) → OwnerAs (new_owner capacity) (by_owner h (Made h capacity) first growth ∷ [])
 new_tied h capacity first growth = record {
   made = refl;
-  gone = refl;
+  gone = (refl, refl, refl);
   asked = refl;
   polled = refl;
   bytes = λ kind. refl;
-  calls = tt;
   stage = (refl, refl, refl);
+  operates = refl;
   last = (refl, refl, refl);
+  place = tt;
   ended = λ is_end. absurd (cc);
   earlier = λ s among other. absurd (cc);
   noted = λ number is. absurd (cc);

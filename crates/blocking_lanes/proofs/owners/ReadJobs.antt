@@ -13,7 +13,7 @@ use Rattle.blocking_laws.specs.JobTable as job
 use Rattle.blocking_laws.specs.declared.event.Act.{Act}
 use Rattle.blocking_laws.specs.declared.event.Act.TheVariants.{Answered, HolderWoken}
 use Rattle.blocking_laws.specs.declared.step.Answer.{Answer}
-use Rattle.blocking_laws.specs.declared.step.Answer.TheVariants.{Number, Gave, Fine, Failed}
+use Rattle.blocking_laws.specs.declared.step.Answer.TheVariants.{Gave, Failed}
 use Rattle.blocking_lanes.specs.Reads.{Progress, ReadAs, action_as, action_of, has_waker, progress_with, progress_after_answer}
 
 -- ---- what it does next

@@ -10,14 +10,14 @@ use Rattle.blocking_core.specs.Places.{Served, Waiting, Closed, find_room, hand_
 use Rattle.blocking_core.specs.Slots.{Content, Empty, Full, GivenUp, Abandoned, Slot, slot_after, slot_without_job}
 use Rattle.blocking_core.specs.declared.io.Fault.{Fault}
 use Rattle.blocking_laws.specs.Ends.{handle_answers, has_failure}
-use Rattle.blocking_laws.specs.JobTable.{Kind, Reading, Writing, Streaming, JobAction, FindRoom, AskBytes, PutPiece, CloseEnd, Finish, Over, next_but_wake, is_over, next_after_answer, is_answer, fault, has_finished, has_given_up, Seeking, number, has_closed}
+use Rattle.blocking_laws.specs.JobTable.{Kind, Reading, Writing, Streaming, JobAction, FindRoom, AskBytes, PutPiece, CloseEnd, Finish, Over, next_but_wake, is_over, next_after_answer, is_answer, fault, has_finished, has_given_up, Seeking, Operating, number, has_closed}
 use Rattle.blocking_laws.specs.Passed.{gave, got, answered, was_put, carried, peeked, counted, taken as taken_by}
 use Rattle.blocking_laws.specs.Sessions as sessions
 use Rattle.blocking_laws.specs.declared.event.Act.{Act}
 use Rattle.blocking_laws.specs.declared.event.Act.TheVariants.{RoomFree, RoomShut, JobParked, Answered, Put, Lost, JobClosed, Finished, GaveUp, HolderWoken}
 use Rattle.blocking_laws.specs.declared.event.HolderWaker.{HolderWaker}
 use Rattle.blocking_laws.specs.declared.step.Answer.{Answer}
-use Rattle.blocking_laws.specs.declared.step.Answer.TheVariants.{Number, Gave, Fine, Failed}
+use Rattle.blocking_laws.specs.declared.step.Answer.TheVariants.{Gave, Failed}
 use Rattle.blocking_lanes.specs.Sessions.{Session, session_after_room, session_after_put, session_after_job_close, session_after_finish, session_after_give_up}
 use Rattle.blocking_lanes.specs.OwnerTies.{SessionAs, LentAs, Flows, ResultAs, SeatsAs, SlotAs, passed_by, PassedAs, GaveAll, is_finding}
 use Rattle.blocking_lanes.proofs.owners.Drains.{same_plain, same_stuck, same_owner_stuck}
@@ -138,6 +138,7 @@ called_flow s Reading shut took accepted acts t = t
 called_flow s Streaming shut took accepted acts t = t
 called_flow s Writing shut took accepted acts t = t
 called_flow s (Seeking goal) shut took accepted acts t = record { plain = t.plain; next_is = t.next_is; place = t.place }
+called_flow s Operating shut took accepted acts t = record { plain = t.plain; next_is = t.next_is }
 called_flow s _ shut took accepted acts t = t
 
 -- and where it gave up
@@ -180,6 +181,10 @@ left_flow s slot (Seeking goal) shut took accepted next acts waker t = record {
   next_is = tt;
   place = t.place;
 }
+left_flow s slot Operating shut took accepted next acts waker t = record {
+  plain = same_plain s slot s.left took accepted (has_closed acts) (gave acts) (peeked acts) (taken_by acts) t.plain;
+  next_is = tt;
+}
 left_flow s slot _ shut took accepted next acts waker t = absurd t
 
 -- and where it closed its end
@@ -218,6 +223,7 @@ closed_flow s Writing shut took accepted acts waker t = record {
   unclosed = λ is. absurd (cc);
 }
 closed_flow s (Seeking goal) shut took accepted acts waker t = absurd t.next_is
+closed_flow s Operating shut took accepted acts waker t = absurd t.next_is
 closed_flow s _ shut took accepted acts waker t = absurd t
 
 -- a job that seeks leaves where the handle is
@@ -264,6 +270,10 @@ finished_flow s slot (Seeking goal) shut took accepted acts waker leaves t = rec
   plain = same_plain s slot s.left took accepted (has_closed acts) (gave acts) (peeked acts) (taken_by acts) t.plain;
   next_is = tt;
   place = λ is. leaves;
+}
+finished_flow s slot Operating shut took accepted acts waker leaves t = record {
+  plain = same_plain s slot s.left took accepted (has_closed acts) (gave acts) (peeked acts) (taken_by acts) t.plain;
+  next_is = tt;
 }
 finished_flow s slot _ shut took accepted acts waker leaves t = absurd t
 

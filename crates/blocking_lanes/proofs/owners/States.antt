@@ -109,7 +109,7 @@ lent None bytes cut st l at is = absurd (none (session (own cut)) refl (lent_goe
 
 -- ---- the sessions that there are
 
--- a handle that is lent is lent to a job that reads, writes, takes items or seeks
+-- a handle that is lent is lent to a job that reads, writes, takes items, seeks or runs an operation
 abbrev pub IsThere : State → Type 0
 IsThere (state.Lent kind end) = IsLending (kind_as kind)
 IsThere _ = Unit {0}
@@ -149,14 +149,15 @@ open_piped acts _ opened at = absurd opened
 -- what holds in each session that there is, with either end, holds where the handle is lent
 pub of_session : (P : SessionKind → OwnerEnd → Type 0) → P session_kind.Reading Open → P session_kind.Reading Shut → P session_kind.Writing Open → P session_kind.Writing Shut
     → P session_kind.Streaming Open → P session_kind.Streaming Shut
-    → ((goal : Position) → P (session_kind.Seeking goal) Open) → ((goal : Position) → P (session_kind.Seeking goal) Shut)
+    → ((goal : Position) → P (session_kind.Seeking goal) Open) → ((goal : Position) → P (session_kind.Seeking goal) Shut) → P session_kind.Operating Open → P session_kind.Operating Shut
     → (kind : SessionKind) (end : OwnerEnd) → IsLending (kind_as kind) → P kind end
-of_session P reads read writes written streams streamed seeks sought session_kind.Reading Open there = reads
-of_session P reads read writes written streams streamed seeks sought session_kind.Reading Shut there = read
-of_session P reads read writes written streams streamed seeks sought session_kind.Writing Open there = writes
-of_session P reads read writes written streams streamed seeks sought session_kind.Writing Shut there = written
-of_session P reads read writes written streams streamed seeks sought session_kind.Streaming Open there = streams
-of_session P reads read writes written streams streamed seeks sought session_kind.Streaming Shut there = streamed
-of_session P reads read writes written streams streamed seeks sought (session_kind.Seeking goal) Open there = seeks goal
-of_session P reads read writes written streams streamed seeks sought (session_kind.Seeking goal) Shut there = sought goal
-of_session P reads read writes written streams streamed seeks sought _ end there = absurd there
+of_session P reads read writes written streams streamed seeks sought operates operated session_kind.Reading Open there = reads
+of_session P reads read writes written streams streamed seeks sought operates operated session_kind.Reading Shut there = read
+of_session P reads read writes written streams streamed seeks sought operates operated session_kind.Writing Open there = writes
+of_session P reads read writes written streams streamed seeks sought operates operated session_kind.Writing Shut there = written
+of_session P reads read writes written streams streamed seeks sought operates operated session_kind.Streaming Open there = streams
+of_session P reads read writes written streams streamed seeks sought operates operated session_kind.Streaming Shut there = streamed
+of_session P reads read writes written streams streamed seeks sought operates operated (session_kind.Seeking goal) Open there = seeks goal
+of_session P reads read writes written streams streamed seeks sought operates operated (session_kind.Seeking goal) Shut there = sought goal
+of_session P reads read writes written streams streamed seeks sought operates operated session_kind.Operating Open there = operates
+of_session P reads read writes written streams streamed seeks sought operates operated session_kind.Operating Shut there = operated

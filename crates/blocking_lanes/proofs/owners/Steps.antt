@@ -1,6 +1,6 @@
 -- Each step of an owner, or of a job of it, keeps the law of the owner and its tie.
 use Rattle.std.proofs.Common.{◌≡◌, ℕ, ◌==◌, List, [], ◌∷◌, Bool, true, false, refl, sym, ap, ◌∙◌, subst, arith, Option, Some, None}
-use Rattle.std.specs.Prelude.{if◌then◌else◌}
+use Rattle.std.specs.Prelude.{◌&&◌, ◌||◌, not, if◌then◌else◌}
 use Rattle.std.proofs.lemmas.Bool.Decides.{nat_tests}
 use Rattle.blocking_core.specs.OwnerCalls.{OwnerMachine}
 use Rattle.blocking_core.specs.Reading.{read_next}
@@ -15,20 +15,22 @@ use Rattle.blocking_core.specs.declared.job.write.WriteAction.{WriteAction}
 use Rattle.blocking_core.specs.declared.job.write.WriteAction.TheVariants as write
 use Rattle.blocking_core.specs.declared.job.seek.SeekAction.{SeekAction}
 use Rattle.blocking_core.specs.declared.job.seek.SeekAction.TheVariants as seek
+use Rattle.blocking_core.specs.Operations.{operation_next}
+use Rattle.blocking_core.specs.declared.job.operation.OperationAction.{OperationAction}
+use Rattle.blocking_core.specs.declared.job.operation.OperationAction.TheVariants as operation
 use Rattle.blocking_core.specs.declared.unblock.OwnerAction.{OwnerAction}
 use Rattle.blocking_core.specs.declared.unblock.OwnerAction.TheVariants as action
 use Rattle.blocking_laws.specs.Ends.{came_back}
-use Rattle.blocking_laws.specs.JobTable.{Kind, Reading, Writing, Streaming, JobAction, WakeHolder, next_but_wake, next_of_job, is_answer, is_over, fault, number, Seeking}
+use Rattle.blocking_laws.specs.JobTable.{Kind, Reading, Writing, Streaming, JobAction, WakeHolder, next_but_wake, next_of_job, is_answer, is_over, fault, number, Seeking, Operating}
 use Rattle.blocking_laws.specs.OwnerLaws.{OwnerLaw, Works}
-use Rattle.blocking_laws.specs.OwnerSeats.{is_job_seated, pipe_seat, slot_seat}
+use Rattle.blocking_laws.specs.OwnerSeats.{is_job_seated, pipe_seat, result_seat, slot_seat}
 use Rattle.blocking_laws.specs.OwnerTable.{owner_next_but_wake}
 use Rattle.blocking_laws.specs.OwnerTable as law
 use Rattle.blocking_laws.specs.Passed.{got, accepted, kind_in, is_serial}
 use Rattle.blocking_laws.specs.Seats.{waker_in}
 use Rattle.blocking_laws.specs.Seen.{own, acts_of}
-use Rattle.blocking_laws.specs.Sessions.{jobs_of, kind_of_job}
+use Rattle.blocking_laws.specs.Sessions.{jobs_of, kind_of_job, is_again, is_operation}
 use Rattle.blocking_laws.specs.Sessions as sessions
-use Rattle.blocking_laws.specs.Steps.{is_known}
 use Rattle.std.specs.Prelude.{is_none}
 use Rattle.blocking_laws.specs.declared.event.Act.{Act}
 use Rattle.blocking_laws.specs.declared.event.Act.TheVariants.{Answered, GaveUp, HolderWoken}
@@ -38,20 +40,22 @@ use Rattle.blocking_laws.specs.declared.step.Answer.{Answer}
 use Rattle.blocking_laws.specs.declared.step.HandleCall.{HandleCall}
 use Rattle.blocking_pool.specs.Growth.{Growth}
 use Rattle.blocking_pool.specs.Lists.{is_in}
-use Rattle.blocking_lanes.specs.Owners.{Owner, Did, Worked, capacity_of, may_call_at, is_gone, next_at, next_by, next_to_say, reply_as, did, read_as, read_in, stream_as, stream_in, write_as, write_in, worked, worked_by, giving_up_wakes, without_job, item_in, seek_as, seek_in}
+use Rattle.blocking_lanes.specs.Owners.{Owner, Did, Worked, capacity_of, may_call_at, is_pending, is_gone, next_at, next_by, next_to_say, reply_as, did, read_as, read_in, stream_as, stream_in, write_as, write_in, worked, worked_by, giving_up_wakes, without_job, item_in, seek_as, seek_in, operate_as, operate_in}
 use Rattle.blocking_lanes.specs.OwnerSteps.{OwnerStep, IsAsked, Acts, Begins, IsRefused, Delivers, IsDropped, Works as DoesWork, IsAnswered, GivesUp, CallsWaker, MayTake, act_in, act_of, act_of_work, owner_in, owner_after, owner_after_work, event_by, by_owner, by_its_job, is_of_its_job}
-use Rattle.blocking_lanes.specs.OwnerTies.{OwnerAs, StageBy, LastAs, SessionAs, newest_note}
+use Rattle.blocking_lanes.specs.OwnerTies.{OwnerAs, StageBy, LastAs, PlaceBy, PlaceIn, SessionAs, has_found, newest_note}
 use Rattle.blocking_lanes.specs.Passages.{OfBytes, OfItems, through}
 use Rattle.blocking_lanes.specs.Reads as reads
 use Rattle.blocking_lanes.specs.Reads.{ReadAs}
 use Rattle.blocking_lanes.specs.SessionJobs.{JobAs, action_of, kind_of}
-use Rattle.blocking_lanes.specs.Sessions.{Session, Work, found_send, streamer_works, work_by, work_at_put, found_room, found_put, fits_in, writer_works, found_piece, holds, work_of_consume, seek_works}
+use Rattle.blocking_lanes.specs.Sessions.{Session, Work, found_send, streamer_works, work_by, work_at_put, found_room, found_put, fits_in, writer_works, found_piece, holds, work_of_consume, seek_works, operation_works}
 use Rattle.blocking_lanes.specs.Streams as streams
 use Rattle.blocking_lanes.specs.Streams.{ItemAs}
 use Rattle.blocking_lanes.specs.Writes as writes
 use Rattle.blocking_lanes.specs.Writes.{WriteAs}
 use Rattle.blocking_lanes.specs.Seeks as seeks
 use Rattle.blocking_lanes.specs.Seeks.{SeekAs}
+use Rattle.blocking_lanes.specs.Operations as operations
+use Rattle.blocking_lanes.specs.Operations.{OperationAs}
 use Rattle.blocking_lanes.specs.declared.job.SessionJob.{SessionJob}
 use Rattle.blocking_lanes.specs.declared.job.SessionJob.TheVariants as of_job
 use Rattle.blocking_lanes.specs.declared.owner.OwnerNext.TheVariants as next
@@ -59,14 +63,15 @@ use Rattle.blocking_lanes.specs.declared.owner.OwnerStage.{OwnerStage}
 use Rattle.blocking_lanes.specs.declared.owner.OwnerStage.TheVariants as stage
 use Rattle.blocking_lanes.proofs.owners.Goods.{through_some, through_none}
 use Rattle.blocking_lanes.proofs.owners.Cuts.{its_kind, kind_is, next_stays, passes}
-use Rattle.blocking_lanes.proofs.owners.JobActs.{WorksOn, room_works, put_works, close_works, finish_works, answer_goes, give_up_goes, peek_works, consume_works, writer_close_works, writer_finish_works, writer_answer_goes, item_answer_goes, send_works, streamer_close_works, streamer_finish_works, asking_goes, seek_finish_works, seek_answer_goes}
-use Rattle.blocking_lanes.proofs.owners.Known.{both_true}
+use Rattle.blocking_lanes.proofs.owners.JobActs.{WorksOn, room_works, put_works, close_works, finish_works, answer_goes, give_up_goes, peek_works, consume_works, writer_close_works, writer_finish_works, writer_answer_goes, item_answer_goes, send_works, streamer_close_works, streamer_finish_works, asking_goes, seek_finish_works, seek_answer_goes, result_works, operation_finish_works, operation_answer_goes}
+use Rattle.blocking_lanes.proofs.owners.Asked.{both_true}
 use Rattle.blocking_lanes.proofs.owners.OwnerActs.{Goes, owner_by_parts, bound, value_of, doing, own_goes}
 use Rattle.blocking_lanes.proofs.owners.PoolAnswers.{ask_goes, drop_goes, refuse_goes, deliver_goes, begin_goes}
 use Rattle.blocking_lanes.proofs.owners.ReadJobs as of_reader
 use Rattle.blocking_lanes.proofs.owners.StreamJobs as of_streamer
 use Rattle.blocking_lanes.proofs.owners.WriteJobs as of_writer
 use Rattle.blocking_lanes.proofs.owners.SeekJobs as of_seeker
+use Rattle.blocking_lanes.proofs.owners.OperationJobs as of_operator
 use Rattle.blocking_lanes.proofs.owners.ReadSessions.{calls}
 
 -- ---- a waker is called
@@ -97,6 +102,14 @@ module _ (bytes : ℕ) (asked : Option HandleCall) (here : OwnerStage) (last : O
           (got (own cut)) (accepted (own cut)) (acts_of s.number.serial cut) (is_job_seated cut) (pipe_seat cut) (slot_seat cut) t)
       at false test = rw test t
 
+  woken_place : (last : Option Session) → PlaceIn last cut → PlaceIn last (woken ∷ cut)
+  woken_place None t = tt
+  woken_place (Some s) t = at (n == s.number.serial) refl
+    where
+      at : (b : Bool) → (n == s.number.serial) ≡ b → PlaceBy s.result (kind_in (sessions.last_session (own cut))) (acts_of s.number.serial (woken ∷ cut)) (has_found (own cut)) (result_seat cut)
+      at true test = rw test (record { put_is = t.put_is; content = t.content; seat = t.seat; reason = t.reason })
+      at false test = rw test t
+
   wake_goes : is_in n (jobs_of (own cut)) ≡ true → next_of_job (kind_of_job n (own cut)) (acts_of n cut) ≡ WakeHolder → Goes (owner_by_parts bytes asked here last) cut woken
   wake_goes among wakes = record {
     acts = (among, subst (λ a. Works cut a HolderWoken) (sym wakes) refl);
@@ -107,10 +120,11 @@ module _ (bytes : ℕ) (asked : Option HandleCall) (here : OwnerStage) (last : O
       asked = t.asked;
       polled = t.polled;
       bytes = t.bytes;
-      calls = t.calls;
       stage = subst (λ next. StageBy here (item_in last) (sessions.call (own cut)) (sessions.state (own cut)) next (law.is_at_end (own cut)) (came_back cut) (newest_note (own cut)))
           (sym (next_stays (woken ∷ cut) cut (own cut) (λ back k m. (same_of (fault k) (λ l. refl) m, same_of number (λ l. refl) m)))) t.stage;
+      operates = t.operates;
       last = woken_last last t.last;
+      place = woken_place last t.place;
       ended = t.ended;
       earlier = λ m of other. same_of (next_but_wake (kind_of_job m (own cut))) (λ l. refl) m ∙ t.earlier m of other;
       noted = t.noted;
@@ -355,6 +369,49 @@ module _ (bytes : ℕ) (asked : Option HandleCall) (here : OwnerStage) (h v firs
   seek_goes None n t p r of among seek.Done is done does = absurd (cc)
   seek_goes (Some s) n t p r of among seek.Done is done does = absurd (cc)
 
+  -- a job that runs an operation, at the session
+  operator_at : (s : Session) (t : OwnerAs (owner_by_parts bytes asked here (Some s)) cut) (p : operations.Progress) (r : OperationAs p (acts_of s.number.serial cut)) → its_kind s (bound bytes) cut t.last ≡ Operating
+      → is_in s.number.serial (jobs_of (own cut)) ≡ true → (a : OperationAction) → operation_next p.core ≡ a → (work : Work operations.Progress) → operation_works a p s ≡ Some work
+      → WorksOn bytes asked here s h v first growth cut t operations.Progress work
+  operator_at s t p r of among operation.PutResult is work does =
+      subst (WorksOn bytes asked here s h v first growth cut t operations.Progress) (ap (value_of work) does) (result_works bytes asked here s h v first growth cut t p r of among is)
+  operator_at s t p r of among operation.Finish is work does =
+      subst (WorksOn bytes asked here s h v first growth cut t operations.Progress) (ap (value_of work) does) (operation_finish_works bytes asked here s h v first growth cut t p r of among is)
+  operator_at s t p r of among operation.Call is work does = absurd (cc)
+  operator_at s t p r of among operation.Deliver is work does = absurd (cc)
+  operator_at s t p r of among operation.Done is work does = absurd (cc)
+
+  -- any act of a job that runs an operation
+  operate_goes : (last : Option Session) (n : ℕ) → OwnerAs (owner_by_parts bytes asked here last) cut → (p : operations.Progress) → OperationAs p (acts_of n cut) → kind_of_job n (own cut) ≡ Operating
+      → is_in n (jobs_of (own cut)) ≡ true → (a : OperationAction) → operation_next p.core ≡ a → (done : Worked) → operate_as a p (owner_by_parts bytes asked here last) ≡ Some done → WorkGoes n done
+  operate_goes last n t p r of among a is done does = by a is does
+    where
+      there : (a : OperationAction) → operation_next p.core ≡ a → (a ≡ operation.Deliver → ⊥) → is_over (operations.action_as a) ≡ false → operate_in a last p (owner_by_parts bytes asked here last) ≡ Some done → WorkGoes n done
+      there a is other goes does =
+          let table = sym r.next ∙ ap operations.action_as (of_operator.awake p a is other).next_is in
+          let l = at_last last n Operating (operations.action_as a) t among of table goes in
+          let s = l.session in
+          let tied = subst (λ o. OwnerAs (owner_by_parts bytes asked here o) cut) l.here t in
+          subst (λ m. WorkGoes m done) (sym l.same)
+          (does_so operations.Progress of_job.Operate s tied (operation_works a p s)
+          (λ work works.
+          operator_at s tied p (subst (λ m. OperationAs p (acts_of m cut)) l.same r) (kind_at s tied Operating (subst (λ m. kind_of_job m (own cut) ≡ Operating) l.same of))
+          (subst (λ m. is_in m (jobs_of (own cut)) ≡ true) l.same among) a is work works) done (subst (λ o. operate_in a o p (owner_by_parts bytes asked here o) ≡ Some done) l.here does))
+
+      none_at : (a : OperationAction) (last : Option Session) → ((s : Session) → operation_works a p s ≡ None) → operate_in a last p (owner_by_parts bytes asked here last) ≡ Some done → WorkGoes n done
+      none_at a None none does = absurd (cc)
+      none_at a (Some s) none does = absurd (let never = ap (λ o. worked_by of_job.Operate o (owner_by_parts bytes asked here (Some s))) (sym (none s)) ∙ does in cc)
+
+      by : (a : OperationAction) → operation_next p.core ≡ a → operate_as a p (owner_by_parts bytes asked here last) ≡ Some done → WorkGoes n done
+      by operation.PutResult is does = there operation.PutResult is (λ e. cc) refl does
+      by operation.Finish is does = there operation.Finish is (λ e. cc) refl does
+      by operation.Call is does = none_at operation.Call last (λ s. refl) does
+      by operation.Done is does = none_at operation.Done last (λ s. refl) does
+      by operation.Deliver is does =
+          subst (WorkGoes n) (ap (value_of done) does)
+          (wake_goes bytes asked here last h v n first growth cut t among
+          (ap (λ k. next_of_job k (acts_of n cut)) of ∙ sym (of_operator.action_is p (acts_of n cut) r) ∙ ap operations.action_as is))
+
   -- any act of its own
   pub works_goes : (last : Option Session) (n : ℕ) → OwnerAs (owner_by_parts bytes asked here last) cut → (job : SessionJob) → JobAs job (acts_of n cut) → kind_of_job n (own cut) ≡ kind_of job
       → is_in n (jobs_of (own cut)) ≡ true → (done : Worked) → worked job (owner_by_parts bytes asked here last) ≡ Some done → WorkGoes n done
@@ -362,6 +419,7 @@ module _ (bytes : ℕ) (asked : Option HandleCall) (here : OwnerStage) (h v firs
   works_goes last n t (of_job.Write p) r of among done does = write_goes last n t p r of among (write_next p.core) refl done does
   works_goes last n t (of_job.Items p) r of among done does = stream_goes last n t p r of among (item_next p.core) refl done does
   works_goes last n t (of_job.Seek p) r of among done does = seek_goes last n t p r of among (seek_next p.core) refl done does
+  works_goes last n t (of_job.Operate p) r of among done does = operate_goes last n t p r of among (operation_next p.core) refl done does
 
 -- ---- each step
 
@@ -399,7 +457,7 @@ given_up bytes asked here last h v n first growth cut t among gone goes =
     subst (λ m. Goes (owner_by_parts bytes asked here (without_job last)) cut (by_its_job h v m (GaveUp (waker_in (giving_up_wakes last))) first growth)) (sym l.same)
     (subst (λ o. Goes (owner_by_parts bytes asked here (without_job o)) cut (by_its_job h v l.session.number.serial (GaveUp (waker_in (giving_up_wakes o))) first growth)) (sym l.here)
     (give_up_goes bytes asked here l.session h v first growth cut tied (subst (λ m. is_in m (jobs_of (own cut)) ≡ true) l.same among)
-    (subst (λ k. is_over (next_but_wake k (acts_of l.session.number.serial cut)) ≡ false) (kind_is l.session (bound bytes) cut tied.last) goes_on) (t.gone ∙ gone)))
+    (subst (λ k. is_over (next_but_wake k (acts_of l.session.number.serial cut)) ≡ false) (kind_is l.session (bound bytes) cut tied.last) goes_on) (t.gone.0 ∙ gone)))
 
 answered : (bytes : ℕ) (asked : Option HandleCall) (here : OwnerStage) (last : Option Session) (h v n first : ℕ) (growth : Growth) (cut : List Event) → OwnerAs (owner_by_parts bytes asked here last) cut
     → (job : SessionJob) (answer : Answer) → kind_of_job n (own cut) ≡ kind_of job → JobAs job (acts_of n cut) → is_answer (action_of job) answer ≡ true → is_in n (jobs_of (own cut)) ≡ true
@@ -436,16 +494,28 @@ answered bytes asked here last h v n first growth cut t (of_job.Seek p) answer o
     (subst (λ o. Goes (owner_by_parts bytes asked here o) cut (by_its_job h v l.session.number.serial (Answered answer) first growth)) (sym l.here)
     (seek_answer_goes bytes asked here l.session h v first growth cut tied p (subst (λ m. SeekAs p (acts_of m cut)) l.same r)
     (kind_at bytes asked here h v first growth cut l.session tied (Seeking p.goal) (subst (λ m. kind_of_job m (own cut) ≡ Seeking p.goal) l.same of)) (subst (λ m. is_in m (jobs_of (own cut)) ≡ true) l.same among) answer is))
+answered bytes asked here last h v n first growth cut t (of_job.Operate p) answer of r is among =
+    let q = of_operator.asks p (acts_of n cut) answer r is in
+    let l = its_last bytes asked here last n cut t among (ap (λ k. is_over (next_but_wake k (acts_of n cut))) of ∙ ap is_over q.table) in
+    let tied = subst (λ o. OwnerAs (owner_by_parts bytes asked here o) cut) l.here t in
+    subst (λ m. Goes (owner_by_parts bytes asked here last) cut (by_its_job h v m (Answered answer) first growth)) (sym l.same)
+    (subst (λ o. Goes (owner_by_parts bytes asked here o) cut (by_its_job h v l.session.number.serial (Answered answer) first growth)) (sym l.here)
+    (operation_answer_goes bytes asked here l.session h v first growth cut tied p (subst (λ m. OperationAs p (acts_of m cut)) l.same r)
+    (kind_at bytes asked here h v first growth cut l.session tied Operating (subst (λ m. kind_of_job m (own cut) ≡ Operating) l.same of)) (subst (λ m. is_in m (jobs_of (own cut)) ≡ true) l.same among) answer is))
 
 module _ (bytes : ℕ) (asked : Option HandleCall) (last : Option Session) (h v n first : ℕ) (growth : Growth) (cut : List Event) (act : Act) where
   step_by : (step : OwnerStep) (here : OwnerStage) → OwnerAs (owner_by_parts bytes asked here last) cut → IsAllowed step (owner_by_parts bytes asked here last) n cut
       → act_of step (owner_by_parts bytes asked here last) ≡ Some act → Goes (owner_after step (owner_by_parts bytes asked here last)) cut (event_by step h v n act first growth)
-  step_by (IsAsked call) (stage.Rests st) t w seen =
-      let may = both_true (is_known call) (may_call_at st call) w.may in
-      subst (λ a. Goes (owner_after (IsAsked call) (owner_by_parts bytes asked (stage.Rests st) last)) cut (by_owner h a first growth)) (ap (value_of act) seen) (ask_goes bytes asked st last h first growth cut call may.0 may.1 t)
-  step_by (IsAsked call) (stage.Polls p) t w seen = absurd (let no = (both_true (is_known call) false w.may).1 in cc)
-  step_by (IsAsked call) (stage.Wakes p note) t w seen = absurd (let no = (both_true (is_known call) false w.may).1 in cc)
-  step_by (IsAsked call) stage.Dropped t w seen = absurd (let no = (both_true (is_known call) false w.may).1 in cc)
+  step_by (IsAsked call) (stage.Rests st end) t w seen =
+      let still = not (sessions.is_into_inner asked) || sessions.is_into_inner (Some call) in
+      let pends = both_true (may_call_at st call && still) (not (is_again call) || (is_pending end && is_operation asked)) w.may in
+      let may = both_true (may_call_at st call) still pends.0 in
+      subst (λ a. Goes (owner_after (IsAsked call) (owner_by_parts bytes asked (stage.Rests st end) last)) cut (by_owner h a first growth)) (ap (value_of act) seen)
+      (ask_goes bytes asked st end last h first growth cut call may.0 may.1 pends.1 t)
+  step_by (IsAsked call) (stage.Polls p) t w seen = absurd (let no = w.may in cc)
+  step_by (IsAsked call) (stage.Wakes p note) t w seen = absurd (let no = w.may in cc)
+  step_by (IsAsked call) stage.Dropped t w seen = absurd (let no = w.may in cc)
+  step_by (IsAsked call) stage.TakenBack t w seen = absurd (let no = w.may in cc)
   step_by Acts here t w seen = by_did (did (owner_by_parts bytes asked here last)) refl seen
     where
       by_did : (o : Option Did) → did (owner_by_parts bytes asked here last) ≡ o → act_in o ≡ Some act → Goes (owner_in o (owner_by_parts bytes asked here last)) cut (by_owner h act first growth)
@@ -455,25 +525,29 @@ module _ (bytes : ℕ) (asked : Option HandleCall) (last : Option Session) (h v 
   step_by (Begins number) (stage.Polls p) t w seen =
       subst (λ a. Goes (owner_after (Begins number) (owner_by_parts bytes asked (stage.Polls p) last)) cut (by_owner h a first growth)) (ap (value_of act) seen)
       (begin_goes bytes asked p last h first growth cut number (begins_at bytes asked p last cut t w.may) w.fresh.0 w.fresh.1 t)
-  step_by (Begins number) (stage.Rests st) t w seen = absurd (let no = w.may in cc)
+  step_by (Begins number) (stage.Rests st end) t w seen = absurd (let no = w.may in cc)
   step_by (Begins number) (stage.Wakes p note) t w seen = absurd (let no = w.may in cc)
   step_by (Begins number) stage.Dropped t w seen = absurd (let no = w.may in cc)
+  step_by (Begins number) stage.TakenBack t w seen = absurd (let no = w.may in cc)
   step_by (IsRefused why) (stage.Polls p) t w seen =
       subst (λ a. Goes (owner_after (IsRefused why) (owner_by_parts bytes asked (stage.Polls p) last)) cut (by_owner h a first growth)) (ap (value_of act) seen)
       (refuse_goes bytes asked p last h first growth cut why (begins_at bytes asked p last cut t w.may) t)
-  step_by (IsRefused why) (stage.Rests st) t w seen = absurd (let no = w.may in cc)
+  step_by (IsRefused why) (stage.Rests st end) t w seen = absurd (let no = w.may in cc)
   step_by (IsRefused why) (stage.Wakes p note) t w seen = absurd (let no = w.may in cc)
   step_by (IsRefused why) stage.Dropped t w seen = absurd (let no = w.may in cc)
+  step_by (IsRefused why) stage.TakenBack t w seen = absurd (let no = w.may in cc)
   step_by (Delivers woke) (stage.Wakes p note) t w seen =
       subst (λ a. Goes (owner_after (Delivers woke) (owner_by_parts bytes asked (stage.Wakes p note) last)) cut (by_owner h a first growth)) (ap (value_of act) seen) (deliver_goes bytes asked p note last h first growth cut woke t)
-  step_by (Delivers woke) (stage.Rests st) t w seen = absurd (cc)
+  step_by (Delivers woke) (stage.Rests st end) t w seen = absurd (cc)
   step_by (Delivers woke) (stage.Polls p) t w seen = absurd (cc)
   step_by (Delivers woke) stage.Dropped t w seen = absurd (cc)
-  step_by IsDropped (stage.Rests st) t w seen =
-      subst (λ a. Goes (owner_after IsDropped (owner_by_parts bytes asked (stage.Rests st) last)) cut (by_owner h a first growth)) (ap (value_of act) seen) (drop_goes bytes asked st last h first growth cut t)
+  step_by (Delivers woke) stage.TakenBack t w seen = absurd (cc)
+  step_by IsDropped (stage.Rests st end) t w seen =
+      subst (λ a. Goes (owner_after IsDropped (owner_by_parts bytes asked (stage.Rests st end) last)) cut (by_owner h a first growth)) (ap (value_of act) seen) (drop_goes bytes asked st end last h first growth cut t)
   step_by IsDropped (stage.Polls p) t w seen = absurd (let no = w.may in cc)
   step_by IsDropped (stage.Wakes p note) t w seen = absurd (let no = w.may in cc)
   step_by IsDropped stage.Dropped t w seen = absurd (let no = w.may in cc)
+  step_by IsDropped stage.TakenBack t w seen = absurd (let no = w.may in cc)
   step_by (DoesWork p) here t w seen = by_work (worked p (owner_by_parts bytes asked here last)) refl seen
     where
       by_work : (o : Option Worked) → worked p (owner_by_parts bytes asked here last) ≡ o → act_of_work o ≡ Some act

@@ -1,5 +1,5 @@
 -- The session of an owner after each act of a job that runs an iterator.
-use Rattle.std.proofs.Common.{◌≡◌, ℕ, ◌<◌, ◌≤◌, List, [], ◌∷◌, ◌++◌, length, length-append, append_assoc, Bool, true, false, refl, sym, ap, ◌∙◌, subst, arith, Option, None, if◌then◌else◌}
+use Rattle.std.proofs.Common.{◌≡◌, ℕ, ◌≤◌, List, [], ◌∷◌, ◌++◌, length, length-append, append_assoc, Bool, true, false, refl, sym, ap, ◌∙◌, subst, arith, Option, if◌then◌else◌}
 use Rattle.std.specs.Prelude.{◌||◌, ◌+◌, nat_le, not, take}
 use Rattle.std.proofs.lemmas.Bool.{or_left, or_right}
 use Rattle.std.proofs.lemmas.Bool.Decides.{nat_tests}
@@ -8,7 +8,7 @@ use Rattle.std.proofs.Math.Seq.{take-length}
 use Rattle.blocking_core.specs.Pipes.{room}
 use Rattle.blocking_core.specs.Places.{Served, Waiting, Closed, hand_in}
 use Rattle.blocking_laws.specs.Ends.{handle_answers, has_failure}
-use Rattle.blocking_laws.specs.JobTable.{Streaming, JobAction, AskItem, SendItem, CloseEnd, next_but_wake, next_after_answer, is_answer, is_over, fault, has_finished, has_given_up}
+use Rattle.blocking_laws.specs.JobTable.{Streaming, AskItem, SendItem, CloseEnd, next_but_wake, next_after_answer, is_answer, fault, has_finished, has_given_up}
 use Rattle.blocking_laws.specs.Passed.{gave, answered, was_put}
 use Rattle.blocking_laws.specs.Sessions as sessions
 use Rattle.blocking_laws.specs.declared.event.Act.{Act}

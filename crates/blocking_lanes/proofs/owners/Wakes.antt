@@ -1,30 +1,25 @@
 -- An owner that waits for a job at rest was woken, or wakes the job.
-use Rattle.std.proofs.Common.{◌≡◌, ℕ, ◌==◌, ◌<◌, if◌then◌else◌, List, [], ◌∷◌, length, Bool, true, false, refl, sym, ap, ◌∙◌, subst, arith, Option, Some, None, ⊎_elim, inl, inr}
-use Rattle.std.specs.Prelude.{◌||◌, ◌⊎◌, min, is_some, is_none}
-use Rattle.std.proofs.lemmas.Bool.{or_left, or_right, eq-eqb}
-use Rattle.blocking_core.specs.Places.{Served, Waiting, drain, fill}
+use Rattle.std.proofs.Common.{◌≡◌, ℕ, ◌<◌, List, length, Bool, true, false, refl, sym, ap, ◌∙◌, subst, arith, Option, Some, None, ⊎_elim}
+use Rattle.std.specs.Prelude.{◌||◌, ◌⊎◌, is_some, is_none}
+use Rattle.std.proofs.lemmas.Bool.{or_left}
 use Rattle.blocking_core.specs.Slots.{Content, Empty, Full, GivenUp, Abandoned}
 use Rattle.blocking_core.specs.declared.io.Fault.{Fault}
-use Rattle.blocking_laws.specs.JobTable.{Kind, Reading, Writing, Streaming, JobAction, FindRoom, Peek, SendItem, next_but_wake, is_over, fault, has_finished, has_given_up, has_closed, Seeking, Operating}
+use Rattle.blocking_laws.specs.JobTable.{Kind, Reading, Writing, Streaming, JobAction, FindRoom, Peek, SendItem, next_but_wake, is_over, fault, has_finished, has_given_up, has_result, Seeking, Operating}
 use Rattle.std.specs.Prelude.{not}
-use Rattle.blocking_laws.specs.OwnerLaws.{OwnerActs, Polls}
-use Rattle.blocking_laws.specs.OwnerSeats.{is_job_seated, job_seated_by, note_of, noted}
-use Rattle.blocking_laws.specs.OwnerTable.{OwnerAction, CloseOwn, Drain, Fill, PollSlot, Say, next_of_owner}
-use Rattle.blocking_laws.specs.Passed.{inside, room_in, last_job, kind_in, got, accepted}
-use Rattle.blocking_laws.specs.Places.{seen_drain, seen_fill, poll_slot}
-use Rattle.blocking_pool.specs.declared.pool.answer.Woke.{Woke}
-use Rattle.blocking_laws.specs.OwnerWakes.{IsSessionOf, HasReason, IsStuck, is_waking, is_waking_by}
-use Rattle.blocking_laws.specs.Seen.{own, acts_of, is_this}
+use Rattle.blocking_laws.specs.OwnerSeats.{is_job_seated}
+use Rattle.blocking_laws.specs.Passed.{kind_in, got, accepted}
+use Rattle.blocking_laws.specs.OwnerWakes.{IsSessionOf, HasReason, IsStuck, is_waking}
+use Rattle.blocking_laws.specs.Seen.{own, acts_of}
 use Rattle.blocking_laws.specs.Sessions.{last_session, session, is_dropped}
 use Rattle.blocking_laws.specs.Sessions as sessions
 use Rattle.blocking_laws.specs.Wakes.{is_waiting, was_woken}
 use Rattle.blocking_laws.specs.declared.event.Act.{Act}
-use Rattle.blocking_laws.specs.declared.event.Act.TheVariants.{Accepted, JobWoken, OwnerClosed, Got, Filled, FillShut, Waits, Back, JobParked}
 use Rattle.blocking_laws.specs.declared.event.Event.{Event}
 use Rattle.blocking_lanes.specs.Owners.{Owner, capacity_of}
-use Rattle.blocking_lanes.specs.OwnerTies.{OwnerAs, LastAs, SlotAs, Flows, is_piped_kind, IsStuckIn, IsOwnerStuckIn, is_finding, seat_of, is_seated}
+use Rattle.blocking_lanes.specs.OwnerTies.{OwnerAs, IsPutBy, LastAs, PlaceIn, SlotAs, Flows, is_piped_kind, IsStuckIn, IsOwnerStuckIn, is_finding, seat_of, is_seated}
 use Rattle.blocking_lanes.specs.Sessions.{Session}
 use Rattle.blocking_lanes.proofs.owners.Cuts.{inside_is}
+use Rattle.blocking_lanes.proofs.owners.OwnerActs.{last_is}
 use Rattle.blocking_lanes.proofs.owners.States.{session_is_last}
 
 -- ---- what a job and its owner find, by the kind of the session
@@ -48,6 +43,10 @@ module _ (s : Session) (shut : Bool) (took written : List ℕ) (acts : List Act)
   finding_lasts (Seeking goal) Peek finding flow = absurd flow.next_is
   finding_lasts (Seeking goal) (SendItem x) finding flow = absurd flow.next_is
   finding_lasts (Seeking goal) _ finding flow = absurd (cc)
+  finding_lasts Operating FindRoom finding flow = absurd flow.next_is
+  finding_lasts Operating Peek finding flow = absurd flow.next_is
+  finding_lasts Operating (SendItem x) finding flow = absurd flow.next_is
+  finding_lasts Operating _ finding flow = absurd (cc)
   finding_lasts _ a finding flow = absurd flow
 
   -- a job that is over has closed its end, where its owner sits there, unless it gave up
@@ -56,6 +55,7 @@ module _ (s : Session) (shut : Bool) (took written : List ℕ) (acts : List Act)
   over_closed Streaming a flow over sits lasts = flow.unclosed over lasts
   over_closed Writing a flow over sits lasts = flow.unclosed over lasts
   over_closed (Seeking goal) a flow over sits lasts = absurd (let nobody = flow.plain.unseated in cc)
+  over_closed Operating a flow over sits lasts = absurd (let nobody = flow.plain.unseated in cc)
   over_closed _ a flow over sits lasts = absurd flow
 
 -- not both can't go on at a pipe that holds something
@@ -64,7 +64,7 @@ not_both s Reading some full none = let empty = ap (λ (l : List ℕ). length l)
 not_both s Writing some none full = let empty = ap (λ (l : List ℕ). length l) none in absurd (omega (arith, full, empty, some))
 not_both s _ some full none = let empty = ap (λ (l : List ℕ). length l) none in absurd (omega (arith, full, empty, some))
 
-module _ (s : Session) (capacity : Kind → ℕ) (cut : List Event) (t : LastAs (Some s) capacity cut) where
+module _ (s : Session) (capacity : Kind → ℕ) (cut : List Event) (t : LastAs (Some s) capacity cut) (placed : PlaceIn (Some s) cut) where
   abbrev works : List Act
   works = acts_of s.number.serial cut
 
@@ -82,11 +82,23 @@ module _ (s : Session) (capacity : Kind → ℕ) (cut : List Event) (t : LastAs 
   not_finished : is_none (session (own cut)) ≡ false → has_given_up works ≡ false → has_finished works ≡ true → is_seated (Some s) ≡ true → ⊥
   not_finished lent stays done sits = at (is_some s.pipe.owner_seat) refl sits
     where
-      at : (b : Bool) → is_some s.pipe.owner_seat ≡ b → b || is_some s.slot.seat ≡ true → ⊥
+      -- nor for the result of one that put it
+      by_place : is_some s.result.seat ≡ true → ⊥
+      by_place sits =
+          let why = placed.reason sits in
+          let over = last_is (next_but_wake kind works) (sym t.result.over_is ∙ or_left (has_finished works) (has_given_up works) done) in
+          let put = subst (λ a. IsPutBy Operating a (has_given_up works) (has_result works)) over (subst (λ k. IsPutBy k (next_but_wake kind works) (has_given_up works) (has_result works)) why.0 placed.put_is) in
+          (let both = put stays in let none = why.1 in cc)
+
+      in_slot : (b : Bool) → is_some s.slot.seat ≡ b → b || is_some s.result.seat ≡ true → ⊥
+      in_slot true seat sits =
+          full_slot s.slot.content (has_finished works) (has_given_up works) (is_none (session (own cut))) (fault kind works) t.result.slot done lent (t.seats.reason.slot seat).0
+      in_slot false seat sits = by_place sits
+
+      at : (b : Bool) → is_some s.pipe.owner_seat ≡ b → b || (is_some s.slot.seat || is_some s.result.seat) ≡ true → ⊥
       at true seat sits = (let given_up = over_closed s (sessions.is_shut (own cut)) (got (own cut)) (accepted (own cut)) works kind (next_but_wake kind works) t.flow
           (sym t.result.over_is ∙ or_left (has_finished works) (has_given_up works) done) seat (t.seats.reason.owner seat).1 in cc)
-      at false seat sits =
-          full_slot s.slot.content (has_finished works) (has_given_up works) (is_none (session (own cut))) (fault kind works) t.result.slot done lent (t.seats.reason.slot sits).0
+      at false seat sits = in_slot (is_some s.slot.seat) refl sits
 
   -- Who sits in a seat doesn't wait for a job that sits in its own.
   not_seated : has_given_up works ≡ false → is_job_seated cut ≡ true → is_seated (Some s) ≡ true → ⊥
@@ -101,7 +113,10 @@ module _ (s : Session) (capacity : Kind → ℕ) (cut : List Event) (t : LastAs 
       unseated (Seeking goal) none Peek flow finding = flow.next_is
       unseated (Seeking goal) none (SendItem x) flow finding = flow.next_is
       unseated (Seeking goal) none _ flow finding = cc
-      unseated Operating none a flow finding = flow
+      unseated Operating none FindRoom flow finding = flow.next_is
+      unseated Operating none Peek flow finding = flow.next_is
+      unseated Operating none (SendItem x) flow finding = flow.next_is
+      unseated Operating none _ flow finding = cc
       unseated _ none a flow finding = cc
 
       finds : is_finding (next_but_wake kind works) ≡ true
@@ -114,15 +129,21 @@ module _ (s : Session) (capacity : Kind → ℕ) (cut : List Event) (t : LastAs 
       lasts : s.pipe.is_job_open ≡ true
       lasts = finding_lasts s (sessions.is_shut (own cut)) (got (own cut)) (accepted (own cut)) works kind (next_but_wake kind works) finds t.flow
 
-      at : (b : Bool) → is_some s.pipe.owner_seat ≡ b → b || is_some s.slot.seat ≡ true → ⊥
+      in_slot : (b : Bool) → is_some s.slot.seat ≡ b → b || is_some s.result.seat ≡ true → ⊥
+      in_slot true seat sits =
+          ⊎_elim (λ shut. (let open_is = (t.seats.reason.job there).2 in cc))
+          (λ other. ⊎_elim (λ closed. (let open_is = lasts in cc)) (λ without. unseated kind without (next_but_wake kind works) t.flow finds) other)
+          (t.seats.reason.slot seat).1
+      in_slot false seat sits =
+          let operates = (placed.reason sits).0 in
+          unseated kind (ap is_piped_kind operates) (next_but_wake kind works) t.flow finds
+
+      at : (b : Bool) → is_some s.pipe.owner_seat ≡ b → b || (is_some s.slot.seat || is_some s.result.seat) ≡ true → ⊥
       at true seat sits =
           let holds = t.lent.holds in
           let some = t.lent.some in
           not_both s kind (omega (arith, holds, some)) (t.seats.reason.job there).1 (t.seats.reason.owner seat).0
-      at false seat sits =
-          ⊎_elim (λ shut. (let open_is = (t.seats.reason.job there).2 in cc))
-          (λ other. ⊎_elim (λ closed. (let open_is = lasts in cc)) (λ without. unseated kind without (next_but_wake kind works) t.flow finds) other)
-          (t.seats.reason.slot sits).1
+      at false seat sits = in_slot (is_some s.slot.seat) refl sits
 
 -- A job that sits in the pipe can't go on, and its owner's end is open.
 pub seated_reason : (s : Session) (bytes : Kind → ℕ) (cut : List Event) → ((kind : Kind) → sessions.capacity kind (own cut) ≡ bytes kind) → LastAs (Some s) bytes cut → is_some s.pipe.job_seat ≡ true → HasReason cut
@@ -141,10 +162,10 @@ seated_reason s bytes cut same t seated =
 pub not_lost : (owner : Owner) (cut : List Event) → OwnerAs owner cut → (s : ℕ) → IsSessionOf (session (own cut)) s → is_waiting (own cut) ≡ true
     → (has_finished (acts_of s cut) || has_given_up (acts_of s cut) ≡ true) ⊎ (is_job_seated cut ≡ true) → was_woken cut ≡ true
 not_lost owner cut t s of waits rests =
-    ⊎_elim (λ woken. woken) (λ sits. absurd (lost owner.session t.last (session (own cut)) refl of sits)) (t.told waits).1
+    ⊎_elim (λ woken. woken) (λ sits. absurd (lost owner.session t.last t.place (session (own cut)) refl of sits)) (t.told waits).1
   where
     there : is_dropped (own cut) ≡ false
-    there = t.gone ∙ (t.told waits).0
+    there = t.gone.0 ∙ (t.told waits).0
 
     stays : (works : List Act) → (has_given_up works ≡ true → is_dropped (own cut) ≡ true) → (b : Bool) → has_given_up works ≡ b → has_given_up works ≡ false
     stays works let_go true is = absurd (let gone = let_go is in let here = there in cc)
@@ -154,18 +175,18 @@ not_lost owner cut t s of waits rests =
     only true b none e = refl
     only false b none e = absurd (cc)
 
-    lost : (last : Option Session) → LastAs last (capacity_of owner) cut → (r : Option sessions.Session) → session (own cut) ≡ r → IsSessionOf r s → is_seated last ≡ true → ⊥
-    lost None l r is of sits = cc
-    lost (Some held) l None is of sits = of
-    lost (Some held) l (Some r) is of sits =
+    lost : (last : Option Session) → LastAs last (capacity_of owner) cut → PlaceIn last cut → (r : Option sessions.Session) → session (own cut) ≡ r → IsSessionOf r s → is_seated last ≡ true → ⊥
+    lost None l placed r is of sits = cc
+    lost (Some held) l placed None is of sits = of
+    lost (Some held) l placed (Some r) is of sits =
         let begun : Some r ≡ Some (record { serial = held.number.serial; kind = kind_in (last_session (own cut)) }) = sym (session_is_last (own cut) r is) ∙ l.lent.begun in
         let same : held.number.serial ≡ s = sym (ap (serial_in s) begun) ∙ of in
         let works = acts_of held.number.serial cut in
         let goes = stays works l.result.let_go (has_given_up works) refl in
         ⊎_elim
-        (λ over. not_finished held (capacity_of owner) cut l (ap is_none is) goes
+        (λ over. not_finished held (capacity_of owner) cut l placed (ap is_none is) goes
         (only (has_finished works) (has_given_up works) goes (subst (λ n. has_finished (acts_of n cut) || has_given_up (acts_of n cut) ≡ true) (sym same) over)) sits)
-        (λ seated. not_seated held (capacity_of owner) cut l goes seated sits) rests
+        (λ seated. not_seated held (capacity_of owner) cut l placed goes seated sits) rests
       where
         serial_in : ℕ → Option sessions.Session → ℕ
         serial_in n None = n

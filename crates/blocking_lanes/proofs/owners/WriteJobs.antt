@@ -15,7 +15,7 @@ use Rattle.blocking_laws.specs.JobTable as job
 use Rattle.blocking_laws.specs.declared.event.Act.{Act}
 use Rattle.blocking_laws.specs.declared.event.Act.TheVariants.{Answered, Peeked, HolderWoken}
 use Rattle.blocking_laws.specs.declared.step.Answer.{Answer}
-use Rattle.blocking_laws.specs.declared.step.Answer.TheVariants.{Number, Gave, Fine, Failed}
+use Rattle.blocking_laws.specs.declared.step.Answer.TheVariants.{Number, Fine, Failed}
 use Rattle.blocking_lanes.specs.Reads.{has_waker}
 use Rattle.blocking_lanes.specs.Writes.{Progress, WriteAs, IsOffered, action_as, action_of, told_as, fault_of, progress_with, progress_after_piece, progress_after_answer}
 

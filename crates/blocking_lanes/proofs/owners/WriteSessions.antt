@@ -16,7 +16,7 @@ use Rattle.blocking_laws.specs.declared.event.Act.{Act}
 use Rattle.blocking_laws.specs.declared.event.Act.TheVariants.{JobParked, Answered, Peeked, Drained, Taken}
 use Rattle.blocking_laws.specs.declared.event.HolderWaker.{HolderWaker}
 use Rattle.blocking_laws.specs.declared.step.Answer.{Answer}
-use Rattle.blocking_laws.specs.declared.step.Answer.TheVariants.{Number, Gave, Fine, Failed}
+use Rattle.blocking_laws.specs.declared.step.Answer.TheVariants.{Number, Fine, Failed}
 use Rattle.blocking_lanes.specs.OwnerTies.{SessionAs, ResultAs, WrittenAs, wrote_by, is_finding}
 use Rattle.blocking_lanes.specs.Sessions.{Session, found_piece, session_after_peek, session_after_consume}
 use Rattle.blocking_lanes.proofs.owners.ReadSessions.{At, at, tied_at, unseated, going, still}

@@ -29,9 +29,10 @@ ghost use Rattle.blocking_laws.specs.Seen.{cut};
 ghost use Rattle.blocking_laws.specs.Passed.{inside};
 ghost use Rattle.blocking_laws.specs.Jobs.{is_marked};
 ghost use Rattle.blocking_laws.specs.OwnerWakes.{NoLostOwnerWake};
-ghost use Rattle.blocking_laws.specs.OwnerTraces.{asks, polls, works, given, ends, FirstOwnerLaw, FirstOwnerEnds};
+ghost use Rattle.blocking_laws.specs.OwnerTable.{next_of_owner, Say};
+ghost use Rattle.blocking_laws.specs.OwnerTraces.{asks, polls, takes, works, given, ends, FirstOwnerLaw, FirstOwnerEnds};
 ghost use Rattle.blocking_laws.specs.OwnerTraces.{reader_waits, room_found, four_given, reader_parked, two_got, two_told, end_given};
-ghost use Rattle.blocking_laws.specs.OwnerTraces.{told_before, reader_dropped};
+ghost use Rattle.blocking_laws.specs.OwnerTraces.{told_before, reader_back, reader_dropped};
 ghost use Rattle.blocking_laws.specs.declared.event.Act.TheVariants.{Got, Replied, RoomFree, GaveUp};
 ghost use Rattle.blocking_laws.specs.declared.event.Reply.TheVariants.{Okay, Count};
 ghost use Rattle.blocking_laws.specs.declared.step.Answer.TheVariants.{Number, Gave};
@@ -50,9 +51,9 @@ ghost use Rattle.blocking_laws.specs.JobTable.{Streaming, AskItem, SendItem, nex
 ghost use Rattle.blocking_laws.specs.OwnerSeats.{result_seat};
 ghost use Rattle.blocking_laws.specs.Sessions.{capacity};
 ghost use Rattle.blocking_laws.specs.OwnerTraces.{drops, FirstOwnerPasses};
-ghost use Rattle.blocking_laws.specs.StreamTraces.{item_asked, first_given, second_waits, first_asked, first_got, second_asked};
+ghost use Rattle.blocking_laws.specs.StreamTraces.{item_asked, first_given, second_waits, first_asked, first_got, second_asked, stream_back};
 ghost use Rattle.blocking_laws.specs.SeekTraces.{old_sought, other_asked, seek_failed};
-ghost use Rattle.blocking_laws.specs.OperationTraces.{operation_begun, operation_taken, nine_put, inner_asked, inner_waits, inner_replied};
+ghost use Rattle.blocking_laws.specs.OperationTraces.{operation_begun, operation_taken, nine_put, older_asked, inner_asked, inner_waits, inner_replied};
 ghost use Rattle.blocking_laws.specs.declared.event.Act.TheVariants.{Made, GotItem, GotEnd, Back, ResultGot, JobParked, Put};
 ghost use Rattle.blocking_laws.specs.declared.event.Reply.TheVariants.{OneItem, NoMore, Handle, Failed as FailedReply};
 ghost use Rattle.blocking_laws.specs.declared.step.Answer.TheVariants.{Item};
@@ -163,10 +164,15 @@ pub fn owners()
     // .. / got 6162 wake 1 / delivered 1 entered / replied ok 2 / asked / got 6364 wake 1
     ensures refuses_note_twice { Refuses FirstOwnerLaw (two_told ▸ polls (Replied (Count 2)) 2 ▸ asks (Read 2) 2)
         (polls (Got (99 ∷ 100 ∷ []) (Some 1)) 2) }
+    // .. / asked / got end / back
+    ensures tells_the_end { next_of_owner (cut 0 (events reader_back)) ≡ Say (Count 0) }
     // .. / ended 1 parked / asked / replied ok 0
     ensures refuses_early_end { Refuses FirstOwnerEnds (reader_parked ▸ asks (Read 2) 2) (polls (Replied (Count 0)) 2) }
     // .. / delivered 1 entered / .. / waits / took 1 / parked / ended 1 parked
     ensures refuses_wait_for_parked { Refuses (Keeps NoLostOwnerWake) told_before (ends 1 (Ended 1 Parked)) }
+    // .. / got 6162 wake 1 / delivered 1 entered / replied ok 2 / took 1 / parked / ended 1 parked: there is room for two
+    ensures refuses_parked_beside_room { Refuses (Keeps NoLostOwnerWake)
+        (two_told ▸ polls (Replied (Count 2)) 2 ▸ takes 1 (Took 1) ▸ works 1 JobParked) (ends 1 (Ended 1 Parked)) }
 {}
 
 /// What the job of an owner does next, and which job a dropped owner lets go.
@@ -233,6 +239,8 @@ pub fn jobs_of_writers()
 pub fn streams()
     // .. / ended 1 done / asked / replied end
     ensures refuses_end_beside_item { Refuses FirstOwnerEnds second_asked (polls (Replied NoMore) 2) }
+    // .. / asked / got end / back / replied end
+    ensures accepts_end_of_items { FirstOwnerEnds stream_back (polls (Replied NoMore) 2) }
     // .. / ended 1 done / asked / got end
     ensures refuses_end_of_filled_pipe { Refuses FirstOwnerLaw second_asked (polls GotEnd 2) }
     // .. / replied item 0 / .. / asked / got item 0
@@ -271,6 +279,8 @@ pub fn seeks_and_operations()
     ensures refuses_untold_fault { Refuses FirstOwnerLaw (seek_failed ▸ asks (Seek (Start 9)) 2 ▸ polls Back 2) (polls (Accepted 2) 2) }
     // .. / result wake owner / delivered owner / asked (for an operation) / result 9
     ensures refuses_older_result { Refuses FirstOwnerLaw (nine_put ▸ asks Operate 2) (polls (ResultGot 9) 2) }
+    // .. / delivered owner / asked (for an operation) / waits / asked (for the result) / result 9: that of the one before
+    ensures refuses_older_result_again { Refuses FirstOwnerLaw older_asked (polls (ResultGot 9) 2) }
     // .. / accepted 1 +1 / result 0
     ensures refuses_early_result { Refuses FirstOwnerLaw operation_begun (polls (ResultGot 0) 2) }
     // .. / result wake owner / delivered owner

@@ -1,10 +1,13 @@
 //! What holds of every past that keeps the laws, whatever was seen.
-ghost use Rattle.std.specs.Prelude.{◌≡◌, ◌↔◌, ℕ, ◌-◌, ◌++◌, length, List, Bool};
+ghost use Rattle.std.specs.Prelude.{◌≡◌, ◌↔◌, ℕ, ◌-◌, ◌++◌, length, reverse, List, Bool};
 ghost use Rattle.blocking_laws.specs.Jobs.{standing, is_queued, is_running};
 ghost use Rattle.blocking_laws.specs.Queue.{AreThose, entries, takes, queue, running};
 ghost use Rattle.blocking_laws.specs.Legal.{Legal, IsLegalThroughout};
+ghost use Rattle.blocking_laws.specs.Behind.{AllWriteBehind};
+ghost use Rattle.blocking_laws.specs.Seen.{cut};
 ghost use Rattle.blocking_laws.specs.Solo.{AreIndependent};
 ghost use Rattle.blocking_laws.specs.Traces.{◌▸◌, IsPooled};
+ghost use Rattle.blocking_laws.specs.declared.event.Event.{Event};
 ghost use Rattle.blocking_laws.specs.declared.event.Moment.{Moment};
 
 /// A past is legal exactly where the laws hold at every beginning of it. `Legal` says so step by step: each moment may follow
@@ -33,7 +36,16 @@ pub fn queue_and_running()
         AreThose (λ s. is_running (standing past s)) (running past) }
 {}
 
+/// Of what an owner wrote no more waits for its writer than the pipe holds. (Of what a handle gave no more waits for its owner, by the law of
+/// each owner itself.)
+pub fn writing_behind()
+    ensures { (setting : ℕ) (plan : List Bool) (past : List Moment) → Legal setting plan past → AllWriteBehind past }
+{}
+
 /// What an owner sees depends on no other owner: where no new job was refused, the cut of each owner is what it might have seen alone.
+///
+/// A cut keeps the order: what is cut of events with the oldest first, as worlds tell them, is in reverse what is cut of the past.
 pub fn independence()
-    ensures { (setting : ℕ) (plan : List Bool) (past : List Moment) → Legal setting plan past → AreIndependent past }
+    ensures solo { (setting : ℕ) (plan : List Bool) (past : List Moment) → Legal setting plan past → AreIndependent past }
+    ensures either_order { (h : ℕ) (seen : List Event) → cut h (reverse seen) ≡ reverse (cut h seen) }
 {}

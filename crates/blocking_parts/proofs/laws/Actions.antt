@@ -23,7 +23,7 @@ use Rattle.blocking_laws.specs.Jobs.{tasks, holder, standing}
 use Rattle.blocking_laws.specs.Seen.{events, acts_of_owner, acts_of_task, own, cut, task_cut}
 use Rattle.blocking_laws.specs.Sessions.{is_poll_over, under_way}
 use Rattle.blocking_laws.specs.Sessions as sessions
-use Rattle.blocking_laws.specs.Steps.{has_action, is_known, is_there, is_answered_action, is_job_action, is_for_cancelled, is_turn_end, may_call, may_cancel}
+use Rattle.blocking_laws.specs.Steps.{has_action, is_there, is_answered_action, is_job_action, is_for_cancelled, is_turn_end, may_call, may_cancel}
 use Rattle.blocking_laws.specs.TaskLaws.{is_gone, was_cancelled}
 use Rattle.blocking_laws.specs.Turns.{hand}
 use Rattle.blocking_laws.specs.declared.event.Event.{Event}
@@ -95,18 +95,14 @@ owner_may owner seen tie = by (next_of owner) refl
 
 -- ---- steps
 
-and_false : (b : Bool) → (b && false) ≡ false
-and_false true = refl
-and_false false = refl
-
 module _ (setting : ℕ) (plan : List Bool) (w : Parts) (past : List Moment) (t : Tied setting plan w past) where
   asks_by : (h : ℕ) (found : Option Owner) → slice_get w.owners h ≡ found → rests_in found ≡ sessions.rests (acts_of_owner h (events past))
   asks_by h None found = sym (ap (λ l. sessions.rests (own l)) (unseen setting plan w past t h found))
   asks_by h (Some owner) found = sym (rests_is owner (cut h (events past)) (owner_tie setting plan w past t h owner found))
 
   asked_by : (h : ℕ) (call : HandleCall) (found : Option Owner) → slice_get w.owners h ≡ found
-      → may_ask_in found call ≡ (is_known call && sessions.may_ask (acts_of_owner h (events past)) call)
-  asked_by h call None found = sym (ap (λ l. is_known call && sessions.may_ask (own l) call) (unseen setting plan w past t h found) ∙ and_false (is_known call))
+      → may_ask_in found call ≡ sessions.may_ask (acts_of_owner h (events past)) call
+  asked_by h call None found = sym (ap (λ l. sessions.may_ask (own l) call) (unseen setting plan w past t h found))
   asked_by h call (Some owner) found = sym (may_ask_is owner (cut h (events past)) call (owner_tie setting plan w past t h owner found))
 
   owns_by : (h : ℕ) (found : Option Owner) → slice_get w.owners h ≡ found → may_own_in found ≡ not (is_poll_over (under_way (acts_of_owner h (events past))))

@@ -15,6 +15,9 @@ use Rattle.blocking_core.specs.declared.job.write.WriteAction.TheVariants as wri
 use Rattle.blocking_core.specs.Seeks.{seek_next}
 use Rattle.blocking_core.specs.declared.job.seek.SeekAction.{SeekAction}
 use Rattle.blocking_core.specs.declared.job.seek.SeekAction.TheVariants as seek
+use Rattle.blocking_core.specs.Operations.{operation_next}
+use Rattle.blocking_core.specs.declared.job.operation.OperationAction.{OperationAction}
+use Rattle.blocking_core.specs.declared.job.operation.OperationAction.TheVariants as operation
 use Rattle.blocking_core.specs.Writing.{write_next}
 use Rattle.blocking_crew.specs.Crews.{hand_at}
 use Rattle.blocking_crew.specs.Ties.{HandAs, turn_of}
@@ -27,7 +30,7 @@ use Rattle.blocking_lanes.specs.Calls as calls
 use Rattle.blocking_lanes.specs.Calls.{RanAs}
 use Rattle.blocking_lanes.specs.OwnerSteps as owners
 use Rattle.blocking_lanes.specs.OwnerSteps.{act_of_work}
-use Rattle.blocking_lanes.specs.Owners.{Owner, Worked, read_as, read_in, worked, worked_by, write_as, write_in, stream_as, stream_in, seek_as, seek_in}
+use Rattle.blocking_lanes.specs.Owners.{Owner, Worked, read_as, read_in, worked, worked_by, write_as, write_in, stream_as, stream_in, seek_as, seek_in, operate_as, operate_in}
 use Rattle.blocking_lanes.specs.Passages.{OfBytes, OfItems}
 use Rattle.blocking_lanes.proofs.owners.Goods.{through_none}
 use Rattle.blocking_lanes.specs.Reads as reads
@@ -36,9 +39,10 @@ use Rattle.blocking_lanes.specs.SessionJobs.{JobAs}
 use Rattle.blocking_lanes.specs.Streams as streams
 use Rattle.blocking_lanes.specs.Writes as writes
 use Rattle.blocking_lanes.specs.Seeks as seeks
+use Rattle.blocking_lanes.specs.Operations as operations
 use Rattle.blocking_lanes.specs.declared.job.SessionJob.{SessionJob}
 use Rattle.blocking_lanes.specs.declared.job.SessionJob.TheVariants as job_of
-use Rattle.blocking_lanes.specs.Sessions.{Session, work_by, writer_works, streamer_works, seek_works}
+use Rattle.blocking_lanes.specs.Sessions.{Session, work_by, writer_works, streamer_works, seek_works, operation_works}
 use Rattle.blocking_lanes.specs.Steps.{TaskStep}
 use Rattle.blocking_lanes.specs.Tasks.{Task}
 use Rattle.blocking_lanes.proofs.owners.Actions.{works_some}
@@ -162,12 +166,25 @@ seek_own seek.Deliver p owner some = some refl refl
 seek_own seek.Seek p owner some = seek_none seek.Seek owner.session p owner (λ s. refl)
 seek_own seek.Done p owner some = seek_none seek.Done owner.session p owner (λ s. refl)
 
+operate_none : (a : OperationAction) (last : Option Session) (p : operations.Progress) (owner : Owner) → ((s : Session) → operation_works a p s ≡ None) → is_some (operate_in a last p owner) ≡ false
+operate_none a None p owner none = refl
+operate_none a (Some s) p owner none = ap (λ o. is_some (worked_by job_of.Operate o owner)) (none s)
+
+operate_own : (a : OperationAction) (p : operations.Progress) (owner : Owner) → (is_asking (operations.action_as a) ≡ false → is_over (operations.action_as a) ≡ false → is_some (operate_as a p owner) ≡ true)
+    → is_some (operate_as a p owner) ≡ is_job_action (next_in_turn GoesOn (operations.action_as a))
+operate_own operation.PutResult p owner some = some refl refl
+operate_own operation.Finish p owner some = some refl refl
+operate_own operation.Deliver p owner some = some refl refl
+operate_own operation.Call p owner some = operate_none operation.Call owner.session p owner (λ s. refl)
+operate_own operation.Done p owner some = operate_none operation.Done owner.session p owner (λ s. refl)
+
 -- so it is of a job of any kind
 worked_own : (job : SessionJob) (owner : Owner) → (is_asking (jobs.action_of job) ≡ false → is_over (jobs.action_of job) ≡ false → is_some (worked job owner) ≡ true)
     → is_some (worked job owner) ≡ is_job_action (next_in_turn GoesOn (jobs.action_of job))
 worked_own (job_of.Read p) owner some = read_own (read_next p.core) p owner some
 worked_own (job_of.Write p) owner some = write_own (write_next p.core) p owner some
 worked_own (job_of.Seek p) owner some = seek_own (seek_next p.core) p owner some
+worked_own (job_of.Operate p) owner some = operate_own (operation_next p.core) p owner some
 worked_own (job_of.Items p) owner some = stream_own (item_next p.core) p owner some
 
 -- and so by where the job is in its turn

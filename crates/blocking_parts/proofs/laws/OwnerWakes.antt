@@ -77,9 +77,10 @@ waits_unnoted _ waits = absurd cc
 
 none_noted : (here : OwnerStage) (x : ℕ) (X : List Event) (s : ℕ) → StageAs here x X → is_waiting (own X) ≡ true → is_number (note_at here) s ≡ true → ⊥
 none_noted (stage.Wakes poll number) x X s t waits noted = let none = waits_unnoted (own X) waits in let some = t.2 in cc
-none_noted (stage.Rests at) x X s t waits noted = cc
+none_noted (stage.Rests at end) x X s t waits noted = cc
 none_noted (stage.Polls poll) x X s t waits noted = cc
 none_noted stage.Dropped x X s t waits noted = cc
+none_noted stage.TakenBack x X s t waits noted = cc
 
 -- so an owner that waits meets a job that is left to it in the pipe
 waits_met : (owner : Owner) (X : List Event) (s : ℕ) → OwnerAs owner X → is_waiting (own X) ≡ true → IsMet owner s → is_job_seated X ≡ true
@@ -111,9 +112,10 @@ noted_waking (act ∷ past) s n is same = waking_by s act (is_waking s past) n i
 
 noted_under_way : (here : OwnerStage) (x : ℕ) (X : List Event) (s : ℕ) → StageAs here x X → is_number (note_at here) s ≡ true → is_waking s (own X) ≡ true
 noted_under_way (stage.Wakes poll number) x X s t noted = noted_waking (own X) s number.serial t.2 noted
-noted_under_way (stage.Rests at) x X s t noted = absurd cc
+noted_under_way (stage.Rests at end) x X s t noted = absurd cc
 noted_under_way (stage.Polls poll) x X s t noted = absurd cc
 noted_under_way stage.Dropped x X s t noted = absurd cc
+noted_under_way stage.TakenBack x X s t noted = absurd cc
 
 -- so a job that is left to its owner has reason to wait, or a wake of it is under way
 parks_met : (owner : Owner) (X : List Event) (s : ℕ) → OwnerAs owner X → is_waking s (own X) ≡ false → IsMet owner s → HasReason X

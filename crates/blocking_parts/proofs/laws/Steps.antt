@@ -98,6 +98,7 @@ acts_next action.Close poll last owner some = refl
 acts_next (action.Drain most) poll last owner some = refl
 acts_next (action.Fill most) poll last owner some = refl
 acts_next action.PollSlot poll last owner some = refl
+acts_next action.PollResult poll last owner some = refl
 acts_next action.DropHandle poll last owner some = refl
 acts_next action.Receive poll last owner some = refl
 acts_next (action.Reply reply) poll last owner some = says (reply_as (item_in last) reply) poll owner some
@@ -107,9 +108,10 @@ acts_next _ poll (Some session) owner some = absurd cc
 -- by where it is in its polls
 did_next : (here : OwnerStage) (owner : Owner) → is_some (did_by here owner) ≡ true → is_rest (next_at here owner.session) ≡ false
 did_next (owner_stage.Polls poll) owner some = acts_next (owner_next poll) poll owner.session owner some
-did_next (owner_stage.Rests at) owner some = absurd cc
+did_next (owner_stage.Rests at end) owner some = absurd cc
 did_next (owner_stage.Wakes poll note) owner some = absurd cc
 did_next owner_stage.Dropped owner some = absurd cc
+did_next owner_stage.TakenBack owner some = absurd cc
 
 -- so its poll may go on
 may_so : (n : OwnerNext) (finds : Option Did) → is_rest n ≡ false → is_some finds ≡ true → may_own n finds ≡ true
@@ -124,9 +126,10 @@ owner_acts owner done is = may_so (next_of owner) (did owner) (did_next owner.st
 -- and so has one that has a note to deliver
 noted_next : (here : OwnerStage) (last : Option Session) (number : JobNumber) → note_at here ≡ Some number → next_at here last ≡ next.Delivers
 noted_next (owner_stage.Wakes poll note) last number is = refl
-noted_next (owner_stage.Rests at) last number is = absurd cc
+noted_next (owner_stage.Rests at end) last number is = absurd cc
 noted_next (owner_stage.Polls poll) last number is = absurd cc
 noted_next owner_stage.Dropped last number is = absurd cc
+noted_next owner_stage.TakenBack last number is = absurd cc
 
 -- ---- whose job it is
 

@@ -7,8 +7,8 @@ use Rattle.blocking_core.specs.declared.io.Fault.{Fault}
 use Rattle.blocking_core.specs.declared.unblock.OwnerAction.{OwnerAction}
 use Rattle.blocking_core.specs.declared.unblock.OwnerAction.TheVariants as action
 use Rattle.blocking_crew.specs.Moves.{is_aside}
-use Rattle.blocking_lanes.specs.Owners.{Owner, Did, IsDid, did, did_by, did_in, drain_did, fill_did, look_did, looked_as, reply_as, reply_did, item_in, receive_did}
-use Rattle.blocking_lanes.specs.Sessions.{Session, drained, reach, session_after_look, received}
+use Rattle.blocking_lanes.specs.Owners.{Owner, Did, IsDid, did, did_by, did_in, drain_did, fill_did, look_did, looked_as, reply_as, reply_did, item_in, receive_did, find_did, awaited_as}
+use Rattle.blocking_lanes.specs.Sessions.{Session, drained, reach, session_after_look, session_after_find, received}
 use Rattle.blocking_lanes.specs.declared.owner.OwnerStage.{OwnerStage}
 use Rattle.blocking_lanes.specs.declared.owner.OwnerStage.TheVariants as stage
 use Rattle.blocking_laws.specs.declared.event.Act.{Act}
@@ -45,6 +45,13 @@ looks GivenUp poll session owner = refl
 looks (Abandoned true) poll session owner = refl
 looks (Abandoned false) poll session owner = refl
 
+finds : (content : Content ℕ) (poll : OwnerMachine ℕ) (session : Session) (owner : Owner) → is_aside_if (find_did (awaited_as content) poll session owner) ≡ true
+finds (Full n) poll session owner = refl
+finds Empty poll session owner = refl
+finds GivenUp poll session owner = refl
+finds (Abandoned true) poll session owner = refl
+finds (Abandoned false) poll session owner = refl
+
 replies : (told : Option Told) (poll : OwnerMachine ℕ) (owner : Owner) → is_aside_if (reply_did told poll owner) ≡ true
 replies (Some told) poll owner = refl
 replies None poll owner = refl
@@ -56,6 +63,7 @@ acts (action.Drain most) poll (Some session) owner =
 acts (action.Fill most) poll session owner = by_fill (λ o. is_aside_if o ≡ true) poll owner.asked session owner refl (λ bytes session met here found. fills bytes met poll session owner)
 acts action.Receive poll (Some session) owner = through_by (λ o. is_aside_if o ≡ true) OfItems session.goods _ refl (receives (received session) poll session owner)
 acts action.PollSlot poll (Some session) owner = looks session.slot.content poll (session_after_look session.slot.content session) owner
+acts action.PollResult poll (Some session) owner = finds session.result.content poll (session_after_find session.result.content session) owner
 acts action.Close poll (Some session) owner = piped_by (λ o. is_aside_if o ≡ true) session.goods _ refl refl
 acts _ poll (Some session) owner = refl
 acts _ poll None owner = refl

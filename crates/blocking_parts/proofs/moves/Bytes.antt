@@ -9,8 +9,8 @@ use Rattle.blocking_core.specs.Slots.{Content, Empty, Full, GivenUp, Abandoned}
 use Rattle.blocking_core.specs.declared.io.Fault.{Fault}
 use Rattle.blocking_core.specs.declared.unblock.OwnerAction.{OwnerAction}
 use Rattle.blocking_core.specs.declared.unblock.OwnerAction.TheVariants as action
-use Rattle.blocking_lanes.specs.Owners.{Owner, Did, bytes_in, next_of, next_at, next_by, did, did_by, did_in, drain_did, fill_did, front_in, look_did, looked_as, reply_as, reply_did, worked, Worked, item_in, receive_did, close_did}
-use Rattle.blocking_lanes.specs.Sessions.{Session, session_after_look, received}
+use Rattle.blocking_lanes.specs.Owners.{Owner, Did, bytes_in, next_of, next_at, next_by, did, did_by, did_in, drain_did, fill_did, front_in, look_did, looked_as, reply_as, reply_did, worked, Worked, item_in, receive_did, close_did, find_did, awaited_as}
+use Rattle.blocking_lanes.specs.Sessions.{Session, session_after_look, session_after_find, received}
 use Rattle.blocking_lanes.specs.declared.owner.OwnerStage.{OwnerStage}
 use Rattle.blocking_lanes.specs.declared.owner.OwnerStage.TheVariants as stage
 use Rattle.blocking_core.specs.declared.job.Action.{Action}
@@ -78,6 +78,13 @@ looks GivenUp p s owner n = tt
 looks (Abandoned true) p s owner n = tt
 looks (Abandoned false) p s owner n = omega arith
 
+finds : (content : Content ℕ) (p : OwnerMachine ℕ) (s : Session) (owner : Owner) (n : ℕ) → Carries (find_did (awaited_as content) p s owner) n
+finds Empty p s owner n = omega arith
+finds (Full x) p s owner n = omega arith
+finds GivenUp p s owner n = tt
+finds (Abandoned true) p s owner n = tt
+finds (Abandoned false) p s owner n = omega arith
+
 receives : (met : Met (ℕ × Option JobNumber)) (p : OwnerMachine ℕ) (s : Session) (owner : Owner) → Carries (Some (receive_did met p s owner)) 0
 receives (Served got) p s owner = omega arith
 receives Waiting p s owner = omega arith
@@ -100,6 +107,7 @@ polls (action.Fill most) p last owner = by_fill (λ o. Carries o 0) p owner.aske
 polls action.DropHandle p last owner = omega arith
 polls action.Receive p (Some s) owner = through_by (λ o. Carries o 0) OfItems s.goods _ tt (receives (received s) p s owner)
 polls action.PollSlot p (Some s) owner = looks s.slot.content p (session_after_look s.slot.content s) owner _
+polls action.PollResult p (Some s) owner = finds s.result.content p (session_after_find s.result.content s) owner _
 polls action.Close p (Some s) owner = piped_by (λ o. Carries o 0) s.goods (Some (close_did p s owner)) tt (omega arith)
 polls _ p (Some s) owner = tt
 polls _ p None owner = tt

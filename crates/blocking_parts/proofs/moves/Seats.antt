@@ -14,19 +14,20 @@ use Rattle.blocking_laws.specs.declared.event.Act.{Act}
 use Rattle.blocking_laws.specs.declared.event.Act.TheVariants.{JobParked}
 use Rattle.blocking_laws.specs.declared.event.Reply.{Reply as Told}
 use Rattle.blocking_laws.specs.declared.step.HandleCall.{HandleCall}
-use Rattle.blocking_lanes.specs.Owners.{Owner, Did, Worked, after_ask, did, did_by, did_in, drain_did, fill_did, goes_on, is_resting, look_did, looked_as, note_at, number_in, number_of, owner_after_ask, owner_after_delivery, owner_after_drop, owner_after_give_up, owner_after_refusal, reply_as, reply_did, rests, stage_after_delivery, stage_after_drop, stage_after_refusal, without_job, worked, item_in, receive_did}
+use Rattle.blocking_lanes.specs.Owners.{Owner, Did, Worked, after_ask, did, did_by, did_in, drain_did, fill_did, goes_on, is_resting, look_did, looked_as, note_at, number_in, number_of, owner_after_ask, owner_after_delivery, owner_after_drop, owner_after_give_up, owner_after_refusal, reply_as, reply_did, rests, stage_after_delivery, stage_after_drop, stage_after_refusal, without_job, worked, item_in, receive_did, find_did, awaited_as}
 use Rattle.blocking_lanes.specs.OwnerTies.{seat_of}
 use Rattle.blocking_lanes.specs.Passages.{OfBytes, OfItems}
-use Rattle.blocking_lanes.specs.Sessions.{Session, drained, filled, reach, session_after_look, received}
+use Rattle.blocking_lanes.specs.Sessions.{Session, drained, filled, reach, session_after_look, session_after_find, received}
 use Rattle.blocking_lanes.specs.declared.job.SessionJob.{SessionJob}
 use Rattle.blocking_lanes.specs.declared.owner.OwnerStage.{OwnerStage}
+use Rattle.blocking_lanes.specs.declared.owner.PollEnd.{PollEnd}
 use Rattle.blocking_lanes.specs.declared.owner.OwnerStage.TheVariants as stage
 use Rattle.blocking_pool.specs.Jobs.{JobNumber}
 use Rattle.blocking_pool.specs.declared.pool.answer.Refusal.{Refusal}
 use Rattle.blocking_parts.specs.Ties.{IsMet, is_number, seated_in}
 use Rattle.blocking_lanes.proofs.owners.Goods.{through_some, piped_some}
 use Rattle.blocking_parts.proofs.moves.Fills.{by_fill}
-use Rattle.blocking_parts.proofs.moves.SessionActs.{SessionAct, FindsRoom, Puts, Sends, Peeks, TakesOut, Closes, Finishes, ActsAt, DoesSo, Fits, after, moved, seen, worked_so, Leaves}
+use Rattle.blocking_parts.proofs.moves.SessionActs.{SessionAct, FindsRoom, Puts, Sends, Peeks, TakesOut, Closes, Finishes, ActsAt, DoesSo, Fits, after, moved, seen, worked_so, Leaves, PutsResult}
 
 -- the note that a poll took is the one that it has to deliver
 noted_on : (poll : OwnerMachine ℕ) (note : Option JobNumber) → note_at (goes_on poll note) ≡ note
@@ -55,9 +56,9 @@ abbrev MetAt : OwnerStage → Option Session → ℕ → Type 0
 MetAt here last s = (is_number (seated_in last) s ≡ true) ⊎ (is_number (note_at here) s ≡ true)
 
 -- an owner that rests, or goes on with its poll, meets it in the seat
-seat_at_rest : (at : State) (last : Option Session) (s : ℕ) → MetAt (stage.Rests at) last s → is_number (seated_in last) s ≡ true
-seat_at_rest at last s (inl seat) = seat
-seat_at_rest at last s (inr note) = absurd cc
+seat_at_rest : (at : State) (end : PollEnd) (last : Option Session) (s : ℕ) → MetAt (stage.Rests at end) last s → is_number (seated_in last) s ≡ true
+seat_at_rest at end last s (inl seat) = seat
+seat_at_rest at end last s (inr note) = absurd cc
 
 seat_at_poll : (poll : OwnerMachine ℕ) (last : Option Session) (s : ℕ) → MetAt (stage.Polls poll) last s → is_number (seated_in last) s ≡ true
 seat_at_poll poll last s (inl seat) = seat
@@ -68,7 +69,7 @@ pub asked_met : (call : HandleCall) (owner : Owner) (s : ℕ) → IsMet owner s 
 asked_met call owner s met = by owner.stage met
   where
     by : (here : OwnerStage) → MetAt here owner.session s → IsMet (after_ask call here (record owner { stage = here })) s
-    by (stage.Rests at) met = inl (seat_at_rest at owner.session s met)
+    by (stage.Rests at end) met = inl (seat_at_rest at end owner.session s met)
     by _ met = met
 
 -- a session is refused
@@ -93,7 +94,7 @@ pub dropped_met : (owner : Owner) (s : ℕ) → rests owner ≡ true → IsMet o
 dropped_met owner s rests met = by owner.stage rests met
   where
     by : (here : OwnerStage) → is_resting here ≡ true → MetAt here owner.session s → MetAt (stage_after_drop here) owner.session s
-    by (stage.Rests at) rests met = inl (seat_at_rest at owner.session s met)
+    by (stage.Rests at end) rests met = inl (seat_at_rest at end owner.session s met)
     by _ rests met = absurd cc
 
 -- its poll acts
@@ -130,6 +131,14 @@ module _ (owner : Owner) (s : ℕ) (done : Did) (poll : OwnerMachine ℕ) where
       looks GivenUp does = absurd cc
       looks (Abandoned true) does = absurd cc
       looks (Abandoned false) does = moved (λ (d : Did). IsMet d.owner s) _ done does (inl seat)
+  acts_met action.PollResult (Some session) here does seat = finds session.result.content does
+    where
+      finds : (content : Content ℕ) → find_did (awaited_as content) poll (session_after_find content session) owner ≡ Some done → IsMet done.owner s
+      finds Empty does = moved (λ (d : Did). IsMet d.owner s) _ done does (inl seat)
+      finds (Full n) does = moved (λ (d : Did). IsMet d.owner s) _ done does (inl seat)
+      finds GivenUp does = absurd cc
+      finds (Abandoned true) does = absurd cc
+      finds (Abandoned false) does = moved (λ (d : Did). IsMet d.owner s) _ done does (inl seat)
   acts_met (action.Fill most) last here does seat =
       by_fill (λ o. o ≡ Some done → IsMet done.owner s) poll owner.asked last owner (λ does. absurd cc)
       (λ bytes session met there found does. fills bytes session met found does (sym (ap (λ o. is_number (seated_in o) s) there) ∙ seat) (here ∙ there)) does
@@ -175,6 +184,7 @@ seats_after job session (TakesOut n waker) fits = inl (λ parks. cc, refl)
 seats_after job session (Closes waker) fits = inl (λ parks. cc, refl)
 seats_after job session (Finishes why waker) fits = inl (λ parks. cc, refl)
 seats_after job session (Leaves place why waker) fits = inl (λ parks. cc, refl)
+seats_after job session (PutsResult n waker) fits = inl (λ parks. cc, refl)
 
 -- the seat is empty, or that of the last session's job
 abbrev pub SeatAs : Bool → Option Session → Type 0

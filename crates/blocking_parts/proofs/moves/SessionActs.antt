@@ -18,26 +18,31 @@ use Rattle.blocking_core.specs.declared.job.write.WriteAction.TheVariants as wri
 use Rattle.blocking_core.specs.Seeks.{seek_next}
 use Rattle.blocking_core.specs.declared.job.seek.SeekAction.{SeekAction}
 use Rattle.blocking_core.specs.declared.job.seek.SeekAction.TheVariants as seek
+use Rattle.blocking_core.specs.Operations.{operation_next}
+use Rattle.blocking_core.specs.Slots.{after_put}
+use Rattle.blocking_core.specs.declared.job.operation.OperationAction.{OperationAction}
+use Rattle.blocking_core.specs.declared.job.operation.OperationAction.TheVariants as operation
 use Rattle.blocking_crew.specs.Crews.{may_act}
 use Rattle.blocking_crew.specs.declared.hand.Stage.TheVariants as stage
-use Rattle.blocking_lanes.specs.Owners.{Owner, Worked, number_of, read_as, read_in, stream_as, stream_in, worked, worked_by, write_as, write_in, seek_as, seek_in}
+use Rattle.blocking_lanes.specs.Owners.{Owner, Worked, number_of, read_as, read_in, stream_as, stream_in, worked, worked_by, write_as, write_in, seek_as, seek_in, operate_as, operate_in}
 use Rattle.blocking_lanes.specs.Passages.{Goods, OfBytes, OfItems, through}
 use Rattle.blocking_lanes.specs.Reads as reads
 use Rattle.blocking_lanes.specs.SessionJobs.{action_of, kind_of}
-use Rattle.blocking_lanes.specs.Sessions.{Session, Work, closing_wakes, finish_wakes, fits_in, found_piece, found_put, found_room, found_send, front, holds, session_after_consume, session_after_finish, session_after_job_close, session_after_peek, session_after_put, session_after_room, session_after_send, streamer_works, work_at_put, work_by, work_of_consume, writer_works}
+use Rattle.blocking_lanes.specs.Sessions.{Session, Work, closing_wakes, finish_wakes, fits_in, found_piece, found_put, found_room, found_send, front, holds, session_after_consume, session_after_finish, session_after_job_close, session_after_peek, session_after_put, session_after_room, session_after_send, result_wakes, streamer_works, work_at_put, work_by, work_of_consume, writer_works}
 use Rattle.blocking_lanes.specs.Streams as streams
 use Rattle.blocking_lanes.specs.Writes as writes
 use Rattle.blocking_lanes.specs.Seeks as seeks
+use Rattle.blocking_lanes.specs.Operations as operations
 use Rattle.blocking_lanes.specs.declared.job.SessionJob.{SessionJob}
 use Rattle.blocking_lanes.specs.declared.job.SessionJob.TheVariants as job_of
 use Rattle.blocking_lanes.proofs.owners.Goods.{through_some}
-use Rattle.blocking_laws.specs.JobTable.{Reading, Writing, Streaming, FindRoom, SendItem, Peek, Seeking}
+use Rattle.blocking_laws.specs.JobTable.{Reading, Writing, Streaming, FindRoom, SendItem, Peek, Seeking, Operating}
 use Rattle.blocking_laws.specs.Places.{seen_peek, seen_put, seen_room}
 use Rattle.blocking_laws.specs.Seats.{waker_in}
 use Rattle.blocking_laws.specs.Seen.{is_nothing, is_of_pool}
 use Rattle.blocking_laws.specs.Steps.{is_answered}
 use Rattle.blocking_laws.specs.declared.event.Act.{Act}
-use Rattle.blocking_laws.specs.declared.event.Act.TheVariants.{Finished, HolderWoken, JobClosed, JobParked, Taken}
+use Rattle.blocking_laws.specs.declared.event.Act.TheVariants.{Finished, HolderWoken, JobClosed, JobParked, ResultPut, Taken}
 use Rattle.blocking_laws.specs.declared.event.HolderWaker.{HolderWaker}
 use Rattle.blocking_parts.specs.Carried.{bytes_of}
 use Rattle.blocking_parts.specs.Rows.{is_first}
@@ -52,6 +57,7 @@ pub data SessionAct : Type 0 where
   Closes : HolderWaker → SessionAct
   Finishes : Option (Fault ℕ) → HolderWaker → SessionAct
   Leaves : ℕ → Option (Fault ℕ) → HolderWaker → SessionAct
+  PutsResult : ℕ → HolderWaker → SessionAct
 
 -- what is seen of it
 abbrev pub seen : SessionAct → Act
@@ -63,6 +69,7 @@ seen (TakesOut n waker) = Taken n waker
 seen (Closes waker) = JobClosed waker
 seen (Finishes why waker) = Finished waker
 seen (Leaves place why waker) = Finished waker
+seen (PutsResult n waker) = ResultPut waker
 
 -- the session after it
 abbrev pub after : SessionAct → Session → Session
@@ -74,6 +81,7 @@ after (TakesOut n waker) s = session_after_consume n s
 after (Closes waker) s = session_after_job_close s
 after (Finishes why waker) s = session_after_finish why s
 after (Leaves place why waker) s = record (session_after_finish why s) { left = place }
+after (PutsResult n waker) s = record s { result = after_put s.result n }
 
 -- when a job does so: it looks for room, or at the front, or sends an item, where that is next; and what it puts fits, so that it needn't wait
 abbrev pub Fits : SessionAct → SessionJob → Session → Type 0
@@ -238,10 +246,31 @@ seek_does seek.Seek p owner done does = seek_at seek.Seek p owner done owner.ses
 seek_does seek.Finish p owner done does = seek_at seek.Finish p owner done owner.session refl does
 seek_does seek.Done p owner done does = seek_at seek.Done p owner done owner.session refl does
 
+-- the acts of a job that runs an operation
+operate_at : (a : OperationAction) (p : operations.Progress) (owner : Owner) (done : Worked) (last : Option Session) → owner.session ≡ last → operate_in a last p owner ≡ Some done → DoesSo (job_of.Operate p) owner done
+operate_at a p owner done None here does = absurd cc
+operate_at operation.PutResult p owner done (Some s) here does =
+    inr
+    (moved (ActsAt (job_of.Operate p) owner) _ done does
+    (record { session = s; here = here; act = PutsResult p.number (waker_in (result_wakes p.number s)); fits = tt; act_is = refl; owner_is = refl }))
+operate_at operation.Finish p owner done (Some s) here does =
+    inr (moved (ActsAt (job_of.Operate p) owner) _ done does (record { session = s; here = here; act = Finishes None (waker_in (finish_wakes None s)); fits = tt; act_is = refl; owner_is = refl }))
+operate_at operation.Call p owner done (Some s) here does = absurd cc
+operate_at operation.Deliver p owner done (Some s) here does = absurd cc
+operate_at operation.Done p owner done (Some s) here does = absurd cc
+
+operate_does : (a : OperationAction) (p : operations.Progress) (owner : Owner) (done : Worked) → operate_as a p owner ≡ Some done → DoesSo (job_of.Operate p) owner done
+operate_does operation.Deliver p owner done does = inl (moved (λ (d : Worked). (d.act ≡ HolderWoken) × (d.owner ≡ owner)) _ done does (refl, refl))
+operate_does operation.Call p owner done does = operate_at operation.Call p owner done owner.session refl does
+operate_does operation.PutResult p owner done does = operate_at operation.PutResult p owner done owner.session refl does
+operate_does operation.Finish p owner done does = operate_at operation.Finish p owner done owner.session refl does
+operate_does operation.Done p owner done does = operate_at operation.Done p owner done owner.session refl does
+
 pub worked_so : (job : SessionJob) (owner : Owner) (done : Worked) → worked job owner ≡ Some done → DoesSo job owner done
 worked_so (job_of.Read p) owner done does = read_does (read_next p.core) p owner done refl does
 worked_so (job_of.Write p) owner done does = write_does (write_next p.core) p owner done refl does
 worked_so (job_of.Seek p) owner done does = seek_does (seek_next p.core) p owner done does
+worked_so (job_of.Operate p) owner done does = operate_does (operation_next p.core) p owner done does
 worked_so (job_of.Items p) owner done does = stream_does (item_next p.core) p owner done refl does
 
 -- ---- what each act is
@@ -258,6 +287,7 @@ parks_first job s (TakesOut n waker) fits parks = absurd cc
 parks_first job s (Closes waker) fits parks = absurd cc
 parks_first job s (Finishes why waker) fits parks = absurd cc
 parks_first job s (Leaves place why waker) fits parks = absurd cc
+parks_first job s (PutsResult n waker) fits parks = absurd cc
 
 pub first_where_parked : (job : SessionJob) (owner : Owner) (done : Worked) → worked job owner ≡ Some done → done.act ≡ JobParked → is_first (action_of job) ≡ true
 first_where_parked job owner done does parks = by (worked_so job owner done does)
@@ -284,6 +314,7 @@ same_number (TakesOut n waker) s = refl
 same_number (Closes waker) s = refl
 same_number (Finishes why waker) s = refl
 same_number (Leaves place why waker) s = refl
+same_number (PutsResult n waker) s = refl
 
 pub number_worked : (job : SessionJob) (owner : Owner) (done : Worked) → worked job owner ≡ Some done → number_of done.owner ≡ number_of owner
 number_worked job owner done does = by (worked_so job owner done does)
@@ -362,6 +393,22 @@ same_kind (job_of.Seek p) owner done does = by (seek_next p.core) does
     by seek.Seek does = there seek.Seek owner.session does
     by seek.Finish does = there seek.Finish owner.session does
     by seek.Done does = there seek.Done owner.session does
+same_kind (job_of.Operate p) owner done does = by (operation_next p.core) does
+  where
+    there : (a : OperationAction) (last : Option Session) → operate_in a last p owner ≡ Some done → kind_of done.job ≡ Operating
+    there a None does = absurd cc
+    there operation.PutResult (Some s) does = moved (λ (d : Worked). kind_of d.job ≡ Operating) _ done does refl
+    there operation.Finish (Some s) does = moved (λ (d : Worked). kind_of d.job ≡ Operating) _ done does refl
+    there operation.Call (Some s) does = absurd cc
+    there operation.Deliver (Some s) does = absurd cc
+    there operation.Done (Some s) does = absurd cc
+
+    by : (a : OperationAction) → operate_as a p owner ≡ Some done → kind_of done.job ≡ Operating
+    by operation.Deliver does = moved (λ (d : Worked). kind_of d.job ≡ Operating) _ done does refl
+    by operation.Call does = there operation.Call owner.session does
+    by operation.PutResult does = there operation.PutResult owner.session does
+    by operation.Finish does = there operation.Finish owner.session does
+    by operation.Done does = there operation.Done owner.session does
 
 -- it is done while the job's turn goes on
 pub fits_turn : (act : SessionAct) → may_act stage.Runs (seen act) ≡ true
@@ -381,6 +428,7 @@ fits_turn (TakesOut n waker) = refl
 fits_turn (Closes waker) = refl
 fits_turn (Finishes why waker) = refl
 fits_turn (Leaves place why waker) = refl
+fits_turn (PutsResult n waker) = refl
 
 -- whether something was done that neither the pool decides nor anyone answers from outside
 abbrev pub is_own : Act → Bool
@@ -403,6 +451,7 @@ own_at (TakesOut n waker) = refl
 own_at (Closes waker) = refl
 own_at (Finishes why waker) = refl
 own_at (Leaves place why waker) = refl
+own_at (PutsResult n waker) = refl
 
 -- it carries no more than is found at the front of the pipe
 front_found : (items : List ℕ) (is_open : Bool) (found : List ℕ) → peek 65536 items is_open ≡ Served found → length found ≤ min (length items) 65536
@@ -430,3 +479,4 @@ carried_at job s (TakesOut n waker) fits = omega arith
 carried_at job s (Closes waker) fits = omega arith
 carried_at job s (Finishes why waker) fits = omega arith
 carried_at job s (Leaves place why waker) fits = omega arith
+carried_at job s (PutsResult n waker) fits = omega arith

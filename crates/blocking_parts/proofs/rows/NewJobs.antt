@@ -19,7 +19,7 @@ use Rattle.blocking_lanes.specs.SessionJobs.{JobAs, new_job}
 use Rattle.blocking_lanes.specs.Sessions.{Session}
 use Rattle.blocking_lanes.proofs.owners.OwnerActs.{owner_by_parts, fits_at}
 use Rattle.blocking_lanes.proofs.owners.Steps.{begins_at}
-use Rattle.blocking_laws.specs.JobTable.{Kind, Reading, Writing, Streaming, Seeking}
+use Rattle.blocking_laws.specs.JobTable.{Kind, Reading, Writing, Streaming, Seeking, Operating}
 use Rattle.blocking_laws.specs.Sessions as sessions
 use Rattle.blocking_laws.specs.Sessions.{kind_of_job}
 use Rattle.blocking_laws.specs.Steps.{kind_by}
@@ -161,6 +161,7 @@ new_so Writing = record { next = refl; offered = tt; waking = refl; fault_is = r
 new_so Streaming = record { next = refl; waking = refl; fault_is = refl }
 new_so Reading = record { next = refl; waking = refl; fault_is = refl }
 new_so (Seeking goal) = record { next = refl; waking = refl; fault_is = refl; place_is = refl }
+new_so Operating = record { next = refl; waking = refl; fault_is = refl; number_is = refl }
 new_so _ = record { next = refl; waking = refl; fault_is = refl }
 
 new_first : (kind : Kind) → is_first (jobs.action_of (new_job kind)) ≡ true
@@ -168,6 +169,7 @@ new_first Writing = refl
 new_first Streaming = refl
 new_first Reading = refl
 new_first (Seeking goal) = refl
+new_first Operating = refl
 new_first _ = refl
 
 -- it is of the kind that the call asks for which begins the session
@@ -178,6 +180,8 @@ kind_begun (handle_call.Write []) begins = absurd begins
 kind_begun (handle_call.Write (byte ∷ bytes)) begins = refl
 kind_begun handle_call.Next begins = refl
 kind_begun (handle_call.Seek goal) begins = refl
+kind_begun handle_call.Operate begins = refl
+kind_begun handle_call.OperateAgain begins = refl
 kind_begun _ begins = absurd begins
 
 begins_kind : (bytes : ℕ) (asked : Option HandleCall) (here : OwnerStage) (last : Option Session) (cut : List Event) → OwnerAs (owner_by_parts bytes asked here last) cut → next_at here last ≡ next.Begins
@@ -186,9 +190,10 @@ begins_kind bytes asked (stage.Polls poll) last cut t begins =
     let c = t.stage.0.call in
     let fits = fits_at bytes asked poll cut last action.Begin t (begins_at bytes asked poll last cut t begins) in
     ap sessions.kind_of t.stage.0.asked_is ∙ kind_begun c fits.0 ∙ ap (λ o. jobs.kind_of (new_job (sessions.kind_of o))) (sym t.stage.0.asked_is ∙ t.asked)
-begins_kind bytes asked (stage.Rests at) last cut t begins = absurd cc
+begins_kind bytes asked (stage.Rests at end) last cut t begins = absurd cc
 begins_kind bytes asked (stage.Wakes poll note) last cut t begins = absurd cc
 begins_kind bytes asked stage.Dropped last cut t begins = absurd cc
+begins_kind bytes asked stage.TakenBack last cut t begins = absurd cc
 
 -- and that its acceptance tells
 accepted_kind : (h s n first started : ℕ) (refused : Bool) (seen : List Event) → (n == s) ≡ true
@@ -199,9 +204,10 @@ accepted_kind h s n first started refused seen is = rw (eq-eqb h h refl, is) ref
 -- where a session begins, it is that of the new job
 begins_with : (number : JobNumber) (goods : Goods) (pipe : Pipe ℕ (Unit {0})) (here : OwnerStage) (owner : Owner) → next_at here owner.session ≡ next.Begins → number_of (after_begin number goods pipe here owner) ≡ Some number
 begins_with number goods pipe (stage.Polls poll) owner is = refl
-begins_with number goods pipe (stage.Rests at) owner is = absurd cc
+begins_with number goods pipe (stage.Rests at end) owner is = absurd cc
 begins_with number goods pipe (stage.Wakes poll note) owner is = absurd cc
 begins_with number goods pipe stage.Dropped owner is = absurd cc
+begins_with number goods pipe stage.TakenBack owner is = absurd cc
 
 module _ (setting : ℕ) (plan : List Bool) (w : Parts) (past : List Moment) (t : Tied setting plan w past) (e : Event) (new : Parts) (number : JobNumber)
     (numbers : (s : ℕ) (row : Row) → row_of w.rows s ≡ Some row → IsNumberOf new.crew.pool row.number) where

@@ -8,8 +8,8 @@ use Rattle.blocking_core.specs.declared.unblock.OwnerAction.{OwnerAction}
 use Rattle.blocking_core.specs.declared.unblock.OwnerAction.TheVariants as action
 use Rattle.blocking_laws.specs.declared.event.Reply.{Reply as Told}
 use Rattle.blocking_lanes.specs.OwnerSteps.{OwnerStep, IsAsked, Acts, Begins, IsRefused, Delivers, IsDropped, Works, IsAnswered, GivesUp, CallsWaker, owner_after, owner_in, owner_after_work}
-use Rattle.blocking_lanes.specs.Owners.{Owner, Did, Worked, after_ask, number_in, number_of, did, did_by, did_in, drain_did, fill_did, look_did, looked_as, reply_as, reply_did, worked, without_job, item_in, receive_did}
-use Rattle.blocking_lanes.specs.Sessions.{Session, session_after_look, drained, reach, received}
+use Rattle.blocking_lanes.specs.Owners.{Owner, Did, Worked, after_ask, number_in, number_of, did, did_by, did_in, drain_did, fill_did, look_did, looked_as, reply_as, reply_did, worked, without_job, item_in, receive_did, find_did, awaited_as}
+use Rattle.blocking_lanes.specs.Sessions.{Session, session_after_look, session_after_find, drained, reach, received}
 use Rattle.blocking_lanes.specs.declared.owner.OwnerStage.{OwnerStage}
 use Rattle.blocking_lanes.specs.declared.owner.OwnerStage.TheVariants as stage
 use Rattle.blocking_lanes.proofs.owners.Events.{brought}
@@ -43,6 +43,13 @@ of_look GivenUp p s owner done e = absurd cc
 of_look (Abandoned true) p s owner done e = absurd cc
 of_look (Abandoned false) p s owner done e = moved (λ (d : Did). number_of d.owner ≡ Some s.number) _ done e refl
 
+of_find : (content : Content ℕ) (p : OwnerMachine ℕ) (s : Session) (owner : Owner) (done : Did) → find_did (awaited_as content) p (session_after_find content s) owner ≡ Some done → number_of done.owner ≡ Some s.number
+of_find Empty p s owner done e = moved (λ (d : Did). number_of d.owner ≡ Some s.number) _ done e refl
+of_find (Full n) p s owner done e = moved (λ (d : Did). number_of d.owner ≡ Some s.number) _ done e refl
+of_find GivenUp p s owner done e = absurd cc
+of_find (Abandoned true) p s owner done e = absurd cc
+of_find (Abandoned false) p s owner done e = moved (λ (d : Did). number_of d.owner ≡ Some s.number) _ done e refl
+
 of_did : (next : OwnerAction ℕ) (p : OwnerMachine ℕ) (last : Option Session) (owner : Owner) (done : Did) → owner.session ≡ last → did_in next p last owner ≡ Some done → number_of done.owner ≡ number_in last
 of_did (action.Reply r) p last owner done is e = by_told (reply_as (item_in last) r) e
   where
@@ -53,6 +60,7 @@ of_did action.Close p (Some s) owner done is e = moved (λ (d : Did). number_of 
 of_did (action.Drain most) p (Some s) owner done is e = moved (λ (d : Did). number_of d.owner ≡ Some s.number) _ done (through_some OfBytes s.goods _ done e).1 (of_drain (drained (reach most s) s) p s owner is)
 of_did action.Receive p (Some s) owner done is e = moved (λ (d : Did). number_of d.owner ≡ Some s.number) _ done (through_some OfItems s.goods _ done e).1 (of_receive (received s) p s owner is)
 of_did action.PollSlot p (Some s) owner done is e = of_look s.slot.content p s owner done e
+of_did action.PollResult p (Some s) owner done is e = of_find s.result.content p s owner done e
 of_did (action.Fill most) p last owner done is e =
     by_fill (λ o. o ≡ Some done → number_of done.owner ≡ number_in last) p owner.asked last owner (λ e. absurd cc)
     (λ bytes s met here found e. moved (λ (d : Did). number_of d.owner ≡ number_in last) _ done e (of_fill bytes met p s owner (is ∙ here) ∙ sym (ap number_in here))) e
@@ -62,9 +70,10 @@ of_did _ p (Some s) owner done is e = absurd cc
 
 of_poll : (here : OwnerStage) (owner : Owner) (done : Did) → did_by here owner ≡ Some done → number_of done.owner ≡ number_of owner
 of_poll (stage.Polls p) owner done e = of_did (owner_next p) p owner.session owner done refl e
-of_poll (stage.Rests at) owner done e = absurd cc
+of_poll (stage.Rests at end) owner done e = absurd cc
 of_poll (stage.Wakes p note) owner done e = absurd cc
 of_poll stage.Dropped owner done e = absurd cc
+of_poll stage.TakenBack owner done e = absurd cc
 
 -- ---- its job gives up
 
@@ -79,10 +88,11 @@ pub number_stays : (step : OwnerStep) (owner : Owner) → brought step ≡ [] �
 number_stays (IsAsked call) owner none = at owner.stage
   where
     at : (here : OwnerStage) → number_of (after_ask call here owner) ≡ number_of owner
-    at (stage.Rests st) = refl
+    at (stage.Rests st end) = refl
     at (stage.Polls p) = refl
     at (stage.Wakes p note) = refl
     at stage.Dropped = refl
+    at stage.TakenBack = refl
 number_stays Acts owner none = at (did owner) refl
   where
     at : (o : Option Did) → did owner ≡ o → number_of (owner_in o owner) ≡ number_of owner

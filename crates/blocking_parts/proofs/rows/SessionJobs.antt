@@ -8,6 +8,7 @@ use Rattle.blocking_lanes.proofs.owners.ReadJobs as reads
 use Rattle.blocking_lanes.proofs.owners.StreamJobs as streams
 use Rattle.blocking_lanes.proofs.owners.WriteJobs as writes
 use Rattle.blocking_lanes.proofs.owners.SeekJobs as seeks
+use Rattle.blocking_lanes.proofs.owners.OperationJobs as operations
 use Rattle.blocking_laws.specs.JobTable.{Kind, JobAction, is_answer, next_but_wake, next_of_job, wake_first}
 use Rattle.blocking_laws.specs.declared.event.Act.{Act}
 use Rattle.blocking_laws.specs.declared.event.Act.TheVariants.{Answered}
@@ -20,6 +21,7 @@ pub job_action_is : (job : SessionJob) (acts : List Act) → JobAs job acts → 
 job_action_is (job_of.Read p) acts r = reads.action_is p acts r
 job_action_is (job_of.Write p) acts r = writes.action_is p acts r
 job_action_is (job_of.Seek p) acts r = seeks.action_is p acts r
+job_action_is (job_of.Operate p) acts r = operations.action_is p acts r
 job_action_is (job_of.Items p) acts r = streams.action_is p acts r
 
 -- how far it is once it was answered
@@ -27,6 +29,7 @@ pub job_answers : (job : SessionJob) (acts : List Act) (answer : Answer) → Job
 job_answers (job_of.Read p) acts answer r is = reads.answers p acts answer r is
 job_answers (job_of.Write p) acts answer r is = writes.answers p acts answer r is
 job_answers (job_of.Seek p) acts answer r is = seeks.answers p acts answer r is
+job_answers (job_of.Operate p) acts answer r is = operations.answers p acts answer r is
 job_answers (job_of.Items p) acts answer r is = streams.answers p acts answer r is
 
 -- and of what kind it stays
@@ -36,6 +39,7 @@ kind_answered (job_of.Write p) answer = refl
 kind_answered (job_of.Seek p) (Number n) = refl
 kind_answered (job_of.Seek p) (Failed error) = refl
 kind_answered (job_of.Seek p) _ = refl
+kind_answered (job_of.Operate p) answer = refl
 kind_answered (job_of.Items p) answer = refl
 
 -- a job is at its first action only where no waker has to be called

@@ -94,9 +94,10 @@ begins_idle bytes asked (owner_stage.Polls poll) last X t begins =
     let fits = fits_at bytes asked poll X last action.Begin t (begins_at bytes asked poll last X t begins) in
     let idle = fits.1 in
     lent_by (own X) poll.state (ap is_away idle) t.stage.0.at_is ∙ ap state_as idle
-begins_idle bytes asked (owner_stage.Rests at) last X t begins = absurd cc
+begins_idle bytes asked (owner_stage.Rests at end) last X t begins = absurd cc
 begins_idle bytes asked (owner_stage.Wakes poll note) last X t begins = absurd cc
 begins_idle bytes asked owner_stage.Dropped last X t begins = absurd cc
+begins_idle bytes asked owner_stage.TakenBack last X t begins = absurd cc
 
 -- ---- one act of a job
 

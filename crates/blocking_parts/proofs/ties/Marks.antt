@@ -93,7 +93,7 @@ module _ (setting : ℕ) (plan : List Bool) (w : Parts) (past : List Moment) (t 
 
   -- nor did an owner whose session begins
   owner_is_there : (h : ℕ) (owner : Owner) → slice_get w.owners h ≡ Some owner → next_at owner.stage owner.session ≡ next.Begins → may_cancel (Some (ByOwner h)) past ≡ false
-  owner_is_there h owner found begins = (t.owned.each h owner found).gone ∙ begins_there owner.stage owner.session begins
+  owner_is_there h owner found begins = (t.owned.each h owner found).gone.0 ∙ begins_there owner.stage owner.session begins
 
   module _ (now : Moment) where
     told_quiet : (act : Act) → now.event.act ≡ act → IsQuiet act → KeepsMarks past now

@@ -227,7 +227,7 @@ module _ (setting : ℕ) (plan : List Bool) (w : Parts) (past : List Moment) (t 
   -- the owner of a job that has to give up is gone
   gone_owner : (v : ℕ) (job : InHand) (h : ℕ) (owner : Owner) → IsHere w v job → holder past job.held.turn.serial ≡ Some (ByOwner h) → slice_get w.owners h ≡ Some owner → job.held.stage ≡ stage.MustGiveUp → is_gone owner.stage ≡ true
   gone_owner v job h owner here held found must =
-      sym (t.owned.each h owner found).gone ∙ sym (ap (λ p. may_cancel p past) held) ∙ let_go_here setting plan w past t v job here must
+      sym (t.owned.each h owner found).gone.0 ∙ sym (ap (λ p. may_cancel p past) held) ∙ let_go_here setting plan w past t v job here must
 
   -- the job of a reader in a hand takes a step of its owner
   goes : (v : ℕ) (job : InHand) (h : ℕ) (step : OwnerStep) (owner : Owner) (act : Act) → IsHere w v job → holder past job.held.turn.serial ≡ Some (ByOwner h) → slice_get w.owners h ≡ Some owner → is_of_its_job step ≡ true

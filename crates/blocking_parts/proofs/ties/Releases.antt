@@ -62,7 +62,7 @@ module _ (setting : ℕ) (plan : List Bool) (w : Parts) (past : List Moment) (t 
           ap task_let_go task.1 ∙ sym tie.let_go ∙ ap is_let_go (own_cut k s (events past)) ∙ sym (ap (λ o. may_cancel o past) held)
       by (core.Session h read) held =
           let owner = owner_there h s held in
-          ap owner_let_go owner.1 ∙ sym (t.owned.each h owner.0 owner.1).gone ∙ sym (ap (λ o. may_cancel o past) held)
+          ap owner_let_go owner.1 ∙ sym (t.owned.each h owner.0 owner.1).gone.0 ∙ sym (ap (λ o. may_cancel o past) held)
 
   -- the job in a hand is marked exactly if its holder let it go
   pub mark_is : (v : ℕ) (job : InHand) → IsHere w v job → let_go_of w job.row.core ≡ is_marked past job.held.turn.serial

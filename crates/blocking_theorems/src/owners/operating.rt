@@ -2,20 +2,23 @@
 ghost use Rattle.std.specs.Prelude.{◌≡◌, [], ◌∷◌, Some, None, true, false};
 ghost use Rattle.blocking_pool.specs.declared.pool.answer.Refusal.TheVariants.{NoWorker};
 ghost use Rattle.blocking_pool.specs.declared.pool.standing.Standing.TheVariants.{Done};
-ghost use Rattle.blocking_laws.specs.Seen.{events, cut, own};
+ghost use Rattle.blocking_laws.specs.Seen.{EachMayFollow, events, cut, own};
+ghost use Rattle.blocking_laws.specs.Steps.{StepLaw};
 ghost use Rattle.blocking_laws.specs.JobTable.{Operating, AskResult, PutResult, Finish, next_of_job};
 ghost use Rattle.blocking_laws.specs.OwnerSeats.{result_seat, slot_seat};
 ghost use Rattle.blocking_laws.specs.OwnerWakes.{NoLostOwnerWake};
 ghost use Rattle.blocking_laws.specs.Sessions.{has_begun, is_pending_operation};
-ghost use Rattle.blocking_laws.specs.Traces.{◌▸◌, Refuses, Keeps};
+ghost use Rattle.blocking_laws.specs.Traces.{◌▸◌, moment, Refuses, Keeps};
 ghost use Rattle.blocking_laws.specs.OwnerTraces.{asks, polls, works, given, ends, FirstOwnerLaw, KeepsFirstOwner, FirstOwnerIsNotLost};
 ghost use Rattle.blocking_laws.specs.OperationTraces.{operator_made, operation_begun, operation_taken, nine_given, nine_put, nine_got, nine_replied, operation_over, read_anew};
-ghost use Rattle.blocking_laws.specs.OperationTraces.{nine_unasked, second_begun, stop_for_operation, then_stopped};
-ghost use Rattle.blocking_laws.specs.declared.event.Act.TheVariants.{Accepted, Refused, OwnerClosed, Back, ResultGot, Replied, Waits, Answered, Ended, ResultPut, Finished};
+ghost use Rattle.blocking_laws.specs.OperationTraces.{nine_unasked, second_begun, stop_for_operation, then_stopped, older_asked};
+ghost use Rattle.blocking_laws.specs.declared.event.Act.TheVariants.{Accepted, Refused, OwnerClosed, Back, ResultGot, Replied, Waits, Answered, Ended, ResultPut, Finished, HolderWoken, NoAction};
 ghost use Rattle.blocking_laws.specs.declared.event.HolderWaker.TheVariants.{Taken, Absent};
+ghost use Rattle.blocking_laws.specs.declared.event.Party.TheVariants.{Owner};
 ghost use Rattle.blocking_laws.specs.declared.event.Reply.TheVariants.{Count, Handle, NotBegun};
 ghost use Rattle.blocking_laws.specs.declared.step.Answer.TheVariants.{Number, Failed};
 ghost use Rattle.blocking_laws.specs.declared.step.HandleCall.TheVariants.{Read, Operate, OperateAgain, GetMut};
+ghost use Rattle.blocking_laws.specs.declared.step.Step.TheVariants.{Ask};
 
 /// A poll begins an operation and looks for its result; asked again it goes on where it was: in the session that it stops, or at the result.
 pub fn tables()
@@ -35,6 +38,14 @@ pub fn tables()
     ensures refuses_older_result { Refuses FirstOwnerLaw (nine_put ▸ asks Operate 2) (polls (ResultGot 9) 2) }
     // .. / ended 1 done / asked (for an operation) / back / accepted 2 / result 9: so is this
     ensures refuses_result_of_other_job { Refuses FirstOwnerLaw second_begun (polls (ResultGot 9) 2) }
+    // .. / delivered owner / asked (for an operation) / waits / asked (for the result) / waits: it looks for the handle of the one before
+    ensures accepts_wait_at_older_slot { KeepsFirstOwner (older_asked ▸ polls Waits 2) }
+    // .. / delivered owner / asked (for an operation) / waits / asked (for the result) / result 9: not for the result of that
+    ensures refuses_older_result_again { Refuses FirstOwnerLaw older_asked (polls (ResultGot 9) 2) }
+    // .. / asked (for the result) / back / accepted 2 / waits, after the one before is over
+    ensures accepts_operation_at_last { KeepsFirstOwner (older_asked
+        ▸ polls Waits 2 ▸ works 1 (Finished Taken) ▸ works 1 HolderWoken ▸ ends 1 (Ended 1 Done)
+        ▸ asks OperateAgain 2 ▸ polls Back 2 ▸ polls (Accepted 2) 2 ▸ polls Waits 2) }
     // .. / ended 1 done / asked (for an operation) / replied ok 9
     ensures refuses_result_unlooked { Refuses FirstOwnerLaw (nine_unasked ▸ asks Operate 2) (polls (Replied (Count 9)) 2) }
     // .. / accepted 1 +1 / back: it looks for the result
@@ -62,6 +73,26 @@ pub fn pending()
     // .. / waits, where a reading session is stopped first
     ensures stops_first { has_begun (own (cut 0 (events stop_for_operation))) ≡ false }
     ensures waits_for_it { is_pending_operation (own (cut 0 (events stop_for_operation))) ≡ true }
+{}
+
+/// Each step has its action: the result of an operation is asked for while one is pending, and then alone.
+pub fn steps()
+    // an operation and a read after it
+    ensures accepts_session { EachMayFollow StepLaw read_anew }
+    // a reading session is stopped / waits / .. / asked (for the result) / back / accepted 2 / waits
+    ensures accepts_stop_and_begin { EachMayFollow StepLaw (then_stopped stop_for_operation
+        ▸ asks OperateAgain 2 ▸ polls Back 2 ▸ polls (Accepted 2) 2 ▸ polls Waits 2) }
+    // .. / delivered owner / nothing, of a call for the result
+    ensures refuses_nothing { Refuses StepLaw nine_put (moment (Ask 0 OperateAgain) (Owner 0) None NoAction 2) }
+    // .. / result 9 / replied ok 9 / nothing, of a call for the result
+    ensures accepts_nothing_after_result { StepLaw nine_replied (moment (Ask 0 OperateAgain) (Owner 0) None NoAction 2) }
+    ensures refuses_result_twice { Refuses StepLaw nine_replied (asks OperateAgain 2) }
+    // .. / delivered owner / asked (to read nothing) / replied ok 0 / nothing, of a call for the result: the read gave it up
+    ensures accepts_nothing_after_given_up { StepLaw (nine_put ▸ asks (Read 0) 2 ▸ polls (Replied (Count 0)) 2)
+        (moment (Ask 0 OperateAgain) (Owner 0) None NoAction 2) }
+    ensures refuses_result_of_given_up { Refuses StepLaw (nine_put ▸ asks (Read 0) 2 ▸ polls (Replied (Count 0)) 2) (asks OperateAgain 2) }
+    // .. / delivered owner / asked (for the handle) / waits / asked (for the result): so did this call, which waits
+    ensures refuses_result_of_stopped { Refuses StepLaw (nine_put ▸ asks GetMut 2 ▸ polls Waits 2) (asks OperateAgain 2) }
 {}
 
 /// A job runs its operation, puts the result, and finishes.

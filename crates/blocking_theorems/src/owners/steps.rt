@@ -9,7 +9,7 @@ ghost use Rattle.blocking_pool.specs.declared.pool.answer.Woke.TheVariants.{Ente
 ghost use Rattle.blocking_laws.specs.declared.event.Act.TheVariants.{Made, Asked, JobCancelled, Replied, RoomFree, NoAction};
 ghost use Rattle.blocking_laws.specs.declared.event.Party.TheVariants.{Owner, Pool};
 ghost use Rattle.blocking_laws.specs.declared.event.Reply.TheVariants.{Handle};
-ghost use Rattle.blocking_laws.specs.declared.step.HandleCall.TheVariants.{Read, GetMut, Seek, Next, Operate, IntoInner};
+ghost use Rattle.blocking_laws.specs.declared.step.HandleCall.TheVariants.{Read, GetMut, Seek, Next, Operate, OperateAgain, IntoInner};
 ghost use Rattle.blocking_laws.specs.declared.step.Step.TheVariants.{New, Ask, Own, Strike};
 
 /// An owner may be made at any time, is numbered in order, and keeps the capacity that it was made with.
@@ -69,16 +69,21 @@ pub fn jobs()
         (moment (Strike 1) Pool None (JobCancelled 1 Entered) 2) }
 {}
 
-/// Owners are asked for items and to seek, but not yet for an operation, or for the handle for good.
-pub fn not_yet()
+/// An owner that rests is asked for anything, and for the result of an operation where one is pending.
+pub fn calls_of_each_kind()
     // made 0 / asked (to seek)
     ensures accepts_seek { StepLaw one_made (asks (Seek (Start 7)) 1) }
     // made 0 / asked (for an item)
     ensures accepts_item { StepLaw one_made (asks Next 1) }
+    // made 0 / asked (for an operation)
+    ensures accepts_operation { StepLaw one_made (asks Operate 1) }
+    // made 0 / asked (for the handle, for good)
+    ensures accepts_handle { StepLaw one_made (asks IntoInner 1) }
     // made 0 / nothing
     ensures refuses_nothing_for_item { Refuses StepLaw one_made (moment (Ask 0 Next) (Owner 0) None NoAction 1) }
-    ensures accepts_nothing_for_operation { StepLaw one_made (moment (Ask 0 Operate) (Owner 0) None NoAction 1) }
-    ensures accepts_nothing_for_handle { StepLaw one_made (moment (Ask 0 IntoInner) (Owner 0) None NoAction 1) }
-    // made 0 / asked (for an operation)
-    ensures refuses_operation { Refuses StepLaw one_made (asks Operate 1) }
+    ensures refuses_nothing_for_operation { Refuses StepLaw one_made (moment (Ask 0 Operate) (Owner 0) None NoAction 1) }
+    ensures refuses_nothing_for_handle { Refuses StepLaw one_made (moment (Ask 0 IntoInner) (Owner 0) None NoAction 1) }
+    // made 0 / nothing, of a call for a result: no operation is pending
+    ensures accepts_nothing_for_result { StepLaw one_made (moment (Ask 0 OperateAgain) (Owner 0) None NoAction 1) }
+    ensures refuses_result { Refuses StepLaw one_made (asks OperateAgain 1) }
 {}

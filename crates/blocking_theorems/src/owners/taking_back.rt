@@ -1,7 +1,7 @@
 //! What owners keep who take their handle back for good.
 ghost use Rattle.std.specs.Prelude.{◌≡◌, Some, None, true, false};
 ghost use Rattle.blocking_pool.specs.declared.pool.answer.Woke.TheVariants.{Entered, Nothing};
-ghost use Rattle.blocking_laws.specs.Seen.{events, cut, own};
+ghost use Rattle.blocking_laws.specs.Seen.{EachMayFollow, events, cut, own};
 ghost use Rattle.blocking_laws.specs.Sessions.{is_owner_gone};
 ghost use Rattle.blocking_laws.specs.Steps.{StepLaw};
 ghost use Rattle.blocking_laws.specs.Traces.{◌▸◌, moment, Refuses};
@@ -12,8 +12,8 @@ ghost use Rattle.blocking_laws.specs.OperationTraces.{inner_asked, inner_waits, 
 ghost use Rattle.blocking_laws.specs.declared.event.Act.TheVariants.{OwnerClosed, JobCancelled, HolderDropped, Back, Replied, Waits, NoAction};
 ghost use Rattle.blocking_laws.specs.declared.event.Party.TheVariants.{Owner, Pool};
 ghost use Rattle.blocking_laws.specs.declared.event.Reply.TheVariants.{Handle};
-ghost use Rattle.blocking_laws.specs.declared.step.HandleCall.TheVariants.{Read, Flush, Close, GetMut, IntoInner};
-ghost use Rattle.blocking_laws.specs.declared.step.Step.TheVariants.{DropOwner, Strike};
+ghost use Rattle.blocking_laws.specs.declared.step.HandleCall.TheVariants.{Read, Flush, Close, Operate, GetMut, IntoInner};
+ghost use Rattle.blocking_laws.specs.declared.step.Step.TheVariants.{Ask, DropOwner, Strike};
 
 /// The handle is told once it is there: at once where it is idle, else after its session was stopped.
 pub fn tables()
@@ -54,8 +54,23 @@ pub fn calls()
     ensures refuses_closed { Refuses FirstOwnerLaw writer_closed (asks IntoInner 2) }
 {}
 
-/// An owner that gave its handle back lets no job go; one that was dropped does.
+/// Once the handle was asked for for good, a step that asks for anything else has no action; and an owner that gave its handle back is gone,
+/// and lets no job go, while one that was dropped does.
 pub fn steps()
+    // .. / asked / closed wake 1 / delivered 1 entered / waits / .. / asked / back / replied handle
+    ensures accepts_session { EachMayFollow StepLaw inner_replied }
+    // .. / waits / nothing
+    ensures refuses_nothing { Refuses StepLaw inner_waits (moment (Ask 0 IntoInner) (Owner 0) None NoAction 2) }
+    // .. / waits / nothing, of a call to read
+    ensures accepts_nothing_for_read { StepLaw inner_waits (moment (Ask 0 (Read 2)) (Owner 0) None NoAction 2) }
+    // .. / waits / asked (to read)
+    ensures refuses_read_in_step { Refuses StepLaw inner_waits (asks (Read 2) 2) }
+    // .. / waits / asked (for an operation)
+    ensures refuses_operation { Refuses StepLaw inner_waits (asks Operate 2) }
+    // .. / back / replied handle / nothing, of a call for the handle
+    ensures accepts_nothing_of_gone { StepLaw inner_replied (moment (Ask 0 IntoInner) (Owner 0) None NoAction 2) }
+    // .. / back / replied handle / asked
+    ensures refuses_call_of_gone { Refuses StepLaw inner_replied (asks IntoInner 2) }
     // .. / back / replied handle / nothing
     ensures accepts_nothing { StepLaw inner_replied (moment (Strike 1) Pool None NoAction 2) }
     // .. / back / replied handle / cancelled 1 nothing

@@ -9,6 +9,7 @@ ghost use Rattle.blocking_laws.specs.Legal.{Legal};
 ghost use Rattle.blocking_laws.specs.Traces.{◌▸◌, moment};
 ghost use Rattle.blocking_laws.specs.OwnerTraces.{polls, takes, works, ends};
 ghost use Rattle.blocking_laws.specs.OwnerTraces.{reader_parked, reader_dropped, end_read, stop_back};
+ghost use Rattle.blocking_laws.specs.OperationTraces.{operation_over, inner_replied};
 ghost use Rattle.blocking_pool.specs.declared.pool.answer.Woke.TheVariants.{Entered};
 ghost use Rattle.blocking_pool.specs.declared.pool.standing.Standing.TheVariants.{Dropped};
 ghost use Rattle.blocking_laws.specs.declared.event.Act.TheVariants.{JobCancelled, Replied, TookDropped, Ended, GaveUp};
@@ -45,6 +46,10 @@ pub fn sessions()
     ensures accepts_read { Legal 1 [] end_read }
     // .. / asked (for the handle) / closed wake 1 / .. / ended 1 done / asked (for the handle) / back / replied handle
     ensures accepts_stop { Legal 1 [] (stop_back ▸ polls (Replied Handle) 2) }
+    // made 0 / asked (for an operation) / accepted 1 +1 / waits / .. / asked (for the result) / result 9 / replied ok 9 / .. / ended 1 done
+    ensures accepts_operation { Legal 1 [] operation_over }
+    // .. / asked (for the handle, for good) / closed wake 1 / .. / waits / .. / asked (for the handle, for good) / back / replied handle
+    ensures accepts_return { Legal 1 [] inner_replied }
     // .. / ended 1 parked / dropped / cancelled 1 entered / took 1 dropped / gave up / ended 1 dropped
     ensures accepts_drop { Legal 1 [] (reader_dropped
         ▸ moment (Strike 1) Pool None (JobCancelled 1 Entered) 2

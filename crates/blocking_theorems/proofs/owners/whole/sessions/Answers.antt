@@ -12,6 +12,7 @@ use Rattle.blocking_laws.specs.Sessions.{Session, capacity, is_shut, session}
 use Rattle.blocking_laws.specs.Wakes.{is_at_rest, is_waiting, was_woken}
 use Rattle.blocking_laws.specs.OwnerLaws.{OwnerLaws}
 use Rattle.blocking_laws.specs.Traces.{◌▸◌}
+use Rattle.blocking_laws.specs.OperationTraces.{operation_over, inner_replied}
 use Rattle.blocking_laws.specs.OwnerTraces.{polls, end_read, stop_back}
 use Rattle.blocking_laws.specs.declared.event.Act.{Act}
 use Rattle.blocking_laws.specs.declared.event.Act.TheVariants.{Accepted, Replied}
@@ -215,6 +216,32 @@ read_whole = search rules
 
 stopped_whole : OwnerLaws (cut 0 (events (stop_back ▸ polls (Replied Handle) 2)))
 stopped_whole = search rules
+
+operated_whole : OwnerLaws (cut 0 (events operation_over))
+operated_whole = search rules
+
+returned_whole : OwnerLaws (cut 0 (events inner_replied))
+returned_whole = search rules
+
+pub returns-clause-accepts_operation : goal.returns-clause-accepts_operation
+returns-clause-accepts_operation c = record {
+  steps = search rules;
+  pool = search rules;
+  owners = λ h. by_first (0 == h) h (events operation_over) refl refl operated_whole;
+  tasks = search rules;
+  wakes = search rules;
+  owner_wakes = none_is_ever_lost operation_over refl;
+}
+
+pub returns-clause-accepts_return : goal.returns-clause-accepts_return
+returns-clause-accepts_return c = record {
+  steps = search rules;
+  pool = search rules;
+  owners = λ h. by_first (0 == h) h (events inner_replied) refl refl returned_whole;
+  tasks = search rules;
+  wakes = search rules;
+  owner_wakes = none_is_ever_lost inner_replied refl;
+}
 
 pub returns-clause-accepts_read : goal.returns-clause-accepts_read
 returns-clause-accepts_read c = record {
