@@ -1,5 +1,5 @@
 -- What is played after what was played before.
-use Rattle.std.proofs.Common.{◌≡◌, ℕ, ◌+◌, Bool, true, false, List, [], ◌∷◌, ◌++◌, length, map, take, refl, ap, sym, ◌∙◌, subst, append_assoc, inl, inr, arith, rules, get_or, Result, Ok, Err, is_ok, IfOk, OnOk, Option, String, string_bytes, if◌then◌else◌}
+use Rattle.std.proofs.Common.{◌≡◌, ℕ, ◌+◌, Bool, true, List, [], ◌∷◌, ◌++◌, length, map, take, refl, ap, sym, ◌∙◌, subst, append_assoc, inl, inr, arith, rules, get_or, Result, Ok, Err, is_ok, IfOk, OnOk, Option, String, string_bytes, if◌then◌else◌}
 use Rattle.std.proofs.lemmas.Bool.{cases_eq}
 use Rattle.std.proofs.lemmas.List.{append-nil, length-append, map-append, reverse-append, take-append-le, take_all}
 use Rattle.std.proofs.lemmas.List.Elements.{All-append}
@@ -14,7 +14,7 @@ use Rattle.blocking_laws.specs.declared.step.Step.{Step}
 use Rattle.blk_commands.specs.Plays.{IsLegal, PlaysInstruction, PlaysInstructions, Repeats, ShowsScript, Takes, after, ending_of, has_next, new_history, shown_text, step_of}
 use Rattle.blk_commands.specs.declared.instruction.Actor.{Actor}
 use Rattle.blk_commands.specs.declared.instruction.Instruction.{Instruction}
-use Rattle.blk_commands.specs.declared.instruction.Instruction.TheVariants.{One, AllOf}
+use Rattle.blk_commands.specs.declared.instruction.Instruction.TheVariants.{One}
 use Rattle.blk_commands.specs.declared.steps.Ending.{Ending}
 
 -- what comes after two rows of moments, one after the other
@@ -57,14 +57,6 @@ repeats_more actor past moments moment before action is = record {
   ];
 }
 
--- the first action
-pub repeats_once : (actor : Actor) (past : List Moment) (moment : Moment) → moment.step ≡ step_of actor → Repeats actor past (moment ∷ [])
-repeats_once actor past moment is = record {
-  some = omega arith;
-  same = λ k d l. search rules;
-  goes_on = λ k above below. absurd (omega arith);
-}
-
 -- ---- what is taken
 
 -- moments of one step are one moment
@@ -95,17 +87,6 @@ takes_step step old new before seen now (Ok u) adds legal grown = record {
 }
 takes_step step old new before seen now (Err e) adds legal grown = tt
 
--- the first action of an actor
-pub takes_first : (actor : Actor) (old new : History) (before now : List Event) → Takes (PlaysInstruction (One (step_of actor))) old new before now
-    → Takes (Repeats actor) old new before now
-takes_first actor old new before now took = record {
-  moments = took.moments;
-  plays = subst (Repeats actor old.past) (sym took.plays.2) (repeats_once actor old.past took.plays.0 took.plays.1);
-  follow = took.follow;
-  events_are = took.events_are;
-  legal = took.legal;
-}
-
 -- one more
 pub takes_next : (actor : Actor) (a b c : History) (e0 e1 e2 : List Event) → Takes (Repeats actor) a b e0 e1
     → has_next actor b.past ≡ true → Takes (PlaysInstruction (One (step_of actor))) b c e1 e2 → Takes (Repeats actor) a c e0 e2
@@ -126,22 +107,7 @@ one_event_more step old new before now took =
     ap length took.events_are ∙ (length-append before (map (λ moment. moment.event) took.moments)
     ∙ ap (λ ms. length before + length (map (λ moment. moment.event) ms)) took.plays.2)
 
--- none is left
-pub takes_ended : (actor : Actor) (old new : History) (before now : List Event) → Takes (Repeats actor) old new before now
-    → has_next actor new.past ≡ false → Takes (PlaysInstruction (AllOf actor)) old new before now
-takes_ended actor old new before now took ended = record {
-  moments = took.moments;
-  plays = (took.plays, subst (λ past. has_next actor past ≡ false) (ap (λ h. h.past) took.follow) ended);
-  follow = took.follow;
-  events_are = took.events_are;
-  legal = took.legal;
-}
-
 -- ---- instructions
-
--- no instruction
-pub takes_none : (history : History) → Takes (PlaysInstructions []) history history [] []
-takes_none history = record { moments = []; plays = refl; follow = refl; events_are = refl; legal = λ l. l }
 
 -- one more instruction
 pub takes_instruction : (instructions : List Instruction) (instruction : Instruction) (a b c : History) (e1 e2 : List Event) → Takes (PlaysInstructions instructions) a b [] e1

@@ -105,8 +105,3 @@ module _ {T : Type 0} (IsIntact : T → Type 0) (text : T → List ℕ) where
   line_whole (Ok u) (Some o) s t old new bytes intact empty wrote same whole =
       subst (Appends old new) (same ∙ text_written s (line_of o) t intact empty wrote) whole
   line_whole (Err e) output s t old new bytes intact empty wrote same whole = tt
-
--- where nothing is said, a first part of the line is
-pub part_unsaid : (output known : Option (List ℕ)) → IfSome output (λ o. AppendsPart known known (line_of o))
-part_unsaid None known = tt
-part_unsaid (Some o) known = part_nothing known (line_of o)

@@ -1,3 +1,4 @@
+pub mod Types
 pub mod moves
 pub mod past
 pub mod rows

@@ -1,6 +1,7 @@
 //! Uses of the crate `blocking`: one call here, and more in the modules. What they print is always the same.
 #![tactic(auto)]
 
+mod folder;
 mod host;
 mod lines;
 mod log;
@@ -47,6 +48,7 @@ fn main(rt: HostRuntime) -> Result<()> {
     // (here this thread may do something else)
     let text = block_on(&rt, task)??;
     print!(rt; "{path}: {text}")?;
+    folder::show_folder(rt, rt)?;
     more(rt)
 }
 

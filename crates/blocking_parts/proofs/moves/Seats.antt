@@ -207,7 +207,7 @@ worked_met job owner done s seated does tie met = by (worked_so job owner done d
     there last new still (inr other) = inr other
 
     by : DoesSo job owner done → IsMet done.owner s
-    by (inl so) = subst (λ (o : Owner). IsMet o s) (sym so.1) met
+    by (inl wakes) = subst (λ (o : Owner). IsMet o s) (sym wakes.1) met
     by (inr so) =
         subst (λ (o : Owner). IsMet o s) (sym so.owner_is)
         (there owner.session (Some (after so.act so.session))
@@ -224,7 +224,7 @@ worked_parks job owner done does parks = by (worked_so job owner done does)
     at so (inr seats) = ap (λ (o : Owner). seated_in o.session) so.owner_is ∙ seats ∙ ap number_in (sym so.here)
 
     by : DoesSo job owner done → seated_in done.owner.session ≡ number_of owner
-    by (inl so) = absurd (let other = so.0 in cc)
+    by (inl wakes) = absurd (let other = wakes.0 in cc)
     by (inr so) = at so (at_seats so)
       where
         at_seats : (so : ActsAt job owner done) → SeatsSo so.session (seen so.act) (after so.act so.session).pipe.job_seat

@@ -36,7 +36,7 @@ use Rattle.blocking_lanes.specs.Operations as operations
 use Rattle.blocking_lanes.specs.declared.job.SessionJob.{SessionJob}
 use Rattle.blocking_lanes.specs.declared.job.SessionJob.TheVariants as job_of
 use Rattle.blocking_lanes.proofs.owners.Goods.{through_some}
-use Rattle.blocking_laws.specs.JobTable.{Reading, Writing, Streaming, FindRoom, SendItem, Peek, Seeking, Operating}
+use Rattle.blocking_laws.specs.JobTable.{FindRoom, SendItem, Peek}
 use Rattle.blocking_laws.specs.Places.{seen_peek, seen_put, seen_room}
 use Rattle.blocking_laws.specs.Seats.{waker_in}
 use Rattle.blocking_laws.specs.Seen.{is_nothing, is_of_pool}
@@ -99,10 +99,15 @@ pub record ActsAt (job : SessionJob) (owner : Owner) (done : Worked) : Type 0 wh
   pub fits : Fits act job session
   pub act_is : done.act ≡ seen act
   pub owner_is : done.owner ≡ record owner { session = Some (after act session) }
+  pub kind_is : kind_of done.job ≡ kind_of job
 
--- A job that does something calls a waker, or acts at its session.
+-- A job that calls a waker, which leaves its owner as it was.
+abbrev pub Wakes : SessionJob → Owner → Worked → Type 0
+Wakes job owner done = (done.act ≡ HolderWoken) × (done.owner ≡ owner) × (kind_of done.job ≡ kind_of job)
+
+-- A job that does something calls a waker, or acts at its session; and it stays of its kind.
 abbrev pub DoesSo : SessionJob → Owner → Worked → Type 0
-DoesSo job owner done = ((done.act ≡ HolderWoken) × (done.owner ≡ owner)) ⊎ ActsAt job owner done
+DoesSo job owner done = Wakes job owner done ⊎ ActsAt job owner done
 
 -- what holds of a value that is there holds of it under another name
 pub moved : {A : Type 0} (P : A → Type 0) (x y : A) → Some x ≡ Some y → P x → P y
@@ -126,7 +131,7 @@ works_anyhow J of wanted there work owner done does = by (through wanted there w
 read_at : (a : ReadAction) (p : reads.Progress) (owner : Owner) (done : Worked) → read_next p.core ≡ a → (s : Session) → owner.session ≡ Some s → worked_by job_of.Read (work_by a p s) owner ≡ Some done
     → ActsAt (job_of.Read p) owner done
 read_at read.FindRoom p owner done is s here does =
-    moved (ActsAt (job_of.Read p) owner) _ done does (record { session = s; here = here; act = FindsRoom (found_room s); fits = ap (reads.action_as p.piece) is; act_is = refl; owner_is = refl })
+    moved (ActsAt (job_of.Read p) owner) _ done does (record { session = s; here = here; act = FindsRoom (found_room s); fits = ap (reads.action_as p.piece) is; act_is = refl; owner_is = refl; kind_is = refl })
 read_at (read.Put count) p owner done is s here does = by (fits_in p.piece s) refl does
   where
     by : (b : Bool) → fits_in p.piece s ≡ b → worked_by job_of.Read (if b then Some (work_at_put (found_put p.piece s) p s) else None) owner ≡ Some done → ActsAt (job_of.Read p) owner done
@@ -139,12 +144,13 @@ read_at (read.Put count) p owner done is s here does = by (fits_in p.piece s) re
           fits = never_waits (length p.piece) (room s.pipe) s.pipe.is_owner_open s.pipe.owner_seat fits;
           act_is = refl;
           owner_is = refl;
+          kind_is = refl;
         })
     by false fits does = absurd cc
 read_at read.Close p owner done is s here does =
-    moved (ActsAt (job_of.Read p) owner) _ done does (record { session = s; here = here; act = Closes (waker_in (closing_wakes s)); fits = tt; act_is = refl; owner_is = refl })
+    moved (ActsAt (job_of.Read p) owner) _ done does (record { session = s; here = here; act = Closes (waker_in (closing_wakes s)); fits = tt; act_is = refl; owner_is = refl; kind_is = refl })
 read_at read.Finish p owner done is s here does =
-    moved (ActsAt (job_of.Read p) owner) _ done does (record { session = s; here = here; act = Finishes p.fault (waker_in (finish_wakes p.fault s)); fits = tt; act_is = refl; owner_is = refl })
+    moved (ActsAt (job_of.Read p) owner) _ done does (record { session = s; here = here; act = Finishes p.fault (waker_in (finish_wakes p.fault s)); fits = tt; act_is = refl; owner_is = refl; kind_is = refl })
 read_at (read.Read most) p owner done is s here does = absurd cc
 read_at read.Deliver p owner done is s here does = absurd cc
 read_at read.Done p owner done is s here does = absurd cc
@@ -157,7 +163,7 @@ read_does a p owner done is does = by a is does
     there a is (Some s) here does = inr (read_at a p owner done is s here (works_anyhow reads.Progress job_of.Read OfBytes s.goods (work_by a p s) owner done does))
 
     by : (a : ReadAction) → read_next p.core ≡ a → read_as a p owner ≡ Some done → DoesSo (job_of.Read p) owner done
-    by read.Deliver is does = inl (moved (λ (d : Worked). (d.act ≡ HolderWoken) × (d.owner ≡ owner)) _ done does (refl, refl))
+    by read.Deliver is does = inl (moved (Wakes (job_of.Read p) owner) _ done does (refl, refl, refl))
     by read.FindRoom is does = there read.FindRoom is owner.session refl does
     by (read.Put count) is does = there (read.Put count) is owner.session refl does
     by read.Close is does = there read.Close is owner.session refl does
@@ -169,18 +175,18 @@ read_does a p owner done is does = by a is does
 write_at : (a : WriteAction) (p : writes.Progress) (owner : Owner) (done : Worked) → write_next p.core ≡ a → (s : Session) → owner.session ≡ Some s → worked_by job_of.Write (writer_works a p s) owner ≡ Some done
     → ActsAt (job_of.Write p) owner done
 write_at write.Peek p owner done is s here does =
-    moved (ActsAt (job_of.Write p) owner) _ done does (record { session = s; here = here; act = Peeks (found_piece s); fits = (ap (writes.action_as p.piece) is, refl); act_is = refl; owner_is = refl })
+    moved (ActsAt (job_of.Write p) owner) _ done does (record { session = s; here = here; act = Peeks (found_piece s); fits = (ap (writes.action_as p.piece) is, refl); act_is = refl; owner_is = refl; kind_is = refl })
 write_at (write.Consume count) p owner done is s here does = by (holds count s) does
   where
     by : (b : Bool) → worked_by job_of.Write (if b then Some (work_of_consume count p s) else None) owner ≡ Some done → ActsAt (job_of.Write p) owner done
     by true does =
-        moved (ActsAt (job_of.Write p) owner) _ done does (record { session = s; here = here; act = TakesOut count (waker_in (closing_wakes s)); fits = tt; act_is = refl; owner_is = refl })
+        moved (ActsAt (job_of.Write p) owner) _ done does (record { session = s; here = here; act = TakesOut count (waker_in (closing_wakes s)); fits = tt; act_is = refl; owner_is = refl; kind_is = refl })
     by false does = absurd cc
 write_at write.Close p owner done is s here does =
-    moved (ActsAt (job_of.Write p) owner) _ done does (record { session = s; here = here; act = Closes (waker_in (closing_wakes s)); fits = tt; act_is = refl; owner_is = refl })
+    moved (ActsAt (job_of.Write p) owner) _ done does (record { session = s; here = here; act = Closes (waker_in (closing_wakes s)); fits = tt; act_is = refl; owner_is = refl; kind_is = refl })
 write_at write.Finish p owner done is s here does =
     moved (ActsAt (job_of.Write p) owner) _ done does
-    (record { session = s; here = here; act = Finishes (writes.fault_of p.core) (waker_in (finish_wakes (writes.fault_of p.core) s)); fits = tt; act_is = refl; owner_is = refl })
+    (record { session = s; here = here; act = Finishes (writes.fault_of p.core) (waker_in (finish_wakes (writes.fault_of p.core) s)); fits = tt; act_is = refl; owner_is = refl; kind_is = refl })
 write_at (write.Write count) p owner done is s here does = absurd cc
 write_at write.Flush p owner done is s here does = absurd cc
 write_at write.Deliver p owner done is s here does = absurd cc
@@ -194,7 +200,7 @@ write_does a p owner done is does = by a is does
     there a is (Some s) here does = inr (write_at a p owner done is s here (works_anyhow writes.Progress job_of.Write OfBytes s.goods (writer_works a p s) owner done does))
 
     by : (a : WriteAction) → write_next p.core ≡ a → write_as a p owner ≡ Some done → DoesSo (job_of.Write p) owner done
-    by write.Deliver is does = inl (moved (λ (d : Worked). (d.act ≡ HolderWoken) × (d.owner ≡ owner)) _ done does (refl, refl))
+    by write.Deliver is does = inl (moved (Wakes (job_of.Write p) owner) _ done does (refl, refl, refl))
     by write.Peek is does = there write.Peek is owner.session refl does
     by (write.Write count) is does = there (write.Write count) is owner.session refl does
     by (write.Consume count) is does = there (write.Consume count) is owner.session refl does
@@ -207,11 +213,11 @@ write_does a p owner done is does = by a is does
 stream_at : (a : ItemAction) (p : streams.Progress) (owner : Owner) (done : Worked) → item_next p.core ≡ a → (s : Session) → owner.session ≡ Some s → worked_by job_of.Items (streamer_works a p s) owner ≡ Some done
     → ActsAt (job_of.Items p) owner done
 stream_at item.Send p owner done is s here does =
-    moved (ActsAt (job_of.Items p) owner) _ done does (record { session = s; here = here; act = Sends p.item (found_send s); fits = ap (streams.action_as p.item) is; act_is = refl; owner_is = refl })
+    moved (ActsAt (job_of.Items p) owner) _ done does (record { session = s; here = here; act = Sends p.item (found_send s); fits = ap (streams.action_as p.item) is; act_is = refl; owner_is = refl; kind_is = refl })
 stream_at item.Close p owner done is s here does =
-    moved (ActsAt (job_of.Items p) owner) _ done does (record { session = s; here = here; act = Closes (waker_in (closing_wakes s)); fits = tt; act_is = refl; owner_is = refl })
+    moved (ActsAt (job_of.Items p) owner) _ done does (record { session = s; here = here; act = Closes (waker_in (closing_wakes s)); fits = tt; act_is = refl; owner_is = refl; kind_is = refl })
 stream_at item.Finish p owner done is s here does =
-    moved (ActsAt (job_of.Items p) owner) _ done does (record { session = s; here = here; act = Finishes None (waker_in (finish_wakes None s)); fits = tt; act_is = refl; owner_is = refl })
+    moved (ActsAt (job_of.Items p) owner) _ done does (record { session = s; here = here; act = Finishes None (waker_in (finish_wakes None s)); fits = tt; act_is = refl; owner_is = refl; kind_is = refl })
 stream_at item.Next p owner done is s here does = absurd cc
 stream_at item.Deliver p owner done is s here does = absurd cc
 stream_at item.Done p owner done is s here does = absurd cc
@@ -224,7 +230,7 @@ stream_does a p owner done is does = by a is does
     there a is (Some s) here does = inr (stream_at a p owner done is s here (works_anyhow streams.Progress job_of.Items OfItems s.goods (streamer_works a p s) owner done does))
 
     by : (a : ItemAction) → item_next p.core ≡ a → stream_as a p owner ≡ Some done → DoesSo (job_of.Items p) owner done
-    by item.Deliver is does = inl (moved (λ (d : Worked). (d.act ≡ HolderWoken) × (d.owner ≡ owner)) _ done does (refl, refl))
+    by item.Deliver is does = inl (moved (Wakes (job_of.Items p) owner) _ done does (refl, refl, refl))
     by item.Next is does = there item.Next is owner.session refl does
     by item.Send is does = there item.Send is owner.session refl does
     by item.Close is does = there item.Close is owner.session refl does
@@ -235,13 +241,13 @@ stream_does a p owner done is does = by a is does
 seek_at : (a : SeekAction) (p : seeks.Progress) (owner : Owner) (done : Worked) (last : Option Session) → owner.session ≡ last → seek_in a last p owner ≡ Some done → DoesSo (job_of.Seek p) owner done
 seek_at a p owner done None here does = absurd cc
 seek_at seek.Finish p owner done (Some s) here does =
-    inr (moved (ActsAt (job_of.Seek p) owner) _ done does (record { session = s; here = here; act = Leaves p.place p.fault (waker_in (finish_wakes p.fault s)); fits = tt; act_is = refl; owner_is = refl }))
+    inr (moved (ActsAt (job_of.Seek p) owner) _ done does (record { session = s; here = here; act = Leaves p.place p.fault (waker_in (finish_wakes p.fault s)); fits = tt; act_is = refl; owner_is = refl; kind_is = refl }))
 seek_at seek.Seek p owner done (Some s) here does = absurd cc
 seek_at seek.Deliver p owner done (Some s) here does = absurd cc
 seek_at seek.Done p owner done (Some s) here does = absurd cc
 
 seek_does : (a : SeekAction) (p : seeks.Progress) (owner : Owner) (done : Worked) → seek_as a p owner ≡ Some done → DoesSo (job_of.Seek p) owner done
-seek_does seek.Deliver p owner done does = inl (moved (λ (d : Worked). (d.act ≡ HolderWoken) × (d.owner ≡ owner)) _ done does (refl, refl))
+seek_does seek.Deliver p owner done does = inl (moved (Wakes (job_of.Seek p) owner) _ done does (refl, refl, refl))
 seek_does seek.Seek p owner done does = seek_at seek.Seek p owner done owner.session refl does
 seek_does seek.Finish p owner done does = seek_at seek.Finish p owner done owner.session refl does
 seek_does seek.Done p owner done does = seek_at seek.Done p owner done owner.session refl does
@@ -252,15 +258,15 @@ operate_at a p owner done None here does = absurd cc
 operate_at operation.PutResult p owner done (Some s) here does =
     inr
     (moved (ActsAt (job_of.Operate p) owner) _ done does
-    (record { session = s; here = here; act = PutsResult p.number (waker_in (result_wakes p.number s)); fits = tt; act_is = refl; owner_is = refl }))
+    (record { session = s; here = here; act = PutsResult p.number (waker_in (result_wakes p.number s)); fits = tt; act_is = refl; owner_is = refl; kind_is = refl }))
 operate_at operation.Finish p owner done (Some s) here does =
-    inr (moved (ActsAt (job_of.Operate p) owner) _ done does (record { session = s; here = here; act = Finishes None (waker_in (finish_wakes None s)); fits = tt; act_is = refl; owner_is = refl }))
+    inr (moved (ActsAt (job_of.Operate p) owner) _ done does (record { session = s; here = here; act = Finishes None (waker_in (finish_wakes None s)); fits = tt; act_is = refl; owner_is = refl; kind_is = refl }))
 operate_at operation.Call p owner done (Some s) here does = absurd cc
 operate_at operation.Deliver p owner done (Some s) here does = absurd cc
 operate_at operation.Done p owner done (Some s) here does = absurd cc
 
 operate_does : (a : OperationAction) (p : operations.Progress) (owner : Owner) (done : Worked) → operate_as a p owner ≡ Some done → DoesSo (job_of.Operate p) owner done
-operate_does operation.Deliver p owner done does = inl (moved (λ (d : Worked). (d.act ≡ HolderWoken) × (d.owner ≡ owner)) _ done does (refl, refl))
+operate_does operation.Deliver p owner done does = inl (moved (Wakes (job_of.Operate p) owner) _ done does (refl, refl, refl))
 operate_does operation.Call p owner done does = operate_at operation.Call p owner done owner.session refl does
 operate_does operation.PutResult p owner done does = operate_at operation.PutResult p owner done owner.session refl does
 operate_does operation.Finish p owner done does = operate_at operation.Finish p owner done owner.session refl does
@@ -325,90 +331,11 @@ number_worked job owner done does = by (worked_so job owner done does)
 
 -- and it stays of its kind
 pub same_kind : (job : SessionJob) (owner : Owner) (done : Worked) → worked job owner ≡ Some done → kind_of done.job ≡ kind_of job
-same_kind (job_of.Read p) owner done does = by (read_next p.core) does
+same_kind job owner done does = by (worked_so job owner done does)
   where
-    works : (o : Option (Work reads.Progress)) → worked_by job_of.Read o owner ≡ Some done → kind_of done.job ≡ Reading
-    works None does = absurd cc
-    works (Some work) does = moved (λ (d : Worked). kind_of d.job ≡ Reading) _ done does refl
-
-    there : (a : ReadAction) (last : Option Session) → read_in a last p owner ≡ Some done → kind_of done.job ≡ Reading
-    there a None does = absurd cc
-    there a (Some s) does = works (through OfBytes s.goods (work_by a p s)) does
-
-    by : (a : ReadAction) → read_as a p owner ≡ Some done → kind_of done.job ≡ Reading
-    by read.Deliver does = moved (λ (d : Worked). kind_of d.job ≡ Reading) _ done does refl
-    by read.FindRoom does = there read.FindRoom owner.session does
-    by (read.Put count) does = there (read.Put count) owner.session does
-    by read.Close does = there read.Close owner.session does
-    by read.Finish does = there read.Finish owner.session does
-    by (read.Read most) does = there (read.Read most) owner.session does
-    by read.Done does = there read.Done owner.session does
-same_kind (job_of.Write p) owner done does = by (write_next p.core) does
-  where
-    works : (o : Option (Work writes.Progress)) → worked_by job_of.Write o owner ≡ Some done → kind_of done.job ≡ Writing
-    works None does = absurd cc
-    works (Some work) does = moved (λ (d : Worked). kind_of d.job ≡ Writing) _ done does refl
-
-    there : (a : WriteAction) (last : Option Session) → write_in a last p owner ≡ Some done → kind_of done.job ≡ Writing
-    there a None does = absurd cc
-    there a (Some s) does = works (through OfBytes s.goods (writer_works a p s)) does
-
-    by : (a : WriteAction) → write_as a p owner ≡ Some done → kind_of done.job ≡ Writing
-    by write.Deliver does = moved (λ (d : Worked). kind_of d.job ≡ Writing) _ done does refl
-    by write.Peek does = there write.Peek owner.session does
-    by (write.Write count) does = there (write.Write count) owner.session does
-    by (write.Consume count) does = there (write.Consume count) owner.session does
-    by write.Flush does = there write.Flush owner.session does
-    by write.Close does = there write.Close owner.session does
-    by write.Finish does = there write.Finish owner.session does
-    by write.Done does = there write.Done owner.session does
-same_kind (job_of.Items p) owner done does = by (item_next p.core) does
-  where
-    works : (o : Option (Work streams.Progress)) → worked_by job_of.Items o owner ≡ Some done → kind_of done.job ≡ Streaming
-    works None does = absurd cc
-    works (Some work) does = moved (λ (d : Worked). kind_of d.job ≡ Streaming) _ done does refl
-
-    there : (a : ItemAction) (last : Option Session) → stream_in a last p owner ≡ Some done → kind_of done.job ≡ Streaming
-    there a None does = absurd cc
-    there a (Some s) does = works (through OfItems s.goods (streamer_works a p s)) does
-
-    by : (a : ItemAction) → stream_as a p owner ≡ Some done → kind_of done.job ≡ Streaming
-    by item.Deliver does = moved (λ (d : Worked). kind_of d.job ≡ Streaming) _ done does refl
-    by item.Next does = there item.Next owner.session does
-    by item.Send does = there item.Send owner.session does
-    by item.Close does = there item.Close owner.session does
-    by item.Finish does = there item.Finish owner.session does
-    by item.Done does = there item.Done owner.session does
-same_kind (job_of.Seek p) owner done does = by (seek_next p.core) does
-  where
-    there : (a : SeekAction) (last : Option Session) → seek_in a last p owner ≡ Some done → kind_of done.job ≡ Seeking p.goal
-    there a None does = absurd cc
-    there seek.Finish (Some s) does = moved (λ (d : Worked). kind_of d.job ≡ Seeking p.goal) _ done does refl
-    there seek.Seek (Some s) does = absurd cc
-    there seek.Deliver (Some s) does = absurd cc
-    there seek.Done (Some s) does = absurd cc
-
-    by : (a : SeekAction) → seek_as a p owner ≡ Some done → kind_of done.job ≡ Seeking p.goal
-    by seek.Deliver does = moved (λ (d : Worked). kind_of d.job ≡ Seeking p.goal) _ done does refl
-    by seek.Seek does = there seek.Seek owner.session does
-    by seek.Finish does = there seek.Finish owner.session does
-    by seek.Done does = there seek.Done owner.session does
-same_kind (job_of.Operate p) owner done does = by (operation_next p.core) does
-  where
-    there : (a : OperationAction) (last : Option Session) → operate_in a last p owner ≡ Some done → kind_of done.job ≡ Operating
-    there a None does = absurd cc
-    there operation.PutResult (Some s) does = moved (λ (d : Worked). kind_of d.job ≡ Operating) _ done does refl
-    there operation.Finish (Some s) does = moved (λ (d : Worked). kind_of d.job ≡ Operating) _ done does refl
-    there operation.Call (Some s) does = absurd cc
-    there operation.Deliver (Some s) does = absurd cc
-    there operation.Done (Some s) does = absurd cc
-
-    by : (a : OperationAction) → operate_as a p owner ≡ Some done → kind_of done.job ≡ Operating
-    by operation.Deliver does = moved (λ (d : Worked). kind_of d.job ≡ Operating) _ done does refl
-    by operation.Call does = there operation.Call owner.session does
-    by operation.PutResult does = there operation.PutResult owner.session does
-    by operation.Finish does = there operation.Finish owner.session does
-    by operation.Done does = there operation.Done owner.session does
+    by : DoesSo job owner done → kind_of done.job ≡ kind_of job
+    by (inl wakes) = wakes.2
+    by (inr at) = at.kind_is
 
 -- it is done while the job's turn goes on
 pub fits_turn : (act : SessionAct) → may_act stage.Runs (seen act) ≡ true

@@ -4,8 +4,6 @@ use Rattle.std.specs.Prelude.{slice_get, IfSome}
 use Rattle.std.proofs.lemmas.Bool.{eqb-true, eq-eqb}
 use Rattle.blocking_crew.specs.Moves as crew
 use Rattle.blocking_crew.specs.Ties.{HoldsAtRest, IsAsked, IsNumberOf, has_ticket, is_serial_of}
-use Rattle.blocking_crew.specs.declared.hand.Hand.TheVariants.{Holds}
-use Rattle.blocking_crew.specs.declared.hand.Held.{Held}
 use Rattle.blocking_lanes.specs.OwnerTies.{OwnerAs, LastAs}
 use Rattle.blocking_lanes.specs.Owners.{Owner, capacity_of, number_in, number_of}
 use Rattle.blocking_lanes.specs.Sessions.{Session}
@@ -18,22 +16,13 @@ use Rattle.blocking_laws.specs.Seen.{events, acts_of, own, cut}
 use Rattle.blocking_laws.specs.Sessions.{kind_of_job, last_session}
 use Rattle.blocking_laws.specs.Steps.{kind_by}
 use Rattle.blocking_laws.specs.Turns.{Turn, turn}
-use Rattle.blocking_laws.specs.declared.event.Act.{Act}
-use Rattle.blocking_laws.specs.declared.event.Event.{Event}
-use Rattle.blocking_laws.specs.declared.event.Moment.{Moment}
-use Rattle.blocking_laws.specs.declared.event.Party.{Party}
-use Rattle.blocking_laws.specs.declared.event.Party.TheVariants.{Owner as ByOwner, Task as ByTask}
-use Rattle.blocking_laws.specs.declared.step.TaskCall.{TaskCall}
-use Rattle.blocking_laws.specs.declared.step.TaskCall.TheVariants.{Poll, Cancel, Detach, Drop}
 use Rattle.blocking_pool.specs.Jobs.{JobNumber}
-use Rattle.blocking_pool.specs.declared.pool.standing.Standing.{Standing}
-use Rattle.blocking_pool.specs.declared.pool.standing.Standing.TheVariants.{Queued, Running, Parked, Done, Dropped}
-use Rattle.blocking_parts.specs.Moves.{Move, Idles, Makes, Asks, Owns, Lends, Delivers, IsDropped, Begins, Calls, Works, IsAnswered, Parks, Passes, IsWoken, IsStruck, May, is_pass, task_call, call_of}
+use Rattle.blocking_parts.specs.Moves.{Move, Delivers, IsDropped, Calls, Parks, Passes, IsWoken, IsStruck, May, is_pass, task_call, call_of}
 use Rattle.blocking_parts.specs.Parts.{Parts}
 use Rattle.blocking_parts.specs.Rows.{kind_of, party_of, is_first, is_at_first}
 use Rattle.blocking_parts.specs.Ties.{Tied, CoreAs, PlaceAs}
-use Rattle.blocking_parts.specs.declared.row.Core.{Core}
 use Rattle.blocking_parts.specs.declared.row.Core.TheVariants as core
+use Rattle.blocking_parts.proofs.Types.{Holds, Held, Act, Event, Moment, Party, ByOwner, ByTask, TaskCall, Cancel, Drop, Standing, Queued, Parked, Core}
 use Rattle.blocking_parts.proofs.past.Holders.{holder_is}
 use Rattle.blocking_parts.proofs.ties.Jobs.{job_here, held_row, task_holds, task_number, owner_holds, owner_number}
 use Rattle.blocking_parts.proofs.ties.Releases.{mark_is}
@@ -44,10 +33,7 @@ use Rattle.blocking_parts.proofs.ties.Releases.{mark_is}
 at_rest : (stand : Option Standing) (at : Turn) (first : Bool) (acts : List Act) → has_ticket stand ≡ true → PlaceAs stand at first acts → (first ≡ true) × (has_given_up acts ≡ false)
 at_rest (Some Queued) at first acts rests place = place
 at_rest (Some Parked) at first acts rests place = place
-at_rest (Some Running) at first acts rests place = absurd cc
-at_rest (Some Done) at first acts rests place = absurd cc
-at_rest (Some Dropped) at first acts rests place = absurd cc
-at_rest None at first acts rests place = absurd cc
+at_rest _ at first acts rests place = absurd cc
 
 -- so the job of a session that rests isn't over
 not_over : (h : ℕ) (c : Core) (acts : List Act) → party_of c ≡ ByOwner h → is_at_first c ≡ true → has_given_up acts ≡ false → CoreAs c acts → next_but_wake (kind_of c) acts ≡ Over → ⊥
@@ -129,24 +115,15 @@ module _ (setting : ℕ) (plan : List Bool) (w : Parts) (past : List Moment) (t 
   -- ---- each move
 
   call_asked : (k : ℕ) (call : TaskCall) (task : Task) → slice_get w.tasks k ≡ Some task → IsAsked w.crew past (task_call k call task)
-  call_asked k Poll task found = tt
   call_asked k Cancel task found = (task_number setting plan w past t k task found, task_alone k task found)
-  call_asked k Detach task found = tt
   call_asked k Drop task found = (task_number setting plan w past t k task found, task_alone k task found)
+  call_asked k _ task found = tt
 
   -- A move keeps what the crew asks of its call.
   pub asked : (move : Move) → May w move → IsAsked w.crew past (call_of w move)
-  asked (Idles step) may = tt
-  asked (Makes capacity) may = tt
-  asked (Asks h call owner) may = tt
-  asked (Owns h owner done) may = tt
-  asked (Lends h owner added) may = tt
   asked (Delivers h owner number) may = owner_number setting plan w past t h owner number may.0 ((t.owned.each h owner may.0).noted number may.1)
   asked (IsDropped h owner) may = (owner_number_if h owner may.0, owner_alone h owner may.0)
-  asked (Begins added) may = tt
   asked (Calls k call task) may = call_asked k call task may.0
-  asked (Works v job done) may = tt
-  asked (IsAnswered v job answer) may = tt
   asked (Parks v job) may = λ held at.
       let here = job_here w v job may.0 in
       let both : Holds job.held ≡ Holds held = sym here.holds ∙ at in
@@ -155,3 +132,4 @@ module _ (setting : ℕ) (plan : List Bool) (w : Parts) (past : List Moment) (t 
   asked (Passes call) may = pass_asked w past call may.0
   asked (IsWoken s row) may = (t.rowed.each s row may).number
   asked (IsStruck s row) may = (t.rowed.each s row may.0).number
+  asked _ may = tt

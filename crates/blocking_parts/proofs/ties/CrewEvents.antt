@@ -3,28 +3,19 @@ use Rattle.std.proofs.Common.{◌≡◌, ℕ, List, [], Bool, true, false, refl,
 use Rattle.std.specs.Prelude.{◌&&◌, ◌||◌, ◌==◌, not, is_some, if◌then◌else◌, Ok}
 use Rattle.blocking_crew.specs.Crews.{Crew, hand_at, may_act, acting_in}
 use Rattle.blocking_crew.specs.Moves as crew
-use Rattle.blocking_crew.specs.Moves.{added_act, parked_act, nothing, next_start}
+use Rattle.blocking_crew.specs.Moves.{added_act, nothing}
 use Rattle.blocking_crew.specs.Tickets.{AddsTo}
 use Rattle.blocking_crew.specs.Ties.{IsNumberOf}
-use Rattle.blocking_crew.specs.declared.hand.Hand.TheVariants.{Holds}
-use Rattle.blocking_crew.specs.declared.hand.Held.{Held}
 use Rattle.blocking_crew.proofs.ties.Numbers.{number_of_new}
 use Rattle.blocking_laws.specs.Bare.{is_bare}
 use Rattle.blocking_laws.specs.Growth.{IsPlanned}
 use Rattle.blocking_laws.specs.Jobs.{accepted_by, cancels, lets_go}
 use Rattle.blocking_laws.specs.Seen.{is_of_job, is_by_task, is_in_cut, is_of_pool, is_nothing, is_some_worker, is_this}
 use Rattle.blocking_laws.specs.Steps.{is_making}
-use Rattle.blocking_laws.specs.declared.event.Act.{Act}
-use Rattle.blocking_laws.specs.declared.event.Act.TheVariants.{JobWoken, JobCancelled}
-use Rattle.blocking_laws.specs.declared.event.Event.{Event}
-use Rattle.blocking_laws.specs.declared.event.Party.{Party}
-use Rattle.blocking_laws.specs.declared.event.Party.TheVariants.{Worker}
 use Rattle.blocking_pool.specs.Jobs.{JobNumber}
-use Rattle.blocking_pool.specs.declared.pool.answer.Waited.TheVariants.{Stay, Stop}
-use Rattle.blocking_pool.specs.declared.pool.answer.Woke.{Woke}
 use Rattle.blocking_parts.specs.Moves.{is_pass}
 use Rattle.blocking_parts.specs.Parts.{owner_of}
-use Rattle.blocking_parts.specs.declared.row.Row.{Row}
+use Rattle.blocking_parts.proofs.Types.{Holds, Held, Act, JobWoken, JobCancelled, Event, Party, Worker, Stay, Stop, Woke, Row}
 
 -- ---- who did what
 
@@ -144,6 +135,18 @@ plain_move crew_now (crew.HasWaited v pass end Stop growth pool) is = record { o
 plain_move crew_now (crew.SetsLimit n) is = record { out = λ k s. refl; uncut = λ h rows. refl; none_new = refl; none_made = refl; cancelled = λ s. refl; kept = refl; bare = refl }
 plain_move crew_now (crew.Sweeps growth pool) is = record { out = λ k s. refl; uncut = λ h rows. refl; none_new = refl; none_made = refl; cancelled = λ s. refl; kept = refl; bare = refl }
 plain_move crew_now _ is = absurd cc
+
+-- An event that is nothing to tasks and owners: none acts, nor does its job, none is made, and no job is accepted.
+pub record IsAlone (e : Event) : Type 0 where
+  pub out : (k s : ℕ) → is_by_task k e || is_of_job s e ≡ false
+  pub uncut : (h : ℕ) (rows : List Row) → is_in_cut h (record e { owner = owner_of rows e.job }) ≡ false
+  pub none_new : accepted_by e.act ≡ []
+  pub none_made : is_making e.act ≡ false
+
+-- what is told so is as the event of just that
+pub told_alone : (who : Party) (job : Option ℕ) (act : Act) (e : Event) → Told who job act e → IsAlone (record { party = who; owner = None; job = job; act = act; first = e.first; started = e.started; start_refused = e.start_refused })
+    → IsAlone e
+told_alone who job act e told alone = subst IsAlone (sym (told_is who job act e told)) alone
 
 pub plain : (may_answer : ℕ → Bool → Type 0) (call : crew.Call) (crew_now new : Crew) (e : Event) → is_pass call ≡ true → crew.Moves may_answer call crew_now e new → IsPlain e
 plain may_answer call crew_now new e pass m = subst IsPlain (sym m.event_is) (plain_move crew_now m.move (ap is_pass (sym m.call_is) ∙ pass))

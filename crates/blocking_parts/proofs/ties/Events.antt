@@ -1,41 +1,28 @@
 -- What is seen of each move: whose it is, of which job, and what.
 use Rattle.std.proofs.Common.{◌≡◌, ⊎_elim, ℕ, List, length, Bool, true, false, refl, sym, ap, ◌∙◌, subst, Option, Some, None}
-use Rattle.std.specs.Prelude.{slice_get}
-use Rattle.blocking_core.specs.declared.job.Action.{Action}
+use Rattle.std.specs.Prelude.{slice_get, Err}
+use Rattle.std.proofs.lemmas.Bool.{or_parts}
 use Rattle.blocking_core.specs.declared.job.Action.TheVariants as action
 use Rattle.blocking_crew.specs.Crews.{Crew, hand_at, may_act}
 use Rattle.blocking_crew.specs.Moves as crew
-use Rattle.blocking_crew.specs.Moves.{added_act, parked_act, nothing, next_start}
-use Rattle.blocking_crew.specs.declared.hand.Hand.TheVariants.{Holds}
-use Rattle.blocking_crew.specs.declared.hand.Held.{Held}
-use Rattle.blocking_crew.specs.declared.hand.Stage.{Stage}
+use Rattle.blocking_crew.specs.Moves.{added_act, parked_act}
 use Rattle.blocking_crew.specs.declared.hand.Stage.TheVariants as stage
-use Rattle.blocking_crew.specs.declared.ticket.Ticket.{Ticket}
-use Rattle.blocking_crew.specs.declared.tickets.Parking.{Parking}
+use Rattle.blocking_crew.specs.declared.tickets.Parking.TheVariants as parking
 use Rattle.blocking_lanes.specs.Calls as calls
 use Rattle.blocking_lanes.specs.OwnerSteps as owners
-use Rattle.blocking_lanes.specs.OwnerSteps.{OwnerStep}
 use Rattle.blocking_lanes.specs.Owners.{Owner, Worked, worked}
-use Rattle.blocking_lanes.specs.declared.job.SessionJob.{SessionJob}
 use Rattle.blocking_lanes.specs.Tasks.{Task, task_act}
 use Rattle.blocking_laws.specs.Growth.{IsPlanned}
+use Rattle.blocking_laws.specs.Seen.{is_of_job, is_some_worker}
 use Rattle.blocking_laws.specs.Steps.{named, is_answered_action}
-use Rattle.blocking_laws.specs.declared.event.Act.{Act}
-use Rattle.blocking_laws.specs.declared.event.Act.TheVariants.{Made, Asked, JobWoken, JobCancelled, HolderDropped, Answered, NoAction}
-use Rattle.blocking_laws.specs.declared.event.Event.{Event}
-use Rattle.blocking_laws.specs.declared.event.Party.TheVariants.{Owner as ByOwner, Task as ByTask, Worker, Pool}
-use Rattle.blocking_laws.specs.declared.step.Answer.{Answer}
-use Rattle.blocking_laws.specs.declared.step.TaskCall.{TaskCall}
-use Rattle.blocking_laws.specs.declared.step.TaskCall.TheVariants.{Poll, Cancel, Detach, Drop}
-use Rattle.blocking_pool.specs.declared.pool.answer.Woke.{Woke}
 use Rattle.blocking_parts.specs.Moves.{Move, Idles, Makes, Asks, Owns, Lends, Delivers, IsDropped, Begins, Calls, Works, IsAnswered, Parks, Passes, IsWoken, IsStruck, May, CrewMoves, task_call}
 use Rattle.blocking_parts.specs.Parts.{Parts}
 use Rattle.blocking_parts.specs.Rows.{Done, done, call_done, call_step, call_step_by, session_done, session_seen, session_step, next_of}
-use Rattle.blocking_parts.specs.declared.row.Core.{Core}
 use Rattle.blocking_parts.specs.declared.row.Core.TheVariants as core
+use Rattle.blocking_parts.proofs.Types.{Action, Holds, Held, Stage, Ticket, Parking, SessionJob, Act, Made, Asked, JobWoken, JobCancelled, HolderDropped, Answered, NoAction, Event, ByOwner, ByTask, Worker, Pool, Answer, TaskCall, Poll, Woke, Core}
 use Rattle.blocking_parts.proofs.moves.SessionActs.{fits_turn, moved, worked_so}
 use Rattle.blocking_parts.proofs.ties.Jobs.{job_here, next_here}
-use Rattle.blocking_parts.proofs.ties.CrewEvents.{Told, ToldBy, IsPlain, told, worked as works_so, plain}
+use Rattle.blocking_parts.proofs.ties.CrewEvents.{Told, ToldBy, IsAlone, IsPlain, told, told_alone, worked as works_so, plain, by_no_worker}
 
 -- ---- what a job does fits its turn
 
@@ -52,12 +39,10 @@ module _ (d : Done) where
       by : (next : Action) → call_done k call stage.Runs all row (Some task) (call_step_by next call.number) ≡ Some d → MaySo stage.Runs d.act
       by action.Finish e = moved (λ (x : Done). MaySo stage.Runs x.act) _ d e refl
       by action.Deliver e = moved (λ (x : Done). MaySo stage.Runs x.act) _ d e refl
-      by action.Call e = absurd cc
-      by action.Done e = absurd cc
+      by _ e = absurd cc
   call_so stage.MustGiveUp k call all row (Some task) e = moved (λ (x : Done). MaySo stage.MustGiveUp x.act) _ d e refl
   call_so stage.MustWake k call all row (Some task) e = moved (λ (x : Done). MaySo stage.MustWake x.act) _ d e refl
-  call_so stage.Waits k call all row (Some task) e = absurd cc
-  call_so stage.GaveUp k call all row (Some task) e = absurd cc
+  call_so _ k call all row (Some task) e = absurd cc
 
   -- the job of a session
   session_so : (at : Stage) (h : ℕ) (job : SessionJob) (all : List Task) (row : List Owner) (owner : Option Owner) → session_done h job all row owner (session_step at job) ≡ Some d → MaySo at d.act
@@ -71,8 +56,7 @@ module _ (d : Done) where
           (⊎_elim (λ wakes. ap (may_act stage.Runs) wakes.0) (λ at. ap (may_act stage.Runs) at.act_is ∙ fits_turn at.act) (worked_so job owner did is))
   session_so stage.MustGiveUp h job all row (Some owner) e = moved (λ (x : Done). MaySo stage.MustGiveUp x.act) _ d e refl
   session_so stage.MustWake h job all row (Some owner) e = moved (λ (x : Done). MaySo stage.MustWake x.act) _ d e refl
-  session_so stage.Waits h job all row (Some owner) e = absurd cc
-  session_so stage.GaveUp h job all row (Some owner) e = absurd cc
+  session_so _ h job all row (Some owner) e = absurd cc
 
   pub done_fits : (at : Stage) (c : Core) (all : List Task) (row : List Owner) → done at c all row ≡ Some d → may_act at d.act ≡ true
   done_fits at (core.Call k call) all row e = call_so at k call all row (slice_get all k) e
@@ -81,10 +65,7 @@ module _ (d : Done) where
 -- a job is answered only while its turn goes on
 pub answer_fits : (at : Stage) (c : Core) (answer : Answer) → is_answered_action (next_of at c) answer ≡ true → at ≡ stage.Runs
 answer_fits stage.Runs c answer is = refl
-answer_fits stage.Waits c answer is = absurd cc
-answer_fits stage.MustGiveUp c answer is = absurd cc
-answer_fits stage.MustWake c answer is = absurd cc
-answer_fits stage.GaveUp c answer is = absurd cc
+answer_fits _ c answer is = absurd cc
 
 -- ---- moves
 
@@ -108,9 +89,7 @@ SaidBy w (IsStruck s row) e = (woke : Woke) × Told Pool None (JobCancelled row.
 
 call_said : (k : ℕ) (call : TaskCall) (task : Task) (e : Event) → ToldBy (task_call k call task) e → Told (ByTask k) None (task_act call task) e
 call_said k Poll task e told = told
-call_said k Cancel task e told = told
-call_said k Detach task e told = told
-call_said k Drop task e told = told
+call_said k _ task e told = told
 
 -- the run of a job that waits ends so
 parks_so : (may_answer : ℕ → Bool → Type 0) (v : ℕ) (held : Held) (ticket : Ticket) (crew_now new : Crew) (e : Event) → hand_at crew_now.hands v ≡ Holds held → held.stage ≡ stage.Waits
@@ -132,13 +111,6 @@ parks_so may_answer v held ticket crew_now new e at waits m = by m.move m.may m.
 
 pub said : (plan : List Bool) (w : Parts) (move : Move) (e : Event) (new : Parts) → May w move → CrewMoves (IsPlanned plan) move w e new → SaidBy w move e
 said plan w (Idles step) e new may does = record { party = ap (λ (f : Event). f.party) does.0; owner = ap (λ (f : Event). f.owner) does.0; job_is = ap (λ (f : Event). f.job) does.0; act_is = ap (λ (f : Event). f.act) does.0 }
-said plan w (Makes capacity) e new may does = told (IsPlanned plan) _ w.crew new.crew e does
-said plan w (Asks h call owner) e new may does = told (IsPlanned plan) _ w.crew new.crew e does
-said plan w (Owns h owner did) e new may does = told (IsPlanned plan) _ w.crew new.crew e does
-said plan w (Lends h owner added) e new may does = told (IsPlanned plan) _ w.crew new.crew e does
-said plan w (Delivers h owner number) e new may does = told (IsPlanned plan) _ w.crew new.crew e does
-said plan w (IsDropped h owner) e new may does = told (IsPlanned plan) _ w.crew new.crew e does
-said plan w (Begins added) e new may does = told (IsPlanned plan) _ w.crew new.crew e does
 said plan w (Calls k call task) e new may does = call_said k call task e (told (IsPlanned plan) _ w.crew new.crew e does)
 said plan w (Works v job did) e new may does =
     let here = job_here w v job may.0 in
@@ -149,5 +121,48 @@ said plan w (IsAnswered v job answer) e new may does =
     (works_so (IsPlanned plan) v job.held (Answered answer) w.crew new.crew e here.holds (ap (λ s. may_act s (Answered answer)) runs) does).0
 said plan w (Parks v job) e new may does = parks_so (IsPlanned plan) v job.held _ w.crew new.crew e (job_here w v job may.0).holds may.1 does
 said plan w (Passes call) e new may does = plain (IsPlanned plan) call w.crew new.crew e may.0 does
-said plan w (IsWoken s row) e new may does = told (IsPlanned plan) _ w.crew new.crew e does
-said plan w (IsStruck s row) e new may does = told (IsPlanned plan) _ w.crew new.crew e does
+said plan w _ e new may does = told (IsPlanned plan) _ w.crew new.crew e does
+
+-- ---- who has a part in it
+
+-- whether no task and no owner has a part in a move, nor the job in a hand
+abbrev pub is_alone : Move → Bool
+is_alone (Idles step) = true
+is_alone (Begins (Err why)) = true
+is_alone (Parks v job) = true
+is_alone (Passes call) = true
+is_alone (IsWoken s row) = true
+is_alone (IsStruck s row) = true
+is_alone _ = false
+
+-- such a move is seen as nothing to them
+pub alone : (w : Parts) (move : Move) (e : Event) → is_alone move ≡ true → SaidBy w move e → IsAlone e
+alone w (Idles step) e is told = told_alone (named step) None NoAction e told (record { out = λ k s. refl; uncut = λ h rows. refl; none_new = refl; none_made = refl })
+alone w (Begins (Err why)) e is told = told_alone Pool None _ e told (record { out = λ k s. refl; uncut = λ h rows. refl; none_new = refl; none_made = refl })
+alone w (Parks v job) e is told = told_alone (Worker v) (Some job.held.turn.serial) _ e told.1 (by told.0)
+  where
+    by : (how : Parking) → IsAlone (record { party = Worker v; owner = None; job = Some job.held.turn.serial; act = parked_act how job.held.turn.serial; first = e.first; started = e.started; start_refused = e.start_refused })
+    by (parking.Parked pass) = record { out = λ k s. refl; uncut = λ h rows. refl; none_new = refl; none_made = refl }
+    by _ = record { out = λ k s. refl; uncut = λ h rows. refl; none_new = refl; none_made = refl }
+alone w (Passes call) e is plain = record { out = plain.out; uncut = plain.uncut; none_new = plain.none_new; none_made = plain.none_made }
+alone w (IsWoken s row) e is told = told_alone Pool None _ e told.1 (record { out = λ k s. refl; uncut = λ h rows. refl; none_new = refl; none_made = refl })
+alone w (IsStruck s row) e is told = told_alone Pool None _ e told.1 (record { out = λ k s. refl; uncut = λ h rows. refl; none_new = refl; none_made = refl })
+alone w _ e is told = absurd cc
+
+-- whether the job in a hand acts, or is answered
+abbrev pub is_work : Move → Bool
+is_work (Works v job did) = true
+is_work (IsAnswered v job answer) = true
+is_work _ = false
+
+-- no other move is an act of a job
+pub no_work : (w : Parts) (move : Move) (e : Event) (s : ℕ) → is_work move ≡ false → SaidBy w move e → is_of_job s e ≡ false
+no_work w (Works v job did) e s is told = absurd cc
+no_work w (IsAnswered v job answer) e s is told = absurd cc
+no_work w (Idles step) e s is told = (or_parts _ _ ((alone w (Idles step) e refl told).out 0 s)).1
+no_work w (Parks v job) e s is told = (or_parts _ _ ((alone w (Parks v job) e refl told).out 0 s)).1
+no_work w (Passes call) e s is plain = (or_parts _ _ (plain.out 0 s)).1
+no_work w (Delivers h owner number) e s is told = by_no_worker s e (ap is_some_worker told.1.party)
+no_work w (IsWoken n row) e s is told = by_no_worker s e (ap is_some_worker told.1.party)
+no_work w (IsStruck n row) e s is told = by_no_worker s e (ap is_some_worker told.1.party)
+no_work w _ e s is told = by_no_worker s e (ap is_some_worker told.party)

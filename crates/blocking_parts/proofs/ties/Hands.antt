@@ -2,17 +2,10 @@
 use Rattle.std.proofs.Common.{◌≡◌, ◌⊎◌, inl, inr, ℕ, ◌+◌, ◌==◌, List, length, Bool, true, false, sym, ap, ◌∙◌, subst, if◌then◌else◌}
 use Rattle.blocking_crew.specs.Crews.{Crew, hand_at, with_hand}
 use Rattle.blocking_crew.specs.Moves as crew
-use Rattle.blocking_crew.specs.declared.hand.Hand.{Hand}
-use Rattle.blocking_crew.specs.declared.hand.Hand.TheVariants.{Free, Holds}
-use Rattle.blocking_crew.specs.declared.hand.Held.{Held}
-use Rattle.blocking_crew.specs.declared.tickets.Parking.{Parking}
 use Rattle.blocking_crew.specs.declared.tickets.Parking.TheVariants as parking
 use Rattle.blocking_crew.proofs.hands.Rows.{IsAt, at_free, at_held, hand_set, hand_pushed}
-use Rattle.blocking_laws.specs.declared.event.Act.{Act}
-use Rattle.blocking_laws.specs.declared.event.Event.{Event}
-use Rattle.blocking_pool.specs.declared.pool.answer.Waited.{Waited}
-use Rattle.blocking_pool.specs.declared.pool.answer.Waited.TheVariants.{Stay, Stop}
 use Rattle.blocking_parts.specs.Ties.{GaveAs}
+use Rattle.blocking_parts.proofs.Types.{Hand, Free, Holds, Held, Parking, Act, Event, Waited, Stay, Stop}
 
 -- what holds only of a hand with a job that begins its turn
 abbrev Begins : Hand → Type 0
@@ -42,9 +35,8 @@ waited (Stay pass) = tt
 waited Stop = tt
 
 parked : (how : Parking) → Begins (crew.hand_after_park how)
-parked (parking.Parked pass) = tt
-parked (parking.Queued pass) = tt
 parked (parking.HandedOut turn) = λ acts. tt
+parked _ = tt
 
 -- whether by a call no job in a hand acts
 abbrev pub leaves_turns : crew.Call → Bool

@@ -4,13 +4,11 @@ use Rattle.std.specs.Prelude.{slice_get, slice_set}
 use Rattle.std.proofs.lemmas.Bool.{eq-eqb}
 use Rattle.blocking_crew.specs.Crews.{may_act}
 use Rattle.blocking_crew.specs.Ties.{turn_of}
-use Rattle.blocking_crew.specs.declared.hand.Stage.{Stage}
 use Rattle.blocking_crew.specs.declared.hand.Stage.TheVariants as stage
 use Rattle.blocking_lanes.specs.Calls as calls
 use Rattle.blocking_lanes.specs.OwnerSteps as owners
 use Rattle.blocking_lanes.specs.OwnerSteps.{OwnerStep}
 use Rattle.blocking_lanes.specs.Owners.{Owner}
-use Rattle.blocking_lanes.specs.declared.job.SessionJob.{SessionJob}
 use Rattle.blocking_lanes.specs.Steps as tasks
 use Rattle.blocking_lanes.specs.Steps.{TaskStep}
 use Rattle.blocking_lanes.specs.Tasks.{Task}
@@ -21,19 +19,11 @@ use Rattle.blocking_laws.specs.Jobs.{holder}
 use Rattle.blocking_laws.specs.Seen.{events, acts_of}
 use Rattle.blocking_laws.specs.Steps.{may_cancel, is_answered_action, next_in_turn}
 use Rattle.blocking_laws.specs.Turns.{GoesOn}
-use Rattle.blocking_laws.specs.declared.event.Act.{Act}
-use Rattle.blocking_laws.specs.declared.event.Act.TheVariants.{Answered, RoomFree, RoomShut, JobParked, Put, Lost, Peeked, Drained, Taken as TakenOut, JobClosed, ResultPut, Finished, GaveUp, HolderWoken}
-use Rattle.blocking_laws.specs.declared.event.Event.{Event}
-use Rattle.blocking_laws.specs.declared.event.Moment.{Moment}
-use Rattle.blocking_laws.specs.declared.event.Party.{Party}
-use Rattle.blocking_laws.specs.declared.step.Answer.{Answer}
-use Rattle.blocking_pool.specs.declared.pool.standing.Standing.TheVariants.{Running}
 use Rattle.blocking_parts.specs.Parts.{Parts, InHand, next_at, owner_by, owner_of, row_of}
 use Rattle.blocking_parts.specs.Rows.{Done, action_of, done, is_at_first, next_of, owner_in, call_done, call_step, call_after, session_done, session_seen, session_step, job_after}
 use Rattle.blocking_parts.specs.Ties.{PlaceAs, Tied}
-use Rattle.blocking_parts.specs.declared.row.Core.{Core}
 use Rattle.blocking_parts.specs.declared.row.Core.TheVariants as core
-use Rattle.blocking_parts.specs.declared.row.Row.{Row}
+use Rattle.blocking_parts.proofs.Types.{Stage, SessionJob, Act, Answered, RoomFree, RoomShut, JobParked, Put, Lost, Peeked, Drained, TakenOut, JobClosed, ResultPut, Finished, GaveUp, HolderWoken, Event, Moment, Party, Answer, Running, Core, Row}
 use Rattle.blocking_parts.proofs.moves.Lookups.{row_set}
 use Rattle.blocking_parts.proofs.past.Drops.{must_drop}
 use Rattle.blocking_parts.proofs.ties.Jobs.{IsHere, job_place, next_here}

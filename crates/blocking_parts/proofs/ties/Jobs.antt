@@ -5,9 +5,6 @@ use Rattle.std.proofs.lemmas.Bool.Decides.{nat_tests}
 use Rattle.std.proofs.lemmas.Option.{slice_get_within}
 use Rattle.blocking_crew.specs.Crews.{hand_at}
 use Rattle.blocking_crew.specs.Ties.{IsNumberOf, turn_of}
-use Rattle.blocking_crew.specs.declared.hand.Hand.{Hand}
-use Rattle.blocking_crew.specs.declared.hand.Hand.TheVariants.{Out, Free, Holds}
-use Rattle.blocking_crew.specs.declared.hand.Held.{Held}
 use Rattle.blocking_crew.proofs.ties.Standings.{fresh, accepted_in, known_is, held_runs}
 use Rattle.blocking_lanes.specs.OwnerTies.{OwnerAs}
 use Rattle.blocking_lanes.specs.Owners.{Owner, number_of}
@@ -15,15 +12,11 @@ use Rattle.blocking_lanes.specs.Tasks.{Task}
 use Rattle.blocking_lanes.specs.Ties.{TaskAs}
 use Rattle.blocking_laws.specs.Jobs.{holder, standing}
 use Rattle.blocking_laws.specs.Seen.{events, acts_of, cut, task_cut}
-use Rattle.blocking_laws.specs.declared.event.Moment.{Moment}
-use Rattle.blocking_laws.specs.declared.event.Party.{Party}
-use Rattle.blocking_laws.specs.declared.event.Party.TheVariants.{Owner as ByOwner, Task as ByTask}
 use Rattle.blocking_pool.specs.Jobs.{JobNumber}
-use Rattle.blocking_pool.specs.declared.pool.standing.Standing.TheVariants.{Running}
 use Rattle.blocking_parts.specs.Parts.{Parts, InHand, next_at, next_in, row_of, job_at, job_in, job_with}
 use Rattle.blocking_parts.specs.Rows.{party_of, is_at_first, next_of}
 use Rattle.blocking_parts.specs.Ties.{Tied, PlaceAs}
-use Rattle.blocking_parts.specs.declared.row.Row.{Row}
+use Rattle.blocking_parts.proofs.Types.{Hand, Out, Free, Holds, Held, Moment, Party, ByOwner, ByTask, Running, Row}
 use Rattle.blocking_parts.proofs.moves.Lookups.{there, row_found, row_at}
 use Rattle.blocking_parts.proofs.past.Holders.{holder_known}
 

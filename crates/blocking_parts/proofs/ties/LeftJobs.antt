@@ -1,15 +1,11 @@
 -- Each move keeps that a job which is left to its owner is met there: one that was left before still is, and one that parks now is seated.
 use Rattle.std.proofs.Common.{◌≡◌, ◌⊎◌, inl, inr, ℕ, ◌<◌, List, [], ◌∷◌, ◌++◌, length, Bool, true, false, refl, sym, ap, ◌∙◌, subst, arith, Option, Some, None}
-use Rattle.std.specs.Prelude.{◌||◌, slice_get, slice_set, is_some, is_none, Ok, Err}
+use Rattle.std.specs.Prelude.{slice_get, slice_set, is_some, is_none, Ok, Err}
 use Rattle.std.proofs.lemmas.Bool.{eqb-true, eq-eqb}
 use Rattle.std.proofs.lemmas.Option.{slice_get_within}
 use Rattle.blocking_core.specs.declared.unblock.OwnerAction.TheVariants as action
-use Rattle.blocking_crew.specs.Moves.{parked_act}
 use Rattle.blocking_crew.specs.Ties.{CrewHolds, turn_of}
-use Rattle.blocking_crew.specs.declared.hand.Stage.{Stage}
 use Rattle.blocking_crew.specs.declared.hand.Stage.TheVariants as stage
-use Rattle.blocking_crew.specs.declared.tickets.Parking.{Parking}
-use Rattle.blocking_crew.specs.declared.tickets.Parking.TheVariants as parking
 use Rattle.blocking_lanes.specs.OwnerSteps as owners
 use Rattle.blocking_lanes.specs.OwnerSteps.{OwnerStep}
 use Rattle.blocking_lanes.specs.OwnerTies.{OwnerAs, LastAs, ResultAs, state_as}
@@ -17,9 +13,7 @@ use Rattle.blocking_lanes.specs.Owners.{Owner, Worked, capacity_of, next_at, nex
 use Rattle.blocking_lanes.specs.SessionJobs as jobs
 use Rattle.blocking_lanes.specs.SessionJobs.{JobAs}
 use Rattle.blocking_lanes.specs.Sessions.{Session}
-use Rattle.blocking_lanes.specs.declared.job.SessionJob.{SessionJob}
 use Rattle.blocking_lanes.specs.declared.owner.OwnerNext.TheVariants as next
-use Rattle.blocking_lanes.specs.declared.owner.OwnerStage.{OwnerStage}
 use Rattle.blocking_lanes.specs.declared.owner.OwnerStage.TheVariants as owner_stage
 use Rattle.blocking_pool.proofs.Places.{got_same, in_pushed}
 use Rattle.blocking_lanes.proofs.owners.Cuts.{its_kind, kind_is}
@@ -32,26 +26,18 @@ use Rattle.blocking_laws.specs.JobTable.{Kind, next_but_wake, is_over, fault, ha
 use Rattle.blocking_laws.specs.Jobs.{holder, standing, is_woken}
 use Rattle.blocking_laws.specs.Legal.{PoolLaw}
 use Rattle.blocking_laws.specs.OwnerSeats.{is_job_seated}
-use Rattle.blocking_laws.specs.Seen.{EachMayFollow, events, acts_of, cut, own, is_by_task, is_nothing, is_of_job, is_of_pool, is_some_worker}
+use Rattle.blocking_laws.specs.Seen.{EachMayFollow, events, acts_of, cut, own, is_nothing, is_of_job, is_of_pool}
 use Rattle.blocking_laws.specs.Sessions as sessions
 use Rattle.blocking_laws.specs.Sessions.{kind_of_job}
 use Rattle.blocking_laws.specs.Steps.{kind_by}
 use Rattle.blocking_laws.specs.Turns.{turn}
-use Rattle.blocking_laws.specs.declared.step.HandleCall.{HandleCall}
-use Rattle.blocking_laws.specs.declared.event.Act.{Act}
-use Rattle.blocking_laws.specs.declared.event.Act.TheVariants.{JobParked, JobWoken}
-use Rattle.blocking_laws.specs.declared.event.Event.{Event}
-use Rattle.blocking_laws.specs.declared.event.Moment.{Moment}
-use Rattle.blocking_laws.specs.declared.event.Party.{Party}
-use Rattle.blocking_laws.specs.declared.event.Party.TheVariants.{Owner as ByOwner}
 use Rattle.blocking_laws.proofs.Beginnings.{keeps}
-use Rattle.blocking_pool.specs.declared.pool.standing.Standing.TheVariants.{Running}
-use Rattle.blocking_parts.specs.Moves.{Move, Idles, Makes, Asks, Owns, Lends, Delivers, IsDropped, Begins, Calls, Works, IsAnswered, Parks, Passes, IsWoken, IsStruck, May, CrewMoves, step_of, owners_after}
+use Rattle.blocking_parts.specs.Moves.{Move, Makes, Asks, Owns, Lends, Delivers, IsDropped, Works, IsAnswered, May, CrewMoves, step_of, owners_after}
 use Rattle.blocking_parts.specs.Parts.{Parts, InHand, done_by}
 use Rattle.blocking_parts.specs.Rows.{Done, done, is_at_first, is_first, kind_of, party_of, session_step}
 use Rattle.blocking_parts.specs.Ties.{Crossed, CoreAs, IsMet, PlaceAs, Tied, is_left, is_number, moment, seated_in}
-use Rattle.blocking_parts.specs.declared.row.Core.{Core}
 use Rattle.blocking_parts.specs.declared.row.Core.TheVariants as core
+use Rattle.blocking_parts.proofs.Types.{Stage, SessionJob, OwnerStage, HandleCall, Act, JobParked, JobWoken, Event, Moment, Party, ByOwner, Running, Core}
 use Rattle.blocking_parts.proofs.moves.Lookups.{in_set, one_found}
 use Rattle.blocking_parts.proofs.moves.Seats.{SeatAs, asked_met, delivered_met, did_met, dropped_met, gave_up_met, refused_met, worked_met, worked_parks}
 use Rattle.blocking_parts.proofs.moves.SessionActs.{first_where_parked}
@@ -60,8 +46,8 @@ use Rattle.blocking_parts.proofs.ties.JobSteps.{call_acts, session_acts}
 use Rattle.blocking_parts.proofs.ties.Jobs.{IsHere, held_row, holder_stands, job_here, job_place}
 use Rattle.blocking_parts.proofs.ties.Releases.{owner_there}
 use Rattle.blocking_parts.proofs.ties.Owners.{first_goes}
-use Rattle.blocking_parts.proofs.ties.Events.{SaidBy, said}
-use Rattle.blocking_parts.proofs.ties.CrewEvents.{by_no_worker, by_worker}
+use Rattle.blocking_parts.proofs.ties.Events.{SaidBy, no_work, said}
+use Rattle.blocking_parts.proofs.ties.CrewEvents.{by_worker}
 
 -- ---- the last session
 
@@ -116,8 +102,7 @@ step_met stage.Runs job step owner s seated is seat met =
     by (Some did) does = worked_met job owner did s seated does seat met
 step_met stage.MustGiveUp job step owner s seated is seat met = subst (λ (x : OwnerStep). IsMet (owners.owner_after x owner) s) (ap (value_of step) is) (gave_up_met owner s met)
 step_met stage.MustWake job step owner s seated is seat met = subst (λ (x : OwnerStep). IsMet (owners.owner_after x owner) s) (ap (value_of step) is) met
-step_met stage.Waits job step owner s seated is seat met = absurd cc
-step_met stage.GaveUp job step owner s seated is seat met = absurd cc
+step_met _ job step owner s seated is seat met = absurd cc
 
 -- A job parks while its turn goes on, at its first action, and is seated.
 record ParksSo (at : Stage) (job : SessionJob) (step : OwnerStep) (owner : Owner) : Type 0 where
@@ -147,8 +132,7 @@ parks_so stage.MustWake job step owner act is does parks =
     let same = ap (value_of step) is in
     let woken : owners.act_of owners.CallsWaker owner ≡ owners.act_of step owner = ap (λ (x : OwnerStep). owners.act_of x owner) same in
     absurd cc
-parks_so stage.Waits job step owner act is does parks = absurd cc
-parks_so stage.GaveUp job step owner act is does parks = absurd cc
+parks_so _ job step owner act is does parks = absurd cc
 
 -- ---- a job that was left before
 
@@ -177,10 +161,7 @@ module _ (setting : ℕ) (plan : List Bool) (w : Parts) (past : List Moment) (t 
       let l = is_its_last h s owner found held goes in
       let lent = still_lent l.session (capacity_of owner) X (subst (λ o. LastAs o (capacity_of owner) X) l.here tie.last) (subst (λ n. is_over (next_but_wake (kind_of_job n (own X)) (acts_of n X)) ≡ false) l.same goes) in
       let back = idle_back (sessions.session (own X)) (sessions.is_shut (own X)) (begins_idle owner.capacity owner.asked owner.stage owner.session X tie begins) in
-      never (is_none (sessions.session (own X))) lent back
-    where
-      never : (b : Bool) → b ≡ false → b ≡ true → ⊥
-      never b none some = cc
+      let bad : true ≡ false = sym back ∙ lent in cc
 
   module _ (h s : ℕ) (held : holder past s ≡ Some (ByOwner h)) (left : is_left past s ≡ true) where
     -- the owner of that job, in these owners, meets it
@@ -227,7 +208,6 @@ module _ (setting : ℕ) (plan : List Bool) (w : Parts) (past : List Moment) (t 
     -- after each move
     move_met : (move : Move) (e : Event) (new : Parts) → May w move → SaidBy w move e → EachMayFollow (PoolLaw setting plan) (moment new (step_of move) e ∷ past) → is_left (moment new (step_of move) e ∷ past) s ≡ true
         → MetIn (owners_after w move)
-    move_met (Idles step) e new may told laws later = still
     move_met (Makes capacity) e new may told laws later = pushed_met (new_owner capacity)
     move_met (Asks g call owner) e new may told laws later = set_met g owner _ may.0 (λ same met. asked_met call owner s met)
     move_met (Owns g owner did) e new may told laws later = set_met g owner did.owner may.0 (λ same met. did_met owner s did may.1 met)
@@ -242,14 +222,8 @@ module _ (setting : ℕ) (plan : List Bool) (w : Parts) (past : List Moment) (t 
             let same : number.serial ≡ s = eqb-true number.serial s (ap (λ o. is_number o s) (sym may.1) ∙ noted) in
             left_unwoken setting plan past (moment new (step_of (Delivers g owner number)) e) laws s later told.0 (told.1.act_is ∙ ap (λ n. JobWoken n told.0) same)
     move_met (IsDropped g owner) e new may told laws later = set_met g owner _ may.0 (λ same met. dropped_met owner s may.1 met)
-    move_met (Begins added) e new may told laws later = still
-    move_met (Calls k call task) e new may told laws later = still
     move_met (Works v job did) e new may told laws later = acts_met v job did may.1
-    move_met (IsAnswered v job answer) e new may told laws later = still
-    move_met (Parks v job) e new may told laws later = still
-    move_met (Passes call) e new may told laws later = still
-    move_met (IsWoken n row) e new may told laws later = still
-    move_met (IsStruck n row) e new may told laws later = still
+    move_met _ e new may told laws later = still
 
   -- ---- a job that parks now
 
@@ -280,21 +254,8 @@ module _ (setting : ℕ) (plan : List Bool) (w : Parts) (past : List Moment) (t 
           let one = one_found (slice_get (slice_set w.owners g (owners.owner_after a.step a.owner)) g) (owners.owner_after a.step a.owner) owner now there in
           subst (λ (o : Owner). IsMet o s) one (inl (ap (λ o. is_number o s) seat ∙ eq-eqb l.session.number.serial s (sym l.same)))
 
-  -- what no worker did parks no job
-  none_parks : (s : ℕ) (e : Event) → is_some_worker e.party ≡ false → is_of_job s e ≡ true → ⊥
-  none_parks s e none its = absurd (let other = by_no_worker s e none in cc)
-
   move_parks : (move : Move) (e : Event) (new : Parts) (h s : ℕ) (owner : Owner) → May w move → SaidBy w move e → EachMayFollow (PoolLaw setting plan) (moment new (step_of move) e ∷ past) → e.act ≡ JobParked → is_of_job s e ≡ true
       → holder (moment new (step_of move) e ∷ past) s ≡ Some (ByOwner h) → slice_get (owners_after w move) h ≡ Some owner → IsMet owner s
-  move_parks (Idles step) e new h s owner may told laws parks its held found = absurd (let other = told.act_is in cc)
-  move_parks (Makes capacity) e new h s owner may told laws parks its held found = absurd (none_parks s e (ap is_some_worker told.party) its)
-  move_parks (Asks g call old) e new h s owner may told laws parks its held found = absurd (none_parks s e (ap is_some_worker told.party) its)
-  move_parks (Owns g old did) e new h s owner may told laws parks its held found = absurd (none_parks s e (ap is_some_worker told.party) its)
-  move_parks (Lends g old added) e new h s owner may told laws parks its held found = absurd (none_parks s e (ap is_some_worker told.party) its)
-  move_parks (Delivers g old number) e new h s owner may told laws parks its held found = absurd (none_parks s e (ap is_some_worker told.1.party) its)
-  move_parks (IsDropped g old) e new h s owner may told laws parks its held found = absurd (none_parks s e (ap is_some_worker told.party) its)
-  move_parks (Begins added) e new h s owner may told laws parks its held found = absurd (none_parks s e (ap is_some_worker told.party) its)
-  move_parks (Calls k call task) e new h s owner may told laws parks its held found = absurd (none_parks s e (ap is_some_worker told.party) its)
   move_parks (Works v job did) e new h s owner may told laws parks its held found =
       let n = job.held.turn.serial in
       let here = job_here w v job may.0 in
@@ -304,19 +265,7 @@ module _ (setting : ℕ) (plan : List Bool) (w : Parts) (past : List Moment) (t 
       sym (keeps setting plan past _ laws n (party_of job.row.core) (t.rowed.each n job.row here.has_row).held_by) ∙ ap (holder (moment new (step_of (Works v job did)) e ∷ past)) same ∙ held in
       subst (IsMet owner) same (job_parks v job did h owner here may.1 act (ap (value_of (ByOwner h)) mine) found)
   move_parks (IsAnswered v job answer) e new h s owner may told laws parks its held found = absurd (let other = told.act_is in cc)
-  move_parks (Parks v job) e new h s owner may told laws parks its held found = absurd (by told.0 (sym told.1.act_is ∙ parks))
-    where
-      by : (how : Parking) → parked_act how job.held.turn.serial ≡ JobParked → ⊥
-      by (parking.Parked pass) is = cc
-      by (parking.Queued pass) is = cc
-      by (parking.HandedOut turn) is = cc
-  move_parks (Passes call) e new h s owner may told laws parks its held found = absurd (second (is_by_task 0 e) (is_of_job s e) (told.out 0 s) its)
-    where
-      second : (a b : Bool) → a || b ≡ false → b ≡ true → ⊥
-      second true b none is = cc
-      second false b none is = cc
-  move_parks (IsWoken n row) e new h s owner may told laws parks its held found = absurd (none_parks s e (ap is_some_worker told.1.party) its)
-  move_parks (IsStruck n row) e new h s owner may told laws parks its held found = absurd (none_parks s e (ap is_some_worker told.1.party) its)
+  move_parks move e new h s owner may told laws parks its held found = absurd (let other = no_work w move e s refl told in cc)
 
   -- ---- all of them
 

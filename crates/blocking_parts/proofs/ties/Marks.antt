@@ -1,18 +1,15 @@
 -- Each move keeps the marks: only a job that was let go is marked or cancelled, and one that was let go and isn't over is marked.
 use Rattle.std.proofs.Common.{◌≡◌, ℕ, ◌≤◌, List, [], ◌∷◌, length, Bool, true, false, refl, sym, ap, ◌∙◌, subst, arith, Option, Some}
-use Rattle.std.specs.Prelude.{slice_get, Ok, Err}
+use Rattle.std.specs.Prelude.{slice_get, Ok}
 use Rattle.std.proofs.lemmas.Bool.{eqb-true}
 use Rattle.blocking_crew.specs.Crews.{may_act}
 use Rattle.blocking_crew.specs.Moves.{parked_act}
 use Rattle.blocking_crew.specs.Ties.{CrewHolds}
-use Rattle.blocking_crew.specs.declared.hand.Stage.{Stage}
-use Rattle.blocking_crew.specs.declared.tickets.Parking.{Parking}
 use Rattle.blocking_crew.specs.declared.tickets.Parking.TheVariants as parking
 use Rattle.blocking_crew.proofs.ties.Acts.{aside_plain, by_work}
 use Rattle.blocking_lanes.specs.Owners.{Owner, Did, IsDid, did, is_gone, next_at}
 use Rattle.blocking_lanes.specs.Sessions.{Session}
 use Rattle.blocking_lanes.specs.declared.owner.OwnerNext.TheVariants as next
-use Rattle.blocking_lanes.specs.declared.owner.OwnerStage.{OwnerStage}
 use Rattle.blocking_lanes.specs.declared.owner.OwnerStage.TheVariants as stage
 use Rattle.blocking_lanes.specs.Tasks.{Task, task_act}
 use Rattle.blocking_lanes.proofs.acts.Calls.{by_call}
@@ -22,18 +19,10 @@ use Rattle.blocking_laws.specs.Jobs.{accepted_by, accepts, cancels, holder, lets
 use Rattle.blocking_laws.specs.Seen.{events, own}
 use Rattle.blocking_laws.specs.Steps.{may_cancel}
 use Rattle.blocking_laws.specs.TaskLaws.{is_let_go}
-use Rattle.blocking_laws.specs.declared.event.Act.{Act}
-use Rattle.blocking_laws.specs.declared.event.Act.TheVariants.{Accepted, JobCancelled, HolderDropped}
-use Rattle.blocking_laws.specs.declared.event.Event.{Event}
-use Rattle.blocking_laws.specs.declared.event.Moment.{Moment}
-use Rattle.blocking_laws.specs.declared.event.Party.TheVariants.{Owner as ByOwner, Task as ByTask}
-use Rattle.blocking_laws.specs.declared.step.TaskCall.{TaskCall}
-use Rattle.blocking_pool.specs.declared.pool.answer.Woke.{Woke}
-use Rattle.blocking_pool.specs.declared.pool.answer.Woke.TheVariants.{Entered, Marked as MarkedBy, Nothing}
-use Rattle.blocking_parts.specs.Moves.{Move, Idles, Makes, Asks, Owns, Lends, Delivers, IsDropped, Begins, Calls, Works, IsAnswered, Parks, Passes, IsWoken, IsStruck, May, CrewMoves, step_of}
+use Rattle.blocking_parts.specs.Moves.{Move, Owns, Lends, Delivers, IsDropped, Begins, Calls, Works, Parks, Passes, IsWoken, IsStruck, May, CrewMoves, step_of}
 use Rattle.blocking_parts.specs.Parts.{Parts, row_of, let_go_of}
 use Rattle.blocking_parts.specs.Ties.{Tied, Marked, moment}
-use Rattle.blocking_parts.specs.declared.row.Row.{Row}
+use Rattle.blocking_parts.proofs.Types.{Stage, Parking, OwnerStage, Act, Accepted, JobCancelled, HolderDropped, Event, Moment, ByOwner, ByTask, TaskCall, Woke, Entered, MarkedBy, Nothing, Row}
 use Rattle.blocking_parts.proofs.moves.Asides.{told_aside}
 use Rattle.blocking_parts.proofs.past.Marks.{KeepsMarks, IsQuiet, quiet_keeps, plain_quiet, marks_kept}
 use Rattle.blocking_parts.proofs.ties.Jobs.{next_free}
@@ -58,8 +47,7 @@ own_quiet owner done is =
 -- the end of a run that waits
 parked_quiet : (how : Parking) (s : ℕ) → IsQuiet (parked_act how s)
 parked_quiet (parking.Parked pass) s = record { new = λ s. refl; cancelled = λ s. refl; kept = refl }
-parked_quiet (parking.Queued pass) s = record { new = λ s. refl; cancelled = λ s. refl; kept = refl }
-parked_quiet (parking.HandedOut turn) s = record { new = λ s. refl; cancelled = λ s. refl; kept = refl }
+parked_quiet _ s = record { new = λ s. refl; cancelled = λ s. refl; kept = refl }
 
 -- an event of the crew alone
 none_new : (act : Act) (s : ℕ) → accepted_by act ≡ [] → accepts s act ≡ false
@@ -136,24 +124,19 @@ module _ (setting : ℕ) (plan : List Bool) (w : Parts) (past : List Moment) (t 
   -- ---- each move
 
   keeps_marks : (move : Move) (e : Event) (new : Parts) → May w move → SaidBy w move e → KeepsMarks past (moment new (step_of move) e)
-  keeps_marks (Idles step) e new may told = told_quiet _ _ told.act_is (plain_quiet _ refl)
-  keeps_marks (Makes capacity) e new may told = told_quiet _ _ told.act_is (plain_quiet _ refl)
-  keeps_marks (Asks h call owner) e new may told = told_quiet _ _ told.act_is (plain_quiet _ refl)
   keeps_marks (Owns h owner done) e new may told = told_quiet _ done.act told.act_is (own_quiet owner done may.1)
   keeps_marks (Lends h owner (Ok number)) e new may told =
       new_keeps _ number.serial told.act_is (ap (λ p. may_cancel (Some (newcomer past p)) past) told.party ∙ owner_is_there h owner may.0 may.1)
-  keeps_marks (Lends h owner (Err why)) e new may told = told_quiet _ _ told.act_is (record { new = λ s. refl; cancelled = λ s. refl; kept = refl })
   keeps_marks (Delivers h owner number) e new may told = told_quiet _ _ told.1.act_is (record { new = λ s. refl; cancelled = λ s. refl; kept = refl })
   keeps_marks (IsDropped h owner) e new may told = drop_keeps _ told.act_is
   keeps_marks (Begins (Ok number)) e new may told = new_keeps _ number.serial told.act_is (ap (λ p. may_cancel (Some (newcomer past p)) past) told.party ∙ task_is_new)
-  keeps_marks (Begins (Err why)) e new may told = told_quiet _ _ told.act_is (record { new = λ s. refl; cancelled = λ s. refl; kept = refl })
   keeps_marks (Calls k call task) e new may told = call_keeps _ k call task told.party told.act_is
   keeps_marks (Works v job done) e new may told = told_quiet _ done.act told.act_is (work_quiet job.held.stage done.act (done_fits done job.held.stage job.row.core w.tasks w.owners may.1))
-  keeps_marks (IsAnswered v job answer) e new may told = told_quiet _ _ told.act_is (plain_quiet _ refl)
   keeps_marks (Parks v job) e new may told = told_quiet _ _ told.1.act_is (parked_quiet told.0 job.held.turn.serial)
   keeps_marks (Passes call) e new may plain = quiet_keeps past _ (pass_quiet e plain)
   keeps_marks (IsWoken s row) e new may told = told_quiet _ _ told.1.act_is (record { new = λ n. refl; cancelled = λ n. refl; kept = refl })
   keeps_marks (IsStruck s row) e new may told = struck_keeps _ s row told.0 may.0 may.1 told.1.act_is
+  keeps_marks _ e new may told = told_quiet _ _ told.act_is (record { new = λ s. refl; cancelled = λ s. refl; kept = refl })
 
   -- A move keeps the marks.
   pub marks_after : (move : Move) (e : Event) (new : Parts) → May w move → CrewMoves (IsPlanned plan) move w e new → CrewHolds setting plan new.crew (moment new (step_of move) e ∷ past) → Marked (moment new (step_of move) e ∷ past)

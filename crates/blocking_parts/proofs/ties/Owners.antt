@@ -1,21 +1,17 @@
 -- Each move keeps the tie of the owners, and their laws: it is an event of none, makes a new one, or is a step of one.
-use Rattle.std.proofs.Common.{◌≡◌, ℕ, ◌==◌, ◌-◌, List, [], ◌∷◌, length, Bool, true, false, refl, sym, ap, ◌∙◌, subst, Option, Some, None}
-use Rattle.std.specs.Prelude.{◌&&◌, ◌||◌, not, slice_get, slice_set, Result, Ok, Err}
-use Rattle.std.proofs.lemmas.Bool.{eqb-true}
+use Rattle.std.proofs.Common.{◌≡◌, ℕ, ◌==◌, ◌-◌, List, [], ◌∷◌, length, Bool, true, false, refl, sym, ap, ◌∙◌, subst, Some, None}
+use Rattle.std.specs.Prelude.{◌&&◌, not, slice_get, slice_set, Result, Ok, Err}
+use Rattle.std.proofs.lemmas.Bool.{eqb-true, or_parts}
 use Rattle.blocking_crew.specs.Moves as crew
-use Rattle.blocking_crew.specs.Moves.{added_act, parked_act}
+use Rattle.blocking_crew.specs.Moves.{added_act}
 use Rattle.blocking_crew.specs.Ties.{turn_of}
-use Rattle.blocking_crew.specs.declared.hand.Stage.{Stage}
 use Rattle.blocking_crew.specs.declared.hand.Stage.TheVariants as stage
-use Rattle.blocking_crew.specs.declared.tickets.Parking.{Parking}
-use Rattle.blocking_crew.specs.declared.tickets.Parking.TheVariants as parking
 use Rattle.blocking_lanes.specs.OwnerSteps.{OwnerStep, IsAside, IsHeld, IsFresh, MayTake, is_of_its_job, act_of, act_in, owner_in, delivered, owner_after, event_by}
 use Rattle.blocking_lanes.specs.OwnerSteps as lanes
 use Rattle.blocking_lanes.specs.OwnerTies.{OwnersHold}
 use Rattle.blocking_lanes.specs.Owners.{Owner, is_gone}
 use Rattle.blocking_lanes.specs.SessionJobs as jobs
 use Rattle.blocking_lanes.specs.SessionJobs.{JobAs}
-use Rattle.blocking_lanes.specs.declared.job.SessionJob.{SessionJob}
 use Rattle.blocking_lanes.specs.Tasks.{Task, task_act}
 use Rattle.blocking_pool.proofs.Places.{set_same}
 use Rattle.blocking_lanes.proofs.acts.Calls.{by_call}
@@ -29,34 +25,23 @@ use Rattle.blocking_laws.specs.JobTable.{Kind, JobAction, Over, AskCall, AskByte
 use Rattle.blocking_laws.specs.Jobs.{accepted_by, accepts, holder}
 use Rattle.blocking_laws.specs.OwnerLaws.{OwnerLaws}
 use Rattle.blocking_laws.specs.Seen.{events, acts_of, own, cut, is_in_cut, is_of_pool, is_nothing, is_some_worker, is_of_job, is_by_task}
-use Rattle.blocking_laws.specs.Steps.{kind_by, may_cancel, is_answered_action, is_making, named, next_in_turn}
+use Rattle.blocking_laws.specs.Steps.{kind_by, may_cancel, is_answered_action, is_making, next_in_turn}
 use Rattle.blocking_laws.specs.Sessions.{kind_of_job}
 use Rattle.blocking_laws.specs.Turns.{GoesOn}
-use Rattle.blocking_laws.specs.declared.event.Act.{Act}
-use Rattle.blocking_laws.specs.declared.event.Act.TheVariants.{Made, Asked, Accepted, Refused, JobWoken, HolderDropped, Answered, NoAction}
-use Rattle.blocking_laws.specs.declared.event.Event.{Event}
-use Rattle.blocking_laws.specs.declared.event.Moment.{Moment}
-use Rattle.blocking_laws.specs.declared.event.Party.{Party}
-use Rattle.blocking_laws.specs.declared.event.Party.TheVariants.{Owner as ByOwner, Task as ByTask, Worker, Pool}
-use Rattle.blocking_laws.specs.declared.step.Answer.{Answer}
-use Rattle.blocking_laws.specs.declared.step.Step.{Step}
-use Rattle.blocking_laws.specs.declared.step.TaskCall.{TaskCall}
 use Rattle.blocking_pool.specs.Growth.{Growth}
 use Rattle.blocking_pool.specs.Jobs.{JobNumber}
-use Rattle.blocking_pool.specs.declared.pool.answer.Refusal.{Refusal}
-use Rattle.blocking_pool.specs.declared.pool.standing.Standing.TheVariants.{Running}
-use Rattle.blocking_parts.specs.Moves.{Move, Idles, Makes, Asks, Owns, Lends, Delivers, IsDropped, Begins, Calls, Works, IsAnswered, Parks, Passes, IsWoken, IsStruck, May, CrewMoves, step_of, rows_after, owners_after}
+use Rattle.blocking_parts.specs.Moves.{Move, Makes, Asks, Owns, Lends, Delivers, IsDropped, Begins, Calls, Works, IsAnswered, May, CrewMoves, step_of, rows_after, owners_after}
 use Rattle.blocking_parts.specs.Parts.{Parts, InHand, done_by, owner_of, next_at}
 use Rattle.blocking_parts.specs.Rows as row
 use Rattle.blocking_parts.specs.Rows.{Done, done, session_step, core_after_answer, is_at_first, is_first, party_of}
 use Rattle.blocking_parts.specs.Ties.{CoreAs, GaveAs, PlaceAs, Tied, moment}
-use Rattle.blocking_parts.specs.declared.row.Core.{Core}
 use Rattle.blocking_parts.specs.declared.row.Core.TheVariants as core
+use Rattle.blocking_parts.proofs.Types.{Stage, SessionJob, Act, Made, Asked, Accepted, Refused, JobWoken, HolderDropped, Answered, Event, Moment, ByOwner, ByTask, Worker, Pool, Answer, Step, TaskCall, Refusal, Running, Core}
 use Rattle.blocking_parts.proofs.ties.JobSteps.{call_acts, session_acts, may_plain, seen_in, seen_is, its_owner, let_go_here, asks_here}
 use Rattle.blocking_parts.proofs.ties.Jobs.{IsHere, job_here, job_place, next_free}
-use Rattle.blocking_parts.proofs.ties.Events.{SaidBy, done_fits, said}
+use Rattle.blocking_parts.proofs.ties.Events.{SaidBy, alone, done_fits, said}
 use Rattle.blocking_parts.proofs.ties.Releases.{owner_there}
-use Rattle.blocking_parts.proofs.ties.CrewEvents.{Told, added_of, by_no_worker, by_worker}
+use Rattle.blocking_parts.proofs.ties.CrewEvents.{Told, IsAlone, added_of, by_no_worker, by_worker}
 
 -- ---- what the job of a session may do
 
@@ -76,16 +61,14 @@ session_may stage.Runs job step owner kind acts of is gone so place gave = subst
 session_may stage.MustGiveUp job step owner kind acts of is gone so place gave =
     subst (λ s. MayTake s owner kind acts) (ap (value_of step) is) (gone refl, ap (λ k. is_over (next_but_wake k acts)) of ∙ first_goes job acts (so place.1) place.0)
 session_may stage.MustWake job step owner kind acts of is gone so place gave = subst (λ s. MayTake s owner kind acts) (ap (value_of step) is) (gave kind).0
-session_may stage.Waits job step owner kind acts of is gone so place gave = absurd cc
-session_may stage.GaveUp job step owner kind acts of is gone so place gave = absurd cc
+session_may _ job step owner kind acts of is gone so place gave = absurd cc
 
 -- that is an act of the owner's job
 its_act : (at : Stage) (job : SessionJob) (step : OwnerStep) → session_step at job ≡ Some step → is_of_its_job step ≡ true
 its_act stage.Runs job step is = ap is_of_its_job (sym (ap (value_of step) is))
 its_act stage.MustGiveUp job step is = ap is_of_its_job (sym (ap (value_of step) is))
 its_act stage.MustWake job step is = ap is_of_its_job (sym (ap (value_of step) is))
-its_act stage.Waits job step is = absurd cc
-its_act stage.GaveUp job step is = absurd cc
+its_act _ job step is = absurd cc
 
 -- no session begins by it
 its_fresh : (past : List Moment) (step : OwnerStep) → is_of_its_job step ≡ true → IsFresh step past
@@ -105,29 +88,21 @@ answer_of _ answer is = absurd cc
 
 -- ---- what is seen where no owner takes a step
 
-or_right_false : (a b : Bool) → a || b ≡ false → b ≡ false
-or_right_false true b is = absurd cc
-or_right_false false b is = is
-
-never : (b : Bool) → b ≡ false → b ≡ true → ⊥
-never b none some = cc
-
 none_in : (a b : Bool) → (a && b && false) ≡ false
 none_in true true = refl
 none_in true false = refl
 none_in false b = refl
 
 module _ (past : List Moment) (new : Parts) (e : Event) where
-  abbrev seen : Party → Option ℕ → Option ℕ → Act → Event
-  seen who owner job act = record { party = who; owner = owner; job = job; act = act; first = e.first; started = e.started; start_refused = e.start_refused }
-
-  nothing_aside : (who : Party) → Told who None NoAction e → IsAside past (seen_in new e)
-  nothing_aside who told = subst (IsAside past) (sym (seen_is new who None None NoAction e told refl))
-      (record { out = λ h. refl; none_made = refl; of_task = λ s its. absurd cc; new = λ s new. absurd cc; not_theirs = λ h s new by. absurd cc })
-
-  -- an act of the pool that accepts no job
-  pool_aside : (act : Act) → Told Pool None act e → IsAside past (seen Pool None None act) → IsAside past (seen_in new e)
-  pool_aside act told is = subst (IsAside past) (sym (seen_is new Pool None None act e told refl)) is
+  -- what is nothing to any owner
+  alone_aside : IsAlone e → IsAside past (seen_in new e)
+  alone_aside none = record {
+    out = λ h. none.uncut h new.rows;
+    none_made = none.none_made;
+    of_task = λ s its. absurd (let out = (or_parts (is_by_task 0 e) (is_of_job s e) (none.out 0 s)).1 in cc);
+    new = λ s new. absurd (let not_new = accepts_no_job e.act s none.none_new in cc);
+    not_theirs = λ h s new by. absurd (let not_new = accepts_no_job e.act s none.none_new in cc);
+  }
 
   -- a call of a task
   call_aside : (k : ℕ) (call : TaskCall) (task : Task) → Told (ByTask k) None (task_act call task) e → IsAside past (seen_in new e)
@@ -150,15 +125,6 @@ module _ (past : List Moment) (new : Parts) (e : Event) where
     new = λ t new. absurd (let none = accepts_no_job e.act t (ap accepted_by told.act_is ∙ plain.new) in cc);
     not_theirs = λ h t new by. absurd (let other = sym told.party ∙ by in cc);
   }
-
-  -- the end of a run
-  park_aside : (how : Parking) (v s : ℕ) → Told (Worker v) (Some s) (parked_act how s) e → IsAside past (seen_in new e)
-  park_aside how v s told = subst (IsAside past) (sym (seen_is new (Worker v) (Some s) _ _ e told refl)) (by how)
-    where
-      by : (how : Parking) → IsAside past (seen (Worker v) (owner_of new.rows (Some s)) (Some s) (parked_act how s))
-      by (parking.Parked pass) = record { out = λ h. refl; none_made = refl; of_task = λ t its. absurd cc; new = λ t new. absurd cc; not_theirs = λ h t new by. absurd cc }
-      by (parking.Queued pass) = record { out = λ h. refl; none_made = refl; of_task = λ t its. absurd cc; new = λ t new. absurd cc; not_theirs = λ h t new by. absurd cc }
-      by (parking.HandedOut turn) = record { out = λ h. refl; none_made = refl; of_task = λ t its. absurd cc; new = λ t new. absurd cc; not_theirs = λ h t new by. absurd cc }
 
 -- ---- the owners after it
 
@@ -200,7 +166,7 @@ module _ (setting : ℕ) (plan : List Bool) (w : Parts) (past : List Moment) (t 
   begun (Ok number) does told same =
       let free = ap (holder past) (added_of plan Pool w.crew new.crew e number does).0 ∙ next_free setting plan w past t in
       stay
-      (pool_aside past new e (Accepted number.serial) told
+      (subst (IsAside past) (sym (seen_is new Pool None None (Accepted number.serial) e told refl))
       (record {
         out = λ h. refl;
         none_made = refl;
@@ -208,9 +174,7 @@ module _ (setting : ℕ) (plan : List Bool) (w : Parts) (past : List Moment) (t 
         new = λ s new. ap (holder past) (sym (eqb-true number.serial s new)) ∙ free;
         not_theirs = λ h s new by. absurd cc;
       })) same
-  begun (Err why) does told same =
-      stay
-      (pool_aside past new e (Refused why) told (record { out = λ h. refl; none_made = refl; of_task = λ s its. absurd cc; new = λ s new. absurd cc; not_theirs = λ h s new by. absurd cc })) same
+  begun (Err why) does told same = stay (alone_aside past new e (alone w (Begins (Err why)) e refl told)) same
 
   -- a session begins, or is refused
   lent : (h : ℕ) (owner : Owner) (added : Result JobNumber Refusal) → May w (Lends h owner added) → crew.Moves (IsPlanned plan) (crew.Add (ByOwner h) added) w.crew e new.crew → Told (ByOwner h) None (added_act added) e
@@ -266,10 +230,6 @@ module _ (setting : ℕ) (plan : List Bool) (w : Parts) (past : List Moment) (t 
           (subst (λ c. PlaceAs (Some Running) (turn_of job.held.stage) (is_at_first c) acts) is (job_place setting plan w past t v job here)) (t.rowed.in_hand v job.held here.holds))
           a.act_is told (its_owner w v job did.core new.rows here rows ∙ ap row.owner_in a.core_is) (is_now ∙ a.owners_are)
 
-  -- the owner of a job is there
-  owner_found : (h s : ℕ) → holder past s ≡ Some (ByOwner h) → (owner : Owner) × (slice_get w.owners h ≡ Some owner)
-  owner_found h s held = owner_there setting plan w past t h s held
-
   -- the job in a hand is answered
   answered : (v : ℕ) (job : InHand) (answer : Answer) → IsHere w v job → is_answered_action (next_at w v) answer ≡ true → Told (Worker v) (Some job.held.turn.serial) (Answered answer) e
       → new.rows ≡ slice_set w.rows (job.held.turn.serial - 1) (record job.row { core = core_after_answer answer job.row.core }) → new.owners ≡ w.owners → OwnersHold new.owners (moment new at e ∷ past)
@@ -286,7 +246,7 @@ module _ (setting : ℕ) (plan : List Bool) (w : Parts) (past : List Moment) (t 
       by (core.Session h read) is =
           let s = job.held.turn.serial in
           let held = its_holder v job here ∙ ap (λ c. Some (party_of c)) is in
-          let owner = owner_found h s held in
+          let owner = owner_there setting plan w past t h s held in
           let asks = asks_here setting plan w past t v job answer here may in
           goes v job h (lanes.IsAnswered read answer) owner.0 (Answered answer) here held owner.1 refl (
             its_kind v job h read here is,
@@ -301,7 +261,6 @@ pub owners_after_move : (setting : ℕ) (plan : List Bool) (w : Parts) (past : L
 owners_after_move setting plan w past t laws move e new may does rows owners = by move may does rows owners (said plan w move e new may does)
   where
     by : (move : Move) → May w move → CrewMoves (IsPlanned plan) move w e new → new.rows ≡ rows_after w move → new.owners ≡ owners_after w move → SaidBy w move e → OwnersHold new.owners (moment new (step_of move) e ∷ past)
-    by (Idles step) may does rows is told = stay setting plan w past t laws new step e (nothing_aside past new e (named step) told) is
     by (Makes capacity) may does rows is told =
         subst (λ row. OwnersHold row (moment new (step_of (Makes capacity)) e ∷ past)) (sym is)
         (born w.owners past (moment new (step_of (Makes capacity)) e) capacity
@@ -322,19 +281,4 @@ owners_after_move setting plan w past t laws move e new may does rows owners = b
     by (Calls k call task) may does rows is told = stay setting plan w past t laws new _ e (call_aside past new e k call task told) is
     by (Works v job did) may does rows is told = acted setting plan w past t laws new _ e v job did (job_here w v job may.0) may.1 told rows is
     by (IsAnswered v job answer) may does rows is told = answered setting plan w past t laws new _ e v job answer (job_here w v job may.0) may.1 told rows is
-    by (Parks v job) may does rows is told = stay setting plan w past t laws new _ e (park_aside past new e told.0 v job.held.turn.serial told.1) is
-    by (Passes call) may does rows is told =
-        stay setting plan w past t laws new _ e
-        (record {
-          out = λ h. told.uncut h new.rows;
-          none_made = told.none_made;
-          of_task = λ s its. absurd (never (is_of_job s e) (or_right_false (is_by_task 0 e) (is_of_job s e) (told.out 0 s)) its);
-          new = λ s new. absurd (let none = accepts_no_job e.act s told.none_new in cc);
-          not_theirs = λ h s new by. absurd (let none = accepts_no_job e.act s told.none_new in cc);
-        }) is
-    by (IsWoken s row) may does rows is told =
-        stay setting plan w past t laws new _ e
-        (pool_aside past new e _ told.1 (record { out = λ h. refl; none_made = refl; of_task = λ n its. absurd cc; new = λ n new. absurd cc; not_theirs = λ h n new by. absurd cc })) is
-    by (IsStruck s row) may does rows is told =
-        stay setting plan w past t laws new _ e
-        (pool_aside past new e _ told.1 (record { out = λ h. refl; none_made = refl; of_task = λ n its. absurd cc; new = λ n new. absurd cc; not_theirs = λ h n new by. absurd cc })) is
+    by move may does rows is told = stay setting plan w past t laws new _ e (alone_aside past new e (alone w move e refl told)) is

@@ -7,10 +7,7 @@ use Rattle.std.proofs.lemmas.Bool.{or_right}
 use Rattle.std.proofs.lemmas.Bool.Decides.{nat_tests}
 use Rattle.blocking_pool.specs.Jobs.{Job as Entry}
 use Rattle.blocking_pool.specs.Lists.{is_in}
-use Rattle.blocking_pool.specs.declared.pool.standing.Standing.{Standing}
-use Rattle.blocking_pool.specs.declared.pool.standing.Standing.TheVariants.{Running}
 use Rattle.blocking_crew.specs.Ties.{AbsentAs, FiledAs}
-use Rattle.blocking_crew.specs.declared.ticket.Ticket.{Ticket}
 use Rattle.blocking_crew.proofs.ties.Standings.{held_runs}
 use Rattle.blocking_lanes.specs.Owners.{Owner}
 use Rattle.blocking_lanes.specs.Tasks.{Task}
@@ -20,14 +17,11 @@ use Rattle.blocking_laws.specs.Seen.{events, own, cut}
 use Rattle.blocking_laws.specs.Sessions.{jobs_of}
 use Rattle.blocking_laws.specs.Steps.{may_cancel}
 use Rattle.blocking_laws.specs.TaskLaws.{is_let_go}
-use Rattle.blocking_laws.specs.declared.event.Moment.{Moment}
-use Rattle.blocking_laws.specs.declared.event.Party.TheVariants.{Owner as ByOwner, Task as ByTask}
 use Rattle.blocking_parts.specs.Parts.{Parts, InHand, row_of, let_go_of, task_let_go, owner_let_go}
 use Rattle.blocking_parts.specs.Rows.{party_of}
 use Rattle.blocking_parts.specs.Ties.{Tied}
-use Rattle.blocking_parts.specs.declared.row.Core.{Core}
 use Rattle.blocking_parts.specs.declared.row.Core.TheVariants as core
-use Rattle.blocking_parts.specs.declared.row.Row.{Row}
+use Rattle.blocking_parts.proofs.Types.{Standing, Running, Ticket, Moment, ByOwner, ByTask, Core, Row}
 use Rattle.blocking_parts.proofs.moves.Lookups.{there}
 use Rattle.blocking_parts.proofs.ties.Jobs.{IsHere}
 

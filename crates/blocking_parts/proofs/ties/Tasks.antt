@@ -1,18 +1,14 @@
 -- Each move keeps the tie of the tasks, and their laws: it is an event of none, makes a new one, or is a step of one.
 use Rattle.std.proofs.Common.{◌≡◌, ℕ, ◌==◌, ◌-◌, List, [], ◌∷◌, length, Bool, true, false, refl, sym, ap, ◌∙◌, subst, Some, None}
 use Rattle.std.specs.Prelude.{not, slice_get, slice_set, Result, Ok, Err}
-use Rattle.std.proofs.lemmas.Bool.{and_right, eqb-true, or_from}
-use Rattle.blocking_core.specs.declared.job.Action.{Action}
+use Rattle.std.proofs.lemmas.Bool.{and_right, eqb-true}
 use Rattle.blocking_core.specs.declared.job.Action.TheVariants as action
 use Rattle.blocking_crew.specs.Moves as crew
-use Rattle.blocking_crew.specs.Moves.{added_act, parked_act}
+use Rattle.blocking_crew.specs.Moves.{added_act}
 use Rattle.blocking_crew.specs.Ties.{turn_of}
-use Rattle.blocking_crew.specs.declared.hand.Stage.{Stage}
 use Rattle.blocking_crew.specs.declared.hand.Stage.TheVariants as stage
-use Rattle.blocking_crew.specs.declared.tickets.Parking.{Parking}
-use Rattle.blocking_crew.specs.declared.tickets.Parking.TheVariants as parking
 use Rattle.blocking_lanes.specs.Calls.{Progress, RanAs}
-use Rattle.blocking_lanes.specs.Steps.{TaskStep, IsAside, IsBeside, MayTake, act_of, task_after, event_by, by_job}
+use Rattle.blocking_lanes.specs.Steps.{TaskStep, IsBeside, MayTake, act_of, task_after, event_by, by_job}
 use Rattle.blocking_lanes.specs.Steps as lanes
 use Rattle.blocking_lanes.specs.Tasks.{Task, has_let_go, may_be, task_act}
 use Rattle.blocking_lanes.specs.Ties.{AllLaws, TasksHold}
@@ -27,34 +23,22 @@ use Rattle.blocking_laws.specs.Growth.{IsPlanned}
 use Rattle.blocking_laws.specs.JobTable.{Calling, next_of_job, has_given_up}
 use Rattle.blocking_laws.specs.Jobs.{accepted_by, holder}
 use Rattle.blocking_laws.specs.Seen.{events, acts_of, is_nothing, is_some_worker, is_task}
-use Rattle.blocking_laws.specs.Steps.{may_cancel, is_answered_action, named, next_in_turn}
+use Rattle.blocking_laws.specs.Steps.{may_cancel, is_answered_action, next_in_turn}
 use Rattle.blocking_laws.specs.TaskLaws.{is_let_go}
 use Rattle.blocking_laws.specs.Turns.{GoesOn}
-use Rattle.blocking_laws.specs.declared.event.Act.{Act}
-use Rattle.blocking_laws.specs.declared.event.Act.TheVariants.{Answered, NoAction, Refused}
-use Rattle.blocking_laws.specs.declared.event.Event.{Event}
-use Rattle.blocking_laws.specs.declared.event.Moment.{Moment}
-use Rattle.blocking_laws.specs.declared.event.Party.{Party}
-use Rattle.blocking_laws.specs.declared.event.Party.TheVariants.{Owner as ByOwner, Task as ByTask, Worker, Pool}
-use Rattle.blocking_laws.specs.declared.step.Answer.{Answer}
-use Rattle.blocking_laws.specs.declared.step.Answer.TheVariants.{Number}
-use Rattle.blocking_laws.specs.declared.step.Step.{Step}
-use Rattle.blocking_laws.specs.declared.step.TaskCall.{TaskCall}
 use Rattle.blocking_pool.specs.Growth.{Growth}
 use Rattle.blocking_pool.specs.Jobs.{JobNumber}
-use Rattle.blocking_pool.specs.declared.pool.answer.Refusal.{Refusal}
-use Rattle.blocking_pool.specs.declared.pool.standing.Standing.TheVariants.{Running}
-use Rattle.blocking_parts.specs.Moves.{Move, Idles, Makes, Asks, Owns, Lends, Delivers, IsDropped, Begins, Calls, Works, IsAnswered, Parks, Passes, IsWoken, IsStruck, May, CrewMoves, step_of, rows_after, tasks_after, tasks_after_add}
+use Rattle.blocking_parts.specs.Moves.{Move, Makes, Asks, Owns, Lends, Delivers, IsDropped, Begins, Calls, Works, IsAnswered, May, CrewMoves, step_of, rows_after, tasks_after, tasks_after_add}
 use Rattle.blocking_parts.specs.Parts.{Parts, InHand, done_by, owner_of, next_at}
 use Rattle.blocking_parts.specs.Rows.{Done, done, action_of, call_step, call_step_by, call_action, core_after_answer, is_at_first, is_first, owner_in, party_of}
 use Rattle.blocking_parts.specs.Ties.{CoreAs, GaveAs, PlaceAs, Tied, moment}
-use Rattle.blocking_parts.specs.declared.row.Core.{Core}
 use Rattle.blocking_parts.specs.declared.row.Core.TheVariants as core
+use Rattle.blocking_parts.proofs.Types.{Action, Stage, Act, Answered, Event, Moment, ByOwner, ByTask, Worker, Pool, Answer, Number, Step, TaskCall, Refusal, Running, Core}
 use Rattle.blocking_parts.proofs.moves.Lookups.{there}
 use Rattle.blocking_parts.proofs.ties.JobSteps.{call_acts, session_acts, may_plain, seen_in, seen_is, its_owner, let_go_here, asks_here}
 use Rattle.blocking_parts.proofs.ties.Jobs.{IsHere, job_here, job_place, next_free, task_holds}
-use Rattle.blocking_parts.proofs.ties.Events.{SaidBy, done_fits, said}
-use Rattle.blocking_parts.proofs.ties.CrewEvents.{Told, added_of, by_no_worker, by_worker}
+use Rattle.blocking_parts.proofs.ties.Events.{SaidBy, alone, done_fits, said}
+use Rattle.blocking_parts.proofs.ties.CrewEvents.{Told, IsAlone, added_of, by_no_worker, by_worker}
 
 -- ---- what the job of a call may do
 
@@ -66,16 +50,14 @@ call_may stage.Runs call step task acts is lets ran place gave = by call.next is
     by : (next : Action) → call_step_by next call.number ≡ Some step → RanAs next call.number acts → MayTake step task acts
     by action.Finish is ran = subst (λ s. MayTake s task acts) (ap (value_of step) is) ran
     by action.Deliver is ran = subst (λ s. MayTake s task acts) (ap (value_of step) is) (ap (next_of_job Calling) ran)
-    by action.Call is ran = absurd cc
-    by action.Done is ran = absurd cc
+    by _ is ran = absurd cc
 call_may stage.MustGiveUp call step task acts is lets ran place gave = subst (λ s. MayTake s task acts) (ap (value_of step) is) (by call.next (ran place.1) place.0, lets refl)
   where
     by : (next : Action) → RanAs next call.number acts → is_first (call_action next) ≡ true → acts ≡ []
     by action.Call ran first = ran
     by _ ran first = absurd cc
 call_may stage.MustWake call step task acts is lets ran place gave = subst (λ s. MayTake s task acts) (ap (value_of step) is) (gave Calling).0
-call_may stage.Waits call step task acts is lets ran place gave = absurd cc
-call_may stage.GaveUp call step task acts is lets ran place gave = absurd cc
+call_may _ call step task acts is lets ran place gave = absurd cc
 
 -- that is no call by the task's holder
 never_called : (at : Stage) (call : Progress) (step : TaskStep) → call_step at call ≡ Some step → is_call step ≡ false
@@ -84,12 +66,10 @@ never_called stage.Runs call step is = by call.next is
     by : (next : Action) → call_step_by next call.number ≡ Some step → is_call step ≡ false
     by action.Finish is = ap is_call (sym (ap (value_of step) is))
     by action.Deliver is = ap is_call (sym (ap (value_of step) is))
-    by action.Call is = absurd cc
-    by action.Done is = absurd cc
+    by _ is = absurd cc
 never_called stage.MustGiveUp call step is = ap is_call (sym (ap (value_of step) is))
 never_called stage.MustWake call step is = ap is_call (sym (ap (value_of step) is))
-never_called stage.Waits call step is = absurd cc
-never_called stage.GaveUp call step is = absurd cc
+never_called _ call step is = absurd cc
 
 by_its_job : (step : TaskStep) → is_call step ≡ false → (k v s : ℕ) (act : Act) (first : ℕ) (growth : Growth) → event_by step k v s act first growth ≡ by_job v s act first growth
 by_its_job (lanes.IsCalled call) is k v s act first growth = absurd cc
@@ -122,26 +102,6 @@ module _ (past : List Moment) (new : Parts) (e : Event) where
     by_owner = λ t new. absurd (let none = accepts_no_job e.act t (ap accepted_by told.act_is ∙ plain.new) in cc);
   }
 
-  -- an act of the pool that accepts no job
-  pool_aside : (act : Act) → Told Pool None act e → accepted_by act ≡ [] → IsAside (seen_in new e)
-  pool_aside act told none = record {
-    out = λ k s. or_from _ _ (and_right (not (is_nothing e.act)) (is_task k e.party) (ap (is_task k) told.party)) (by_no_worker s e (ap is_some_worker told.party));
-    none_new = ap accepted_by told.act_is ∙ none;
-  }
-
-  -- nothing
-  nothing_aside : (who : Party) → Told who None NoAction e → IsAside (seen_in new e)
-  nothing_aside who told = subst IsAside (sym (seen_is new who None None NoAction e told refl)) (record { out = λ k s. refl; none_new = refl })
-
-  -- the end of a run
-  park_aside : (how : Parking) (v s : ℕ) → Told (Worker v) (Some s) (parked_act how s) e → IsAside (seen_in new e)
-  park_aside how v s told = subst IsAside (sym (seen_is new (Worker v) (Some s) _ _ e told refl)) (by how)
-    where
-      by : (how : Parking) → IsAside (record { party = Worker v; owner = owner_of new.rows (Some s); job = Some s; act = parked_act how s; first = e.first; started = e.started; start_refused = e.start_refused })
-      by (parking.Parked pass) = record { out = λ k s. refl; none_new = refl }
-      by (parking.Queued pass) = record { out = λ k s. refl; none_new = refl }
-      by (parking.HandedOut turn) = record { out = λ k s. refl; none_new = refl }
-
 -- ---- the tasks after it
 
 module _ (setting : ℕ) (plan : List Bool) (w : Parts) (past : List Moment) (t : Tied setting plan w past) (laws : AllLaws past) (new : Parts) (at : Step) (e : Event) where
@@ -151,8 +111,8 @@ module _ (setting : ℕ) (plan : List Bool) (w : Parts) (past : List Moment) (t 
   stay : IsBeside past (seen_in new e) → new.tasks ≡ w.tasks → TasksHold new.tasks (moment new at e ∷ past)
   stay out same = subst (λ row. TasksHold row (moment new at e ∷ past)) (sym same) (beside w.tasks past (moment new at e) out hold)
 
-  stay_aside : IsAside (seen_in new e) → new.tasks ≡ w.tasks → TasksHold new.tasks (moment new at e ∷ past)
-  stay_aside out same = stay (aside_beside past (seen_in new e) out) same
+  stay_alone : IsAlone e → new.tasks ≡ w.tasks → TasksHold new.tasks (moment new at e ∷ past)
+  stay_alone none same = stay (aside_beside past (seen_in new e) (record { out = none.out; none_new = none.none_new })) same
 
   -- a new call
   begun : (added : Result JobNumber Refusal) → crew.Moves (IsPlanned plan) (crew.Add Pool added) w.crew e new.crew → Told Pool None (added_act added) e → new.tasks ≡ tasks_after_add w.tasks added
@@ -161,7 +121,7 @@ module _ (setting : ℕ) (plan : List Bool) (w : Parts) (past : List Moment) (t 
       let free = ap (holder past) (added_of plan Pool w.crew new.crew e number does).0 ∙ next_free setting plan w past t in
       subst (λ row. TasksHold row (moment new at e ∷ past)) (sym tasks)
       (born w.tasks past (moment new at e) number (record { party_is = told.party; act_is = told.act_is }) free hold)
-  begun (Err why) does told tasks = stay_aside (pool_aside past new e (Refused why) told refl) tasks
+  begun (Err why) does told tasks = stay_alone (alone w (Begins (Err why)) e refl told) tasks
 
   -- a task is called
   called : (k : ℕ) (task : Task) (call : TaskCall) → slice_get w.tasks k ≡ Some task → may_be task.stage call ≡ true → Told (ByTask k) None (task_act call task) e
@@ -260,7 +220,6 @@ pub tasks_after_move : (setting : ℕ) (plan : List Bool) (w : Parts) (past : Li
 tasks_after_move setting plan w past t laws move e new may does rows tasks = by move may does rows tasks (said plan w move e new may does)
   where
     by : (move : Move) → May w move → CrewMoves (IsPlanned plan) move w e new → new.rows ≡ rows_after w move → new.tasks ≡ tasks_after w move → SaidBy w move e → TasksHold new.tasks (moment new (step_of move) e ∷ past)
-    by (Idles step) may does rows tasks told = stay_aside setting plan w past t laws new step e (nothing_aside past new e (named step) told) tasks
     by (Makes capacity) may does rows tasks told = stay setting plan w past t laws new _ e (owner_beside past new e (length w.owners) _ told) tasks
     by (Asks h call owner) may does rows tasks told = stay setting plan w past t laws new _ e (owner_beside past new e h _ told) tasks
     by (Owns h owner did) may does rows tasks told = stay setting plan w past t laws new _ e (owner_beside past new e h _ told) tasks
@@ -271,7 +230,4 @@ tasks_after_move setting plan w past t laws move e new may does rows tasks = by 
     by (Calls k call task) may does rows tasks told = called setting plan w past t laws new _ e k task call may.0 may.1 told tasks
     by (Works v job did) may does rows tasks told = acted setting plan w past t laws new _ e v job did (job_here w v job may.0) may.1 told rows tasks
     by (IsAnswered v job answer) may does rows tasks told = answered setting plan w past t laws new _ e v job answer (job_here w v job may.0) may.1 told rows tasks
-    by (Parks v job) may does rows tasks told = stay_aside setting plan w past t laws new _ e (park_aside past new e told.0 v job.held.turn.serial told.1) tasks
-    by (Passes call) may does rows tasks told = stay_aside setting plan w past t laws new _ e (record { out = told.out; none_new = told.none_new }) tasks
-    by (IsWoken s row) may does rows tasks told = stay_aside setting plan w past t laws new _ e (pool_aside past new e _ told.1 refl) tasks
-    by (IsStruck s row) may does rows tasks told = stay_aside setting plan w past t laws new _ e (pool_aside past new e _ told.1 refl) tasks
+    by move may does rows tasks told = stay_alone setting plan w past t laws new _ e (alone w move e refl told) tasks
