@@ -15,7 +15,7 @@ ghost use Rattle.blocking_laws.specs.Wakes.{NoLostWake};
 ghost use Rattle.blocking_laws.specs.Steps.{StepLaw};
 ghost use Rattle.blocking_laws.specs.Legal.{Legal};
 ghost use Rattle.blocking_laws.specs.Traces.{◌▸◌, moment, starting, refusing, Refuses, Keeps, FirstTaskLaw};
-ghost use Rattle.blocking_laws.specs.Traces.{one_queued, one_arrived, two_queued, dropped, second_dropped, late_queued};
+ghost use Rattle.blocking_laws.specs.Traces.{one_queued, one_arrived, two_queued, dropped, second_dropped, late_queued, second_refused};
 ghost use Rattle.blocking_laws.specs.Traces.{awaited, awaited_finished, cancelled_finished, untold_given_up};
 ghost use Rattle.blocking_laws.specs.Traces.{one_waits, one_parked, woken_waits, raised_limit, unstaffed_parked};
 ghost use Rattle.blocking_laws.specs.declared.event.Act.TheVariants.{Accepted, Refused, JobWoken, JobCancelled, LimitSet, Swept, Waits, TaskGot, TaskDetached, Arrived, Took, TookDropped, Stopped, Ended, Finished, NoAction};
@@ -41,7 +41,9 @@ ghost use Rattle.blocking_core.specs.declared.io.Fault.TheVariants.{WriteZero};
 ghost use Rattle.blocking_laws.specs.JobTable.{Writing, fault};
 ghost use Rattle.blocking_laws.specs.Passed.{accepted, taken};
 ghost use Rattle.blocking_laws.specs.Seen.{own};
-ghost use Rattle.blocking_laws.specs.WriteTraces.{writer_made, two_filled, two_peeked, one_answered, one_written, last_filled, writer_parked};
+ghost use Rattle.blocking_laws.specs.Behind.{WritesBehind, AllWriteBehind};
+ghost use Rattle.blocking_laws.specs.Solo.{Solo, AreIndependent, is_without_refusal};
+ghost use Rattle.blocking_laws.specs.WriteTraces.{writer_made, write_begun, two_filled, two_peeked, one_answered, one_written, last_filled, writer_parked};
 ghost use Rattle.blocking_laws.specs.WriteTraces.{writer_drained, flush_asked, unflushed_back, writer_closed, one_peeked, then_done, then_back};
 ghost use Rattle.blocking_laws.specs.WriteTraces.{none_written, write_failed};
 ghost use Rattle.blocking_laws.specs.declared.event.Act.TheVariants.{Filled, FillShut, Answered, Peeked, JobClosed, Taken as TakenOut};
@@ -233,6 +235,34 @@ pub fn jobs_of_writers()
     ensures accepted_in_order { accepted (own (cut 0 (events last_filled))) ≡ 120 ∷ 121 ∷ 122 ∷ [] }
     // answered 1 of 0102, after answered 1 of 0304
     ensures taken_in_order { taken (Answered (Number 1) ∷ Peeked (1 ∷ 2 ∷ []) ∷ Answered (Number 1) ∷ Peeked (3 ∷ 4 ∷ []) ∷ []) ≡ 3 ∷ 1 ∷ [] }
+{}
+
+/// How far a writer may be behind its owner.
+pub fn writers_behind()
+    // .. / accepted 1 +1 / put 2
+    ensures accepts_full_pipe { WritesBehind (cut 0 (events two_filled)) }
+    // .. / accepted 1 +1 / put 3, into a pipe of two
+    ensures refuses_more_than_the_pipe { Refuses (Keeps AllWriteBehind) write_begun (polls (Filled 3 None) 2) }
+    // .. / peeked 2 / asked (to write 7a) / put 1: its writer took none
+    ensures refuses_more_than_was_taken { Refuses (Keeps AllWriteBehind)
+        (two_peeked ▸ asks (Write (122 ∷ [])) 2) (polls (Filled 1 None) 2) }
+    // .. / answered 1 / .. / put 1 / replied ok 1
+    ensures accepts_what_was_taken { WritesBehind (cut 0 (events last_filled)) }
+{}
+
+/// What an owner may see that is alone, and where each owner saw what it might have seen alone.
+pub fn owners_alone()
+    // accepted 1 +1 / accepted 2 / accepted 3 / accepted 4 / accepted 5 / accepted 6 -2
+    ensures refused_start_is_no_refusal { is_without_refusal (events second_refused) ≡ true }
+    // limit 2 / refused memory / swept 0 / accepted 1 +1
+    ensures refused_job_is_one { is_without_refusal (events late_queued) ≡ false }
+    // made 0
+    ensures accepts_its_own { Solo 0 (events writer_made) }
+    ensures refuses_another_owners { Solo 1 (events writer_made) → ⊥ }
+    // made 0 / asked / refused memory
+    ensures refuses_refused_job { Solo 0 (events (item_asked ▸ polls (Refused Memory) 1)) → ⊥ }
+    // .. / waits / replied ok 0, where the poll is over
+    ensures refuses_unlawful_owner { Refuses (Keeps AreIndependent) reader_waits (polls (Replied (Count 0)) 2) }
 {}
 
 /// What an owner finds that takes items, what its job does next, and which end it is told.
