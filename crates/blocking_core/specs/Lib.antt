@@ -1,6 +1,7 @@
 pub mod Cores
 pub mod Faults
 pub mod Items
+pub mod Lending
 pub mod Machines
 pub mod Operations
 pub mod OwnerCalls

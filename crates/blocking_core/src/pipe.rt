@@ -1,11 +1,15 @@
 //! The bounded pipe through which bytes or items cross between a job and its owner.
-ghost use Rattle.std.specs.Prelude.{◌≡◌, ◌<◌, ◌≤◌, ◌++◌, false, length, min, take, drop, IfOk, Some, None};
+ghost use Rattle.std.specs.Prelude.{◌≡◌, ◌<◌, ◌≤◌, ◌++◌, false, length, min, take, drop, vec_capacity, IfOk, Some, None};
 
 use crate::task::Seat;
 use blocking_pool::pool::{JobNo, WakeNote};
 use circular_buffer::HeapCircularBuffer;
 use std::alloc::{AllocError, Global};
 use std::marker::Model;
+
+mod lending;
+
+pub use lending::{LendingPipe, lending_is_plain};
 
 /// How many bytes a pipe holds where nobody says otherwise.
 pub const DEFAULT_BYTES: usize = 8_388_608;
@@ -270,6 +274,33 @@ impl<X: Drop, W: Drop> Pipe<X, W> {
         self.owner_seat.take()
     }
 
+    fn is_owner_open(&self) -> bool
+        ensures { result ≡ self.now.is_owner_open }
+    {
+        self.is_owner_open
+    }
+
+    fn is_job_open(&self) -> bool
+        ensures { result ≡ self.now.is_job_open }
+    {
+        self.is_job_open
+    }
+
+    // The owner is seated. Answers the waker that stood there.
+    fn seat_owner(&mut self, waker: W) -> Option<W>
+        ensures pipe { self.new ≡ record self.old { owner_seat = Some waker } }
+        ensures waker { result ≡ self.old.owner_seat }
+    {
+        self.owner_seat.replace(waker)
+    }
+
+    // The job is seated.
+    fn seat_job(&mut self, me: JobNo)
+        ensures { self.new ≡ record self.old { job_seat = Some me } }
+    {
+        self.job_seat = Some(me);
+    }
+
     // The job leaves its seat, and is to be woken.
     fn unseat_job(&mut self) -> Option<WakeNote>
         ensures pipe { self.new ≡ record self.old { job_seat = None } }
@@ -285,6 +316,33 @@ impl<X: Drop, W: Drop> Pipe<X, W> {
 impl<X: Copy, W: Drop> Pipe<X, W> {
     ghost use Rattle.blocking_core.specs.Pipes.{room};
     ghost use Rattle.blocking_core.specs.PipeAnswers.{Puts, Peeks, Drains, Fills};
+
+    // Takes the first of the items, as many as there is room for, and wakes nobody.
+    fn take_in(&mut self, items: &[X]) -> usize
+        ensures count { result ≡ min (length items.now) (room self.old) }
+        ensures pipe { self.new ≡ record self.old { items = self.old.items ++ take result items.now } }
+    {
+        self.ring.fill_from_slice(items)
+    }
+
+    // Moves the front of what is inside into a piece, as many items as that holds, and tells how many they were.
+    fn move_front(&mut self, piece: &mut Vec<X>) -> usize
+        requires room { 0 < vec_capacity piece.old }
+        requires some { 0 < length self.old.items }
+        ensures count { (0 < result) × (result ≤ length self.old.items) }
+        ensures piece { piece.new.items ≡ take result self.old.items }
+        ensures pipe { self.new ≡ record self.old { items = drop result self.old.items } }
+        ensures room { vec_capacity piece.old ≤ vec_capacity piece.new }
+    {
+        let count = self.ring.len().min(piece.capacity());
+        let Some(first) = self.ring.front() else {
+            unreachable!()
+        };
+        let Ok(()) = piece.resize(count, *first) else {
+            unreachable!()
+        };
+        self.ring.read_into(piece.as_mut_slice())
+    }
 
     /// The job puts items, for all of which there is room.
     pub fn put(&mut self, items: &[X]) -> Put<W>

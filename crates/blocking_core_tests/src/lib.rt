@@ -9,6 +9,8 @@ mod calls;
 #[cfg(test)]
 mod job_cores;
 #[cfg(test)]
+mod lending;
+#[cfg(test)]
 mod lent;
 #[cfg(test)]
 mod limit;

@@ -3,9 +3,10 @@ use Rattle.std.proofs.Common.{◌≡◌, ◌⊎◌, ℕ, ◌+◌, ◌-◌, ◌<�
 use Rattle.std.proofs.lemmas.List.{length-append, length-take, length-take-le, length-drop, take_at}
 use Rattle.std.proofs.lemmas.Option.{slice_get_within, slice_get_cases}
 use Rattle.circular_buffer.proofs.Places.{slice_get-append_left, slice_get-append_right, slice_get-drop, slice_get-take}
-use Rattle.blocking_core.specs.Pipes.{Pipe, room}
-use Rattle.blocking_core.specs.Places.{Met, Served, Waiting, Closed, receive, fill}
-use Rattle.blocking_core.specs.PipeAnswers.{Puts, Drains, Receives, Fills}
+use Rattle.blocking_core.specs.Pipes.{Pipe}
+use Rattle.blocking_core.specs.Places.{Met, Served, Waiting, receive, fill}
+use Rattle.blocking_core.specs.PipeAnswers.{Puts, Drains, Receives}
+use Rattle.blocking_core.specs.Lending.{Lending, FillsIn, Lends, free}
 use Rattle.blocking_core.specs.declared.pipe.Put.{Put}
 use Rattle.blocking_core.specs.declared.pipe.Put.TheVariants as putting
 use Rattle.blocking_core.specs.declared.pipe.Drained.{Drained}
@@ -14,8 +15,11 @@ use Rattle.blocking_core.specs.declared.pipe.Received.{Received}
 use Rattle.blocking_core.specs.declared.pipe.Received.TheVariants as receiving
 use Rattle.blocking_core.specs.declared.pipe.Filled.{Filled}
 use Rattle.blocking_core.specs.declared.pipe.Filled.TheVariants as filling
+use Rattle.blocking_core.specs.declared.pipe.Peeked.{Peeked}
+use Rattle.blocking_core.specs.declared.pipe.Peeked.TheVariants as peeking
+use Rattle.blocking_pool.specs.Jobs.{JobNumber}
 use Rattle.blocking_pool.specs.declared.pool.token.WakeNote.{WakeNote}
-use Rattle.blocking_ends.specs.Answers.{IfReceived, IfTook, got_by_drain}
+use Rattle.blocking_ends.specs.Answers.{IfReceived, IfShown, IfTook, OnDrained, got_by_drain}
 use Rattle.blocking_ends.specs.Counted.{IsKept}
 use Rattle.blocking_ends.specs.Rules.{HoldFrom}
 
@@ -39,6 +43,14 @@ module _ {X : Type 0} (holds : ℕ → X → Type 0) where
   hold_rest n count items held i x at =
       let here : n + (count + i) ≡ n + count + i = omega arith in
       subst (λ place. holds place x) here (held (count + i) x (sym (slice_get-drop count items i (count + i) refl) ∙ at))
+
+  -- of those that are left some more go
+  pub hold_more : (n m gone count : ℕ) (items : List X) → m ≡ n + count → HoldFrom holds n (drop gone items) → HoldFrom holds m (drop (gone + count) items)
+  hold_more n m gone count items is held i x at =
+      let place : n + (count + i) ≡ m + i = omega (arith, is) in
+      let there = slice_get-drop (gone + count) items i (gone + (count + i)) (omega arith) in
+      let here = slice_get-drop gone items (count + i) (gone + (count + i)) refl in
+      subst (λ k. holds k x) place (held (count + i) x (here ∙ sym there ∙ at))
 
   -- items that join at the end hold from there on
   pub hold_joined : (n m : ℕ) (items more : List X) → m ≡ n + length items → HoldFrom holds n items → HoldFrom holds m more → HoldFrom holds n (items ++ more)
@@ -137,15 +149,6 @@ module _ {X : Type 0} (holds : ℕ → X → Type 0) (ended : ℕ → Type 0) wh
     drained_held old new waker out got draining.Ended spare sent received kept drains = hold_none holds received got
     drained_held old new waker out got (draining.Waits seat) spare sent received kept drains = hold_none holds received got
 
-    -- items were consumed
-    pub consumed_kept : (old new : Pipe X W) (count sent received : ℕ) (is_open : Bool)
-        → new ≡ record old { items = drop count old.items; owner_seat = None } → count ≤ length old.items → is_open ≡ old.is_owner_open
-        → IsKept holds ended old.items sent received old.is_owner_open
-        → (is_open ≡ new.is_owner_open) × IsKept holds ended new.items sent (received + count) new.is_owner_open
-    consumed_kept old new count sent received is_open after some same kept =
-        subst (λ p. (is_open ≡ p.is_owner_open) × IsKept holds ended p.items sent (received + count) p.is_owner_open) (sym after)
-        (same, left_kept old.items sent received count old.is_owner_open some kept)
-
     -- items were put, by a job whose end is open
     pub put_kept : (old new : Pipe X W) (given : List X) (answer : Put W) (waker : Option W) (sent after received : ℕ) (is_open : Bool)
         → answer ≡ putting.In waker → Puts old given answer new → after ≡ sent + length given → is_open ≡ true → HoldFrom holds sent given
@@ -159,25 +162,77 @@ module _ {X : Type 0} (holds : ℕ → X → Type 0) (ended : ℕ → Type 0) wh
               (joined_kept old.items given sent received old.is_job_open (sym same ∙ lasts) held kept),
         )
 
+    -- items were let go of those that were lent
+    pub consumed_kept : (old new : Lending X W) (count sent received : ℕ) (is_open : Bool)
+        → new ≡ record { pipe = record old.pipe { owner_seat = None }; lent = old.lent - count } → count ≤ old.lent → is_open ≡ old.pipe.is_owner_open
+        → IsKept holds ended old.pipe.items sent (received + old.lent) old.pipe.is_owner_open
+        → (is_open ≡ new.pipe.is_owner_open) × IsKept holds ended new.pipe.items sent (received + count + new.lent) new.pipe.is_owner_open
+    consumed_kept old new count sent received is_open after some same kept =
+        let all : received + old.lent ≡ received + count + (old.lent - count) = omega (arith, some) in
+        subst (λ p. (is_open ≡ p.pipe.is_owner_open) × IsKept holds ended p.pipe.items sent (received + count + p.lent) p.pipe.is_owner_open) (sym after)
+        (same, subst (λ n. IsKept holds ended old.pipe.items sent n old.pipe.is_owner_open) all kept)
+
     -- items were filled in, by an owner whose end is open
-    pub filled_kept : (old new : Pipe X W) (waker : W) (given : List X) (answer : Filled) (spare : Option W) (count : ℕ) (of_job : Option WakeNote) (sent received : ℕ) (is_open : Bool)
-        → answer ≡ filling.Took count of_job → Fills old waker given answer spare new → is_open ≡ true → HoldFrom holds sent given
-        → is_open ≡ old.is_owner_open → IsKept holds ended old.items sent received old.is_owner_open
-        → (is_open ≡ new.is_owner_open) × IsKept holds ended new.items (sent + count) received new.is_owner_open
+    pub filled_kept : (old new : Lending X W) (waker : W) (given : List X) (answer : Filled) (spare : Option W) (count : ℕ) (of_job : Option WakeNote) (sent received : ℕ) (is_open : Bool)
+        → answer ≡ filling.Took count of_job → FillsIn old waker given answer spare new → is_open ≡ true → HoldFrom holds sent given
+        → is_open ≡ old.pipe.is_owner_open → IsKept holds ended old.pipe.items sent (received + old.lent) old.pipe.is_owner_open
+        → (is_open ≡ new.pipe.is_owner_open) × IsKept holds ended new.pipe.items (sent + count) (received + new.lent) new.pipe.is_owner_open
     filled_kept old new waker given answer spare count of_job sent received is_open is fills lasts held same kept =
-        let one : Fills old waker given (filling.Took count of_job) spare new = subst (λ a. Fills old waker given a spare new) is fills in
-        let taken : length (take count given) ≡ count = length-take-le count given (filled_within (length given) (room old) count old.is_job_open old.job_seat of_job one.0) in
-        subst (λ p. (is_open ≡ p.is_owner_open) × IsKept holds ended p.items (sent + count) received p.is_owner_open) (sym one.2) (
+        let one : FillsIn old waker given (filling.Took count of_job) spare new = subst (λ a. FillsIn old waker given a spare new) is fills in
+        let taken : length (take count given) ≡ count =
+        length-take-le count given (filled_within (length given) (free old) count old.pipe.is_job_open old.pipe.job_seat of_job one.0) in
+        subst (λ p. (is_open ≡ p.pipe.is_owner_open) × IsKept holds ended p.pipe.items (sent + count) (received + p.lent) p.pipe.is_owner_open) (sym one.2) (
           same,
-          subst (λ n. IsKept holds ended (old.items ++ take count given) (sent + n) received old.is_owner_open) taken
-              (joined_kept old.items (take count given) sent received old.is_owner_open (sym same ∙ lasts) (hold_front holds sent count given held) kept),
+          subst (λ n. IsKept holds ended (old.pipe.items ++ take count given) (sent + n) (received + old.lent) old.pipe.is_owner_open) taken
+              (joined_kept old.pipe.items (take count given) sent (received + old.lent) old.pipe.is_owner_open (sym same ∙ lasts) (hold_front holds sent count given held) kept),
         )
+
+    -- the front was lent
+    pub lent_kept : (old new : Lending X W) (me : JobNumber) (answer : Peeked) (piece : List X) (sent received : ℕ) (is_open : Bool)
+        → Lends old me answer piece new → old.lent ≡ 0 → is_open ≡ old.pipe.is_owner_open
+        → IsKept holds ended old.pipe.items sent (received + old.lent) old.pipe.is_owner_open
+        → (is_open ≡ new.pipe.is_owner_open) × IsKept holds ended new.pipe.items sent (received + new.lent) new.pipe.is_owner_open
+    lent_kept old new me (peeking.Some n) piece sent received is_open lends none same kept =
+        let here : received + old.lent ≡ received = omega (arith, none) in
+        subst (λ p. (is_open ≡ p.pipe.is_owner_open) × IsKept holds ended p.pipe.items sent (received + p.lent) p.pipe.is_owner_open) (sym lends.3) (
+          same,
+          left_kept old.pipe.items sent received n old.pipe.is_owner_open lends.1
+              (subst (λ m. IsKept holds ended old.pipe.items sent m old.pipe.is_owner_open) here kept),
+        )
+    lent_kept old new me peeking.Parked piece sent received is_open lends none same kept =
+        subst (λ p. (is_open ≡ p.pipe.is_owner_open) × IsKept holds ended p.pipe.items sent (received + p.lent) p.pipe.is_owner_open) (sym lends.2)
+        (same, kept)
+    lent_kept old new me peeking.Drained piece sent received is_open lends none same kept =
+        subst (λ p. (is_open ≡ p.pipe.is_owner_open) × IsKept holds ended p.pipe.items sent (received + p.lent) p.pipe.is_owner_open) (sym lends.2)
+        (same, kept)
+
+    -- what was lent holds at its places
+    pub lent_held : (old new : Lending X W) (me : JobNumber) (answer : Peeked) (piece : List X) (sent received : ℕ)
+        → Lends old me answer piece new → old.lent ≡ 0 → IsKept holds ended old.pipe.items sent (received + old.lent) old.pipe.is_owner_open
+        → IfShown answer (λ _. HoldFrom holds received piece)
+    lent_held old new me (peeking.Some n) piece sent received lends none kept =
+        let here : received + old.lent ≡ received = omega (arith, none) in
+        subst (λ items. HoldFrom holds received items) (sym lends.2)
+        (hold_front holds received n old.pipe.items (subst (λ m. HoldFrom holds m old.pipe.items) here kept.each))
+    lent_held old new me peeking.Parked piece sent received lends none kept = tt
+    lent_held old new me peeking.Drained piece sent received lends none kept = tt
+
+    -- where the pipe is drained the items may end
+    pub lent_ended : (old new : Lending X W) (me : JobNumber) (answer : Peeked) (piece : List X) (sent received : ℕ)
+        → Lends old me answer piece new → old.lent ≡ 0 → IsKept holds ended old.pipe.items sent (received + old.lent) old.pipe.is_owner_open
+        → OnDrained answer (ended received)
+    lent_ended old new me (peeking.Some n) piece sent received lends none kept = tt
+    lent_ended old new me peeking.Parked piece sent received lends none kept = tt
+    lent_ended old new me peeking.Drained piece sent received lends none kept =
+        let empty : length old.pipe.items ≡ 0 = ap length lends.0 in
+        let all : sent ≡ received = omega (arith, kept.count, none, empty) in
+        subst ended all (kept.whole lends.1)
 
 module _ {X W : Type 0} where
   -- a fill takes some of what was given
-  pub filled_some : (old new : Pipe X W) (waker : W) (given : List X) (answer : Filled) (spare : Option W) → Fills old waker given answer spare new
+  pub filled_some : (old new : Lending X W) (waker : W) (given : List X) (answer : Filled) (spare : Option W) → FillsIn old waker given answer spare new
       → IfTook answer (λ n. (0 < n) × (n ≤ length given))
   filled_some old new waker given (filling.Took count of_job) spare fills =
-      (fills.1, filled_within (length given) (room old) count old.is_job_open old.job_seat of_job fills.0)
+      (fills.1, filled_within (length given) (free old) count old.pipe.is_job_open old.pipe.job_seat of_job fills.0)
   filled_some old new waker given filling.Shut spare fills = tt
   filled_some old new waker given (filling.Waits seat) spare fills = tt

@@ -1,9 +1,9 @@
 -- What a pipe that counts does in each call: one call of the pipe, and the counts of what went in and out. A send past the
 -- greatest count, or after the sender's end was closed, is answered as if the other end were closed.
-use Rattle.std.specs.Prelude.{◌≡◌, ◌⊎◌, ℕ, ◌+◌, ◌-◌, ◌<◌, ◌≤◌, min, Bool, false, List, length, Option, Some}
+use Rattle.std.specs.Prelude.{◌≡◌, ◌⊎◌, ℕ, ◌+◌, ◌<◌, min, Bool, false, List, length, Option, Some}
 use Rattle.blocking_pool.specs.Jobs.{JobNumber}
-use Rattle.blocking_core.specs.Pipes.{Pipe, room}
 use Rattle.blocking_core.specs.PipeAnswers as pipe
+use Rattle.blocking_core.specs.Lending as lending
 use Rattle.blocking_core.specs.declared.pipe.Room.{Room}
 use Rattle.blocking_core.specs.declared.pipe.Put.{Put}
 use Rattle.blocking_core.specs.declared.pipe.Put.TheVariants as put
@@ -14,12 +14,16 @@ use Rattle.blocking_core.specs.declared.pipe.Drained.{Drained}
 use Rattle.blocking_core.specs.declared.pipe.Received.{Received}
 use Rattle.blocking_core.specs.declared.pipe.Filled.{Filled}
 use Rattle.blocking_core.specs.declared.pipe.Filled.TheVariants as filled
-use Rattle.blocking_ends.specs.Answers.{sent_by_put, sent_by_send, sent_by_fill, got_by_drain, got_by_receive}
-use Rattle.blocking_ends.specs.Counted.{Counted}
+use Rattle.blocking_ends.specs.Answers.{got_by_drain, got_by_receive}
+use Rattle.blocking_ends.specs.Counted.{Counted, CountedLending}
 
 -- the greatest number of items that may be sent
 abbrev pub greatest : ℕ
 greatest = 18446744073709551615
+
+-- after so many were sent: the other end is closed, or the sender's own, or n more would be too many to count
+abbrev pub TakesNone : ℕ → Bool → Bool → ℕ → Type 0
+TakesNone sent is_open is_read n = (is_read ≡ false) ⊎ ((is_open ≡ false) ⊎ (greatest < sent + n))
 
 module _ {X W : Type 0} where
   -- so many more were sent, and so many more received
@@ -27,9 +31,10 @@ module _ {X W : Type 0} where
     pub sent : new.sent ≡ old.sent + more
     pub received : new.received ≡ old.received + got
 
-  -- the other end is closed, or the sender's own, or n more would be too many to count
-  abbrev pub TakesNone : Counted X W → Bool → Bool → ℕ → Type 0
-  TakesNone old is_open is_read n = (is_read ≡ false) ⊎ ((is_open ≡ false) ⊎ (greatest < old.sent + n))
+  -- the same where the pipe lends
+  pub record LendingCounts (old : CountedLending X W) (more got : ℕ) (new : CountedLending X W) : Type 0 where
+    pub sent : new.sent ≡ old.sent + more
+    pub received : new.received ≡ old.received + got
 
   -- the job looks for room
   abbrev pub FindsRoom : Counted X W → JobNumber → Room → Counted X W → Type 0
@@ -38,14 +43,14 @@ module _ {X W : Type 0} where
   -- the job puts items: all of them are inside, or they are lost
   abbrev pub Puts : Counted X W → List X → Put W → Counted X W → Type 0
   Puts old given (put.In waker) new = pipe.Puts old.pipe given (put.In waker) new.pipe × Counts old (length given) 0 new
-  Puts old given put.Lost new = TakesNone old old.pipe.is_job_open old.pipe.is_owner_open (length given) × (new ≡ old)
+  Puts old given put.Lost new = TakesNone old.sent old.pipe.is_job_open old.pipe.is_owner_open (length given) × (new ≡ old)
 
   -- the job sends an item: it is inside, or it comes back
   abbrev pub Sends : Counted X W → JobNumber → X → Sending X W → Counted X W → Type 0
   Sends old me item (sending.Sent waker) new = pipe.Sends old.pipe me item (sending.Sent waker) new.pipe × Counts old 1 0 new
   Sends old me item (sending.Parked back) new = pipe.Sends old.pipe me item (sending.Parked back) new.pipe × Counts old 0 0 new
   Sends old me item (sending.Shut back) new =
-      TakesNone old old.pipe.is_job_open old.pipe.is_owner_open 1 × (back ≡ item) × (new ≡ old)
+      TakesNone old.sent old.pipe.is_job_open old.pipe.is_owner_open 1 × (back ≡ item) × (new ≡ old)
 
   -- the owner drains
   abbrev pub Drains : Counted X W → W → List X → Drained → Option W → Counted X W → List X → Type 0
@@ -56,14 +61,16 @@ module _ {X W : Type 0} where
   Receives old waker answer spare new = pipe.Receives old.pipe waker answer spare new.pipe × Counts old 0 (got_by_receive answer) new
 
   -- the owner fills: as many as there is room for are inside; or none, and the waker comes back; or the owner is seated
-  abbrev pub Fills : Counted X W → W → List X → Filled → Option W → Counted X W → Type 0
+  abbrev pub Fills : CountedLending X W → W → List X → Filled → Option W → CountedLending X W → Type 0
   Fills old waker given (filled.Took n of_job) spare new =
-      pipe.Fills old.pipe waker given (filled.Took n of_job) spare new.pipe × Counts old n 0 new
+      lending.FillsIn old.pipe waker given (filled.Took n of_job) spare new.pipe × LendingCounts old n 0 new
   Fills old waker given filled.Shut spare new =
-      TakesNone old old.pipe.is_owner_open old.pipe.is_job_open (min (length given) (room old.pipe)) × (spare ≡ Some waker) × (new ≡ old)
+      TakesNone old.sent old.pipe.pipe.is_owner_open old.pipe.pipe.is_job_open (min (length given) (lending.free old.pipe))
+      × (spare ≡ Some waker)
+      × (new ≡ old)
   Fills old waker given (filled.Waits seat) spare new =
-      pipe.Fills old.pipe waker given (filled.Waits seat) spare new.pipe × Counts old 0 0 new
+      lending.FillsIn old.pipe waker given (filled.Waits seat) spare new.pipe × LendingCounts old 0 0 new
 
-  -- the job peeks
-  abbrev pub Peeks : Counted X W → JobNumber → List X → Peeked → Counted X W → List X → Type 0
-  Peeks old me out answer new shown = pipe.Peeks old.pipe me out answer new.pipe shown × Counts old 0 0 new
+  -- the job, which has nothing in its hand, is lent the front of what is inside
+  abbrev pub Lends : CountedLending X W → JobNumber → Peeked → List X → CountedLending X W → Type 0
+  Lends old me answer piece new = lending.Lends old.pipe me answer piece new.pipe × LendingCounts old 0 0 new

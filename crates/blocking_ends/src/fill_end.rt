@@ -18,17 +18,20 @@ use std::sync::{Arc, Mutex, Wait};
 #[derive(Drop)]
 pub struct FillEnd<X: Drop, R: PlaceRule<X>, H: Wait + Copy> {
     pipe: Arc<Mutex<OwnerToJob<X, R>>>,
+    // Where a whole piece is copied under no lock, before it is handed over.
+    ready: Vec<X>,
     sent: u64,
     source: Source,
     rt: H,
 }
 
 impl<X: Drop, R: PlaceRule<X>, H: Wait + Copy> FillEnd<X, R, H> {
-    pub(crate) fn new(rt: H, pipe: Arc<Mutex<OwnerToJob<X, R>>>) -> Self
+    pub(crate) fn new(rt: H, pipe: Arc<Mutex<OwnerToJob<X, R>>>, ready: Vec<X>) -> Self
         ensures { result.sent ≡ 0 }
     {
         FillEnd {
             pipe,
+            ready,
             sent: 0,
             source: Source::new(),
             rt,
@@ -60,15 +63,30 @@ impl<X: Drop, R: PlaceRule<X>, H: Wait + Copy> FillEnd<X, R, H> {
 }
 
 impl<X: Copy, R: PlaceRule<X>, H: Wait + Copy> FillEnd<X, R, H> {
+    ghost use Rattle.blocking_core.specs.Lending.{IsReady};
     ghost use Rattle.blocking_ends.specs.Answers.{IfTook, OnFullWait, sent_by_fill};
     ghost use Rattle.blocking_ends.specs.Rules.{HoldFrom};
+
+    // Copies the items, where they make a whole piece.
+    fn make_ready(&mut self, items: &[X])
+        ensures sent { self.new.sent ≡ self.old.sent }
+        ensures source { self.new.source ≡ self.old.source }
+        ensures ready { IsReady self.new.ready.items items.now }
+    {
+        self.ready.clear();
+        if items.len() == self.ready.capacity() {
+            let _ = self.ready.extend_from_slice(items);
+        }
+    }
 
     // Asks the pipe once. The waker is seated, or it comes back.
     fn ask(&mut self, waker: OwnerWaker, items: &[X]) -> Answered<Filled, OwnerWaker>
         requires some { 0 < length items.now }
         requires held { HoldFrom R.holds self.old.sent items.now }
+        requires ready { IsReady self.old.ready.items items.now }
         ensures sent { self.new.sent ≡ self.old.sent + sent_by_fill result.answer }
         ensures source { self.new.source ≡ self.old.source }
+        ensures ready { IsReady self.new.ready.items items.now }
         ensures took { IfTook result.answer (λ n. (0 < n) × (n ≤ length items.now)) }
     {
         for _ in self.rt.forever() {
@@ -76,7 +94,7 @@ impl<X: Copy, R: PlaceRule<X>, H: Wait + Copy> FillEnd<X, R, H> {
             if pipe.sent() != self.sent {
                 continue;
             }
-            let answered = pipe.fill_or_seat(waker, items);
+            let answered = pipe.fill_or_seat(waker, items, &mut self.ready);
             self.sent = pipe.sent();
             return answered;
         }
@@ -96,6 +114,7 @@ impl<X: Copy, R: PlaceRule<X>, H: Wait + Copy> FillEnd<X, R, H> {
         ensures source { self.new.source ≡ self.old.source }
         ensures kept { Keeps cx.old cx.new }
     {
+        self.make_ready(items);
         // (asked without a waker, so that what is there needs none)
         let Answered { answer, spare } = self.ask(None, items);
         match answer {

@@ -1,10 +1,12 @@
 //! A pipe as its lock holds it: with the counts of what was sent and received, and with what its rule says of what is inside.
 //!
 //! There is one type for each direction, since they differ in whose end is the sender's.
-ghost use Rattle.std.specs.Prelude.{◌≡◌, ◌<◌, ◌≤◌, ◌+◌, true, false, length, take, drop, IfOk};
+ghost use Rattle.std.specs.Prelude.{◌≡◌, ◌<◌, ◌≤◌, ◌+◌, ◌-◌, true, false, length, take, drop, vec_capacity, IfOk, None};
 
 use crate::rule::PlaceRule;
-use blocking_core::pipe::{Answered, Drained, Filled, Peeked, Pipe, Put, Received, Room, Sending};
+use blocking_core::pipe::{
+    Answered, Drained, Filled, LendingPipe, Peeked, Pipe, Put, Received, Room, Sending,
+};
 use blocking_pool::pool::{JobNo, WakeNote};
 use futures::task::Waker;
 use std::alloc::{AllocError, Global};
@@ -192,7 +194,7 @@ impl<X: Copy, R: PlaceRule<X>> JobToOwner<X, R> {
 /// A pipe into which an owner sends and from which its job receives.
 #[derive(Drop)]
 pub(crate) struct OwnerToJob<X: Drop, R: PlaceRule<X>> {
-    pipe: Pipe<X, OwnerWaker>,
+    pipe: LendingPipe<X, OwnerWaker>,
     sent: u64,
     received: u64,
     // Whether the owner may still send.
@@ -201,33 +203,34 @@ pub(crate) struct OwnerToJob<X: Drop, R: PlaceRule<X>> {
 }
 
 impl<X: Drop, R: PlaceRule<X>> Model for OwnerToJob<X, R> {
-    ghost use Rattle.std.specs.Prelude.{◌≡◌, Option};
-    ghost use Rattle.blocking_ends.specs.Counted.{Counted, IsKept, counted_code, waker_code};
+    ghost use Rattle.std.specs.Prelude.{◌≡◌, ◌+◌, Option};
+    ghost use Rattle.blocking_ends.specs.Counted.{CountedLending, IsKept, counted_lending_code, waker_code};
     ghost use Rattle.futures.specs.declared.task.waker.Waker.{Waker};
 
-    ghost Value = { Counted X (Option Waker) };
+    ghost Value = { CountedLending X (Option Waker) };
 
-    ghost coded = { counted_code X.code waker_code };
+    ghost coded = { counted_lending_code X.code waker_code };
 
     ghost view = { λ p. record { pipe = p.pipe; sent = p.sent; received = p.received } };
 
     ghost invariant = { λ p.
-        (p.is_open ≡ p.pipe.is_owner_open)
-        × IsKept R.holds R.ended p.pipe.items p.sent p.received p.pipe.is_owner_open };
+        (p.is_open ≡ p.pipe.pipe.is_owner_open)
+        × IsKept R.holds R.ended p.pipe.pipe.items p.sent (p.received + p.pipe.lent) p.pipe.pipe.is_owner_open };
 }
 
 impl<X: Drop, R: PlaceRule<X>> OwnerToJob<X, R> {
     ghost use Rattle.blocking_core.specs.Pipes.{empty_pipe};
-    ghost use Rattle.blocking_ends.specs.Sections.{Counts};
+    ghost use Rattle.blocking_ends.specs.Sections.{LendingCounts};
 
-    /// An empty pipe for at most `capacity` items, or an [`AllocError`] where there isn't memory for so many.
-    pub(crate) fn new(alloc: Global, capacity: usize) -> Result<Self, AllocError>
-        requires { 0 < capacity }
-        ensures { IfOk result
-            (λ new. new ≡ record { pipe = empty_pipe capacity; sent = 0; received = 0 }) }
+    /// An empty pipe for at most `capacity` items, whose pieces are of `piece`, or an [`AllocError`] where there isn't memory for so many.
+    pub(crate) fn new(alloc: Global, capacity: usize, piece: usize) -> Result<Self, AllocError>
+        requires some { 0 < capacity }
+        requires piece { 0 < piece }
+        ensures { IfOk result (λ new. new ≡
+            record { pipe = record { pipe = empty_pipe capacity; lent = 0 }; sent = 0; received = 0 }) }
     {
         Ok(OwnerToJob {
-            pipe: Pipe::new(alloc, capacity)?,
+            pipe: LendingPipe::new(alloc, capacity, piece)?,
             sent: 0,
             received: 0,
             is_open: true,
@@ -249,32 +252,36 @@ impl<X: Drop, R: PlaceRule<X>> OwnerToJob<X, R> {
         self.received
     }
 
-    /// How many items are inside.
-    pub(crate) fn len(&self) -> usize
-        ensures { result ≡ length self.now.pipe.items }
+    /// How many items are lent.
+    pub(crate) fn lent(&self) -> usize
+        ensures { result ≡ self.now.pipe.lent }
     {
-        self.pipe.len()
+        self.pipe.lent()
     }
 
     /// The owner closes its end, where the items may end. From then on none is taken.
     pub(crate) fn close_owner(&mut self) -> Option<WakeNote>
         requires { R.ended self.old.sent }
-        ensures pipe { self.new.pipe ≡
-            record self.old.pipe { is_owner_open = false; job_seat = None } }
-        ensures counts { Counts self.old 0 0 self.new }
-        ensures note { result ≡ self.old.pipe.job_seat }
+        ensures pipe { self.new.pipe ≡ record {
+          pipe = record self.old.pipe.pipe { is_owner_open = false; job_seat = None };
+          lent = self.old.pipe.lent;
+        } }
+        ensures counts { LendingCounts self.old 0 0 self.new }
+        ensures note { result ≡ self.old.pipe.pipe.job_seat }
     {
         self.is_open = false;
         self.pipe.close_owner()
     }
 
-    /// The job lets the first `count` items go, which are inside.
+    /// The job lets so many go of the items that it was lent.
     pub(crate) fn consume(&mut self, count: usize) -> Option<OwnerWaker>
-        requires { count ≤ length self.old.pipe.items }
-        ensures pipe { self.new.pipe ≡
-            record self.old.pipe { items = drop count self.old.pipe.items; owner_seat = None } }
-        ensures counts { Counts self.old 0 count self.new }
-        ensures waker { result ≡ self.old.pipe.owner_seat }
+        requires { count ≤ self.old.pipe.lent }
+        ensures pipe { self.new.pipe ≡ record {
+          pipe = record self.old.pipe.pipe { owner_seat = None };
+          lent = self.old.pipe.lent - count;
+        } }
+        ensures counts { LendingCounts self.old 0 count self.new }
+        ensures waker { result ≡ self.old.pipe.pipe.owner_seat }
     {
         let waker = self.pipe.consume(count);
         self.received += count as u64;
@@ -283,31 +290,38 @@ impl<X: Drop, R: PlaceRule<X>> OwnerToJob<X, R> {
 
     /// The job closes its end.
     pub(crate) fn close_job(&mut self) -> Option<OwnerWaker>
-        ensures pipe { self.new.pipe ≡
-            record self.old.pipe { is_job_open = false; owner_seat = None } }
-        ensures counts { Counts self.old 0 0 self.new }
-        ensures waker { result ≡ self.old.pipe.owner_seat }
+        ensures pipe { self.new.pipe ≡ record {
+          pipe = record self.old.pipe.pipe { is_job_open = false; owner_seat = None };
+          lent = self.old.pipe.lent;
+        } }
+        ensures counts { LendingCounts self.old 0 0 self.new }
+        ensures waker { result ≡ self.old.pipe.pipe.owner_seat }
     {
         self.pipe.close_job()
     }
 }
 
 impl<X: Copy, R: PlaceRule<X>> OwnerToJob<X, R> {
-    ghost use Rattle.blocking_ends.specs.Answers.{IfTook, OnDrained, shown_by};
+    ghost use Rattle.blocking_core.specs.Lending.{IsReady};
+    ghost use Rattle.blocking_ends.specs.Answers.{IfShown, IfTook, OnDrained};
     ghost use Rattle.blocking_ends.specs.Rules.{HoldFrom};
-    ghost use Rattle.blocking_ends.specs.Sections.{Fills, Peeks};
+    ghost use Rattle.blocking_ends.specs.Sections.{Fills, Lends};
 
-    /// The owner fills in the first of the items, which hold at their places, as many as there is room for.
+    /// The owner fills in the first of the items, which hold at their places, as many as there is room for. What stands ready is a
+    /// copy of them, or nothing.
     #[tactic(auto, using(crate::proofs::Kept::filled_some))]
     pub(crate) fn fill_or_seat(
         &mut self,
         waker: OwnerWaker,
         items: &[X],
+        ready: &mut Vec<X>,
     ) -> Answered<Filled, OwnerWaker>
         requires some { 0 < length items.now }
         requires held { HoldFrom R.holds self.old.sent items.now }
+        requires ready { IsReady ready.old.items items.now }
         ensures fills { Fills self.old waker items.now result.answer result.spare self.new }
         ensures took { IfTook result.answer (λ n. (0 < n) × (n ≤ length items.now)) }
+        ensures ready { IsReady ready.new.items items.now }
     {
         let most = items.len().min(self.pipe.room());
         if !self.is_open || u64::MAX - self.sent < most as u64 {
@@ -316,20 +330,23 @@ impl<X: Copy, R: PlaceRule<X>> OwnerToJob<X, R> {
                 spare: Some(waker),
             };
         }
-        let Answered { answer, spare } = self.pipe.fill_or_seat(waker, items);
+        let Answered { answer, spare } = self.pipe.fill_or_seat(waker, items, ready);
         if let Filled::Took(count, _) = &answer {
             self.sent += *count as u64;
         }
         Answered { answer, spare }
     }
 
-    /// The job copies the front of what is inside, each item of which holds at its place, or finds the end.
-    pub(crate) fn peek_or_seat(&mut self, me: JobNo, out: &mut [X]) -> Peeked
-        requires { 0 < length out.old }
-        ensures peeks { Peeks self.old me out.old result self.new out.new }
-        ensures held { HoldFrom R.holds self.old.received (take (shown_by result) out.new) }
+    /// The job, which has nothing in its hand, is lent the front of what is inside, each item of which holds at its place, or finds the
+    /// end.
+    pub(crate) fn lend_or_seat(&mut self, me: JobNo, piece: &mut Vec<X>) -> Peeked
+        requires none { self.old.pipe.lent ≡ 0 }
+        requires room { 0 < vec_capacity piece.old }
+        ensures lends { Lends self.old me result piece.new.items self.new }
+        ensures room { 0 < vec_capacity piece.new }
+        ensures held { IfShown result (λ _. HoldFrom R.holds self.old.received piece.new.items) }
         ensures ended { OnDrained result (R.ended self.old.received) }
     {
-        self.pipe.peek_or_seat(me, out)
+        self.pipe.lend_or_seat(me, piece)
     }
 }

@@ -1,5 +1,5 @@
 //! The two ends of a new pipe.
-ghost use Rattle.std.specs.Prelude.{◌≡◌, ◌<◌, IfOk};
+ghost use Rattle.std.specs.Prelude.{◌≡◌, ◌<◌, [], IfOk};
 
 use crate::fill_end::FillEnd;
 use crate::locked::{JobToOwner, OwnerToJob};
@@ -7,6 +7,7 @@ use crate::peek_end::PeekEnd;
 use crate::recv_end::RecvEnd;
 use crate::rule::PlaceRule;
 use crate::send_end::SendEnd;
+use blocking_core::job::PIECE;
 use std::alloc::{AllocError, AllocGlobal};
 use std::sync::{Arc, Mutex, Wait};
 
@@ -36,12 +37,18 @@ pub fn link_in<X: Drop, R: PlaceRule<X>, H: Wait + AllocGlobal + Copy>(
 ) -> Result<(FillEnd<X, R, H>, PeekEnd<X, R, H>), AllocError>
     requires { 0 < capacity }
     ensures sent { IfOk result (λ ends. ends.0.sent ≡ 0) }
-    ensures received { IfOk result (λ ends. (ends.1.received ≡ 0) × (ends.1.shown ≡ 0)) }
+    ensures received { IfOk result (λ ends. (ends.1.received ≡ 0) × (ends.1.shown ≡ [])) }
 {
+    let piece = capacity.min(PIECE);
+    let ready = Vec::with_capacity(rt.alloc(), piece)?;
+    let lent = Vec::with_capacity(rt.alloc(), piece)?;
     let pipe = Arc::new(
         rt.alloc(),
-        Mutex::new(OwnerToJob::new(rt.alloc(), capacity)?),
+        Mutex::new(OwnerToJob::new(rt.alloc(), capacity, piece)?),
     )?;
     let theirs = Arc::try_clone(&pipe)?;
-    Ok((FillEnd::new(rt, pipe), PeekEnd::new(rt, theirs)))
+    Ok((
+        FillEnd::new(rt, pipe, ready),
+        PeekEnd::new(rt, theirs, lent),
+    ))
 }

@@ -1,17 +1,18 @@
 //! The end of a job that receives from its owner.
-ghost use Rattle.std.specs.Prelude.{◌≡◌, ◌<◌, ◌≤◌, ◌+◌, ◌-◌, length, take, drop};
+ghost use Rattle.std.specs.Prelude.{◌≡◌, ◌<◌, ◌≤◌, ◌+◌, [], length, drop, vec_capacity};
 
 use crate::locked::{OwnerToJob, OwnerWaker};
 use crate::rule::PlaceRule;
 use blocking_core::pipe::Peeked;
 use blocking_lock::enter;
 use blocking_pool::pool::JobNo;
+use std::marker::Model;
 use std::sync::{Arc, Mutex, Wait};
 
-/// The end of a job that receives from its owner: the item from each place holds there, by the rule `R`. The job looks at items
-/// first, and lets them go when it is done with them.
+/// The end of a job that receives from its owner: the item from each place holds there, by the rule `R`. The job is lent items, which
+/// count as inside until it lets them go, and looks at them under no lock.
 ///
-/// As at the other end, a call uses the pipe only where that has the count that this end knows of and what it was shown, and else
+/// As at the other end, a call uses the pipe only where that has the count that this end knows of and what it was lent, and else
 /// tries again.
 ///
 /// A waker that a call answers was taken out of its seat, and is to be called. One that is let go calls itself.
@@ -19,20 +20,44 @@ use std::sync::{Arc, Mutex, Wait};
 pub struct PeekEnd<X: Drop, R: PlaceRule<X>, H: Wait + Copy> {
     pipe: Arc<Mutex<OwnerToJob<X, R>>>,
     received: u64,
-    // How many of the items that were shown last are still inside.
-    shown: usize,
+    // What was lent last, and how many of it were let go.
+    piece: Vec<X>,
+    gone: usize,
     rt: H,
 }
 
+// What came of a consume: the waker of an owner who waited, and how many items were consumed until then.
+struct Parted {
+    waker: Option<OwnerWaker>,
+    received: u64,
+}
+
+impl<X: Drop, R: PlaceRule<X>, H: Wait + Copy> Model for PeekEnd<X, R, H> {
+    ghost use Rattle.std.specs.Prelude.{◌<◌, ◌≤◌, drop, vec_len, vec_capacity};
+    ghost use Rattle.blocking_ends.specs.Counted.{Peeking, peeking_code};
+    ghost use Rattle.blocking_ends.specs.Rules.{HoldFrom};
+
+    ghost Value = { Peeking X };
+
+    ghost coded = { peeking_code X.code };
+
+    ghost view = { λ e. record { received = e.received; shown = drop e.gone e.piece.items } };
+
+    ghost invariant = { λ e. (e.gone ≤ vec_len e.piece) × (0 < vec_capacity e.piece)
+        × HoldFrom R.holds e.received (drop e.gone e.piece.items) };
+}
+
 impl<X: Drop, R: PlaceRule<X>, H: Wait + Copy> PeekEnd<X, R, H> {
-    pub(crate) fn new(rt: H, pipe: Arc<Mutex<OwnerToJob<X, R>>>) -> Self
-        ensures received { result.received ≡ 0 }
-        ensures shown { result.shown ≡ 0 }
+    pub(crate) fn new(rt: H, pipe: Arc<Mutex<OwnerToJob<X, R>>>, piece: Vec<X>) -> Self
+        requires none { piece.items ≡ [] }
+        requires room { 0 < vec_capacity piece }
+        ensures { result ≡ record { received = 0; shown = [] } }
     {
         PeekEnd {
             pipe,
             received: 0,
-            shown: 0,
+            piece,
+            gone: 0,
             rt,
         }
     }
@@ -44,34 +69,50 @@ impl<X: Drop, R: PlaceRule<X>, H: Wait + Copy> PeekEnd<X, R, H> {
         self.received
     }
 
-    /// Lets the first `count` items go, of those that the last peek showed and that weren't consumed since. Answers the waker of an
-    /// owner who waits.
-    pub fn consume(&mut self, count: usize) -> Option<OwnerWaker>
-        requires { count ≤ self.old.shown }
-        ensures received { self.new.received ≡ self.old.received + count }
-        ensures shown { self.new.shown ≡ self.old.shown - count }
+    /// The items that the last peek showed and that weren't consumed since.
+    pub fn shown(&self) -> &[X]
+        ensures { result.now ≡ self.now.shown }
+    {
+        &self.piece[self.gone..]
+    }
+
+    // Lets items go under the lock, where so many are lent.
+    fn part(&self, lent: usize, count: usize) -> Parted
+        requires { count ≤ lent }
+        ensures { result.received ≡ self.now.received + count }
     {
         for _ in self.rt.forever() {
             let mut pipe = enter(&self.pipe, &self.rt);
-            if pipe.received() != self.received || pipe.len() < self.shown {
-                continue;
+            if pipe.received() == self.received && pipe.lent() == lent {
+                let waker = pipe.consume(count);
+                let received = pipe.received();
+                return Parted { waker, received };
             }
-            let waker = pipe.consume(count);
-            self.received = pipe.received();
-            self.shown -= count;
-            return waker;
         }
         unreachable!()
     }
 
+    /// Lets the first `count` items go, of those that the last peek showed and that weren't consumed since. Answers the waker of an
+    /// owner who waits.
+    pub fn consume(&mut self, count: usize) -> Option<OwnerWaker>
+        requires { count ≤ length self.old.shown }
+        ensures received { self.new.received ≡ self.old.received + count }
+        ensures shown { self.new.shown ≡ drop count self.old.shown }
+    {
+        let left = self.piece.len() - self.gone;
+        let Parted { waker, received } = self.part(left, count);
+        self.received = received;
+        self.gone += count;
+        waker
+    }
+
     /// Closes this end: nothing more is sent. Answers the waker of an owner who waits.
     pub fn close(&mut self) -> Option<OwnerWaker>
-        ensures received { self.new.received ≡ self.old.received }
-        ensures shown { self.new.shown ≡ self.old.shown }
+        ensures { self.new ≡ self.old }
     {
         for _ in self.rt.forever() {
             let mut pipe = enter(&self.pipe, &self.rt);
-            if pipe.received() == self.received && self.shown <= pipe.len() {
+            if pipe.received() == self.received {
                 return pipe.close_job();
             }
         }
@@ -83,27 +124,29 @@ impl<X: Copy, R: PlaceRule<X>, H: Wait + Copy> PeekEnd<X, R, H> {
     ghost use Rattle.blocking_ends.specs.Answers.{IfShown, OnDrained, shown_by};
     ghost use Rattle.blocking_ends.specs.Rules.{HoldFrom};
 
-    /// Copies the first items into `out`, as many as there are and it holds, and leaves them inside. Where the pipe is empty and the
-    /// owner's end is open the job is seated.
-    pub fn peek_or_seat(&mut self, me: JobNo, out: &mut [X]) -> Peeked
-        requires { 0 < length out.old }
+    /// Shows the first items, and leaves them inside: what is left of those that were shown last, or else the next ones. Where the pipe
+    /// is empty and the owner's end is open the job is seated.
+    pub fn peek_or_seat(&mut self, me: JobNo) -> Peeked
         ensures received { self.new.received ≡ self.old.received }
-        ensures shown { self.new.shown ≡ shown_by result }
-        ensures some { IfShown result (λ n. (0 < n) × (n ≤ length out.old)) }
-        ensures held { HoldFrom R.holds self.old.received (take (shown_by result) out.new) }
-        ensures rest { drop (shown_by result) out.new ≡ drop (shown_by result) out.old }
+        ensures shown { length self.new.shown ≡ shown_by result }
+        ensures some { IfShown result (λ n. 0 < n) }
+        ensures held { HoldFrom R.holds self.old.received self.new.shown }
         ensures ended { OnDrained result (R.ended self.old.received) }
     {
+        let left = self.piece.len() - self.gone;
+        if left > 0 {
+            return Peeked::Some(left);
+        }
         for _ in self.rt.forever() {
             let mut pipe = enter(&self.pipe, &self.rt);
-            if pipe.received() != self.received || pipe.len() < self.shown {
+            if pipe.received() != self.received || pipe.lent() != 0 {
                 continue;
             }
-            let peeked = pipe.peek_or_seat(me, out);
+            let peeked = pipe.lend_or_seat(me, &mut self.piece);
             drop(pipe);
-            self.shown = match peeked {
-                Peeked::Some(count) => count,
-                Peeked::Parked | Peeked::Drained => 0,
+            self.gone = match peeked {
+                Peeked::Some(_) => 0,
+                Peeked::Parked | Peeked::Drained => self.piece.len(),
             };
             return peeked;
         }

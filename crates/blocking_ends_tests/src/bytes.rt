@@ -92,11 +92,11 @@ impl<H: Runtime> Job for Taker<H> {
     // (a waker that is let go wakes)
     fn step(&mut self, me: JobNo) -> JobStep {
         let place = self.end.received();
-        let mut front = [0u8; 2];
-        match self.end.peek_or_seat(me, &mut front) {
+        match self.end.peek_or_seat(me) {
             Peeked::Some(count) => {
+                let are_next = are_next(place, self.end.shown());
                 drop(self.end.consume(count));
-                if are_next(place, &front[..count]) {
+                if are_next {
                     JobStep::Again
                 } else {
                     JobStep::Done

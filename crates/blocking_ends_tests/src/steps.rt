@@ -125,7 +125,8 @@ const ROWS: &[Row] = &[
             (Step::Fill(&[7]), Shown::Waits),
             (Step::Take(1), Shown::Items(2, 5, true)),
             (Step::Fill(&[7]), Shown::Took(1, false)),
-            (Step::Take(2), Shown::Items(2, 6, false)),
+            (Step::Take(1), Shown::Items(1, 6, false)),
+            (Step::Take(1), Shown::Items(1, 7, false)),
             (Step::Fill(&[8]), Shown::Took(1, false)),
             (Step::Filled, Shown::Count(4)),
             (Step::CloseFiller, Shown::Closed(false)),
@@ -240,11 +241,11 @@ impl<J: Job, H: Runtime> Bench<J, H> {
     }
 
     fn take(&mut self, count: usize) -> Shown {
-        let mut items = [0u64; 3];
-        match self.taker.peek_or_seat(self.me, &mut items) {
-            Peeked::Some(shown) if count <= shown => {
+        match self.taker.peek_or_seat(self.me) {
+            Peeked::Some(shown) if 0 < shown && count <= shown => {
+                let first = self.taker.shown()[0];
                 let waker = self.taker.consume(count);
-                Shown::Items(shown, items[0], waker.is_some())
+                Shown::Items(shown, first, waker.is_some())
             }
             Peeked::Some(_) => Shown::Missing,
             Peeked::Parked => Shown::Waits,

@@ -1,8 +1,8 @@
 -- What one turn of a poll does to its machine.
 use Rattle.std.proofs.Common.{◌≡◌, if◌then◌else◌, ◌⊎◌, ◌<◌, ◌≤◌, ℕ, zero, suc, Bool, true, false, List, [], ◌∷◌, ◌++◌, Option, Some, None, inl, inr, refl, sym, ap, ◌∙◌, subst, arith}
 use Rattle.std.proofs.lemmas.Bool.{le-leb}
-use Rattle.blocking_core.specs.OwnerCalls.{OwnerMachine, table, in_own, in_session, stop, at_state, goes_on_in, has_pipe, begun_by, shut, refusal, after_end, after_back, after_seek, sought_by, new_poll, owner_next, owner_after, after_got}
-use Rattle.blocking_core.specs.Positions.{same_position, same_offset}
+use Rattle.blocking_core.specs.OwnerCalls.{OwnerMachine, table, in_own, in_session, stop, at_state, goes_on_in, has_pipe, begun_by, shut, refusal, after_end, after_back, after_seek, new_poll, owner_next, owner_after, after_got}
+use Rattle.blocking_core.specs.Positions.{same_position}
 use Rattle.blocking_core.specs.declared.io.Fault.{Fault}
 use Rattle.blocking_core.specs.declared.io.Fault.TheVariants as fault
 use Rattle.blocking_core.specs.declared.io.Position.{Position}
@@ -22,11 +22,10 @@ use Rattle.blocking_core.specs.declared.unblock.OwnerAction.TheVariants as act
 use Rattle.blocking_core.specs.declared.unblock.OwnerAnswer.{OwnerAnswer}
 use Rattle.blocking_core.specs.declared.unblock.OwnerAnswer.TheVariants as by
 use Rattle.blocking_pool.specs.declared.pool.answer.Refusal.{Refusal}
-use Rattle.futures.specs.declared.task.Poll.{Poll}
-use Rattle.futures.specs.declared.task.Poll.TheVariants.{Ready, Pending}
+use Rattle.futures.specs.declared.task.Poll.TheVariants.{Ready}
 use Rattle.std.specs.declared.io.Error.{Error}
 use Rattle.blocking_unblock.specs.Owners.{AnswersTo, BackAt, HasReply, IfRefused, IsAt, IsClosed, IsOfJob, KeepsAtOnce, KeepsRefused, Runs, Reaches, state_of, has, wanted, offered}
-use Rattle.blocking_unblock.specs.Polls.{Kept, Way, Item, Gave, Starts, Operates, HasSession, HasPipe, AtOwnEnd, Onward, FitsReply, IsGoing, Resumes, MayAsk, FitsAction, Stands, CanDo, Brings, KeepsOpen, Drains, Fills, Receives, Does, KeepsFirst, KeepsBrought, last_action}
+use Rattle.blocking_unblock.specs.Polls.{Kept, Way, Item, Gave, Starts, Operates, HasSession, HasPipe, AtOwnEnd, Onward, FitsReply, IsGoing, Resumes, MayAsk, FitsAction, Stands, CanDo, Brings, KeepsOpen, Does, KeepsFirst, KeepsBrought}
 use Rattle.blocking_unblock.specs.declared.place.Place.{Place}
 
 -- what a call that begins nothing on its own has to bring: some bytes, or an operation whose session is still to begin

@@ -1,5 +1,5 @@
 -- What contracts see of the job of an operation, and what each of its steps does.
-use Rattle.std.specs.Prelude.{◌≡◌, Bool, Option, Some, None, IsSome, IsNone, IfSome, refl}
+use Rattle.std.specs.Prelude.{◌≡◌, Bool, Option, Some, None, IsSome, IfSome, refl}
 use Rattle.std.specs.Coded.{Coded, code_by, coded×, coded_bool, coded_option}
 use Rattle.blocking_core.specs.Machines.{Machine}
 use Rattle.blocking_core.specs.Operations.{operation_next, operation_after}

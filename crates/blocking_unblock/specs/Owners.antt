@@ -7,8 +7,6 @@ use Rattle.blocking_core.specs.declared.pipe.Drained.{Drained}
 use Rattle.blocking_core.specs.declared.pipe.Drained.TheVariants as drained
 use Rattle.blocking_core.specs.declared.pipe.Filled.{Filled}
 use Rattle.blocking_core.specs.declared.pipe.Filled.TheVariants as filled
-use Rattle.blocking_core.specs.declared.pipe.Received.{Received}
-use Rattle.blocking_core.specs.declared.pipe.Received.TheVariants as received
 use Rattle.blocking_pool.specs.declared.pool.answer.Refusal.{Refusal}
 use Rattle.blocking_pool.specs.declared.pool.answer.Refused.{Refused}
 use Rattle.blocking_pool.specs.declared.pool.token.WakeNote.{WakeNote}

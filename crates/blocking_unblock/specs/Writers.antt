@@ -1,5 +1,5 @@
 -- What contracts see of a writing job, and what each of its steps does.
-use Rattle.std.specs.Prelude.{◌+◌, ◌≡◌, ◌<◌, ◌≤◌, ℕ, Bool, List, take, Option, Some, None, refl}
+use Rattle.std.specs.Prelude.{◌+◌, ◌≡◌, ◌<◌, ◌≤◌, ℕ, Bool, List, take, drop, Option, Some, None, refl}
 use Rattle.std.specs.Coded.{Coded, code_by, coded×, coded_bool, coded_ℕ, coded_list, coded_option}
 use Rattle.std.specs.Io.KnownBytes.{Appends, Keeps}
 use Rattle.std.specs.declared.io.Error.{Error}
@@ -15,8 +15,8 @@ use Rattle.blocking_core.specs.contracts.job.write.WriteAction.{the_row}
 use Rattle.blocking_pool.specs.declared.pool.job.JobStep.{JobStep}
 use Rattle.blocking_pool.specs.declared.pool.job.JobStep.TheVariants as step
 
--- a writing job: what it does next and what its writer did wrong, its writer until that is given back, what stands in its piece, and
--- how many bytes it let go of
+-- a writing job: what it does next and what its writer did wrong, its writer until that is given back, the bytes that it was lent and
+-- still has, and how many bytes it let go of
 pub record WriteSeen (T : Type 0) : Type 0 where
   pub core : WriteMachine Error
   pub writer : Option T
@@ -67,13 +67,15 @@ module _ {T : Type 0} where
   held contents (Some writer) = contents writer
 
   -- What becomes of the writer and the piece: a write offers the first bytes of the piece and no others, and of these the writer holds
-  -- those that it took; nothing else changes what it holds, and only a peek changes the piece.
+  -- those that it took; nothing else changes what it holds. Bytes leave the front of the piece as they are let go, and only a peek
+  -- brings others.
   abbrev pub Hands : (T → Option (List ℕ)) → WriteAction → WriteAnswer Error → WriteSeen T → WriteSeen T → Type 0
   Hands contents (Write most) (by.Took count) old new =
       Appends (held contents old.writer) (held contents new.writer) (take count (take most old.piece)) × (new.piece ≡ old.piece)
   Hands contents (Write most) answer old new = Keeps (held contents old.writer) (held contents new.writer) × (new.piece ≡ old.piece)
   Hands contents Flush answer old new = Keeps (held contents old.writer) (held contents new.writer) × (new.piece ≡ old.piece)
   Hands contents Peek answer old new = new.writer ≡ old.writer
+  Hands contents (Consume count) answer old new = (new.writer ≡ old.writer) × (new.piece ≡ drop count old.piece)
   Hands contents Finish answer old new = (new.writer ≡ None) × (new.piece ≡ old.piece)
   Hands contents action answer old new = (new.writer ≡ old.writer) × (new.piece ≡ old.piece)
 
@@ -93,14 +95,14 @@ module _ {T : Type 0} where
   IsStepped contents old new told = IsSteppedBy contents (write_next old.core) old new told
 
 -- The job has what its next action is about: its writer until that is given back, and bytes that were shown for what it offers or lets
--- go. shown is what was shown last and not let go since, piece how many bytes its own piece holds.
-abbrev pub Fits : {T : Type 0} → WriteAction → ℕ → ℕ → Option T → Type 0
-Fits Peek shown piece (Some writer) = Unit {0}
-Fits (Write most) shown piece (Some writer) = (most ≤ shown) × (most ≤ piece)
-Fits (Consume count) shown piece (Some writer) = count ≤ shown
-Fits Flush shown piece (Some writer) = Unit {0}
-Fits Close shown piece (Some writer) = Unit {0}
-Fits Finish shown piece (Some writer) = Unit {0}
-Fits Deliver shown piece writer = ⊥
-Fits Done shown piece writer = Unit {0}
-Fits action shown piece None = ⊥
+-- go. shown is how many were shown last and not let go since.
+abbrev pub Fits : {T : Type 0} → WriteAction → ℕ → Option T → Type 0
+Fits Peek shown (Some writer) = Unit {0}
+Fits (Write most) shown (Some writer) = most ≤ shown
+Fits (Consume count) shown (Some writer) = count ≤ shown
+Fits Flush shown (Some writer) = Unit {0}
+Fits Close shown (Some writer) = Unit {0}
+Fits Finish shown (Some writer) = Unit {0}
+Fits Deliver shown writer = ⊥
+Fits Done shown writer = Unit {0}
+Fits action shown None = ⊥

@@ -167,13 +167,8 @@ impl<T: Write + Drop, I: Drop, J: Job + Carries<WriteJob<T, H>>, H: Runtime> Len
         let Ok(parts) = write_parts(rt, capacity.bytes) else {
             return Err(no_memory(handle));
         };
-        let WriteParts {
-            session,
-            end,
-            link,
-            piece,
-        } = parts;
-        match enter(executor, WriteJob::new(rt, handle, piece, end, link)) {
+        let WriteParts { session, end, link } = parts;
+        match enter(executor, WriteJob::new(rt, handle, end, link)) {
             Ok(()) => Ok(session),
             Err(Refused { back, why }) => match back.into_writer() {
                 Some(back) => Err(Refused { back, why }),

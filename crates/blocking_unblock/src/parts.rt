@@ -26,7 +26,6 @@ pub(crate) struct WriteParts<T: Drop, I: Drop, H: Wait + Copy> {
     pub session: Session<T, I, H>,
     pub end: PeekEnd<u8, AnyPlace, H>,
     pub link: Arc<Link<T, MayFail>>,
-    pub piece: Vec<u8>,
 }
 
 /// What the job of an iterator needs beside that.
@@ -74,10 +73,8 @@ pub(crate) fn write_parts<T: Drop, I: Drop, H: Wait + AllocGlobal + Copy>(
     capacity: usize,
 ) -> Result<WriteParts<T, I, H>, AllocError>
     requires { 0 < capacity }
-    ensures { IfOk result (λ parts. (0 < vec_len parts.piece) × (vec_len parts.piece ≤ 65536)
-        × (kind_of parts.session.side ≡ Writing) × (parts.session.owner_end ≡ Open)) }
+    ensures { IfOk result (λ parts. (kind_of parts.session.side ≡ Writing) × (parts.session.owner_end ≡ Open)) }
 {
-    let piece = piece(rt, capacity)?;
     let Linked {
         way_back,
         link: theirs,
@@ -87,7 +84,6 @@ pub(crate) fn write_parts<T: Drop, I: Drop, H: Wait + AllocGlobal + Copy>(
         session: Session::new(Side::Writing(end, way_back)),
         end: job_end,
         link: theirs,
-        piece,
     })
 }
 

@@ -7,7 +7,7 @@ ghost use Rattle.blocking_core.specs.Writing.{new_write, write_next};
 
 use crate::link::{Link, MayFail};
 use crate::slot::OwnerWaker;
-use blocking_core::job::{WriteAction, WriteAnswer, WriteCore};
+use blocking_core::job::{PIECE, WriteAction, WriteAnswer, WriteCore};
 use blocking_core::pipe::Peeked;
 use blocking_core::pool::{Carries, Job, JobNo, JobStep};
 use blocking_ends::{AnyPlace, PeekEnd};
@@ -25,8 +25,6 @@ pub struct WriteJob<T: Drop, H: Wait + Copy> {
     core: WriteCore<io::Error>,
     // The writer, until it is given back.
     writer: Option<T>,
-    // Where a piece stands between the pipe and the writer.
-    piece: Vec<u8>,
     end: PeekEnd<u8, AnyPlace, H>,
     // The waker that was taken out of the owner's seat, and has to be called.
     waker: OwnerWaker,
@@ -35,7 +33,7 @@ pub struct WriteJob<T: Drop, H: Wait + Copy> {
 }
 
 impl<T: Drop, H: Wait + Copy> Model for WriteJob<T, H> {
-    ghost use Rattle.std.specs.Prelude.{◌<◌, ◌≤◌, vec_len};
+    ghost use Rattle.std.specs.Prelude.{length};
     ghost use Rattle.blocking_unblock.specs.Writers.{WriteSeen, write_code, Fits};
 
     ghost Value = { WriteSeen T };
@@ -45,12 +43,11 @@ impl<T: Drop, H: Wait + Copy> Model for WriteJob<T, H> {
     ghost view = { λ j. record {
       core = j.core;
       writer = j.writer;
-      piece = j.piece.items;
+      piece = j.end.shown;
       received = j.end.received;
     } };
 
-    ghost invariant = { λ j. (0 < vec_len j.piece) × (vec_len j.piece ≤ 65536)
-        × Fits j.core.next j.end.shown (vec_len j.piece) j.writer };
+    ghost invariant = { λ j. Fits j.core.next (length j.end.shown) j.writer };
 }
 
 // Offers the writer so many bytes of the piece.
@@ -63,24 +60,19 @@ fn offer<T: Write>(writer: &mut T, piece: &[u8], most: usize) -> io::Result<usiz
 }
 
 impl<T: Drop, H: Wait + Copy> WriteJob<T, H> {
-    ghost use Rattle.std.specs.Prelude.{vec_len};
     ghost use Rattle.blocking_unblock.specs.Writers.{WriteSeen};
 
     pub(crate) fn new(
         rt: H,
         writer: T,
-        piece: Vec<u8>,
         end: PeekEnd<u8, AnyPlace, H>,
         link: Arc<Link<T, MayFail>>,
     ) -> WriteJob<T, H>
-        requires some { 0 < vec_len piece }
-        requires within { vec_len piece ≤ 65536 }
-        ensures { result ≡ record { core = new_write; writer = Some writer; piece = piece.items; received = end.received } }
+        ensures { result ≡ record { core = new_write; writer = Some writer; piece = end.shown; received = end.received } }
     {
         WriteJob {
             core: WriteCore::new(),
             writer: Some(writer),
-            piece,
             end,
             waker: None,
             link,
@@ -95,7 +87,6 @@ impl<T: Drop, H: Wait + Copy> WriteJob<T, H> {
         let WriteJob {
             core: _,
             writer,
-            piece: _,
             end: _,
             waker: _,
             link: _,
@@ -112,9 +103,9 @@ impl<T: Write + Drop, H: Wait + Copy> WriteJob<T, H> {
         requires { write_next self.old.core ≡ Peek }
         ensures { IsSteppedBy T.contents Peek self.old self.new result }
     {
-        match self.end.peek_or_seat(me, self.piece.as_mut_slice()) {
+        match self.end.peek_or_seat(me) {
             Peeked::Some(count) => {
-                self.core.answer(WriteAnswer::Peeked(count));
+                self.core.answer(WriteAnswer::Peeked(count.min(PIECE)));
                 JobStep::Again
             }
             Peeked::Parked => {
@@ -135,7 +126,7 @@ impl<T: Write + Drop, H: Wait + Copy> WriteJob<T, H> {
         let Some(writer) = &mut self.writer else {
             unreachable!()
         };
-        match offer(writer, &self.piece, most) {
+        match offer(writer, self.end.shown(), most) {
             Ok(count) => self.core.answer(WriteAnswer::Took(count)),
             Err(error) => self.core.answer(WriteAnswer::Failed(error)),
         }
@@ -212,7 +203,6 @@ impl<T: Drop, H: Wait + Copy> Drop for WriteJob<T, H> {
         let WriteJob {
             core,
             writer,
-            piece: _,
             end: _,
             waker,
             link,

@@ -19,7 +19,6 @@ const PIECE: usize = 65_536;
 #[derive(Drop)]
 struct Taker<H: Runtime> {
     end: PeekEnd<u8, AnyPlace, H>,
-    buffer: Vec<u8>,
     told: Option<oneshot::Sender<u64>>,
 }
 
@@ -30,13 +29,11 @@ impl<H: Runtime> Job for Taker<H> {
 
     fn step(&mut self, me: JobNo) -> JobStep {
         let place = self.end.received();
-        if self.buffer.is_empty() {
-            return JobStep::Done;
-        }
-        match self.end.peek_or_seat(me, &mut self.buffer) {
+        match self.end.peek_or_seat(me) {
             Peeked::Some(count) => {
+                let is_right = is_right(place, self.end.shown());
                 drop(self.end.consume(count));
-                if is_right(place, &self.buffer[..count]) {
+                if is_right {
                     JobStep::Again
                 } else {
                     JobStep::Done
@@ -103,13 +100,12 @@ impl<'a, J: Job, H: Runtime> Future for Filling<'a, J, H> {
     }
 }
 
-// All bytes of the source to a job and through its buffer.
+// All bytes of the source to a job.
 fn cross<R: Host>(host: R, executor: &Executor<Taker<R>, R>, source: &[u8]) -> io::Result<()> {
     let (end, theirs) = link_in(host, PIECE)?;
     let (told, tells) = oneshot::channel(host.alloc())?;
     let taker = Taker {
         end: theirs,
-        buffer: vec![in host.alloc(); 0u8; PIECE]?,
         told: Some(told),
     };
     if executor.add(taker).is_err() {

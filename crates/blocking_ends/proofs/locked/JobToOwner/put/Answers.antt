@@ -1,4 +1,4 @@
-use Rattle.std.proofs.Common.{subst, sym, rules, arith}
+use Rattle.std.proofs.Common.{subst, sym, rules}
 use Rattle.blocking_ends.specs.Rules.{HoldFrom}
 use Rattle.blocking_ends.proofs.Kept.{put_kept}
 use Rattle.blocking_ends.proofs.locked.JobToOwner.put.Goals as goal

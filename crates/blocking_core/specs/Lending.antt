@@ -1,0 +1,70 @@
+-- What contracts see of a pipe that lends its items, and what its calls answer and leave.
+use Rattle.std.specs.Prelude.{◌≡◌, ℕ, ◌+◌, ◌-◌, ◌<◌, ◌≤◌, Bool, true, false, List, [], ◌++◌, length, take, drop, Option, Some, None, refl}
+use Rattle.std.specs.Coded.{Coded, code_by, coded×, coded_ℕ}
+use Rattle.blocking_pool.specs.Jobs.{JobNumber}
+use Rattle.blocking_core.specs.Pipes.{Pipe, pipe_code}
+use Rattle.blocking_core.specs.Places.{Served, Waiting, Closed, fill}
+use Rattle.blocking_core.specs.PipeAnswers.{job_seated, owner_seated}
+use Rattle.blocking_core.specs.declared.pipe.Peeked.{Peeked}
+use Rattle.blocking_core.specs.declared.pipe.Peeked.TheVariants as peeked
+use Rattle.blocking_core.specs.declared.pipe.Filled.{Filled}
+use Rattle.blocking_core.specs.declared.pipe.Filled.TheVariants as filled
+
+-- a pipe, with the items that stand in it, and how many more its job has in its hand that count as inside
+pub record Lending (X W : Type 0) : Type 0 where
+  pub pipe : Pipe X W
+  pub lent : ℕ
+
+abbrev pub lending_code : {X W : Type 0} → Coded X → Coded W → Coded (Lending X W)
+lending_code {X} {W} item waker =
+    code_by (Pipe X W × ℕ) (coded× (pipe_code item waker) coded_ℕ) (λ seen. (seen.pipe, seen.lent)) (λ parts. record { pipe = parts.0; lent = parts.1 }) (λ _. refl)
+
+-- of so many items inside and so many lent, no more than the capacity
+pub record IsCounted (queued lent inside pieces capacity : ℕ) : Type 0 where
+  pub all : queued ≡ pieces
+  pub within : lent + queued + inside ≤ capacity
+
+-- what stands ready is a copy of what is given, or nothing
+abbrev pub IsReady : {X : Type 0} → List X → List X → Type 0
+IsReady ready given = 0 < length ready → ready ≡ given
+
+-- what a job has in its hand after it asked for more: what it was lent, or nothing
+abbrev pub in_hand : {X : Type 0} → Peeked → List X → List X
+in_hand (peeked.Some n) piece = piece
+in_hand peeked.Parked piece = []
+in_hand peeked.Drained piece = []
+
+module _ {X W : Type 0} where
+  -- how many more items it takes
+  abbrev pub free : Lending X W → ℕ
+  free seen = seen.pipe.capacity - (seen.lent + length seen.pipe.items)
+
+  -- The plain pipe that its two sides see together: what the job has in its hand stands at the front.
+  abbrev pub whole : List X → Lending X W → Pipe X W
+  whole hand seen = record seen.pipe { items = hand ++ seen.pipe.items }
+
+  -- The owner fills: the first of what is given are inside, and the job's note leaves its seat; or nobody takes them; or the owner
+  -- is seated. The waker that isn't seated comes back.
+  abbrev pub FillsIn : Lending X W → W → List X → Filled → Option W → Lending X W → Type 0
+  FillsIn old waker given (filled.Took n note) spare new =
+      (fill (length given) (free old) old.pipe.is_job_open old.pipe.job_seat ≡ Served (n, note))
+      × (0 < n)
+      × (new ≡ record { pipe = record old.pipe { items = old.pipe.items ++ take n given; job_seat = None }; lent = old.lent })
+      × (spare ≡ Some waker)
+  FillsIn old waker given filled.Shut spare new =
+      (fill (length given) (free old) old.pipe.is_job_open old.pipe.job_seat ≡ Closed) × (new ≡ old) × (spare ≡ Some waker)
+  FillsIn old waker given (filled.Waits seat) spare new =
+      (fill (length given) (free old) old.pipe.is_job_open old.pipe.job_seat ≡ Waiting)
+      × (new ≡ record { pipe = owner_seated old.pipe waker; lent = old.lent })
+      × (spare ≡ old.pipe.owner_seat)
+
+  -- The job, which has nothing in its hand, is lent the front of what is inside; or it is seated; or the pipe is drained.
+  abbrev pub Lends : Lending X W → JobNumber → Peeked → List X → Lending X W → Type 0
+  Lends old me (peeked.Some n) piece new =
+      (0 < n)
+      × (n ≤ length old.pipe.items)
+      × (piece ≡ take n old.pipe.items)
+      × (new ≡ record { pipe = record old.pipe { items = drop n old.pipe.items }; lent = n })
+  Lends old me peeked.Parked piece new =
+      (old.pipe.items ≡ []) × (old.pipe.is_owner_open ≡ true) × (new ≡ record old { pipe = job_seated old.pipe me })
+  Lends old me peeked.Drained piece new = (old.pipe.items ≡ []) × (old.pipe.is_owner_open ≡ false) × (new ≡ old)

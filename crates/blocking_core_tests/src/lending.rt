@@ -1,0 +1,176 @@
+//! The worked rows of a pipe that lends.
+use crate::pipe::bench::Bench;
+use crate::stop::stop;
+use blocking_core::pipe::{Answered, Filled, LendingPipe, Peeked};
+use blocking_core::pool::JobNo;
+use std::alloc::Global;
+
+// The owner's waker.
+const OWNER: u8 = 7;
+
+// How many bytes a whole piece has.
+const WHOLE: usize = 2;
+
+// One call. Bytes follow one another: they are named by the first and by how many they are.
+#[derive(Clone, Copy)]
+enum Step {
+    // The owner fills bytes in, three at most; a whole piece of them stands ready.
+    Fill(u8, usize),
+    // The job, which has nothing in its hand, asks for more.
+    Lend,
+    // The job lets so many bytes go.
+    Consume(usize),
+    CloseOwner,
+    CloseJob,
+}
+
+// What a call shows. After each, so many bytes are lent, and for so many there is room.
+#[derive(Clone, Copy, PartialEq, Eq)]
+enum Shown {
+    // So many bytes went in, and the serial of the job that is due.
+    Took(usize, Option<u64>),
+    // The owner is seated, and this waker is left over.
+    Waits(Option<u8>),
+    // The job is gone.
+    Over,
+    // These bytes stand in the job's hand.
+    Lent(u8, usize),
+    Parked,
+    Drained,
+    // This waker left the seat, and is due.
+    Waker(Option<u8>),
+    // The serial of the job that is due.
+    Due(Option<u64>),
+    // The row asks for what can't be asked, or other bytes stand in the hand.
+    Misplaced,
+}
+
+// A call, what it shows, how many bytes are lent then, and for how many more there is room.
+type Line = (Step, Shown, usize, usize);
+
+// Capacity 5: the first two pieces go through as they are, and the bytes after them through the ring.
+const PIECES: &[Line] = &[
+    (Step::Lend, Shown::Parked, 0, 5),
+    (Step::Fill(b'a', 2), Shown::Took(2, Some(1)), 0, 3),
+    (Step::Fill(b'c', 2), Shown::Took(2, None), 0, 1),
+    (Step::Fill(b'e', 3), Shown::Took(1, None), 0, 0),
+    (Step::Fill(b'f', 2), Shown::Waits(None), 0, 0),
+    (Step::Lend, Shown::Lent(b'a', 2), 2, 0),
+    (Step::Consume(1), Shown::Waker(Some(OWNER)), 1, 1),
+    (Step::Fill(b'f', 2), Shown::Took(1, None), 1, 0),
+    (Step::Consume(1), Shown::Waker(None), 0, 1),
+    (Step::Lend, Shown::Lent(b'c', 2), 2, 1),
+    (Step::Consume(2), Shown::Waker(None), 0, 3),
+    (Step::Lend, Shown::Lent(b'e', 2), 2, 3),
+    (Step::Fill(b'g', 2), Shown::Took(2, None), 2, 1),
+    (Step::CloseOwner, Shown::Due(None), 2, 1),
+    (Step::Consume(2), Shown::Waker(None), 0, 3),
+    (Step::Lend, Shown::Lent(b'g', 2), 2, 3),
+    (Step::CloseJob, Shown::Waker(None), 2, 3),
+    (Step::Fill(b'i', 2), Shown::Over, 2, 3),
+    (Step::Consume(2), Shown::Waker(None), 0, 5),
+    (Step::Lend, Shown::Drained, 0, 5),
+];
+
+// A pipe, what stands ready of its owner, and what its job has in its hand.
+#[derive(Drop)]
+struct Both {
+    pipe: LendingPipe<u8, u8>,
+    ready: Vec<u8>,
+    hand: Vec<u8>,
+    bench: Bench,
+    job: JobNo,
+}
+
+// Whether these bytes follow one another.
+fn in_order(bytes: &[u8]) -> bool {
+    let Some(first) = bytes.first() else {
+        return true;
+    };
+    let mut next = *first;
+    for byte in bytes {
+        if *byte != next {
+            return false;
+        }
+        next = next.wrapping_add(1);
+    }
+    true
+}
+
+impl Both {
+    fn new(alloc: Global) -> Option<Both> {
+        let bench = Bench::new(alloc, 1)?;
+        let job = bench.job(1)?;
+        Some(Both {
+            pipe: LendingPipe::new(alloc, 5, WHOLE).ok()?,
+            ready: Vec::with_capacity(alloc, WHOLE).ok()?,
+            hand: Vec::with_capacity(alloc, WHOLE).ok()?,
+            bench,
+            job,
+        })
+    }
+
+    fn fill(&mut self, first: u8, count: usize) -> Shown {
+        if count == 0 || count > 3 {
+            return Shown::Misplaced;
+        }
+        let bytes = [first, first.wrapping_add(1), first.wrapping_add(2)];
+        self.ready.clear();
+        if count == WHOLE && self.ready.extend_from_slice(&bytes[..count]).is_err() {
+            return Shown::Misplaced;
+        }
+        let Answered { answer, spare } = self
+            .pipe
+            .fill_or_seat(OWNER, &bytes[..count], &mut self.ready);
+        match answer {
+            Filled::Took(count, note) => Shown::Took(count, self.bench.spend(note)),
+            Filled::Shut => Shown::Over,
+            Filled::Waits(_) => Shown::Waits(spare),
+        }
+    }
+
+    fn lend(&mut self) -> Shown {
+        if self.pipe.lent() > 0 || self.hand.capacity() == 0 {
+            return Shown::Misplaced;
+        }
+        match self.pipe.lend_or_seat(self.job, &mut self.hand) {
+            Peeked::Some(count) if in_order(&self.hand) => match self.hand.first() {
+                Some(first) => Shown::Lent(*first, count),
+                None => Shown::Misplaced,
+            },
+            Peeked::Some(_) => Shown::Misplaced,
+            Peeked::Parked => Shown::Parked,
+            Peeked::Drained => Shown::Drained,
+        }
+    }
+
+    fn take_step(&mut self, step: Step) -> Shown {
+        match step {
+            Step::Fill(first, count) => self.fill(first, count),
+            Step::Lend => self.lend(),
+            Step::Consume(count) if count <= self.pipe.lent() => Shown::Waker(
+                self.pipe.consume(count),
+            ),
+            Step::Consume(_) => Shown::Misplaced,
+            Step::CloseOwner => {
+                let note = self.pipe.close_owner();
+                Shown::Due(self.bench.spend(note))
+            }
+            Step::CloseJob => Shown::Waker(self.pipe.close_job()),
+        }
+    }
+}
+
+#[test]
+fn pieces_and_other_bytes_are_lent_in_order(rt: HostRuntime) {
+    let name = "a pipe that lends";
+    let Some(mut both) = Both::new(rt.alloc()) else {
+        stop(&rt, name, PIECES.len())
+    };
+    for (place, (step, shown, lent, room)) in PIECES.iter().enumerate() {
+        let is = both.take_step(*step);
+        if is != *shown || both.pipe.lent() != *lent || both.pipe.room() != *room {
+            stop(&rt, name, place);
+        }
+    }
+}
