@@ -1,4 +1,5 @@
 pub mod Types
+pub mod Words
 pub mod growth
 pub mod jobs
 pub mod hands

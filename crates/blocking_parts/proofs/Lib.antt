@@ -1,4 +1,5 @@
 pub mod Types
+pub mod Words
 pub mod moves
 pub mod past
 pub mod rows

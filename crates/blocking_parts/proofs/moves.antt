@@ -1,6 +1,6 @@
 pub mod Lookups
 pub mod SessionActs
-pub mod Fills
+pub mod PollActs
 pub mod Asides
 pub mod Steps
 pub mod Jobs

@@ -8,4 +8,4 @@ pub mod Numbers
 pub mod JobActs
 pub mod Kinds
 pub mod SessionJobs
-pub mod Readers
+pub mod KeptNumbers

@@ -2,14 +2,9 @@
 use Rattle.std.proofs.Common.{◌≡◌, ◌-◌, ◌<◌, nat_lt, ℕ, Bool, true, false, List, if◌then◌else◌, ap, refl, ◌∙◌, arith, Option, Some, None}
 use Rattle.std.proofs.lemmas.List.{set-set}
 use Rattle.std.proofs.lemmas.Bool.Decides.{nat_tests}
-use Rattle.blocking_pool.specs.Counts.{after_arrival}
-use Rattle.blocking_pool.specs.Growth.{Growth}
-use Rattle.blocking_pool.specs.declared.pool.answer.Took.{Took}
-use Rattle.blocking_crew.specs.Crews.{Crew, IsReady, Joins, hand_at, hand_of, with_hand, is_free_hand, pass_in, held_if, is_waiting, may_act, acting_in, hand_after_act}
-use Rattle.blocking_crew.specs.Moves.{Call, Take, Work, Arrive, Idles, Arrives, TakesJob, TakesNone, Works, Moves, has_action, named, next_start, seen, nothing, job_of_take, act_of_take, hand_after_take}
-use Rattle.blocking_crew.specs.Tickets.{JobPool, no_growth, TakesTo}
+use Rattle.blocking_crew.proofs.Types.{Took, Drop, Idle, Run, WorkerPass, Act, Arrived, Event, Pool, Worker, Hand, Free, Holds, Out, Held, Stage, Ticket}
+use Rattle.blocking_crew.proofs.Words.{after_arrival, Growth, Crew, may_act, is_waiting, hand_at, with_hand, hand_of, is_free_hand, pass_in, held_if, acting_in, hand_after_act, Joins, IsReady, Call, Arrive, Take, Work, Idles, Arrives, TakesJob, TakesNone, Works, next_start, seen, nothing, named, job_of_take, act_of_take, hand_after_take, has_action, Moves, no_growth, JobPool, TakesTo}
 use Rattle.blocking_crew.specs.declared.hand.Stage.TheVariants as stage
-use Rattle.blocking_crew.proofs.Types.{Run, Drop, Idle, WorkerPass, Act, Arrived, Event, Worker, Pool, Hand, Out, Free, Holds, Held, Stage, Ticket}
 use Rattle.blocking_crew.proofs.hands.Loans.{pass_is, held_is, is_out}
 use Rattle.blocking_crew.proofs.hands.Rows.{at_free, at_held}
 use Rattle.blocking_crew.proofs.ready.Hands.{one_free}

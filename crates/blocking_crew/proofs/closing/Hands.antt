@@ -3,22 +3,19 @@ use Rattle.std.proofs.Common.{◌≡◌, ℕ, ◌+◌, ◌-◌, ◌≤◌, List,
 use Rattle.std.specs.List.{AllWithin}
 use Rattle.std.proofs.lemmas.Bool.{eq-eqb}
 use Rattle.std.proofs.lemmas.Option.{slice_get_within, get_or_from_slice_get}
-use Rattle.blocking_pool.specs.Pools.{without_job}
-use Rattle.blocking_crew.specs.Closing.{RunsIn, EndsTurn, AreIdle}
-use Rattle.blocking_crew.specs.Crews.{IsReady, one_if_free, free_hands}
-use Rattle.blocking_crew.specs.Tickets.{JobPool, AreValued}
-use Rattle.blocking_crew.proofs.Types.{Hand, Out, Free, Holds, Held}
-use Rattle.blocking_crew.proofs.hands.Rows.{sum_pushed, hand_from_place}
+use Rattle.blocking_crew.proofs.Types.{Hand, Free, Holds, Out, Held}
+use Rattle.blocking_crew.proofs.Words.{without_job, RunsIn, AreIdle, one_if_free, free_hands, IsReady, JobPool, AreValued}
+use Rattle.blocking_crew.specs.Closing.{EndsTurn}
 use Rattle.blocking_pool.proofs.Places.{got_pushed, got_before, set_same}
+use Rattle.blocking_crew.proofs.hands.Rows.{sum_pushed, hand_from_place}
 use Rattle.blocking_crew.proofs.ready.Hands.{over_ready}
 
 -- ---- one turn
 
 -- what is in a hand of a crew runs
 pub runs_at : (pool : JobPool) (row : List Hand) (n : ℕ) (hand : Hand) → IsReady (record { pool = pool; hands = row }) → slice_get row n ≡ Some hand → RunsIn pool.jobs hand
-runs_at pool row n Out ready found = tt
-runs_at pool row n (Free pass) ready found = tt
 runs_at pool row n (Holds held) ready found = ready.runs (n + 1) held (hand_from_place row n (Holds held) found)
+runs_at pool row n _ ready found = tt
 
 -- a hand that holds no job
 abbrev pub HoldsNone : Hand → Type 0

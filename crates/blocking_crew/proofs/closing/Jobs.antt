@@ -2,14 +2,8 @@
 use Rattle.std.proofs.Common.{◌≡◌, ◌⊎◌, ℕ, ◌+◌, ◌-◌, ◌<◌, ◌==◌, Bool, true, false, ap, ◌∙◌, subst, refl, inl, inr, arith, Option, None}
 use Rattle.std.proofs.lemmas.Bool.{cond_both}
 use Rattle.std.specs.FinMap.{get, insert, remove}
-use Rattle.blocking_pool.specs.Counts.{Counts, after_pickup, after_release}
-use Rattle.blocking_pool.specs.Growth.{Growth, after_growth}
-use Rattle.blocking_pool.specs.Jobs.{Job, Jobs, JobNumber, is_running_as, entry_after_take}
-use Rattle.blocking_pool.specs.Pools.{without_job}
-use Rattle.blocking_pool.specs.declared.pool.answer.Took.{Took}
-use Rattle.blocking_crew.specs.Closing.{PassesOver}
-use Rattle.blocking_crew.specs.Tickets.{JobPool, AreValued, is_valued, is_due_to_sweep, TakesFront, TakesTo}
-use Rattle.blocking_crew.proofs.Types.{Run, Drop, Ticket}
+use Rattle.blocking_crew.proofs.Types.{Took, Drop, Run, Ticket}
+use Rattle.blocking_crew.proofs.Words.{Counts, after_pickup, after_release, Growth, after_growth, JobNumber, Job, Jobs, entry_after_take, is_running_as, without_job, PassesOver, JobPool, TakesFront, TakesTo, is_due_to_sweep, is_valued, AreValued}
 use Rattle.blocking_crew.proofs.jobs.Lookups.{job_put, job_out, taken_runs as taken_runs_in}
 
 -- a worker that took a job took the front one

@@ -1,19 +1,12 @@
 -- What each call of the pool does that lets it grow, with the growth that was read.
-use Rattle.std.proofs.Common.{◌≡◌, ℕ, ◌+◌, ◌≤◌, Bool, true, false, List, ◌∷◌, ◌++◌, length, arith, ap, ◌∙◌, sym, refl, length-append, Some}
+use Rattle.std.proofs.Common.{◌≡◌, ℕ, ◌+◌, ◌≤◌, Bool, true, false, List, ◌∷◌, ◌++◌, length, arith, ap, ◌∙◌, sym, refl, length-append, Some, nat_lt, ◌||◌}
 use Rattle.std.proofs.lemmas.Bool.{eq-eqb}
 use Rattle.std.proofs.lemmas.Bool.Decides.{nat_tests}
-use Rattle.std.specs.Prelude.{nat_lt, ◌||◌}
 use Rattle.std.specs.FinMap.{get}
-use Rattle.blocking_pool.specs.Counts.{Counts, limit_of, after_pickup}
-use Rattle.blocking_pool.specs.Growth.{Asking, greatest, is_due, Growth}
-use Rattle.blocking_pool.specs.Lists.{is_in}
-use Rattle.blocking_pool.specs.Pools.{IsSound, is_queued_job, Enters, FindsNobody, EnterAgain, after_entry, after_requeue, TakesFront as CoreTakesFront}
-use Rattle.blocking_pool.specs.Jobs.{Job, JobNumber}
-use Rattle.blocking_pool.specs.PoolAnswers.{Takes}
-use Rattle.blocking_pool.specs.declared.pool.answer.Took.{Took}
+use Rattle.blocking_crew.proofs.Types.{Took, Drop, Idle, Run, Queued, WorkerPass, Ticket}
+use Rattle.blocking_crew.proofs.Words.{Counts, limit_of, after_pickup, greatest, is_due, Asking, Growth, JobNumber, Job, is_in, Takes, is_queued_job, IsSound, after_entry, Enters, FindsNobody, after_requeue, EnterAgain, new_ticket, JobPool, Accepts, FindsNoWorker, TakesFront, TakesTo, EntersAgain}
+use Rattle.blocking_pool.specs.Pools.{TakesFront as CoreTakesFront}
 use Rattle.blocking_pool.proofs.Standings.{queued_is}
-use Rattle.blocking_crew.specs.Tickets.{JobPool, new_ticket, Accepts, FindsNoWorker, TakesFront, TakesTo, EntersAgain}
-use Rattle.blocking_crew.proofs.Types.{Run, Drop, Idle, Queued, WorkerPass, Ticket}
 use Rattle.blocking_crew.proofs.growth.Reads.{IsRead, reads, numbers_last}
 
 -- what a ticket answers where it is asked for its mark
@@ -56,9 +49,8 @@ module _ (asking : Asking) (old new : JobPool) (seen : Growth) (sound : IsSound 
 -- the starts of a take have numbers
 pub take_numbers : (may_answer : ℕ → Bool → Type 0) (old new : JobPool) (took : Took Ticket) (seen : Growth) → TakesTo may_answer old took seen new
     → old.counts.next_worker ≤ greatest → old.counts.next_worker + seen.started ≤ greatest
-take_numbers may_answer old new (Run turn value) seen takes = numbers_last may_answer _ _ _ _ _ seen takes.starts
-take_numbers may_answer old new (Drop turn value) seen takes = numbers_last may_answer _ _ _ _ _ seen takes.starts
 take_numbers may_answer old new (Idle pass) seen takes = λ within. let none : seen.started ≡ 0 = ap (λ (g : Growth). g.started) takes.1 in omega (arith, within, none)
+take_numbers may_answer old new _ seen takes = numbers_last may_answer _ _ _ _ _ seen takes.starts
 
 -- ---- new jobs
 

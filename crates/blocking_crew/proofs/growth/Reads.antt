@@ -1,10 +1,8 @@
 -- What a pool has grown, read off its counts before and after.
 use Rattle.std.proofs.Common.{◌≡◌, ℕ, ◌+◌, ◌-◌, ◌≤◌, Bool, true, false, arith, ap, ◌∙◌, subst, sym, inl, inr}
 use Rattle.std.proofs.lemmas.Bool.{cases_lt}
-use Rattle.blocking_pool.specs.Counts.{Counts, limit_of}
-use Rattle.blocking_pool.specs.Growth.{Asking, greatest, is_due, StartAnswer, Growth, IsGrowth, Grows, after_growth}
+use Rattle.blocking_crew.proofs.Words.{Counts, limit_of, greatest, is_due, Asking, StartAnswer, Growth, IsGrowth, after_growth, Grows, GrowsBy}
 use Rattle.blocking_pool.proofs.GrowthLemmas.{due_after}
-use Rattle.blocking_crew.specs.Tickets.{GrowsBy}
 
 -- the start of the greatest number is refused
 never_greatest : (may_answer : ℕ → Bool → Type 0) (n : ℕ) → n ≡ greatest → StartAnswer may_answer n false → ⊥

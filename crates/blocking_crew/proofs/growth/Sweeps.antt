@@ -1,22 +1,14 @@
 -- What sweeps and waits do, with the growth that was read.
-use Rattle.std.proofs.Common.{◌≤◌, ◌≡◌, ℕ, ◌+◌, ◌<◌, nat_lt, arith, ◌∙◌, Bool, true, false, List, [], ◌∷◌, length, ap, subst, sym, refl}
-use Rattle.std.specs.Prelude.{◌&&◌, ◌||◌, is_some, Option, Some, None}
-use Rattle.std.specs.FinMap as map
+use Rattle.std.proofs.Common.{◌≤◌, ◌≡◌, ℕ, ◌+◌, ◌<◌, nat_lt, arith, ◌∙◌, Bool, true, false, List, [], ◌∷◌, length, ap, subst, sym, refl, ◌&&◌, ◌||◌, is_some, Option, Some, None}
 use Rattle.std.proofs.Math.Bool.{or-true}
 use Rattle.std.proofs.lemmas.List.Elements.{filter_agree}
-use Rattle.blocking_pool.specs.Counts.{limit_of}
-use Rattle.blocking_pool.specs.Growth.{Asking, Growth, greatest, number_after}
-use Rattle.blocking_pool.specs.Jobs.{Job, Jobs, is_running, is_parked, is_parked_job, jobs_after_requeue}
-use Rattle.blocking_pool.specs.PoolAnswers.{Sweeps as CoreSweeps, SweepsTo as CoreSweepsTo, SweepsIf as CoreSweepsIf, Waits as CoreWaits, StaysOrStops, must_stop}
-use Rattle.blocking_pool.specs.Pools.{IsSound}
-use Rattle.blocking_pool.specs.Sweeps.{AreAsked, swept, serials_below}
-use Rattle.blocking_laws.specs.Seen.{joined}
-use Rattle.blocking_crew.specs.Closing.{NoneDue}
-use Rattle.blocking_crew.specs.Tickets.{JobPool, SweepsTo, SweepsIf, WaitsSo, no_growth, is_valued, AreValued, to_sweep, is_due_to_sweep, is_marked_ticket}
-use Rattle.blocking_crew.proofs.Types.{WorkerPass, Standing, Parked, Waited, Stay, Stop, Ticket}
+use Rattle.blocking_crew.proofs.Types.{Waited, Stay, Stop, Standing, Parked, WorkerPass, Ticket}
+use Rattle.blocking_crew.proofs.Words.{limit_of, greatest, Asking, Growth, number_after, is_running, is_parked, Job, Jobs, jobs_after_requeue, is_parked_job, must_stop, StaysOrStops, IsSound, serials_below, AreAsked, swept, joined, NoneDue, no_growth, JobPool, is_marked_ticket, is_due_to_sweep, to_sweep, is_valued, AreValued, SweepsTo, SweepsIf, WaitsSo}
+use Rattle.std.specs.FinMap as map
+use Rattle.blocking_pool.specs.PoolAnswers.{Sweeps as CoreSweeps, SweepsTo as CoreSweepsTo, SweepsIf as CoreSweepsIf, Waits as CoreWaits}
 use Rattle.blocking_crew.proofs.growth.Calls.{is_marked_so, enters_again}
-use Rattle.blocking_crew.proofs.jobs.Tickets.{swept_valued, none_due, sweeps_nothing}
 use Rattle.blocking_crew.proofs.growth.Reads.{IsRead, numbers_last}
+use Rattle.blocking_crew.proofs.jobs.Tickets.{swept_valued, none_due, sweeps_nothing}
 
 due_by : (standing : Standing) (value : Option Ticket) (m : Bool) → is_running standing || is_some value ≡ true → ((ticket : Ticket) → standing ≡ Parked → value ≡ Some ticket → ticket.is_marked ≡ m)
     → (is_parked standing && m) ≡ (is_parked standing && is_marked_ticket value)

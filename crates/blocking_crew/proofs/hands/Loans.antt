@@ -1,12 +1,11 @@
 -- What is in the hand of a worker, comes out of it and is put into it.
-use Rattle.std.proofs.Common.{◌≡◌, ◌-◌, ◌==◌, ℕ, Bool, true, false, List, slice_get, Option, Some, None, if◌then◌else◌, ap, sym, subst, refl, arith, ◌∙◌}
+use Rattle.std.proofs.Common.{◌≡◌, ◌-◌, ◌==◌, ℕ, Bool, true, false, List, slice_get, Option, Some, None, if◌then◌else◌, ap, sym, subst, refl, arith, ◌∙◌, OnSome}
 use Rattle.std.proofs.lemmas.Option.{cond_some}
 use Rattle.std.proofs.lemmas.Bool.{cond_both}
-use Rattle.std.specs.Prelude.{OnSome}
 use Rattle.std.proofs.lemmas.Bool.Decides.{nat_tests}
-use Rattle.blocking_crew.specs.Crews.{hand_at, hand_in, hand_of, with_hand, pass_in, held_if}
+use Rattle.blocking_crew.proofs.Types.{WorkerPass, Hand, Free, Holds, Out, Held, Stage}
+use Rattle.blocking_crew.proofs.Words.{hand_in, hand_at, with_hand, hand_of, pass_in, held_if}
 use Rattle.blocking_pool.proofs.Places.{got_same, set_same}
-use Rattle.blocking_crew.proofs.Types.{WorkerPass, Hand, Out, Free, Holds, Held, Stage}
 use Rattle.blocking_crew.proofs.hands.Rows.{IsAt}
 
 -- ---- one hand
@@ -17,9 +16,8 @@ pass_is hand pass is = grind arith
 
 -- a job of which a test holds is what a hand holds
 pub held_is : (test : Stage → Bool) (hand : Hand) (held : Held) → Some held ≡ held_if test hand → (hand ≡ Holds held) × (test held.stage ≡ true)
-held_is test Out held is = absurd cc
-held_is test (Free pass) held is = absurd cc
 held_is test (Holds h) held is = let e = cond_some (test h.stage) h held (sym is) in (ap Holds e.1, ap (λ (x : Held). test x.stage) (sym e.1) ∙ e.0)
+held_is test _ held is = absurd cc
 
 -- ---- the hands
 

@@ -1,13 +1,11 @@
 -- The hands of workers: what stands in a row after a change of one hand, and sums over a row.
-use Rattle.std.proofs.Common.{◌≡◌, ℕ, ◌+◌, ◌-◌, ◌<◌, ◌==◌, List, [], ◌∷◌, ◌++◌, Bool, true, false, length, refl, sym, ap, ◌∙◌, subst, arith, if◌then◌else◌, Option, Some, None, zero, suc}
-use Rattle.std.specs.Prelude.{slice_get, slice_set}
+use Rattle.std.proofs.Common.{◌≡◌, ℕ, ◌+◌, ◌-◌, ◌<◌, ◌==◌, List, [], ◌∷◌, ◌++◌, Bool, true, false, length, refl, sym, ap, ◌∙◌, subst, arith, if◌then◌else◌, Option, Some, None, zero, suc, slice_get, slice_set}
 use Rattle.std.proofs.lemmas.Bool.Decides.{nat_tests}
 use Rattle.std.proofs.lemmas.Bool.{eqb-true, eqb-false}
 use Rattle.std.proofs.lemmas.Option.{slice_get_past, slice_get_within}
-use Rattle.blocking_crew.specs.Crews.{hand_at, hand_in, with_hand}
-use Rattle.blocking_crew.specs.Crews.{sum_of}
+use Rattle.blocking_crew.proofs.Types.{Hand, Free, Holds, Out, Held}
+use Rattle.blocking_crew.proofs.Words.{hand_in, hand_at, with_hand, sum_of}
 use Rattle.blocking_pool.proofs.Places.{got_same, got_other, got_pushed}
-use Rattle.blocking_crew.proofs.Types.{Hand, Out, Free, Holds, Held}
 
 -- ---- the hand of a worker that is there
 

@@ -1,16 +1,9 @@
 -- What each move makes of the pool's jobs.
-use Rattle.std.proofs.Common.{◌≡◌, ℕ, ◌==◌, ◌&&◌, Bool, true, false, refl, ap, ◌∙◌, if◌then◌else◌, Option, Some, None}
-use Rattle.std.specs.Prelude.{option_map, Ok, Err}
+use Rattle.std.proofs.Common.{◌≡◌, ℕ, ◌==◌, ◌&&◌, Bool, true, false, refl, ap, ◌∙◌, if◌then◌else◌, Option, Some, None, option_map, Ok, Err}
 use Rattle.std.specs.FinMap.{get}
-use Rattle.blocking_pool.specs.Growth.{Growth}
-use Rattle.blocking_pool.specs.Jobs.{Job as Entry, Jobs, job_of, value_at, new_job, entry_after_take, entry_after_wake, entry_after_cancel, entry_after_requeue, entry_after_park}
-use Rattle.blocking_pool.specs.Lists.{is_in}
-use Rattle.blocking_laws.specs.Seen.{has_timed_out}
-use Rattle.blocking_crew.specs.Crews.{Crew}
-use Rattle.blocking_crew.specs.Moves.{Move, Adds, TakesJob, EndsTurn, Parks, HasWaited, Sweeps, IsWoken, IsCancelled, IsLetGo, May, after}
-use Rattle.blocking_crew.specs.Tickets.{JobPool, SweepsIf, to_sweep, new_ticket}
-use Rattle.blocking_crew.specs.declared.tickets.Parking.TheVariants as parking
 use Rattle.blocking_crew.proofs.Types.{Memory, NoWorker, Numbers, Stay, Stop, Entered, Marked, Nothing, Ticket}
+use Rattle.blocking_crew.proofs.Words.{Growth, Job as Entry, Jobs, new_job, entry_after_take, entry_after_requeue, entry_after_park, entry_after_wake, entry_after_cancel, job_of, value_at, is_in, has_timed_out, Crew, Move, Adds, TakesJob, EndsTurn, Parks, HasWaited, Sweeps, IsWoken, IsCancelled, IsLetGo, after, May, new_ticket, JobPool, to_sweep, SweepsIf}
+use Rattle.blocking_crew.specs.declared.tickets.Parking.TheVariants as parking
 use Rattle.blocking_crew.proofs.growth.Sweeps.{left_by}
 use Rattle.blocking_crew.proofs.jobs.Lookups.{job_put, job_out, job_changed, changed_twice, job_requeued}
 use Rattle.blocking_crew.proofs.jobs.Marks.{mark_by, marked_by}

@@ -1,16 +1,13 @@
 -- Look-ups of a job in the pool, after a change of that job or of others.
-use Rattle.std.proofs.Common.{◌≡◌, ℕ, ◌==◌, ◌&&◌, ◌||◌, cond, Bool, true, false, refl, sym, ap, ◌∙◌, if◌then◌else◌, arith, List, [], ◌∷◌, Option, Some, None}
+use Rattle.std.proofs.Common.{◌≡◌, ℕ, ◌==◌, ◌&&◌, ◌||◌, cond, Bool, true, false, refl, sym, ap, ◌∙◌, if◌then◌else◌, arith, List, [], ◌∷◌, Option, Some, None, option_map, filter}
 use Rattle.std.proofs.lemmas.Map.Views.{any-filter_same}
-use Rattle.std.specs.Prelude.{option_map, filter}
 use Rattle.std.specs.Ordering.{eq_by_cmp, nat_cmp}
 use Rattle.std.specs.Cmp.{nat_cmp_total}
 use Rattle.std.specs.FinMap.{get, insert, remove, get-insert, get-remove}
 use Rattle.std.proofs.lemmas.Bool.{eqb-true, eq-eqb}
-use Rattle.blocking_pool.specs.Jobs.{Job as Entry, Jobs, JobNumber, jobs_after_change, jobs_after_requeue, amend, if_at, is_running_job, is_running_as, entry_after_take, entry_after_requeue}
-use Rattle.blocking_pool.specs.Lists.{is_in}
-use Rattle.blocking_pool.specs.Wakes.{wake_of, cancel_of}
-use Rattle.blocking_pool.proofs.Lists.{eq_by_nat_cmp, turned}
 use Rattle.blocking_crew.proofs.Types.{Entered, Standing, Parked, Ticket}
+use Rattle.blocking_crew.proofs.Words.{JobNumber, Job as Entry, Jobs, entry_after_take, is_running_job, entry_after_requeue, if_at, is_running_as, jobs_after_change, amend, jobs_after_requeue, is_in, wake_of, cancel_of}
+use Rattle.blocking_pool.proofs.Lists.{eq_by_nat_cmp, turned}
 
 -- the order of serials tells whether they are the same
 by_order : (t s : ℕ) → eq_by_cmp nat_cmp s t ≡ (t == s)

@@ -1,14 +1,10 @@
 -- Marks on the tickets of jobs in the pool.
-use Rattle.std.proofs.Common.{◌≡◌, Option, Some, None, ap, ◌∙◌, subst, refl, ℕ, ◌==◌, Bool, true, false, sym, if◌then◌else◌}
+use Rattle.std.proofs.Common.{◌≡◌, Option, Some, None, ap, ◌∙◌, subst, refl, ℕ, ◌==◌, Bool, true, false, sym, if◌then◌else◌, OnSome, option_map, IfSome}
 use Rattle.std.proofs.lemmas.Bool.{eqb-true, eq-eqb, cond_both}
 use Rattle.std.specs.FinMap.{get}
-use Rattle.std.specs.Prelude.{OnSome, option_map, IfSome}
 use Rattle.std.specs.Borrow.{MutBor}
-use Rattle.blocking_pool.specs.Jobs.{Job as Entry, JobNumber, if_at, job_of, value_at, entry_with}
-use Rattle.blocking_pool.specs.Pools.{with_job}
-use Rattle.blocking_crew.specs.Tickets.{JobPool, ticket_after_mark, pool_after_mark_of, pool_after_mark, pool_after_let_go}
-use Rattle.blocking_crew.specs.Ties.{IsNumberOf, is_serial_of}
 use Rattle.blocking_crew.proofs.Types.{Ticket}
+use Rattle.blocking_crew.proofs.Words.{JobNumber, Job as Entry, if_at, job_of, value_at, entry_with, with_job, JobPool, ticket_after_mark, pool_after_mark_of, pool_after_mark, pool_after_let_go, IsNumberOf, is_serial_of}
 use Rattle.blocking_crew.proofs.jobs.Lookups.{job_changed}
 
 -- a mark changes the jobs alone

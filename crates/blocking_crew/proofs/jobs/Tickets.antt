@@ -1,16 +1,11 @@
 -- The tickets of jobs, and which jobs a sweep puts back.
-use Rattle.std.proofs.Common.{◌≡◌, ℕ, ◌<◌, ◌≤◌, ◌||◌, cond, Bool, true, false, refl, sym, ap, ◌∙◌, if◌then◌else◌, List, [], ◌∷◌, Option, Some, None, inl, inr, arith}
-use Rattle.blocking_pool.proofs.SweepLemmas.{stands_below}
-use Rattle.std.specs.Prelude.{option_map, is_some, filter}
+use Rattle.std.proofs.Common.{◌≡◌, ℕ, ◌<◌, ◌≤◌, ◌||◌, cond, Bool, true, false, refl, sym, ap, ◌∙◌, if◌then◌else◌, List, [], ◌∷◌, Option, Some, None, inl, inr, arith, option_map, is_some, filter}
 use Rattle.std.specs.FinMap.{get}
 use Rattle.std.proofs.Math.Bool.{or-true}
 use Rattle.std.proofs.lemmas.Bool.{cases_lt, and_parts, and_from, cond_both}
-use Rattle.blocking_pool.specs.Jobs.{Job, Jobs, is_running, is_parked, is_parked_job, jobs_after_requeue, entry_after_requeue}
-use Rattle.blocking_pool.specs.Lists.{is_in}
-use Rattle.blocking_pool.specs.Sweeps.{serials_below}
-use Rattle.blocking_crew.specs.Tickets.{JobPool, is_valued, is_due_to_sweep, is_marked_ticket, to_sweep, AreValued}
-use Rattle.blocking_crew.specs.Closing.{NoneDue}
 use Rattle.blocking_crew.proofs.Types.{Standing, Parked, Ticket}
+use Rattle.blocking_crew.proofs.Words.{is_running, is_parked, Job, Jobs, entry_after_requeue, jobs_after_requeue, is_parked_job, is_in, serials_below, NoneDue, JobPool, is_marked_ticket, is_due_to_sweep, to_sweep, is_valued, AreValued}
+use Rattle.blocking_pool.proofs.SweepLemmas.{stands_below}
 use Rattle.blocking_crew.proofs.jobs.Lookups.{job_requeued, in_filter}
 
 -- a job with its ticket is valued

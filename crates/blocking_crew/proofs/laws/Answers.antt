@@ -2,30 +2,15 @@
 use Rattle.std.proofs.Common.{[], ◌≡◌, ◌<◌, ◌==◌, ◌+◌, ◌&&◌, ◌||◌, nat_lt, ℕ, Bool, true, false, if◌then◌else◌, List, ◌∷◌, length, refl, sym, ap, ap₂, ◌∙◌, subst, arith, Option, Some, None, Ok, Err}
 use Rattle.std.proofs.lemmas.Bool.Decides.{nat_tests}
 use Rattle.std.specs.FinMap.{get}
-use Rattle.blocking_pool.specs.Counts.{limit_of}
-use Rattle.blocking_pool.specs.Growth.{Growth, greatest, limit_after}
-use Rattle.blocking_pool.specs.Jobs.{Job as Entry, JobNumber}
-use Rattle.blocking_pool.specs.PoolAnswers.{is_empty, must_stop}
-use Rattle.blocking_pool.specs.Wakes.{wake_of, cancel_of}
-use Rattle.blocking_laws.specs.Answers.{PoolAnswers, AnswerLaw, take_from, end_of, take_answer, end_answer}
-use Rattle.blocking_laws.specs.Counts.{workers, limit}
-use Rattle.blocking_laws.specs.Growth.{IsPlanned}
-use Rattle.blocking_laws.specs.Jobs.{standing, is_woken, is_cancelled, is_marked, is_to_drop, has_ended}
-use Rattle.blocking_laws.specs.Queue.{queue, to_sweep as seen_to_sweep}
-use Rattle.blocking_laws.specs.Seen.{joined, has_timed_out}
-use Rattle.blocking_laws.specs.Turns.{turn}
+use Rattle.blocking_crew.proofs.Types.{Memory, NoWorker, Numbers, Stay, Stop, Standing, Parked, Queued, Running, Ended, TookDropped, Moment, Worker, WaitEnd, Step, Holds, Held, Stage, Ticket, Parking}
+use Rattle.blocking_crew.proofs.Words.{limit_of, greatest, Growth, limit_after, JobNumber, Job as Entry, is_empty, must_stop, wake_of, cancel_of, take_from, take_answer, end_of, end_answer, PoolAnswers, AnswerLaw, workers, limit, IsPlanned, is_woken, is_cancelled, has_ended, is_marked, is_to_drop, standing, seen_to_sweep, queue, joined, has_timed_out, turn, Crew, may_end, outcome_of, standing_after, hand_at, Move, Adds, Arrives, TakesJob, TakesNone, Works, EndsTurn, Parks, HasWaited, Sweeps, IsWoken, IsCancelled, IsLetGo, Tells, call_of, next_start, took_act, parked_act, May, no_growth, JobPool, TakesFront, is_marked_ticket, SweepsIf, ParksTo, ParksSo, ValueAs, FiledAs, FiledHere, turn_of, CrewHolds, moment_of, IsAsked}
 use Rattle.blocking_laws.specs.declared.event.Act.TheVariants.{Took}
-use Rattle.blocking_crew.specs.Crews.{Crew, hand_at, may_end, outcome_of, standing_after}
-use Rattle.blocking_crew.specs.Moves.{Move, Adds, Arrives, TakesJob, TakesNone, Works, EndsTurn, Parks, HasWaited, Sweeps, IsWoken, IsCancelled, IsLetGo, Tells, May, call_of, next_start, took_act, parked_act}
-use Rattle.blocking_crew.specs.Tickets.{JobPool, no_growth, is_marked_ticket, TakesFront, SweepsIf, ParksTo, ParksSo}
-use Rattle.blocking_crew.specs.Ties.{FiledAs, FiledHere, ValueAs, IsAsked, CrewHolds, turn_of, moment_of}
 use Rattle.blocking_crew.specs.declared.hand.Stage.TheVariants as stage
 use Rattle.blocking_crew.specs.declared.tickets.Parking.TheVariants as parking
-use Rattle.blocking_crew.proofs.Types.{Memory, NoWorker, Numbers, Stay, Stop, Standing, Queued, Running, Parked, TookDropped, Ended, Moment, Worker, WaitEnd, Step, Holds, Held, Stage, Ticket, Parking}
+use Rattle.blocking_crew.proofs.jobs.Lookups.{found_at}
 use Rattle.blocking_crew.proofs.ties.Acts.{plain, aside_plain, by_work, by_let_go}
 use Rattle.blocking_crew.proofs.ties.Flows.{workers_now, swept}
 use Rattle.blocking_crew.proofs.ties.Standings.{front_filed, met}
-use Rattle.blocking_crew.proofs.jobs.Lookups.{found_at}
 use Rattle.blocking_crew.proofs.ties.Sweeps.{sweep_same}
 
 -- ---- takes
@@ -92,9 +77,8 @@ module _ (setting : ℕ) (plan : List Bool) (crew : Crew) (past : List Moment) (
       waiting = h.tied.handed.turn_is v held at ∙ ap turn_of waits
 
       by : (p : Parking) → ParksTo crew.pool held.turn ticket so.job p pool → parked_act p s ≡ end_answer past s
-      by (parking.Parked pass) e = rw (waiting, sym drop ∙ e.0, filed.1 ∙ e.1) refl
-      by (parking.Queued pass) e = rw (waiting, sym drop ∙ e.0, filed.1 ∙ e.1) refl
       by (parking.HandedOut back) e = rw (waiting, sym drop ∙ e.0) refl
+      by _ e = rw (waiting, sym drop ∙ e.0, filed.1 ∙ e.1) refl
 
   -- the laws stop a worker where the pool does
   stop_is : (end : WaitEnd) (growth : Growth) (between : JobPool) → SweepsIf (has_timed_out end) (IsPlanned plan) crew.pool growth between

@@ -1,16 +1,9 @@
 -- What holds after each call of a crew: the number of a job stays its number, and queued jobs are served.
-use Rattle.std.proofs.Common.{◌≡◌, ℕ, List, ◌∷◌, Bool, true, false, sym, ap, ◌∙◌, subst, Option}
-use Rattle.std.specs.Prelude.{Ok, is_some}
-use Rattle.blocking_pool.specs.Jobs.{JobNumber}
-use Rattle.blocking_laws.specs.Growth.{IsPlanned}
-use Rattle.blocking_laws.specs.Jobs.{standing}
-use Rattle.blocking_crew.specs.Crews.{Crew}
-use Rattle.blocking_crew.specs.Moves.{Call, Add, Move, Idles, Adds, May, Moves, call_of, has_action, after}
-use Rattle.blocking_crew.specs.Tickets.{AddsTo}
-use Rattle.blocking_crew.specs.Ties.{CrewHolds, Served, IsAsked, IsNumberOf, seen_as}
+use Rattle.std.proofs.Common.{◌≡◌, ℕ, List, ◌∷◌, Bool, true, false, sym, ap, ◌∙◌, subst, Option, Ok, is_some}
 use Rattle.blocking_crew.proofs.Types.{Event, Moment, Party, Step}
-use Rattle.blocking_crew.proofs.ties.Numbers.{number_after, number_of_new}
+use Rattle.blocking_crew.proofs.Words.{JobNumber, IsPlanned, standing, Crew, Call, Add, Move, Idles, Adds, call_of, after, has_action, May, Moves, AddsTo, IsNumberOf, Served, CrewHolds, seen_as, IsAsked}
 use Rattle.blocking_crew.proofs.laws.Service.{served_after}
+use Rattle.blocking_crew.proofs.ties.Numbers.{number_after, number_of_new}
 
 module _ (setting : ℕ) (plan : List Bool) (crew new : Crew) (past : List Moment) (call : Call) (e : Event) (h : CrewHolds setting plan crew past) (moves : Moves (IsPlanned plan) call crew e new) (asked : IsAsked crew past call) where
   -- Queued jobs are served, or the last start was refused.

@@ -1,13 +1,7 @@
 -- Each move grows as the law of growth says.
 use Rattle.std.proofs.Common.{◌≡◌, ℕ, ◌-◌, List, ◌∷◌, Bool, true, false, length, refl, sym, ap, ◌∙◌, arith, Option}
-use Rattle.blocking_pool.specs.Growth.{Growth, IsGrowth, StartAnswer}
-use Rattle.blocking_laws.specs.Counts.{workers}
-use Rattle.blocking_laws.specs.Growth.{IsPlanned, StartsRightly, GrowthLaw, grows}
-use Rattle.blocking_laws.specs.Queue.{running}
-use Rattle.blocking_crew.specs.Crews.{Crew}
-use Rattle.blocking_crew.specs.Moves.{Move, Arrives, SetsLimit, May, after}
-use Rattle.blocking_crew.specs.Ties.{CrewHolds, moment_of}
 use Rattle.blocking_crew.proofs.Types.{Moment, Step}
+use Rattle.blocking_crew.proofs.Words.{StartAnswer, Growth, IsGrowth, workers, grows, IsPlanned, StartsRightly, GrowthLaw, running, Crew, Move, Arrives, SetsLimit, after, May, CrewHolds, moment_of}
 use Rattle.blocking_crew.proofs.ties.Flows.{Flow, flows, gone_of, growth_in, workers_now}
 
 -- a growth by these numbers is one by numbers that are equal to them

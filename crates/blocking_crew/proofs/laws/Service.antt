@@ -1,19 +1,9 @@
 -- Where jobs are queued and no worker is left, the last start that was tried was refused.
 use Rattle.std.proofs.Common.{◌≡◌, ◌<◌, ◌≤◌, ◌+◌, ◌-◌, ◌&&◌, ◌||◌, nat_lt, ℕ, Bool, true, false, List, [], ◌∷◌, length, refl, sym, ap, ◌∙◌, subst, arith, Option, inl, inr}
 use Rattle.std.proofs.lemmas.Bool.Decides.{nat_tests}
-use Rattle.blocking_pool.specs.Counts.{Counts, limit_of}
-use Rattle.blocking_pool.specs.Growth.{Growth, is_due, limit_after}
-use Rattle.blocking_pool.specs.PoolAnswers.{is_empty}
-use Rattle.blocking_laws.specs.Counts.{workers, limit, limit_by}
-use Rattle.blocking_laws.specs.Growth.{IsPlanned, grows, turned_away}
-use Rattle.blocking_laws.specs.Queue.{queue}
-use Rattle.blocking_laws.specs.Seen.{has_timed_out}
-use Rattle.blocking_laws.specs.Served.{last_refused, last_refused_by}
-use Rattle.blocking_crew.specs.Crews.{Crew}
-use Rattle.blocking_crew.specs.Moves.{Move, Arrives, HasWaited, SetsLimit, May, after, event_of}
-use Rattle.blocking_crew.specs.Tickets.{JobPool, GrowsBy}
-use Rattle.blocking_crew.specs.Ties.{CrewHolds, Served, moment_of}
 use Rattle.blocking_crew.proofs.Types.{Stop, WorkerPass, Moment, WaitEnd, Step}
+use Rattle.blocking_crew.proofs.Words.{Counts, limit_of, is_due, Growth, limit_after, is_empty, workers, limit_by, limit, grows, turned_away, IsPlanned, queue, has_timed_out, Crew, Move, Arrives, HasWaited, SetsLimit, event_of, after, May, JobPool, GrowsBy, Served, CrewHolds, moment_of}
+use Rattle.blocking_laws.specs.Served.{last_refused, last_refused_by}
 use Rattle.blocking_crew.proofs.ties.Counts.{counts_after}
 use Rattle.blocking_crew.proofs.ties.Flows.{Flow, flows, growth_in, workers_now, swept}
 use Rattle.blocking_crew.proofs.ties.Queue.{queue_after}

@@ -1,14 +1,8 @@
 -- What the workers hold is what was seen: so many passes, and a turn for each running job.
-use Rattle.std.proofs.Common.{◌≡◌, ℕ, ◌+◌, List, [], ◌∷◌, Bool, length, refl, sym, ap, ◌∙◌, subst, arith, Option, Some, zero, suc}
-use Rattle.std.specs.Prelude.{◌&&◌, slice_get, is_some, is_none}
-use Rattle.blocking_pool.specs.Jobs.{one_if}
-use Rattle.blocking_laws.specs.Counts.{workers, idle}
-use Rattle.blocking_laws.specs.Staffed.{count_to, passes, turns, IsStaffed, AreAsSeen}
-use Rattle.blocking_laws.specs.Steps.{is_there, is_free}
-use Rattle.blocking_laws.specs.Turns.{hand}
-use Rattle.blocking_crew.specs.Crews.{Crew, IsReady, one_if_free, free_hands, one_if_busy, busy_hands, sum_of}
-use Rattle.blocking_crew.specs.Ties.{HandAs, Crewed, Holding}
+use Rattle.std.proofs.Common.{◌≡◌, ℕ, ◌+◌, List, [], ◌∷◌, Bool, length, refl, sym, ap, ◌∙◌, subst, arith, Option, Some, zero, suc, ◌&&◌, slice_get, is_some, is_none}
 use Rattle.blocking_crew.proofs.Types.{Moment, Hand, Out}
+use Rattle.blocking_crew.proofs.Words.{one_if, workers, idle, is_there, is_free, hand, Crew, sum_of, one_if_free, free_hands, one_if_busy, busy_hands, IsReady, HandAs, Crewed, Holding}
+use Rattle.blocking_laws.specs.Staffed.{count_to, passes, turns, IsStaffed, AreAsSeen}
 use Rattle.blocking_crew.proofs.hands.Rows.{hand_from_place}
 
 -- ---- what a test of the workers counts is a sum over their hands

@@ -1,18 +1,8 @@
 -- The law of turns holds at each move.
-use Rattle.std.proofs.Common.{◌≡◌, ℕ, List, Bool, true, false, refl, sym, ap, ◌∙◌, subst, Option, Some, None}
-use Rattle.std.specs.Prelude.{Ok, Err, not}
-use Rattle.blocking_pool.specs.Growth.{Growth}
-use Rattle.blocking_pool.specs.Jobs.{JobNumber}
-use Rattle.blocking_pool.specs.Lists.{is_in}
-use Rattle.blocking_laws.specs.Growth.{IsPlanned}
-use Rattle.blocking_laws.specs.Queue.{running}
-use Rattle.blocking_laws.specs.Turns.{Turn, turn, hand, TurnLaw, FitsTurn, ActsInTurn}
-use Rattle.blocking_crew.specs.Crews.{Crew, hand_at}
-use Rattle.blocking_crew.specs.Moves.{Move, Adds, TakesJob, Works, EndsTurn, Parks, HasWaited, IsLetGo, Tells, May, next_start}
-use Rattle.blocking_crew.specs.Tickets.{JobPool, TakesFront, no_growth}
-use Rattle.blocking_crew.specs.Ties.{turn_of, CrewHolds, moment_of}
+use Rattle.std.proofs.Common.{◌≡◌, ℕ, List, Bool, true, false, refl, sym, ap, ◌∙◌, subst, Option, Some, None, Ok, not}
+use Rattle.blocking_crew.proofs.Types.{Stay, WorkerPass, Act, GaveUp, JobParked, Moment, Party, Worker, Step, Free, Holds, Held, Stage, Ticket}
+use Rattle.blocking_crew.proofs.Words.{Growth, JobNumber, is_in, IsPlanned, running, Turn, turn, hand, FitsTurn, ActsInTurn, TurnLaw, Crew, hand_at, Move, Adds, TakesJob, Works, EndsTurn, Parks, HasWaited, IsLetGo, Tells, next_start, May, no_growth, JobPool, TakesFront, turn_of, CrewHolds, moment_of}
 use Rattle.blocking_crew.specs.declared.tickets.Parking.TheVariants as parking
-use Rattle.blocking_crew.proofs.Types.{Stay, Stop, WorkerPass, Act, JobParked, GaveUp, Moment, Party, Worker, Step, Free, Holds, Held, Stage, Ticket}
 use Rattle.blocking_crew.proofs.ties.Acts.{now_with, plain, aside_plain, by_work, by_let_go}
 use Rattle.blocking_crew.proofs.ties.Hands.{hand_seen}
 use Rattle.blocking_crew.proofs.ties.Standings.{front_rests}
@@ -49,7 +39,6 @@ module _ (setting : ℕ) (plan : List Bool) (crew : Crew) (past : List Moment) (
   -- The law of turns holds at each move.
   pub turn_law : (move : Move) → May (IsPlanned plan) crew move → TurnLaw past (moment_of crew move step owner)
   turn_law (Adds who (Ok number) growth pool) may = record { one = tt; acts = tt }
-  turn_law (Adds who (Err why) growth pool) may = record { one = tt; acts = tt }
   turn_law (TakesJob v old true number ticket growth pool) may = record { one = taken v old number ticket true growth pool may.0 may.1; acts = tt }
   turn_law (TakesJob v old false number ticket growth pool) may = record { one = taken v old number ticket false growth pool may.0 may.1; acts = tt }
   turn_law (Works v held act) may = works v held act may
@@ -57,7 +46,6 @@ module _ (setting : ℕ) (plan : List Bool) (crew : Crew) (past : List Moment) (
   turn_law (Parks v held ticket (parking.Parked pass) pool) may = record { one = its_job v held may.0; acts = tt }
   turn_law (Parks v held ticket _ pool) may = record { one = its_job v held may.0; acts = tt }
   turn_law (HasWaited v pass end (Stay back) growth pool) may = record { one = tt; acts = tt }
-  turn_law (HasWaited v pass end Stop growth pool) may = record { one = tt; acts = tt }
   turn_law (IsLetGo who act number) may = by_let_go (λ act. TurnLaw past (now who None act no_growth)) (record { one = tt; acts = tt }) (record { one = tt; acts = tt }) act may
   turn_law (Tells who act) may = record { one = (plain setting past step owner who None (next_start crew) no_growth act (aside_plain act may)).one; acts = tt }
-  turn_law move may = record { one = tt; acts = tt }
+  turn_law _ may = record { one = tt; acts = tt }

@@ -1,20 +1,16 @@
 -- Whatever a crew does, it hangs together with what was seen, and the law of the pool holds.
 use Rattle.std.proofs.Common.{[], ◌||◌, ◌≡◌, ℕ, List, ◌∷◌, Bool, true, false, refl, sym, ap, ◌∙◌, subst, Option, None, ◌==◌}
-use Rattle.blocking_crew.proofs.Types.{Act, NoAction, Event, Moment, Step, Out}
-use Rattle.blocking_crew.proofs.ready.Changes.{no_hand, empty_ready}
 use Rattle.std.proofs.lemmas.Bool.{cond_both}
-use Rattle.std.specs.FinMap as map
 use Rattle.std.specs.Ordering.{nat_cmp}
-use Rattle.blocking_pool.specs.Growth.{Narrows}
-use Rattle.blocking_pool.specs.Pools.{empty_pool}
-use Rattle.blocking_laws.specs.Growth.{IsPlanned}
+use Rattle.blocking_crew.proofs.Types.{Act, NoAction, Event, Moment, Step, Out}
+use Rattle.blocking_crew.proofs.Words.{Narrows, empty_pool, IsPlanned, is_nothing, Crew, Call, Move, Tells, call_of, next_start, after, is_aside, May, Moves, no_growth, FiledAs, HandAs, Crewed, CrewHolds, seen_as, moment_of, IsAsked, IsAside}
+use Rattle.std.specs.FinMap as map
 use Rattle.blocking_laws.specs.Legal.{PoolLaw}
-use Rattle.blocking_laws.specs.Seen.{is_nothing}
 use Rattle.blocking_laws.proofs.Queues.{order_after}
-use Rattle.blocking_crew.specs.Crews.{Crew}
-use Rattle.blocking_crew.specs.Moves.{Call, Move, Tells, is_aside, May, Moves, call_of, after, next_start}
-use Rattle.blocking_crew.specs.Tickets.{no_growth}
-use Rattle.blocking_crew.specs.Ties.{FiledAs, HandAs, Crewed, CrewHolds, IsAsked, IsAside, seen_as, moment_of}
+use Rattle.blocking_crew.proofs.laws.Answers.{answer_law}
+use Rattle.blocking_crew.proofs.laws.Growth.{growth_law}
+use Rattle.blocking_crew.proofs.laws.Turns.{turn_law}
+use Rattle.blocking_crew.proofs.ready.Changes.{no_hand, empty_ready}
 use Rattle.blocking_crew.proofs.ready.Moves.{ready_after}
 use Rattle.blocking_crew.proofs.ties.Acts.{now_with}
 use Rattle.blocking_crew.proofs.ties.Counts.{counts_after}
@@ -22,9 +18,6 @@ use Rattle.blocking_crew.proofs.ties.Hands.{hands_after}
 use Rattle.blocking_crew.proofs.ties.Jobs.{jobs_after}
 use Rattle.blocking_crew.proofs.ties.Queue.{queue_after, serials_after}
 use Rattle.blocking_crew.proofs.ties.Starts.{may_more}
-use Rattle.blocking_crew.proofs.laws.Answers.{answer_law}
-use Rattle.blocking_crew.proofs.laws.Growth.{growth_law}
-use Rattle.blocking_crew.proofs.laws.Turns.{turn_law}
 
 -- an act that is nothing to the crew, or none at all
 aside_is : (act : Act) → (is_aside act || is_nothing act) ≡ true → is_aside act ≡ true

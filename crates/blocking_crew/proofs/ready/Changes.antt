@@ -1,15 +1,12 @@
 -- A crew stays ready where its pool changes, and where one hand changes with it.
 use Rattle.std.proofs.Common.{◌≡◌, ℕ, ◌+◌, ◌-◌, ◌==◌, Bool, true, false, if◌then◌else◌, List, [], ◌∷◌, ◌++◌, length, refl, sym, ap, ◌∙◌, subst, arith}
 use Rattle.std.proofs.lemmas.Bool.{eqb-true, cond_both}
-use Rattle.blocking_pool.specs.Jobs.{is_running_as}
 use Rattle.std.specs.FinMap.{get, get-empty}
 use Rattle.std.specs.Ordering.{nat_cmp}
-use Rattle.blocking_pool.specs.Pools.{empty_pool}
-use Rattle.blocking_crew.specs.Crews.{Crew, IsReady, hand_at, with_hand, one_if_free, free_hands}
-use Rattle.blocking_crew.specs.Tickets.{JobPool, AreValued, is_valued}
-use Rattle.blocking_crew.proofs.Types.{WorkerPass, Hand, Out, Free, Holds, Held}
-use Rattle.blocking_crew.proofs.ready.Jobs.{IsKept}
+use Rattle.blocking_crew.proofs.Types.{WorkerPass, Hand, Free, Holds, Out, Held}
+use Rattle.blocking_crew.proofs.Words.{is_running_as, empty_pool, Crew, hand_at, with_hand, one_if_free, free_hands, IsReady, JobPool, is_valued, AreValued}
 use Rattle.blocking_crew.proofs.hands.Rows.{IsAt, hand_set, hand_pushed, sum_set, sum_pushed}
+use Rattle.blocking_crew.proofs.ready.Jobs.{IsKept}
 
 pub pool_ready : (crew : Crew) (pool : JobPool) → IsReady crew → ((s : ℕ) → IsKept false (get crew.pool.jobs s) (get pool.jobs s)) → pool.counts.idle + crew.pool.counts.arriving ≡ crew.pool.counts.idle + pool.counts.arriving
     → IsReady (record crew { pool = pool })

@@ -1,16 +1,11 @@
 -- A crew stays ready where a worker's hand changes with its pool.
 use Rattle.std.proofs.Common.{◌≡◌, ℕ, ◌+◌, ◌-◌, ◌<◌, ◌==◌, Bool, true, false, refl, sym, ap, ◌∙◌, arith, Option, Some, None, if◌then◌else◌}
-use Rattle.blocking_crew.proofs.jobs.Changes.{change_of, found_after}
-use Rattle.blocking_crew.specs.Moves.{Move, May, after}
 use Rattle.std.specs.FinMap.{get, insert}
 use Rattle.std.proofs.lemmas.Bool.{ne_eqb, eqb-false, cond_both}
-use Rattle.blocking_pool.specs.Growth.{Growth}
-use Rattle.blocking_pool.specs.Jobs.{Job, Jobs, JobNumber, if_at, is_running_job, is_running_as, entry_after_take}
-use Rattle.blocking_pool.specs.Pools.{without_job}
-use Rattle.blocking_crew.specs.Crews.{Crew, IsReady, hand_at, with_hand, one_if_free, free_hands}
-use Rattle.blocking_crew.specs.Tickets.{JobPool, AreValued, is_valued, TakesFront}
-use Rattle.blocking_crew.proofs.Types.{Standing, WorkerPass, Hand, Out, Free, Holds, Held, Stage, Ticket}
+use Rattle.blocking_crew.proofs.Types.{Standing, WorkerPass, Hand, Free, Holds, Out, Held, Stage, Ticket}
+use Rattle.blocking_crew.proofs.Words.{Growth, JobNumber, Job, Jobs, entry_after_take, is_running_job, if_at, is_running_as, without_job, Crew, hand_at, with_hand, one_if_free, free_hands, IsReady, Move, after, May, JobPool, TakesFront, is_valued, AreValued}
 use Rattle.blocking_crew.proofs.hands.Rows.{at_free, at_held, sum_set}
+use Rattle.blocking_crew.proofs.jobs.Changes.{change_of, found_after}
 use Rattle.blocking_crew.proofs.jobs.Lookups.{job_out, taken_runs, runs_at}
 use Rattle.blocking_crew.proofs.ready.Changes.{hand_ready}
 use Rattle.blocking_crew.proofs.ready.Jobs.{IsKept, kept_after}

@@ -1,18 +1,12 @@
 -- What a move leaves of each job: it runs on at its place, but where its turn ends, and it has its ticket, where it doesn't run.
-use Rattle.std.proofs.Common.{◌≡◌, ℕ, ◌==◌, ◌||◌, Bool, true, false, refl, sym, ap, ◌∙◌, Option, Some, None, arith}
-use Rattle.std.specs.Prelude.{option_map, Ok}
+use Rattle.std.proofs.Common.{◌≡◌, ℕ, ◌==◌, ◌||◌, Bool, true, false, refl, sym, ap, ◌∙◌, Option, Some, None, arith, option_map, Ok}
 use Rattle.std.specs.FinMap.{get}
 use Rattle.std.proofs.lemmas.Bool.{eqb-true, and_parts, cond_both}
-use Rattle.blocking_pool.specs.Jobs.{Job, JobNumber, if_at, is_running, is_parked, is_running_job, is_parked_job, standing_of, job_of, value_at, new_job, entry_after_take, entry_after_wake, entry_after_cancel, entry_after_requeue, entry_after_park}
-use Rattle.blocking_pool.specs.Lists.{is_in}
+use Rattle.blocking_crew.proofs.Types.{Entered, Marked, Standing, Parked, Queued, Running, Ticket}
+use Rattle.blocking_crew.proofs.Words.{JobNumber, is_running, is_parked, Job, new_job, entry_after_take, is_running_job, entry_after_requeue, entry_after_park, entry_after_wake, entry_after_cancel, if_at, job_of, standing_of, value_at, is_parked_job, is_in, has_timed_out, Crew, Move, Adds, TakesJob, EndsTurn, Parks, HasWaited, Sweeps, IsWoken, IsCancelled, IsLetGo, after, May, new_ticket, to_sweep, is_valued, ticket_after_mark}
+use Rattle.blocking_crew.specs.declared.tickets.Parking.TheVariants as parking
 use Rattle.blocking_pool.proofs.Lists.{turned}
 use Rattle.blocking_pool.proofs.PoolLemmas.{parked_one}
-use Rattle.blocking_laws.specs.Seen.{has_timed_out}
-use Rattle.blocking_crew.specs.Crews.{Crew}
-use Rattle.blocking_crew.specs.Moves.{Move, Adds, TakesJob, EndsTurn, Parks, HasWaited, Sweeps, IsWoken, IsCancelled, IsLetGo, May, after}
-use Rattle.blocking_crew.specs.Tickets.{is_valued, to_sweep, ticket_after_mark, new_ticket}
-use Rattle.blocking_crew.specs.declared.tickets.Parking.TheVariants as parking
-use Rattle.blocking_crew.proofs.Types.{Entered, Marked, Standing, Queued, Running, Parked, Ticket}
 use Rattle.blocking_crew.proofs.jobs.Changes.{change_of, found_after}
 use Rattle.blocking_crew.proofs.jobs.Lookups.{woken_is, cancelled_is, runs_at}
 use Rattle.blocking_crew.proofs.jobs.Marks.{mark_by}

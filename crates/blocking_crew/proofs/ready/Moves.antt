@@ -1,16 +1,10 @@
 -- Every move that there may be keeps a crew ready.
-use Rattle.std.proofs.Common.{◌≡◌, ℕ, Bool, true, refl, sym, subst, arith, false, ap}
+use Rattle.std.proofs.Common.{◌≡◌, ℕ, Bool, true, refl, sym, subst, arith, false, ap, Ok, Err}
 use Rattle.std.specs.FinMap.{get}
-use Rattle.std.specs.Prelude.{Ok, Err}
-use Rattle.blocking_pool.specs.Counts.{after_arrival}
-use Rattle.blocking_laws.specs.Seen.{has_timed_out}
-use Rattle.blocking_crew.specs.Crews.{Crew, IsReady}
-use Rattle.blocking_crew.specs.Moves.{Call, Move, Idles, Adds, Arrives, TakesJob, TakesNone, Works, EndsTurn, Parks, HasWaited, SetsLimit, Sweeps, IsWoken, IsCancelled, IsLetGo, Tells, May, Moves, after, first_stage}
-use Rattle.blocking_crew.specs.Crews.{stage_after}
-use Rattle.blocking_crew.specs.declared.tickets.Parking.TheVariants as parking
+use Rattle.blocking_crew.proofs.Types.{Memory, NoWorker, Numbers, Stay, Stop, Entered, Marked, Nothing, Event, Free, Out}
+use Rattle.blocking_crew.proofs.Words.{after_arrival, has_timed_out, Crew, stage_after, IsReady, Call, Move, Idles, Adds, Arrives, TakesJob, TakesNone, Works, EndsTurn, Parks, HasWaited, SetsLimit, Sweeps, IsWoken, IsCancelled, IsLetGo, Tells, first_stage, after, May, Moves, JobPool}
 use Rattle.blocking_crew.specs.declared.hand.Stage.TheVariants as stage
-use Rattle.blocking_crew.specs.Tickets.{JobPool}
-use Rattle.blocking_crew.proofs.Types.{Memory, NoWorker, Numbers, Entered, Marked, Nothing, Stay, Stop, Event, Free, Out}
+use Rattle.blocking_crew.specs.declared.tickets.Parking.TheVariants as parking
 use Rattle.blocking_crew.proofs.growth.Sweeps.{sweep_level}
 use Rattle.blocking_crew.proofs.jobs.Marks.{let_go_alone}
 use Rattle.blocking_crew.proofs.ready.Changes.{pool_ready, push_ready}

@@ -1,21 +1,9 @@
 -- What holds of each act that a job, a holder or a worker may be seen to do here holds of the one that was seen.
 use Rattle.std.proofs.Common.{arith, [], ◌≡◌, ℕ, ◌==◌, not, Bool, true, false, List, ◌∷◌, length, refl, Option}
-use Rattle.blocking_pool.specs.Growth.{Growth}
-use Rattle.blocking_pool.specs.Jobs.{Job as Entry, one_if}
-use Rattle.blocking_laws.specs.Answers.{PoolAnswers}
-use Rattle.blocking_laws.specs.Counts.{is_arrival, is_stop, limit_by}
-use Rattle.blocking_laws.specs.Growth.{HasWorker, grows, is_limit_set, turned_away}
-use Rattle.blocking_laws.specs.Jobs.{accepted_jobs, lets_go}
-use Rattle.blocking_laws.specs.Queue.{entered_by, taken_by, ended_by}
-use Rattle.blocking_laws.specs.Seen.{is_of_pool}
-use Rattle.blocking_laws.specs.Steps.{is_there}
-use Rattle.blocking_laws.specs.Turns.{FitsTurn, HoldsOne, turn, hand}
+use Rattle.blocking_crew.proofs.Types.{NoWorker, Done, Dropped, Act, Accepted, Answered, Arrived, Drained, Ended, Finished, GaveUp, HandedOut, HolderDropped, HolderWoken, JobCancelled, JobClosed, JobParked, JobWoken, LimitSet, Lost, Peeked, Put, Refused, ResultPut, RoomFree, RoomShut, Stays, Stopped, Swept, TaskCancelled, TookDropped, TookNone, HolderWaker, Moment, Party, Step, Stage, Ticket}
+use Rattle.blocking_crew.proofs.Words.{Growth, Job as Entry, one_if, PoolAnswers, is_arrival, is_stop, limit_by, grows, turned_away, HasWorker, is_limit_set, accepted_jobs, lets_go, entered_by, taken_by, ended_by, is_of_pool, is_there, turn, hand, HoldsOne, FitsTurn, Crew, may_act, stage_after, outcome_of, standing_after, seen, is_aside, FiledHere, turn_of, Handed}
 use Rattle.blocking_laws.specs.declared.event.Act.TheVariants.{Took, Taken as TakenOut}
-use Rattle.blocking_crew.specs.Crews.{Crew, may_act, stage_after, outcome_of, standing_after}
-use Rattle.blocking_crew.specs.Moves.{is_aside, seen}
-use Rattle.blocking_crew.specs.Ties.{FiledHere, Handed, turn_of}
 use Rattle.blocking_crew.specs.declared.hand.Stage.TheVariants as stage
-use Rattle.blocking_crew.proofs.Types.{NoWorker, Done, Dropped, Act, Accepted, Refused, JobWoken, JobCancelled, LimitSet, Swept, HolderDropped, TaskCancelled, Arrived, TookDropped, TookNone, Stays, Stopped, Ended, HandedOut, Answered, RoomFree, RoomShut, JobParked, Put, Lost, Peeked, Drained, JobClosed, Finished, GaveUp, HolderWoken, HolderWaker, Moment, Party, Step, Stage, Ticket, ResultPut}
 
 -- the moment of an act, as the layer above sees it
 abbrev pub now_with : Step → Option ℕ → Party → Option ℕ → Act → ℕ → Growth → Moment
@@ -148,11 +136,8 @@ by_work P goes_on parks gives_up stage.Runs (JobClosed waker) may = goes_on stag
 by_work P goes_on parks gives_up stage.Runs (ResultPut waker) may = goes_on stage.Runs (ResultPut waker) refl refl refl
 by_work P goes_on parks gives_up stage.Runs (Finished waker) may = goes_on stage.Runs (Finished waker) refl refl refl
 by_work P goes_on parks gives_up stage.Runs HolderWoken may = goes_on stage.Runs HolderWoken refl refl refl
-by_work P goes_on parks gives_up stage.Runs _ may = absurd cc
 by_work P goes_on parks gives_up stage.MustGiveUp (GaveUp waker) may = gives_up waker
-by_work P goes_on parks gives_up stage.MustGiveUp _ may = absurd cc
 by_work P goes_on parks gives_up stage.MustWake HolderWoken may = goes_on stage.MustWake HolderWoken refl refl refl
-by_work P goes_on parks gives_up stage.MustWake _ may = absurd cc
 by_work P goes_on parks gives_up _ act may = absurd cc
 
 -- an act by which a holder lets go

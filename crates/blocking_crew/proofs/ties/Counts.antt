@@ -1,18 +1,9 @@
 -- Each move keeps the counts of a crew what the past tells.
-use Rattle.std.proofs.Common.{[], ◌≡◌, ℕ, ◌<◌, ◌≤◌, ◌+◌, ◌==◌, min, List, ◌∷◌, Bool, true, false, cond, length, length-append, refl, sym, ap, ◌∙◌, ap₂, arith, if◌then◌else◌, Option, Some, None, zero, suc}
-use Rattle.std.specs.Prelude.{◌||◌, filter}
+use Rattle.std.proofs.Common.{[], ◌≡◌, ℕ, ◌<◌, ◌≤◌, ◌+◌, ◌==◌, min, List, ◌∷◌, Bool, true, false, cond, length, length-append, refl, sym, ap, ◌∙◌, ap₂, arith, if◌then◌else◌, Option, Some, None, zero, suc, ◌||◌, filter}
 use Rattle.std.proofs.lemmas.Bool.Decides.{nat_tests}
-use Rattle.blocking_pool.specs.Counts.{limit_of}
-use Rattle.blocking_pool.specs.Growth.{greatest, Growth, limit_after, number_after}
-use Rattle.blocking_pool.specs.Jobs.{one_if}
-use Rattle.blocking_laws.specs.Counts.{added, starts, refused_starts, arrivals, stops as all_stops, workers, limit, is_arrival, is_stop}
-use Rattle.blocking_laws.specs.Growth.{IsPlanned, has_limit, grows}
-use Rattle.blocking_laws.specs.Queue.{running}
-use Rattle.blocking_crew.specs.Crews.{Crew, one_if_busy, busy_hands}
-use Rattle.blocking_crew.specs.Moves.{Move, Arrives, SetsLimit, May, after, next_start}
-use Rattle.blocking_crew.specs.Tickets.{no_growth}
-use Rattle.blocking_crew.specs.Ties.{Counted, CrewHolds, moment_of}
 use Rattle.blocking_crew.proofs.Types.{WorkerPass, Act, Moment, Party, Step, Free}
+use Rattle.blocking_crew.proofs.Words.{limit_of, greatest, Growth, number_after, limit_after, one_if, added, starts, refused_starts, is_arrival, arrivals, is_stop, workers, limit, grows, IsPlanned, has_limit, running, Crew, one_if_busy, busy_hands, Move, Arrives, SetsLimit, next_start, after, May, no_growth, Counted, CrewHolds, moment_of}
+use Rattle.blocking_laws.specs.Counts.{stops as all_stops}
 use Rattle.blocking_crew.proofs.hands.Rows.{sum_pushed}
 use Rattle.blocking_crew.proofs.ties.Acts.{now_with, Steady}
 use Rattle.blocking_crew.proofs.ties.Flows.{GrewBy, flows, gone_of, growth_in, workers_now}

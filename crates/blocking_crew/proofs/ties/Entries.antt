@@ -1,15 +1,11 @@
 -- An entry of the pool by what was seen of its job, over plain values: what it tells, and each kind of change.
-use Rattle.std.proofs.Common.{◌≡◌, Bool, true, false, refl, sym, ap, ◌∙◌, subst, Option, Some, None, ◌&&◌, ◌||◌, not, ℕ}
+use Rattle.std.proofs.Common.{◌≡◌, Bool, true, false, refl, sym, ap, ◌∙◌, subst, Option, Some, None, ◌&&◌, ◌||◌, not, ℕ, option_map}
 use Rattle.std.proofs.lemmas.Bool.{eq-eqb}
-use Rattle.std.specs.Prelude.{option_map}
 use Rattle.std.proofs.Math.Bool.{and-true}
-use Rattle.blocking_pool.specs.Jobs.{Job as Entry, if_at, new_job, entry_after_take, entry_after_wake, entry_after_cancel, entry_after_park, entry_after_requeue, is_running_job, is_parked as is_parked_so}
-use Rattle.blocking_pool.specs.Wakes.{wake_of, cancel_of}
-use Rattle.blocking_pool.proofs.Standings.{running_is}
+use Rattle.blocking_crew.proofs.Types.{Woke, Marked, Standing, Done, Dropped, Parked, Queued, Running, Ticket}
+use Rattle.blocking_crew.proofs.Words.{is_parked as is_parked_so, Job as Entry, new_job, entry_after_take, is_running_job, entry_after_requeue, entry_after_park, entry_after_wake, entry_after_cancel, if_at, wake_of, cancel_of, new_ticket, is_marked_ticket, is_due_to_sweep, ValueAs, AbsentAs, FiledAs, has_ticket}
 use Rattle.blocking_laws.specs.Jobs.{is_parked}
-use Rattle.blocking_crew.specs.Tickets.{is_due_to_sweep, is_marked_ticket, new_ticket}
-use Rattle.blocking_crew.specs.Ties.{ValueAs, AbsentAs, FiledAs, has_ticket}
-use Rattle.blocking_crew.proofs.Types.{Woke, Marked, Standing, Queued, Running, Parked, Done, Dropped, Ticket}
+use Rattle.blocking_pool.proofs.Standings.{running_is}
 use Rattle.blocking_crew.proofs.jobs.Marks.{mark_ticket, mark_if}
 
 -- ---- what it tells

@@ -1,32 +1,16 @@
 -- How jobs and workers come and go at each move: what enters the queue and what leaves it, who is started, and who is idle then.
-use Rattle.std.proofs.Common.{[], ◌≡◌, ℕ, suc, ◌≤◌, ◌+◌, ◌-◌, ◌==◌, List, ◌∷◌, ◌++◌, Bool, true, false, length, length-append, length-set, refl, sym, ap, ◌∙◌, arith, if◌then◌else◌, Option, Some, None, ◌<◌, ◌⊎◌, inl, inr, ap₂}
-use Rattle.blocking_crew.proofs.ties.Standings.{held_once, front_out}
-use Rattle.blocking_pool.specs.Lists.{without}
-use Rattle.blocking_pool.specs.Pools.{without_job}
-use Rattle.blocking_pool.specs.PoolAnswers.{is_empty}
-use Rattle.std.specs.Prelude.{not, slice_get, Ok, Err}
+use Rattle.std.proofs.Common.{[], ◌≡◌, ℕ, suc, ◌≤◌, ◌+◌, ◌-◌, ◌==◌, List, ◌∷◌, ◌++◌, Bool, true, false, length, length-append, length-set, refl, sym, ap, ◌∙◌, arith, if◌then◌else◌, Option, Some, None, ◌<◌, ◌⊎◌, inl, inr, ap₂, not, slice_get, Ok, Err}
 use Rattle.std.proofs.lemmas.Bool.Decides.{nat_tests}
-use Rattle.blocking_pool.specs.Counts.{Counts, limit_of, after_pickup, after_release, after_stop, louder}
-use Rattle.blocking_pool.specs.Growth.{greatest, Growth, after_growth, limit_after, number_after}
-use Rattle.blocking_pool.specs.Jobs.{JobNumber}
-use Rattle.blocking_pool.specs.Sweeps.{serials_below}
-use Rattle.blocking_laws.specs.Counts.{workers}
-use Rattle.blocking_laws.specs.Growth.{IsPlanned, HasWorker, grows, turned_away}
-use Rattle.blocking_laws.specs.Jobs.{accepted_by, accepted_jobs}
-use Rattle.blocking_laws.specs.Queue.{entered_by, to_sweep as seen_to_sweep, queue, running}
-use Rattle.blocking_laws.specs.Seen.{joined, has_timed_out, without_all}
-use Rattle.blocking_crew.specs.Crews.{Crew, with_hand, held_after_act, one_if_busy, busy_hands, hand_at, outcome_of, standing_after, one_if_free}
-use Rattle.blocking_crew.specs.Moves.{Move, Idles, Adds, Arrives, TakesJob, TakesNone, Works, EndsTurn, Parks, HasWaited, SetsLimit, Sweeps, IsWoken, IsCancelled, IsLetGo, Tells, May, after, next_start, hand_after_park, first_stage}
-use Rattle.blocking_crew.specs.Tickets.{JobPool, no_growth, GrowsBy, Accepts, SweepsTo, SweepsIf, to_sweep, FindsNoWorker, TakesFront}
-use Rattle.blocking_crew.specs.Ties.{Numbered, CrewHolds, moment_of, Lined}
+use Rattle.blocking_crew.proofs.Types.{Memory, NoWorker, Numbers, Stay, Stop, Entered as PutBack, One, Standing, Parked, Queued, WorkerPass, Act, Accepted, Ended, Refused, Stopped, Moment, Party, Worker, WaitEnd, Step, Hand, Free, Holds, Out, Held, Ticket}
+use Rattle.blocking_crew.proofs.Words.{Counts, limit_of, louder, after_pickup, after_release, after_stop, greatest, Growth, number_after, limit_after, after_growth, JobNumber, without, is_empty, without_job, serials_below, workers, grows, turned_away, IsPlanned, HasWorker, accepted_by, accepted_jobs, seen_to_sweep, entered_by, queue, running, without_all, joined, has_timed_out, Crew, outcome_of, standing_after, hand_at, with_hand, held_after_act, one_if_free, one_if_busy, busy_hands, Move, Idles, Adds, Arrives, TakesJob, TakesNone, Works, EndsTurn, Parks, HasWaited, SetsLimit, Sweeps, IsWoken, IsCancelled, IsLetGo, Tells, next_start, first_stage, hand_after_park, after, May, no_growth, JobPool, GrowsBy, Accepts, FindsNoWorker, TakesFront, to_sweep, SweepsTo, SweepsIf, Lined, Numbered, CrewHolds, moment_of}
 use Rattle.blocking_crew.specs.declared.tickets.Parking.TheVariants as parking
-use Rattle.blocking_crew.proofs.Types.{Memory, NoWorker, Numbers, Stay, Stop, Entered as PutBack, Act, Accepted, Moment, Party, Worker, Step, Hand, Free, Holds, One, Standing, Queued, Parked, WorkerPass, Refused, Ended, Stopped, WaitEnd, Out, Held, Ticket}
 use Rattle.blocking_crew.proofs.growth.Reads.{numbers_last}
+use Rattle.blocking_crew.proofs.growth.Sweeps.{sweep_serial}
 use Rattle.blocking_crew.proofs.hands.Rows.{at_held, at_free, sum_set}
 use Rattle.blocking_crew.proofs.jobs.Marks.{let_go_alone}
 use Rattle.blocking_crew.proofs.ties.Acts.{now_with, enters_only, is_plain, plain, aside_plain, by_work, by_let_go, Steady, enters_so, by_end}
+use Rattle.blocking_crew.proofs.ties.Standings.{held_once, front_out}
 use Rattle.blocking_crew.proofs.ties.Sweeps.{sweep_same}
-use Rattle.blocking_crew.proofs.growth.Sweeps.{sweep_serial}
 
 -- ---- how a growth changes the counts
 

@@ -1,21 +1,10 @@
 -- Each move keeps the hands as they were seen.
-use Rattle.std.proofs.Common.{[], ◌≡◌, ℕ, ◌+◌, ◌==◌, List, ◌∷◌, ◌++◌, Bool, true, false, length, refl, sym, ap, ◌∙◌, subst, if◌then◌else◌, Option, Some, None, ◌&&◌, ◌||◌, not}
-use Rattle.std.specs.Prelude.{Ok, Err}
+use Rattle.std.proofs.Common.{[], ◌≡◌, ℕ, ◌+◌, ◌==◌, List, ◌∷◌, ◌++◌, Bool, true, false, length, refl, sym, ap, ◌∙◌, subst, if◌then◌else◌, Option, Some, None, ◌&&◌, ◌||◌, not, Ok, Err}
 use Rattle.std.proofs.lemmas.Bool.{eqb-true, eqb-false, eq-eqb, ne_eqb, cond_both}
-use Rattle.blocking_pool.specs.Growth.{Growth}
-use Rattle.blocking_pool.specs.Jobs.{JobNumber}
-use Rattle.blocking_laws.specs.Growth.{IsPlanned}
-use Rattle.blocking_laws.specs.Jobs.{standing}
-use Rattle.blocking_laws.specs.Steps.{is_there}
-use Rattle.blocking_laws.specs.Turns.{Turn, GoesOn, IsWaiting, MustGiveUp, HasGivenUp, turn, hand}
-use Rattle.blocking_laws.specs.declared.event.HolderWaker.TheVariants.{Taken}
-use Rattle.blocking_crew.specs.Crews.{Crew, hand_at, with_hand, may_act, stage_after, held_after_act, outcome_of, standing_after}
-use Rattle.blocking_crew.specs.Moves.{Move, Adds, Arrives, TakesJob, TakesNone, Works, EndsTurn, Parks, HasWaited, IsLetGo, Tells, May, after, next_start, first_stage}
-use Rattle.blocking_crew.specs.Tickets.{JobPool, no_growth}
-use Rattle.blocking_crew.specs.Ties.{HandAs, Handed, turn_of, CrewHolds, moment_of}
+use Rattle.blocking_crew.proofs.Types.{Stay, Stop, Standing, Parked, Queued, Running, WorkerPass, Act, Ended, GaveUp, JobParked, HolderWaker, Absent, Taken, Moment, Party, Worker, Step, Hand, Free, Holds, Out, Held, Stage}
+use Rattle.blocking_crew.proofs.Words.{Growth, JobNumber, IsPlanned, standing, is_there, Turn, GoesOn, IsWaiting, MustGiveUp, HasGivenUp, turn, hand, Crew, may_act, stage_after, outcome_of, standing_after, hand_at, with_hand, held_after_act, Move, Adds, Arrives, TakesJob, TakesNone, Works, EndsTurn, Parks, HasWaited, IsLetGo, Tells, next_start, first_stage, after, May, no_growth, JobPool, HandAs, turn_of, Handed, CrewHolds, moment_of}
 use Rattle.blocking_crew.specs.declared.hand.Stage.TheVariants as stage
 use Rattle.blocking_crew.specs.declared.tickets.Parking.TheVariants as parking
-use Rattle.blocking_crew.proofs.Types.{Stay, Stop, Standing, Queued, Running, Parked, WorkerPass, Act, Ended, JobParked, GaveUp, HolderWaker, Absent, Moment, Party, Worker, Step, Hand, Out, Free, Holds, Held, Stage}
 use Rattle.blocking_crew.proofs.hands.Rows.{IsAt, at_held, at_free, hand_set, hand_pushed, hand_next}
 use Rattle.blocking_crew.proofs.ties.Acts.{now_with, plain, aside_plain, by_work, by_let_go}
 use Rattle.blocking_crew.proofs.ties.Standings.{held_runs, front_stands}

@@ -1,25 +1,15 @@
 -- Each move keeps the pool's jobs as they were seen.
-use Rattle.std.proofs.Common.{◌≡◌, ℕ, ◌==◌, ◌&&◌, ◌||◌, not, if◌then◌else◌, List, ◌∷◌, Bool, true, false, refl, sym, ap, ◌∙◌, Option, Some, None}
-use Rattle.blocking_pool.specs.Lists.{is_in}
-use Rattle.blocking_pool.proofs.Lists.{by_eq}
-use Rattle.std.specs.Prelude.{Ok, Err, option_map, IfSome}
+use Rattle.std.proofs.Common.{◌≡◌, ℕ, ◌==◌, ◌&&◌, ◌||◌, not, if◌then◌else◌, List, ◌∷◌, Bool, true, false, refl, sym, ap, ◌∙◌, Option, Some, None, Ok, Err, option_map, IfSome}
 use Rattle.std.specs.FinMap.{get, remove}
-use Rattle.blocking_pool.specs.Growth.{Growth}
-use Rattle.blocking_pool.specs.Jobs.{Job as Entry, JobNumber, new_job, entry_after_take, entry_after_wake, entry_after_cancel, entry_after_requeue, entry_after_park}
-use Rattle.blocking_pool.specs.Wakes.{wake_of, cancel_of}
-use Rattle.blocking_laws.specs.Growth.{IsPlanned}
-use Rattle.blocking_laws.specs.Jobs.{standing, holder, is_holder, is_woken, is_cancelled, is_marked, is_parked, has_ended}
-use Rattle.blocking_laws.specs.Seen.{has_timed_out}
-use Rattle.blocking_crew.specs.Crews.{Crew, hand_at}
-use Rattle.blocking_crew.specs.Moves.{Move, Adds, TakesJob, Works, EndsTurn, Parks, HasWaited, Sweeps, IsWoken, IsCancelled, IsLetGo, Tells, May, after, call_of, next_start}
-use Rattle.blocking_crew.specs.Tickets.{JobPool, new_ticket, no_growth, pool_after_let_go, to_sweep}
-use Rattle.blocking_crew.specs.Ties.{AbsentAs, FiledAs, FiledHere, Filed, IsNumberOf, is_serial_of, HoldsAtRest, IsAsked, CrewHolds, moment_of}
+use Rattle.blocking_crew.proofs.Types.{Stay, Stop, Woke, Entered, Marked, Nothing, Standing, Done, Dropped, Parked, Queued, Running, WorkerPass, Act, JobCancelled, JobWoken, Moment, Party, Worker, Step, Holds, Held, Ticket}
+use Rattle.blocking_crew.proofs.Words.{Growth, JobNumber, Job as Entry, new_job, entry_after_take, entry_after_requeue, entry_after_park, entry_after_wake, entry_after_cancel, is_in, wake_of, cancel_of, IsPlanned, holder, is_holder, is_woken, is_cancelled, has_ended, is_marked, standing, has_timed_out, Crew, hand_at, Move, Adds, TakesJob, Works, EndsTurn, Parks, HasWaited, Sweeps, IsWoken, IsCancelled, IsLetGo, Tells, call_of, next_start, after, May, no_growth, new_ticket, JobPool, to_sweep, pool_after_let_go, AbsentAs, FiledAs, FiledHere, Filed, IsNumberOf, CrewHolds, moment_of, is_serial_of, HoldsAtRest, IsAsked}
+use Rattle.blocking_laws.specs.Jobs.{is_parked}
 use Rattle.blocking_crew.specs.declared.tickets.Parking.TheVariants as parking
-use Rattle.blocking_crew.proofs.Types.{Stay, Stop, Woke, Entered, Marked, Nothing, Standing, Queued, Running, Parked, Done, Dropped, Act, JobWoken, JobCancelled, Moment, Party, Worker, Step, Held, Ticket, Holds, WorkerPass}
-use Rattle.blocking_crew.proofs.ties.Acts.{now_with, plain, aside_plain, by_work, by_let_go, by_end}
+use Rattle.blocking_pool.proofs.Lists.{by_eq}
+use Rattle.blocking_crew.proofs.jobs.Changes.{found_after}
 use Rattle.blocking_crew.proofs.jobs.Lookups.{woken_is, cancelled_is}
 use Rattle.blocking_crew.proofs.jobs.Marks.{job_let_go}
-use Rattle.blocking_crew.proofs.jobs.Changes.{found_after}
+use Rattle.blocking_crew.proofs.ties.Acts.{now_with, plain, aside_plain, by_work, by_let_go, by_end}
 use Rattle.blocking_crew.proofs.ties.Entries.{accepted_filed, taken_filed, parked_filed, requeued_filed, woken_filed, woken_there, cancelled_filed, cancelled_there, marked_filed}
 use Rattle.blocking_crew.proofs.ties.Standings.{fresh, unheld, met, held_runs, front_stands}
 use Rattle.blocking_crew.proofs.ties.Sweeps.{due_test}

@@ -1,14 +1,10 @@
 -- Lists of numbers: how often a number stands in one, and what is left without it.
-use Rattle.std.proofs.Common.{◌≡◌, ℕ, ◌+◌, ◌==◌, ◌||◌, cond, Bool, false, List, [], ◌∷◌, length, refl, ap, ◌∙◌, arith, zero, suc}
+use Rattle.std.proofs.Common.{◌≡◌, ℕ, ◌+◌, ◌==◌, ◌||◌, cond, Bool, false, List, [], ◌∷◌, length, refl, ap, ◌∙◌, arith, zero, suc, filter, not, nat_lt}
 use Rattle.std.proofs.lemmas.List.Filters.{length-filter_both}
-use Rattle.std.specs.Prelude.{filter, not, nat_lt}
 use Rattle.std.proofs.lemmas.Bool.{eq-eqb}
 use Rattle.std.proofs.lemmas.Bool.Decides.{nat_tests}
-use Rattle.blocking_pool.specs.Jobs.{one_if}
-use Rattle.blocking_pool.specs.Lists.{is_in, without}
-use Rattle.blocking_pool.specs.Sweeps.{serials_below}
+use Rattle.blocking_crew.proofs.Words.{one_if, is_in, without, serials_below, times}
 use Rattle.blocking_pool.proofs.Lists.{turned}
-use Rattle.blocking_laws.specs.Queue.{times}
 use Rattle.blocking_laws.proofs.Queues.{times_both, times_one}
 
 -- ---- one number

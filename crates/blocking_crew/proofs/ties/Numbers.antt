@@ -1,22 +1,14 @@
 -- The number of a job stays its number, whatever the crew does.
-use Rattle.std.proofs.Common.{◌≡◌, ℕ, List, Bool, true, false, refl, sym, ap, ◌∙◌, Option, Some, None}
-use Rattle.std.specs.Prelude.{Ok, option_map, is_some}
+use Rattle.std.proofs.Common.{◌≡◌, ℕ, List, Bool, true, false, refl, sym, ap, ◌∙◌, Option, Some, None, Ok, option_map, is_some}
 use Rattle.std.specs.FinMap.{get}
 use Rattle.std.proofs.lemmas.Bool.{eqb-true, eq-eqb, cond_both}
-use Rattle.blocking_pool.specs.Growth.{Growth}
-use Rattle.blocking_pool.specs.Jobs.{Job as Entry, JobNumber, new_job, entry_after_take, entry_after_wake, entry_after_cancel, entry_after_requeue, entry_after_park, job_of, value_at}
-use Rattle.blocking_laws.specs.Growth.{IsPlanned}
-use Rattle.blocking_laws.specs.Jobs.{standing}
-use Rattle.blocking_crew.specs.Crews.{Crew}
-use Rattle.blocking_crew.specs.Moves.{Move, Adds, TakesJob, EndsTurn, Parks, HasWaited, Sweeps, IsWoken, IsCancelled, IsLetGo, May, after}
-use Rattle.blocking_crew.specs.Tickets.{JobPool, new_ticket, AddsTo}
-use Rattle.blocking_crew.specs.Ties.{IsNumberOf, CrewHolds}
-use Rattle.blocking_crew.specs.declared.tickets.Parking.TheVariants as parking
 use Rattle.blocking_crew.proofs.Types.{Entered, Marked, Moment, Ticket}
-use Rattle.blocking_crew.proofs.ties.Standings.{fresh}
+use Rattle.blocking_crew.proofs.Words.{Growth, JobNumber, Job as Entry, new_job, entry_after_take, entry_after_requeue, entry_after_park, entry_after_wake, entry_after_cancel, job_of, value_at, IsPlanned, standing, Crew, Move, Adds, TakesJob, EndsTurn, Parks, HasWaited, Sweeps, IsWoken, IsCancelled, IsLetGo, after, May, new_ticket, JobPool, AddsTo, IsNumberOf, CrewHolds}
+use Rattle.blocking_crew.specs.declared.tickets.Parking.TheVariants as parking
+use Rattle.blocking_crew.proofs.jobs.Changes.{change_of, found_after}
 use Rattle.blocking_crew.proofs.jobs.Lookups.{job_put}
 use Rattle.blocking_crew.proofs.jobs.Marks.{mark_by}
-use Rattle.blocking_crew.proofs.jobs.Changes.{change_of, found_after}
+use Rattle.blocking_crew.proofs.ties.Standings.{fresh}
 
 -- the place of a job, where it is there
 abbrev place_of : Option (Entry Ticket) → Option ℕ

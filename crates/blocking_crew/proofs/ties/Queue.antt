@@ -1,10 +1,7 @@
 -- Each move keeps the pool's queue that of the past, and the serials those of the jobs that were accepted.
 use Rattle.std.proofs.Common.{ℕ, List, ◌∷◌, Bool, Option, refl}
-use Rattle.blocking_laws.specs.Growth.{IsPlanned}
-use Rattle.blocking_crew.specs.Crews.{Crew}
-use Rattle.blocking_crew.specs.Moves.{Move, Arrives, May, after, SetsLimit}
-use Rattle.blocking_crew.specs.Ties.{Lined, CrewHolds, moment_of, Numbered}
 use Rattle.blocking_crew.proofs.Types.{Moment, Step}
+use Rattle.blocking_crew.proofs.Words.{IsPlanned, Crew, Move, Arrives, SetsLimit, after, May, Lined, Numbered, CrewHolds, moment_of}
 use Rattle.blocking_crew.proofs.ties.Flows.{flows, kept}
 
 module _ (setting : ℕ) (plan : List Bool) (crew : Crew) (past : List Moment) (step : Step) (owner : Option ℕ) (h : CrewHolds setting plan crew past) where

@@ -1,24 +1,16 @@
 -- What a crew and the laws tell of one job: the next one stands nowhere, the one in a hand runs, the front one is queued.
-use Rattle.std.proofs.Common.{◌≡◌, ℕ, ◌+◌, ◌==◌, List, [], ◌∷◌, length, Bool, true, false, refl, sym, ap, ◌∙◌, subst, arith, Option, Some, None, inl, inr, if◌then◌else◌}
-use Rattle.std.specs.Prelude.{◌&&◌, not, nat_lt, is_some}
+use Rattle.std.proofs.Common.{◌≡◌, ℕ, ◌+◌, ◌==◌, List, [], ◌∷◌, length, Bool, true, false, refl, sym, ap, ◌∙◌, subst, arith, Option, Some, None, inl, inr, if◌then◌else◌, ◌&&◌, not, nat_lt, is_some}
 use Rattle.std.specs.FinMap.{get}
 use Rattle.std.proofs.lemmas.Bool.{ne_eqb, cases_eq}
 use Rattle.std.proofs.lemmas.Bool.Decides.{nat_tests}
-use Rattle.blocking_pool.specs.Growth.{Growth}
-use Rattle.blocking_pool.specs.Jobs.{JobNumber, is_running_job, one_if, standing_of}
-use Rattle.blocking_pool.specs.Lists.{is_in, without}
+use Rattle.blocking_crew.proofs.Types.{Woke, Standing, Done, Dropped, Queued, Running, Act, Accepted, Moment, Holds, Held, Ticket}
+use Rattle.blocking_crew.proofs.Words.{Growth, JobNumber, one_if, is_running_job, standing_of, is_in, without, accepted_by, accepted_jobs, accepts, newcomer, holder, is_queued, standing, queue, running, times, joined, Crew, hand_at, JobPool, TakesFront, FiledHere, IsNumberOf, CrewHolds}
+use Rattle.blocking_laws.specs.Jobs.{is_running}
 use Rattle.blocking_pool.proofs.Lists.{without-first, is_in-last, is_in-push}
-use Rattle.blocking_laws.specs.Jobs.{accepted_by, accepted_jobs, accepts, holder, newcomer, standing, is_queued, is_running}
-use Rattle.blocking_laws.specs.Queue.{queue, running, times}
-use Rattle.blocking_laws.specs.Seen.{joined}
 use Rattle.blocking_laws.proofs.Queues.{queued_so, runs_so, known_so}
-use Rattle.blocking_crew.specs.Crews.{Crew, hand_at}
-use Rattle.blocking_crew.specs.Tickets.{JobPool, TakesFront}
-use Rattle.blocking_crew.specs.Ties.{FiledHere, CrewHolds, IsNumberOf}
-use Rattle.blocking_crew.proofs.Types.{Standing, Queued, Running, Act, Accepted, Moment, Holds, Held, Ticket, Woke, Done, Dropped}
-use Rattle.blocking_crew.proofs.ties.Lists.{in_times, front_once, times_below, times_first, without_times}
 use Rattle.blocking_crew.proofs.jobs.Lookups.{runs_at}
 use Rattle.blocking_crew.proofs.ties.Entries.{filed_runs, filed_none, met_as}
+use Rattle.blocking_crew.proofs.ties.Lists.{in_times, front_once, times_below, times_first, without_times}
 
 unknown_is : (st : Option Standing) → one_if (is_some st) ≡ 0 → st ≡ None
 unknown_is None e = refl

@@ -1,14 +1,8 @@
 -- A move that there may be under some answers of a starter may be there under more of them.
-use Rattle.std.proofs.Common.{ℕ, ◌+◌, List, [], ◌∷◌, Bool, true, false, length}
-use Rattle.std.specs.Prelude.{Ok, Err}
-use Rattle.blocking_pool.specs.Counts.{Counts, after_pickup}
-use Rattle.blocking_pool.specs.Growth.{Growth, Narrows}
-use Rattle.blocking_pool.proofs.GrowthLemmas.{answer_before}
-use Rattle.blocking_laws.specs.Seen.{has_timed_out}
-use Rattle.blocking_crew.specs.Crews.{Crew}
-use Rattle.blocking_crew.specs.Moves.{Move, Adds, TakesJob, HasWaited, Sweeps, IsWoken, IsCancelled, May}
-use Rattle.blocking_crew.specs.Tickets.{JobPool, GrowsBy, EntersAgain, SweepsTo, SweepsIf, to_sweep}
+use Rattle.std.proofs.Common.{ℕ, ◌+◌, List, [], ◌∷◌, Bool, true, false, length, Ok, Err}
 use Rattle.blocking_crew.proofs.Types.{NoWorker, Entered}
+use Rattle.blocking_crew.proofs.Words.{Counts, after_pickup, Narrows, Growth, has_timed_out, Crew, Move, Adds, TakesJob, HasWaited, Sweeps, IsWoken, IsCancelled, May, JobPool, GrowsBy, EntersAgain, to_sweep, SweepsTo, SweepsIf}
+use Rattle.blocking_pool.proofs.GrowthLemmas.{answer_before}
 
 module _ (wide narrow : ℕ → Bool → Type 0) (more : Narrows wide narrow) where
   grows : (ready : ℕ) (counts : Counts) (growth : Growth) → GrowsBy narrow ready counts growth → GrowsBy wide ready counts growth

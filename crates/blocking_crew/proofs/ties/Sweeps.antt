@@ -1,15 +1,10 @@
 -- A sweep puts back what was seen to be parked and marked, in the order in which it was accepted.
-use Rattle.std.proofs.Common.{arith, ◌≡◌, ℕ, ◌&&◌, cond, Bool, List, ◌∷◌, ap, ◌∙◌, Option}
+use Rattle.std.proofs.Common.{arith, ◌≡◌, ℕ, ◌&&◌, cond, Bool, List, ◌∷◌, ap, ◌∙◌, Option, is_some, filter}
 use Rattle.std.proofs.lemmas.List.Elements.{filter_agree}
-use Rattle.std.specs.Prelude.{is_some, filter}
 use Rattle.std.specs.FinMap.{get}
-use Rattle.blocking_pool.specs.Lists.{is_in}
-use Rattle.blocking_laws.specs.Jobs.{accepted_jobs, standing, is_parked, is_woken, is_cancelled, is_marked, has_ended}
-use Rattle.blocking_laws.specs.Queue.{to_sweep as seen_to_sweep}
-use Rattle.blocking_crew.specs.Crews.{Crew}
-use Rattle.blocking_crew.specs.Tickets.{to_sweep, is_due_to_sweep}
-use Rattle.blocking_crew.specs.Ties.{CrewHolds}
 use Rattle.blocking_crew.proofs.Types.{Standing, Moment}
+use Rattle.blocking_crew.proofs.Words.{is_in, accepted_jobs, is_woken, is_cancelled, has_ended, is_marked, standing, seen_to_sweep, Crew, is_due_to_sweep, to_sweep, CrewHolds}
+use Rattle.blocking_laws.specs.Jobs.{is_parked}
 use Rattle.blocking_crew.proofs.jobs.Lookups.{in_filter}
 use Rattle.blocking_crew.proofs.ties.Entries.{due_filed}
 use Rattle.blocking_crew.proofs.ties.Standings.{get_zero, accepted_in}

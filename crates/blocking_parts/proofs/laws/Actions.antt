@@ -1,54 +1,27 @@
 -- A step has an action in the parts exactly where it has one by what was seen.
-use Rattle.std.proofs.Common.{◌≡◌, ℕ, ◌+◌, List, length, Bool, true, false, refl, sym, ap, ◌∙◌, arith, Option, Some, None}
-use Rattle.std.specs.Prelude.{◌&&◌, ◌||◌, ◌==◌, nat_lt, not, slice_get, is_some, is_none}
+use Rattle.std.proofs.Common.{◌≡◌, ℕ, ◌+◌, List, length, Bool, true, false, refl, sym, ap, ◌∙◌, arith, Option, Some, None, ◌&&◌, ◌||◌, ◌==◌, nat_lt, not, slice_get, is_some, is_none}
 use Rattle.std.proofs.lemmas.Bool.{lt-ltb}
 use Rattle.std.proofs.lemmas.Bool.Decides.{nat_tests}
 use Rattle.std.proofs.lemmas.Option.{slice_get_within}
-use Rattle.blocking_crew.specs.Crews.{hand_at, is_free_hand}
-use Rattle.blocking_crew.specs.Ties.{HandAs}
-use Rattle.blocking_crew.specs.declared.hand.Hand.{Hand}
-use Rattle.blocking_crew.specs.declared.hand.Hand.TheVariants.{Out, Free, Holds}
-use Rattle.blocking_lanes.specs.OwnerTies.{OwnerAs}
-use Rattle.blocking_lanes.specs.Owners.{Owner, did, next_of}
-use Rattle.blocking_lanes.specs.Tasks.{Task, may_be}
-use Rattle.blocking_lanes.specs.Ties.{TaskAs, CancelAs, is_gone_as}
-use Rattle.blocking_lanes.specs.declared.owner.OwnerNext.{OwnerNext}
+use Rattle.blocking_parts.proofs.Types.{Event, Moment, Party, HandleCall, Step, Arrive, Ask, DropOwner, End, Io, Job, Late, OfTask, Own, SetLimit, Stray, Strike, Take, Wait, TaskCall, Poll, Hand, Out, OwnerNext, Row}
+use Rattle.blocking_parts.proofs.Words.{starts, arrivals, tasks, holder, standing, events, acts_of_task, task_cut, cut, own, acts_of_owner, under_way, is_poll_over, is_there, is_job_action, is_answered_action, is_turn_end, is_for_cancelled, may_call, may_cancel, has_action, was_cancelled, hand, hand_at, is_free_hand, HandAs, OwnerAs, Owner, next_of, did, Task, may_be, is_gone_as, CancelAs, TaskAs, may_call_in, rests_in, may_ask_in, may_own, may_own_in, has_action_in, Parts, row_of, let_go_by, Tied}
+use Rattle.blocking_laws.specs.Sessions as sessions
+use Rattle.blocking_laws.specs.TaskLaws.{is_gone}
 use Rattle.blocking_lanes.specs.declared.owner.OwnerNext.TheVariants as next
-use Rattle.blocking_lanes.specs.declared.task.TaskStage.{TaskStage}
 use Rattle.blocking_lanes.specs.declared.task.TaskStage.TheVariants as task_stage
+use Rattle.blocking_lanes.specs.declared.task.TaskStage.{TaskStage}
 use Rattle.blocking_lanes.proofs.cuts.Acts.{own_cut}
 use Rattle.blocking_lanes.proofs.owners.Actions.{acts_some, is_rest, rests_is, may_ask_is, rests_next}
-use Rattle.blocking_laws.specs.Counts.{starts, arrivals}
-use Rattle.blocking_laws.specs.Jobs.{tasks, holder, standing}
-use Rattle.blocking_laws.specs.Seen.{events, acts_of_owner, acts_of_task, own, cut, task_cut}
-use Rattle.blocking_laws.specs.Sessions.{is_poll_over, under_way}
-use Rattle.blocking_laws.specs.Sessions as sessions
-use Rattle.blocking_laws.specs.Steps.{has_action, is_there, is_answered_action, is_job_action, is_for_cancelled, is_turn_end, may_call, may_cancel}
-use Rattle.blocking_laws.specs.TaskLaws.{is_gone, was_cancelled}
-use Rattle.blocking_laws.specs.Turns.{hand}
-use Rattle.blocking_laws.specs.declared.event.Event.{Event}
-use Rattle.blocking_laws.specs.declared.event.Moment.{Moment}
-use Rattle.blocking_laws.specs.declared.event.Party.{Party}
-use Rattle.blocking_laws.specs.declared.step.HandleCall.{HandleCall}
-use Rattle.blocking_laws.specs.declared.step.Step.{Step}
-use Rattle.blocking_laws.specs.declared.step.Step.TheVariants.{New, Ask, Own, DropOwner, Spawn, OfTask, Arrive, Take, Job, Io, End, Wait, Late, SetLimit, Sweep, Stray, Strike}
-use Rattle.blocking_laws.specs.declared.step.TaskCall.{TaskCall}
-use Rattle.blocking_laws.specs.declared.step.TaskCall.TheVariants.{Poll, Cancel, Detach, Drop}
-use Rattle.blocking_parts.specs.Moves.{has_action_in, may_ask_in, may_call_in, may_own, may_own_in, rests_in}
-use Rattle.blocking_parts.specs.Parts.{Parts, row_of, let_go_by}
-use Rattle.blocking_parts.specs.Ties.{Tied}
-use Rattle.blocking_parts.specs.declared.row.Row.{Row}
 use Rattle.blocking_parts.proofs.laws.NextActions.{missing, unseen, next_agrees, own_is}
-use Rattle.blocking_parts.proofs.ties.Releases.{let_go_is}
 use Rattle.blocking_parts.proofs.ties.Jobs.{has_row, holder_stands, owner_tie, task_tie}
+use Rattle.blocking_parts.proofs.ties.Releases.{let_go_is}
 
 -- ---- workers and limits
 
 -- an idle worker is there and has no job in hand
 free_by : (h : Hand) (there : Bool) (job : Option ℕ) → HandAs h there job → is_free_hand h ≡ (there && is_none job)
 free_by Out there job holds = sym (ap (λ b. b && is_none job) holds.0)
-free_by (Free pass) there job holds = sym (ap (λ b. b && is_none job) holds.0 ∙ ap is_none holds.1)
-free_by (Holds held) there job holds = sym (ap (λ b. b && is_none job) holds.0 ∙ ap is_none holds.1)
+free_by _ there job holds = sym (ap (λ b. b && is_none job) holds.0 ∙ ap is_none holds.1)
 
 -- as many are to arrive as were started and haven't arrived
 arrive_by : (m n s : ℕ) → s ≡ m + n → (x y : Bool) → nat_lt 0 m ≡ x → nat_lt n s ≡ y → x ≡ y
@@ -67,13 +40,10 @@ limit_by n false false zeroed above = absurd (grind (arith, nat_tests))
 -- ---- tasks
 
 stage_may : (at : TaskStage) (call : TaskCall) (gone was : Bool) → gone ≡ is_gone_as at → CancelAs at was → may_be at call ≡ (not gone && (not was || is_for_cancelled call))
-stage_may task_stage.Attached call gone was is_gone is_cancelled = rw (is_gone, is_cancelled) refl
 stage_may task_stage.Cancelled Poll gone was is_gone is_cancelled = rw (is_gone, is_cancelled) refl
-stage_may task_stage.Cancelled Cancel gone was is_gone is_cancelled = rw (is_gone, is_cancelled) refl
-stage_may task_stage.Cancelled Detach gone was is_gone is_cancelled = rw (is_gone, is_cancelled) refl
-stage_may task_stage.Cancelled Drop gone was is_gone is_cancelled = rw (is_gone, is_cancelled) refl
 stage_may task_stage.Gone call gone was is_gone is_cancelled = rw is_gone refl
 stage_may task_stage.LetGo call gone was is_gone is_cancelled = rw is_gone refl
+stage_may _ _ gone was is_gone is_cancelled = rw (is_gone, is_cancelled) refl
 
 -- a task may be called so exactly where its own acts allow it
 task_may : (k s : ℕ) (task : Task) (seen : List Event) (call : TaskCall) → TaskAs task s (task_cut k s seen) → may_be task.stage call ≡ may_call (acts_of_task k seen) call
@@ -88,10 +58,8 @@ owner_may : (owner : Owner) (seen : List Event) → OwnerAs owner seen → may_o
 owner_may owner seen tie = by (next_of owner) refl
   where
     by : (n : OwnerNext) → next_of owner ≡ n → may_own n (did owner) ≡ not (is_rest n)
-    by next.Rests is = refl
-    by next.Begins is = refl
-    by next.Delivers is = refl
     by (next.Acts count) is = acts_some owner seen tie count is
+    by _ is = refl
 
 -- ---- steps
 
@@ -139,11 +107,9 @@ module _ (setting : ℕ) (plan : List Bool) (w : Parts) (past : List Moment) (t 
 
   -- A step has an action in the parts exactly where it has one by what was seen.
   pub has_is : (step : Step) → has_action_in w step ≡ has_action past step
-  has_is (New capacity) = refl
   has_is (Ask h call) = asked_by h call (slice_get w.owners h) refl
   has_is (Own h) = owns_by h (slice_get w.owners h) refl
   has_is (DropOwner h) = asks_by h (slice_get w.owners h) refl
-  has_is Spawn = refl
   has_is (OfTask k call) = calls_by k call (slice_get w.tasks k) refl
   has_is Arrive =
       arrive_by w.crew.pool.counts.arriving (arrivals past) (starts past) t.crewed.tied.counted.arriving_are (nat_lt 0 w.crew.pool.counts.arriving) (nat_lt (arrivals past) (starts past)) refl refl
@@ -154,6 +120,6 @@ module _ (setting : ℕ) (plan : List Bool) (w : Parts) (past : List Moment) (t 
   has_is (Wait v) = free_by (hand_at w.crew.hands v) (is_there past v) (hand past v) (t.crewed.tied.handed.each v)
   has_is (Late v) = free_by (hand_at w.crew.hands v) (is_there past v) (hand past v) (t.crewed.tied.handed.each v)
   has_is (SetLimit n) = limit_by n (n == 0) (nat_lt 0 n) refl refl
-  has_is Sweep = refl
   has_is (Stray s) = stray_by s (row_of w.rows s) refl
   has_is (Strike s) = strike_by s (row_of w.rows s) refl
+  has_is _ = refl

@@ -1,80 +1,41 @@
 -- What the worker of a job does next is the same in the parts and by what was seen; and what is its job's own to do can be done.
-use Rattle.std.proofs.Common.{◌≡◌, inl, inr, ⊎_elim, ℕ, ◌≤◌, List, [], length, Bool, true, false, refl, sym, ap, ◌∙◌, subst, Option, Some, None}
-use Rattle.std.specs.Prelude.{slice_get, is_some}
+use Rattle.std.proofs.Common.{◌≡◌, inl, inr, ⊎_elim, ℕ, ◌≤◌, List, [], length, Bool, true, false, refl, sym, ap, ◌∙◌, subst, Option, Some, None, slice_get, is_some}
 use Rattle.std.proofs.lemmas.Option.{slice_get_cases}
-use Rattle.blocking_core.specs.Reading.{read_next}
-use Rattle.blocking_core.specs.declared.job.Action.{Action}
+use Rattle.blocking_parts.proofs.Types.{Action, ItemAction, OperationAction, ReadAction, SeekAction, WriteAction, Running, Act, Moment, Hand, Holds, Held, Stage, SessionJob, Core, Row}
+use Rattle.blocking_parts.proofs.Words.{item_next, operation_next, read_next, seek_next, write_next, Calling, next_of_job, is_asking, is_over, has_given_up, holder, events, acts_of, cut, is_there, kind_by, next_in_turn, next_with, next_of_worker, is_job_action, GoesOn, turn, hand, hand_at, HandAs, turn_of, RanAs, act_of_work, Owner, Worked, worked_by, read_in, read_as, write_in, write_as, stream_in, stream_as, seek_in, seek_as, operate_in, operate_as, worked, Goods, OfBytes, OfItems, through, JobAs, Session, TaskStep, Task, Parts, row_of, InHand, job_in, job_at, next_in, next_at, done_by, done_in, kind_of, call_action, action_of, is_at_first, call_step_by, call_step, session_step, call_done, session_seen, session_done, done, CoreAs, PlaceAs, GaveAs, Tied}
 use Rattle.blocking_core.specs.declared.job.Action.TheVariants as action
-use Rattle.blocking_core.specs.Items.{item_next}
-use Rattle.blocking_core.specs.declared.job.item.ItemAction.{ItemAction}
 use Rattle.blocking_core.specs.declared.job.item.ItemAction.TheVariants as item
-use Rattle.blocking_core.specs.declared.job.read.ReadAction.{ReadAction}
-use Rattle.blocking_core.specs.declared.job.read.ReadAction.TheVariants as read
-use Rattle.blocking_core.specs.declared.job.write.WriteAction.{WriteAction}
-use Rattle.blocking_core.specs.declared.job.write.WriteAction.TheVariants as write
-use Rattle.blocking_core.specs.Seeks.{seek_next}
-use Rattle.blocking_core.specs.declared.job.seek.SeekAction.{SeekAction}
-use Rattle.blocking_core.specs.declared.job.seek.SeekAction.TheVariants as seek
-use Rattle.blocking_core.specs.Operations.{operation_next}
-use Rattle.blocking_core.specs.declared.job.operation.OperationAction.{OperationAction}
 use Rattle.blocking_core.specs.declared.job.operation.OperationAction.TheVariants as operation
-use Rattle.blocking_core.specs.Writing.{write_next}
-use Rattle.blocking_crew.specs.Crews.{hand_at}
-use Rattle.blocking_crew.specs.Ties.{HandAs, turn_of}
-use Rattle.blocking_crew.specs.declared.hand.Hand.{Hand}
-use Rattle.blocking_crew.specs.declared.hand.Hand.TheVariants.{Out, Free, Holds}
-use Rattle.blocking_crew.specs.declared.hand.Held.{Held}
-use Rattle.blocking_crew.specs.declared.hand.Stage.{Stage}
+use Rattle.blocking_core.specs.declared.job.read.ReadAction.TheVariants as read
+use Rattle.blocking_core.specs.declared.job.seek.SeekAction.TheVariants as seek
+use Rattle.blocking_core.specs.declared.job.write.WriteAction.TheVariants as write
 use Rattle.blocking_crew.specs.declared.hand.Stage.TheVariants as stage
 use Rattle.blocking_lanes.specs.Calls as calls
-use Rattle.blocking_lanes.specs.Calls.{RanAs}
+use Rattle.blocking_lanes.specs.Operations as operations
 use Rattle.blocking_lanes.specs.OwnerSteps as owners
-use Rattle.blocking_lanes.specs.OwnerSteps.{act_of_work}
-use Rattle.blocking_lanes.specs.Owners.{Owner, Worked, read_as, read_in, worked, worked_by, write_as, write_in, stream_as, stream_in, seek_as, seek_in, operate_as, operate_in}
-use Rattle.blocking_lanes.specs.Passages.{OfBytes, OfItems}
-use Rattle.blocking_lanes.proofs.owners.Goods.{through_none}
 use Rattle.blocking_lanes.specs.Reads as reads
+use Rattle.blocking_lanes.specs.Seeks as seeks
 use Rattle.blocking_lanes.specs.SessionJobs as jobs
-use Rattle.blocking_lanes.specs.SessionJobs.{JobAs}
 use Rattle.blocking_lanes.specs.Streams as streams
 use Rattle.blocking_lanes.specs.Writes as writes
-use Rattle.blocking_lanes.specs.Seeks as seeks
-use Rattle.blocking_lanes.specs.Operations as operations
-use Rattle.blocking_lanes.specs.declared.job.SessionJob.{SessionJob}
 use Rattle.blocking_lanes.specs.declared.job.SessionJob.TheVariants as job_of
-use Rattle.blocking_lanes.specs.Sessions.{Session, work_by, writer_works, streamer_works, seek_works, operation_works}
-use Rattle.blocking_lanes.specs.Steps.{TaskStep}
-use Rattle.blocking_lanes.specs.Tasks.{Task}
-use Rattle.blocking_lanes.proofs.owners.Actions.{works_some}
-use Rattle.blocking_parts.proofs.rows.SessionJobs.{job_action_is}
-use Rattle.blocking_laws.specs.JobTable.{Calling, is_asking, is_over, next_of_job, has_given_up}
-use Rattle.blocking_laws.specs.Jobs.{holder}
-use Rattle.blocking_laws.specs.Seen.{events, acts_of, cut}
-use Rattle.blocking_laws.specs.Steps.{is_there, kind_by, next_in_turn, next_with, next_of_worker, is_job_action}
-use Rattle.blocking_laws.specs.Turns.{GoesOn, turn, hand}
-use Rattle.blocking_laws.specs.declared.event.Act.{Act}
-use Rattle.blocking_laws.specs.declared.event.Moment.{Moment}
-use Rattle.blocking_pool.specs.declared.pool.standing.Standing.TheVariants.{Running}
-use Rattle.blocking_parts.specs.Parts.{Parts, InHand, row_of, job_at, job_in, next_at, next_in, done_by, done_in}
-use Rattle.blocking_parts.specs.Rows.{call_action, action_of, call_done, call_step, call_step_by, done, is_at_first, kind_of, next_of, party_of, session_done, session_seen, session_step}
-use Rattle.blocking_parts.specs.Ties.{Tied, CoreAs, PlaceAs, GaveAs}
-use Rattle.blocking_parts.specs.declared.row.Core.{Core}
+use Rattle.blocking_parts.specs.Rows.{next_of}
 use Rattle.blocking_parts.specs.declared.row.Core.TheVariants as core
-use Rattle.blocking_parts.specs.declared.row.Row.{Row}
-use Rattle.blocking_parts.proofs.ties.Jobs.{IsHere, job_here, job_place, hand_job, next_here}
+use Rattle.blocking_lanes.proofs.owners.Actions.{works_some}
+use Rattle.blocking_lanes.proofs.owners.Goods.{through_none}
+use Rattle.blocking_parts.proofs.rows.SessionJobs.{job_action_is}
+use Rattle.blocking_parts.proofs.ties.Jobs.{its_holder, IsHere, job_here, job_place, hand_job, next_here}
 use Rattle.blocking_parts.proofs.ties.Releases.{owner_there, task_there}
 
 -- ---- what a job does next
 
 call_next : (next : Action) (n : ℕ) (acts : List Act) → RanAs next n acts → next_of_job Calling acts ≡ call_action next
-call_next action.Call n acts ran = ap (next_of_job Calling) ran
-call_next action.Finish n acts ran = ap (next_of_job Calling) ran
-call_next action.Deliver n acts ran = ap (next_of_job Calling) ran
 call_next action.Done n acts ran = by ran
   where
     by : RanAs action.Done n acts → next_of_job Calling acts ≡ call_action action.Done
     by (inl is) = ap (next_of_job Calling) is
     by (inr is) = ap (next_of_job Calling) is
+call_next _ n acts ran = ap (next_of_job Calling) ran
 
 job_next : (c : Core) (acts : List Act) → CoreAs c acts → has_given_up acts ≡ false → next_of_job (kind_of c) acts ≡ action_of c
 job_next (core.Call k call) acts tie stays = call_next call.next call.number acts (tie stays)
@@ -84,10 +45,9 @@ job_next (core.Session h job) acts tie stays = sym (job_action_is job acts (tie 
 stage_next : (at : Stage) (c : Core) (acts : List Act) → CoreAs c acts → PlaceAs (Some Running) (turn_of at) (is_at_first c) acts → GaveAs at acts
     → next_in_turn (turn_of at) (next_of_job (kind_of c) acts) ≡ next_of at c
 stage_next stage.Runs c acts tie place gave = ap (next_in_turn GoesOn) (job_next c acts tie place)
-stage_next stage.Waits c acts tie place gave = refl
-stage_next stage.MustGiveUp c acts tie place gave = refl
 stage_next stage.MustWake c acts tie place gave = ap (next_in_turn (turn_of stage.MustWake)) (gave (kind_of c)).0
 stage_next stage.GaveUp c acts tie place gave = ap (next_in_turn (turn_of stage.GaveUp)) (gave (kind_of c))
+stage_next _ c acts tie place gave = refl
 
 -- ---- what is its job's own
 
@@ -96,13 +56,9 @@ call_own stage.Runs k call = by call.next
   where
     by : (next : Action) → is_some (call_step_by next call.number) ≡ is_job_action (next_in_turn GoesOn (call_action next))
     by action.Call = refl
-    by action.Finish = refl
-    by action.Deliver = refl
-    by action.Done = refl
+    by _ = refl
 call_own stage.Waits k call = refl
-call_own stage.MustGiveUp k call = refl
-call_own stage.MustWake k call = refl
-call_own stage.GaveUp k call = refl
+call_own _ k call = refl
 
 call_some : (at : Stage) (k : ℕ) (call : calls.Progress) (all : List Task) (row : List Owner) (task : Task) → is_some (call_done k call at all row (Some task) (call_step at call)) ≡ is_job_action (next_of at (core.Call k call))
 call_some at k call all row task = by (call_step at call) ∙ call_own at k call
@@ -111,72 +67,45 @@ call_some at k call all row task = by (call_step at call) ∙ call_own at k call
     by None = refl
     by (Some step) = refl
 
--- what has no act at a session does nothing there
-read_none : (a : ReadAction) (last : Option Session) (p : reads.Progress) (owner : Owner) → ((s : Session) → work_by a p s ≡ None) → is_some (read_in a last p owner) ≡ false
-read_none a None p owner none = refl
-read_none a (Some s) p owner none = ap (λ o. is_some (worked_by job_of.Read o owner)) (through_none OfBytes s.goods (work_by a p s) (none s))
+-- what has no act at a session does nothing there, or anywhere
+nothing_at : (works : Option Session → Option Worked) → works None ≡ None → ((s : Session) → works (Some s) ≡ None) → (last : Option Session) → is_some (works last) ≡ false
+nothing_at works none at None = ap is_some none
+nothing_at works none at (Some s) = ap is_some (at s)
 
-write_none : (a : WriteAction) (last : Option Session) (p : writes.Progress) (owner : Owner) → ((s : Session) → writer_works a p s ≡ None) → is_some (write_in a last p owner) ≡ false
-write_none a None p owner none = refl
-write_none a (Some s) p owner none = ap (λ o. is_some (worked_by job_of.Write o owner)) (through_none OfBytes s.goods (writer_works a p s) (none s))
-
-stream_none : (a : ItemAction) (last : Option Session) (p : streams.Progress) (owner : Owner) → ((s : Session) → streamer_works a p s ≡ None) → is_some (stream_in a last p owner) ≡ false
-stream_none a None p owner none = refl
-stream_none a (Some s) p owner none = ap (λ o. is_some (worked_by job_of.Items o owner)) (through_none OfItems s.goods (streamer_works a p s) (none s))
+nothing_passes : {J : Type 0} (of : J → SessionJob) (wanted : Goods) (owner : Owner) (s : Session) → worked_by of (through wanted s.goods None) owner ≡ None
+nothing_passes of wanted owner s = ap (λ o. worked_by of o owner) (through_none wanted s.goods None refl)
 
 -- a job of a session does something exactly where that is its own to do: what asks its handle, or is over, doesn't
 read_own : (a : ReadAction) (p : reads.Progress) (owner : Owner) → (is_asking (reads.action_as p.piece a) ≡ false → is_over (reads.action_as p.piece a) ≡ false → is_some (read_as a p owner) ≡ true)
     → is_some (read_as a p owner) ≡ is_job_action (next_in_turn GoesOn (reads.action_as p.piece a))
-read_own read.FindRoom p owner some = some refl refl
-read_own (read.Put count) p owner some = some refl refl
-read_own read.Close p owner some = some refl refl
-read_own read.Finish p owner some = some refl refl
-read_own read.Deliver p owner some = some refl refl
-read_own (read.Read most) p owner some = read_none (read.Read most) owner.session p owner (λ s. refl)
-read_own read.Done p owner some = read_none read.Done owner.session p owner (λ s. refl)
+read_own (read.Read most) p owner some = nothing_at (λ last. read_in (read.Read most) last p owner) refl (nothing_passes job_of.Read OfBytes owner) owner.session
+read_own read.Done p owner some = nothing_at (λ last. read_in read.Done last p owner) refl (nothing_passes job_of.Read OfBytes owner) owner.session
+read_own _ p owner some = some refl refl
 
 write_own : (a : WriteAction) (p : writes.Progress) (owner : Owner) → (is_asking (writes.action_as p.piece a) ≡ false → is_over (writes.action_as p.piece a) ≡ false → is_some (write_as a p owner) ≡ true)
     → is_some (write_as a p owner) ≡ is_job_action (next_in_turn GoesOn (writes.action_as p.piece a))
-write_own write.Peek p owner some = some refl refl
-write_own (write.Consume count) p owner some = some refl refl
-write_own write.Close p owner some = some refl refl
-write_own write.Finish p owner some = some refl refl
-write_own write.Deliver p owner some = some refl refl
-write_own (write.Write count) p owner some = write_none (write.Write count) owner.session p owner (λ s. refl)
-write_own write.Flush p owner some = write_none write.Flush owner.session p owner (λ s. refl)
-write_own write.Done p owner some = write_none write.Done owner.session p owner (λ s. refl)
+write_own (write.Write count) p owner some = nothing_at (λ last. write_in (write.Write count) last p owner) refl (nothing_passes job_of.Write OfBytes owner) owner.session
+write_own write.Flush p owner some = nothing_at (λ last. write_in write.Flush last p owner) refl (nothing_passes job_of.Write OfBytes owner) owner.session
+write_own write.Done p owner some = nothing_at (λ last. write_in write.Done last p owner) refl (nothing_passes job_of.Write OfBytes owner) owner.session
+write_own _ p owner some = some refl refl
 
 stream_own : (a : ItemAction) (p : streams.Progress) (owner : Owner) → (is_asking (streams.action_as p.item a) ≡ false → is_over (streams.action_as p.item a) ≡ false → is_some (stream_as a p owner) ≡ true)
     → is_some (stream_as a p owner) ≡ is_job_action (next_in_turn GoesOn (streams.action_as p.item a))
-stream_own item.Send p owner some = some refl refl
-stream_own item.Close p owner some = some refl refl
-stream_own item.Finish p owner some = some refl refl
-stream_own item.Deliver p owner some = some refl refl
-stream_own item.Next p owner some = stream_none item.Next owner.session p owner (λ s. refl)
-stream_own item.Done p owner some = stream_none item.Done owner.session p owner (λ s. refl)
-
-seek_none : (a : SeekAction) (last : Option Session) (p : seeks.Progress) (owner : Owner) → ((s : Session) → seek_works a p s ≡ None) → is_some (seek_in a last p owner) ≡ false
-seek_none a None p owner none = refl
-seek_none a (Some s) p owner none = ap (λ o. is_some (worked_by job_of.Seek o owner)) (none s)
+stream_own item.Next p owner some = nothing_at (λ last. stream_in item.Next last p owner) refl (nothing_passes job_of.Items OfItems owner) owner.session
+stream_own item.Done p owner some = nothing_at (λ last. stream_in item.Done last p owner) refl (nothing_passes job_of.Items OfItems owner) owner.session
+stream_own _ p owner some = some refl refl
 
 seek_own : (a : SeekAction) (p : seeks.Progress) (owner : Owner) → (is_asking (seeks.action_as a) ≡ false → is_over (seeks.action_as a) ≡ false → is_some (seek_as a p owner) ≡ true)
     → is_some (seek_as a p owner) ≡ is_job_action (next_in_turn GoesOn (seeks.action_as a))
-seek_own seek.Finish p owner some = some refl refl
-seek_own seek.Deliver p owner some = some refl refl
-seek_own seek.Seek p owner some = seek_none seek.Seek owner.session p owner (λ s. refl)
-seek_own seek.Done p owner some = seek_none seek.Done owner.session p owner (λ s. refl)
-
-operate_none : (a : OperationAction) (last : Option Session) (p : operations.Progress) (owner : Owner) → ((s : Session) → operation_works a p s ≡ None) → is_some (operate_in a last p owner) ≡ false
-operate_none a None p owner none = refl
-operate_none a (Some s) p owner none = ap (λ o. is_some (worked_by job_of.Operate o owner)) (none s)
+seek_own seek.Seek p owner some = nothing_at (λ last. seek_in seek.Seek last p owner) refl (λ s. refl) owner.session
+seek_own seek.Done p owner some = nothing_at (λ last. seek_in seek.Done last p owner) refl (λ s. refl) owner.session
+seek_own _ p owner some = some refl refl
 
 operate_own : (a : OperationAction) (p : operations.Progress) (owner : Owner) → (is_asking (operations.action_as a) ≡ false → is_over (operations.action_as a) ≡ false → is_some (operate_as a p owner) ≡ true)
     → is_some (operate_as a p owner) ≡ is_job_action (next_in_turn GoesOn (operations.action_as a))
-operate_own operation.PutResult p owner some = some refl refl
-operate_own operation.Finish p owner some = some refl refl
-operate_own operation.Deliver p owner some = some refl refl
-operate_own operation.Call p owner some = operate_none operation.Call owner.session p owner (λ s. refl)
-operate_own operation.Done p owner some = operate_none operation.Done owner.session p owner (λ s. refl)
+operate_own operation.Call p owner some = nothing_at (λ last. operate_in operation.Call last p owner) refl (λ s. refl) owner.session
+operate_own operation.Done p owner some = nothing_at (λ last. operate_in operation.Done last p owner) refl (λ s. refl) owner.session
+operate_own _ p owner some = some refl refl
 
 -- so it is of a job of any kind
 worked_own : (job : SessionJob) (owner : Owner) → (is_asking (jobs.action_of job) ≡ false → is_over (jobs.action_of job) ≡ false → is_some (worked job owner) ≡ true)
@@ -196,9 +125,7 @@ session_some stage.Runs h p all row owner works = by (worked p owner) ∙ works 
     by None = refl
     by (Some did) = refl
 session_some stage.Waits h p all row owner works = refl
-session_some stage.MustGiveUp h p all row owner works = refl
-session_some stage.MustWake h p all row owner works = refl
-session_some stage.GaveUp h p all row owner works = refl
+session_some _ h p all row owner works = refl
 
 -- ---- in the parts
 
@@ -216,8 +143,6 @@ module _ (setting : ℕ) (plan : List Bool) (w : Parts) (past : List Moment) (t 
   kind_is s row found = (t.rowed.each s row found).kind_is
 
   next_by_hand : (v : ℕ) (h : Hand) → hand_at w.crew.hands v ≡ h → HandAs h (is_there past v) (hand past v) → next_of_worker past v ≡ next_at w v
-  next_by_hand v Out at tie = ap (λ j. next_with j past) tie.1 ∙ sym (ap (λ h. next_in (job_in w.rows h)) at)
-  next_by_hand v (Free pass) at tie = ap (λ j. next_with j past) tie.1 ∙ sym (ap (λ h. next_in (job_in w.rows h)) at)
   next_by_hand v (Holds held) at tie =
       let found = hand_job setting plan w past t v held at in
       let job = found.0 in
@@ -228,6 +153,7 @@ module _ (setting : ℕ) (plan : List Bool) (w : Parts) (past : List Moment) (t 
       ∙ ap (λ u. next_in_turn u (next_of_job (kind_of job.row.core) (acts_of s (events past)))) (t.crewed.tied.handed.turn_is v job.held here.holds)
       ∙ stage_next job.held.stage job.row.core (acts_of s (events past)) (t.rowed.each s job.row here.has_row).core (job_place setting plan w past t v job here) (t.rowed.in_hand v job.held here.holds)
       ∙ sym (next_here w v job here)
+  next_by_hand v _ at tie = ap (λ j. next_with j past) tie.1 ∙ sym (ap (λ h. next_in (job_in w.rows h)) at)
 
   -- A worker does next what the law says.
   pub next_agrees : (v : ℕ) → next_of_worker past v ≡ next_at w v
@@ -244,10 +170,10 @@ module _ (setting : ℕ) (plan : List Bool) (w : Parts) (past : List Moment) (t 
 
       by : (c : Core) → job.row.core ≡ c → is_some (done job.held.stage c w.tasks w.owners) ≡ is_job_action (next_of job.held.stage c)
       by (core.Call k call) is =
-          let task = task_there setting plan w past t k s ((t.rowed.each s job.row here.has_row).held_by ∙ ap (λ c. Some (party_of c)) is) in
+          let task = task_there setting plan w past t k s (its_holder setting plan w past t v job _ here is) in
           ap (λ o. is_some (call_done k call job.held.stage w.tasks w.owners o (call_step job.held.stage call))) task.1 ∙ call_some job.held.stage k call w.tasks w.owners task.0
       by (core.Session h p) is =
-          let held = (t.rowed.each s job.row here.has_row).held_by ∙ ap (λ c. Some (party_of c)) is in
+          let held = its_holder setting plan w past t v job _ here is in
           let owner = owner_there setting plan w past t h s held in
           ap (λ o. is_some (session_done h p w.tasks w.owners o (session_step job.held.stage p))) owner.1
           ∙ session_some job.held.stage h p w.tasks w.owners owner.0

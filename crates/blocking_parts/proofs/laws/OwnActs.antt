@@ -1,21 +1,10 @@
 -- What a job does that is its own to do: what is seen of it, and that it stays the job of its owner.
-use Rattle.std.proofs.Common.{◌≡◌, ⊎_elim, ℕ, List, Bool, true, false, refl, sym, ap, ◌∙◌, Option, Some, None}
-use Rattle.std.specs.Prelude.{◌&&◌, not, slice_get}
-use Rattle.blocking_core.specs.declared.job.Action.{Action}
+use Rattle.std.proofs.Common.{◌≡◌, ⊎_elim, ℕ, List, Bool, true, false, refl, sym, ap, ◌∙◌, Option, Some, None, ◌&&◌, not, slice_get}
+use Rattle.blocking_parts.proofs.Types.{Action, Act, Stage, SessionJob, Core}
+use Rattle.blocking_parts.proofs.Words.{is_of_pool, is_nothing, is_answered, OwnerStep, act_of_work, Owner, Worked, worked, TaskStep, Task, owner_in, call_step_by, call_step, session_step, Done, call_done, session_seen, session_done, done}
 use Rattle.blocking_core.specs.declared.job.Action.TheVariants as action
-use Rattle.blocking_crew.specs.declared.hand.Stage.{Stage}
 use Rattle.blocking_crew.specs.declared.hand.Stage.TheVariants as stage
 use Rattle.blocking_lanes.specs.OwnerSteps as owners
-use Rattle.blocking_lanes.specs.OwnerSteps.{OwnerStep, act_of_work}
-use Rattle.blocking_lanes.specs.Owners.{Owner, Worked, worked}
-use Rattle.blocking_lanes.specs.declared.job.SessionJob.{SessionJob}
-use Rattle.blocking_lanes.specs.Steps.{TaskStep}
-use Rattle.blocking_lanes.specs.Tasks.{Task}
-use Rattle.blocking_laws.specs.Seen.{is_of_pool, is_nothing}
-use Rattle.blocking_laws.specs.Steps.{is_answered}
-use Rattle.blocking_laws.specs.declared.event.Act.{Act}
-use Rattle.blocking_parts.specs.Rows.{Done, call_done, call_step, call_step_by, done, owner_in, session_done, session_seen, session_step}
-use Rattle.blocking_parts.specs.declared.row.Core.{Core}
 use Rattle.blocking_parts.specs.declared.row.Core.TheVariants as core
 use Rattle.blocking_parts.proofs.moves.SessionActs.{is_own, own_at, worked_so}
 
@@ -42,17 +31,12 @@ does at (core.Call k call) all row = by at (slice_get all k)
   where
     runs : (next : Action) (task : Task) → is_own_done (call_done k call stage.Runs all row (Some task) (call_step_by next call.number)) ≡ true
     runs action.Call task = refl
-    runs action.Finish task = refl
-    runs action.Deliver task = refl
-    runs action.Done task = refl
+    runs _ task = refl
 
     by : (at : Stage) (o : Option Task) → is_own_done (call_done k call at all row o (call_step at call)) ≡ true
     by at None = refl
     by stage.Runs (Some task) = runs call.next task
-    by stage.Waits (Some task) = refl
-    by stage.MustGiveUp (Some task) = refl
-    by stage.MustWake (Some task) = refl
-    by stage.GaveUp (Some task) = refl
+    by _ (Some task) = refl
 does at (core.Session h p) all row = by at (slice_get row h)
   where
     seen : (owner : Owner) (act : Option Act) → is_own_if act ≡ true → is_own_done (session_seen h p all row owner (owners.Works p) act) ≡ true
@@ -62,10 +46,7 @@ does at (core.Session h p) all row = by at (slice_get row h)
     by : (at : Stage) (o : Option Owner) → is_own_done (session_done h p all row o (session_step at p)) ≡ true
     by at None = refl
     by stage.Runs (Some owner) = seen owner (act_of_work (worked p owner)) (works p owner)
-    by stage.Waits (Some owner) = refl
-    by stage.MustGiveUp (Some owner) = refl
-    by stage.MustWake (Some owner) = refl
-    by stage.GaveUp (Some owner) = refl
+    by _ (Some owner) = refl
 
 -- An act of a job's own: something is done that neither the pool decides nor anyone answers.
 pub record IsOwn (act : Act) : Type 0 where
@@ -80,9 +61,7 @@ own_act at c all row did is =
   where
     by : (a b c : Bool) → (not a && not b && not c) ≡ true → (a ≡ false) × (b ≡ false) × (c ≡ false)
     by false false false is = (refl, refl, refl)
-    by true b c is = absurd cc
-    by false true c is = absurd cc
-    by false false true is = absurd cc
+    by _ _ _ is = absurd cc
 
 -- ---- whose job it is
 
@@ -105,9 +84,8 @@ stays at (core.Session h p) all row = by (slice_get row h) (session_step at p)
     seen owner step (Some act) = refl
 
     by : (o : Option Owner) (step : Option OwnerStep) → owner_left (core.Session h p) (session_done h p all row o step) ≡ Some h
-    by None step = refl
-    by (Some owner) None = refl
     by (Some owner) (Some step) = seen owner step (owners.act_of step owner)
+    by _ _ = refl
 
 -- A job that does something stays its owner's.
 pub same_owner : (at : Stage) (c : Core) (all : List Task) (row : List Owner) (did : Done) → done at c all row ≡ Some did → owner_in did.core ≡ owner_in c

@@ -1,35 +1,16 @@
 -- No wake between an owner and its job is lost: an owner that waits for a job at rest was woken.
-use Rattle.std.proofs.Common.{◌≡◌, ◌⊎◌, inl, inr, ℕ, ◌==◌, List, [], ◌∷◌, Bool, true, false, refl, sym, ap, ◌∙◌, subst, Option, Some, None}
-use Rattle.std.specs.Prelude.{◌&&◌, ◌||◌, not, slice_get, is_some}
+use Rattle.std.proofs.Common.{◌≡◌, ◌⊎◌, inl, inr, ℕ, ◌==◌, List, [], ◌∷◌, Bool, true, false, refl, sym, ap, ◌∙◌, subst, Option, Some, None, ◌&&◌, ◌||◌, not, slice_get, is_some}
 use Rattle.std.specs.FinMap.{get}
 use Rattle.std.proofs.lemmas.Bool.{eq-eqb, or_left}
-use Rattle.blocking_lanes.specs.OwnerTies.{OwnerAs, LastAs, StageAs, newest_note, seat_of}
-use Rattle.blocking_lanes.specs.Owners.{Owner, capacity_of, note_at, item_in}
-use Rattle.blocking_lanes.specs.Sessions.{Session}
-use Rattle.blocking_lanes.specs.declared.owner.OwnerStage.{OwnerStage}
+use Rattle.blocking_parts.proofs.Types.{Act, Accepted, Filled, Got, GotItem, OwnerClosed, Waits, Event, Moment, ByOwner, OwnerStage}
+use Rattle.blocking_parts.proofs.Words.{JobNumber, is_in, Kind, has_finished, has_given_up, holder, is_woken, is_running, is_parked, standing, is_job_seated, events, is_this, acts_of, cut, own, last_session, session, jobs_of, capacity, turn, newest_note, StageAs, seat_of, LastAs, OwnerAs, Owner, capacity_of, item_in, note_at, Session, Parts, is_at_first, is_waiting_in, is_left, seated_in, is_number, IsMet, Tied}
+use Rattle.blocking_laws.specs.OwnerTable.{note_in}
+use Rattle.blocking_laws.specs.OwnerWakes.{HasReason, IsSessionOf, NoLostOwnerWake, ParksRightly, is_waking, is_waking_by}
+use Rattle.blocking_laws.specs.Sessions as sessions
+use Rattle.blocking_laws.specs.Wakes.{is_at_rest, is_waiting, was_woken}
 use Rattle.blocking_lanes.specs.declared.owner.OwnerStage.TheVariants as stage
 use Rattle.blocking_lanes.proofs.owners.States.{session_is_last}
 use Rattle.blocking_lanes.proofs.owners.Wakes.{not_lost, seated_reason}
-use Rattle.blocking_laws.specs.JobTable.{Kind, has_finished, has_given_up}
-use Rattle.blocking_laws.specs.Jobs.{holder, standing, is_parked, is_running, is_woken}
-use Rattle.blocking_laws.specs.OwnerSeats.{is_job_seated}
-use Rattle.blocking_laws.specs.OwnerTable.{note_in}
-use Rattle.blocking_laws.specs.OwnerWakes.{HasReason, IsSessionOf, NoLostOwnerWake, ParksRightly, is_waking, is_waking_by}
-use Rattle.blocking_laws.specs.Seen.{events, acts_of, cut, is_this, own}
-use Rattle.blocking_laws.specs.Sessions as sessions
-use Rattle.blocking_laws.specs.Sessions.{capacity, jobs_of, last_session, session}
-use Rattle.blocking_laws.specs.Turns.{turn}
-use Rattle.blocking_laws.specs.Wakes.{is_at_rest, is_waiting, was_woken}
-use Rattle.blocking_laws.specs.declared.event.Act.{Act}
-use Rattle.blocking_laws.specs.declared.event.Act.TheVariants.{Accepted, Filled, Got, GotItem, OwnerClosed, Waits}
-use Rattle.blocking_laws.specs.declared.event.Event.{Event}
-use Rattle.blocking_laws.specs.declared.event.Moment.{Moment}
-use Rattle.blocking_laws.specs.declared.event.Party.TheVariants.{Owner as ByOwner}
-use Rattle.blocking_pool.specs.Jobs.{JobNumber}
-use Rattle.blocking_pool.specs.Lists.{is_in}
-use Rattle.blocking_parts.specs.Parts.{Parts}
-use Rattle.blocking_parts.specs.Rows.{is_at_first}
-use Rattle.blocking_parts.specs.Ties.{IsMet, Tied, is_left, is_number, is_waiting_in, seated_in}
 use Rattle.blocking_parts.proofs.laws.Wakes.{rests_over}
 use Rattle.blocking_parts.proofs.ties.Jobs.{held_row}
 use Rattle.blocking_parts.proofs.ties.Releases.{owner_there}
@@ -77,10 +58,7 @@ waits_unnoted _ waits = absurd cc
 
 none_noted : (here : OwnerStage) (x : ℕ) (X : List Event) (s : ℕ) → StageAs here x X → is_waiting (own X) ≡ true → is_number (note_at here) s ≡ true → ⊥
 none_noted (stage.Wakes poll number) x X s t waits noted = let none = waits_unnoted (own X) waits in let some = t.2 in cc
-none_noted (stage.Rests at end) x X s t waits noted = cc
-none_noted (stage.Polls poll) x X s t waits noted = cc
-none_noted stage.Dropped x X s t waits noted = cc
-none_noted stage.TakenBack x X s t waits noted = cc
+none_noted _ x X s t waits noted = cc
 
 -- so an owner that waits meets a job that is left to it in the pipe
 waits_met : (owner : Owner) (X : List Event) (s : ℕ) → OwnerAs owner X → is_waiting (own X) ≡ true → IsMet owner s → is_job_seated X ≡ true
@@ -112,10 +90,7 @@ noted_waking (act ∷ past) s n is same = waking_by s act (is_waking s past) n i
 
 noted_under_way : (here : OwnerStage) (x : ℕ) (X : List Event) (s : ℕ) → StageAs here x X → is_number (note_at here) s ≡ true → is_waking s (own X) ≡ true
 noted_under_way (stage.Wakes poll number) x X s t noted = noted_waking (own X) s number.serial t.2 noted
-noted_under_way (stage.Rests at end) x X s t noted = absurd cc
-noted_under_way (stage.Polls poll) x X s t noted = absurd cc
-noted_under_way stage.Dropped x X s t noted = absurd cc
-noted_under_way stage.TakenBack x X s t noted = absurd cc
+noted_under_way _ x X s t noted = absurd cc
 
 -- so a job that is left to its owner has reason to wait, or a wake of it is under way
 parks_met : (owner : Owner) (X : List Event) (s : ℕ) → OwnerAs owner X → is_waking s (own X) ≡ false → IsMet owner s → HasReason X

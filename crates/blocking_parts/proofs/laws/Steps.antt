@@ -1,67 +1,28 @@
 -- What is seen of a move is of its step, as the law of steps has it, with those of owners.
-use Rattle.std.proofs.Common.{◌≡◌, ℕ, ◌+◌, ◌-◌, List, length, Bool, true, false, refl, sym, ap, ◌∙◌, subst, arith, Option, Some, None, if◌then◌else◌}
+use Rattle.std.proofs.Common.{◌≡◌, ℕ, ◌+◌, ◌-◌, List, length, Bool, true, false, refl, sym, ap, ◌∙◌, subst, arith, Option, Some, None, if◌then◌else◌, nat_lt, not, ◌==◌, slice_set, is_some, Result, Ok, Err}
 use Rattle.std.proofs.lemmas.Bool.{eqb-true}
 use Rattle.std.proofs.lemmas.Bool.Decides.{nat_tests}
-use Rattle.std.specs.Prelude.{nat_lt, not, ◌==◌, slice_set, is_some, Result, Ok, Err}
-use Rattle.blocking_core.specs.OwnerCalls.{OwnerMachine, owner_next}
-use Rattle.blocking_core.specs.declared.unblock.OwnerAction.{OwnerAction}
+use Rattle.blocking_parts.proofs.Types.{OwnerAction, Refusal, Stay, Stop, Act, Arrived, Made, NoAction, Event, Moment, Party, ByOwner, Worker, Reply, Answer, Step, Arrive, End, Late, SetLimit, Sweep, Take, Wait, TaskCall, Poll, Holds, Held, Parking, OwnerNext, OwnerStage, Core, Row}
+use Rattle.blocking_parts.proofs.Words.{OwnerMachine, owner_next, Growth, JobNumber, arrivals, IsPlanned, holder, as_owner, is_of_pool, is_nothing, is_there, is_turn_end, owners, has_action, named, party, job_of, IsBegun, IsOfTask, IsEndOf, Fits, Happens, StepLaw, hand, hand_at, is_free_hand, added_act, parked_act, HandAs, Acts, act_in, Owner, item_in, reply_as, note_at, next_to_say, next_by, next_of, Did, reply_did, did_in, did_by, did, Session, Task, task_act, Move, Idles, Makes, Asks, Owns, Lends, Delivers, IsDropped, Begins, Calls, Works, IsAnswered, Parks, Passes, IsWoken, IsStruck, step_by, step_of, rows_after, may_call_in, rests_in, may_ask_in, may_own, may_own_in, has_action_in, is_pass, IsDue, May, CrewMoves, Parts, row_of, owner_by, owner_of, done_in, let_go_by, party_of, owner_in, core_after_answer, moment, Tied}
 use Rattle.blocking_core.specs.declared.unblock.OwnerAction.TheVariants as action
-use Rattle.blocking_crew.specs.Crews.{hand_at, is_free_hand}
+use Rattle.blocking_laws.specs.Steps as law
+use Rattle.blocking_laws.specs.declared.event.WaitEnd.TheVariants.{Woken, TimedOut}
 use Rattle.blocking_crew.specs.Moves as crew
-use Rattle.blocking_crew.specs.Moves.{added_act, parked_act}
-use Rattle.blocking_crew.specs.Ties.{HandAs}
-use Rattle.blocking_crew.specs.declared.hand.Hand.TheVariants.{Holds}
-use Rattle.blocking_crew.specs.declared.hand.Held.{Held}
-use Rattle.blocking_crew.specs.declared.tickets.Parking.{Parking}
 use Rattle.blocking_crew.specs.declared.tickets.Parking.TheVariants as parking
-use Rattle.blocking_lanes.specs.OwnerSteps.{Acts, act_in}
-use Rattle.blocking_lanes.specs.Owners.{Owner, Did, did, did_by, did_in, next_at, next_by, next_of, next_to_say, note_at, reply_as, reply_did, item_in}
-use Rattle.blocking_lanes.specs.Sessions.{Session}
-use Rattle.blocking_lanes.specs.Tasks.{Task, task_act}
-use Rattle.blocking_lanes.specs.declared.owner.OwnerNext.{OwnerNext}
+use Rattle.blocking_lanes.specs.Owners.{next_at}
 use Rattle.blocking_lanes.specs.declared.owner.OwnerNext.TheVariants as next
-use Rattle.blocking_lanes.specs.declared.owner.OwnerStage.{OwnerStage}
 use Rattle.blocking_lanes.specs.declared.owner.OwnerStage.TheVariants as owner_stage
+use Rattle.blocking_parts.specs.Rows.{next_of as next_of_core}
+use Rattle.blocking_parts.specs.declared.row.Core.TheVariants as core
 use Rattle.blocking_lanes.proofs.acts.Calls.{call_plainly, poll_so}
 use Rattle.blocking_lanes.proofs.owners.Actions.{is_rest}
 use Rattle.blocking_lanes.proofs.owners.Events.{plain_of}
-use Rattle.blocking_laws.specs.Counts.{arrivals}
-use Rattle.blocking_laws.specs.Growth.{IsPlanned}
-use Rattle.blocking_laws.specs.Jobs.{holder, as_owner}
-use Rattle.blocking_laws.specs.Seen.{is_nothing, is_of_pool}
-use Rattle.blocking_laws.specs.Steps.{StepLaw, has_action, is_there, is_turn_end, Happens, Fits, IsBegun, IsEndOf, IsOfTask, job_of, named, owners, party}
-use Rattle.blocking_laws.specs.Steps as law
-use Rattle.blocking_laws.specs.Turns.{hand}
-use Rattle.blocking_laws.specs.declared.event.Act.{Act}
-use Rattle.blocking_laws.specs.declared.event.Act.TheVariants.{Made, NoAction, Arrived}
-use Rattle.blocking_laws.specs.declared.event.Event.{Event}
-use Rattle.blocking_laws.specs.declared.event.Moment.{Moment}
-use Rattle.blocking_laws.specs.declared.event.Party.{Party}
-use Rattle.blocking_laws.specs.declared.event.Party.TheVariants.{Owner as ByOwner, Worker}
-use Rattle.blocking_laws.specs.declared.event.Reply.{Reply}
-use Rattle.blocking_laws.specs.declared.event.WaitEnd.TheVariants.{Woken, TimedOut}
-use Rattle.blocking_laws.specs.declared.step.Answer.{Answer}
-use Rattle.blocking_laws.specs.declared.step.Step.{Step}
-use Rattle.blocking_laws.specs.declared.step.Step.TheVariants.{Arrive, Take, End, Wait, Late, SetLimit, Sweep}
-use Rattle.blocking_laws.specs.declared.step.TaskCall.{TaskCall}
-use Rattle.blocking_laws.specs.declared.step.TaskCall.TheVariants.{Poll, Cancel, Detach, Drop}
-use Rattle.blocking_pool.specs.Growth.{Growth}
-use Rattle.blocking_pool.specs.Jobs.{JobNumber}
-use Rattle.blocking_pool.specs.declared.pool.answer.Refusal.{Refusal}
-use Rattle.blocking_pool.specs.declared.pool.answer.Waited.TheVariants.{Stay, Stop}
-use Rattle.blocking_parts.specs.Moves.{Move, Idles, Makes, Asks, Owns, Lends, Delivers, IsDropped, Begins, Calls, Works, IsAnswered, Parks, Passes, IsWoken, IsStruck, May, CrewMoves, has_action_in, is_pass, IsDue, may_ask_in, may_call_in, may_own, may_own_in, rests_in, rows_after, step_by, step_of}
-use Rattle.blocking_parts.specs.Parts.{Parts, row_of, owner_by, owner_of, done_in, let_go_by}
-use Rattle.blocking_parts.specs.Rows.{core_after_answer, next_of as next_of_core, owner_in, party_of}
-use Rattle.blocking_parts.specs.Ties.{Tied, moment}
-use Rattle.blocking_parts.specs.declared.row.Core.{Core}
-use Rattle.blocking_parts.specs.declared.row.Core.TheVariants as core
-use Rattle.blocking_parts.specs.declared.row.Row.{Row}
 use Rattle.blocking_parts.proofs.laws.Actions.{has_is}
 use Rattle.blocking_parts.proofs.laws.OwnActs.{own_act, same_owner}
 use Rattle.blocking_parts.proofs.moves.Lookups.{row_set}
-use Rattle.blocking_parts.proofs.ties.Jobs.{job_here, next_here, has_row, holder_stands}
-use Rattle.blocking_parts.proofs.ties.Events.{SaidBy, said}
 use Rattle.blocking_parts.proofs.ties.CrewEvents.{Told}
+use Rattle.blocking_parts.proofs.ties.Events.{SaidBy, said}
+use Rattle.blocking_parts.proofs.ties.Jobs.{job_here, next_here, has_row, holder_stands}
 
 -- ---- what is done fits the step
 
@@ -76,9 +37,7 @@ lent_fits (Err why) = refl
 
 call_fits : (call : TaskCall) (task : Task) → IsOfTask call (task_act call task)
 call_fits Poll task = poll_so task
-call_fits Cancel task = refl
-call_fits Detach task = refl
-call_fits Drop task = refl
+call_fits _ task = refl
 
 park_fits : (how : Parking) (s : ℕ) (job : Option ℕ) → job ≡ Some s → (is_nothing (parked_act how s) ≡ false) × IsEndOf job (parked_act how s)
 park_fits (parking.Parked pass) s job is = (refl, is)
@@ -108,17 +67,13 @@ acts_next _ poll (Some session) owner some = absurd cc
 -- by where it is in its polls
 did_next : (here : OwnerStage) (owner : Owner) → is_some (did_by here owner) ≡ true → is_rest (next_at here owner.session) ≡ false
 did_next (owner_stage.Polls poll) owner some = acts_next (owner_next poll) poll owner.session owner some
-did_next (owner_stage.Rests at end) owner some = absurd cc
-did_next (owner_stage.Wakes poll note) owner some = absurd cc
-did_next owner_stage.Dropped owner some = absurd cc
-did_next owner_stage.TakenBack owner some = absurd cc
+did_next _ owner some = absurd cc
 
 -- so its poll may go on
 may_so : (n : OwnerNext) (finds : Option Did) → is_rest n ≡ false → is_some finds ≡ true → may_own n finds ≡ true
 may_so next.Rests finds goes some = absurd cc
-may_so next.Begins finds goes some = refl
-may_so next.Delivers finds goes some = refl
 may_so (next.Acts count) finds goes some = some
+may_so _ finds goes some = refl
 
 owner_acts : (owner : Owner) (done : Did) → did owner ≡ Some done → may_own (next_of owner) (did owner) ≡ true
 owner_acts owner done is = may_so (next_of owner) (did owner) (did_next owner.stage owner (ap is_some is)) (ap is_some is)
@@ -126,10 +81,7 @@ owner_acts owner done is = may_so (next_of owner) (did owner) (did_next owner.st
 -- and so has one that has a note to deliver
 noted_next : (here : OwnerStage) (last : Option Session) (number : JobNumber) → note_at here ≡ Some number → next_at here last ≡ next.Delivers
 noted_next (owner_stage.Wakes poll note) last number is = refl
-noted_next (owner_stage.Rests at end) last number is = absurd cc
-noted_next (owner_stage.Polls poll) last number is = absurd cc
-noted_next owner_stage.Dropped last number is = absurd cc
-noted_next owner_stage.TakenBack last number is = absurd cc
+noted_next _ last number is = absurd cc
 
 -- ---- whose job it is
 

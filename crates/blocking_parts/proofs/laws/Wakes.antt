@@ -1,30 +1,13 @@
 -- No wake of a task is lost: a task that waits, and whose job is over, was woken. The job of a call is never parked.
-use Rattle.std.proofs.Common.{◌≡◌, ℕ, List, [], Bool, true, false, refl, sym, subst, Option, Some, None}
-use Rattle.std.specs.Prelude.{◌||◌}
+use Rattle.std.proofs.Common.{◌≡◌, ℕ, List, [], Bool, true, false, refl, sym, subst, Option, Some, None, ◌||◌}
 use Rattle.std.specs.FinMap.{get}
-use Rattle.blocking_core.specs.declared.job.Action.{Action}
+use Rattle.blocking_parts.proofs.Types.{Action, Standing, Done, Dropped, Parked, Act, Moment, ByTask, Ticket, Core}
+use Rattle.blocking_parts.proofs.Words.{Entry, has_finished, has_given_up, holder, is_parked, standing, events, acts_of, task_cut, Turn, turn, FiledAs, RanAs, Parts, party_of, call_action, is_first, is_at_first, CoreAs, PlaceAs, Tied}
 use Rattle.blocking_core.specs.declared.job.Action.TheVariants as action
-use Rattle.blocking_pool.specs.Jobs.{Job as Entry}
-use Rattle.blocking_pool.specs.declared.pool.standing.Standing.{Standing}
-use Rattle.blocking_pool.specs.declared.pool.standing.Standing.TheVariants.{Parked, Done, Dropped}
-use Rattle.blocking_crew.specs.Ties.{FiledAs}
-use Rattle.blocking_crew.specs.declared.ticket.Ticket.{Ticket}
-use Rattle.blocking_lanes.specs.Calls.{RanAs}
+use Rattle.blocking_laws.specs.Wakes.{IsTold, NoLostWake}
+use Rattle.blocking_parts.specs.declared.row.Core.TheVariants as core
 use Rattle.blocking_lanes.proofs.cuts.Acts.{acts_cut}
 use Rattle.blocking_lanes.proofs.ties.Wakes.{told_at}
-use Rattle.blocking_laws.specs.JobTable.{has_finished, has_given_up}
-use Rattle.blocking_laws.specs.Jobs.{holder, standing, is_parked}
-use Rattle.blocking_laws.specs.Seen.{events, acts_of, task_cut}
-use Rattle.blocking_laws.specs.Turns.{Turn, turn}
-use Rattle.blocking_laws.specs.Wakes.{IsTold, NoLostWake}
-use Rattle.blocking_laws.specs.declared.event.Act.{Act}
-use Rattle.blocking_laws.specs.declared.event.Moment.{Moment}
-use Rattle.blocking_laws.specs.declared.event.Party.TheVariants.{Task as ByTask}
-use Rattle.blocking_parts.specs.Parts.{Parts}
-use Rattle.blocking_parts.specs.Rows.{party_of, call_action, is_first, is_at_first}
-use Rattle.blocking_parts.specs.Ties.{Tied, CoreAs, PlaceAs}
-use Rattle.blocking_parts.specs.declared.row.Core.{Core}
-use Rattle.blocking_parts.specs.declared.row.Core.TheVariants as core
 use Rattle.blocking_parts.proofs.past.ParkedJobs.{parked_acted}
 use Rattle.blocking_parts.proofs.ties.Jobs.{held_row}
 use Rattle.blocking_parts.proofs.ties.Releases.{task_there}
@@ -32,9 +15,7 @@ use Rattle.blocking_parts.proofs.ties.Releases.{task_there}
 -- the job of a call that is at its first action hasn't acted
 ran_none : (next : Action) (n : ℕ) (acts : List Act) → is_first (call_action next) ≡ true → RanAs next n acts → acts ≡ []
 ran_none action.Call n acts first ran = ran
-ran_none action.Finish n acts first ran = absurd cc
-ran_none action.Deliver n acts first ran = absurd cc
-ran_none action.Done n acts first ran = absurd cc
+ran_none _ n acts first ran = absurd cc
 
 acts_none : (k : ℕ) (c : Core) (acts : List Act) → party_of c ≡ ByTask k → CoreAs c acts → (is_at_first c ≡ true) × (has_given_up acts ≡ false) → acts ≡ []
 acts_none k (core.Call j call) acts party so place = ran_none call.next call.number acts place.0 (so place.1)

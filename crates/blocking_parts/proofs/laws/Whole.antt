@@ -1,51 +1,32 @@
 -- Each move keeps the ties and the laws: so all parts are lawful.
-use Rattle.std.proofs.Common.{◌≡◌, ◌<◌, ◌≤◌, ◌==◌, ◌-◌, ℕ, List, [], ◌∷◌, length, Bool, true, false, refl, sym, ap, ◌∙◌, subst, arith, Option, Some, None, if◌then◌else◌}
-use Rattle.std.specs.Prelude.{◌||◌, not, is_some, slice_get, Ok}
-use Rattle.blocking_crew.specs.Crews.{Crew, free_hands, busy_hands, hand_at, hand_in}
+use Rattle.std.proofs.Common.{◌≡◌, ◌<◌, ◌≤◌, ◌==◌, ◌-◌, ℕ, List, [], ◌∷◌, length, Bool, true, false, refl, sym, ap, ◌∙◌, subst, arith, Option, Some, None, if◌then◌else◌, ◌||◌, not, is_some, slice_get, Ok}
+use Rattle.blocking_parts.proofs.Types.{Event, Moment, Step, Job, Holds, Out, Held, OwnerNext, Row}
+use Rattle.blocking_parts.proofs.Words.{IsPlanned, standing, events, is_nothing, cut, own, acts_of_owner, under_way, is_poll_over, is_job_action, has_action, named, Crew, hand_in, hand_at, free_hands, busy_hands, next_start, nothing, is_aside, IsNumberOf, CrewHolds, IsAsked, IsAside, Owner, next_of, bytes_of, bytes_to_come, is_busy, polls_in, Move, Idles, Lends, Begins, Works, IsAnswered, step_of, call_of, rows_after, tasks_after, owners_after, May, CrewMoves, Moves, Steps, Parts, row_of, owner_of, next_at, Rowed, moment, Tied, IsLawful}
+use Rattle.blocking_pool.specs.Limits.{limit_of_setting, limit_by, number_of}
+use Rattle.blocking_pool.specs.Pools.{empty_pool}
+use Rattle.blocking_laws.specs.Served.{IsServed}
+use Rattle.blocking_laws.specs.Staffed.{IsStaffed, AreAsSeen}
 use Rattle.blocking_crew.specs.Moves as crew
-use Rattle.blocking_crew.specs.Moves.{next_start, nothing, is_aside}
-use Rattle.blocking_crew.specs.Ties.{CrewHolds, IsAsked, IsAside, IsNumberOf, Served}
-use Rattle.blocking_crew.specs.declared.hand.Hand.TheVariants.{Out, Holds}
-use Rattle.blocking_crew.specs.declared.hand.Held.{Held}
+use Rattle.blocking_crew.specs.Ties.{Served}
+use Rattle.blocking_lanes.specs.declared.owner.OwnerNext.TheVariants as next
 use Rattle.blocking_crew.proofs.laws.Calls.{served_moved, number_moved}
 use Rattle.blocking_crew.proofs.laws.Staffing.{holding, staffed, as_seen}
 use Rattle.blocking_crew.proofs.laws.Whole.{holds_moved, holds_aside, begins}
-use Rattle.blocking_lanes.specs.Owners.{Owner, next_of}
-use Rattle.blocking_lanes.specs.declared.owner.OwnerNext.{OwnerNext}
-use Rattle.blocking_lanes.specs.declared.owner.OwnerNext.TheVariants as next
 use Rattle.blocking_lanes.proofs.owners.Actions.{is_rest, rests_next}
-use Rattle.blocking_laws.specs.Growth.{IsPlanned}
-use Rattle.blocking_laws.specs.Jobs.{standing}
-use Rattle.blocking_laws.specs.Seen.{acts_of_owner, cut, events, is_nothing, own}
-use Rattle.blocking_laws.specs.Served.{IsServed}
-use Rattle.blocking_laws.specs.Sessions.{is_poll_over, under_way}
-use Rattle.blocking_laws.specs.Staffed.{IsStaffed, AreAsSeen}
-use Rattle.blocking_laws.specs.Steps.{has_action, is_job_action, named}
-use Rattle.blocking_laws.specs.declared.event.Event.{Event}
-use Rattle.blocking_laws.specs.declared.event.Moment.{Moment}
-use Rattle.blocking_laws.specs.declared.step.Step.{Step}
-use Rattle.blocking_laws.specs.declared.step.Step.TheVariants.{Job}
-use Rattle.blocking_pool.specs.Limits.{limit_of_setting, limit_by, number_of}
-use Rattle.blocking_pool.specs.Pools.{empty_pool}
-use Rattle.blocking_parts.specs.Carried.{bytes_of, bytes_to_come, is_busy, polls_in}
-use Rattle.blocking_parts.specs.Moves.{Move, Idles, Lends, Begins, Works, IsAnswered, Moves, Steps, May, CrewMoves, step_of, call_of, rows_after, tasks_after, owners_after}
-use Rattle.blocking_parts.specs.Parts.{Parts, row_of, owner_of, next_at}
-use Rattle.blocking_parts.specs.Ties.{Tied, Rowed, IsLawful, moment}
-use Rattle.blocking_parts.specs.declared.row.Row.{Row}
 use Rattle.blocking_parts.proofs.laws.NextActions.{next_agrees, unseen}
 use Rattle.blocking_parts.proofs.laws.OwnerWakes.{no_lost_owner_wake}
 use Rattle.blocking_parts.proofs.laws.Steps.{step_law}
 use Rattle.blocking_parts.proofs.laws.Wakes.{no_lost_wake}
 use Rattle.blocking_parts.proofs.moves.Bytes as bytes
-use Rattle.blocking_parts.proofs.ties.CrewDemands.{asked}
+use Rattle.blocking_parts.proofs.rows.JobMoves.{rows_worked, rows_answered}
 use Rattle.blocking_parts.proofs.rows.NewJobs.{rows_begun, rows_lent}
-use Rattle.blocking_parts.proofs.ties.LeftJobs.{crossed_after}
+use Rattle.blocking_parts.proofs.rows.OtherMoves.{rows_stay}
+use Rattle.blocking_parts.proofs.ties.CrewDemands.{asked}
 use Rattle.blocking_parts.proofs.ties.Jobs.{owner_tie, row_known}
+use Rattle.blocking_parts.proofs.ties.LeftJobs.{crossed_after}
 use Rattle.blocking_parts.proofs.ties.Marks.{marks_after}
 use Rattle.blocking_parts.proofs.ties.Owners.{owners_after_move}
-use Rattle.blocking_parts.proofs.rows.OtherMoves.{rows_stay}
 use Rattle.blocking_parts.proofs.ties.Tasks.{tasks_after_move}
-use Rattle.blocking_parts.proofs.rows.JobMoves.{rows_worked, rows_answered}
 
 module _ (setting : ℕ) (plan : List Bool) (w : Parts) (past : List Moment) (lawful : IsLawful setting plan w past) (new : Parts) (e : Event) where
   t : Tied setting plan w past
@@ -252,9 +233,7 @@ module _ (setting : ℕ) (plan : List Bool) (w : Parts) (past : List Moment) (la
 -- an owner is busy where it doesn't rest
 busy_is : (n : OwnerNext) → is_busy n ≡ not (is_rest n)
 busy_is next.Rests = refl
-busy_is next.Begins = refl
-busy_is next.Delivers = refl
-busy_is (next.Acts count) = refl
+busy_is _ = refl
 
 module _ (setting : ℕ) (plan : List Bool) (w : Parts) (past : List Moment) (t : Tied setting plan w past) where
   -- The step of a worker's job has an action where its next action is the job's own.

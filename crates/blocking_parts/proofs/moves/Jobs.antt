@@ -1,63 +1,24 @@
 -- What a step makes of the row of the job in a worker's hand, and of its task or owner, is a move.
-use Rattle.std.proofs.Common.{◌≡◌, ℕ, ◌-◌, ◌<◌, List, length, Bool, true, false, refl, sym, ap, ◌∙◌, subst, Option, Some, None}
-use Rattle.std.specs.Prelude.{slice_index_or, slice_get, slice_set, option_map, is_some, if◌then◌else◌}
+use Rattle.std.proofs.Common.{◌≡◌, ℕ, ◌-◌, ◌<◌, List, length, Bool, true, false, refl, sym, ap, ◌∙◌, subst, Option, Some, None, slice_index_or, slice_get, slice_set, option_map, is_some, if◌then◌else◌}
 use Rattle.std.proofs.lemmas.Option.{slice_get_within, slice_get_read}
-use Rattle.blocking_crew.specs.Crews.{Crew, hand_at, in_hand_of, may_end, over_in}
+use Rattle.blocking_parts.proofs.Types.{Act, Answered, Event, Worker, Answer, End, Io, Job, Hand, Holds, Stage, Core, Row}
+use Rattle.blocking_parts.proofs.Words.{is_answered_action, is_turn_end, Crew, may_end, hand_at, over_in, in_hand_of, next_start, nothing, NeverAsked, Owner, Task, Idles, Works, IsAnswered, Parks, IsDue, Moves, Parts, row_of, InHand, job_with, job_in, job_at, places_of, next_in, next_at, done_by, done_in, let_go_of, Done, done, IsDone, core_after_answer}
 use Rattle.blocking_crew.specs.Moves as crew
-use Rattle.blocking_crew.specs.Moves.{next_start, nothing, NeverAsked}
 use Rattle.blocking_crew.specs.declared.crew.InHand as crew_hand
-use Rattle.blocking_crew.specs.declared.hand.Hand.{Hand}
-use Rattle.blocking_crew.specs.declared.hand.Hand.TheVariants.{Out, Free, Holds}
-use Rattle.blocking_crew.specs.declared.hand.Stage.{Stage}
 use Rattle.blocking_crew.specs.declared.hand.Stage.TheVariants as stage
-use Rattle.blocking_lanes.specs.Owners.{Owner}
-use Rattle.blocking_lanes.specs.Tasks.{Task}
-use Rattle.blocking_pool.proofs.Places.{set_same}
-use Rattle.blocking_laws.specs.Steps.{is_answered_action, is_turn_end}
-use Rattle.blocking_laws.specs.declared.event.Act.{Act}
-use Rattle.blocking_laws.specs.declared.event.Act.TheVariants.{Answered}
-use Rattle.blocking_laws.specs.declared.event.Event.{Event}
-use Rattle.blocking_laws.specs.declared.event.Party.TheVariants.{Worker}
-use Rattle.blocking_laws.specs.declared.step.Answer.{Answer}
-use Rattle.blocking_laws.specs.declared.step.Step.TheVariants.{Job, Io, End}
-use Rattle.blocking_parts.specs.Moves.{Moves, Idles, Works, IsAnswered, Parks, IsDue}
-use Rattle.blocking_parts.specs.Rows.{Done, IsDone, done, next_of, core_after_answer}
-use Rattle.blocking_parts.specs.Parts.{Parts, InHand, row_of, job_at, job_in, job_with, next_at, next_in, done_by, done_in, places_of, let_go_of}
+use Rattle.blocking_parts.specs.Rows.{next_of}
 use Rattle.blocking_parts.specs.declared.parts.JobAt.{JobAt}
-use Rattle.blocking_parts.specs.declared.row.Core.{Core}
-use Rattle.blocking_parts.specs.declared.row.Row.{Row}
+use Rattle.blocking_pool.proofs.Places.{set_same}
 use Rattle.blocking_parts.proofs.moves.Lookups.{row_found, one_found}
+use Rattle.blocking_parts.proofs.ties.Jobs.{job_here}
 
 -- ---- the job in a hand
 
-row_in : (rows : List Row) (hand : Hand) (job : InHand) → job_in rows hand ≡ Some job → row_of rows job.held.turn.serial ≡ Some job.row
-row_in rows Out job is = absurd cc
-row_in rows (Free pass) job is = absurd cc
-row_in rows (Holds held) job is = by (row_of rows held.turn.serial) refl is
-  where
-    by : (o : Option Row) → row_of rows held.turn.serial ≡ o → job_with held o ≡ Some job → row_of rows job.held.turn.serial ≡ Some job.row
-    by None found is = absurd cc
-    by (Some row) found is =
-        let one : record { held = held; row = row } ≡ job = cc in
-        subst (λ (j : InHand). row_of rows j.held.turn.serial ≡ Some j.row) one found
-
-hand_in : (rows : List Row) (hand : Hand) (job : InHand) → job_in rows hand ≡ Some job → hand ≡ Holds job.held
-hand_in rows Out job is = absurd cc
-hand_in rows (Free pass) job is = absurd cc
-hand_in rows (Holds held) job is = by (row_of rows held.turn.serial) is
-  where
-    by : (o : Option Row) → job_with held o ≡ Some job → Holds held ≡ Holds job.held
-    by None is = absurd cc
-    by (Some row) is =
-        let one : record { held = held; row = row } ≡ job = cc in
-        ap (λ (j : InHand). Holds j.held) one
-
 held_as : (hand : Hand) (here : crew_hand.InHand) → Some here ≡ in_hand_of hand → hand ≡ Holds (record { turn = here.number; stage = here.stage })
-held_as Out here is = absurd cc
-held_as (Free pass) here is = absurd cc
 held_as (Holds held) here is =
     let same : here ≡ record { number = held.turn; stage = held.stage } = cc in
     ap (λ (h : crew_hand.InHand). Holds (record { turn = h.number; stage = h.stage })) (sym same)
+held_as _ here is = absurd cc
 
 -- the job in a hand, by what the crew tells of it and by its row
 pub job_by_row : (w : Parts) (v : ℕ) (here : crew_hand.InHand) (row : Option Row) → Some here ≡ in_hand_of (hand_at w.crew.hands v) → row_of w.rows here.number.serial ≡ row
@@ -82,7 +43,7 @@ placed w v at is = by (job_at w v) refl is
           job = job;
           job_is = found;
           at_is = same;
-          row = ap (λ (p : JobAt). slice_get w.rows p.row) same ∙ (row_found w.rows job.held.turn.serial job.row (row_in w.rows (hand_at w.crew.hands v) job found)).1;
+          row = ap (λ (p : JobAt). slice_get w.rows p.row) same ∙ (row_found w.rows job.held.turn.serial job.row (job_here w v job found).has_row).1;
         }
 
 pub row_within : (w : Parts) (v : ℕ) (at : JobAt) → Some at ≡ option_map places_of (job_at w v) → at.row < length w.rows
@@ -219,5 +180,5 @@ due w v at old is value ends other =
     let p = placed w v at is in
     let may : may_end p.job.held.stage ≡ true = ap (λ (q : JobAt). may_end q.stage) (sym p.at_is) ∙ ends_here at.stage old.core ends other in (
       ap is_turn_end (next_placed w v at is old value) ∙ ends,
-      ap (λ h. is_some (over_in h)) (hand_in w.rows (hand_at w.crew.hands v) p.job p.job_is) ∙ ap (λ b. is_some (if b then Some p.job.held else None)) may,
+      ap (λ h. is_some (over_in h)) (job_here w v p.job p.job_is).holds ∙ ap (λ b. is_some (if b then Some p.job.held else None)) may,
     )

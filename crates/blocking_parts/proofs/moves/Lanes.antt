@@ -1,21 +1,14 @@
 -- What an act of a job does at its task or at its owner is what it does to all of them.
-use Rattle.std.proofs.Common.{◌≡◌, ℕ, List, length, refl, sym, ap, ◌∙◌, subst, Option, Some, None}
-use Rattle.std.specs.Prelude.{slice_get, slice_set}
+use Rattle.std.proofs.Common.{◌≡◌, ℕ, List, length, refl, sym, ap, ◌∙◌, subst, Option, Some, None, slice_get, slice_set}
 use Rattle.std.proofs.Math.ListN.{length-set}
-use Rattle.blocking_crew.specs.declared.hand.Stage.{Stage}
+use Rattle.blocking_parts.proofs.Types.{Act, Stage, SessionJob, Core}
+use Rattle.blocking_parts.proofs.Words.{OwnerStep, act_of_work, owner_after_work, job_after_work, Owner, Worked, worked, TaskStep, Task, call_step, session_step, Done, call_done, session_seen, session_done, done, IsDone, IsActed, IsActedFor}
 use Rattle.blocking_crew.specs.declared.hand.Stage.TheVariants as stage
 use Rattle.blocking_lanes.specs.Calls as calls
-use Rattle.blocking_lanes.specs.Owners.{Owner, Worked, worked}
 use Rattle.blocking_lanes.specs.OwnerSteps as owner_steps
-use Rattle.blocking_lanes.specs.OwnerSteps.{OwnerStep, act_of_work, owner_after_work, job_after_work}
-use Rattle.blocking_lanes.specs.declared.job.SessionJob.{SessionJob}
-use Rattle.blocking_lanes.specs.Steps.{TaskStep}
-use Rattle.blocking_lanes.specs.Tasks.{Task}
-use Rattle.blocking_pool.proofs.Places.{set_same}
-use Rattle.blocking_laws.specs.declared.event.Act.{Act}
-use Rattle.blocking_parts.specs.declared.row.Core.{Core}
-use Rattle.blocking_parts.specs.Rows.{Done, IsActed, IsActedFor, IsDone, done, call_step, call_done, session_step, session_done, session_seen}
 use Rattle.blocking_parts.specs.declared.row.Core.TheVariants as core
+use Rattle.blocking_pool.proofs.Places.{set_same}
+use Rattle.blocking_parts.proofs.moves.SessionActs.{moved}
 
 -- the job of a call
 pub call_acts : (tasks : List Task) (owners : List Owner) (k : ℕ) (call new_call : calls.Progress) (at : Stage) (task new_task : Task) (seen : Option Act) → slice_get tasks k ≡ Some task
@@ -38,8 +31,6 @@ session_acts tasks owners h read new_read at owner new_owner seen found acts =
 
     by : (at : Stage) → IsActedFor (session_step at read) read owner seen new_read new_owner
         → IsDone (session_done h read tasks owners (Some owner) (session_step at read)) (core.Session h read) tasks owners seen (core.Session h new_read) tasks (slice_set owners h new_owner)
-    by stage.Waits is = same is.0 is.1 is.2
-    by stage.GaveUp is = same is.0 is.1 is.2
     by stage.MustGiveUp is = (is.0, ap (core.Session h) is.1, refl, ap (slice_set owners h) is.2)
     by stage.MustWake is = (is.0, ap (core.Session h) is.1, refl, ap (slice_set owners h) is.2)
     by stage.Runs is = works (worked read owner) refl is
@@ -51,45 +42,28 @@ session_acts tasks owners h read new_read at owner new_owner seen found acts =
             (same (is.0 ∙ ap act_of_work none) (is.1 ∙ ap (λ o. job_after_work o read) none) (is.2 ∙ ap (λ o. owner_after_work o owner) none))
         works (Some did) some is =
             subst (λ a. IsDone (session_seen h read tasks owners owner (owner_steps.Works read) a) (core.Session h read) tasks owners seen (core.Session h new_read) tasks (slice_set owners h new_owner)) (sym (ap act_of_work some)) (is.0 ∙ ap act_of_work some, ap (core.Session h) is.1, refl, ap (slice_set owners h) is.2)
+    by _ is = same is.0 is.1 is.2
 
 -- ---- how many there are
 
-done_lengths : (at : Stage) (c : Core) (tasks : List Task) (owners : List Owner) (did : Done) → done at c tasks owners ≡ Some did → (length did.tasks ≡ length tasks) × (length did.owners ≡ length owners)
+abbrev SameLengths : List Task → List Owner → Done → Type 0
+SameLengths tasks owners did = (length did.tasks ≡ length tasks) × (length did.owners ≡ length owners)
+
+done_lengths : (at : Stage) (c : Core) (tasks : List Task) (owners : List Owner) (did : Done) → done at c tasks owners ≡ Some did → SameLengths tasks owners did
 done_lengths at (core.Call k call) tasks owners did is = by (slice_get tasks k) (call_step at call) is
   where
-    by : (o : Option Task) (step : Option TaskStep) → call_done k call at tasks owners o step ≡ Some did → (length did.tasks ≡ length tasks) × (length did.owners ≡ length owners)
-    by (Some task) (Some step) is =
-        let kept = ap tasks_in is in
-        let same = ap owners_in is in
-        (sym (ap length kept) ∙ length-set tasks k _, sym (ap length same))
-      where
-        tasks_in : Option Done → List Task
-        tasks_in (Some d) = d.tasks
-        tasks_in None = tasks
-
-        owners_in : Option Done → List Owner
-        owners_in (Some d) = d.owners
-        owners_in None = owners
-    by None step is = absurd cc
-    by (Some task) None is = absurd cc
+    by : (o : Option Task) (step : Option TaskStep) → call_done k call at tasks owners o step ≡ Some did → SameLengths tasks owners did
+    by (Some task) (Some step) is = moved (SameLengths tasks owners) _ did is (length-set tasks k _, refl)
+    by _ _ is = absurd cc
 done_lengths at (core.Session h read) tasks owners did is = by (slice_get owners h) (session_step at read) is
   where
-    tasks_in : Option Done → List Task
-    tasks_in (Some d) = d.tasks
-    tasks_in None = tasks
-
-    owners_in : Option Done → List Owner
-    owners_in (Some d) = d.owners
-    owners_in None = owners
-
-    seen : (owner : Owner) (step : OwnerStep) (a : Option Act) → session_seen h read tasks owners owner step a ≡ Some did → (length did.tasks ≡ length tasks) × (length did.owners ≡ length owners)
+    seen : (owner : Owner) (step : OwnerStep) (a : Option Act) → session_seen h read tasks owners owner step a ≡ Some did → SameLengths tasks owners did
     seen owner step None is = absurd cc
-    seen owner step (Some act) is = (sym (ap length (ap tasks_in is)), sym (ap length (ap owners_in is)) ∙ length-set owners h _)
+    seen owner step (Some act) is = moved (SameLengths tasks owners) _ did is (refl, length-set owners h _)
 
-    by : (o : Option Owner) (step : Option OwnerStep) → session_done h read tasks owners o step ≡ Some did → (length did.tasks ≡ length tasks) × (length did.owners ≡ length owners)
+    by : (o : Option Owner) (step : Option OwnerStep) → session_done h read tasks owners o step ≡ Some did → SameLengths tasks owners did
     by (Some owner) (Some step) is = seen owner step (owner_steps.act_of step owner) is
-    by None step is = absurd cc
-    by (Some owner) None is = absurd cc
+    by _ _ is = absurd cc
 
 pub same_lengths : (at : Stage) (c : Core) (tasks : List Task) (owners : List Owner) (act : Option Act) (new : Core) (new_tasks : List Task) (new_owners : List Owner) → IsDone (done at c tasks owners) c tasks owners act new new_tasks new_owners
     → (length new_tasks ≡ length tasks) × (length new_owners ≡ length owners)

@@ -1,12 +1,11 @@
 -- What is found among the rows and the tasks.
-use Rattle.std.proofs.Common.{◌≡◌, ◌⊎◌, inl, inr, ℕ, ◌+◌, ◌-◌, ◌<◌, ◌==◌, ◌++◌, List, [], ◌∷◌, length, Bool, true, false, refl, sym, ap, ◌∙◌, arith, Option, Some, None, if◌then◌else◌, zero, suc}
-use Rattle.std.specs.Prelude.{slice_get, slice_set}
+use Rattle.std.proofs.Common.{◌≡◌, ◌⊎◌, inl, inr, ⊎_elim, ℕ, ◌+◌, ◌-◌, ◌<◌, ◌==◌, ◌++◌, List, [], ◌∷◌, length, Bool, true, false, refl, sym, ap, ◌∙◌, arith, Option, Some, None, if◌then◌else◌, zero, suc, slice_get, slice_set}
 use Rattle.std.proofs.lemmas.Bool.{eqb-true}
 use Rattle.std.proofs.lemmas.Bool.Decides.{nat_tests}
 use Rattle.std.proofs.lemmas.Option.{slice_get_within}
+use Rattle.blocking_parts.proofs.Types.{Row}
+use Rattle.blocking_parts.proofs.Words.{row_of}
 use Rattle.blocking_pool.proofs.Places.{got_same, got_other, got_pushed}
-use Rattle.blocking_parts.specs.Parts.{row_of}
-use Rattle.blocking_parts.specs.declared.row.Row.{Row}
 
 -- what stands in a list at a place within it
 pub there : {X : Type 0} (xs : List X) (k : ℕ) → k < length xs → (x : X) × (slice_get xs k ≡ Some x)
@@ -28,6 +27,12 @@ in_set xs k old new found j x is = by (k == j) refl
         let at : slice_get (slice_set xs k new) j ≡ Some new = ap (slice_get (slice_set xs k new)) (sym place) ∙ got_same xs k new (slice_get_within xs k old found) in
         inr (place, one_found (slice_get (slice_set xs k new) j) new x at is)
     by false other = inl (sym (got_other xs k j new (λ place. absurd (grind (arith, nat_tests)))) ∙ is)
+
+-- so it has the same of something as what stood there before, if what was set has
+pub kept_in : {X Y : Type 0} (of : X → Y) (xs : List X) (k : ℕ) (old new : X) → slice_get xs k ≡ Some old → of old ≡ of new
+    → (j : ℕ) (x : X) → slice_get (slice_set xs k new) j ≡ Some x → (was : X) × (slice_get xs j ≡ Some was) × (of was ≡ of x)
+kept_in of xs k old new found same j x is =
+    ⊎_elim (λ before. (x, before, refl)) (λ here. (old, ap (slice_get xs) (sym here.0) ∙ found, same ∙ ap of here.1)) (in_set xs k old new found j x is)
 
 -- ---- rows
 
@@ -72,3 +77,11 @@ push_by false false rows s new some is = got_pushed rows new (s - 1) false (grin
 
 pub row_pushed : (rows : List Row) (s : ℕ) (new : Row) → row_of (rows ++ new ∷ []) s ≡ (if length rows + 1 == s then Some new else row_of rows s)
 row_pushed rows s new = push_by (s == 0) (length rows + 1 == s) rows s new refl refl
+
+-- what passes a test that nothing passes where nothing is found is within the list
+pub within_by : {X : Type 0} (test : Option X → Bool) → test None ≡ false → (xs : List X) (k : ℕ) → test (slice_get xs k) ≡ true → k < length xs
+within_by {X} test none xs k is = by (slice_get xs k) refl is
+  where
+    by : (o : Option X) → slice_get xs k ≡ o → test o ≡ true → k < length xs
+    by None found is = absurd cc
+    by (Some x) found is = slice_get_within xs k x found

@@ -1,33 +1,13 @@
 -- Where an owner meets a job that is left to it, after each step: in the pipe's seat, or by the note that it has to deliver.
-use Rattle.blocking_lanes.proofs.owners.Drains.{first_item}
-use Rattle.std.proofs.Common.{◌≡◌, ◌⊎◌, inl, inr, ℕ, List, [], ◌∷◌, length, Bool, true, false, refl, sym, ap, ◌∙◌, subst, Option, Some, None, if◌then◌else◌}
-use Rattle.std.specs.Prelude.{◌==◌, min}
-use Rattle.blocking_core.specs.OwnerCalls.{OwnerMachine, owner_next}
-use Rattle.blocking_core.specs.Pipes.{room}
-use Rattle.blocking_core.specs.Places.{Met, Served, Waiting, Closed, drain, fill}
-use Rattle.blocking_core.specs.Slots.{Content, Empty, Full, GivenUp, Abandoned}
-use Rattle.blocking_core.specs.declared.io.Fault.{Fault}
-use Rattle.blocking_core.specs.declared.unblock.OwnerAction.{OwnerAction}
-use Rattle.blocking_core.specs.declared.unblock.OwnerAction.TheVariants as action
+use Rattle.std.proofs.Common.{◌≡◌, ◌⊎◌, inl, inr, ℕ, List, length, Bool, true, false, refl, sym, ap, ◌∙◌, subst, Option, Some, None, if◌then◌else◌, ◌==◌, min, arith}
+use Rattle.blocking_parts.proofs.Types.{Refusal, Act, JobParked, HandleCall, SessionJob, OwnerStage}
+use Rattle.blocking_parts.proofs.Words.{OwnerMachine, Pipe, room, Met, Served, Waiting, Closed, drain, fill, JobNumber, seat_of, Owner, number_in, number_of, is_resting, rests, note_at, goes_on, after_ask, owner_after_ask, Did, drain_did, receive_did, fill_did, did, stage_after_refusal, owner_after_refusal, stage_after_delivery, owner_after_delivery, stage_after_drop, owner_after_drop, Worked, worked, without_job, owner_after_give_up, Session, reach, drained, received, filled, seated_in, is_number, IsMet}
 use Rattle.blocking_core.specs.declared.unblock.State.{State}
-use Rattle.blocking_laws.specs.declared.event.Act.{Act}
-use Rattle.blocking_laws.specs.declared.event.Act.TheVariants.{JobParked}
-use Rattle.blocking_laws.specs.declared.event.Reply.{Reply as Told}
-use Rattle.blocking_laws.specs.declared.step.HandleCall.{HandleCall}
-use Rattle.blocking_lanes.specs.Owners.{Owner, Did, Worked, after_ask, did, did_by, did_in, drain_did, fill_did, goes_on, is_resting, look_did, looked_as, note_at, number_in, number_of, owner_after_ask, owner_after_delivery, owner_after_drop, owner_after_give_up, owner_after_refusal, reply_as, reply_did, rests, stage_after_delivery, stage_after_drop, stage_after_refusal, without_job, worked, item_in, receive_did, find_did, awaited_as}
-use Rattle.blocking_lanes.specs.OwnerTies.{seat_of}
-use Rattle.blocking_lanes.specs.Passages.{OfBytes, OfItems}
-use Rattle.blocking_lanes.specs.Sessions.{Session, drained, filled, reach, session_after_look, session_after_find, received}
-use Rattle.blocking_lanes.specs.declared.job.SessionJob.{SessionJob}
-use Rattle.blocking_lanes.specs.declared.owner.OwnerStage.{OwnerStage}
-use Rattle.blocking_lanes.specs.declared.owner.PollEnd.{PollEnd}
 use Rattle.blocking_lanes.specs.declared.owner.OwnerStage.TheVariants as stage
-use Rattle.blocking_pool.specs.Jobs.{JobNumber}
-use Rattle.blocking_pool.specs.declared.pool.answer.Refusal.{Refusal}
-use Rattle.blocking_parts.specs.Ties.{IsMet, is_number, seated_in}
-use Rattle.blocking_lanes.proofs.owners.Goods.{through_some, piped_some}
-use Rattle.blocking_parts.proofs.moves.Fills.{by_fill}
-use Rattle.blocking_parts.proofs.moves.SessionActs.{SessionAct, FindsRoom, Puts, Sends, Peeks, TakesOut, Closes, Finishes, ActsAt, DoesSo, Fits, after, moved, seen, worked_so, Leaves, PutsResult}
+use Rattle.blocking_lanes.specs.declared.owner.PollEnd.{PollEnd}
+use Rattle.blocking_lanes.proofs.owners.Drains.{first_item}
+use Rattle.blocking_parts.proofs.moves.PollActs.{OfEach, did_holds}
+use Rattle.blocking_parts.proofs.moves.SessionActs.{SessionAct, FindsRoom, Puts, Sends, Peeks, ActsAt, DoesSo, Fits, after, seen, worked_so}
 
 -- the note that a poll took is the one that it has to deliver
 noted_on : (poll : OwnerMachine ℕ) (note : Option JobNumber) → note_at (goes_on poll note) ≡ note
@@ -36,9 +16,7 @@ noted_on poll (Some number) = refl
 
 -- what comes out of the pipe comes with the note of the job that is seated there
 drained_seat : (n : ℕ) (items : List ℕ) (lasts : Bool) (seat : Option JobNumber) (got : List ℕ × Option JobNumber) → drain n items lasts seat ≡ Served got → got.1 ≡ seat
-drained_seat n [] true seat got is = absurd cc
-drained_seat n [] false seat got is = absurd cc
-drained_seat n (x ∷ xs) lasts seat got is = cc
+drained_seat n items lasts seat got is = grind arith
 
 -- and what goes in takes that note too
 filled_seat : (n room : ℕ) (lasts : Bool) (seat : Option JobNumber) (went : ℕ × Option JobNumber) → fill n room lasts seat ≡ Served went → went.1 ≡ seat
@@ -98,68 +76,45 @@ dropped_met owner s rests met = by owner.stage rests met
     by _ rests met = absurd cc
 
 -- its poll acts
-module _ (owner : Owner) (s : ℕ) (done : Did) (poll : OwnerMachine ℕ) where
-  acts_met : (next : OwnerAction ℕ) (last : Option Session) → owner.session ≡ last → did_in next poll last owner ≡ Some done → is_number (seated_in last) s ≡ true → IsMet done.owner s
-  acts_met (action.Reply reply) last here does seat = told (reply_as (item_in last) reply) does
-    where
-      told : (o : Option Told) → reply_did o poll owner ≡ Some done → IsMet done.owner s
-      told (Some reply) does = moved (λ (d : Did). IsMet d.owner s) _ done does (inl (ap (λ o. is_number (seated_in o) s) here ∙ seat))
-      told None does = absurd cc
-  acts_met action.Close (Some session) here does seat =
-      moved (λ (d : Did). IsMet d.owner s) _ done (piped_some session.goods _ done does) (inr (ap (λ o. is_number o s) (noted_on _ session.pipe.job_seat) ∙ seat))
-  acts_met (action.Drain most) (Some session) here does seat = drains (drained (reach most session) session) refl (through_some OfBytes session.goods _ done does).1
-    where
-      drains : (met : Met (List ℕ × Option JobNumber)) → drained (reach most session) session ≡ met → Some (drain_did met poll session owner) ≡ Some done → IsMet done.owner s
-      drains (Served got) found does =
-          let same = drained_seat _ session.pipe.items session.pipe.is_job_open session.pipe.job_seat got found in
-          moved (λ (d : Did). IsMet d.owner s) _ done does (inr (ap (λ o. is_number o s) (noted_on _ got.1 ∙ same) ∙ seat))
-      drains Waiting found does = moved (λ (d : Did). IsMet d.owner s) _ done does (inl seat)
-      drains Closed found does = moved (λ (d : Did). IsMet d.owner s) _ done does (inl (ap (λ o. is_number (seated_in o) s) here ∙ seat))
-  acts_met action.Receive (Some session) here does seat = receives (received session) refl (through_some OfItems session.goods _ done does).1
-    where
-      receives : (met : Met (ℕ × Option JobNumber)) → received session ≡ met → Some (receive_did met poll session owner) ≡ Some done → IsMet done.owner s
-      receives (Served got) found does =
-          let same = (first_item session.pipe.items session.pipe.is_job_open session.pipe.job_seat got found).1 in
-          moved (λ (d : Did). IsMet d.owner s) _ done does (inr (ap (λ o. is_number o s) (noted_on _ got.1 ∙ same) ∙ seat))
-      receives Waiting found does = moved (λ (d : Did). IsMet d.owner s) _ done does (inl seat)
-      receives Closed found does = moved (λ (d : Did). IsMet d.owner s) _ done does (inl (ap (λ o. is_number (seated_in o) s) here ∙ seat))
-  acts_met action.PollSlot (Some session) here does seat = looks session.slot.content does
-    where
-      looks : (content : Content (Option (Fault ℕ))) → look_did (looked_as content) poll (session_after_look content session) owner ≡ Some done → IsMet done.owner s
-      looks Empty does = moved (λ (d : Did). IsMet d.owner s) _ done does (inl seat)
-      looks (Full why) does = moved (λ (d : Did). IsMet d.owner s) _ done does (inl seat)
-      looks GivenUp does = absurd cc
-      looks (Abandoned true) does = absurd cc
-      looks (Abandoned false) does = moved (λ (d : Did). IsMet d.owner s) _ done does (inl seat)
-  acts_met action.PollResult (Some session) here does seat = finds session.result.content does
-    where
-      finds : (content : Content ℕ) → find_did (awaited_as content) poll (session_after_find content session) owner ≡ Some done → IsMet done.owner s
-      finds Empty does = moved (λ (d : Did). IsMet d.owner s) _ done does (inl seat)
-      finds (Full n) does = moved (λ (d : Did). IsMet d.owner s) _ done does (inl seat)
-      finds GivenUp does = absurd cc
-      finds (Abandoned true) does = absurd cc
-      finds (Abandoned false) does = moved (λ (d : Did). IsMet d.owner s) _ done does (inl seat)
-  acts_met (action.Fill most) last here does seat =
-      by_fill (λ o. o ≡ Some done → IsMet done.owner s) poll owner.asked last owner (λ does. absurd cc)
-      (λ bytes session met there found does. fills bytes session met found does (sym (ap (λ o. is_number (seated_in o) s) there) ∙ seat) (here ∙ there)) does
-    where
-      fills : (bytes : List ℕ) (session : Session) (met : Met (ℕ × Option JobNumber)) → filled (length bytes) session ≡ met → Some (fill_did bytes met poll session owner) ≡ Some done
-          → is_number session.pipe.job_seat s ≡ true → owner.session ≡ Some session → IsMet done.owner s
-      fills bytes session (Served went) found does seat here =
-          let same = filled_seat (length bytes) (room session.pipe) session.pipe.is_job_open session.pipe.job_seat went found in
-          moved (λ (d : Did). IsMet d.owner s) _ done does (inr (ap (λ o. is_number o s) (noted_on _ went.1 ∙ same) ∙ seat))
-      fills bytes session Waiting found does seat here = moved (λ (d : Did). IsMet d.owner s) _ done does (inl seat)
-      fills bytes session Closed found does seat here = moved (λ (d : Did). IsMet d.owner s) _ done does (inl (ap (λ o. is_number (seated_in o) s) here ∙ seat))
-  acts_met action.DropHandle last here does seat = moved (λ (d : Did). IsMet d.owner s) _ done does (inl (ap (λ o. is_number (seated_in o) s) here ∙ seat))
-  acts_met _ None here does seat = absurd cc
-  acts_met _ (Some session) here does seat = absurd cc
+module _ (owner : Owner) (s : ℕ) (poll : OwnerMachine ℕ) (session : Session) (here : owner.session ≡ Some session) (seat : is_number session.pipe.job_seat s ≡ true) where
+  -- what it takes from the seat is the note that it has to deliver
+  noted : (after : OwnerMachine ℕ) (note : Option JobNumber) → note ≡ session.pipe.job_seat → is_number (note_at (goes_on after note)) s ≡ true
+  noted after note same = ap (λ o. is_number o s) (noted_on after note ∙ same) ∙ seat
+
+  stays : is_number (seated_in owner.session) s ≡ true
+  stays = ap (λ o. is_number (seated_in o) s) here ∙ seat
+
+  drains : (met : Met (List ℕ × Option JobNumber)) (n : ℕ) → drained n session ≡ met → IsMet (drain_did met poll session owner).owner s
+  drains (Served got) n found = inr (noted _ got.1 (drained_seat _ session.pipe.items session.pipe.is_job_open session.pipe.job_seat got found))
+  drains Waiting n found = inl seat
+  drains Closed n found = inl stays
+
+  receives : (met : Met (ℕ × Option JobNumber)) → received session ≡ met → IsMet (receive_did met poll session owner).owner s
+  receives (Served got) found = inr (noted _ got.1 (first_item session.pipe.items session.pipe.is_job_open session.pipe.job_seat got found).1)
+  receives Waiting found = inl seat
+  receives Closed found = inl stays
+
+  fills : (bytes : List ℕ) (met : Met (ℕ × Option JobNumber)) → filled (length bytes) session ≡ met → IsMet (fill_did bytes met poll session owner).owner s
+  fills bytes (Served went) found = inr (noted _ went.1 (filled_seat (length bytes) (room session.pipe) session.pipe.is_job_open session.pipe.job_seat went found))
+  fills bytes Waiting found = inl seat
+  fills bytes Closed found = inl stays
 
 pub did_met : (owner : Owner) (s : ℕ) (done : Did) → did owner ≡ Some done → IsMet owner s → IsMet done.owner s
-did_met owner s done does met = by owner.stage does met
+did_met owner s done does met = did_holds (λ (d : Did). IsMet d.owner s) owner (λ poll at. each poll (seat_at_poll poll owner.session s (subst (λ here. MetAt here owner.session s) at met))) done does
   where
-    by : (here : OwnerStage) → did_by here owner ≡ Some done → MetAt here owner.session s → IsMet done.owner s
-    by (stage.Polls poll) does met = acts_met owner s done poll (owner_next poll) owner.session refl does (seat_at_poll poll owner.session s met)
-    by _ does met = absurd cc
+    each : (poll : OwnerMachine ℕ) → is_number (seated_in owner.session) s ≡ true → OfEach (λ (d : Did). IsMet d.owner s) owner poll
+    each poll seat = record {
+      replies = λ told. inl seat;
+      drops = inl seat;
+      closes = λ session here. inr (noted owner s poll session here (there session here) _ session.pipe.job_seat refl);
+      drains = λ most session here goes. drains owner s poll session here (there session here) (drained (reach most session) session) (reach most session) refl;
+      receives = λ session here. receives owner s poll session here (there session here) (received session) refl;
+      fills = λ bytes session here. fills owner s poll session here (there session here) bytes (filled (length bytes) session) refl;
+      looks = λ act at session new here look number pipe. inl (ap (λ (p : Pipe ℕ (Unit {0})). is_number p.job_seat s) pipe ∙ there session here);
+    }
+      where
+        there : (session : Session) → owner.session ≡ Some session → is_number session.pipe.job_seat s ≡ true
+        there session here = sym (ap (λ o. is_number (seated_in o) s) here) ∙ seat
 
 -- ---- its job
 
@@ -168,23 +123,11 @@ abbrev pub SeatsSo : Session → Act → Option JobNumber → Type 0
 SeatsSo session act seat = ((act ≡ JobParked → ⊥) × (seat ≡ session.pipe.job_seat)) ⊎ (seat ≡ Some session.number)
 
 seats_after : (job : SessionJob) (session : Session) (act : SessionAct) → Fits act job session → SeatsSo session (seen act) (after act session).pipe.job_seat
-seats_after job session (FindsRoom (Served n)) fits = inl (λ parks. cc, refl)
 seats_after job session (FindsRoom Waiting) fits = inr refl
-seats_after job session (FindsRoom Closed) fits = inl (λ parks. cc, refl)
-seats_after job session (Puts piece (Served seat)) fits = inl (λ parks. cc, refl)
 seats_after job session (Puts piece Waiting) fits = absurd (fits refl)
-seats_after job session (Puts piece Closed) fits = inl (λ parks. cc, refl)
-seats_after job session (Sends x (Served seat)) fits = inl (λ parks. cc, refl)
 seats_after job session (Sends x Waiting) fits = inr refl
-seats_after job session (Sends x Closed) fits = inl (λ parks. cc, refl)
-seats_after job session (Peeks (Served piece)) fits = inl (λ parks. cc, refl)
 seats_after job session (Peeks Waiting) fits = inr refl
-seats_after job session (Peeks Closed) fits = inl (λ parks. cc, refl)
-seats_after job session (TakesOut n waker) fits = inl (λ parks. cc, refl)
-seats_after job session (Closes waker) fits = inl (λ parks. cc, refl)
-seats_after job session (Finishes why waker) fits = inl (λ parks. cc, refl)
-seats_after job session (Leaves place why waker) fits = inl (λ parks. cc, refl)
-seats_after job session (PutsResult n waker) fits = inl (λ parks. cc, refl)
+seats_after job session _ fits = inl (λ parks. cc, refl)
 
 -- the seat is empty, or that of the last session's job
 abbrev pub SeatAs : Bool → Option Session → Type 0

@@ -1,51 +1,26 @@
 -- What the job of a session does that is its own to do: it calls the waker that it took, or acts at the session. The other files go by these few
 -- acts, whatever kind of job it is.
-use Rattle.std.proofs.Common.{◌≡◌, ◌⊎◌, inl, inr, ◌≤◌, ℕ, List, [], ◌∷◌, length, Bool, true, false, refl, sym, ap, ◌∙◌, subst, arith, Option, Some, None, if◌then◌else◌}
-use Rattle.std.specs.Prelude.{nat_le, min, take, ◌&&◌, not}
+use Rattle.std.proofs.Common.{◌≡◌, ◌⊎◌, inl, inr, ◌≤◌, ℕ, List, [], ◌∷◌, length, Bool, true, false, refl, sym, ap, ◌∙◌, subst, arith, Option, Some, None, if◌then◌else◌, nat_le, min, take, ◌&&◌, not}
 use Rattle.std.proofs.lemmas.List.{length-take}
-use Rattle.blocking_core.specs.Pipes.{room}
-use Rattle.blocking_core.specs.Places.{Met, Served, Waiting, Closed, hand_in, peek}
-use Rattle.blocking_core.specs.Reading.{read_next}
-use Rattle.blocking_core.specs.Writing.{write_next}
-use Rattle.blocking_core.specs.declared.io.Fault.{Fault}
-use Rattle.blocking_core.specs.Items.{item_next}
-use Rattle.blocking_core.specs.declared.job.item.ItemAction.{ItemAction}
+use Rattle.blocking_parts.proofs.Types.{Fault, ItemAction, OperationAction, ReadAction, SeekAction, WriteAction, Act, Finished, HolderWoken, JobClosed, JobParked, ResultPut, TakenOut, SessionJob}
+use Rattle.blocking_parts.proofs.Words.{item_next, operation_next, room, Met, Served, Waiting, peek, read_next, seek_next, after_put, write_next, FindRoom, Peek, SendItem, waker_in, is_of_pool, is_nothing, is_answered, may_act, Owner, number_of, Worked, worked_by, calls_waker, read_in, read_as, write_in, write_as, stream_in, stream_as, seek_in, seek_as, operate_in, operate_as, worked, Goods, OfBytes, OfItems, through, Session, found_room, session_after_room, found_put, session_after_put, fits_in, closing_wakes, finish_wakes, session_after_job_close, session_after_finish, front, found_piece, session_after_peek, holds, session_after_consume, Work, work_at_put, work_by, work_of_consume, writer_works, found_send, session_after_send, streamer_works, result_wakes, bytes_of, is_first}
+use Rattle.blocking_core.specs.Places.{hand_in}
 use Rattle.blocking_core.specs.declared.job.item.ItemAction.TheVariants as item
-use Rattle.blocking_core.specs.declared.job.read.ReadAction.{ReadAction}
-use Rattle.blocking_core.specs.declared.job.read.ReadAction.TheVariants as read
-use Rattle.blocking_core.specs.declared.job.write.WriteAction.{WriteAction}
-use Rattle.blocking_core.specs.declared.job.write.WriteAction.TheVariants as write
-use Rattle.blocking_core.specs.Seeks.{seek_next}
-use Rattle.blocking_core.specs.declared.job.seek.SeekAction.{SeekAction}
-use Rattle.blocking_core.specs.declared.job.seek.SeekAction.TheVariants as seek
-use Rattle.blocking_core.specs.Operations.{operation_next}
-use Rattle.blocking_core.specs.Slots.{after_put}
-use Rattle.blocking_core.specs.declared.job.operation.OperationAction.{OperationAction}
 use Rattle.blocking_core.specs.declared.job.operation.OperationAction.TheVariants as operation
-use Rattle.blocking_crew.specs.Crews.{may_act}
+use Rattle.blocking_core.specs.declared.job.read.ReadAction.TheVariants as read
+use Rattle.blocking_core.specs.declared.job.seek.SeekAction.TheVariants as seek
+use Rattle.blocking_core.specs.declared.job.write.WriteAction.TheVariants as write
+use Rattle.blocking_laws.specs.Places.{seen_peek, seen_put, seen_room}
+use Rattle.blocking_laws.specs.declared.event.HolderWaker.{HolderWaker}
 use Rattle.blocking_crew.specs.declared.hand.Stage.TheVariants as stage
-use Rattle.blocking_lanes.specs.Owners.{Owner, Worked, number_of, read_as, read_in, stream_as, stream_in, worked, worked_by, write_as, write_in, seek_as, seek_in, operate_as, operate_in}
-use Rattle.blocking_lanes.specs.Passages.{Goods, OfBytes, OfItems, through}
+use Rattle.blocking_lanes.specs.Operations as operations
 use Rattle.blocking_lanes.specs.Reads as reads
+use Rattle.blocking_lanes.specs.Seeks as seeks
 use Rattle.blocking_lanes.specs.SessionJobs.{action_of, kind_of}
-use Rattle.blocking_lanes.specs.Sessions.{Session, Work, closing_wakes, finish_wakes, fits_in, found_piece, found_put, found_room, found_send, front, holds, session_after_consume, session_after_finish, session_after_job_close, session_after_peek, session_after_put, session_after_room, session_after_send, result_wakes, streamer_works, work_at_put, work_by, work_of_consume, writer_works}
 use Rattle.blocking_lanes.specs.Streams as streams
 use Rattle.blocking_lanes.specs.Writes as writes
-use Rattle.blocking_lanes.specs.Seeks as seeks
-use Rattle.blocking_lanes.specs.Operations as operations
-use Rattle.blocking_lanes.specs.declared.job.SessionJob.{SessionJob}
 use Rattle.blocking_lanes.specs.declared.job.SessionJob.TheVariants as job_of
 use Rattle.blocking_lanes.proofs.owners.Goods.{through_some}
-use Rattle.blocking_laws.specs.JobTable.{FindRoom, SendItem, Peek}
-use Rattle.blocking_laws.specs.Places.{seen_peek, seen_put, seen_room}
-use Rattle.blocking_laws.specs.Seats.{waker_in}
-use Rattle.blocking_laws.specs.Seen.{is_nothing, is_of_pool}
-use Rattle.blocking_laws.specs.Steps.{is_answered}
-use Rattle.blocking_laws.specs.declared.event.Act.{Act}
-use Rattle.blocking_laws.specs.declared.event.Act.TheVariants.{Finished, HolderWoken, JobClosed, JobParked, ResultPut, Taken}
-use Rattle.blocking_laws.specs.declared.event.HolderWaker.{HolderWaker}
-use Rattle.blocking_parts.specs.Carried.{bytes_of}
-use Rattle.blocking_parts.specs.Rows.{is_first}
 
 -- An act of a job at its session, by what it finds there.
 pub data SessionAct : Type 0 where
@@ -65,7 +40,7 @@ seen (FindsRoom met) = seen_room met
 seen (Puts piece met) = seen_put (length piece) met
 seen (Sends x met) = seen_put 1 met
 seen (Peeks met) = seen_peek met
-seen (TakesOut n waker) = Taken n waker
+seen (TakesOut n waker) = TakenOut n waker
 seen (Closes waker) = JobClosed waker
 seen (Finishes why waker) = Finished waker
 seen (Leaves place why waker) = Finished waker
@@ -127,157 +102,98 @@ works_anyhow J of wanted there work owner done does = by (through wanted there w
     by None is does = absurd cc
     by (Some some) is does = ap (λ o. worked_by of o owner) (through_some wanted there work some is).1 ∙ does
 
--- the acts of a job that reads
-read_at : (a : ReadAction) (p : reads.Progress) (owner : Owner) (done : Worked) → read_next p.core ≡ a → (s : Session) → owner.session ≡ Some s → worked_by job_of.Read (work_by a p s) owner ≡ Some done
-    → ActsAt (job_of.Read p) owner done
-read_at read.FindRoom p owner done is s here does =
-    moved (ActsAt (job_of.Read p) owner) _ done does (record { session = s; here = here; act = FindsRoom (found_room s); fits = ap (reads.action_as p.piece) is; act_is = refl; owner_is = refl; kind_is = refl })
-read_at (read.Put count) p owner done is s here does = by (fits_in p.piece s) refl does
-  where
-    by : (b : Bool) → fits_in p.piece s ≡ b → worked_by job_of.Read (if b then Some (work_at_put (found_put p.piece s) p s) else None) owner ≡ Some done → ActsAt (job_of.Read p) owner done
-    by true fits does =
-        moved (ActsAt (job_of.Read p) owner) _ done does
-        (record {
-          session = s;
-          here = here;
-          act = Puts p.piece (found_put p.piece s);
-          fits = never_waits (length p.piece) (room s.pipe) s.pipe.is_owner_open s.pipe.owner_seat fits;
-          act_is = refl;
-          owner_is = refl;
-          kind_is = refl;
-        })
-    by false fits does = absurd cc
-read_at read.Close p owner done is s here does =
-    moved (ActsAt (job_of.Read p) owner) _ done does (record { session = s; here = here; act = Closes (waker_in (closing_wakes s)); fits = tt; act_is = refl; owner_is = refl; kind_is = refl })
-read_at read.Finish p owner done is s here does =
-    moved (ActsAt (job_of.Read p) owner) _ done does (record { session = s; here = here; act = Finishes p.fault (waker_in (finish_wakes p.fault s)); fits = tt; act_is = refl; owner_is = refl; kind_is = refl })
-read_at (read.Read most) p owner done is s here does = absurd cc
-read_at read.Deliver p owner done is s here does = absurd cc
-read_at read.Done p owner done is s here does = absurd cc
+-- what becomes of a job that acts so
+abbrev acting : SessionJob → Owner → Session → SessionAct → Worked
+acting job owner s act = record { act = seen act; job = job; owner = record owner { session = Some (after act s) } }
 
-read_does : (a : ReadAction) (p : reads.Progress) (owner : Owner) (done : Worked) → read_next p.core ≡ a → read_as a p owner ≡ Some done → DoesSo (job_of.Read p) owner done
-read_does a p owner done is does = by a is does
-  where
-    there : (a : ReadAction) → read_next p.core ≡ a → (last : Option Session) → owner.session ≡ last → read_in a last p owner ≡ Some done → DoesSo (job_of.Read p) owner done
-    there a is None here does = absurd cc
-    there a is (Some s) here does = inr (read_at a p owner done is s here (works_anyhow reads.Progress job_of.Read OfBytes s.goods (work_by a p s) owner done does))
+module _ (owner : Owner) (done : Worked) where
+  acts : (job new : SessionJob) (s : Session) (act : SessionAct) → owner.session ≡ Some s → Fits act job s → Some (acting new owner s act) ≡ Some done → kind_of new ≡ kind_of job → ActsAt job owner done
+  acts job new s act here fits does kind = moved (ActsAt job owner) _ done does (record { session = s; here = here; act = act; fits = fits; act_is = refl; owner_is = refl; kind_is = kind })
 
-    by : (a : ReadAction) → read_next p.core ≡ a → read_as a p owner ≡ Some done → DoesSo (job_of.Read p) owner done
-    by read.Deliver is does = inl (moved (Wakes (job_of.Read p) owner) _ done does (refl, refl, refl))
-    by read.FindRoom is does = there read.FindRoom is owner.session refl does
-    by (read.Put count) is does = there (read.Put count) is owner.session refl does
-    by read.Close is does = there read.Close is owner.session refl does
-    by read.Finish is does = there read.Finish is owner.session refl does
-    by (read.Read most) is does = there (read.Read most) is owner.session refl does
-    by read.Done is does = there read.Done is owner.session refl does
+  wakes : (job new : SessionJob) → calls_waker new owner ≡ Some done → kind_of new ≡ kind_of job → DoesSo job owner done
+  wakes job new does kind = inl (moved (Wakes job owner) _ done does (refl, refl, kind))
 
--- the acts of a job that writes
-write_at : (a : WriteAction) (p : writes.Progress) (owner : Owner) (done : Worked) → write_next p.core ≡ a → (s : Session) → owner.session ≡ Some s → worked_by job_of.Write (writer_works a p s) owner ≡ Some done
-    → ActsAt (job_of.Write p) owner done
-write_at write.Peek p owner done is s here does =
-    moved (ActsAt (job_of.Write p) owner) _ done does (record { session = s; here = here; act = Peeks (found_piece s); fits = (ap (writes.action_as p.piece) is, refl); act_is = refl; owner_is = refl; kind_is = refl })
-write_at (write.Consume count) p owner done is s here does = by (holds count s) does
-  where
-    by : (b : Bool) → worked_by job_of.Write (if b then Some (work_of_consume count p s) else None) owner ≡ Some done → ActsAt (job_of.Write p) owner done
-    by true does =
-        moved (ActsAt (job_of.Write p) owner) _ done does (record { session = s; here = here; act = TakesOut count (waker_in (closing_wakes s)); fits = tt; act_is = refl; owner_is = refl; kind_is = refl })
-    by false does = absurd cc
-write_at write.Close p owner done is s here does =
-    moved (ActsAt (job_of.Write p) owner) _ done does (record { session = s; here = here; act = Closes (waker_in (closing_wakes s)); fits = tt; act_is = refl; owner_is = refl; kind_is = refl })
-write_at write.Finish p owner done is s here does =
-    moved (ActsAt (job_of.Write p) owner) _ done does
-    (record { session = s; here = here; act = Finishes (writes.fault_of p.core) (waker_in (finish_wakes (writes.fault_of p.core) s)); fits = tt; act_is = refl; owner_is = refl; kind_is = refl })
-write_at (write.Write count) p owner done is s here does = absurd cc
-write_at write.Flush p owner done is s here does = absurd cc
-write_at write.Deliver p owner done is s here does = absurd cc
-write_at write.Done p owner done is s here does = absurd cc
+  -- with no session nothing is done
+  at_last : (job : SessionJob) (works : Option Session → Option Worked) → works None ≡ None → ((s : Session) → owner.session ≡ Some s → works (Some s) ≡ Some done → ActsAt job owner done)
+      → works owner.session ≡ Some done → DoesSo job owner done
+  at_last job works none at does = by owner.session refl does
+    where
+      by : (last : Option Session) → owner.session ≡ last → works last ≡ Some done → DoesSo job owner done
+      by None here does = absurd cc
+      by (Some s) here does = inr (at s here does)
 
-write_does : (a : WriteAction) (p : writes.Progress) (owner : Owner) (done : Worked) → write_next p.core ≡ a → write_as a p owner ≡ Some done → DoesSo (job_of.Write p) owner done
-write_does a p owner done is does = by a is does
-  where
-    there : (a : WriteAction) → write_next p.core ≡ a → (last : Option Session) → owner.session ≡ last → write_in a last p owner ≡ Some done → DoesSo (job_of.Write p) owner done
-    there a is None here does = absurd cc
-    there a is (Some s) here does = inr (write_at a p owner done is s here (works_anyhow writes.Progress job_of.Write OfBytes s.goods (writer_works a p s) owner done does))
+  -- a job that reads
+  read_at : (a : ReadAction) (p : reads.Progress) → read_next p.core ≡ a → (s : Session) → owner.session ≡ Some s → worked_by job_of.Read (work_by a p s) owner ≡ Some done → ActsAt (job_of.Read p) owner done
+  read_at read.FindRoom p is s here does = acts (job_of.Read p) _ s (FindsRoom (found_room s)) here (ap (reads.action_as p.piece) is) does refl
+  read_at (read.Put count) p is s here does = by (fits_in p.piece s) refl does
+    where
+      by : (b : Bool) → fits_in p.piece s ≡ b → worked_by job_of.Read (if b then Some (work_at_put (found_put p.piece s) p s) else None) owner ≡ Some done → ActsAt (job_of.Read p) owner done
+      by true fits does = acts (job_of.Read p) _ s (Puts p.piece (found_put p.piece s)) here (never_waits (length p.piece) (room s.pipe) s.pipe.is_owner_open s.pipe.owner_seat fits) does refl
+      by false fits does = absurd cc
+  read_at read.Close p is s here does = acts (job_of.Read p) _ s (Closes (waker_in (closing_wakes s))) here tt does refl
+  read_at read.Finish p is s here does = acts (job_of.Read p) _ s (Finishes p.fault (waker_in (finish_wakes p.fault s))) here tt does refl
+  read_at _ p is s here does = absurd cc
 
-    by : (a : WriteAction) → write_next p.core ≡ a → write_as a p owner ≡ Some done → DoesSo (job_of.Write p) owner done
-    by write.Deliver is does = inl (moved (Wakes (job_of.Write p) owner) _ done does (refl, refl, refl))
-    by write.Peek is does = there write.Peek is owner.session refl does
-    by (write.Write count) is does = there (write.Write count) is owner.session refl does
-    by (write.Consume count) is does = there (write.Consume count) is owner.session refl does
-    by write.Flush is does = there write.Flush is owner.session refl does
-    by write.Close is does = there write.Close is owner.session refl does
-    by write.Finish is does = there write.Finish is owner.session refl does
-    by write.Done is does = there write.Done is owner.session refl does
+  read_does : (a : ReadAction) (p : reads.Progress) → read_next p.core ≡ a → read_as a p owner ≡ Some done → DoesSo (job_of.Read p) owner done
+  read_does read.Deliver p is does = wakes (job_of.Read p) _ does refl
+  read_does a p is does =
+      at_last (job_of.Read p) (λ last. read_in a last p owner) refl (λ s here does. read_at a p is s here (works_anyhow reads.Progress job_of.Read OfBytes s.goods (work_by a p s) owner done does)) does
 
--- the acts of a job that runs an iterator
-stream_at : (a : ItemAction) (p : streams.Progress) (owner : Owner) (done : Worked) → item_next p.core ≡ a → (s : Session) → owner.session ≡ Some s → worked_by job_of.Items (streamer_works a p s) owner ≡ Some done
-    → ActsAt (job_of.Items p) owner done
-stream_at item.Send p owner done is s here does =
-    moved (ActsAt (job_of.Items p) owner) _ done does (record { session = s; here = here; act = Sends p.item (found_send s); fits = ap (streams.action_as p.item) is; act_is = refl; owner_is = refl; kind_is = refl })
-stream_at item.Close p owner done is s here does =
-    moved (ActsAt (job_of.Items p) owner) _ done does (record { session = s; here = here; act = Closes (waker_in (closing_wakes s)); fits = tt; act_is = refl; owner_is = refl; kind_is = refl })
-stream_at item.Finish p owner done is s here does =
-    moved (ActsAt (job_of.Items p) owner) _ done does (record { session = s; here = here; act = Finishes None (waker_in (finish_wakes None s)); fits = tt; act_is = refl; owner_is = refl; kind_is = refl })
-stream_at item.Next p owner done is s here does = absurd cc
-stream_at item.Deliver p owner done is s here does = absurd cc
-stream_at item.Done p owner done is s here does = absurd cc
+  -- a job that writes
+  write_at : (a : WriteAction) (p : writes.Progress) → write_next p.core ≡ a → (s : Session) → owner.session ≡ Some s → worked_by job_of.Write (writer_works a p s) owner ≡ Some done
+      → ActsAt (job_of.Write p) owner done
+  write_at write.Peek p is s here does = acts (job_of.Write p) _ s (Peeks (found_piece s)) here (ap (writes.action_as p.piece) is, refl) does refl
+  write_at (write.Consume count) p is s here does = by (holds count s) does
+    where
+      by : (b : Bool) → worked_by job_of.Write (if b then Some (work_of_consume count p s) else None) owner ≡ Some done → ActsAt (job_of.Write p) owner done
+      by true does = acts (job_of.Write p) _ s (TakesOut count (waker_in (closing_wakes s))) here tt does refl
+      by false does = absurd cc
+  write_at write.Close p is s here does = acts (job_of.Write p) _ s (Closes (waker_in (closing_wakes s))) here tt does refl
+  write_at write.Finish p is s here does = acts (job_of.Write p) _ s (Finishes (writes.fault_of p.core) (waker_in (finish_wakes (writes.fault_of p.core) s))) here tt does refl
+  write_at _ p is s here does = absurd cc
 
-stream_does : (a : ItemAction) (p : streams.Progress) (owner : Owner) (done : Worked) → item_next p.core ≡ a → stream_as a p owner ≡ Some done → DoesSo (job_of.Items p) owner done
-stream_does a p owner done is does = by a is does
-  where
-    there : (a : ItemAction) → item_next p.core ≡ a → (last : Option Session) → owner.session ≡ last → stream_in a last p owner ≡ Some done → DoesSo (job_of.Items p) owner done
-    there a is None here does = absurd cc
-    there a is (Some s) here does = inr (stream_at a p owner done is s here (works_anyhow streams.Progress job_of.Items OfItems s.goods (streamer_works a p s) owner done does))
+  write_does : (a : WriteAction) (p : writes.Progress) → write_next p.core ≡ a → write_as a p owner ≡ Some done → DoesSo (job_of.Write p) owner done
+  write_does write.Deliver p is does = wakes (job_of.Write p) _ does refl
+  write_does a p is does =
+      at_last (job_of.Write p) (λ last. write_in a last p owner) refl (λ s here does. write_at a p is s here (works_anyhow writes.Progress job_of.Write OfBytes s.goods (writer_works a p s) owner done does)) does
 
-    by : (a : ItemAction) → item_next p.core ≡ a → stream_as a p owner ≡ Some done → DoesSo (job_of.Items p) owner done
-    by item.Deliver is does = inl (moved (Wakes (job_of.Items p) owner) _ done does (refl, refl, refl))
-    by item.Next is does = there item.Next is owner.session refl does
-    by item.Send is does = there item.Send is owner.session refl does
-    by item.Close is does = there item.Close is owner.session refl does
-    by item.Finish is does = there item.Finish is owner.session refl does
-    by item.Done is does = there item.Done is owner.session refl does
+  -- a job that runs an iterator
+  stream_at : (a : ItemAction) (p : streams.Progress) → item_next p.core ≡ a → (s : Session) → owner.session ≡ Some s → worked_by job_of.Items (streamer_works a p s) owner ≡ Some done → ActsAt (job_of.Items p) owner done
+  stream_at item.Send p is s here does = acts (job_of.Items p) _ s (Sends p.item (found_send s)) here (ap (streams.action_as p.item) is) does refl
+  stream_at item.Close p is s here does = acts (job_of.Items p) _ s (Closes (waker_in (closing_wakes s))) here tt does refl
+  stream_at item.Finish p is s here does = acts (job_of.Items p) _ s (Finishes None (waker_in (finish_wakes None s))) here tt does refl
+  stream_at _ p is s here does = absurd cc
 
--- the acts of a job that seeks
-seek_at : (a : SeekAction) (p : seeks.Progress) (owner : Owner) (done : Worked) (last : Option Session) → owner.session ≡ last → seek_in a last p owner ≡ Some done → DoesSo (job_of.Seek p) owner done
-seek_at a p owner done None here does = absurd cc
-seek_at seek.Finish p owner done (Some s) here does =
-    inr (moved (ActsAt (job_of.Seek p) owner) _ done does (record { session = s; here = here; act = Leaves p.place p.fault (waker_in (finish_wakes p.fault s)); fits = tt; act_is = refl; owner_is = refl; kind_is = refl }))
-seek_at seek.Seek p owner done (Some s) here does = absurd cc
-seek_at seek.Deliver p owner done (Some s) here does = absurd cc
-seek_at seek.Done p owner done (Some s) here does = absurd cc
+  stream_does : (a : ItemAction) (p : streams.Progress) → item_next p.core ≡ a → stream_as a p owner ≡ Some done → DoesSo (job_of.Items p) owner done
+  stream_does item.Deliver p is does = wakes (job_of.Items p) _ does refl
+  stream_does a p is does =
+      at_last (job_of.Items p) (λ last. stream_in a last p owner) refl (λ s here does. stream_at a p is s here (works_anyhow streams.Progress job_of.Items OfItems s.goods (streamer_works a p s) owner done does)) does
 
-seek_does : (a : SeekAction) (p : seeks.Progress) (owner : Owner) (done : Worked) → seek_as a p owner ≡ Some done → DoesSo (job_of.Seek p) owner done
-seek_does seek.Deliver p owner done does = inl (moved (Wakes (job_of.Seek p) owner) _ done does (refl, refl, refl))
-seek_does seek.Seek p owner done does = seek_at seek.Seek p owner done owner.session refl does
-seek_does seek.Finish p owner done does = seek_at seek.Finish p owner done owner.session refl does
-seek_does seek.Done p owner done does = seek_at seek.Done p owner done owner.session refl does
+  -- a job that seeks
+  seek_at : (a : SeekAction) (p : seeks.Progress) (s : Session) → owner.session ≡ Some s → seek_in a (Some s) p owner ≡ Some done → ActsAt (job_of.Seek p) owner done
+  seek_at seek.Finish p s here does = acts (job_of.Seek p) _ s (Leaves p.place p.fault (waker_in (finish_wakes p.fault s))) here tt does refl
+  seek_at _ p s here does = absurd cc
 
--- the acts of a job that runs an operation
-operate_at : (a : OperationAction) (p : operations.Progress) (owner : Owner) (done : Worked) (last : Option Session) → owner.session ≡ last → operate_in a last p owner ≡ Some done → DoesSo (job_of.Operate p) owner done
-operate_at a p owner done None here does = absurd cc
-operate_at operation.PutResult p owner done (Some s) here does =
-    inr
-    (moved (ActsAt (job_of.Operate p) owner) _ done does
-    (record { session = s; here = here; act = PutsResult p.number (waker_in (result_wakes p.number s)); fits = tt; act_is = refl; owner_is = refl; kind_is = refl }))
-operate_at operation.Finish p owner done (Some s) here does =
-    inr (moved (ActsAt (job_of.Operate p) owner) _ done does (record { session = s; here = here; act = Finishes None (waker_in (finish_wakes None s)); fits = tt; act_is = refl; owner_is = refl; kind_is = refl }))
-operate_at operation.Call p owner done (Some s) here does = absurd cc
-operate_at operation.Deliver p owner done (Some s) here does = absurd cc
-operate_at operation.Done p owner done (Some s) here does = absurd cc
+  seek_does : (a : SeekAction) (p : seeks.Progress) → seek_as a p owner ≡ Some done → DoesSo (job_of.Seek p) owner done
+  seek_does seek.Deliver p does = wakes (job_of.Seek p) _ does refl
+  seek_does a p does = at_last (job_of.Seek p) (λ last. seek_in a last p owner) refl (seek_at a p) does
 
-operate_does : (a : OperationAction) (p : operations.Progress) (owner : Owner) (done : Worked) → operate_as a p owner ≡ Some done → DoesSo (job_of.Operate p) owner done
-operate_does operation.Deliver p owner done does = inl (moved (Wakes (job_of.Operate p) owner) _ done does (refl, refl, refl))
-operate_does operation.Call p owner done does = operate_at operation.Call p owner done owner.session refl does
-operate_does operation.PutResult p owner done does = operate_at operation.PutResult p owner done owner.session refl does
-operate_does operation.Finish p owner done does = operate_at operation.Finish p owner done owner.session refl does
-operate_does operation.Done p owner done does = operate_at operation.Done p owner done owner.session refl does
+  -- a job that runs an operation
+  operate_at : (a : OperationAction) (p : operations.Progress) (s : Session) → owner.session ≡ Some s → operate_in a (Some s) p owner ≡ Some done → ActsAt (job_of.Operate p) owner done
+  operate_at operation.PutResult p s here does = acts (job_of.Operate p) _ s (PutsResult p.number (waker_in (result_wakes p.number s))) here tt does refl
+  operate_at operation.Finish p s here does = acts (job_of.Operate p) _ s (Finishes None (waker_in (finish_wakes None s))) here tt does refl
+  operate_at _ p s here does = absurd cc
+
+  operate_does : (a : OperationAction) (p : operations.Progress) → operate_as a p owner ≡ Some done → DoesSo (job_of.Operate p) owner done
+  operate_does operation.Deliver p does = wakes (job_of.Operate p) _ does refl
+  operate_does a p does = at_last (job_of.Operate p) (λ last. operate_in a last p owner) refl (operate_at a p) does
 
 pub worked_so : (job : SessionJob) (owner : Owner) (done : Worked) → worked job owner ≡ Some done → DoesSo job owner done
-worked_so (job_of.Read p) owner done does = read_does (read_next p.core) p owner done refl does
-worked_so (job_of.Write p) owner done does = write_does (write_next p.core) p owner done refl does
-worked_so (job_of.Seek p) owner done does = seek_does (seek_next p.core) p owner done does
-worked_so (job_of.Operate p) owner done does = operate_does (operation_next p.core) p owner done does
-worked_so (job_of.Items p) owner done does = stream_does (item_next p.core) p owner done refl does
+worked_so (job_of.Read p) owner done does = read_does owner done (read_next p.core) p refl does
+worked_so (job_of.Write p) owner done does = write_does owner done (write_next p.core) p refl does
+worked_so (job_of.Seek p) owner done does = seek_does owner done (seek_next p.core) p does
+worked_so (job_of.Operate p) owner done does = operate_does owner done (operation_next p.core) p does
+worked_so (job_of.Items p) owner done does = stream_does owner done (item_next p.core) p refl does
 
 -- ---- what each act is
 
@@ -285,15 +201,9 @@ worked_so (job_of.Items p) owner done does = stream_does (item_next p.core) p ow
 pub parks_first : (job : SessionJob) (s : Session) (act : SessionAct) → Fits act job s → seen act ≡ JobParked → is_first (action_of job) ≡ true
 parks_first job s (FindsRoom met) fits parks = ap is_first fits
 parks_first job s (Puts piece Waiting) fits parks = absurd (fits refl)
-parks_first job s (Puts piece (Served seat)) fits parks = absurd cc
-parks_first job s (Puts piece Closed) fits parks = absurd cc
 parks_first job s (Sends x met) fits parks = ap is_first fits
 parks_first job s (Peeks met) fits parks = ap is_first fits.0
-parks_first job s (TakesOut n waker) fits parks = absurd cc
-parks_first job s (Closes waker) fits parks = absurd cc
-parks_first job s (Finishes why waker) fits parks = absurd cc
-parks_first job s (Leaves place why waker) fits parks = absurd cc
-parks_first job s (PutsResult n waker) fits parks = absurd cc
+parks_first job s _ fits parks = absurd cc
 
 pub first_where_parked : (job : SessionJob) (owner : Owner) (done : Worked) → worked job owner ≡ Some done → done.act ≡ JobParked → is_first (action_of job) ≡ true
 first_where_parked job owner done does parks = by (worked_so job owner done does)
@@ -304,23 +214,7 @@ first_where_parked job owner done does parks = by (worked_so job owner done does
 
 -- the session stays that of its job
 pub same_number : (act : SessionAct) (s : Session) → (after act s).number ≡ s.number
-same_number (FindsRoom (Served n)) s = refl
-same_number (FindsRoom Waiting) s = refl
-same_number (FindsRoom Closed) s = refl
-same_number (Puts piece (Served seat)) s = refl
-same_number (Puts piece Waiting) s = refl
-same_number (Puts piece Closed) s = refl
-same_number (Sends x (Served seat)) s = refl
-same_number (Sends x Waiting) s = refl
-same_number (Sends x Closed) s = refl
-same_number (Peeks (Served piece)) s = refl
-same_number (Peeks Waiting) s = refl
-same_number (Peeks Closed) s = refl
-same_number (TakesOut n waker) s = refl
-same_number (Closes waker) s = refl
-same_number (Finishes why waker) s = refl
-same_number (Leaves place why waker) s = refl
-same_number (PutsResult n waker) s = refl
+same_number act s = grind arith
 
 pub number_worked : (job : SessionJob) (owner : Owner) (done : Worked) → worked job owner ≡ Some done → number_of done.owner ≡ number_of owner
 number_worked job owner done does = by (worked_so job owner done does)
@@ -339,46 +233,14 @@ same_kind job owner done does = by (worked_so job owner done does)
 
 -- it is done while the job's turn goes on
 pub fits_turn : (act : SessionAct) → may_act stage.Runs (seen act) ≡ true
-fits_turn (FindsRoom (Served n)) = refl
-fits_turn (FindsRoom Waiting) = refl
-fits_turn (FindsRoom Closed) = refl
-fits_turn (Puts piece (Served seat)) = refl
-fits_turn (Puts piece Waiting) = refl
-fits_turn (Puts piece Closed) = refl
-fits_turn (Sends x (Served seat)) = refl
-fits_turn (Sends x Waiting) = refl
-fits_turn (Sends x Closed) = refl
-fits_turn (Peeks (Served piece)) = refl
-fits_turn (Peeks Waiting) = refl
-fits_turn (Peeks Closed) = refl
-fits_turn (TakesOut n waker) = refl
-fits_turn (Closes waker) = refl
-fits_turn (Finishes why waker) = refl
-fits_turn (Leaves place why waker) = refl
-fits_turn (PutsResult n waker) = refl
+fits_turn act = grind arith
 
 -- whether something was done that neither the pool decides nor anyone answers from outside
 abbrev pub is_own : Act → Bool
 is_own act = not (is_of_pool act) && not (is_nothing act) && not (is_answered act)
 
 pub own_at : (act : SessionAct) → is_own (seen act) ≡ true
-own_at (FindsRoom (Served n)) = refl
-own_at (FindsRoom Waiting) = refl
-own_at (FindsRoom Closed) = refl
-own_at (Puts piece (Served seat)) = refl
-own_at (Puts piece Waiting) = refl
-own_at (Puts piece Closed) = refl
-own_at (Sends x (Served seat)) = refl
-own_at (Sends x Waiting) = refl
-own_at (Sends x Closed) = refl
-own_at (Peeks (Served piece)) = refl
-own_at (Peeks Waiting) = refl
-own_at (Peeks Closed) = refl
-own_at (TakesOut n waker) = refl
-own_at (Closes waker) = refl
-own_at (Finishes why waker) = refl
-own_at (Leaves place why waker) = refl
-own_at (PutsResult n waker) = refl
+own_at act = grind arith
 
 -- it carries no more than is found at the front of the pipe
 front_found : (items : List ℕ) (is_open : Bool) (found : List ℕ) → peek 65536 items is_open ≡ Served found → length found ≤ min (length items) 65536
@@ -391,19 +253,7 @@ front_found (x ∷ xs) is_open found is =
 
 pub carried_at : (job : SessionJob) (s : Session) (act : SessionAct) → Fits act job s → length (bytes_of (seen act)) ≤ front s
 carried_at job s (FindsRoom (Served n)) fits = omega arith
-carried_at job s (FindsRoom Waiting) fits = omega arith
-carried_at job s (FindsRoom Closed) fits = omega arith
 carried_at job s (Puts piece (Served seat)) fits = omega arith
-carried_at job s (Puts piece Waiting) fits = omega arith
-carried_at job s (Puts piece Closed) fits = omega arith
 carried_at job s (Sends x (Served seat)) fits = omega arith
-carried_at job s (Sends x Waiting) fits = omega arith
-carried_at job s (Sends x Closed) fits = omega arith
 carried_at job s (Peeks (Served piece)) fits = front_found s.pipe.items s.pipe.is_owner_open piece fits.1
-carried_at job s (Peeks Waiting) fits = omega arith
-carried_at job s (Peeks Closed) fits = omega arith
-carried_at job s (TakesOut n waker) fits = omega arith
-carried_at job s (Closes waker) fits = omega arith
-carried_at job s (Finishes why waker) fits = omega arith
-carried_at job s (Leaves place why waker) fits = omega arith
-carried_at job s (PutsResult n waker) fits = omega arith
+carried_at job s _ fits = omega arith

@@ -1,34 +1,15 @@
 -- What each step makes of the parts is a move.
-use Rattle.std.proofs.Common.{◌≡◌, ◌⊎◌, ⊎_elim, ℕ, ◌<◌, ◌++◌, List, [], ◌∷◌, length, Bool, true, false, refl, sym, ap, ◌∙◌, subst, if◌then◌else◌, Option, Some, None}
-use Rattle.std.specs.Prelude.{slice_index_or, slice_get, slice_set, is_ok, is_some, Result, Ok, Err, IfOk}
-use Rattle.std.proofs.lemmas.Option.{slice_get_within, slice_get_read}
-use Rattle.blocking_crew.specs.Crews.{Crew}
+use Rattle.std.proofs.Common.{◌≡◌, ◌⊎◌, ⊎_elim, ℕ, ◌<◌, ◌++◌, List, [], ◌∷◌, length, Bool, true, false, refl, sym, ap, ◌∙◌, subst, if◌then◌else◌, Option, Some, None, slice_index_or, slice_get, slice_set, is_ok, is_some, Result, Ok, Err, IfOk}
+use Rattle.std.proofs.lemmas.Option.{slice_get_read}
+use Rattle.blocking_parts.proofs.Types.{Refusal, Act, Asked, HolderDropped, Made, Event, ByOwner, Pool, ByTask, HandleCall, Step, Ask, DropOwner, New, OfTask, Own, Spawn, Stray, Strike, TaskCall, Cancel, Detach, Drop, Poll, Row}
+use Rattle.blocking_parts.proofs.Words.{Narrows, JobNumber, named, Crew, next_start, nothing, NeverAsked, Owner, new_owner, number_of, note_at, next_of, owner_after_ask, Did, did, IsDid, new_job_of, owner_after_delivery, owner_after_drop, Task, task_act, task_after_call, Move, Idles, Makes, Asks, Owns, Lends, Delivers, IsDropped, Begins, Calls, Passes, IsWoken, IsStruck, step_by, task_call, rows_after_add, tasks_after_add, lent_step, may_call_in, rests_in, may_ask_in, may_own, may_own_in, has_action_in, is_pass, IsDue, CrewMoves, Moves, Parts, row_of, let_go_of, call_row, session_row}
 use Rattle.blocking_crew.specs.Moves as crew
-use Rattle.blocking_crew.specs.Moves.{NeverAsked, next_start, nothing}
-use Rattle.blocking_crew.proofs.ties.Starts.{may_more}
 use Rattle.blocking_lanes.specs.OwnerSteps as owners_steps
-use Rattle.blocking_lanes.specs.Owners.{Owner, Did, IsDid, did, new_job_of, new_owner, next_of, note_at, number_of, owner_after_ask, owner_after_delivery, owner_after_drop}
 use Rattle.blocking_lanes.specs.declared.owner.OwnerNext.TheVariants as next
-use Rattle.blocking_lanes.specs.Tasks.{Task, task_act, task_after_call}
 use Rattle.blocking_pool.proofs.Places.{set_same}
+use Rattle.blocking_crew.proofs.ties.Starts.{may_more}
 use Rattle.blocking_lanes.proofs.acts.Calls.{call_number}
-use Rattle.blocking_laws.specs.Steps.{named}
-use Rattle.blocking_laws.specs.declared.event.Act.{Act}
-use Rattle.blocking_laws.specs.declared.event.Act.TheVariants.{Made, Asked, HolderDropped}
-use Rattle.blocking_laws.specs.declared.event.Event.{Event}
-use Rattle.blocking_laws.specs.declared.event.Party.TheVariants.{Owner as ByOwner, Task as ByTask, Pool}
-use Rattle.blocking_laws.specs.declared.step.HandleCall.{HandleCall}
-use Rattle.blocking_laws.specs.declared.step.Step.{Step}
-use Rattle.blocking_laws.specs.declared.step.Step.TheVariants.{New, Ask, Own, DropOwner, Spawn, OfTask, Stray, Strike}
-use Rattle.blocking_laws.specs.declared.step.TaskCall.{TaskCall}
-use Rattle.blocking_laws.specs.declared.step.TaskCall.TheVariants.{Poll, Cancel, Detach, Drop}
-use Rattle.blocking_pool.specs.Growth.{Narrows}
-use Rattle.blocking_pool.specs.Jobs.{JobNumber}
-use Rattle.blocking_pool.specs.declared.pool.answer.Refusal.{Refusal}
-use Rattle.blocking_parts.specs.Moves.{Move, Idles, Makes, Asks, Owns, Lends, Delivers, IsDropped, Begins, Calls, Works, IsAnswered, Parks, Passes, IsWoken, IsStruck, Moves, CrewMoves, may_ask_in, rests_in, may_own, may_own_in, lent_step, has_action_in, is_pass, IsDue, may_call_in, rows_after_add, tasks_after_add, step_by, task_call}
-use Rattle.blocking_parts.specs.Rows.{call_row, session_row}
-use Rattle.blocking_parts.specs.Parts.{Parts, row_of, let_go_of}
-use Rattle.blocking_parts.specs.declared.row.Row.{Row}
+use Rattle.blocking_parts.proofs.moves.Lookups.{within_by}
 
 -- ---- the crew alone, or nobody
 
@@ -59,35 +40,14 @@ moves_more wide narrow less step w e new m =
 
     more : (move : Move) → CrewMoves narrow move w e new → CrewMoves wide move w e new
     more (Idles s) does = does
-    more (Makes capacity) does = called _ does
-    more (Asks h call owner) does = called _ does
-    more (Owns h owner done) does = called _ does
-    more (Lends h owner added) does = called _ does
-    more (Delivers h owner number) does = called _ does
-    more (IsDropped h owner) does = called _ does
-    more (Begins added) does = called _ does
-    more (Calls k call task) does = called _ does
-    more (Works v job done) does = called _ does
-    more (IsAnswered v job answer) does = called _ does
-    more (Parks v job) does = called _ does
-    more (Passes call) does = called _ does
-    more (IsWoken s row) does = called _ does
-    more (IsStruck s row) does = called _ does
+    more _ does = called _ does
 
 -- ---- calls of a task
-
--- a task that may be called is there, and is the one that was found there
-called_there : (o : Option Task) (call : TaskCall) → may_call_in o call ≡ true → (task : Task) × (o ≡ Some task)
-called_there None call is = absurd cc
-called_there (Some task) call is = (task, refl)
-
-pub called_within : (tasks : List Task) (k : ℕ) (call : TaskCall) → may_call_in (slice_get tasks k) call ≡ true → k < length tasks
-called_within tasks k call is = let task = called_there (slice_get tasks k) call is in slice_get_within tasks k task.0 task.1
 
 called_moves : (w : Parts) (k : ℕ) (call : TaskCall) (old left : Task) (e : Event) (new : Crew) → may_call_in (slice_get w.tasks k) call ≡ true → old ≡ slice_index_or w.tasks k old → left ≡ task_after_call call old
     → crew.Moves NeverAsked (task_call k call old) w.crew e new → Moves NeverAsked (OfTask k call) w e (record w { crew = new; tasks = slice_set w.tasks k left })
 called_moves w k call old left e new may value left_is does =
-    let found = slice_get_read w.tasks (length w.tasks) k old refl (called_within w.tasks k call may) value in
+    let found = slice_get_read w.tasks (length w.tasks) k old refl (within_by (λ o. may_call_in o call) refl w.tasks k may) value in
     record { move = Calls k call old; step_is = refl; may = (found, sym (ap (λ o. may_call_in o call) found) ∙ may); crew = does; rows_are = refl; tasks_are = ap (slice_set w.tasks k) left_is; owners_are = refl }
 
 -- by this call it lets go of its job, or doesn't
@@ -100,10 +60,9 @@ let_go_moves w k call old left act number e new which may value acts left_is num
     (subst (λ (c : crew.Call). crew.Moves NeverAsked c w.crew e new) (ap (λ a. crew.LetGo (ByTask k) a (Some number)) acts ∙ ap (λ n. crew.LetGo (ByTask k) (task_act call old) (Some n)) one ∙ by call which) does)
   where
     by : (call : TaskCall) → (call ≡ Cancel) ⊎ (call ≡ Drop) → crew.LetGo (ByTask k) (task_act call old) (Some old.number) ≡ task_call k call old
-    by Cancel which = refl
-    by Drop which = refl
     by Poll which = absurd (⊎_elim (λ is. cc) (λ is. cc) which)
     by Detach which = absurd (⊎_elim (λ is. cc) (λ is. cc) which)
+    by _ which = refl
 
 pub tell_moves : (w : Parts) (k : ℕ) (call : TaskCall) (old left : Task) (act : Act) (e : Event) → (call ≡ Poll) ⊎ (call ≡ Detach) → may_call_in (slice_get w.tasks k) call ≡ true
     → old ≡ slice_index_or w.tasks k old → act ≡ task_act call old → left ≡ task_after_call call old → crew.Moves NeverAsked (crew.Tell (ByTask k) act) w.crew e w.crew
@@ -112,10 +71,9 @@ tell_moves w k call old left act e which may value acts left_is does =
     called_moves w k call old left e w.crew may value left_is (subst (λ (c : crew.Call). crew.Moves NeverAsked c w.crew e w.crew) (ap (crew.Tell (ByTask k)) acts ∙ by call which) does)
   where
     by : (call : TaskCall) → (call ≡ Poll) ⊎ (call ≡ Detach) → crew.Tell (ByTask k) (task_act call old) ≡ task_call k call old
-    by Poll which = refl
-    by Detach which = refl
     by Cancel which = absurd (⊎_elim (λ is. cc) (λ is. cc) which)
     by Drop which = absurd (⊎_elim (λ is. cc) (λ is. cc) which)
+    by _ which = refl
 
 -- ---- new calls
 
@@ -133,21 +91,6 @@ put_last r old between new x same ok is = is ∙ ap (λ b. if b then between ++ 
 pub found_at : (owners : List Owner) (h : ℕ) (old : Owner) → h < length owners → old ≡ slice_index_or owners h old → slice_get owners h ≡ Some old
 found_at owners h old within value = slice_get_read owners (length owners) h old refl within value
 
-resting : (o : Option Owner) → rests_in o ≡ true → (owner : Owner) × (o ≡ Some owner)
-resting None is = absurd cc
-resting (Some owner) is = (owner, refl)
-
-pub resting_within : (owners : List Owner) (h : ℕ) → rests_in (slice_get owners h) ≡ true → h < length owners
-resting_within owners h is = let owner = resting (slice_get owners h) is in slice_get_within owners h owner.0 owner.1
-
--- so is one that may be asked there
-pub asked_within : (owners : List Owner) (h : ℕ) (call : HandleCall) → may_ask_in (slice_get owners h) call ≡ true → h < length owners
-asked_within owners h call may = by (slice_get owners h) refl may
-  where
-    by : (o : Option Owner) → slice_get owners h ≡ o → may_ask_in o call ≡ true → h < length owners
-    by None found may = absurd cc
-    by (Some owner) found may = slice_get_within owners h owner found
-
 pub made : (w : Parts) (capacity : ℕ) (owners : List Owner) (e : Event) → owners ≡ w.owners ++ new_owner capacity ∷ []
     → crew.Moves NeverAsked (crew.Tell (ByOwner (length w.owners)) (Made (length w.owners) capacity)) w.crew e w.crew → Moves NeverAsked (New capacity) w e (record w { owners = owners })
 made w capacity owners e is does = record { move = Makes capacity; step_is = refl; may = tt; crew = does; rows_are = refl; tasks_are = refl; owners_are = is }
@@ -155,13 +98,13 @@ made w capacity owners e is does = record { move = Makes capacity; step_is = ref
 pub asked : (w : Parts) (h : ℕ) (call : HandleCall) (old left : Owner) (e : Event) → may_ask_in (slice_get w.owners h) call ≡ true → old ≡ slice_index_or w.owners h old → left ≡ owner_after_ask call old
     → crew.Moves NeverAsked (crew.Tell (ByOwner h) (Asked call)) w.crew e w.crew → Moves NeverAsked (Ask h call) w e (record w { owners = slice_set w.owners h left })
 asked w h call old left e may value left_is does =
-    let found = found_at w.owners h old (asked_within w.owners h call may) value in
+    let found = found_at w.owners h old (within_by (λ o. may_ask_in o call) refl w.owners h may) value in
     record { move = Asks h call old; step_is = refl; may = (found, sym (ap (λ o. may_ask_in o call) found) ∙ may); crew = does; rows_are = refl; tasks_are = refl; owners_are = ap (slice_set w.owners h) left_is }
 
 pub dropped : (w : Parts) (h : ℕ) (old left : Owner) (number : Option JobNumber) (e : Event) (new : Crew) → rests_in (slice_get w.owners h) ≡ true → old ≡ slice_index_or w.owners h old → left ≡ owner_after_drop old
     → number ≡ number_of old → crew.Moves NeverAsked (crew.LetGo (ByOwner h) HolderDropped number) w.crew e new → Moves NeverAsked (DropOwner h) w e (record w { crew = new; owners = slice_set w.owners h left })
 dropped w h old left number e new rests value left_is number_is does =
-    let found = found_at w.owners h old (resting_within w.owners h rests) value in
+    let found = found_at w.owners h old (within_by rests_in refl w.owners h rests) value in
     record {
       move = IsDropped h old;
       step_is = refl;

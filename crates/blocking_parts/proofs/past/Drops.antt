@@ -1,30 +1,15 @@
 -- What the past alone says of a job that is to be dropped: it stays so, and who may cancel it still may.
-use Rattle.std.proofs.Common.{◌≡◌, ◌⊎◌, inl, inr, ℕ, ◌==◌, List, [], ◌∷◌, map, filter, cond, Bool, true, false, refl, sym, ap, ◌∙◌, Option, Some, None, if◌then◌else◌}
-use Rattle.std.specs.Prelude.{◌&&◌, ◌||◌, not}
+use Rattle.std.proofs.Common.{◌≡◌, ◌⊎◌, inl, inr, ℕ, ◌==◌, List, [], ◌∷◌, map, filter, cond, Bool, true, false, refl, sym, ap, ◌∙◌, Option, Some, if◌then◌else◌, ◌&&◌, ◌||◌, not, arith}
 use Rattle.std.proofs.lemmas.Bool.{or_right, eqb-true}
-use Rattle.blocking_laws.specs.Answers.{PoolAnswers, take_from, end_of}
-use Rattle.blocking_laws.specs.Jobs.{holder, is_holder, cancels, lets_go, has_ended, is_cancelled, is_marked, is_to_drop}
-use Rattle.blocking_laws.specs.Legal.{PoolLaw}
-use Rattle.blocking_laws.specs.Queue.{ready}
-use Rattle.blocking_laws.specs.Seen.{EachMayFollow, events, own, is_of_job, is_by_task, is_in_cut, is_some_worker}
-use Rattle.blocking_laws.specs.Sessions.{is_dropped}
-use Rattle.blocking_laws.specs.Steps.{may_cancel}
-use Rattle.blocking_laws.specs.TaskLaws.{is_let_go}
-use Rattle.blocking_laws.specs.Turns.{Turn, GoesOn, IsWaiting, MustGiveUp, HasGivenUp, turn, turn_by}
-use Rattle.blocking_laws.specs.declared.event.Act.{Act}
-use Rattle.blocking_laws.specs.declared.event.Act.TheVariants.{Took, TookDropped, HandedOut, JobParked, GaveUp, HolderDropped}
-use Rattle.blocking_laws.specs.declared.event.Event.{Event}
-use Rattle.blocking_laws.specs.declared.event.Moment.{Moment}
-use Rattle.blocking_laws.specs.declared.event.Party.{Party}
-use Rattle.blocking_laws.specs.declared.event.Party.TheVariants.{Owner, Task, Worker, Pool}
+use Rattle.blocking_parts.proofs.Types.{Act, GaveUp, HandedOut, HolderDropped, JobParked, Took, TookDropped, Event, Moment, Party, ByOwner, ByTask}
+use Rattle.blocking_parts.proofs.Words.{take_from, end_of, PoolAnswers, holder, is_holder, cancels, is_cancelled, has_ended, lets_go, is_marked, is_to_drop, PoolLaw, ready, EachMayFollow, events, is_some_worker, is_of_job, is_by_task, is_in_cut, own, is_dropped, may_cancel, is_let_go, Turn, GoesOn, IsWaiting, MustGiveUp, HasGivenUp, turn_by, turn}
 use Rattle.blocking_laws.proofs.Beginnings.{keeps}
 
 -- ---- what is to be dropped
 
 either : (a b c d : Bool) → b || d ≡ true → (a || b) || (c || d) ≡ true
-either true b c d is = refl
-either false true c d is = refl
 either false false c d is = or_right c d is
+either _ _ c d is = refl
 
 drop_stays : (past : List Moment) (now : Moment) (s : ℕ) → is_to_drop past s ≡ true → is_to_drop (now ∷ past) s ≡ true
 drop_stays past now s is = either _ (is_cancelled past s) _ (is_marked past s) is
@@ -37,8 +22,7 @@ drop_by past now s none drop = by (lets_go now.event.act) (is_holder (holder pas
     by : (a b : Bool) → lets_go now.event.act ≡ a → is_holder (holder past s) now.event.party ≡ b → is_cancelled past s || (a && b && not (has_ended past s) || is_marked past s) ≡ true
         → (is_to_drop past s ≡ true) ⊎ ((lets_go now.event.act ≡ true) × (is_holder (holder past s) now.event.party ≡ true))
     by true true lets holds drop = inr (lets, holds)
-    by true false lets holds drop = inl drop
-    by false b lets holds drop = inl drop
+    by _ _ lets holds drop = inl drop
 
 -- a job is taken to be dropped, or handed out, only where it is to be dropped
 taken_dropped : (past : List Moment) (s : ℕ) (jobs : List ℕ) → TookDropped s ≡ take_from past jobs → is_to_drop past s ≡ true
@@ -50,12 +34,7 @@ taken_dropped past s (t ∷ more) is = by (is_to_drop past t) refl is
     by false drop is = absurd cc
 
 pub handed_out : (at : Turn) (drop woken : Bool) (s : ℕ) → HandedOut s ≡ end_of at drop woken s → (at ≡ IsWaiting) × (drop ≡ true)
-handed_out IsWaiting true woken s is = (refl, refl)
-handed_out IsWaiting false true s is = absurd cc
-handed_out IsWaiting false false s is = absurd cc
-handed_out GoesOn drop woken s is = absurd cc
-handed_out MustGiveUp drop woken s is = absurd cc
-handed_out HasGivenUp drop woken s is = absurd cc
+handed_out at drop woken s is = grind arith
 
 -- a job that has to give up is to be dropped
 pub must_drop : (setting : ℕ) (plan : List Bool) (past : List Moment) → EachMayFollow (PoolLaw setting plan) past → (s : ℕ) → turn past s ≡ MustGiveUp → is_to_drop past s ≡ true
@@ -103,12 +82,10 @@ pub cancel_stays : (setting : ℕ) (plan : List Bool) (past : List Moment) (now 
 cancel_stays setting plan past now laws s may = by (holder past s) refl may
   where
     by : (who : Option Party) → holder past s ≡ who → may_cancel who past ≡ true → may_cancel (holder (now ∷ past) s) (now ∷ past) ≡ true
-    by None held is = absurd cc
-    by (Some (Task k)) held is =
-        ap (λ h. may_cancel h (now ∷ past)) (keeps setting plan past now laws s (Task k) held)
+    by (Some (ByTask k)) held is =
+        ap (λ h. may_cancel h (now ∷ past)) (keeps setting plan past now laws s (ByTask k) held)
         ∙ let_go_more (is_by_task k now.event) now.event (filter (is_by_task k) (events past)) is
-    by (Some (Owner h)) held is =
-        ap (λ o. may_cancel o (now ∷ past)) (keeps setting plan past now laws s (Owner h) held)
+    by (Some (ByOwner h)) held is =
+        ap (λ o. may_cancel o (now ∷ past)) (keeps setting plan past now laws s (ByOwner h) held)
         ∙ dropped_more (is_in_cut h now.event) now.event (filter (is_in_cut h) (events past)) is
-    by (Some (Worker v)) held is = absurd cc
-    by (Some Pool) held is = absurd cc
+    by _ held is = absurd cc

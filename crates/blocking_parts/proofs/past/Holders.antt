@@ -1,16 +1,9 @@
 -- Who holds a job: it has a holder exactly if it was accepted.
-use Rattle.std.proofs.Common.{◌≡◌, ℕ, ◌==◌, List, [], ◌∷◌, Bool, true, false, refl, sym, ap, ◌∙◌, Option, Some, None, if◌then◌else◌}
-use Rattle.std.specs.Prelude.{is_some}
+use Rattle.std.proofs.Common.{◌≡◌, ℕ, ◌==◌, List, [], ◌∷◌, Bool, true, false, refl, sym, ap, ◌∙◌, Option, Some, if◌then◌else◌, is_some}
 use Rattle.std.proofs.lemmas.Bool.{eqb-true, eqb-false}
-use Rattle.blocking_pool.specs.Lists.{is_in}
+use Rattle.blocking_parts.proofs.Types.{Act, Accepted, Moment, Party, ByOwner, ByTask}
+use Rattle.blocking_parts.proofs.Words.{is_in, accepted_by, accepted_jobs, accepts, newcomer, holder, is_holder, joined}
 use Rattle.blocking_pool.proofs.Lists.{is_in-last, is_in-push}
-use Rattle.blocking_laws.specs.Jobs.{accepted_by, accepted_jobs, accepts, holder, is_holder, newcomer}
-use Rattle.blocking_laws.specs.Seen.{joined}
-use Rattle.blocking_laws.specs.declared.event.Act.{Act}
-use Rattle.blocking_laws.specs.declared.event.Act.TheVariants.{Accepted}
-use Rattle.blocking_laws.specs.declared.event.Moment.{Moment}
-use Rattle.blocking_laws.specs.declared.event.Party.{Party}
-use Rattle.blocking_laws.specs.declared.event.Party.TheVariants.{Owner, Task, Worker, Pool}
 
 known_by : (act : Act) (s : ℕ) (jobs : List ℕ) (new : Party) (held : Option Party) → is_some held ≡ is_in s jobs → is_some (if accepts s act then Some new else held) ≡ is_in s (joined jobs (accepted_by act))
 known_by (Accepted t) s jobs new held before = by (t == s) refl
@@ -26,10 +19,6 @@ holder_known (now ∷ past) s = known_by now.event.act s (accepted_jobs past) (n
 
 -- a holder that is this party is no other
 pub holder_is : (held : Option Party) (who : Party) → is_holder held who ≡ true → held ≡ Some who
-holder_is (Some (Owner h)) (Owner g) is = ap (λ n. Some (Owner n)) (sym (eqb-true g h is))
-holder_is (Some (Task k)) (Task j) is = ap (λ n. Some (Task n)) (sym (eqb-true j k is))
-holder_is (Some (Owner h)) _ is = absurd cc
-holder_is (Some (Task k)) _ is = absurd cc
-holder_is (Some (Worker v)) who is = absurd cc
-holder_is (Some Pool) who is = absurd cc
-holder_is None who is = absurd cc
+holder_is (Some (ByOwner h)) (ByOwner g) is = ap (λ n. Some (ByOwner n)) (sym (eqb-true g h is))
+holder_is (Some (ByTask k)) (ByTask j) is = ap (λ n. Some (ByTask n)) (sym (eqb-true j k is))
+holder_is _ who is = absurd cc

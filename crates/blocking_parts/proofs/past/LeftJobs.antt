@@ -1,25 +1,9 @@
 -- When a job is left to its owner: it was so before, or has just found that it has to wait; and a wake takes it back.
-use Rattle.std.proofs.Common.{◌≡◌, ◌⊎◌, inl, inr, ℕ, ◌==◌, List, ◌∷◌, Bool, true, false, refl, sym, ap, ◌∙◌, subst, Option, Some, None, if◌then◌else◌}
-use Rattle.std.specs.Prelude.{◌&&◌, ◌||◌, not, is_some}
+use Rattle.std.proofs.Common.{◌≡◌, ◌⊎◌, inl, inr, ℕ, ◌==◌, List, ◌∷◌, Bool, true, false, refl, sym, ap, ◌∙◌, subst, Option, Some, None, if◌then◌else◌, ◌&&◌, ◌||◌, not, is_some}
 use Rattle.std.proofs.lemmas.Bool.{eqb-true, eq-eqb}
-use Rattle.blocking_laws.specs.Answers.{PoolAnswers, end_of}
-use Rattle.blocking_laws.specs.JobTable.{has_given_up}
-use Rattle.blocking_laws.specs.Jobs.{standing, stands_by, sweeps, is_parked, is_running, is_marked, is_to_drop, is_woken, woken_by}
-use Rattle.blocking_laws.specs.Legal.{PoolLaw}
-use Rattle.blocking_laws.specs.Seen.{EachMayFollow, is_of_job}
-use Rattle.blocking_laws.specs.Turns.{Turn, GoesOn, IsWaiting, MustGiveUp, HasGivenUp, HoldsOne, turn, turn_by, hand_of}
-use Rattle.blocking_laws.specs.declared.event.Act.{Act}
-use Rattle.blocking_laws.specs.declared.event.Act.TheVariants.{Accepted, JobWoken, JobCancelled, Swept, Took, TookDropped, Stays, Stopped, Ended, HandedOut, JobParked, GaveUp}
-use Rattle.blocking_laws.specs.declared.event.Moment.{Moment}
-use Rattle.blocking_laws.specs.declared.event.Party.{Party}
-use Rattle.blocking_laws.specs.declared.event.Party.TheVariants.{Worker}
+use Rattle.blocking_parts.proofs.Types.{Woke, Entered, MarkedBy, Nothing, Standing, Parked, Queued, Running, Act, Accepted, Ended, GaveUp, HandedOut, JobCancelled, JobParked, JobWoken, Stays, Stopped, Swept, Took, TookDropped, Moment, Party, Worker}
+use Rattle.blocking_parts.proofs.Words.{wake_of, end_of, PoolAnswers, has_given_up, woken_by, is_woken, is_marked, is_to_drop, sweeps, stands_by, is_running, is_parked, standing, PoolLaw, EachMayFollow, is_of_job, Turn, GoesOn, IsWaiting, MustGiveUp, HasGivenUp, turn_by, turn, hand_of, HoldsOne, PlaceAs, is_waiting_in, is_left}
 use Rattle.blocking_laws.proofs.Queues.{held_so}
-use Rattle.blocking_pool.specs.Wakes.{wake_of}
-use Rattle.blocking_pool.specs.declared.pool.answer.Woke.{Woke}
-use Rattle.blocking_pool.specs.declared.pool.answer.Woke.TheVariants.{Entered, Marked, Nothing}
-use Rattle.blocking_pool.specs.declared.pool.standing.Standing.{Standing}
-use Rattle.blocking_pool.specs.declared.pool.standing.Standing.TheVariants.{Queued, Running, Parked}
-use Rattle.blocking_parts.specs.Ties.{PlaceAs, is_left, is_waiting_in}
 
 -- ---- how it stands
 
@@ -36,7 +20,6 @@ left_stands None at woken left = absurd cc
 pub left_place : (stand : Option Standing) (at : Turn) (woken first : Bool) (acts : List Act) → left_in stand at woken ≡ true → PlaceAs stand at first acts → (first ≡ true) × (has_given_up acts ≡ false)
 left_place (Some Parked) at woken first acts left place = place
 left_place (Some Running) IsWaiting woken first acts left place = place
-left_place (Some Running) _ woken first acts left place = absurd cc
 left_place _ at woken first acts left place = absurd cc
 
 -- ---- what each act does to that
@@ -80,25 +63,20 @@ module _ (stand : Option Standing) (at : Turn) (woken : Bool) where
     where
       by : (at : Turn) (drop woken : Bool) → Ended s Parked ≡ end_of at drop woken s → left_in (Some Running) at woken ≡ true
       by IsWaiting false false is = refl
-      by IsWaiting true woken is = absurd cc
-      by IsWaiting false true is = absurd cc
-      by GoesOn drop woken is = absurd cc
-      by MustGiveUp drop woken is = absurd cc
-      by HasGivenUp drop woken is = absurd cc
+      by _ _ _ is = absurd cc
   ended_left _ drop s is left = absurd cc
 
   -- one that a wake enters again, or meets, isn't left
   woken_left : (woke : Woke) (s : ℕ) → woke ≡ wake_of stand → left_in (stands_by (JobWoken s woke) s stand) at (woken_by (JobWoken s woke) s woken) ≡ true → ⊥
   woken_left Entered s is left = let no = subst (λ b. left_in (if b then Some Queued else stand) at woken ≡ true) (eq-eqb s s refl) left in cc
-  woken_left Marked s is left = by stand is (subst (λ b. left_in stand at (b || woken) ≡ true) (eq-eqb s s refl) left)
+  woken_left MarkedBy s is left = by stand is (subst (λ b. left_in stand at (b || woken) ≡ true) (eq-eqb s s refl) left)
     where
       met : (q : Bool) → q && false ≡ true → ⊥
       met true left = cc
       met false left = cc
 
-      by : (stand : Option Standing) → Marked ≡ wake_of stand → left_in stand at true ≡ true → ⊥
+      by : (stand : Option Standing) → MarkedBy ≡ wake_of stand → left_in stand at true ≡ true → ⊥
       by (Some Running) is left = met (is_waiting_in at) left
-      by (Some Parked) is left = cc
       by _ is left = cc
   woken_left Nothing s is left = by stand is left
     where
@@ -136,22 +114,18 @@ module _ (setting : ℕ) (plan : List Bool) (past : List Moment) (now : Moment) 
       by : (act : Act) (own : Bool) → HoldsOne past now.event act → PoolAnswers setting past now act → left_after act own ≡ true → (is_left past s ≡ true) ⊎ ((act ≡ JobParked) × (own ≡ true))
       by (Accepted t) own one answers left = inl (queued_left (standing past s) (turn past s) (is_woken past s) (t == s) left)
       by (JobWoken t Entered) own one answers left = inl (queued_left (standing past s) (turn past s) (is_woken past s) (t == s) left)
-      by (JobWoken t Marked) own one answers left = inl (marked_left (standing past s) (turn past s) (is_woken past s) (t == s) left)
-      by (JobWoken t Nothing) own one answers left = inl left
+      by (JobWoken t MarkedBy) own one answers left = inl (marked_left (standing past s) (turn past s) (is_woken past s) (t == s) left)
       by (JobCancelled t Entered) own one answers left = inl (queued_left (standing past s) (turn past s) (is_woken past s) (t == s) left)
-      by (JobCancelled t Marked) own one answers left = inl left
-      by (JobCancelled t Nothing) own one answers left = inl left
       by (Took t) own one answers left = inl (taken_left (standing past s) (turn past s) (is_woken past s) (t == s) GoesOn refl left)
       by (TookDropped t) own one answers left = inl (taken_left (standing past s) (turn past s) (is_woken past s) (t == s) MustGiveUp refl left)
       by (Ended t how) own one answers left = inl (ended t how (t == s) refl one answers left)
       by (HandedOut t) own one answers left = inl (turned_left (standing past s) (turn past s) (is_woken past s) (t == s) MustGiveUp refl left)
       by (GaveUp waker) own one answers left = inl (turned_left (standing past s) (turn past s) (is_woken past s) own HasGivenUp refl left)
       by JobParked true one answers left = inr (refl, refl)
-      by JobParked false one answers left = inl left
       by (Swept n) own one answers left = inl (queued_left (standing past s) (turn past s) (is_woken past s) (true && is_parked (standing past s) && is_marked past s) left)
       by (Stays v end) own one answers left = inl (queued_left (standing past s) (turn past s) (is_woken past s) (sweeps (Stays v end) && is_parked (standing past s) && is_marked past s) left)
       by (Stopped v end) own one answers left = inl (queued_left (standing past s) (turn past s) (is_woken past s) (sweeps (Stopped v end) && is_parked (standing past s) && is_marked past s) left)
-      by _ own one answers left = inl left
+      by _ _ one answers left = inl left
 
   -- and no wake has just been delivered to it
   pub left_unwoken : is_left (now ∷ past) s ≡ true → (woke : Woke) → now.event.act ≡ JobWoken s woke → ⊥

@@ -1,21 +1,9 @@
 -- What an event leaves of the marks: whose job may be cancelled after it, and which jobs are marked, by what it owes to them.
-use Rattle.std.proofs.Common.{◌≡◌, ◌⊎◌, inl, inr, ⊎_elim, ℕ, List, ◌∷◌, map, filter, cond, Bool, true, false, refl, ap, ◌∙◌, Option, Some, None, if◌then◌else◌}
-use Rattle.std.specs.Prelude.{◌&&◌, ◌||◌, not}
+use Rattle.std.proofs.Common.{◌≡◌, ◌⊎◌, inl, inr, ⊎_elim, ℕ, List, ◌∷◌, map, filter, cond, Bool, true, false, refl, ap, ◌∙◌, Option, Some, if◌then◌else◌, ◌&&◌, ◌||◌, not}
 use Rattle.std.proofs.lemmas.Bool.{or_left, or_right, or_parts, eq-eqb}
+use Rattle.blocking_parts.proofs.Types.{Act, Accepted, HolderDropped, JobCancelled, TaskCancelled, Event, Moment, Party, ByOwner, ByTask}
+use Rattle.blocking_parts.proofs.Words.{accepts, newcomer, holder, is_holder, cancels, ends_for_good, has_ended, lets_go, is_marked, is_to_drop, PoolLaw, EachMayFollow, events, is_this, is_owner, is_task, is_some_worker, is_of_pool, is_nothing, is_by_task, acts_of_task, is_in_cut, cut, own, is_dropped, may_cancel, is_let_go, Marked}
 use Rattle.blocking_crew.proofs.ties.Acts.{is_plain, by_let_go}
-use Rattle.blocking_laws.specs.Jobs.{accepts, holder, is_holder, newcomer, cancels, lets_go, ends_for_good, has_ended, is_marked, is_to_drop}
-use Rattle.blocking_laws.specs.Legal.{PoolLaw}
-use Rattle.blocking_laws.specs.Seen.{EachMayFollow, events, own, acts_of_task, cut, is_by_task, is_in_cut, is_nothing, is_of_pool, is_owner, is_task, is_this, is_some_worker}
-use Rattle.blocking_laws.specs.Sessions.{is_dropped}
-use Rattle.blocking_laws.specs.Steps.{may_cancel}
-use Rattle.blocking_laws.specs.TaskLaws.{is_let_go}
-use Rattle.blocking_laws.specs.declared.event.Act.{Act}
-use Rattle.blocking_laws.specs.declared.event.Act.TheVariants.{Accepted, JobCancelled, HolderDropped, TaskCancelled}
-use Rattle.blocking_laws.specs.declared.event.Event.{Event}
-use Rattle.blocking_laws.specs.declared.event.Moment.{Moment}
-use Rattle.blocking_laws.specs.declared.event.Party.{Party}
-use Rattle.blocking_laws.specs.declared.event.Party.TheVariants.{Owner, Task, Worker, Pool}
-use Rattle.blocking_parts.specs.Ties.{Marked}
 use Rattle.blocking_parts.proofs.past.Drops.{drop_by, cancel_stays}
 use Rattle.blocking_parts.proofs.past.Holders.{holder_is}
 
@@ -56,27 +44,23 @@ dropped_by true h e X inside is = by (is_some_worker e.party) (is_of_pool e.act)
         → (is_dropped (own X) ≡ true) ⊎ ((lets_go e.act ≡ true) × (is_owner h e.party ≡ true))
     by true pool nothing mine party inside is = inl is
     by false false false true party inside is = ⊎_elim (λ old. inl old) (λ lets. inr (lets, party)) (dropped_act e.act (own X) is)
-    by false false false false party inside is = absurd cc
-    by false false true mine party inside is = absurd cc
-    by false true nothing mine party inside is = absurd cc
+    by false _ _ _ party inside is = absurd cc
 
 cancel_by : (past : List Moment) (now : Moment) (who : Option Party) → may_cancel who (now ∷ past) ≡ true
     → (may_cancel who past ≡ true) ⊎ ((lets_go now.event.act ≡ true) × (is_holder who now.event.party ≡ true))
-cancel_by past now (Some (Task k)) may = let_go_by (is_by_task k now.event) k now.event (filter (is_by_task k) (events past)) refl may
-cancel_by past now (Some (Owner h)) may = dropped_by (is_in_cut h now.event) h now.event (cut h (events past)) refl may
-cancel_by past now (Some (Worker v)) may = absurd cc
-cancel_by past now (Some Pool) may = absurd cc
-cancel_by past now None may = absurd cc
+cancel_by past now (Some (ByTask k)) may = let_go_by (is_by_task k now.event) k now.event (filter (is_by_task k) (events past)) refl may
+cancel_by past now (Some (ByOwner h)) may = dropped_by (is_in_cut h now.event) h now.event (cut h (events past)) refl may
+cancel_by past now _ may = absurd cc
 
 -- a task that lets go by an event may, and so may an owner that is dropped by it
-task_may : (past : List Moment) (now : Moment) (k : ℕ) → now.event.party ≡ Task k → lets_go now.event.act ≡ true → may_cancel (Some (Task k)) (now ∷ past) ≡ true
+task_may : (past : List Moment) (now : Moment) (k : ℕ) → now.event.party ≡ ByTask k → lets_go now.event.act ≡ true → may_cancel (Some (ByTask k)) (now ∷ past) ≡ true
 task_may past now k party lets =
     let something = lets_something now.event.act lets in
     let mine : is_by_task k now.event ≡ true = rw (something, party) (eq-eqb k k refl) in
     ap (λ b. is_let_go (map (λ f. f.act) (cond b (now.event ∷ filter (is_by_task k) (events past)) (filter (is_by_task k) (events past))))) mine
     ∙ or_left (lets_go now.event.act) (is_let_go (acts_of_task k (events past))) lets
 
-owner_may : (past : List Moment) (now : Moment) (h : ℕ) → now.event.party ≡ Owner h → now.event.act ≡ HolderDropped → may_cancel (Some (Owner h)) (now ∷ past) ≡ true
+owner_may : (past : List Moment) (now : Moment) (h : ℕ) → now.event.party ≡ ByOwner h → now.event.act ≡ HolderDropped → may_cancel (Some (ByOwner h)) (now ∷ past) ≡ true
 owner_may past now h party dropped =
     let same = eq-eqb h h refl in
     let mine : is_in_cut h now.event ≡ true = rw (dropped, party, same) refl in
@@ -90,7 +74,7 @@ owner_may past now h party dropped =
 -- It cancels only a job that was let go; an owner lets go only where it is dropped; and who gets a new job hasn't let go.
 pub record KeepsMarks (past : List Moment) (now : Moment) : Type 0 where
   pub cancelled : (s : ℕ) → cancels now.event.act s ≡ true → may_cancel (holder past s) past ≡ true
-  pub dropped : (h : ℕ) → now.event.party ≡ Owner h → lets_go now.event.act ≡ true → now.event.act ≡ HolderDropped
+  pub dropped : (h : ℕ) → now.event.party ≡ ByOwner h → lets_go now.event.act ≡ true → now.event.act ≡ HolderDropped
   pub new : (s : ℕ) → accepts s now.event.act ≡ true → may_cancel (Some (newcomer past now.event.party)) past ≡ false
 
 -- an act that accepts no job, cancels none and lets none go owes nothing
@@ -119,11 +103,9 @@ plain_quiet _ is = record { new = λ s. refl; cancelled = λ s. refl; kept = ref
 module _ (setting : ℕ) (plan : List Bool) (past : List Moment) (now : Moment) (laws : EachMayFollow (PoolLaw setting plan) (now ∷ past)) (m : Marked past) (k : KeepsMarks past now) where
   -- who lets go of a job by it may have it cancelled
   may_now : (who : Option Party) → lets_go now.event.act ≡ true → who ≡ Some now.event.party → is_holder who now.event.party ≡ true → may_cancel who (now ∷ past) ≡ true
-  may_now (Some (Task j)) lets same holds = let party : now.event.party ≡ Task j = cc in task_may past now j party lets
-  may_now (Some (Owner h)) lets same holds = let party : now.event.party ≡ Owner h = cc in owner_may past now h party (k.dropped h party lets)
-  may_now (Some (Worker v)) lets same holds = absurd cc
-  may_now (Some Pool) lets same holds = absurd cc
-  may_now None lets same holds = absurd cc
+  may_now (Some (ByTask j)) lets same holds = let party : now.event.party ≡ ByTask j = cc in task_may past now j party lets
+  may_now (Some (ByOwner h)) lets same holds = let party : now.event.party ≡ ByOwner h = cc in owner_may past now h party (k.dropped h party lets)
+  may_now _ lets same holds = absurd cc
 
   -- a job is to be dropped only where it was let go
   let_go_still : (s : ℕ) → is_to_drop (now ∷ past) s ≡ true → may_cancel (holder (now ∷ past) s) (now ∷ past) ≡ true

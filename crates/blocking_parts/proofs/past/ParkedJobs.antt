@@ -1,38 +1,19 @@
 -- What the past alone says of a job that is parked: it has acted, since it parks only after its own act.
-use Rattle.std.proofs.Common.{◌≡◌, ℕ, ◌==◌, List, [], ◌∷◌, Bool, true, false, refl, sym, ap, ◌∙◌, Some, if◌then◌else◌}
-use Rattle.std.specs.Prelude.{◌&&◌}
+use Rattle.std.proofs.Common.{◌≡◌, ℕ, ◌==◌, List, [], ◌∷◌, Bool, true, false, refl, sym, ap, ◌∙◌, Some, if◌then◌else◌, ◌&&◌}
 use Rattle.std.proofs.lemmas.Bool.{eqb-true}
-use Rattle.blocking_pool.specs.declared.pool.answer.Woke.TheVariants.{Entered}
-use Rattle.blocking_pool.specs.declared.pool.standing.Standing.{Standing}
-use Rattle.blocking_pool.specs.declared.pool.standing.Standing.TheVariants.{Queued, Running, Parked}
+use Rattle.blocking_parts.proofs.Types.{Entered, Standing, Parked, Queued, Running, Act, Accepted, Ended, HandedOut, JobCancelled, JobWoken, Took, TookDropped, Event, Moment}
+use Rattle.blocking_parts.proofs.Words.{end_of, PoolAnswers, is_marked, sweeps, stands_by, is_parked, standing, PoolLaw, EachMayFollow, events, is_of_job, acts_of, Turn, GoesOn, IsWaiting, MustGiveUp, turn_by, turn}
 use Rattle.blocking_lanes.proofs.cuts.Acts.{acts_more}
-use Rattle.blocking_laws.specs.Answers.{PoolAnswers, end_of}
-use Rattle.blocking_laws.specs.Jobs.{standing, stands_by, sweeps, is_parked, is_marked}
-use Rattle.blocking_laws.specs.Legal.{PoolLaw}
-use Rattle.blocking_laws.specs.Seen.{EachMayFollow, events, acts_of, is_of_job}
-use Rattle.blocking_laws.specs.Turns.{Turn, GoesOn, IsWaiting, MustGiveUp, HasGivenUp, turn, turn_by}
-use Rattle.blocking_laws.specs.declared.event.Act.{Act}
-use Rattle.blocking_laws.specs.declared.event.Act.TheVariants.{Accepted, JobWoken, JobCancelled, Took, TookDropped, Ended, HandedOut}
-use Rattle.blocking_laws.specs.declared.event.Event.{Event}
-use Rattle.blocking_laws.specs.declared.event.Moment.{Moment}
 
 -- an event that is no act of a job leaves no job waiting that didn't wait before
+turned : (b : Bool) (other before : Turn) → (other ≡ IsWaiting → ⊥) → (if b then other else before) ≡ IsWaiting → before ≡ IsWaiting
+turned true other before goes is = absurd (goes is)
+turned false other before goes is = is
+
 waited : (act : Act) (s : ℕ) (before : Turn) → turn_by act false s before ≡ IsWaiting → before ≡ IsWaiting
-waited (Took t) s before is = by (t == s) is
-  where
-    by : (b : Bool) → (if b then GoesOn else before) ≡ IsWaiting → before ≡ IsWaiting
-    by true is = absurd cc
-    by false is = is
-waited (TookDropped t) s before is = by (t == s) is
-  where
-    by : (b : Bool) → (if b then MustGiveUp else before) ≡ IsWaiting → before ≡ IsWaiting
-    by true is = absurd cc
-    by false is = is
-waited (HandedOut t) s before is = by (t == s) is
-  where
-    by : (b : Bool) → (if b then MustGiveUp else before) ≡ IsWaiting → before ≡ IsWaiting
-    by true is = absurd cc
-    by false is = is
+waited (Took t) s before is = turned (t == s) GoesOn before (λ e. cc) is
+waited (TookDropped t) s before is = turned (t == s) MustGiveUp before (λ e. cc) is
+waited (HandedOut t) s before is = turned (t == s) MustGiveUp before (λ e. cc) is
 waited _ s before is = is
 
 -- what has acted just now has acted
@@ -53,9 +34,7 @@ waits_acted (now ∷ past) s waits none = by (is_of_job s now.event) refl (waits
 -- a turn ends parked only where its job waits
 ends_parked : (at : Turn) (drop woken : Bool) (s : ℕ) → Ended s Parked ≡ end_of at drop woken s → at ≡ IsWaiting
 ends_parked IsWaiting drop woken s is = refl
-ends_parked GoesOn drop woken s is = absurd cc
-ends_parked MustGiveUp drop woken s is = absurd cc
-ends_parked HasGivenUp drop woken s is = absurd cc
+ends_parked _ drop woken s is = absurd cc
 
 -- a job that is parked has acted
 pub parked_acted : (setting : ℕ) (plan : List Bool) (past : List Moment) → EachMayFollow (PoolLaw setting plan) past → (s : ℕ) → standing past s ≡ Some Parked → acts_of s (events past) ≡ [] → ⊥

@@ -1,39 +1,9 @@
--- How a job stands where the pool takes, wakes or cancels it, by the law of the pool.
-use Rattle.std.proofs.Common.{◌≡◌, ℕ, ◌==◌, List, [], ◌∷◌, length, filter, cond, Bool, true, false, refl, sym, ap, ◌∙◌, Option, Some, None, if◌then◌else◌, suc}
+-- How a job stands where the pool takes it, by the law of the pool.
+use Rattle.std.proofs.Common.{◌≡◌, ℕ, ◌==◌, List, [], ◌∷◌, length, filter, cond, Bool, true, false, refl, sym, ap, ◌∙◌, Option, Some, if◌then◌else◌, suc}
 use Rattle.std.proofs.lemmas.Bool.{eq-eqb}
-use Rattle.blocking_pool.specs.Jobs.{one_if}
-use Rattle.blocking_pool.specs.Wakes.{wake_of, cancel_of}
-use Rattle.blocking_pool.specs.declared.pool.answer.Woke.TheVariants.{Entered}
-use Rattle.blocking_pool.specs.declared.pool.standing.Standing.{Standing}
-use Rattle.blocking_pool.specs.declared.pool.standing.Standing.TheVariants.{Queued, Running, Parked, Done, Dropped}
-use Rattle.blocking_laws.specs.Answers.{take_from}
-use Rattle.blocking_laws.specs.Jobs.{standing, is_queued, is_to_drop}
-use Rattle.blocking_laws.specs.Legal.{PoolLaw}
-use Rattle.blocking_laws.specs.Queue.{queue, times}
-use Rattle.blocking_laws.specs.Seen.{EachMayFollow}
-use Rattle.blocking_laws.specs.declared.event.Act.{Act}
-use Rattle.blocking_laws.specs.declared.event.Act.TheVariants.{Took, TookDropped}
-use Rattle.blocking_laws.specs.declared.event.Moment.{Moment}
+use Rattle.blocking_parts.proofs.Types.{Standing, Queued, Act, Took, TookDropped, Moment}
+use Rattle.blocking_parts.proofs.Words.{one_if, take_from, is_to_drop, is_queued, standing, PoolLaw, queue, times, EachMayFollow}
 use Rattle.blocking_laws.proofs.Queues.{queued_so}
-
--- a job that enters again was parked
-pub woken_parked : (stand : Option Standing) → Entered ≡ wake_of stand → stand ≡ Some Parked
-woken_parked (Some Parked) is = refl
-woken_parked None is = absurd cc
-woken_parked (Some Queued) is = absurd cc
-woken_parked (Some Running) is = absurd cc
-woken_parked (Some Done) is = absurd cc
-woken_parked (Some Dropped) is = absurd cc
-
-pub cancelled_parked : (stand : Option Standing) → Entered ≡ cancel_of stand → stand ≡ Some Parked
-cancelled_parked (Some Parked) is = refl
-cancelled_parked None is = absurd cc
-cancelled_parked (Some Queued) is = absurd cc
-cancelled_parked (Some Running) is = absurd cc
-cancelled_parked (Some Done) is = absurd cc
-cancelled_parked (Some Dropped) is = absurd cc
-
--- ---- takes
 
 -- whether an act takes this job, to be run or to be dropped
 abbrev pub Takes : Act → ℕ → Type 0
@@ -51,11 +21,7 @@ front past s (t ∷ more) takes = (more, ap (λ n. n ∷ more) (by (is_to_drop p
 
 queued_if : (stand : Option Standing) (n : ℕ) → suc n ≡ one_if (is_queued stand) → stand ≡ Some Queued
 queued_if (Some Queued) n is = refl
-queued_if None n is = absurd cc
-queued_if (Some Running) n is = absurd cc
-queued_if (Some Parked) n is = absurd cc
-queued_if (Some Done) n is = absurd cc
-queued_if (Some Dropped) n is = absurd cc
+queued_if _ n is = absurd cc
 
 -- a job that is taken was queued
 pub taken_queued : (setting : ℕ) (plan : List Bool) (past : List Moment) → EachMayFollow (PoolLaw setting plan) past → (s : ℕ) → Takes (take_from past (queue past)) s → standing past s ≡ Some Queued

@@ -1,60 +1,25 @@
 -- A job that ends for good is over: the end of a turn alone ends one so, and comes where nothing is left to do.
-use Rattle.std.proofs.Common.{◌≡◌, inl, inr, ℕ, zero, suc, List, [], ◌∷◌, Bool, true, false, refl, sym, ap, ◌∙◌, subst, Some}
-use Rattle.std.specs.Prelude.{◌||◌}
+use Rattle.std.proofs.Common.{◌≡◌, inl, inr, ℕ, List, [], ◌∷◌, Bool, true, false, refl, sym, ap, ◌∙◌, subst, Some, ◌||◌, arith}
 use Rattle.std.proofs.lemmas.Bool.{eqb-true, or_right}
-use Rattle.blocking_core.specs.declared.job.Action.{Action}
+use Rattle.blocking_parts.proofs.Types.{Action, Stay, Standing, Done, Dropped, Running, Act, Answered, Drained, Ended, Finished, GaveUp, JobClosed, Lost, Peeked, Put, ResultPut, RoomFree, RoomShut, TakenOut, Event, Moment, Answer, Holds, Held, Stage, SessionJob, Core}
+use Rattle.blocking_parts.proofs.Words.{IsPlanned, Kind, Calling, Streaming, JobAction, Over, next_after_answer, next_but_wake, wake_first, is_over, has_finished, has_given_up, ends_for_good, events, acts_of, next_in_turn, is_turn_end, GoesOn, Crew, may_end, outcome_of, standing_after, hand_at, turn_of, RanAs, has_waker, JobAs, is_pass, IsDue, Parts, call_action, is_at_first, CoreAs, PlaceAs, Tied}
 use Rattle.blocking_core.specs.declared.job.Action.TheVariants as action
-use Rattle.blocking_crew.specs.Crews.{Crew, hand_at, may_end, outcome_of, standing_after}
+use Rattle.blocking_laws.specs.JobTable.{after_put}
 use Rattle.blocking_crew.specs.Moves as crew
-use Rattle.blocking_crew.specs.Ties.{turn_of}
-use Rattle.blocking_crew.specs.declared.hand.Hand.TheVariants.{Holds}
-use Rattle.blocking_crew.specs.declared.hand.Held.{Held}
-use Rattle.blocking_crew.specs.declared.hand.Stage.{Stage}
 use Rattle.blocking_crew.specs.declared.hand.Stage.TheVariants as stage
-use Rattle.blocking_lanes.specs.Calls.{RanAs}
-use Rattle.blocking_lanes.specs.Reads.{has_waker}
-use Rattle.blocking_lanes.specs.SessionJobs.{JobAs, action_of, kind_of}
-use Rattle.blocking_lanes.specs.declared.job.SessionJob.{SessionJob}
-use Rattle.blocking_lanes.proofs.owners.OwnerActs.{last_is}
-use Rattle.blocking_laws.specs.Growth.{IsPlanned}
-use Rattle.blocking_laws.specs.JobTable.{Kind, Calling, Reading, Writing, Streaming, Seeking, Operating, JobAction, AskBytes, OfferBytes, AskFlush, AskItem, Over, after_put, next_but_wake, next_after_answer, wake_first, is_over, has_finished, has_given_up}
-use Rattle.blocking_laws.specs.Jobs.{ends_for_good}
-use Rattle.blocking_laws.specs.Seen.{events, acts_of}
-use Rattle.blocking_laws.specs.Steps.{next_in_turn, is_turn_end}
-use Rattle.blocking_laws.specs.Turns.{GoesOn}
-use Rattle.blocking_laws.specs.declared.event.Act.{Act}
-use Rattle.blocking_laws.specs.declared.event.Act.TheVariants.{RoomFree, RoomShut, Answered, Put, Lost, Peeked, Drained, Taken, JobClosed, ResultPut, Finished, GaveUp, Ended}
-use Rattle.blocking_laws.specs.declared.event.Event.{Event}
-use Rattle.blocking_laws.specs.declared.event.Moment.{Moment}
-use Rattle.blocking_laws.specs.declared.step.Answer.{Answer}
-use Rattle.blocking_laws.specs.declared.step.Answer.TheVariants.{Number, Gave, Item}
-use Rattle.blocking_pool.specs.declared.pool.answer.Waited.TheVariants.{Stay, Stop}
-use Rattle.blocking_pool.specs.declared.pool.standing.Standing.{Standing}
-use Rattle.blocking_pool.specs.declared.pool.standing.Standing.TheVariants.{Running, Done, Dropped}
-use Rattle.blocking_parts.specs.Moves.{is_pass, IsDue}
-use Rattle.blocking_parts.specs.Parts.{Parts}
-use Rattle.blocking_parts.specs.Rows.{call_action, is_at_first, next_of}
-use Rattle.blocking_parts.specs.Ties.{Tied, CoreAs, PlaceAs}
-use Rattle.blocking_parts.specs.declared.row.Core.{Core}
+use Rattle.blocking_lanes.specs.SessionJobs.{action_of, kind_of}
+use Rattle.blocking_parts.specs.Rows.{next_of}
 use Rattle.blocking_parts.specs.declared.row.Core.TheVariants as core
-use Rattle.blocking_parts.proofs.ties.Jobs.{hand_job, job_place, next_here}
+use Rattle.blocking_lanes.proofs.owners.OwnerActs.{last_is}
 use Rattle.blocking_parts.proofs.rows.Places.{IsOver}
 use Rattle.blocking_parts.proofs.rows.SessionJobs.{job_action_is, next_by}
+use Rattle.blocking_parts.proofs.ties.Jobs.{hand_job, job_place, next_here}
 
 -- ---- a job that has nothing left to do
 
 -- after an answer there is something to do
 not_answered : (before : JobAction) (answer : Answer) → next_after_answer before answer ≡ Over → ⊥
-not_answered (AskBytes n) (Gave (b ∷ bs)) is = cc
-not_answered (AskBytes n) (Gave []) is = cc
-not_answered (AskBytes n) _ is = cc
-not_answered (OfferBytes bytes) (Number (suc k)) is = cc
-not_answered (OfferBytes bytes) (Number zero) is = cc
-not_answered (OfferBytes bytes) _ is = cc
-not_answered AskFlush answer is = cc
-not_answered AskItem (Item x) is = cc
-not_answered AskItem _ is = cc
-not_answered _ answer is = cc
+not_answered before answer is = grind arith
 
 -- after a put there is more to do
 put_goes_on : (kind : Kind) → after_put kind ≡ Over → ⊥
@@ -64,11 +29,6 @@ put_goes_on _ is = cc
 -- a job that has nothing left to do by its table has put its result or given up
 table_over : (kind : Kind) (acts : List Act) → next_but_wake kind acts ≡ Over → IsOver acts
 table_over Calling [] is = absurd cc
-table_over Reading [] is = absurd cc
-table_over Writing [] is = absurd cc
-table_over Streaming [] is = absurd cc
-table_over (Seeking position) [] is = absurd cc
-table_over Operating [] is = absurd cc
 table_over kind (Finished waker ∷ past) is = refl
 table_over kind (GaveUp waker ∷ past) is = or_right (has_finished past) true refl
 table_over kind (Answered answer ∷ past) is = absurd (not_answered (next_but_wake kind past) answer is)
@@ -78,17 +38,16 @@ table_over kind (Put n waker ∷ past) is = absurd (put_goes_on kind is)
 table_over kind (Lost n ∷ past) is = absurd cc
 table_over kind (Peeked bytes ∷ past) is = absurd cc
 table_over kind (Drained ∷ past) is = absurd cc
-table_over kind (Taken n waker ∷ past) is = absurd cc
+table_over kind (TakenOut n waker ∷ past) is = absurd cc
 table_over kind (JobClosed waker ∷ past) is = absurd cc
 table_over kind (ResultPut waker ∷ past) is = absurd cc
 table_over kind (_ ∷ past) is = table_over kind past is
+table_over _ [] is = absurd cc
 
 call_over : (next : Action) (n : ℕ) (acts : List Act) → is_turn_end (next_in_turn GoesOn (call_action next)) ≡ true → RanAs next n acts → IsOver acts
 call_over action.Done n acts ends (inl is) = ap (λ a. has_finished a || has_given_up a) is
 call_over action.Done n acts ends (inr is) = ap (λ a. has_finished a || has_given_up a) is
-call_over action.Call n acts ends ran = absurd cc
-call_over action.Finish n acts ends ran = absurd cc
-call_over action.Deliver n acts ends ran = absurd cc
+call_over _ n acts ends ran = absurd cc
 
 -- a turn that goes on ends where nothing is left to do
 end_over : (next : JobAction) → is_turn_end (next_in_turn GoesOn next) ≡ true → is_over next ≡ true
@@ -111,9 +70,7 @@ over_here : (at : Stage) (c : Core) (acts : List Act) → may_end at ≡ true �
 over_here stage.Runs (core.Call k call) acts may ends far place = call_over call.next call.number acts ends (far place)
 over_here stage.Runs (core.Session h job) acts may ends far place = session_over job acts ends (far place)
 over_here stage.GaveUp c acts may ends far place = or_right (has_finished acts) (has_given_up acts) place
-over_here stage.Waits c acts may ends far place = absurd cc
-over_here stage.MustGiveUp c acts may ends far place = absurd cc
-over_here stage.MustWake c acts may ends far place = absurd cc
+over_here _ c acts may ends far place = absurd cc
 
 -- ---- what ends a job for good
 
@@ -136,9 +93,7 @@ ends_by : (may_answer : ℕ → Bool → Type 0) (crew_now : Crew) (move : crew.
 ends_by may_answer crew_now (crew.EndsTurn v held pass) may is s ends =
     record { worker = v; held = held; at = may.0; may = may.1; this = ended_this (standing_after (outcome_of held.stage)) held.turn.serial s ends; call_is = refl }
 ends_by may_answer crew_now (crew.TakesJob v old true turn ticket growth pool) may is s ends = absurd cc
-ends_by may_answer crew_now (crew.TakesJob v old false turn ticket growth pool) may is s ends = absurd cc
 ends_by may_answer crew_now (crew.HasWaited v pass end (Stay back) growth pool) may is s ends = absurd cc
-ends_by may_answer crew_now (crew.HasWaited v pass end Stop growth pool) may is s ends = absurd cc
 ends_by may_answer crew_now _ may is s ends = absurd cc
 
 -- What a call of the crew alone ends for good is over.

@@ -1,45 +1,23 @@
 -- An act of the job in a hand keeps the rows: its own row has changed, and no other.
-use Rattle.std.proofs.Common.{◌≡◌, ℕ, ◌==◌, ◌-◌, List, [], ◌∷◌, length, cond, Bool, true, false, refl, sym, ap, ◌∙◌, subst, Some, if◌then◌else◌}
-use Rattle.std.specs.Prelude.{◌&&◌, slice_set}
+use Rattle.std.proofs.Common.{◌≡◌, ℕ, ◌==◌, ◌-◌, List, [], ◌∷◌, length, cond, Bool, true, false, refl, sym, ap, ◌∙◌, subst, Some, if◌then◌else◌, ◌&&◌, slice_set}
 use Rattle.std.proofs.lemmas.Bool.{eqb-true, eqb-false, eq-eqb, ne_eqb}
 use Rattle.std.proofs.Math.ListN.{length-set}
-use Rattle.blocking_crew.specs.Crews.{hand_at, held_after_act, may_act, stage_after}
+use Rattle.blocking_parts.proofs.Types.{Queued, Running, Act, Answered, Event, Moment, ByOwner, ByTask, Worker, Answer, Step, Holds, Held, Core, Row}
+use Rattle.blocking_parts.proofs.Words.{JobNumber, IsPlanned, accepted_by, accepted_jobs, holder, ends_for_good, is_marked, sweeps, stands_by, is_parked, standing, events, joined, is_of_job, acts_of, kind_by, turn_by, turn, may_act, stage_after, hand_at, held_after_act, IsNumberOf, turn_of, CrewHolds, Works, IsAnswered, step_of, rows_after, tasks_after, owners_after, May, CrewMoves, Parts, row_of, InHand, party_of, Done, core_after_answer, RowAs, GaveAs, HasRow, Rowed, moment, Tied}
 use Rattle.blocking_crew.specs.Moves as crew
-use Rattle.blocking_crew.specs.Ties.{CrewHolds, IsNumberOf, turn_of}
-use Rattle.blocking_crew.specs.declared.hand.Hand.TheVariants.{Holds}
-use Rattle.blocking_crew.specs.declared.hand.Held.{Held}
 use Rattle.blocking_crew.proofs.hands.Rows.{at_held, hand_set}
 use Rattle.blocking_crew.proofs.ties.Standings.{held_runs}
 use Rattle.blocking_lanes.proofs.cuts.Acts.{acts_more}
 use Rattle.blocking_lanes.proofs.ties.Holders.{holder_stays}
-use Rattle.blocking_laws.specs.Growth.{IsPlanned}
-use Rattle.blocking_laws.specs.JobTable.{has_given_up}
-use Rattle.blocking_laws.specs.Jobs.{accepted_by, accepted_jobs, ends_for_good, standing, stands_by, sweeps, is_parked, is_marked, holder}
-use Rattle.blocking_laws.specs.Seen.{events, acts_of, is_of_job, joined}
-use Rattle.blocking_laws.specs.Steps.{is_answered_action}
-use Rattle.blocking_laws.specs.Turns.{turn, turn_by}
-use Rattle.blocking_laws.specs.declared.event.Act.{Act}
-use Rattle.blocking_laws.specs.declared.event.Act.TheVariants.{Answered}
-use Rattle.blocking_laws.specs.declared.event.Event.{Event}
-use Rattle.blocking_laws.specs.declared.event.Moment.{Moment}
-use Rattle.blocking_laws.specs.declared.event.Party.TheVariants.{Owner as ByOwner, Task as ByTask, Worker}
-use Rattle.blocking_laws.specs.declared.step.Answer.{Answer}
-use Rattle.blocking_pool.specs.Jobs.{JobNumber}
-use Rattle.blocking_pool.specs.declared.pool.standing.Standing.TheVariants.{Queued, Running}
-use Rattle.blocking_parts.specs.Moves.{Works, IsAnswered, May, CrewMoves, step_of, rows_after, tasks_after, owners_after}
-use Rattle.blocking_parts.specs.Parts.{Parts, InHand, row_of}
-use Rattle.blocking_parts.specs.Rows.{Done, core_after_answer, party_of, next_of, is_at_first}
-use Rattle.blocking_parts.specs.Ties.{Tied, Rowed, RowAs, HasRow, PlaceAs, GaveAs, moment}
-use Rattle.blocking_parts.specs.declared.row.Core.{Core}
-use Rattle.blocking_parts.specs.declared.row.Row.{Row}
 use Rattle.blocking_parts.proofs.moves.Lookups.{one_found, row_set}
-use Rattle.blocking_parts.proofs.rows.JobActs.{IsOwnAct, own_act, place_acted, gave_acted, Leaves, done_leaves, answer_leaves, KeepNumbers, same_numbers, done_numbers}
-use Rattle.blocking_parts.proofs.ties.Jobs.{IsHere, job_here, next_here, job_place}
-use Rattle.blocking_parts.proofs.rows.OtherEvents.{none_accepted, row_kept}
-use Rattle.blocking_parts.proofs.ties.Events.{done_fits, answer_fits}
-use Rattle.blocking_laws.specs.Steps.{kind_by}
+use Rattle.blocking_parts.proofs.rows.JobActs.{IsOwnAct, own_act, place_acted, gave_acted, Leaves, done_leaves, answer_leaves}
+use Rattle.blocking_parts.proofs.rows.KeptNumbers.{KeepNumbers, same_numbers, done_numbers}
 use Rattle.blocking_parts.proofs.rows.Kinds.{kind_stays}
+use Rattle.blocking_parts.proofs.rows.OtherEvents.{none_accepted, row_kept}
 use Rattle.blocking_parts.proofs.ties.CrewEvents.{worked}
+use Rattle.blocking_parts.proofs.ties.Events.{done_fits}
+use Rattle.blocking_parts.proofs.ties.JobSteps.{asks_here}
+use Rattle.blocking_parts.proofs.ties.Jobs.{IsHere, job_here, job_place}
 
 -- What an act of the job in the hand of worker v makes of the parts, where it leaves its row with this core.
 record IsWork (w new : Parts) (past : List Moment) (now : Moment) (v : ℕ) (job : InHand) (act : Act) (core : Core) : Type 0 where
@@ -149,51 +127,32 @@ module _ (setting : ℕ) (plan : List Bool) (w : Parts) (past : List Moment) (t 
 
 module _ (setting : ℕ) (plan : List Bool) (w : Parts) (past : List Moment) (t : Tied setting plan w past) (e : Event) (new : Parts)
     (numbers : (s : ℕ) (row : Row) → row_of w.rows s ≡ Some row → IsNumberOf new.crew.pool row.number) where
+  -- by an act of the crew that leaves the row with this core
+  rows_by : (step : Step) (v : ℕ) (job : InHand) (act : Act) (core : Core) → IsHere w v job → may_act job.held.stage act ≡ true → crew.Moves (IsPlanned plan) (crew.Work v act) w.crew e new.crew
+      → Leaves job.row.core core act (acts_of job.held.turn.serial (events past)) → new.rows ≡ slice_set w.rows (job.held.turn.serial - 1) (record job.row { core = core }) → KeepNumbers w.tasks w.owners new.tasks new.owners
+      → CrewHolds setting plan new.crew (moment new step e ∷ past) → Rowed new (moment new step e ∷ past)
+  rows_by step v job act core here fits does leaves rows keeps later =
+      let told = worked (IsPlanned plan) v job.held act w.crew new.crew e here.holds fits does in
+      rows_acted setting plan w past t new (moment new step e) v job act core
+      (record { here = here; fits = fits; party = told.0.party; job_is = told.0.job_is; act_is = told.0.act_is; hands = ap (λ c. c.hands) told.1; leaves = leaves; rows = rows; numbers = keeps }) later numbers
+
   -- a job acts by itself
   pub rows_worked : (v : ℕ) (job : InHand) (did : Done) → May w (Works v job did) → CrewMoves (IsPlanned plan) (Works v job did) w e new
       → new.rows ≡ rows_after w (Works v job did) → new.tasks ≡ tasks_after w (Works v job did) → new.owners ≡ owners_after w (Works v job did)
       → CrewHolds setting plan new.crew (moment new (step_of (Works v job did)) e ∷ past) → Rowed new (moment new (step_of (Works v job did)) e ∷ past)
-  rows_worked v job did may does rows tasks owners later =
+  rows_worked v job did may does rows tasks owners =
       let here = job_here w v job may.0 in
-      let s = job.held.turn.serial in
-      let as_row = t.rowed.each s job.row here.has_row in
-      let fits = done_fits did job.held.stage job.row.core w.tasks w.owners may.1 in
-      let told = worked (IsPlanned plan) v job.held did.act w.crew new.crew e here.holds fits does in
-      rows_acted setting plan w past t new (moment new (step_of (Works v job did)) e) v job did.act did.core
-      (record {
-        here = here;
-        fits = fits;
-        party = told.0.party;
-        job_is = told.0.job_is;
-        act_is = told.0.act_is;
-        hands = ap (λ c. c.hands) told.1;
-        leaves = done_leaves setting plan w past t job.held.stage s job.row.core did as_row.core (job_place setting plan w past t v job here) as_row.held_by may.1;
-        rows = rows;
-        numbers = rw (tasks, owners) (done_numbers job.held.stage job.row.core w.tasks w.owners did may.1);
-      }) later numbers
+      let as_row = t.rowed.each job.held.turn.serial job.row here.has_row in
+      rows_by _ v job did.act did.core here (done_fits did job.held.stage job.row.core w.tasks w.owners may.1) does
+      (done_leaves setting plan w past t job.held.stage job.held.turn.serial job.row.core did as_row.core (job_place setting plan w past t v job here) as_row.held_by may.1) rows
+      (rw (tasks, owners) (done_numbers w job.held.stage job.row.core did may.1))
 
   -- a job is answered
   pub rows_answered : (v : ℕ) (job : InHand) (answer : Answer) → May w (IsAnswered v job answer) → CrewMoves (IsPlanned plan) (IsAnswered v job answer) w e new
       → new.rows ≡ rows_after w (IsAnswered v job answer) → new.tasks ≡ tasks_after w (IsAnswered v job answer) → new.owners ≡ owners_after w (IsAnswered v job answer)
       → CrewHolds setting plan new.crew (moment new (step_of (IsAnswered v job answer)) e ∷ past) → Rowed new (moment new (step_of (IsAnswered v job answer)) e ∷ past)
-  rows_answered v job answer may does rows tasks owners later =
+  rows_answered v job answer may does rows tasks owners =
       let here = job_here w v job may.0 in
-      let s = job.held.turn.serial in
-      let as_row = t.rowed.each s job.row here.has_row in
-      let asked : is_answered_action (next_of job.held.stage job.row.core) answer ≡ true = sym (ap (λ n. is_answered_action n answer) (next_here w v job here)) ∙ may.1 in
-      let runs = answer_fits job.held.stage job.row.core answer asked in
-      let fits = ap (λ a. may_act a (Answered answer)) runs in
-      let told = worked (IsPlanned plan) v job.held (Answered answer) w.crew new.crew e here.holds fits does in
-      let going : has_given_up (acts_of s (events past)) ≡ false = subst (λ a. PlaceAs (Some Running) (turn_of a) (is_at_first job.row.core) (acts_of s (events past))) runs (job_place setting plan w past t v job here) in
-      rows_acted setting plan w past t new (moment new (step_of (IsAnswered v job answer)) e) v job (Answered answer) (core_after_answer answer job.row.core)
-      (record {
-        here = here;
-        fits = fits;
-        party = told.0.party;
-        job_is = told.0.job_is;
-        act_is = told.0.act_is;
-        hands = ap (λ c. c.hands) told.1;
-        leaves = answer_leaves job.row.core answer (acts_of s (events past)) as_row.core going (subst (λ a. is_answered_action (next_of a job.row.core) answer ≡ true) runs asked);
-        rows = rows;
-        numbers = rw (tasks, owners) (same_numbers w.tasks w.owners);
-      }) later numbers
+      let asks = asks_here setting plan w past t v job answer here may.1 in
+      rows_by _ v job (Answered answer) (core_after_answer answer job.row.core) here asks.2 does
+      (answer_leaves job.row.core answer (acts_of job.held.turn.serial (events past)) (t.rowed.each job.held.turn.serial job.row here.has_row).core asks.0 asks.1) rows (rw (tasks, owners) (same_numbers w.tasks w.owners))

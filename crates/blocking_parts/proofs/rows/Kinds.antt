@@ -1,16 +1,8 @@
 -- What kind of job it is: only its acceptance tells, so an event that doesn't accept it leaves that.
-use Rattle.std.proofs.Common.{◌≡◌, ℕ, List, ◌∷◌, Bool, true, false, refl, ap, Option, Some, None, if◌then◌else◌}
-use Rattle.std.specs.Prelude.{cond}
-use Rattle.blocking_laws.specs.Jobs.{accepts}
-use Rattle.blocking_laws.specs.Seen.{events, own, cut, acts_of_owner, is_in_cut, is_some_worker}
-use Rattle.blocking_laws.specs.Sessions.{call, kind_of, kind_of_job}
-use Rattle.blocking_laws.specs.Steps.{kind_by}
-use Rattle.blocking_laws.specs.declared.event.Act.{Act}
-use Rattle.blocking_laws.specs.declared.event.Act.TheVariants.{Accepted}
-use Rattle.blocking_laws.specs.declared.event.Event.{Event}
-use Rattle.blocking_laws.specs.declared.event.Moment.{Moment}
-use Rattle.blocking_laws.specs.declared.event.Party.{Party}
-use Rattle.blocking_laws.specs.declared.event.Party.TheVariants.{Owner as ByOwner, Task as ByTask, Worker, Pool}
+use Rattle.std.proofs.Common.{◌≡◌, ℕ, List, ◌∷◌, Bool, true, false, refl, ap, Option, Some, if◌then◌else◌, cond}
+use Rattle.blocking_parts.proofs.Types.{Act, Accepted, Event, Moment, Party, ByOwner}
+use Rattle.blocking_parts.proofs.Words.{accepts, events, is_some_worker, is_in_cut, cut, own, acts_of_owner, call, kind_of_job, kind_by}
+use Rattle.blocking_laws.specs.Sessions.{kind_of}
 
 -- by one act more
 act_leaves : (s : ℕ) (act : Act) (past : List Act) → accepts s act ≡ false → kind_of_job s (act ∷ past) ≡ kind_of_job s past
@@ -32,7 +24,4 @@ event_leaves h s e seen other = by (is_in_cut h e)
 -- by one moment more
 pub kind_stays : (who : Option Party) (past : List Moment) (now : Moment) (s : ℕ) → accepts s now.event.act ≡ false → kind_by who (now ∷ past) s ≡ kind_by who past s
 kind_stays (Some (ByOwner h)) past now s other = event_leaves h s now.event (events past) other
-kind_stays (Some (ByTask k)) past now s other = refl
-kind_stays (Some (Worker v)) past now s other = refl
-kind_stays (Some Pool) past now s other = refl
-kind_stays None past now s other = refl
+kind_stays _ past now s other = refl

@@ -1,58 +1,28 @@
 -- A new job keeps the rows: where it is accepted, it gets the next one.
-use Rattle.std.proofs.Common.{◌≡◌, ◌⊎◌, inl, inr, ⊎_elim, ℕ, ◌+◌, ◌==◌, ◌++◌, List, [], ◌∷◌, length, length-append, Bool, true, false, refl, sym, ap, ◌∙◌, subst, Some, if◌then◌else◌, suc, zero, Option, None}
-use Rattle.std.specs.Prelude.{slice_get, slice_set, Ok}
+use Rattle.std.proofs.Common.{◌≡◌, ◌⊎◌, inl, inr, ⊎_elim, ℕ, ◌+◌, ◌==◌, ◌++◌, List, [], ◌∷◌, length, length-append, Bool, true, false, refl, sym, ap, ◌∙◌, subst, Some, if◌then◌else◌, suc, Option, None, slice_get, slice_set, Ok}
 use Rattle.std.proofs.lemmas.Bool.{eqb-true, eq-eqb}
 use Rattle.std.proofs.lemmas.Option.{slice_get_within}
-use Rattle.blocking_core.specs.Pipes.{Pipe, empty_pipe}
-use Rattle.blocking_crew.specs.Crews.{hand_at}
-use Rattle.blocking_crew.specs.Moves as crew
-use Rattle.blocking_crew.specs.Ties.{CrewHolds, IsNumberOf}
-use Rattle.blocking_crew.specs.declared.hand.Hand.TheVariants.{Holds}
-use Rattle.blocking_crew.specs.declared.hand.Held.{Held}
-use Rattle.blocking_lanes.specs.OwnerSteps as owners
+use Rattle.blocking_parts.proofs.Types.{Queued, Accepted, Event, Moment, ByOwner, Pool, ByTask, HandleCall, Holds, Held, OwnerStage, Core, Row}
+use Rattle.blocking_parts.proofs.Words.{Pipe, empty_pipe, JobNumber, IsPlanned, Kind, Writing, Seeking, Operating, accepted_by, accepted_jobs, accepts, newcomer, holder, ends_for_good, standing, events, joined, is_some_worker, acts_of, cut, own, acts_of_owner, kind_of_job, kind_by, turn, hand_at, IsNumberOf, CrewHolds, BeginsBy, OwnerAs, Owner, number_of, new_job_of, capacity_asked, goods_asked, after_begin, Goods, new_job, JobAs, Session, Task, new_task, Lends, Begins, step_of, rows_after, tasks_after, owners_after, May, CrewMoves, Parts, row_of, party_of, kind_of, call_row, session_row, is_first, is_at_first, CoreAs, PlaceAs, RowAs, GaveAs, HasRow, Rowed, moment, Tied}
 use Rattle.blocking_core.specs.declared.unblock.OwnerAction.TheVariants as action
-use Rattle.blocking_lanes.specs.OwnerTies.{OwnerAs, BeginsBy}
-use Rattle.blocking_lanes.specs.Passages.{Goods}
-use Rattle.blocking_lanes.specs.Owners.{Owner, after_begin, capacity_asked, goods_asked, new_job_of, next_at, number_of}
-use Rattle.blocking_lanes.specs.SessionJobs as jobs
-use Rattle.blocking_lanes.specs.SessionJobs.{JobAs, new_job}
-use Rattle.blocking_lanes.specs.Sessions.{Session}
-use Rattle.blocking_lanes.proofs.owners.OwnerActs.{owner_by_parts, fits_at}
-use Rattle.blocking_lanes.proofs.owners.Steps.{begins_at}
-use Rattle.blocking_laws.specs.JobTable.{Kind, Reading, Writing, Streaming, Seeking, Operating}
 use Rattle.blocking_laws.specs.Sessions as sessions
-use Rattle.blocking_laws.specs.Sessions.{kind_of_job}
-use Rattle.blocking_laws.specs.Steps.{kind_by}
-use Rattle.blocking_laws.specs.declared.step.HandleCall.{HandleCall}
 use Rattle.blocking_laws.specs.declared.step.HandleCall.TheVariants as handle_call
-use Rattle.blocking_lanes.specs.Tasks.{Task, new_task}
+use Rattle.blocking_crew.specs.Moves as crew
+use Rattle.blocking_lanes.specs.OwnerSteps as owners
+use Rattle.blocking_lanes.specs.Owners.{next_at}
+use Rattle.blocking_lanes.specs.SessionJobs as jobs
 use Rattle.blocking_lanes.specs.declared.owner.OwnerNext.TheVariants as next
-use Rattle.blocking_lanes.specs.declared.owner.OwnerStage.{OwnerStage}
 use Rattle.blocking_lanes.specs.declared.owner.OwnerStage.TheVariants as stage
 use Rattle.blocking_pool.proofs.Places.{got_before, got_other, got_same, in_pushed}
 use Rattle.blocking_lanes.proofs.cuts.Acts.{acts_more}
-use Rattle.blocking_laws.specs.Growth.{IsPlanned}
-use Rattle.blocking_laws.specs.Jobs.{accepted_by, accepted_jobs, accepts, ends_for_good, holder, newcomer, standing}
-use Rattle.blocking_laws.specs.Seen.{events, acts_of, acts_of_owner, own, cut, is_some_worker, joined}
-use Rattle.blocking_laws.specs.Turns.{turn}
-use Rattle.blocking_laws.specs.declared.event.Act.TheVariants.{Accepted}
-use Rattle.blocking_laws.specs.declared.event.Event.{Event}
-use Rattle.blocking_laws.specs.declared.event.Moment.{Moment}
-use Rattle.blocking_laws.specs.declared.event.Party.TheVariants.{Owner as ByOwner, Task as ByTask, Pool}
-use Rattle.blocking_pool.specs.Jobs.{JobNumber}
-use Rattle.blocking_pool.specs.declared.pool.standing.Standing.TheVariants.{Queued}
-use Rattle.blocking_parts.specs.Moves.{Begins, Lends, May, CrewMoves, step_of, rows_after, tasks_after, owners_after}
-use Rattle.blocking_parts.specs.Parts.{Parts, row_of}
-use Rattle.blocking_parts.specs.Rows.{call_row, session_row, is_at_first, is_first, kind_of, party_of}
-use Rattle.blocking_parts.specs.Ties.{Tied, Rowed, RowAs, HasRow, CoreAs, PlaceAs, GaveAs, moment}
-use Rattle.blocking_parts.specs.declared.row.Core.{Core}
-use Rattle.blocking_parts.specs.declared.row.Row.{Row}
+use Rattle.blocking_lanes.proofs.owners.OwnerActs.{owner_by_parts, fits_at}
+use Rattle.blocking_lanes.proofs.owners.Steps.{begins_at}
 use Rattle.blocking_parts.proofs.moves.Lookups.{row_found, row_at, row_pushed}
-use Rattle.blocking_parts.proofs.ties.Hands.{IsOldOrBegins, hands_moved}
-use Rattle.blocking_parts.proofs.ties.Jobs.{next_row, next_free}
 use Rattle.blocking_parts.proofs.rows.OtherEvents.{row_kept}
-use Rattle.blocking_parts.proofs.ties.JobSteps.{seen_is}
 use Rattle.blocking_parts.proofs.ties.CrewEvents.{told, by_no_worker, added_of}
+use Rattle.blocking_parts.proofs.ties.Hands.{IsOldOrBegins, hands_moved}
+use Rattle.blocking_parts.proofs.ties.JobSteps.{seen_is}
+use Rattle.blocking_parts.proofs.ties.Jobs.{next_row, next_free}
 
 -- an older row stays
 row_stays : (rows : List Row) (new row : Row) (s : ℕ) → row_of rows s ≡ Some row → row_of (rows ++ new ∷ []) s ≡ Some row
@@ -158,25 +128,17 @@ module _ (setting : ℕ) (plan : List Bool) (w : Parts) (past : List Moment) (t 
 -- its job has done nothing yet, and is at its first action
 new_so : (kind : Kind) → JobAs (new_job kind) []
 new_so Writing = record { next = refl; offered = tt; waking = refl; fault_is = refl }
-new_so Streaming = record { next = refl; waking = refl; fault_is = refl }
-new_so Reading = record { next = refl; waking = refl; fault_is = refl }
 new_so (Seeking goal) = record { next = refl; waking = refl; fault_is = refl; place_is = refl }
 new_so Operating = record { next = refl; waking = refl; fault_is = refl; number_is = refl }
 new_so _ = record { next = refl; waking = refl; fault_is = refl }
 
 new_first : (kind : Kind) → is_first (jobs.action_of (new_job kind)) ≡ true
 new_first Writing = refl
-new_first Streaming = refl
-new_first Reading = refl
-new_first (Seeking goal) = refl
-new_first Operating = refl
 new_first _ = refl
 
 -- it is of the kind that the call asks for which begins the session
 kind_begun : (c : HandleCall) → BeginsBy c → sessions.kind_of (Some c) ≡ jobs.kind_of (new_job (sessions.kind_of (Some c)))
-kind_begun (handle_call.Read zero) begins = absurd begins
 kind_begun (handle_call.Read (suc n)) begins = refl
-kind_begun (handle_call.Write []) begins = absurd begins
 kind_begun (handle_call.Write (byte ∷ bytes)) begins = refl
 kind_begun handle_call.Next begins = refl
 kind_begun (handle_call.Seek goal) begins = refl
@@ -190,10 +152,7 @@ begins_kind bytes asked (stage.Polls poll) last cut t begins =
     let c = t.stage.0.call in
     let fits = fits_at bytes asked poll cut last action.Begin t (begins_at bytes asked poll last cut t begins) in
     ap sessions.kind_of t.stage.0.asked_is ∙ kind_begun c fits.0 ∙ ap (λ o. jobs.kind_of (new_job (sessions.kind_of o))) (sym t.stage.0.asked_is ∙ t.asked)
-begins_kind bytes asked (stage.Rests at end) last cut t begins = absurd cc
-begins_kind bytes asked (stage.Wakes poll note) last cut t begins = absurd cc
-begins_kind bytes asked stage.Dropped last cut t begins = absurd cc
-begins_kind bytes asked stage.TakenBack last cut t begins = absurd cc
+begins_kind bytes asked _ last cut t begins = absurd cc
 
 -- and that its acceptance tells
 accepted_kind : (h s n first started : ℕ) (refused : Bool) (seen : List Event) → (n == s) ≡ true
@@ -204,10 +163,7 @@ accepted_kind h s n first started refused seen is = rw (eq-eqb h h refl, is) ref
 -- where a session begins, it is that of the new job
 begins_with : (number : JobNumber) (goods : Goods) (pipe : Pipe ℕ (Unit {0})) (here : OwnerStage) (owner : Owner) → next_at here owner.session ≡ next.Begins → number_of (after_begin number goods pipe here owner) ≡ Some number
 begins_with number goods pipe (stage.Polls poll) owner is = refl
-begins_with number goods pipe (stage.Rests at end) owner is = absurd cc
-begins_with number goods pipe (stage.Wakes poll note) owner is = absurd cc
-begins_with number goods pipe stage.Dropped owner is = absurd cc
-begins_with number goods pipe stage.TakenBack owner is = absurd cc
+begins_with number goods pipe _ owner is = absurd cc
 
 module _ (setting : ℕ) (plan : List Bool) (w : Parts) (past : List Moment) (t : Tied setting plan w past) (e : Event) (new : Parts) (number : JobNumber)
     (numbers : (s : ℕ) (row : Row) → row_of w.rows s ≡ Some row → IsNumberOf new.crew.pool row.number) where

@@ -1,31 +1,12 @@
 -- What keeps the rows: an event that is no act of a job, and accepts none.
-use Rattle.std.proofs.Common.{◌≡◌, ⊎_elim, ℕ, List, [], ◌∷◌, length, Bool, true, false, refl, sym, ap, ◌∙◌, subst, Some}
-use Rattle.std.specs.Prelude.{slice_get}
-use Rattle.blocking_crew.specs.Crews.{hand_at}
-use Rattle.blocking_crew.specs.Ties.{CrewHolds, IsNumberOf}
-use Rattle.blocking_crew.specs.declared.hand.Hand.TheVariants.{Holds}
-use Rattle.blocking_crew.specs.declared.hand.Held.{Held}
-use Rattle.blocking_lanes.specs.Owners.{Owner, number_of}
-use Rattle.blocking_lanes.specs.Tasks.{Task}
+use Rattle.std.proofs.Common.{◌≡◌, ⊎_elim, ℕ, List, [], ◌∷◌, length, Bool, true, false, refl, sym, ap, ◌∙◌, subst, Some, slice_get}
+use Rattle.blocking_parts.proofs.Types.{Act, Accepted, Moment, ByOwner, ByTask, Holds, Held, Core, Row}
+use Rattle.blocking_parts.proofs.Words.{JobNumber, accepted_by, accepted_jobs, accepts, holder, ends_for_good, standing, events, joined, is_of_job, acts_of, kind_by, turn, hand_at, IsNumberOf, CrewHolds, Owner, number_of, Task, Parts, row_of, party_of, is_at_first, CoreAs, PlaceAs, RowAs, GaveAs, HasRow, Rowed, Tied}
 use Rattle.blocking_lanes.proofs.cuts.Acts.{acts_more}
 use Rattle.blocking_lanes.proofs.ties.Holders.{holder_stays}
-use Rattle.blocking_laws.specs.Jobs.{accepted_by, accepted_jobs, accepts, holder, standing, ends_for_good}
-use Rattle.blocking_laws.specs.Seen.{events, acts_of, is_of_job, joined}
-use Rattle.blocking_laws.specs.Turns.{turn}
-use Rattle.blocking_laws.specs.declared.event.Act.{Act}
-use Rattle.blocking_laws.specs.declared.event.Act.TheVariants.{Accepted}
-use Rattle.blocking_laws.specs.declared.event.Moment.{Moment}
-use Rattle.blocking_laws.specs.declared.event.Party.TheVariants.{Owner as ByOwner, Task as ByTask}
-use Rattle.blocking_pool.specs.Jobs.{JobNumber}
-use Rattle.blocking_parts.specs.Parts.{Parts, row_of}
-use Rattle.blocking_parts.specs.Rows.{is_at_first, party_of}
-use Rattle.blocking_parts.specs.Ties.{Tied, Rowed, RowAs, HasRow, CoreAs, PlaceAs, GaveAs}
-use Rattle.blocking_parts.specs.declared.row.Core.{Core}
-use Rattle.blocking_parts.specs.declared.row.Row.{Row}
-use Rattle.blocking_parts.proofs.ties.Hands.{IsOldOrBegins}
-use Rattle.blocking_laws.specs.Steps.{kind_by}
 use Rattle.blocking_parts.proofs.rows.Kinds.{kind_stays}
 use Rattle.blocking_parts.proofs.rows.Places.{IsOver, place_after}
+use Rattle.blocking_parts.proofs.ties.Hands.{IsOldOrBegins}
 
 pub none_accepted : (act : Act) (s : ℕ) → accepted_by act ≡ [] → accepts s act ≡ false
 none_accepted (Accepted t) s none = absurd cc

@@ -1,26 +1,12 @@
 -- What a job has done, by how it stands, where it is in its turn, and its core: after an event that is no act of it.
-use Rattle.std.proofs.Common.{◌≡◌, ℕ, ◌==◌, List, ◌∷◌, Bool, true, false, refl, sym, ap, ◌∙◌, subst, Option, Some, None, if◌then◌else◌}
-use Rattle.std.specs.Prelude.{◌&&◌, ◌||◌}
+use Rattle.std.proofs.Common.{◌≡◌, ℕ, ◌==◌, List, ◌∷◌, Bool, true, false, refl, sym, ap, ◌∙◌, subst, Option, Some, if◌then◌else◌, ◌&&◌, ◌||◌, arith}
 use Rattle.std.proofs.lemmas.Bool.{eqb-true}
-use Rattle.blocking_pool.specs.declared.pool.answer.Woke.TheVariants.{Entered}
-use Rattle.blocking_pool.specs.declared.pool.standing.Standing.{Standing}
-use Rattle.blocking_pool.specs.declared.pool.standing.Standing.TheVariants.{Queued, Running, Parked, Done, Dropped}
-use Rattle.blocking_laws.specs.Answers.{PoolAnswers, take_from, end_of}
-use Rattle.blocking_laws.specs.JobTable.{has_finished, has_given_up}
-use Rattle.blocking_laws.specs.Jobs.{accepts, standing, stands_by, sweeps, is_parked, is_marked, ends_for_good}
-use Rattle.blocking_laws.specs.Legal.{PoolLaw}
-use Rattle.blocking_laws.specs.Queue.{queue}
-use Rattle.blocking_laws.specs.Seen.{EachMayFollow, is_of_job}
-use Rattle.blocking_laws.specs.Turns.{Turn, GoesOn, IsWaiting, MustGiveUp, HasGivenUp, HoldsOne, hand_of, turn, turn_by}
-use Rattle.blocking_laws.specs.declared.event.Act.{Act}
-use Rattle.blocking_laws.specs.declared.event.Act.TheVariants.{Accepted, JobWoken, JobCancelled, Took, TookDropped, Ended, HandedOut}
-use Rattle.blocking_laws.specs.declared.event.Moment.{Moment}
-use Rattle.blocking_laws.specs.declared.event.Party.{Party}
-use Rattle.blocking_laws.specs.declared.event.Party.TheVariants.{Owner, Task, Worker, Pool}
+use Rattle.blocking_parts.proofs.Types.{Entered, Standing, Done, Dropped, Parked, Queued, Running, Act, Accepted, Ended, HandedOut, JobCancelled, JobWoken, Took, TookDropped, Moment, Party, Worker}
+use Rattle.blocking_parts.proofs.Words.{take_from, end_of, PoolAnswers, has_finished, has_given_up, accepts, ends_for_good, is_marked, sweeps, stands_by, is_parked, standing, PoolLaw, queue, EachMayFollow, is_of_job, Turn, GoesOn, IsWaiting, MustGiveUp, HasGivenUp, turn_by, turn, hand_of, HoldsOne, PlaceAs}
 use Rattle.blocking_laws.proofs.Queues.{same_self, held_so}
-use Rattle.blocking_parts.specs.Ties.{PlaceAs}
+use Rattle.blocking_crew.proofs.jobs.Lookups.{woken_is, cancelled_is}
 use Rattle.blocking_parts.proofs.past.Drops.{handed_out}
-use Rattle.blocking_parts.proofs.past.Standings.{Takes, woken_parked, cancelled_parked, taken_queued}
+use Rattle.blocking_parts.proofs.past.Standings.{Takes, taken_queued}
 
 -- ---- the end of a turn
 
@@ -30,37 +16,27 @@ IsOver acts = has_finished acts || has_given_up acts ≡ true
 
 ended_by : (at : Turn) (drop woken : Bool) (s : ℕ) (how : Standing) (first : Bool) (acts : List Act) → Ended s how ≡ end_of at drop woken s → (ends_for_good (Ended s how) s ≡ true → IsOver acts)
     → PlaceAs (Some Running) at first acts → PlaceAs (Some how) at first acts
-ended_by IsWaiting true woken s how first acts is over place = absurd cc
 ended_by IsWaiting false true s Queued first acts is over place = place
-ended_by IsWaiting false true s _ first acts is over place = absurd cc
 ended_by IsWaiting false false s Parked first acts is over place = place
-ended_by IsWaiting false false s _ first acts is over place = absurd cc
 ended_by GoesOn drop woken s Done first acts is over place = over (same_self s)
-ended_by GoesOn drop woken s _ first acts is over place = absurd cc
 ended_by MustGiveUp drop woken s Dropped first acts is over place = over (same_self s)
-ended_by MustGiveUp drop woken s _ first acts is over place = absurd cc
 ended_by HasGivenUp drop woken s Dropped first acts is over place = over (same_self s)
-ended_by HasGivenUp drop woken s _ first acts is over place = absurd cc
+ended_by _ _ _ s how first acts is over place = absurd cc
 
 -- the job in a party's hand runs
 hand_runs : (setting : ℕ) (plan : List Bool) (past : List Moment) → EachMayFollow (PoolLaw setting plan) past → (who : Party) (s : ℕ) → hand_of past who ≡ Some s → standing past s ≡ Some Running
 hand_runs setting plan past laws (Worker v) s is = held_so setting plan past laws v s is
-hand_runs setting plan past laws (Owner h) s is = absurd cc
-hand_runs setting plan past laws (Task k) s is = absurd cc
-hand_runs setting plan past laws Pool s is = absurd cc
+hand_runs setting plan past laws _ s is = absurd cc
 
 -- ---- a parked job is queued again
 
 -- what holds of a job that is parked holds of one that is queued, wherever it was in its turn
 parked_queued : (stand : Option Standing) (at : Turn) (first : Bool) (acts : List Act) → PlaceAs stand at first acts → is_parked stand ≡ true → (first ≡ true) × (has_given_up acts ≡ false)
 parked_queued (Some Parked) at first acts place is = place
-parked_queued None at first acts place is = absurd cc
-parked_queued (Some _) at first acts place is = absurd cc
+parked_queued _ at first acts place is = absurd cc
 
 swept_parked : (a b m : Bool) → (a && b && m) ≡ true → b ≡ true
-swept_parked true true m is = refl
-swept_parked true false m is = absurd cc
-swept_parked false b m is = absurd cc
+swept_parked a b m is = grind arith
 
 -- ---- an event that is no act of the job
 
@@ -97,9 +73,9 @@ module _ (setting : ℕ) (plan : List Bool) (past : List Moment) (laws : EachMay
   by_act : (act : Act) → now.event.act ≡ act → PoolAnswers setting past now act → HoldsOne past now.event act → accepts s act ≡ false → PlaceAs (stands_by act s (standing past s)) (turn_by act false s (turn past s)) first acts
   by_act (Accepted t) is answers one fresh = subst (λ b. PlaceAs (if b then Some Queued else standing past s) (turn past s) first acts) (sym fresh) place
   by_act (JobWoken t Entered) is answers one fresh =
-      named t Queued (λ same. stands (Some Parked) (ap (standing past) (sym same) ∙ woken_parked (standing past t) answers)) (t == s) refl
+      named t Queued (λ same. stands (Some Parked) (ap (standing past) (sym same) ∙ woken_is (standing past t) answers)) (t == s) refl
   by_act (JobCancelled t Entered) is answers one fresh =
-      named t Queued (λ same. stands (Some Parked) (ap (standing past) (sym same) ∙ cancelled_parked (standing past t) answers)) (t == s) refl
+      named t Queued (λ same. stands (Some Parked) (ap (standing past) (sym same) ∙ cancelled_is (standing past t) answers)) (t == s) refl
   by_act (Took t) is answers one fresh = taken t GoesOn (λ same. (was_queued t (subst (λ a. Takes a t) answers refl) same).1) (t == s) refl
   by_act (TookDropped t) is answers one fresh = taken t MustGiveUp (was_queued t (subst (λ a. Takes a t) answers refl)) (t == s) refl
   by_act (Ended t how) is answers one fresh =

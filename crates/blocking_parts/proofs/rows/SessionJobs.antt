@@ -1,20 +1,14 @@
 -- The job of a session, of whatever kind: what it does next, and how far it is once it was answered.
-use Rattle.std.proofs.Common.{◌≡◌, List, [], ◌∷◌, Bool, true, false, refl, sym, ap, ◌∙◌}
-use Rattle.blocking_lanes.specs.Reads.{has_waker}
-use Rattle.blocking_lanes.specs.SessionJobs.{JobAs, action_of, job_after_answer, kind_of}
-use Rattle.blocking_lanes.specs.declared.job.SessionJob.{SessionJob}
+use Rattle.std.proofs.Common.{◌≡◌, List, [], ◌∷◌, Bool, true, false, refl, sym, ap, ◌∙◌, arith}
+use Rattle.blocking_parts.proofs.Types.{Act, Answered, Answer, Number, SessionJob}
+use Rattle.blocking_parts.proofs.Words.{Kind, JobAction, next_but_wake, wake_first, next_of_job, is_answer, is_answered_action, next_in_turn, GoesOn, has_waker, job_after_answer, JobAs, is_first}
+use Rattle.blocking_lanes.specs.SessionJobs.{action_of, kind_of}
 use Rattle.blocking_lanes.specs.declared.job.SessionJob.TheVariants as job_of
+use Rattle.blocking_lanes.proofs.owners.OperationJobs as operations
 use Rattle.blocking_lanes.proofs.owners.ReadJobs as reads
+use Rattle.blocking_lanes.proofs.owners.SeekJobs as seeks
 use Rattle.blocking_lanes.proofs.owners.StreamJobs as streams
 use Rattle.blocking_lanes.proofs.owners.WriteJobs as writes
-use Rattle.blocking_lanes.proofs.owners.SeekJobs as seeks
-use Rattle.blocking_lanes.proofs.owners.OperationJobs as operations
-use Rattle.blocking_laws.specs.JobTable.{Kind, JobAction, is_answer, next_but_wake, next_of_job, wake_first}
-use Rattle.blocking_laws.specs.declared.event.Act.{Act}
-use Rattle.blocking_laws.specs.declared.event.Act.TheVariants.{Answered}
-use Rattle.blocking_laws.specs.declared.step.Answer.{Answer}
-use Rattle.blocking_laws.specs.declared.step.Answer.TheVariants.{Number, Failed}
-use Rattle.blocking_parts.specs.Rows.{is_first}
 
 -- what it does next is what the table says
 pub job_action_is : (job : SessionJob) (acts : List Act) → JobAs job acts → action_of job ≡ next_of_job (kind_of job) acts
@@ -32,15 +26,14 @@ job_answers (job_of.Seek p) acts answer r is = seeks.answers p acts answer r is
 job_answers (job_of.Operate p) acts answer r is = operations.answers p acts answer r is
 job_answers (job_of.Items p) acts answer r is = streams.answers p acts answer r is
 
+-- where its turn goes on, what it is answered is an answer to what it asks for
+pub answer_of : (next : JobAction) (answer : Answer) → is_answered_action (next_in_turn GoesOn next) answer ≡ true → is_answer next answer ≡ true
+answer_of next answer is = grind arith
+
 -- and of what kind it stays
 pub kind_answered : (job : SessionJob) (answer : Answer) → kind_of (job_after_answer job answer) ≡ kind_of job
-kind_answered (job_of.Read p) answer = refl
-kind_answered (job_of.Write p) answer = refl
 kind_answered (job_of.Seek p) (Number n) = refl
-kind_answered (job_of.Seek p) (Failed error) = refl
-kind_answered (job_of.Seek p) _ = refl
-kind_answered (job_of.Operate p) answer = refl
-kind_answered (job_of.Items p) answer = refl
+kind_answered _ _ = refl
 
 -- a job is at its first action only where no waker has to be called
 pub first_but_wake : (waking : Bool) (action : JobAction) → is_first (wake_first waking action) ≡ true → is_first action ≡ true

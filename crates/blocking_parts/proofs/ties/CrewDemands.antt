@@ -1,29 +1,13 @@
 -- What the crew asks of a move: that a number is its job's, that who lets go of a job holds it, and that a ticket bears its job's mark.
-use Rattle.std.proofs.Common.{◌≡◌, ℕ, List, Bool, true, false, refl, sym, ap, ◌∙◌, subst, Option, Some, None}
-use Rattle.std.specs.Prelude.{slice_get, IfSome}
+use Rattle.std.proofs.Common.{◌≡◌, ℕ, List, Bool, true, false, refl, sym, ap, ◌∙◌, subst, Option, Some, None, slice_get, IfSome}
 use Rattle.std.proofs.lemmas.Bool.{eqb-true, eq-eqb}
-use Rattle.blocking_crew.specs.Moves as crew
-use Rattle.blocking_crew.specs.Ties.{HoldsAtRest, IsAsked, IsNumberOf, has_ticket, is_serial_of}
-use Rattle.blocking_lanes.specs.OwnerTies.{OwnerAs, LastAs}
-use Rattle.blocking_lanes.specs.Owners.{Owner, capacity_of, number_in, number_of}
-use Rattle.blocking_lanes.specs.Sessions.{Session}
-use Rattle.blocking_lanes.specs.Tasks.{Task}
-use Rattle.blocking_parts.proofs.rows.SessionJobs.{first_of_table}
-use Rattle.blocking_laws.specs.JobTable.{Kind, Over, next_but_wake, has_given_up}
-use Rattle.blocking_laws.specs.Jobs.{holder, is_holder, standing, is_marked}
+use Rattle.blocking_parts.proofs.Types.{Standing, Parked, Queued, Act, Event, Moment, Party, ByOwner, ByTask, TaskCall, Cancel, Drop, Holds, Held, Core}
+use Rattle.blocking_parts.proofs.Words.{JobNumber, Kind, Over, next_but_wake, has_given_up, holder, is_holder, is_marked, standing, events, acts_of, cut, own, last_session, kind_of_job, kind_by, Turn, turn, IsNumberOf, has_ticket, is_serial_of, HoldsAtRest, IsAsked, LastAs, OwnerAs, Owner, capacity_of, number_in, number_of, Session, Task, Move, Delivers, IsDropped, Calls, Parks, Passes, IsWoken, IsStruck, task_call, call_of, is_pass, May, Parts, party_of, kind_of, is_first, is_at_first, CoreAs, PlaceAs, Tied}
 use Rattle.blocking_laws.specs.Passed.{is_serial}
-use Rattle.blocking_laws.specs.Seen.{events, acts_of, own, cut}
-use Rattle.blocking_laws.specs.Sessions.{kind_of_job, last_session}
-use Rattle.blocking_laws.specs.Steps.{kind_by}
-use Rattle.blocking_laws.specs.Turns.{Turn, turn}
-use Rattle.blocking_pool.specs.Jobs.{JobNumber}
-use Rattle.blocking_parts.specs.Moves.{Move, Delivers, IsDropped, Calls, Parks, Passes, IsWoken, IsStruck, May, is_pass, task_call, call_of}
-use Rattle.blocking_parts.specs.Parts.{Parts}
-use Rattle.blocking_parts.specs.Rows.{kind_of, party_of, is_first, is_at_first}
-use Rattle.blocking_parts.specs.Ties.{Tied, CoreAs, PlaceAs}
+use Rattle.blocking_crew.specs.Moves as crew
 use Rattle.blocking_parts.specs.declared.row.Core.TheVariants as core
-use Rattle.blocking_parts.proofs.Types.{Holds, Held, Act, Event, Moment, Party, ByOwner, ByTask, TaskCall, Cancel, Drop, Standing, Queued, Parked, Core}
 use Rattle.blocking_parts.proofs.past.Holders.{holder_is}
+use Rattle.blocking_parts.proofs.rows.SessionJobs.{first_of_table}
 use Rattle.blocking_parts.proofs.ties.Jobs.{job_here, held_row, task_holds, task_number, owner_holds, owner_number}
 use Rattle.blocking_parts.proofs.ties.Releases.{mark_is}
 

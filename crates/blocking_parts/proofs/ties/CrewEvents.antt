@@ -1,21 +1,10 @@
 -- What is seen of a move: by a call of the crew alone, and by the move.
-use Rattle.std.proofs.Common.{◌≡◌, ℕ, List, [], Bool, true, false, refl, sym, ap, ◌∙◌, subst, Option, Some, None}
-use Rattle.std.specs.Prelude.{◌&&◌, ◌||◌, ◌==◌, not, is_some, if◌then◌else◌, Ok}
-use Rattle.blocking_crew.specs.Crews.{Crew, hand_at, may_act, acting_in}
+use Rattle.std.proofs.Common.{◌≡◌, ℕ, List, [], Bool, true, false, refl, sym, ap, ◌∙◌, subst, Option, Some, None, ◌&&◌, ◌||◌, ◌==◌, not, is_some, if◌then◌else◌, Ok, arith}
+use Rattle.blocking_parts.proofs.Types.{Stay, Stop, Woke, Act, JobCancelled, JobWoken, Event, Party, Worker, Holds, Held, Row}
+use Rattle.blocking_parts.proofs.Words.{JobNumber, is_bare, IsPlanned, accepted_by, cancels, lets_go, is_this, is_some_worker, is_of_pool, is_nothing, is_of_job, is_by_task, is_in_cut, is_making, Crew, may_act, hand_at, acting_in, nothing, added_act, IsNumberOf, is_pass, owner_of}
 use Rattle.blocking_crew.specs.Moves as crew
-use Rattle.blocking_crew.specs.Moves.{added_act, nothing}
 use Rattle.blocking_crew.specs.Tickets.{AddsTo}
-use Rattle.blocking_crew.specs.Ties.{IsNumberOf}
 use Rattle.blocking_crew.proofs.ties.Numbers.{number_of_new}
-use Rattle.blocking_laws.specs.Bare.{is_bare}
-use Rattle.blocking_laws.specs.Growth.{IsPlanned}
-use Rattle.blocking_laws.specs.Jobs.{accepted_by, cancels, lets_go}
-use Rattle.blocking_laws.specs.Seen.{is_of_job, is_by_task, is_in_cut, is_of_pool, is_nothing, is_some_worker, is_this}
-use Rattle.blocking_laws.specs.Steps.{is_making}
-use Rattle.blocking_pool.specs.Jobs.{JobNumber}
-use Rattle.blocking_parts.specs.Moves.{is_pass}
-use Rattle.blocking_parts.specs.Parts.{owner_of}
-use Rattle.blocking_parts.proofs.Types.{Holds, Held, Act, JobWoken, JobCancelled, Event, Party, Worker, Stay, Stop, Woke, Row}
 
 -- ---- who did what
 
@@ -40,9 +29,7 @@ pub by_no_worker : (s : ℕ) (e : Event) → is_some_worker e.party ≡ false �
 by_no_worker s e none = rw none (third (not (is_of_pool e.act)) (not (is_nothing e.act)) (is_this s e.job))
   where
     third : (a b c : Bool) → (a && b && false && c) ≡ false
-    third true true c = refl
-    third true false c = refl
-    third false b c = refl
+    third a b c = grind arith
 
 -- what a worker did in a step of its job is an act of that job
 pub by_worker : (v t s : ℕ) (act : Act) (e : Event) → Told (Worker v) (Some t) act e → is_of_pool act ≡ false → is_nothing act ≡ false → is_of_job s e ≡ (t == s)

@@ -1,28 +1,19 @@
 -- What is seen of each move: whose it is, of which job, and what.
-use Rattle.std.proofs.Common.{◌≡◌, ⊎_elim, ℕ, List, length, Bool, true, false, refl, sym, ap, ◌∙◌, subst, Option, Some, None}
-use Rattle.std.specs.Prelude.{slice_get, Err}
+use Rattle.std.proofs.Common.{◌≡◌, ⊎_elim, ℕ, List, length, Bool, true, false, refl, sym, ap, ◌∙◌, subst, Option, Some, None, slice_get, Err}
 use Rattle.std.proofs.lemmas.Bool.{or_parts}
+use Rattle.blocking_parts.proofs.Types.{Action, Woke, Act, Answered, Asked, HolderDropped, JobCancelled, JobWoken, Made, NoAction, Event, ByOwner, Pool, ByTask, Worker, Answer, TaskCall, Poll, Holds, Held, Stage, Ticket, Parking, SessionJob, Core}
+use Rattle.blocking_parts.proofs.Words.{IsPlanned, is_some_worker, is_of_job, is_answered_action, named, Crew, may_act, hand_at, added_act, parked_act, Owner, Worked, worked, Task, task_act, Move, Idles, Makes, Asks, Owns, Lends, Delivers, IsDropped, Begins, Calls, Works, IsAnswered, Parks, Passes, IsWoken, IsStruck, task_call, May, CrewMoves, Parts, call_step_by, call_step, session_step, Done, call_done, session_seen, session_done, done}
 use Rattle.blocking_core.specs.declared.job.Action.TheVariants as action
-use Rattle.blocking_crew.specs.Crews.{Crew, hand_at, may_act}
 use Rattle.blocking_crew.specs.Moves as crew
-use Rattle.blocking_crew.specs.Moves.{added_act, parked_act}
 use Rattle.blocking_crew.specs.declared.hand.Stage.TheVariants as stage
 use Rattle.blocking_crew.specs.declared.tickets.Parking.TheVariants as parking
 use Rattle.blocking_lanes.specs.Calls as calls
 use Rattle.blocking_lanes.specs.OwnerSteps as owners
-use Rattle.blocking_lanes.specs.Owners.{Owner, Worked, worked}
-use Rattle.blocking_lanes.specs.Tasks.{Task, task_act}
-use Rattle.blocking_laws.specs.Growth.{IsPlanned}
-use Rattle.blocking_laws.specs.Seen.{is_of_job, is_some_worker}
-use Rattle.blocking_laws.specs.Steps.{named, is_answered_action}
-use Rattle.blocking_parts.specs.Moves.{Move, Idles, Makes, Asks, Owns, Lends, Delivers, IsDropped, Begins, Calls, Works, IsAnswered, Parks, Passes, IsWoken, IsStruck, May, CrewMoves, task_call}
-use Rattle.blocking_parts.specs.Parts.{Parts}
-use Rattle.blocking_parts.specs.Rows.{Done, done, call_done, call_step, call_step_by, session_done, session_seen, session_step, next_of}
+use Rattle.blocking_parts.specs.Rows.{next_of}
 use Rattle.blocking_parts.specs.declared.row.Core.TheVariants as core
-use Rattle.blocking_parts.proofs.Types.{Action, Holds, Held, Stage, Ticket, Parking, SessionJob, Act, Made, Asked, JobWoken, JobCancelled, HolderDropped, Answered, NoAction, Event, ByOwner, ByTask, Worker, Pool, Answer, TaskCall, Poll, Woke, Core}
 use Rattle.blocking_parts.proofs.moves.SessionActs.{fits_turn, moved, worked_so}
-use Rattle.blocking_parts.proofs.ties.Jobs.{job_here, next_here}
 use Rattle.blocking_parts.proofs.ties.CrewEvents.{Told, ToldBy, IsAlone, IsPlain, told, told_alone, worked as works_so, plain, by_no_worker}
+use Rattle.blocking_parts.proofs.ties.Jobs.{job_here, next_here}
 
 -- ---- what a job does fits its turn
 

@@ -1,11 +1,10 @@
 -- What the hands of a crew have after a call of it: what they had, or a job that begins its turn.
 use Rattle.std.proofs.Common.{◌≡◌, ◌⊎◌, inl, inr, ℕ, ◌+◌, ◌==◌, List, length, Bool, true, false, sym, ap, ◌∙◌, subst, if◌then◌else◌}
-use Rattle.blocking_crew.specs.Crews.{Crew, hand_at, with_hand}
+use Rattle.blocking_parts.proofs.Types.{Waited, Stay, Stop, Act, Event, Hand, Free, Holds, Held, Parking}
+use Rattle.blocking_parts.proofs.Words.{Crew, hand_at, with_hand, GaveAs}
 use Rattle.blocking_crew.specs.Moves as crew
 use Rattle.blocking_crew.specs.declared.tickets.Parking.TheVariants as parking
 use Rattle.blocking_crew.proofs.hands.Rows.{IsAt, at_free, at_held, hand_set, hand_pushed}
-use Rattle.blocking_parts.specs.Ties.{GaveAs}
-use Rattle.blocking_parts.proofs.Types.{Hand, Free, Holds, Held, Parking, Act, Event, Waited, Stay, Stop}
 
 -- what holds only of a hand with a job that begins its turn
 abbrev Begins : Hand → Type 0

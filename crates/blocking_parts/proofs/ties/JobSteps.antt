@@ -1,34 +1,22 @@
 -- What the job in a hand does to its task or its owner where it acts, and how that is seen.
-use Rattle.std.proofs.Common.{◌≡◌, ℕ, ◌-◌, List, [], Bool, true, false, refl, sym, ap, ◌∙◌, subst, Option, Some, None, if◌then◌else◌}
-use Rattle.std.specs.Prelude.{slice_get, slice_set}
+use Rattle.std.proofs.Common.{◌≡◌, ℕ, ◌-◌, List, [], Bool, true, false, refl, sym, ap, ◌∙◌, subst, Option, Some, None, if◌then◌else◌, slice_get, slice_set}
 use Rattle.std.proofs.lemmas.Bool.{eq-eqb}
-use Rattle.blocking_crew.specs.Crews.{may_act}
-use Rattle.blocking_crew.specs.Ties.{turn_of}
+use Rattle.blocking_parts.proofs.Types.{Running, Act, Answered, Event, Moment, Party, Answer, Stage, SessionJob, Core, Row}
+use Rattle.blocking_parts.proofs.Words.{has_given_up, holder, events, acts_of, next_in_turn, is_answered_action, may_cancel, GoesOn, may_act, turn_of, OwnerStep, Owner, TaskStep, Task, Parts, row_of, owner_by, owner_of, InHand, next_at, owner_in, action_of, is_at_first, call_step, call_after, session_step, job_after, Done, call_done, session_seen, session_done, done, PlaceAs, Tied}
 use Rattle.blocking_crew.specs.declared.hand.Stage.TheVariants as stage
 use Rattle.blocking_lanes.specs.Calls as calls
 use Rattle.blocking_lanes.specs.OwnerSteps as owners
-use Rattle.blocking_lanes.specs.OwnerSteps.{OwnerStep}
-use Rattle.blocking_lanes.specs.Owners.{Owner}
 use Rattle.blocking_lanes.specs.Steps as tasks
-use Rattle.blocking_lanes.specs.Steps.{TaskStep}
-use Rattle.blocking_lanes.specs.Tasks.{Task}
-use Rattle.blocking_lanes.proofs.owners.OwnerActs.{value_of}
-use Rattle.blocking_lanes.proofs.owners.Events.{IsPlain}
-use Rattle.blocking_laws.specs.JobTable.{has_given_up}
-use Rattle.blocking_laws.specs.Jobs.{holder}
-use Rattle.blocking_laws.specs.Seen.{events, acts_of}
-use Rattle.blocking_laws.specs.Steps.{may_cancel, is_answered_action, next_in_turn}
-use Rattle.blocking_laws.specs.Turns.{GoesOn}
-use Rattle.blocking_parts.specs.Parts.{Parts, InHand, next_at, owner_by, owner_of, row_of}
-use Rattle.blocking_parts.specs.Rows.{Done, action_of, done, is_at_first, next_of, owner_in, call_done, call_step, call_after, session_done, session_seen, session_step, job_after}
-use Rattle.blocking_parts.specs.Ties.{PlaceAs, Tied}
+use Rattle.blocking_parts.specs.Rows.{next_of}
 use Rattle.blocking_parts.specs.declared.row.Core.TheVariants as core
-use Rattle.blocking_parts.proofs.Types.{Stage, SessionJob, Act, Answered, RoomFree, RoomShut, JobParked, Put, Lost, Peeked, Drained, TakenOut, JobClosed, ResultPut, Finished, GaveUp, HolderWoken, Event, Moment, Party, Answer, Running, Core, Row}
+use Rattle.blocking_lanes.proofs.owners.Events.{IsPlain}
+use Rattle.blocking_lanes.proofs.owners.OwnerActs.{value_of}
 use Rattle.blocking_parts.proofs.moves.Lookups.{row_set}
 use Rattle.blocking_parts.proofs.past.Drops.{must_drop}
-use Rattle.blocking_parts.proofs.ties.Jobs.{IsHere, job_place, next_here}
-use Rattle.blocking_parts.proofs.ties.Events.{answer_fits}
+use Rattle.blocking_parts.proofs.rows.JobActs.{own_act}
 use Rattle.blocking_parts.proofs.ties.CrewEvents.{Told, told_is}
+use Rattle.blocking_parts.proofs.ties.Events.{answer_fits}
+use Rattle.blocking_parts.proofs.ties.Jobs.{IsHere, job_place, next_here}
 
 -- ---- what it does
 
@@ -61,8 +49,7 @@ call_acts w at k call did does = by (slice_get w.tasks k) (call_step at call) re
     by (Some task) (Some step) found next does =
         subst (CallActs w at k call) (ap (value_of did) does)
         (record { step = step; task = task; next = next; there = found; act_is = refl; core_is = refl; tasks_are = refl; owners_are = refl })
-    by (Some task) None found next does = absurd cc
-    by None step found next does = absurd cc
+    by _ _ found next does = absurd cc
 
 pub session_acts : (w : Parts) (at : Stage) (h : ℕ) (read : SessionJob) (did : Done) → done at (core.Session h read) w.tasks w.owners ≡ Some did → SessionActs w at h read did
 session_acts w at h read did does = by (slice_get w.owners h) (session_step at read) refl refl does
@@ -76,29 +63,13 @@ session_acts w at h read did does = by (slice_get w.owners h) (session_step at r
 
     by : (found : Option Owner) (step : Option OwnerStep) → slice_get w.owners h ≡ found → session_step at read ≡ step → session_done h read w.tasks w.owners found step ≡ Some did → SessionActs w at h read did
     by (Some owner) (Some step) found next does = seen owner step (owners.act_of step owner) found next refl does
-    by (Some owner) None found next does = absurd cc
-    by None step found next does = absurd cc
+    by _ _ found next does = absurd cc
 
 -- ---- how that is seen
 
 -- what a job may do where it is in its turn is seen, and no pool decides it; it makes no owner, and no job is accepted
 pub may_plain : (at : Stage) (act : Act) → may_act at act ≡ true → IsPlain [] act
-may_plain stage.Runs (Answered answer) may = record { pool = refl; nothing = refl; made = refl; new = refl }
-may_plain stage.Runs (RoomFree n) may = record { pool = refl; nothing = refl; made = refl; new = refl }
-may_plain stage.Runs RoomShut may = record { pool = refl; nothing = refl; made = refl; new = refl }
-may_plain stage.Runs JobParked may = record { pool = refl; nothing = refl; made = refl; new = refl }
-may_plain stage.Runs (Put n waker) may = record { pool = refl; nothing = refl; made = refl; new = refl }
-may_plain stage.Runs (Lost n) may = record { pool = refl; nothing = refl; made = refl; new = refl }
-may_plain stage.Runs (Peeked bytes) may = record { pool = refl; nothing = refl; made = refl; new = refl }
-may_plain stage.Runs Drained may = record { pool = refl; nothing = refl; made = refl; new = refl }
-may_plain stage.Runs (TakenOut n waker) may = record { pool = refl; nothing = refl; made = refl; new = refl }
-may_plain stage.Runs (JobClosed waker) may = record { pool = refl; nothing = refl; made = refl; new = refl }
-may_plain stage.Runs (ResultPut waker) may = record { pool = refl; nothing = refl; made = refl; new = refl }
-may_plain stage.Runs (Finished waker) may = record { pool = refl; nothing = refl; made = refl; new = refl }
-may_plain stage.Runs HolderWoken may = record { pool = refl; nothing = refl; made = refl; new = refl }
-may_plain stage.MustGiveUp (GaveUp waker) may = record { pool = refl; nothing = refl; made = refl; new = refl }
-may_plain stage.MustWake HolderWoken may = record { pool = refl; nothing = refl; made = refl; new = refl }
-may_plain _ _ may = absurd cc
+may_plain at act may = let own = own_act at act may in record { pool = own.pool; nothing = own.something; made = own.made; new = own.accepted }
 
 -- the event of a moment: the crew's, with the owner whose job it is of
 abbrev pub seen_in : Parts → Event → Event
@@ -128,13 +99,13 @@ let_go_here setting plan w past t v job here must =
 
 -- ---- a job that is answered
 
--- its turn goes on, it hasn't given up, and it asks for such an answer
+-- it hasn't given up, it asks for such an answer, and its turn goes on
 pub asks_here : (setting : ℕ) (plan : List Bool) (w : Parts) (past : List Moment) → Tied setting plan w past → (v : ℕ) (job : InHand) (answer : Answer) → IsHere w v job → is_answered_action (next_at w v) answer ≡ true
-    → (has_given_up (acts_of job.held.turn.serial (events past)) ≡ false) × (is_answered_action (next_in_turn GoesOn (action_of job.row.core)) answer ≡ true)
+    → (has_given_up (acts_of job.held.turn.serial (events past)) ≡ false) × (is_answered_action (next_in_turn GoesOn (action_of job.row.core)) answer ≡ true) × (may_act job.held.stage (Answered answer) ≡ true)
 asks_here setting plan w past t v job answer here may =
-    let acts = acts_of job.held.turn.serial (events past) in
     let asks = sym (ap (λ n. is_answered_action n answer) (next_here w v job here)) ∙ may in
     let runs = answer_fits job.held.stage job.row.core answer asks in (
-      subst (λ at. PlaceAs (Some Running) (turn_of at) (is_at_first job.row.core) acts) runs (job_place setting plan w past t v job here),
+      subst (λ at. PlaceAs (Some Running) (turn_of at) (is_at_first job.row.core) (acts_of job.held.turn.serial (events past))) runs (job_place setting plan w past t v job here),
       ap (λ at. is_answered_action (next_of at job.row.core) answer) (sym runs) ∙ asks,
+      ap (λ at. may_act at (Answered answer)) runs,
     )

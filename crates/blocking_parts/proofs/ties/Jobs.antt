@@ -1,22 +1,11 @@
 -- What is known of jobs, rows, tasks and owners where the parts hang together with what was seen.
-use Rattle.std.proofs.Common.{◌≡◌, ℕ, ◌+◌, ◌-◌, ◌==◌, ◌<◌, List, length, Bool, true, false, refl, sym, ap, ◌∙◌, subst, arith, Option, Some, None}
-use Rattle.std.specs.Prelude.{◌&&◌, not, nat_lt, slice_get, is_some}
+use Rattle.std.proofs.Common.{◌≡◌, ℕ, ◌+◌, ◌-◌, ◌==◌, ◌<◌, List, length, Bool, true, false, refl, sym, ap, ◌∙◌, subst, arith, Option, Some, None, ◌&&◌, not, nat_lt, slice_get, is_some}
 use Rattle.std.proofs.lemmas.Bool.Decides.{nat_tests}
 use Rattle.std.proofs.lemmas.Option.{slice_get_within}
-use Rattle.blocking_crew.specs.Crews.{hand_at}
-use Rattle.blocking_crew.specs.Ties.{IsNumberOf, turn_of}
+use Rattle.blocking_parts.proofs.Types.{Running, Moment, Party, ByOwner, ByTask, Hand, Holds, Held, Core, Row}
+use Rattle.blocking_parts.proofs.Words.{JobNumber, holder, standing, events, acts_of, task_cut, cut, hand_at, IsNumberOf, turn_of, OwnerAs, Owner, number_of, Task, TaskAs, Parts, row_of, InHand, job_with, job_in, job_at, next_in, next_at, party_of, is_at_first, PlaceAs, Tied}
+use Rattle.blocking_parts.specs.Rows.{next_of}
 use Rattle.blocking_crew.proofs.ties.Standings.{fresh, accepted_in, known_is, held_runs}
-use Rattle.blocking_lanes.specs.OwnerTies.{OwnerAs}
-use Rattle.blocking_lanes.specs.Owners.{Owner, number_of}
-use Rattle.blocking_lanes.specs.Tasks.{Task}
-use Rattle.blocking_lanes.specs.Ties.{TaskAs}
-use Rattle.blocking_laws.specs.Jobs.{holder, standing}
-use Rattle.blocking_laws.specs.Seen.{events, acts_of, cut, task_cut}
-use Rattle.blocking_pool.specs.Jobs.{JobNumber}
-use Rattle.blocking_parts.specs.Parts.{Parts, InHand, next_at, next_in, row_of, job_at, job_in, job_with}
-use Rattle.blocking_parts.specs.Rows.{party_of, is_at_first, next_of}
-use Rattle.blocking_parts.specs.Ties.{Tied, PlaceAs}
-use Rattle.blocking_parts.proofs.Types.{Hand, Out, Free, Holds, Held, Moment, Party, ByOwner, ByTask, Running, Row}
 use Rattle.blocking_parts.proofs.moves.Lookups.{there, row_found, row_at}
 use Rattle.blocking_parts.proofs.past.Holders.{holder_known}
 
@@ -34,9 +23,8 @@ here_with w v job held (Some row) at found is =
     subst (IsHere w v) one (record { holds = at; has_row = found })
 
 here_in : (w : Parts) (v : ℕ) (job : InHand) (hand : Hand) → hand_at w.crew.hands v ≡ hand → job_in w.rows hand ≡ Some job → IsHere w v job
-here_in w v job Out at is = absurd cc
-here_in w v job (Free pass) at is = absurd cc
 here_in w v job (Holds held) at is = here_with w v job held (row_of w.rows held.turn.serial) at refl is
+here_in w v job _ at is = absurd cc
 
 pub job_here : (w : Parts) (v : ℕ) (job : InHand) → job_at w v ≡ Some job → IsHere w v job
 job_here w v job is = here_in w v job (hand_at w.crew.hands v) refl is
@@ -89,7 +77,10 @@ module _ (setting : ℕ) (plan : List Bool) (w : Parts) (past : List Moment) (t 
       let row = has_row held.turn.serial (ap is_some (held_runs setting plan w.crew past t.crewed v held at)) in
       (record { held = held; row = row.0 }, record { holds = at; has_row = row.1 }, refl)
 
-  -- how far the job in a hand is
+  -- who holds the job in a hand, and how far it is
+  pub its_holder : (v : ℕ) (job : InHand) (c : Core) → IsHere w v job → job.row.core ≡ c → holder past job.held.turn.serial ≡ Some (party_of c)
+  its_holder v job c here is = (t.rowed.each job.held.turn.serial job.row here.has_row).held_by ∙ ap (λ c. Some (party_of c)) is
+
   pub job_place : (v : ℕ) (job : InHand) → IsHere w v job → PlaceAs (Some Running) (turn_of job.held.stage) (is_at_first job.row.core) (acts_of job.held.turn.serial (events past))
   job_place v job here =
       let s = job.held.turn.serial in

@@ -1,53 +1,35 @@
 -- Each move keeps that a job which is left to its owner is met there: one that was left before still is, and one that parks now is seated.
-use Rattle.std.proofs.Common.{◌≡◌, ◌⊎◌, inl, inr, ℕ, ◌<◌, List, [], ◌∷◌, ◌++◌, length, Bool, true, false, refl, sym, ap, ◌∙◌, subst, arith, Option, Some, None}
-use Rattle.std.specs.Prelude.{slice_get, slice_set, is_some, is_none, Ok, Err}
+use Rattle.std.proofs.Common.{◌≡◌, ◌⊎◌, inl, inr, ℕ, ◌<◌, List, [], ◌∷◌, ◌++◌, length, Bool, true, false, refl, sym, ap, ◌∙◌, subst, arith, Option, Some, None, slice_get, slice_set, is_some, is_none, Ok, Err}
 use Rattle.std.proofs.lemmas.Bool.{eqb-true, eq-eqb}
 use Rattle.std.proofs.lemmas.Option.{slice_get_within}
+use Rattle.blocking_parts.proofs.Types.{Running, Act, JobParked, JobWoken, Event, Moment, Party, ByOwner, HandleCall, Stage, SessionJob, OwnerStage, Core}
+use Rattle.blocking_parts.proofs.Words.{IsPlanned, Kind, next_but_wake, is_over, fault, has_finished, has_given_up, holder, is_woken, standing, PoolLaw, is_job_seated, EachMayFollow, events, is_of_pool, is_nothing, is_of_job, acts_of, cut, own, kind_of_job, kind_by, turn, turn_of, CrewHolds, OwnerStep, state_as, ResultAs, LastAs, OwnerAs, Owner, new_owner, capacity_of, number_in, number_of, note_at, next_of, Worked, worked, JobAs, Session, Move, Makes, Asks, Owns, Lends, Delivers, IsDropped, Works, IsAnswered, step_of, owners_after, May, CrewMoves, Parts, InHand, done_by, party_of, kind_of, is_first, is_at_first, session_step, Done, done, CoreAs, PlaceAs, is_left, seated_in, is_number, IsMet, Crossed, moment, Tied}
 use Rattle.blocking_core.specs.declared.unblock.OwnerAction.TheVariants as action
-use Rattle.blocking_crew.specs.Ties.{CrewHolds, turn_of}
+use Rattle.blocking_laws.specs.Sessions as sessions
 use Rattle.blocking_crew.specs.declared.hand.Stage.TheVariants as stage
 use Rattle.blocking_lanes.specs.OwnerSteps as owners
-use Rattle.blocking_lanes.specs.OwnerSteps.{OwnerStep}
-use Rattle.blocking_lanes.specs.OwnerTies.{OwnerAs, LastAs, ResultAs, state_as}
-use Rattle.blocking_lanes.specs.Owners.{Owner, Worked, capacity_of, next_at, next_of, new_owner, note_at, number_in, number_of, worked}
+use Rattle.blocking_lanes.specs.Owners.{next_at}
 use Rattle.blocking_lanes.specs.SessionJobs as jobs
-use Rattle.blocking_lanes.specs.SessionJobs.{JobAs}
-use Rattle.blocking_lanes.specs.Sessions.{Session}
 use Rattle.blocking_lanes.specs.declared.owner.OwnerNext.TheVariants as next
 use Rattle.blocking_lanes.specs.declared.owner.OwnerStage.TheVariants as owner_stage
+use Rattle.blocking_parts.specs.declared.row.Core.TheVariants as core
 use Rattle.blocking_pool.proofs.Places.{got_same, in_pushed}
+use Rattle.blocking_laws.proofs.Beginnings.{keeps}
 use Rattle.blocking_lanes.proofs.owners.Cuts.{its_kind, kind_is}
-use Rattle.blocking_lanes.proofs.owners.States.{is_away, lent_by}
 use Rattle.blocking_lanes.proofs.owners.OwnerActs.{fits_at, owner_by_parts, value_of}
 use Rattle.blocking_lanes.proofs.owners.ReadSessions.{going}
+use Rattle.blocking_lanes.proofs.owners.States.{is_away, lent_by}
 use Rattle.blocking_lanes.proofs.owners.Steps.{IsLast, begins_at, its_last}
-use Rattle.blocking_laws.specs.Growth.{IsPlanned}
-use Rattle.blocking_laws.specs.JobTable.{Kind, next_but_wake, is_over, fault, has_finished, has_given_up}
-use Rattle.blocking_laws.specs.Jobs.{holder, standing, is_woken}
-use Rattle.blocking_laws.specs.Legal.{PoolLaw}
-use Rattle.blocking_laws.specs.OwnerSeats.{is_job_seated}
-use Rattle.blocking_laws.specs.Seen.{EachMayFollow, events, acts_of, cut, own, is_nothing, is_of_job, is_of_pool}
-use Rattle.blocking_laws.specs.Sessions as sessions
-use Rattle.blocking_laws.specs.Sessions.{kind_of_job}
-use Rattle.blocking_laws.specs.Steps.{kind_by}
-use Rattle.blocking_laws.specs.Turns.{turn}
-use Rattle.blocking_laws.proofs.Beginnings.{keeps}
-use Rattle.blocking_parts.specs.Moves.{Move, Makes, Asks, Owns, Lends, Delivers, IsDropped, Works, IsAnswered, May, CrewMoves, step_of, owners_after}
-use Rattle.blocking_parts.specs.Parts.{Parts, InHand, done_by}
-use Rattle.blocking_parts.specs.Rows.{Done, done, is_at_first, is_first, kind_of, party_of, session_step}
-use Rattle.blocking_parts.specs.Ties.{Crossed, CoreAs, IsMet, PlaceAs, Tied, is_left, is_number, moment, seated_in}
-use Rattle.blocking_parts.specs.declared.row.Core.TheVariants as core
-use Rattle.blocking_parts.proofs.Types.{Stage, SessionJob, OwnerStage, HandleCall, Act, JobParked, JobWoken, Event, Moment, Party, ByOwner, Running, Core}
 use Rattle.blocking_parts.proofs.moves.Lookups.{in_set, one_found}
 use Rattle.blocking_parts.proofs.moves.Seats.{SeatAs, asked_met, delivered_met, did_met, dropped_met, gave_up_met, refused_met, worked_met, worked_parks}
 use Rattle.blocking_parts.proofs.moves.SessionActs.{first_where_parked}
 use Rattle.blocking_parts.proofs.past.LeftJobs.{left_before, left_place, left_stands, left_unwoken}
+use Rattle.blocking_parts.proofs.ties.CrewEvents.{by_worker}
+use Rattle.blocking_parts.proofs.ties.Events.{SaidBy, no_work, said}
 use Rattle.blocking_parts.proofs.ties.JobSteps.{call_acts, session_acts}
 use Rattle.blocking_parts.proofs.ties.Jobs.{IsHere, held_row, holder_stands, job_here, job_place}
-use Rattle.blocking_parts.proofs.ties.Releases.{owner_there}
 use Rattle.blocking_parts.proofs.ties.Owners.{first_goes}
-use Rattle.blocking_parts.proofs.ties.Events.{SaidBy, no_work, said}
-use Rattle.blocking_parts.proofs.ties.CrewEvents.{by_worker}
+use Rattle.blocking_parts.proofs.ties.Releases.{owner_there}
 
 -- ---- the last session
 
@@ -80,10 +62,7 @@ begins_idle bytes asked (owner_stage.Polls poll) last X t begins =
     let fits = fits_at bytes asked poll X last action.Begin t (begins_at bytes asked poll last X t begins) in
     let idle = fits.1 in
     lent_by (own X) poll.state (ap is_away idle) t.stage.0.at_is ∙ ap state_as idle
-begins_idle bytes asked (owner_stage.Rests at end) last X t begins = absurd cc
-begins_idle bytes asked (owner_stage.Wakes poll note) last X t begins = absurd cc
-begins_idle bytes asked owner_stage.Dropped last X t begins = absurd cc
-begins_idle bytes asked owner_stage.TakenBack last X t begins = absurd cc
+begins_idle bytes asked _ last X t begins = absurd cc
 
 -- ---- one act of a job
 

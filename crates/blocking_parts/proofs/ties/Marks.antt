@@ -1,34 +1,21 @@
 -- Each move keeps the marks: only a job that was let go is marked or cancelled, and one that was let go and isn't over is marked.
-use Rattle.std.proofs.Common.{◌≡◌, ℕ, ◌≤◌, List, [], ◌∷◌, length, Bool, true, false, refl, sym, ap, ◌∙◌, subst, arith, Option, Some}
-use Rattle.std.specs.Prelude.{slice_get, Ok}
+use Rattle.std.proofs.Common.{◌≡◌, ℕ, ◌≤◌, List, [], ◌∷◌, length, Bool, true, false, refl, sym, ap, ◌∙◌, subst, arith, Option, Some, slice_get, Ok}
 use Rattle.std.proofs.lemmas.Bool.{eqb-true}
-use Rattle.blocking_crew.specs.Crews.{may_act}
-use Rattle.blocking_crew.specs.Moves.{parked_act}
-use Rattle.blocking_crew.specs.Ties.{CrewHolds}
+use Rattle.blocking_parts.proofs.Types.{Woke, Nothing, Act, Accepted, HolderDropped, JobCancelled, Event, Moment, ByOwner, ByTask, TaskCall, Stage, Parking, OwnerStage, Row}
+use Rattle.blocking_parts.proofs.Words.{IsPlanned, accepted_by, accepts, tasks, newcomer, holder, cancels, lets_go, events, own, may_cancel, is_let_go, may_act, parked_act, CrewHolds, Owner, is_gone, Did, did, IsDid, Session, Task, task_act, Move, Owns, Lends, Delivers, IsDropped, Begins, Calls, Works, Parks, Passes, IsWoken, IsStruck, step_of, May, CrewMoves, Parts, row_of, let_go_of, Marked, moment, Tied}
 use Rattle.blocking_crew.specs.declared.tickets.Parking.TheVariants as parking
-use Rattle.blocking_crew.proofs.ties.Acts.{aside_plain, by_work}
-use Rattle.blocking_lanes.specs.Owners.{Owner, Did, IsDid, did, is_gone, next_at}
-use Rattle.blocking_lanes.specs.Sessions.{Session}
+use Rattle.blocking_lanes.specs.Owners.{next_at}
 use Rattle.blocking_lanes.specs.declared.owner.OwnerNext.TheVariants as next
 use Rattle.blocking_lanes.specs.declared.owner.OwnerStage.TheVariants as stage
-use Rattle.blocking_lanes.specs.Tasks.{Task, task_act}
+use Rattle.blocking_crew.proofs.ties.Acts.{aside_plain, by_work}
 use Rattle.blocking_lanes.proofs.acts.Calls.{by_call}
 use Rattle.blocking_lanes.proofs.cuts.Acts.{own_cut}
-use Rattle.blocking_laws.specs.Growth.{IsPlanned}
-use Rattle.blocking_laws.specs.Jobs.{accepted_by, accepts, cancels, holder, lets_go, newcomer, tasks}
-use Rattle.blocking_laws.specs.Seen.{events, own}
-use Rattle.blocking_laws.specs.Steps.{may_cancel}
-use Rattle.blocking_laws.specs.TaskLaws.{is_let_go}
-use Rattle.blocking_parts.specs.Moves.{Move, Owns, Lends, Delivers, IsDropped, Begins, Calls, Works, Parks, Passes, IsWoken, IsStruck, May, CrewMoves, step_of}
-use Rattle.blocking_parts.specs.Parts.{Parts, row_of, let_go_of}
-use Rattle.blocking_parts.specs.Ties.{Tied, Marked, moment}
-use Rattle.blocking_parts.proofs.Types.{Stage, Parking, OwnerStage, Act, Accepted, JobCancelled, HolderDropped, Event, Moment, ByOwner, ByTask, TaskCall, Woke, Entered, MarkedBy, Nothing, Row}
 use Rattle.blocking_parts.proofs.moves.Asides.{told_aside}
 use Rattle.blocking_parts.proofs.past.Marks.{KeepsMarks, IsQuiet, quiet_keeps, plain_quiet, marks_kept}
+use Rattle.blocking_parts.proofs.ties.CrewEvents.{IsPlain}
+use Rattle.blocking_parts.proofs.ties.Events.{SaidBy, said, done_fits}
 use Rattle.blocking_parts.proofs.ties.Jobs.{next_free}
 use Rattle.blocking_parts.proofs.ties.Releases.{let_go_is}
-use Rattle.blocking_parts.proofs.ties.Events.{SaidBy, said, done_fits}
-use Rattle.blocking_parts.proofs.ties.CrewEvents.{IsPlain}
 
 -- ---- quiet acts
 
@@ -66,9 +53,8 @@ begins_there _ session is = refl
 
 -- the job that a cancel cancels
 cancelled_is : (s t : ℕ) (woke : Woke) → cancels (JobCancelled t woke) s ≡ true → t ≡ s
-cancelled_is s t Entered is = eqb-true t s is
-cancelled_is s t MarkedBy is = eqb-true t s is
 cancelled_is s t Nothing is = absurd cc
+cancelled_is s t _ is = eqb-true t s is
 
 module _ (setting : ℕ) (plan : List Bool) (w : Parts) (past : List Moment) (t : Tied setting plan w past) where
   -- a new task let nothing go

@@ -1,47 +1,28 @@
 -- Each move keeps the tie of the owners, and their laws: it is an event of none, makes a new one, or is a step of one.
-use Rattle.std.proofs.Common.{◌≡◌, ℕ, ◌==◌, ◌-◌, List, [], ◌∷◌, length, Bool, true, false, refl, sym, ap, ◌∙◌, subst, Some, None}
-use Rattle.std.specs.Prelude.{◌&&◌, not, slice_get, slice_set, Result, Ok, Err}
+use Rattle.std.proofs.Common.{◌≡◌, ℕ, ◌==◌, ◌-◌, List, [], ◌∷◌, length, Bool, true, false, refl, sym, ap, ◌∙◌, subst, Some, None, ◌&&◌, not, slice_get, slice_set, Result, Ok, Err, arith}
 use Rattle.std.proofs.lemmas.Bool.{eqb-true, or_parts}
+use Rattle.blocking_parts.proofs.Types.{Refusal, Running, Act, Accepted, Answered, Asked, HolderDropped, JobWoken, Made, Refused, Event, Moment, ByOwner, Pool, ByTask, Worker, Answer, Step, TaskCall, Stage, SessionJob, Core}
+use Rattle.blocking_parts.proofs.Words.{Growth, JobNumber, IsPlanned, Kind, JobAction, Over, next_but_wake, is_over, has_given_up, accepted_by, accepts, holder, events, is_some_worker, is_of_pool, is_nothing, is_of_job, is_by_task, acts_of, is_in_cut, cut, own, kind_of_job, kind_by, next_in_turn, is_answered_action, is_making, may_cancel, GoesOn, added_act, turn_of, OwnerStep, act_in, delivered, act_of, owner_after, MayTake, is_of_its_job, event_by, IsHeld, IsFresh, OwnersHold, Owner, is_gone, JobAs, Task, task_act, Move, Makes, Asks, Owns, Lends, Delivers, IsDropped, Begins, Calls, Works, IsAnswered, step_of, rows_after, owners_after, May, CrewMoves, Parts, owner_of, InHand, next_at, done_by, is_first, is_at_first, session_step, Done, done, core_after_answer, CoreAs, PlaceAs, GaveAs, moment, Tied}
+use Rattle.blocking_laws.specs.OwnerLaws.{OwnerLaws}
 use Rattle.blocking_crew.specs.Moves as crew
-use Rattle.blocking_crew.specs.Moves.{added_act}
-use Rattle.blocking_crew.specs.Ties.{turn_of}
 use Rattle.blocking_crew.specs.declared.hand.Stage.TheVariants as stage
-use Rattle.blocking_lanes.specs.OwnerSteps.{OwnerStep, IsAside, IsHeld, IsFresh, MayTake, is_of_its_job, act_of, act_in, owner_in, delivered, owner_after, event_by}
 use Rattle.blocking_lanes.specs.OwnerSteps as lanes
-use Rattle.blocking_lanes.specs.OwnerTies.{OwnersHold}
-use Rattle.blocking_lanes.specs.Owners.{Owner, is_gone}
+use Rattle.blocking_lanes.specs.OwnerSteps.{IsAside, owner_in}
 use Rattle.blocking_lanes.specs.SessionJobs as jobs
-use Rattle.blocking_lanes.specs.SessionJobs.{JobAs}
-use Rattle.blocking_lanes.specs.Tasks.{Task, task_act}
+use Rattle.blocking_parts.specs.Rows as row
+use Rattle.blocking_parts.specs.declared.row.Core.TheVariants as core
 use Rattle.blocking_pool.proofs.Places.{set_same}
 use Rattle.blocking_lanes.proofs.acts.Calls.{by_call}
+use Rattle.blocking_lanes.proofs.owners.Events.{IsPlain}
 use Rattle.blocking_lanes.proofs.owners.OwnerActs.{value_of}
 use Rattle.blocking_lanes.proofs.owners.Owners.{aside, born, stepped}
-use Rattle.blocking_lanes.proofs.owners.Events.{IsPlain}
-use Rattle.blocking_parts.proofs.rows.SessionJobs.{first_of_table}
 use Rattle.blocking_lanes.proofs.ties.Holders.{accepts_no_job}
-use Rattle.blocking_laws.specs.Growth.{IsPlanned}
-use Rattle.blocking_laws.specs.JobTable.{Kind, JobAction, Over, AskCall, AskBytes, OfferBytes, AskFlush, AskItem, AskSeek, AskResult, next_but_wake, is_answer, is_over, has_given_up}
-use Rattle.blocking_laws.specs.Jobs.{accepted_by, accepts, holder}
-use Rattle.blocking_laws.specs.OwnerLaws.{OwnerLaws}
-use Rattle.blocking_laws.specs.Seen.{events, acts_of, own, cut, is_in_cut, is_of_pool, is_nothing, is_some_worker, is_of_job, is_by_task}
-use Rattle.blocking_laws.specs.Steps.{kind_by, may_cancel, is_answered_action, is_making, next_in_turn}
-use Rattle.blocking_laws.specs.Sessions.{kind_of_job}
-use Rattle.blocking_laws.specs.Turns.{GoesOn}
-use Rattle.blocking_pool.specs.Growth.{Growth}
-use Rattle.blocking_pool.specs.Jobs.{JobNumber}
-use Rattle.blocking_parts.specs.Moves.{Move, Makes, Asks, Owns, Lends, Delivers, IsDropped, Begins, Calls, Works, IsAnswered, May, CrewMoves, step_of, rows_after, owners_after}
-use Rattle.blocking_parts.specs.Parts.{Parts, InHand, done_by, owner_of, next_at}
-use Rattle.blocking_parts.specs.Rows as row
-use Rattle.blocking_parts.specs.Rows.{Done, done, session_step, core_after_answer, is_at_first, is_first, party_of}
-use Rattle.blocking_parts.specs.Ties.{CoreAs, GaveAs, PlaceAs, Tied, moment}
-use Rattle.blocking_parts.specs.declared.row.Core.TheVariants as core
-use Rattle.blocking_parts.proofs.Types.{Stage, SessionJob, Act, Made, Asked, Accepted, Refused, JobWoken, HolderDropped, Answered, Event, Moment, ByOwner, ByTask, Worker, Pool, Answer, Step, TaskCall, Refusal, Running, Core}
-use Rattle.blocking_parts.proofs.ties.JobSteps.{call_acts, session_acts, may_plain, seen_in, seen_is, its_owner, let_go_here, asks_here}
-use Rattle.blocking_parts.proofs.ties.Jobs.{IsHere, job_here, job_place, next_free}
-use Rattle.blocking_parts.proofs.ties.Events.{SaidBy, alone, done_fits, said}
-use Rattle.blocking_parts.proofs.ties.Releases.{owner_there}
+use Rattle.blocking_parts.proofs.rows.SessionJobs.{answer_of, first_of_table}
 use Rattle.blocking_parts.proofs.ties.CrewEvents.{Told, IsAlone, added_of, by_no_worker, by_worker}
+use Rattle.blocking_parts.proofs.ties.Events.{SaidBy, alone, done_fits, said}
+use Rattle.blocking_parts.proofs.ties.JobSteps.{call_acts, session_acts, may_plain, seen_in, seen_is, its_owner, let_go_here, asks_here}
+use Rattle.blocking_parts.proofs.ties.Jobs.{IsHere, job_here, its_holder, job_place, next_free}
+use Rattle.blocking_parts.proofs.ties.Releases.{owner_there}
 
 -- ---- what the job of a session may do
 
@@ -75,23 +56,10 @@ its_fresh : (past : List Moment) (step : OwnerStep) → is_of_its_job step ≡ t
 its_fresh past (lanes.Begins number) is = absurd cc
 its_fresh past _ is = tt
 
--- what it is answered is an answer to what it asks for
-answer_of : (a : JobAction) (answer : Answer) → is_answered_action (next_in_turn GoesOn a) answer ≡ true → is_answer a answer ≡ true
-answer_of AskCall answer is = is
-answer_of (AskBytes n) answer is = is
-answer_of (OfferBytes bytes) answer is = is
-answer_of AskFlush answer is = is
-answer_of AskItem answer is = is
-answer_of AskSeek answer is = is
-answer_of AskResult answer is = is
-answer_of _ answer is = absurd cc
-
 -- ---- what is seen where no owner takes a step
 
 none_in : (a b : Bool) → (a && b && false) ≡ false
-none_in true true = refl
-none_in true false = refl
-none_in false b = refl
+none_in a b = grind arith
 
 module _ (past : List Moment) (new : Parts) (e : Event) where
   -- what is nothing to any owner
@@ -184,10 +152,6 @@ module _ (setting : ℕ) (plan : List Bool) (w : Parts) (past : List Moment) (t 
       (seen_is new (ByOwner h) None None (Accepted number.serial) e told refl) is
   lent h owner (Err why) may does told is = takes (lanes.IsRefused why) h 0 0 owner (Refused why) may.0 tt tt may.1 refl (seen_is new (ByOwner h) None None (Refused why) e told refl) is
 
-  -- who holds the job in a hand
-  its_holder : (v : ℕ) (job : InHand) → IsHere w v job → holder past job.held.turn.serial ≡ Some (party_of job.row.core)
-  its_holder v job here = (t.rowed.each job.held.turn.serial job.row here.has_row).held_by
-
   -- the owner of a job that has to give up is gone
   gone_owner : (v : ℕ) (job : InHand) (h : ℕ) (owner : Owner) → IsHere w v job → holder past job.held.turn.serial ≡ Some (ByOwner h) → slice_get w.owners h ≡ Some owner → job.held.stage ≡ stage.MustGiveUp → is_gone owner.stage ≡ true
   gone_owner v job h owner here held found must =
@@ -206,7 +170,7 @@ module _ (setting : ℕ) (plan : List Bool) (w : Parts) (past : List Moment) (t 
   its_kind : (v : ℕ) (job : InHand) (h : ℕ) (it : SessionJob) → IsHere w v job → job.row.core ≡ core.Session h it → kind_of_job job.held.turn.serial (own (cut h (events past))) ≡ jobs.kind_of it
   its_kind v job h it here is =
       let r = t.rowed.each job.held.turn.serial job.row here.has_row in
-      ap (λ who. kind_by who past job.held.turn.serial) (sym (its_holder v job here ∙ ap (λ c. Some (party_of c)) is)) ∙ r.kind_is ∙ ap row.kind_of is
+      ap (λ who. kind_by who past job.held.turn.serial) (sym (its_holder setting plan w past t v job _ here is)) ∙ r.kind_is ∙ ap row.kind_of is
 
   -- the job in a hand acts
   acted : (v : ℕ) (job : InHand) (did : Done) → IsHere w v job → done_by w job ≡ Some did → Told (Worker v) (Some job.held.turn.serial) did.act e
@@ -218,13 +182,13 @@ module _ (setting : ℕ) (plan : List Bool) (w : Parts) (past : List Moment) (t 
           let a = call_acts w job.held.stage k call did (ap (λ c. done job.held.stage c w.tasks w.owners) (sym is) ∙ does) in
           stay
           (job_aside past new e v job.held.turn.serial k did.act told (may_plain job.held.stage did.act (done_fits did job.held.stage job.row.core w.tasks w.owners does))
-          (its_owner w v job did.core new.rows here rows ∙ ap row.owner_in a.core_is) (its_holder v job here ∙ ap (λ c. Some (party_of c)) is))
+          (its_owner w v job did.core new.rows here rows ∙ ap row.owner_in a.core_is) (its_holder setting plan w past t v job _ here is))
           (is_now ∙ a.owners_are)
       by (core.Session h read) is =
           let s = job.held.turn.serial in
           let acts = acts_of s (events past) in
           let a = session_acts w job.held.stage h read did (ap (λ c. done job.held.stage c w.tasks w.owners) (sym is) ∙ does) in
-          let held = its_holder v job here ∙ ap (λ c. Some (party_of c)) is in
+          let held = its_holder setting plan w past t v job _ here is in
           goes v job h a.step a.owner did.act here held a.there (its_act job.held.stage read a.step a.next)
           (session_may job.held.stage read a.step a.owner (kind_of_job s (own (cut h (events past)))) acts (its_kind v job h read here is) a.next (gone_owner v job h a.owner here held a.there) (subst (λ c. CoreAs c acts) is (t.rowed.each s job.row here.has_row).core)
           (subst (λ c. PlaceAs (Some Running) (turn_of job.held.stage) (is_at_first c) acts) is (job_place setting plan w past t v job here)) (t.rowed.in_hand v job.held here.holds))
@@ -242,10 +206,10 @@ module _ (setting : ℕ) (plan : List Bool) (w : Parts) (past : List Moment) (t 
       by (core.Call k call) is =
           stay
           (job_aside past new e v job.held.turn.serial k (Answered answer) told (record { pool = refl; nothing = refl; made = refl; new = refl }) (whose _ is)
-          (its_holder v job here ∙ ap (λ c. Some (party_of c)) is)) same
+          (its_holder setting plan w past t v job _ here is)) same
       by (core.Session h read) is =
           let s = job.held.turn.serial in
-          let held = its_holder v job here ∙ ap (λ c. Some (party_of c)) is in
+          let held = its_holder setting plan w past t v job _ here is in
           let owner = owner_there setting plan w past t h s held in
           let asks = asks_here setting plan w past t v job answer here may in
           goes v job h (lanes.IsAnswered read answer) owner.0 (Answered answer) here held owner.1 refl (

@@ -1,27 +1,14 @@
 -- Who let a job go: the parts have it as it was seen, and so has the ticket of a job that parks.
-use Rattle.std.proofs.Common.{◌≡◌, ℕ, ◌<◌, List, [], length, Bool, true, false, refl, sym, ap, ◌∙◌, subst, arith, Option, Some, None}
+use Rattle.std.proofs.Common.{◌≡◌, ℕ, ◌<◌, List, [], length, Bool, true, false, refl, sym, ap, ◌∙◌, subst, arith, Option, Some, None, nat_lt, slice_get}
 use Rattle.std.specs.Cmp.{both_ways}
-use Rattle.std.specs.Prelude.{nat_lt, slice_get}
 use Rattle.std.specs.FinMap.{get}
 use Rattle.std.proofs.lemmas.Bool.{or_right}
 use Rattle.std.proofs.lemmas.Bool.Decides.{nat_tests}
-use Rattle.blocking_pool.specs.Jobs.{Job as Entry}
-use Rattle.blocking_pool.specs.Lists.{is_in}
-use Rattle.blocking_crew.specs.Ties.{AbsentAs, FiledAs}
-use Rattle.blocking_crew.proofs.ties.Standings.{held_runs}
-use Rattle.blocking_lanes.specs.Owners.{Owner}
-use Rattle.blocking_lanes.specs.Tasks.{Task}
-use Rattle.blocking_lanes.proofs.cuts.Acts.{own_cut}
-use Rattle.blocking_laws.specs.Jobs.{holder, standing, has_ended, is_cancelled, is_marked}
-use Rattle.blocking_laws.specs.Seen.{events, own, cut}
-use Rattle.blocking_laws.specs.Sessions.{jobs_of}
-use Rattle.blocking_laws.specs.Steps.{may_cancel}
-use Rattle.blocking_laws.specs.TaskLaws.{is_let_go}
-use Rattle.blocking_parts.specs.Parts.{Parts, InHand, row_of, let_go_of, task_let_go, owner_let_go}
-use Rattle.blocking_parts.specs.Rows.{party_of}
-use Rattle.blocking_parts.specs.Ties.{Tied}
+use Rattle.blocking_parts.proofs.Types.{Standing, Running, Moment, ByOwner, ByTask, Ticket, Core, Row}
+use Rattle.blocking_parts.proofs.Words.{Entry, is_in, holder, is_cancelled, has_ended, is_marked, standing, events, cut, own, jobs_of, may_cancel, is_let_go, AbsentAs, FiledAs, Owner, Task, Parts, row_of, InHand, task_let_go, owner_let_go, let_go_of, party_of, Tied}
 use Rattle.blocking_parts.specs.declared.row.Core.TheVariants as core
-use Rattle.blocking_parts.proofs.Types.{Standing, Running, Ticket, Moment, ByOwner, ByTask, Core, Row}
+use Rattle.blocking_crew.proofs.ties.Standings.{held_runs}
+use Rattle.blocking_lanes.proofs.cuts.Acts.{own_cut}
 use Rattle.blocking_parts.proofs.moves.Lookups.{there}
 use Rattle.blocking_parts.proofs.ties.Jobs.{IsHere}
 

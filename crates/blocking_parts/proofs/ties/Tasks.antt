@@ -1,44 +1,26 @@
 -- Each move keeps the tie of the tasks, and their laws: it is an event of none, makes a new one, or is a step of one.
-use Rattle.std.proofs.Common.{◌≡◌, ℕ, ◌==◌, ◌-◌, List, [], ◌∷◌, length, Bool, true, false, refl, sym, ap, ◌∙◌, subst, Some, None}
-use Rattle.std.specs.Prelude.{not, slice_get, slice_set, Result, Ok, Err}
+use Rattle.std.proofs.Common.{◌≡◌, ℕ, ◌==◌, ◌-◌, List, [], ◌∷◌, length, Bool, true, false, refl, sym, ap, ◌∙◌, subst, Some, None, not, slice_get, slice_set, Result, Ok, Err}
 use Rattle.std.proofs.lemmas.Bool.{and_right, eqb-true}
+use Rattle.blocking_parts.proofs.Types.{Action, Refusal, Running, Act, Answered, Event, Moment, ByOwner, Pool, ByTask, Worker, Answer, Number, Step, TaskCall, Stage, Core}
+use Rattle.blocking_parts.proofs.Words.{Growth, JobNumber, IsPlanned, Calling, next_of_job, has_given_up, accepted_by, holder, events, is_task, is_some_worker, is_nothing, acts_of, next_in_turn, is_answered_action, may_cancel, is_let_go, GoesOn, added_act, turn_of, Progress, RanAs, TaskStep, task_after, by_job, IsBeside, Task, may_be, has_let_go, task_act, AllLaws, TasksHold, Move, Makes, Asks, Owns, Lends, Delivers, IsDropped, Begins, Calls, Works, IsAnswered, step_of, tasks_after_add, rows_after, tasks_after, May, CrewMoves, Parts, owner_of, InHand, next_at, done_by, owner_in, call_action, action_of, is_first, is_at_first, call_step_by, call_step, Done, done, core_after_answer, CoreAs, PlaceAs, GaveAs, moment, Tied}
 use Rattle.blocking_core.specs.declared.job.Action.TheVariants as action
 use Rattle.blocking_crew.specs.Moves as crew
-use Rattle.blocking_crew.specs.Moves.{added_act}
-use Rattle.blocking_crew.specs.Ties.{turn_of}
 use Rattle.blocking_crew.specs.declared.hand.Stage.TheVariants as stage
-use Rattle.blocking_lanes.specs.Calls.{Progress, RanAs}
-use Rattle.blocking_lanes.specs.Steps.{TaskStep, IsBeside, MayTake, act_of, task_after, event_by, by_job}
 use Rattle.blocking_lanes.specs.Steps as lanes
-use Rattle.blocking_lanes.specs.Tasks.{Task, has_let_go, may_be, task_act}
-use Rattle.blocking_lanes.specs.Ties.{AllLaws, TasksHold}
+use Rattle.blocking_lanes.specs.Steps.{MayTake, act_of, event_by}
+use Rattle.blocking_parts.specs.declared.row.Core.TheVariants as core
 use Rattle.blocking_pool.proofs.Places.{set_same}
 use Rattle.blocking_lanes.proofs.acts.Steps.{is_call}
 use Rattle.blocking_lanes.proofs.cuts.Acts.{own_cut}
-use Rattle.blocking_lanes.proofs.owners.OwnerActs.{value_of}
 use Rattle.blocking_lanes.proofs.owners.Events.{IsPlain}
+use Rattle.blocking_lanes.proofs.owners.OwnerActs.{value_of}
 use Rattle.blocking_lanes.proofs.ties.Holders.{accepts_no_job}
 use Rattle.blocking_lanes.proofs.ties.Tasks.{beside, born, stepped, aside_beside}
-use Rattle.blocking_laws.specs.Growth.{IsPlanned}
-use Rattle.blocking_laws.specs.JobTable.{Calling, next_of_job, has_given_up}
-use Rattle.blocking_laws.specs.Jobs.{accepted_by, holder}
-use Rattle.blocking_laws.specs.Seen.{events, acts_of, is_nothing, is_some_worker, is_task}
-use Rattle.blocking_laws.specs.Steps.{may_cancel, is_answered_action, next_in_turn}
-use Rattle.blocking_laws.specs.TaskLaws.{is_let_go}
-use Rattle.blocking_laws.specs.Turns.{GoesOn}
-use Rattle.blocking_pool.specs.Growth.{Growth}
-use Rattle.blocking_pool.specs.Jobs.{JobNumber}
-use Rattle.blocking_parts.specs.Moves.{Move, Makes, Asks, Owns, Lends, Delivers, IsDropped, Begins, Calls, Works, IsAnswered, May, CrewMoves, step_of, rows_after, tasks_after, tasks_after_add}
-use Rattle.blocking_parts.specs.Parts.{Parts, InHand, done_by, owner_of, next_at}
-use Rattle.blocking_parts.specs.Rows.{Done, done, action_of, call_step, call_step_by, call_action, core_after_answer, is_at_first, is_first, owner_in, party_of}
-use Rattle.blocking_parts.specs.Ties.{CoreAs, GaveAs, PlaceAs, Tied, moment}
-use Rattle.blocking_parts.specs.declared.row.Core.TheVariants as core
-use Rattle.blocking_parts.proofs.Types.{Action, Stage, Act, Answered, Event, Moment, ByOwner, ByTask, Worker, Pool, Answer, Number, Step, TaskCall, Refusal, Running, Core}
 use Rattle.blocking_parts.proofs.moves.Lookups.{there}
-use Rattle.blocking_parts.proofs.ties.JobSteps.{call_acts, session_acts, may_plain, seen_in, seen_is, its_owner, let_go_here, asks_here}
-use Rattle.blocking_parts.proofs.ties.Jobs.{IsHere, job_here, job_place, next_free, task_holds}
-use Rattle.blocking_parts.proofs.ties.Events.{SaidBy, alone, done_fits, said}
 use Rattle.blocking_parts.proofs.ties.CrewEvents.{Told, IsAlone, added_of, by_no_worker, by_worker}
+use Rattle.blocking_parts.proofs.ties.Events.{SaidBy, alone, done_fits, said}
+use Rattle.blocking_parts.proofs.ties.JobSteps.{call_acts, session_acts, may_plain, seen_in, seen_is, its_owner, let_go_here, asks_here}
+use Rattle.blocking_parts.proofs.ties.Jobs.{IsHere, job_here, its_holder, job_place, next_free, task_holds}
 
 -- ---- what the job of a call may do
 
@@ -78,7 +60,6 @@ by_its_job _ is k v s act first growth = refl
 -- it is answered by a number, where it makes its call
 answered_so : (next : Action) (answer : Answer) → is_answered_action (next_in_turn GoesOn (call_action next)) answer ≡ true → (next ≡ action.Call) × ((n : ℕ) × (answer ≡ Number n))
 answered_so action.Call (Number n) is = (refl, (n, refl))
-answered_so action.Call _ is = absurd cc
 answered_so _ answer is = absurd cc
 
 -- ---- what is seen where no task takes a step
@@ -143,10 +124,6 @@ module _ (setting : ℕ) (plan : List Bool) (w : Parts) (past : List Moment) (t 
         after_is = tasks;
       }) hold
 
-  -- who holds the job in a hand
-  its_holder : (v : ℕ) (job : InHand) → IsHere w v job → holder past job.held.turn.serial ≡ Some (party_of job.row.core)
-  its_holder v job here = (t.rowed.each job.held.turn.serial job.row here.has_row).held_by
-
   -- the job of a call in a hand takes a step of its task
   goes : (v : ℕ) (job : InHand) (k : ℕ) (call : Progress) (step : TaskStep) (task : Task) → IsHere w v job → job.row.core ≡ core.Call k call → slice_get w.tasks k ≡ Some task → is_call step ≡ false
       → MayTake step task (acts_of job.held.turn.serial (events past)) → Told (Worker v) (Some job.held.turn.serial) (act_of step task) e → owner_of new.rows (Some job.held.turn.serial) ≡ None
@@ -162,7 +139,7 @@ module _ (setting : ℕ) (plan : List Bool) (w : Parts) (past : List Moment) (t 
         first = e.first;
         growth = record { started = e.started; refused = e.start_refused };
         task = task;
-        held = its_holder v job here ∙ ap (λ c. Some (party_of c)) is;
+        held = its_holder setting plan w past t v job _ here is;
         there = found;
         may = may;
         event_is = seen_is new (Worker v) (Some s) None (act_of step task) e told whose ∙ sym (by_its_job step no_call k v s (act_of step task) e.first (record { started = e.started; refused = e.start_refused }));
@@ -186,7 +163,7 @@ module _ (setting : ℕ) (plan : List Bool) (w : Parts) (past : List Moment) (t 
           let s = job.held.turn.serial in
           let acts = acts_of s (events past) in
           let a = call_acts w job.held.stage k call did (ap (λ c. done job.held.stage c w.tasks w.owners) (sym is) ∙ does) in
-          let held = its_holder v job here ∙ ap (λ c. Some (party_of c)) is in
+          let held = its_holder setting plan w past t v job _ here is in
           goes v job k call a.step a.task here is a.there (never_called job.held.stage call a.step a.next)
           (call_may job.held.stage call a.step a.task acts a.next (let_go_task v job k a.task here held a.there) (subst (λ c. CoreAs c acts) is (t.rowed.each s job.row here.has_row).core)
           (subst (λ c. PlaceAs (Some Running) (turn_of job.held.stage) (is_at_first c) acts) is (job_place setting plan w past t v job here)) (t.rowed.in_hand v job.held here.holds))
@@ -194,7 +171,7 @@ module _ (setting : ℕ) (plan : List Bool) (w : Parts) (past : List Moment) (t 
       by (core.Session h read) is =
           let plain = may_plain job.held.stage did.act (done_fits did job.held.stage job.row.core w.tasks w.owners does) in
           let a = session_acts w job.held.stage h read did (ap (λ c. done job.held.stage c w.tasks w.owners) (sym is) ∙ does) in
-          stay (reader_beside past new e v job.held.turn.serial h did.act told plain (its_holder v job here ∙ ap (λ c. Some (party_of c)) is)) (tasks ∙ a.tasks_are)
+          stay (reader_beside past new e v job.held.turn.serial h did.act told plain (its_holder setting plan w past t v job _ here is)) (tasks ∙ a.tasks_are)
 
   -- the job in a hand is answered
   answered : (v : ℕ) (job : InHand) (answer : Answer) → IsHere w v job → is_answered_action (next_at w v) answer ≡ true → Told (Worker v) (Some job.held.turn.serial) (Answered answer) e
@@ -208,11 +185,11 @@ module _ (setting : ℕ) (plan : List Bool) (w : Parts) (past : List Moment) (t 
           let asks = asks_here setting plan w past t v job answer here may in
           let fits = answered_so call.next answer (ap (λ c. is_answered_action (next_in_turn GoesOn (action_of c)) answer) (sym is) ∙ asks.1) in
           let ran : RanAs call.next call.number acts = subst (λ c. CoreAs c acts) is (t.rowed.each s job.row here.has_row).core asks.0 in
-          let task = there w.tasks k (t.tasked.there k s (its_holder v job here ∙ ap (λ c. Some (party_of c)) is)) in
+          let task = there w.tasks k (t.tasked.there k s (its_holder setting plan w past t v job _ here is)) in
           goes v job k call (lanes.IsAnswered fits.1.0) task.0 here is task.1 refl (subst (λ next. RanAs next call.number acts) fits.0 ran) (subst (λ a. Told (Worker v) (Some s) (Answered a) e) fits.1.1 told)
           (its_owner w v job (core_after_answer answer job.row.core) new.rows here rows ∙ ap (λ c. owner_in (core_after_answer answer c)) is) (tasks ∙ sym (set_same w.tasks k task.0 task.1))
       by (core.Session h read) is =
-          stay (reader_beside past new e v job.held.turn.serial h (Answered answer) told (record { pool = refl; nothing = refl; made = refl; new = refl }) (its_holder v job here ∙ ap (λ c. Some (party_of c)) is)) tasks
+          stay (reader_beside past new e v job.held.turn.serial h (Answered answer) told (record { pool = refl; nothing = refl; made = refl; new = refl }) (its_holder setting plan w past t v job _ here is)) tasks
 
 -- After each move the tasks hang together with what was seen, and have kept their laws.
 pub tasks_after_move : (setting : ℕ) (plan : List Bool) (w : Parts) (past : List Moment) → Tied setting plan w past → AllLaws past → (move : Move) (e : Event) (new : Parts) → May w move

@@ -1,7 +1,7 @@
 -- Of a new crew, and of a new job.
+use Rattle.blocking_crew.proofs.kept.beginnings.Goals as goal
 use Rattle.blocking_crew.proofs.laws.Calls.{number_new}
 use Rattle.blocking_crew.proofs.laws.Whole.{begins}
-use Rattle.blocking_crew.proofs.kept.beginnings.Goals as goal
 
 pub returns-clause-crew : goal.returns-clause-crew
 returns-clause-crew c = begins

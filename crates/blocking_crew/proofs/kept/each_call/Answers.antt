@@ -1,8 +1,8 @@
 -- After each call, and after an event that is nothing to a crew.
-use Rattle.blocking_laws.specs.Growth.{IsPlanned}
+use Rattle.blocking_crew.proofs.Words.{IsPlanned}
+use Rattle.blocking_crew.proofs.kept.each_call.Goals as goal
 use Rattle.blocking_crew.proofs.laws.Calls.{served_moved, number_moved}
 use Rattle.blocking_crew.proofs.laws.Whole.{holds_moved, holds_aside}
-use Rattle.blocking_crew.proofs.kept.each_call.Goals as goal
 
 pub returns-clause-holds : goal.returns-clause-holds
 returns-clause-holds c = λ setting plan crew new past call e step owner h moves asked. holds_moved setting plan crew past h (IsPlanned plan) call e new step owner (λ n r may. may) moves asked

@@ -1,6 +1,6 @@
 -- What the workers hold.
-use Rattle.blocking_crew.proofs.laws.Staffing.{staffed, as_seen}
 use Rattle.blocking_crew.proofs.kept.staffing.Goals as goal
+use Rattle.blocking_crew.proofs.laws.Staffing.{staffed, as_seen}
 
 pub returns-clause-staffed : goal.returns-clause-staffed
 returns-clause-staffed c = λ setting plan crew past h. staffed setting crew past h.tied h.ready

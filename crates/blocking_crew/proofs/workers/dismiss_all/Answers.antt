@@ -1,5 +1,5 @@
 use Rattle.std.proofs.Common.{◌≡◌, ap, arith}
-use Rattle.blocking_crew.specs.Crews.{one_if_free}
+use Rattle.blocking_crew.proofs.Words.{one_if_free}
 use Rattle.blocking_crew.proofs.closing.Hands.{last_jobless, last_free, rest_idle}
 use Rattle.blocking_crew.proofs.workers.dismiss_all.Goals as goal
 

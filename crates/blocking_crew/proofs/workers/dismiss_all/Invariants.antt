@@ -1,6 +1,6 @@
 -- What is left of the hands still fits the pool, and they get fewer.
 use Rattle.std.proofs.Common.{vec_len}
-use Rattle.blocking_crew.specs.Closing.{AreIdle}
+use Rattle.blocking_crew.proofs.Words.{AreIdle}
 use Rattle.blocking_crew.proofs.workers.dismiss_all.Given as goal
 
 abbrev pub invariant-loop-hand : goal.invariant-loop-hand

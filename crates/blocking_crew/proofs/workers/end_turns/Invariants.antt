@@ -1,6 +1,6 @@
 -- The hands so far hold no job, and all still fit the pool.
 use Rattle.std.specs.List.{AllWithin}
-use Rattle.blocking_crew.specs.Crews.{IsReady}
+use Rattle.blocking_crew.proofs.Words.{IsReady}
 use Rattle.blocking_crew.proofs.closing.Hands.{HoldsNone}
 use Rattle.blocking_crew.proofs.workers.end_turns.Given as goal
 

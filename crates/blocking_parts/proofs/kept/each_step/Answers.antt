@@ -1,6 +1,6 @@
 -- After each step.
-use Rattle.blocking_parts.proofs.laws.Whole.{stays_lawful, same_setting, carried}
 use Rattle.blocking_parts.proofs.kept.each_step.Goals as goal
+use Rattle.blocking_parts.proofs.laws.Whole.{stays_lawful, same_setting, carried}
 
 pub returns-clause-lawful : goal.returns-clause-lawful
 returns-clause-lawful c = λ setting plan w new past step e lawful steps. stays_lawful setting plan w past lawful new e step steps

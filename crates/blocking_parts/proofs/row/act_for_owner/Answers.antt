@@ -1,8 +1,6 @@
 use Rattle.std.proofs.Common.{◌≡◌, Option, Some, None}
-use Rattle.blocking_lanes.specs.OwnerSteps.{act_of_work, owner_after_work, job_after_work}
-use Rattle.blocking_lanes.specs.Owners.{Owner, Worked, IsWorked, worked}
-use Rattle.blocking_lanes.specs.declared.job.SessionJob.{SessionJob}
-use Rattle.blocking_laws.specs.declared.event.Act.{Act}
+use Rattle.blocking_parts.proofs.Types.{Act, SessionJob}
+use Rattle.blocking_parts.proofs.Words.{act_of_work, owner_after_work, job_after_work, Owner, Worked, worked, IsWorked}
 use Rattle.blocking_parts.proofs.moves.Steps.{ok_map}
 use Rattle.blocking_parts.proofs.row.act_for_owner.Goals as goal
 

@@ -1,9 +1,9 @@
 use Rattle.std.proofs.Common.{◌≡◌, ap, ◌∙◌, sym, refl}
-use Rattle.blocking_crew.specs.Moves.{Add, Adds, added_act, next_start}
 use Rattle.blocking_crew.proofs.Types.{Accepted}
-use Rattle.blocking_crew.proofs.ready.Moves.{moved_ready}
+use Rattle.blocking_crew.proofs.Words.{Add, Adds, next_start, added_act}
 use Rattle.blocking_crew.proofs.crew.Crew.add.Goals as goal
 use Rattle.blocking_crew.proofs.crew.Crew.add.Goals.{in-Ok, in-Err}
+use Rattle.blocking_crew.proofs.ready.Moves.{moved_ready}
 
 number_is : (g : _) (c : goal.After-seen-event g) → c.match-number.number ≡ c.add-number.result.0
 number_is g c = elim c.match-number.branch [ in-Ok w ↦ w.number-is ∙ sym w.in-Ok.is | in-Err w ↦ w.number-is ∙ sym w.in-Err.is ]

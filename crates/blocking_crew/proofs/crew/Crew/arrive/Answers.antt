@@ -1,9 +1,9 @@
 use Rattle.std.proofs.Common.{◌≡◌, ◌∙◌, sym, Some, None}
-use Rattle.blocking_crew.specs.Moves.{NeverAsked}
+use Rattle.blocking_crew.proofs.Words.{NeverAsked}
 use Rattle.blocking_crew.specs.contracts.crew.Crew.{the_view}
 use Rattle.blocking_crew.proofs.calls.Moves.{arrives_by}
-use Rattle.blocking_crew.proofs.ready.Moves.{moved_ready}
 use Rattle.blocking_crew.proofs.crew.Crew.arrive.Goals as goal
+use Rattle.blocking_crew.proofs.ready.Moves.{moved_ready}
 
 pub returns-in_default-clause-ok : goal.returns-in_default-clause-ok
 returns-in_default-clause-ok c =

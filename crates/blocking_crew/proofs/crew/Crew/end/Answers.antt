@@ -1,11 +1,10 @@
 use Rattle.std.proofs.Common.{is_some, ap, ◌∙◌, sym, refl}
-use Rattle.blocking_crew.proofs.hands.Loans.{held_is}
+use Rattle.blocking_crew.proofs.Words.{may_end, End, EndsTurn, next_start, NeverAsked}
 use Rattle.blocking_crew.specs.contracts.crew.Crew.{the_view}
 use Rattle.blocking_crew.proofs.calls.Moves.{idles, refilled, held_is_out, held_runs}
-use Rattle.blocking_crew.specs.Crews.{may_end}
-use Rattle.blocking_crew.specs.Moves.{NeverAsked, End, next_start, EndsTurn}
-use Rattle.blocking_crew.proofs.ready.Moves.{moved_ready}
 use Rattle.blocking_crew.proofs.crew.Crew.end.Goals as goal
+use Rattle.blocking_crew.proofs.hands.Loans.{held_is}
+use Rattle.blocking_crew.proofs.ready.Moves.{moved_ready}
 
 pub returns : goal.returns
 returns c =

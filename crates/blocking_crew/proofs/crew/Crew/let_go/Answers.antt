@@ -1,8 +1,7 @@
 use Rattle.std.proofs.Common.{sym, ap, refl}
-use Rattle.blocking_crew.specs.Moves.{IsLetGo}
-use Rattle.blocking_crew.specs.Tickets.{JobPool}
-use Rattle.blocking_crew.proofs.ready.Moves.{moved_ready}
+use Rattle.blocking_crew.proofs.Words.{IsLetGo, JobPool}
 use Rattle.blocking_crew.proofs.crew.Crew.let_go.Goals as goal
+use Rattle.blocking_crew.proofs.ready.Moves.{moved_ready}
 
 pub returns : goal.returns
 returns c =

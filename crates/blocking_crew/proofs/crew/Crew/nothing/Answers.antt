@@ -1,6 +1,6 @@
 use Rattle.std.proofs.Common.{refl}
-use Rattle.blocking_crew.specs.Moves.{Tells}
 use Rattle.blocking_crew.proofs.Types.{NoAction}
+use Rattle.blocking_crew.proofs.Words.{Tells}
 use Rattle.blocking_crew.proofs.crew.Crew.nothing.Goals as goal
 
 pub returns-clause-moves : goal.returns-clause-moves

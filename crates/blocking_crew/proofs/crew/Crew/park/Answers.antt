@@ -1,14 +1,11 @@
 use Rattle.std.proofs.Common.{is_some, ap, ◌∙◌, sym, refl, Some}
 use Rattle.blocking_crew.proofs.Types.{Act, Worker}
-use Rattle.blocking_crew.specs.Tickets.{no_growth}
-use Rattle.blocking_pool.specs.Jobs.{JobNumber}
-use Rattle.blocking_crew.proofs.hands.Loans.{held_is}
+use Rattle.blocking_crew.proofs.Words.{JobNumber, is_waiting, Park, Parks, next_start, seen, NeverAsked, no_growth}
 use Rattle.blocking_crew.specs.contracts.crew.Crew.{the_view}
 use Rattle.blocking_crew.proofs.calls.Moves.{idles, refilled, waits_at, held_is_out, held_runs}
-use Rattle.blocking_crew.specs.Crews.{is_waiting}
-use Rattle.blocking_crew.specs.Moves.{NeverAsked, Park, next_start, Parks, seen}
-use Rattle.blocking_crew.proofs.ready.Moves.{moved_ready}
 use Rattle.blocking_crew.proofs.crew.Crew.park.Goals as goal
+use Rattle.blocking_crew.proofs.hands.Loans.{held_is}
+use Rattle.blocking_crew.proofs.ready.Moves.{moved_ready}
 
 pub returns : goal.returns
 returns c =

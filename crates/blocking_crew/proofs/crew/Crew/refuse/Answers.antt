@@ -1,6 +1,5 @@
 use Rattle.std.proofs.Common.{sym, refl, Err}
-use Rattle.blocking_crew.specs.Moves.{Adds}
-use Rattle.blocking_crew.specs.Tickets.{no_growth}
+use Rattle.blocking_crew.proofs.Words.{Adds, no_growth}
 use Rattle.blocking_crew.proofs.crew.Crew.refuse.Goals as goal
 
 pub returns : goal.returns

@@ -1,7 +1,7 @@
 use Rattle.std.proofs.Common.{sym, refl}
-use Rattle.blocking_crew.specs.Moves.{Sweeps}
-use Rattle.blocking_crew.proofs.ready.Moves.{moved_ready}
+use Rattle.blocking_crew.proofs.Words.{Sweeps}
 use Rattle.blocking_crew.proofs.crew.Crew.sweep.Goals as goal
+use Rattle.blocking_crew.proofs.ready.Moves.{moved_ready}
 
 pub returns : goal.returns
 returns g c =

@@ -1,11 +1,10 @@
 use Rattle.std.proofs.Common.{ap, ◌∙◌, sym}
-use Rattle.blocking_crew.specs.Crews.{with_hand}
-use Rattle.blocking_crew.proofs.hands.Loans.{pass_is}
+use Rattle.blocking_crew.proofs.Words.{with_hand, Take, next_start}
 use Rattle.blocking_crew.specs.contracts.crew.Crew.{the_view}
 use Rattle.blocking_crew.proofs.calls.Moves.{idles, no_pass, takes_by, refilled, pass_is_out, pass_free}
-use Rattle.blocking_crew.specs.Moves.{Take, next_start}
-use Rattle.blocking_crew.proofs.ready.Moves.{moved_ready}
 use Rattle.blocking_crew.proofs.crew.Crew.take.Goals as goal
+use Rattle.blocking_crew.proofs.hands.Loans.{pass_is}
+use Rattle.blocking_crew.proofs.ready.Moves.{moved_ready}
 
 pub returns : goal.returns
 returns g c =

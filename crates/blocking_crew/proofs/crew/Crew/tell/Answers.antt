@@ -1,5 +1,5 @@
 use Rattle.std.proofs.Common.{refl}
-use Rattle.blocking_crew.specs.Moves.{Tells}
+use Rattle.blocking_crew.proofs.Words.{Tells}
 use Rattle.blocking_crew.proofs.crew.Crew.tell.Goals as goal
 
 pub returns : goal.returns

@@ -1,10 +1,10 @@
 use Rattle.std.proofs.Common.{ap, ◌∙◌, sym, refl}
-use Rattle.blocking_crew.proofs.hands.Loans.{pass_is}
+use Rattle.blocking_crew.proofs.Words.{Wait, HasWaited, next_start}
 use Rattle.blocking_crew.specs.contracts.crew.Crew.{the_view}
 use Rattle.blocking_crew.proofs.calls.Moves.{idles, no_pass, refilled, pass_is_out, pass_free}
-use Rattle.blocking_crew.specs.Moves.{Wait, HasWaited, next_start}
-use Rattle.blocking_crew.proofs.ready.Moves.{moved_ready}
 use Rattle.blocking_crew.proofs.crew.Crew.wait.Goals as goal
+use Rattle.blocking_crew.proofs.hands.Loans.{pass_is}
+use Rattle.blocking_crew.proofs.ready.Moves.{moved_ready}
 
 pub returns : goal.returns
 returns g c =

@@ -1,7 +1,7 @@
 use Rattle.std.proofs.Common.{sym, refl}
-use Rattle.blocking_crew.specs.Moves.{IsWoken}
-use Rattle.blocking_crew.proofs.ready.Moves.{moved_ready}
+use Rattle.blocking_crew.proofs.Words.{IsWoken}
 use Rattle.blocking_crew.proofs.crew.Crew.wake.Goals as goal
+use Rattle.blocking_crew.proofs.ready.Moves.{moved_ready}
 
 pub returns : goal.returns
 returns g c =

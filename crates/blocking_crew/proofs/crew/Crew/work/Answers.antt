@@ -1,9 +1,9 @@
 use Rattle.std.proofs.Common.{is_some, ap, ◌∙◌, sym, refl}
+use Rattle.blocking_crew.proofs.Words.{Work, next_start, NeverAsked}
 use Rattle.blocking_crew.specs.contracts.crew.Crew.{the_view}
 use Rattle.blocking_crew.proofs.calls.Moves.{idles, acts_by}
-use Rattle.blocking_crew.specs.Moves.{NeverAsked, Work, next_start}
-use Rattle.blocking_crew.proofs.ready.Moves.{moved_ready}
 use Rattle.blocking_crew.proofs.crew.Crew.work.Goals as goal
+use Rattle.blocking_crew.proofs.ready.Moves.{moved_ready}
 
 pub returns : goal.returns
 returns c =

@@ -1,7 +1,5 @@
 use Rattle.std.proofs.Common.{ap, arith}
-use Rattle.blocking_pool.specs.PoolAnswers.{StaysOrStops}
-use Rattle.blocking_pool.specs.Starters.{asked}
-use Rattle.blocking_crew.specs.Tickets.{JobPool}
+use Rattle.blocking_crew.proofs.Words.{StaysOrStops, asked, JobPool}
 use Rattle.blocking_crew.proofs.growth.Sweeps.{waits_after_sweep, wait_alone, sweep_level}
 use Rattle.blocking_crew.proofs.tickets.Tickets.after_wait.Goals as goal
 

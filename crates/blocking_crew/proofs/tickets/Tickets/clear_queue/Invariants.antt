@@ -1,6 +1,6 @@
 -- The jobs so far were passed over, and the queue gets shorter.
 use Rattle.std.proofs.Common.{length}
-use Rattle.blocking_crew.specs.Closing.{PassesOver}
+use Rattle.blocking_crew.proofs.Words.{PassesOver}
 use Rattle.blocking_crew.proofs.tickets.Tickets.clear_queue.Given as goal
 
 abbrev pub invariant-loop-self : goal.invariant-loop-self

@@ -1,6 +1,5 @@
 use Rattle.std.proofs.Common.{ap, ◌∙◌}
-use Rattle.blocking_pool.specs.Jobs.{value_at, job_of}
-use Rattle.blocking_crew.specs.Tickets.{JobPool, ticket_after_mark, pool_after_mark_of}
+use Rattle.blocking_crew.proofs.Words.{job_of, value_at, JobPool, ticket_after_mark, pool_after_mark_of}
 use Rattle.blocking_crew.proofs.jobs.Marks.{mark_alone, lent_marked}
 use Rattle.blocking_crew.proofs.tickets.Tickets.mark.Goals as goal
 use Rattle.blocking_crew.proofs.tickets.Tickets.mark.Goals.{in-Some, in_default}

@@ -1,6 +1,5 @@
 use Rattle.std.proofs.Common.{◌≡◌, ◌∙◌, sym, arith}
-use Rattle.blocking_pool.specs.Starters.{asked}
-use Rattle.blocking_crew.specs.Tickets.{to_sweep}
+use Rattle.blocking_crew.proofs.Words.{asked, to_sweep}
 use Rattle.blocking_crew.proofs.growth.Sweeps.{swept_none, swept_some, left_by}
 use Rattle.blocking_crew.proofs.tickets.Tickets.sweep.Goals as goal
 

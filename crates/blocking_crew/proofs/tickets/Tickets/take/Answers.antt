@@ -1,5 +1,5 @@
 use Rattle.std.proofs.Common.{◌≡◌, arith}
-use Rattle.blocking_pool.specs.Starters.{asked}
+use Rattle.blocking_crew.proofs.Words.{asked}
 use Rattle.blocking_crew.proofs.growth.Calls.{takes_to, take_numbers}
 use Rattle.blocking_crew.proofs.tickets.Tickets.take.Goals as goal
 

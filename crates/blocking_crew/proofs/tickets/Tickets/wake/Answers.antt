@@ -1,7 +1,7 @@
 use Rattle.std.proofs.Common.{◌≡◌, [], ◌∷◌, arith}
-use Rattle.blocking_pool.specs.Starters.{asked}
-use Rattle.blocking_crew.proofs.growth.Reads.{numbers_last}
+use Rattle.blocking_crew.proofs.Words.{asked}
 use Rattle.blocking_crew.proofs.growth.Calls.{enters_again}
+use Rattle.blocking_crew.proofs.growth.Reads.{numbers_last}
 use Rattle.blocking_crew.proofs.tickets.Tickets.wake.Goals as goal
 
 pub next_after-self-inside-requires : goal.next_after-self-inside-requires

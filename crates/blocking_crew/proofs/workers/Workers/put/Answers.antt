@@ -1,5 +1,5 @@
 use Rattle.std.proofs.Common.{ap, ◌∙◌}
-use Rattle.blocking_crew.specs.Crews.{with_hand}
+use Rattle.blocking_crew.proofs.Words.{with_hand}
 use Rattle.blocking_crew.proofs.hands.Loans.{lent_hand}
 use Rattle.blocking_crew.proofs.workers.Workers.put.Goals as goal
 

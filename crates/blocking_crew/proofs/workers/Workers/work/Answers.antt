@@ -1,6 +1,6 @@
 use Rattle.std.proofs.Common.{is_some, ap, ◌∙◌, sym, if◌then◌else◌}
-use Rattle.blocking_crew.specs.Crews.{hand_in, with_hand, hand_after_act}
 use Rattle.blocking_crew.proofs.Types.{Hand}
+use Rattle.blocking_crew.proofs.Words.{hand_in, with_hand, hand_after_act}
 use Rattle.blocking_crew.proofs.hands.Loans.{hand_is, lent_hand, changed_if}
 use Rattle.blocking_crew.proofs.workers.Workers.work.Goals as goal
 

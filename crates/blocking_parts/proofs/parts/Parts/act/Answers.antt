@@ -1,11 +1,7 @@
-use Rattle.std.proofs.Common.{◌≡◌, ◌<◌, length, sym, subst, IfOk, IfSome}
-use Rattle.std.specs.Prelude.{slice_get, slice_set}
-use Rattle.blocking_crew.specs.Moves.{NeverAsked}
-use Rattle.blocking_lanes.specs.Owners.{Owner, next_of}
+use Rattle.std.proofs.Common.{◌≡◌, ◌<◌, length, sym, subst, IfOk, IfSome, slice_get, slice_set}
+use Rattle.blocking_parts.proofs.Types.{Own}
+use Rattle.blocking_parts.proofs.Words.{NeverAsked, Owner, next_of, Moves, Parts}
 use Rattle.blocking_lanes.specs.declared.owner.OwnerNext.TheVariants as next
-use Rattle.blocking_laws.specs.declared.step.Step.TheVariants.{Own}
-use Rattle.blocking_parts.specs.Moves.{Moves}
-use Rattle.blocking_parts.specs.Parts.{Parts}
 use Rattle.blocking_parts.specs.contracts.parts.Parts.{the_view}
 use Rattle.blocking_parts.proofs.moves.Asides.{told_aside}
 use Rattle.blocking_parts.proofs.moves.Steps.{found_at, owned, rested}

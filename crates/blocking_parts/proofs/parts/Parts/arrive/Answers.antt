@@ -1,6 +1,6 @@
 use Rattle.std.proofs.Common.{refl, sym}
+use Rattle.blocking_parts.proofs.Words.{NeverAsked}
 use Rattle.blocking_crew.specs.Moves as crew
-use Rattle.blocking_crew.specs.Moves.{NeverAsked}
 use Rattle.blocking_parts.specs.contracts.parts.Parts.{the_view}
 use Rattle.blocking_parts.proofs.moves.Steps.{passes, ok_map}
 use Rattle.blocking_parts.proofs.parts.Parts.arrive.Goals as goal

@@ -1,14 +1,10 @@
-use Rattle.std.proofs.Common.{refl, subst, sym, ap, ◌∙◌, arith}
-use Rattle.std.specs.Prelude.{slice_get}
+use Rattle.std.proofs.Common.{refl, subst, sym, ap, ◌∙◌, arith, slice_get}
+use Rattle.blocking_parts.proofs.Types.{Asked, ByOwner, Ask}
+use Rattle.blocking_parts.proofs.Words.{NeverAsked, may_ask_in, Parts}
 use Rattle.blocking_crew.specs.Moves as crew
-use Rattle.blocking_crew.specs.Moves.{NeverAsked}
-use Rattle.blocking_laws.specs.declared.event.Act.TheVariants.{Asked}
-use Rattle.blocking_laws.specs.declared.event.Party.TheVariants.{Owner as ByOwner}
-use Rattle.blocking_laws.specs.declared.step.Step.TheVariants.{Ask}
-use Rattle.blocking_parts.specs.Moves.{may_ask_in}
-use Rattle.blocking_parts.specs.Parts.{Parts}
 use Rattle.blocking_parts.specs.contracts.parts.Parts.{the_view}
-use Rattle.blocking_parts.proofs.moves.Steps.{idles, asked, asked_within}
+use Rattle.blocking_parts.proofs.moves.Lookups.{within_by}
+use Rattle.blocking_parts.proofs.moves.Steps.{idles, asked}
 use Rattle.blocking_parts.proofs.parts.Parts.ask.Goals as goal
 
 pub returns-then-not-may_ask-clause-ok : goal.returns-then-not-may_ask-clause-ok
@@ -19,7 +15,7 @@ returns-then-not-may_ask-clause-ok c =
 pub index_mut-requires : goal.index_mut-requires
 index_mut-requires c =
     let may = ap (λ (p : Parts). may_ask_in (slice_get p.owners c.args.place) c.args.call) c.self.view_is ∙ sym c.if-not-may_ask.ensures in
-    let within = asked_within (the_view c.self.inside).owners c.args.place c.args.call may in
+    let within = within_by (λ o. may_ask_in o c.args.call) refl (the_view c.self.inside).owners c.args.place may in
     let len = c.self.inside.owners.ok.0 in
     omega (arith, within, len)
 

@@ -1,5 +1,5 @@
 use Rattle.std.proofs.Common.{subst, sym, length, ◌<◌}
-use Rattle.blocking_parts.specs.Parts.{Parts}
+use Rattle.blocking_parts.proofs.Words.{Parts}
 use Rattle.blocking_parts.specs.contracts.parts.Parts.{the_view}
 use Rattle.blocking_parts.proofs.moves.Steps.{delivered}
 use Rattle.blocking_parts.proofs.parts.Parts.deliver.Goals as goal

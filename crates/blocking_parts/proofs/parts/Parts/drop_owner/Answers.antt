@@ -1,11 +1,9 @@
-use Rattle.std.proofs.Common.{refl, sym, ap, ◌∙◌, arith}
-use Rattle.std.specs.Prelude.{slice_get}
-use Rattle.blocking_crew.specs.Moves.{NeverAsked}
-use Rattle.blocking_laws.specs.declared.step.Step.TheVariants.{DropOwner}
-use Rattle.blocking_parts.specs.Moves.{rests_in}
-use Rattle.blocking_parts.specs.Parts.{Parts}
+use Rattle.std.proofs.Common.{refl, sym, ap, ◌∙◌, arith, slice_get}
+use Rattle.blocking_parts.proofs.Types.{DropOwner}
+use Rattle.blocking_parts.proofs.Words.{NeverAsked, rests_in, Parts}
 use Rattle.blocking_parts.specs.contracts.parts.Parts.{the_view}
-use Rattle.blocking_parts.proofs.moves.Steps.{idles, dropped, resting_within}
+use Rattle.blocking_parts.proofs.moves.Lookups.{within_by}
+use Rattle.blocking_parts.proofs.moves.Steps.{idles, dropped}
 use Rattle.blocking_parts.proofs.parts.Parts.drop_owner.Goals as goal
 
 pub returns-then-not-rests : goal.returns-then-not-rests
@@ -16,7 +14,7 @@ returns-then-not-rests c =
 pub index_mut-owner-requires : goal.index_mut-owner-requires
 index_mut-owner-requires c =
     let some = ap (λ (p : Parts). rests_in (slice_get p.owners c.args.place)) c.self.view_is ∙ sym c.if-not-rests.ensures in
-    let within = resting_within (the_view c.self.inside).owners c.args.place some in
+    let within = within_by rests_in refl (the_view c.self.inside).owners c.args.place some in
     let len = c.self.inside.owners.ok.0 in
     omega (arith, within, len)
 

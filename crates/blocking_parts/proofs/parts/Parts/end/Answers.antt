@@ -1,10 +1,7 @@
-use Rattle.std.proofs.Common.{refl, sym, ap, ◌∙◌, arith}
-use Rattle.std.specs.Prelude.{option_map}
+use Rattle.std.proofs.Common.{refl, sym, ap, ◌∙◌, arith, option_map}
+use Rattle.blocking_parts.proofs.Types.{End}
+use Rattle.blocking_parts.proofs.Words.{is_turn_end, NeverAsked, Parts, job_at, places_of, let_go_of}
 use Rattle.blocking_crew.specs.Moves as crew
-use Rattle.blocking_crew.specs.Moves.{NeverAsked}
-use Rattle.blocking_laws.specs.Steps.{is_turn_end}
-use Rattle.blocking_laws.specs.declared.step.Step.TheVariants.{End}
-use Rattle.blocking_parts.specs.Parts.{Parts, job_at, places_of, let_go_of}
 use Rattle.blocking_parts.specs.contracts.parts.Parts.{the_view}
 use Rattle.blocking_parts.proofs.moves.Jobs.{row_within, next_placed, none_next, parked, due}
 use Rattle.blocking_parts.proofs.moves.Steps.{idles, passes}

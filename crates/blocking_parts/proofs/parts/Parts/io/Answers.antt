@@ -1,13 +1,8 @@
-use Rattle.std.proofs.Common.{◌≡◌, true, subst, refl, sym, ap, ◌∙◌, arith}
-use Rattle.std.specs.Prelude.{option_map}
+use Rattle.std.proofs.Common.{◌≡◌, true, subst, refl, sym, ap, ◌∙◌, arith, option_map}
+use Rattle.blocking_parts.proofs.Types.{Answered, Io, Row}
+use Rattle.blocking_parts.proofs.Words.{is_answered_action, NeverAsked, Parts, job_at, places_of}
 use Rattle.blocking_crew.specs.Moves as crew
-use Rattle.blocking_crew.specs.Moves.{NeverAsked}
-use Rattle.blocking_laws.specs.declared.event.Act.TheVariants.{Answered}
-use Rattle.blocking_laws.specs.Steps.{is_answered_action}
-use Rattle.blocking_laws.specs.declared.step.Step.TheVariants.{Io}
 use Rattle.blocking_parts.specs.Rows.{next_of}
-use Rattle.blocking_parts.specs.declared.row.Row.{Row}
-use Rattle.blocking_parts.specs.Parts.{Parts, job_at, places_of}
 use Rattle.blocking_parts.specs.contracts.parts.Parts.{the_view}
 use Rattle.blocking_parts.proofs.moves.Jobs.{row_within, row_read, io_does, next_placed, none_next}
 use Rattle.blocking_parts.proofs.moves.Steps.{idles}

@@ -1,13 +1,8 @@
-use Rattle.std.proofs.Common.{subst, Some, None, refl, sym, ap, ◌∙◌, arith}
-use Rattle.std.specs.Prelude.{option_map, slice_set}
+use Rattle.std.proofs.Common.{subst, Some, None, refl, sym, ap, ◌∙◌, arith, option_map, slice_set}
 use Rattle.std.specs.Vec.{with_items}
 use Rattle.std.proofs.lemmas.List.{with_items_is}
-use Rattle.blocking_crew.specs.Moves.{NeverAsked}
-use Rattle.blocking_laws.specs.declared.step.Step.TheVariants.{Job}
-use Rattle.blocking_parts.specs.Moves.{Moves}
-use Rattle.blocking_parts.specs.Rows.{IsDone, done}
-use Rattle.blocking_parts.specs.declared.row.Row.{Row}
-use Rattle.blocking_parts.specs.Parts.{Parts, job_at, places_of}
+use Rattle.blocking_parts.proofs.Types.{Job, Row}
+use Rattle.blocking_parts.proofs.Words.{NeverAsked, Moves, Parts, job_at, places_of, done, IsDone}
 use Rattle.blocking_parts.specs.contracts.parts.Parts.{the_view}
 use Rattle.blocking_parts.proofs.moves.Jobs.{none_done, job_acts, job_rests}
 use Rattle.blocking_parts.proofs.moves.Lanes.{same_lengths}

@@ -1,6 +1,5 @@
-use Rattle.std.proofs.Common.{sym, ap, ◌∙◌, ◌-◌, Some}
-use Rattle.std.specs.Prelude.{option_map}
-use Rattle.blocking_parts.specs.Parts.{Parts, row_of, places_of}
+use Rattle.std.proofs.Common.{sym, ap, ◌∙◌, ◌-◌, Some, option_map}
+use Rattle.blocking_parts.proofs.Words.{Parts, row_of, places_of}
 use Rattle.blocking_parts.specs.contracts.parts.Parts.{the_view}
 use Rattle.blocking_parts.proofs.moves.Jobs.{job_by_row}
 use Rattle.blocking_parts.proofs.parts.Parts.job_at.Goals as goal

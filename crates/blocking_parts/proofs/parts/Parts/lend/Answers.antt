@@ -1,17 +1,11 @@
-use Rattle.std.proofs.Common.{◌≡◌, ◌++◌, ◌∷◌, ◌<◌, [], length, sym, ap, ◌∙◌, subst, Some, IfSome}
-use Rattle.std.specs.Prelude.{slice_get, slice_set}
+use Rattle.std.proofs.Common.{◌≡◌, ◌++◌, ◌∷◌, ◌<◌, [], length, sym, ap, ◌∙◌, subst, Some, IfSome, slice_get, slice_set}
+use Rattle.blocking_parts.proofs.Types.{Own}
+use Rattle.blocking_parts.proofs.Words.{empty_pipe, Owner, next_of, new_job_of, capacity_asked, goods_asked, owner_after_begin, pipe_in, rows_after_add, lent_step, Moves, Parts, session_row}
 use Rattle.blocking_lanes.specs.OwnerSteps as owners_steps
-use Rattle.blocking_lanes.specs.Owners.{Owner, capacity_asked, goods_asked, new_job_of, next_of, owner_after_begin}
-use Rattle.blocking_lanes.specs.Passages.{pipe_in}
-use Rattle.blocking_core.specs.Pipes.{empty_pipe}
 use Rattle.blocking_lanes.specs.declared.owner.OwnerNext.TheVariants as next
-use Rattle.blocking_laws.specs.declared.step.Step.TheVariants.{Own}
-use Rattle.blocking_parts.specs.Moves.{Moves, rows_after_add, lent_step}
-use Rattle.blocking_parts.specs.Rows.{session_row}
-use Rattle.blocking_parts.specs.Parts.{Parts}
 use Rattle.blocking_parts.specs.contracts.parts.Parts.{the_view}
-use Rattle.blocking_parts.proofs.moves.Steps.{lent, found_at}
 use Rattle.blocking_parts.proofs.moves.Lookups.{one_found}
+use Rattle.blocking_parts.proofs.moves.Steps.{lent, found_at}
 use Rattle.blocking_parts.proofs.parts.Parts.lend.Goals as goal
 use Rattle.blocking_parts.proofs.parts.Parts.lend.Goals.{in-Ok-number, in-Err}
 

@@ -1,8 +1,7 @@
 use Rattle.std.proofs.Common.{sym, ap, ◌∙◌, ◌≡◌, ◌++◌, ◌∷◌, [], arith, length, subst}
+use Rattle.blocking_parts.proofs.Types.{Made, ByOwner}
+use Rattle.blocking_parts.proofs.Words.{NeverAsked}
 use Rattle.blocking_crew.specs.Moves as crew
-use Rattle.blocking_crew.specs.Moves.{NeverAsked}
-use Rattle.blocking_laws.specs.declared.event.Act.TheVariants.{Made}
-use Rattle.blocking_laws.specs.declared.event.Party.TheVariants.{Owner as ByOwner}
 use Rattle.blocking_parts.specs.contracts.parts.Parts.{the_view}
 use Rattle.blocking_parts.proofs.moves.Steps.{made}
 use Rattle.blocking_parts.proofs.parts.Parts.make.Goals as goal

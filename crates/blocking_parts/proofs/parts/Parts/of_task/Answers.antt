@@ -1,11 +1,9 @@
-use Rattle.std.proofs.Common.{refl, sym, ap, ◌∙◌, arith}
-use Rattle.std.specs.Prelude.{slice_get}
-use Rattle.blocking_crew.specs.Moves.{NeverAsked}
-use Rattle.blocking_laws.specs.declared.step.Step.TheVariants.{OfTask}
-use Rattle.blocking_parts.specs.Moves.{may_call_in}
-use Rattle.blocking_parts.specs.Parts.{Parts}
+use Rattle.std.proofs.Common.{refl, sym, ap, ◌∙◌, arith, slice_get}
+use Rattle.blocking_parts.proofs.Types.{OfTask}
+use Rattle.blocking_parts.proofs.Words.{NeverAsked, may_call_in, Parts}
 use Rattle.blocking_parts.specs.contracts.parts.Parts.{the_view}
-use Rattle.blocking_parts.proofs.moves.Steps.{idles, called_within, let_go_moves, tell_moves}
+use Rattle.blocking_parts.proofs.moves.Lookups.{within_by}
+use Rattle.blocking_parts.proofs.moves.Steps.{idles, let_go_moves, tell_moves}
 use Rattle.blocking_parts.proofs.parts.Parts.of_task.Goals as goal
 
 pub returns-then-not-may : goal.returns-then-not-may
@@ -16,7 +14,7 @@ returns-then-not-may c =
 pub index_mut-task-requires : goal.index_mut-task-requires
 index_mut-task-requires c =
     let some = ap (λ (p : Parts). may_call_in (slice_get p.tasks c.args.number) c.args.call) c.self.view_is ∙ sym c.if-not-may.ensures in
-    let within = called_within (the_view c.self.inside).tasks c.args.number c.args.call some in
+    let within = within_by (λ o. may_call_in o c.args.call) refl (the_view c.self.inside).tasks c.args.number some in
     let len = c.self.inside.tasks.ok.0 in
     omega (arith, within, len)
 

@@ -1,11 +1,8 @@
-use Rattle.std.proofs.Common.{refl, sym, ap, ◌∙◌, ◌≡◌, ◌≤◌, Some, IfSome, length, subst}
-use Rattle.std.specs.Prelude.{slice_get}
+use Rattle.std.proofs.Common.{refl, sym, ap, ◌∙◌, ◌≡◌, ◌≤◌, Some, IfSome, length, subst, slice_get}
 use Rattle.std.proofs.lemmas.Option.{slice_get_past, slice_get_read}
-use Rattle.blocking_crew.specs.Moves.{NeverAsked}
-use Rattle.blocking_lanes.specs.Owners.{Owner, did, next_of}
+use Rattle.blocking_parts.proofs.Types.{Own}
+use Rattle.blocking_parts.proofs.Words.{NeverAsked, Owner, next_of, did, may_own, may_own_in}
 use Rattle.blocking_lanes.specs.declared.owner.OwnerNext.TheVariants as next
-use Rattle.blocking_laws.specs.declared.step.Step.TheVariants.{Own}
-use Rattle.blocking_parts.specs.Moves.{may_own, may_own_in}
 use Rattle.blocking_parts.specs.contracts.parts.Parts.{the_view}
 use Rattle.blocking_parts.proofs.moves.Steps.{idles, moves_more, ok_map}
 use Rattle.blocking_parts.proofs.parts.Parts.own.Goals as goal

@@ -1,9 +1,6 @@
-use Rattle.std.proofs.Common.{◌≡◌, ◌<◌, length, refl, sym, ap, subst, Some, Err, IfSome}
-use Rattle.std.specs.Prelude.{slice_get, slice_set}
-use Rattle.blocking_crew.specs.Moves.{NeverAsked}
-use Rattle.blocking_lanes.specs.Owners.{Owner, next_of}
+use Rattle.std.proofs.Common.{◌≡◌, ◌<◌, length, refl, sym, ap, subst, Some, Err, IfSome, slice_get, slice_set}
+use Rattle.blocking_parts.proofs.Words.{NeverAsked, Owner, next_of, Parts}
 use Rattle.blocking_lanes.specs.declared.owner.OwnerNext.TheVariants as next
-use Rattle.blocking_parts.specs.Parts.{Parts}
 use Rattle.blocking_parts.specs.contracts.parts.Parts.{the_view}
 use Rattle.blocking_parts.proofs.moves.Steps.{lent, found_at}
 use Rattle.blocking_parts.proofs.parts.Parts.refuse.Goals as goal

@@ -1,7 +1,6 @@
 use Rattle.std.proofs.Common.{◌≡◌, ◌++◌, ◌∷◌, [], length, sym, ap, ◌∙◌, arith, subst}
-use Rattle.blocking_laws.specs.declared.step.Step.TheVariants.{Spawn}
-use Rattle.blocking_parts.specs.Moves.{Moves, rows_after_add, tasks_after_add}
-use Rattle.blocking_parts.specs.Rows.{call_row}
+use Rattle.blocking_parts.proofs.Types.{Spawn}
+use Rattle.blocking_parts.proofs.Words.{rows_after_add, tasks_after_add, Moves, call_row}
 use Rattle.blocking_parts.specs.contracts.parts.Parts.{the_view}
 use Rattle.blocking_parts.proofs.moves.Steps.{begun, put_last}
 use Rattle.blocking_parts.proofs.parts.Parts.spawn.Goals as goal

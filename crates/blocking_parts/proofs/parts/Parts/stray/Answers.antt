@@ -1,9 +1,7 @@
-use Rattle.std.proofs.Common.{refl, sym, ap, ◌∙◌, subst}
-use Rattle.std.specs.Prelude.{is_some}
+use Rattle.std.proofs.Common.{refl, sym, ap, ◌∙◌, subst, is_some}
+use Rattle.blocking_parts.proofs.Types.{Pool, Stray}
+use Rattle.blocking_parts.proofs.Words.{Parts, row_of}
 use Rattle.blocking_crew.specs.Moves as crew
-use Rattle.blocking_laws.specs.declared.event.Party.TheVariants.{Pool}
-use Rattle.blocking_laws.specs.declared.step.Step.TheVariants.{Stray}
-use Rattle.blocking_parts.specs.Parts.{Parts, row_of}
 use Rattle.blocking_parts.specs.contracts.parts.Parts.{the_view}
 use Rattle.blocking_parts.proofs.moves.Steps.{idles, woken}
 use Rattle.blocking_parts.proofs.parts.Parts.stray.Goals as goal

@@ -1,6 +1,6 @@
 use Rattle.std.proofs.Common.{refl, sym, ap, ◌∙◌}
-use Rattle.blocking_laws.specs.declared.step.Step.TheVariants.{Strike}
-use Rattle.blocking_parts.specs.Parts.{Parts, row_of, let_go_by, let_go_of}
+use Rattle.blocking_parts.proofs.Types.{Strike}
+use Rattle.blocking_parts.proofs.Words.{Parts, row_of, let_go_of, let_go_by}
 use Rattle.blocking_parts.specs.contracts.parts.Parts.{the_view}
 use Rattle.blocking_parts.proofs.moves.Steps.{idles, struck}
 use Rattle.blocking_parts.proofs.parts.Parts.strike.Goals as goal
