@@ -17,6 +17,9 @@ use std::io::{Read, Write};
 // How many bytes are handed on at once.
 const PIECE: usize = 65_536;
 
+// How many bytes are read ahead at most, and how many written behind: two pieces, so that all of them stay in a processor's cache.
+const AHEAD: usize = 131_072;
+
 // The pool's jobs: one reads, and one writes.
 #[derive(Drop)]
 enum CopyJob<R: Drop, W: Drop, H: Runtime> {
@@ -219,10 +222,14 @@ pub fn copy<H: Host, R: Read + Drop + Send + 'static, W: Write + Drop + Send + '
     let executor: Executor<CopyJob<R, W, H>, H> = Executor::new(rt, setting).map_err(
         BlkFault::Refused,
     )?;
-    let reader: Unblock<R, (), CopyJob<R, W, H>, H> = Unblock::new(executor.try_clone()?, input);
+    let reader: Unblock<R, (), CopyJob<R, W, H>, H> = Unblock::with_capacity(
+        AHEAD,
+        executor.try_clone()?,
+        input,
+    );
     let copying = Copying {
         input: reader,
-        output: Unblock::<W, (), CopyJob<R, W, H>, H>::new(executor, output),
+        output: Unblock::<W, (), CopyJob<R, W, H>, H>::with_capacity(AHEAD, executor, output),
         piece,
         front: 0,
         end: 0,
