@@ -1,5 +1,5 @@
 -- What a poll of an owner does, by its call and where the handle is.
-use Rattle.std.specs.Prelude.{ℕ, zero, suc, nat_le, if◌then◌else◌, ◌&&◌, Bool, true, false, Option, Some, None}
+use Rattle.std.specs.Prelude.{ℕ, zero, suc, nat_le, if◌then◌else◌, Bool, true, false, Option, Some, None}
 use Rattle.blocking_core.specs.Machines.{wake_first}
 use Rattle.blocking_core.specs.Positions.{same_position}
 use Rattle.blocking_core.specs.declared.io.Fault.{Fault}

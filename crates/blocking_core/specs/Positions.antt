@@ -1,5 +1,5 @@
 -- Positions of a handle.
-use Rattle.std.specs.Prelude.{ℕ, ◌==◌, ℤ, pos, negsuc, Bool, true, false}
+use Rattle.std.specs.Prelude.{◌==◌, ℤ, pos, negsuc, Bool, false}
 use Rattle.blocking_core.specs.declared.io.Position.{Position}
 use Rattle.blocking_core.specs.declared.io.Position.TheVariants.{Start, Current, End}
 

@@ -1,5 +1,5 @@
 -- What a reading job does after an answer.
-use Rattle.std.specs.Prelude.{ℕ, zero, suc, min, nat_le, if◌then◌else◌, Bool, true, false}
+use Rattle.std.specs.Prelude.{zero, suc, min, nat_le, if◌then◌else◌, Bool, true, false}
 use Rattle.blocking_core.specs.Machines.{Machine, machine, wake_first}
 use Rattle.blocking_core.specs.declared.job.read.ReadAction.{ReadAction}
 use Rattle.blocking_core.specs.declared.job.read.ReadAction.TheVariants.{FindRoom, Read, Put, Close, Finish, Deliver, Done}

@@ -1,5 +1,5 @@
 -- What a writing job does after an answer.
-use Rattle.std.specs.Prelude.{ℕ, zero, suc, nat_le, if◌then◌else◌, Bool, true, false, Option, Some, None}
+use Rattle.std.specs.Prelude.{zero, suc, nat_le, if◌then◌else◌, Bool, true, false, Option, Some, None}
 use Rattle.blocking_core.specs.Machines.{Machine, machine, wake_first}
 use Rattle.blocking_core.specs.declared.io.JobFault.{JobFault}
 use Rattle.blocking_core.specs.declared.io.JobFault.TheVariants.{Io, WriteZero}

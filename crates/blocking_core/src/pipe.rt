@@ -1,5 +1,5 @@
 //! The bounded pipe through which bytes or items cross between a job and its owner.
-ghost use Rattle.std.specs.Prelude.{◌≡◌, ◌<◌, ◌≤◌, ◌++◌, false, length, min, take, drop, vec_capacity, IfOk, Some, None};
+ghost use Rattle.std.specs.Prelude.{◌≡◌, ◌<◌, ◌≤◌, ◌+◌, ◌++◌, false, length, min, take, drop, vec_capacity, IfOk, Some, None};
 
 use crate::task::Seat;
 use blocking_pool::pool::{JobNo, WakeNote};
@@ -89,7 +89,7 @@ pub enum Sending<X: Drop, W: Drop> {
 /// What a job finds that looks at the front.
 #[derive(Clone, Copy, Debug, PartialEq, Eq)]
 pub enum Peeked {
-    /// So many items were copied, one at least. They are still inside.
+    /// So many items are shown, one at least. They are still inside.
     Some(usize),
     /// The pipe is empty: the job is seated.
     Parked,
@@ -146,6 +146,24 @@ fn copy_front<X: Copy>(ring: &HeapCircularBuffer<X>, out: &mut [X]) -> usize
     out[..from_front].copy_from_slice(&front[..from_front]);
     out[from_front..count].copy_from_slice(&back[..from_back]);
     count
+}
+
+// Appends the first `count` items of the ring, for which the piece has memory.
+fn append_front<X: Copy>(ring: &HeapCircularBuffer<X>, count: usize, piece: &mut Vec<X>)
+    requires inside { count ≤ length ring.now.items }
+    requires fits { length piece.old.items + count ≤ vec_capacity piece.old }
+    ensures items { piece.new.items ≡ piece.old.items ++ take count ring.now.items }
+    ensures room { vec_capacity piece.old ≤ vec_capacity piece.new }
+{
+    let (front, back) = ring.as_slices();
+    let from_front = front.len().min(count);
+    let from_back = count - from_front;
+    let Ok(()) = piece.extend_from_slice(&front[..from_front]) else {
+        unreachable!()
+    };
+    let Ok(()) = piece.extend_from_slice(&back[..from_back]) else {
+        unreachable!()
+    };
 }
 
 impl<X: Drop, W: Drop> Pipe<X, W> {
@@ -325,23 +343,20 @@ impl<X: Copy, W: Drop> Pipe<X, W> {
         self.ring.fill_from_slice(items)
     }
 
-    // Moves the front of what is inside into a piece, as many items as that holds, and tells how many they were.
-    fn move_front(&mut self, piece: &mut Vec<X>) -> usize
-        requires room { 0 < vec_capacity piece.old }
-        requires some { 0 < length self.old.items }
-        ensures count { (0 < result) × (result ≤ length self.old.items) }
+    // Moves the front of what is inside into a piece, as many items as are asked for at most, and tells how many they were.
+    fn move_front(&mut self, most: usize, piece: &mut Vec<X>) -> usize
+        requires { most ≤ vec_capacity piece.old }
+        ensures count { result ≡ min most (length self.old.items) }
         ensures piece { piece.new.items ≡ take result self.old.items }
         ensures pipe { self.new ≡ record self.old { items = drop result self.old.items } }
         ensures room { vec_capacity piece.old ≤ vec_capacity piece.new }
     {
-        let count = self.ring.len().min(piece.capacity());
-        let Some(first) = self.ring.front() else {
-            unreachable!()
-        };
-        let Ok(()) = piece.resize(count, *first) else {
-            unreachable!()
-        };
-        self.ring.read_into(piece.as_mut_slice())
+        let count = most.min(self.len());
+        let left = self.len() - count;
+        piece.clear();
+        append_front(&self.ring, count, piece);
+        self.ring.truncate_front(left);
+        count
     }
 
     /// The job puts items, for all of which there is room.

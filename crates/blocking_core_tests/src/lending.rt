@@ -3,7 +3,8 @@ use crate::pipe::bench::Bench;
 use crate::stop::stop;
 use blocking_core::pipe::{Answered, Filled, LendingPipe, Peeked};
 use blocking_core::pool::JobNo;
-use std::alloc::Global;
+use std::alloc::{AllocGlobal, Global};
+use std::process::Abort;
 
 // The owner's waker.
 const OWNER: u8 = 7;
@@ -48,7 +49,7 @@ enum Shown {
 // A call, what it shows, how many bytes are lent then, and for how many more there is room.
 type Line = (Step, Shown, usize, usize);
 
-// Capacity 5: the first two pieces go through as they are, and the bytes after them through the ring.
+// Capacity 5: the first two pieces go through as they are, the bytes after them through the ring, and the last piece as it is again.
 const PIECES: &[Line] = &[
     (Step::Lend, Shown::Parked, 0, 5),
     (Step::Fill(b'a', 2), Shown::Took(2, Some(1)), 0, 3),
@@ -70,6 +71,21 @@ const PIECES: &[Line] = &[
     (Step::Fill(b'i', 2), Shown::Over, 2, 3),
     (Step::Consume(2), Shown::Waker(None), 0, 5),
     (Step::Lend, Shown::Drained, 0, 5),
+];
+
+// Capacity 5: a piece for which there is room goes through the ring, since a byte stands there, and later bytes go round it.
+const BEHIND_A_BYTE: &[Line] = &[
+    (Step::Fill(b'a', 1), Shown::Took(1, None), 0, 4),
+    (Step::Fill(b'b', 2), Shown::Took(2, None), 0, 2),
+    (Step::Lend, Shown::Lent(b'a', 2), 2, 2),
+    (Step::Consume(2), Shown::Waker(None), 0, 4),
+    (Step::Fill(b'd', 3), Shown::Took(3, None), 0, 1),
+    (Step::Lend, Shown::Lent(b'c', 2), 2, 1),
+    (Step::Consume(2), Shown::Waker(None), 0, 3),
+    (Step::Lend, Shown::Lent(b'e', 2), 2, 3),
+    (Step::Consume(1), Shown::Waker(None), 1, 4),
+    (Step::Consume(1), Shown::Waker(None), 0, 5),
+    (Step::Lend, Shown::Parked, 0, 5),
 ];
 
 // A pipe, what stands ready of its owner, and what its job has in its hand.
@@ -122,10 +138,16 @@ impl Both {
         let Answered { answer, spare } = self
             .pipe
             .fill_or_seat(OWNER, &bytes[..count], &mut self.ready);
-        match answer {
+        let shown = match answer {
             Filled::Took(count, note) => Shown::Took(count, self.bench.spend(note)),
             Filled::Shut => Shown::Over,
-            Filled::Waits(_) => Shown::Waits(spare),
+            Filled::Waits(_) => return Shown::Waits(spare),
+        };
+        // (who needn't wait has its waker back)
+        if spare == Some(OWNER) {
+            shown
+        } else {
+            Shown::Misplaced
         }
     }
 
@@ -134,7 +156,10 @@ impl Both {
             return Shown::Misplaced;
         }
         match self.pipe.lend_or_seat(self.job, &mut self.hand) {
-            Peeked::Some(count) if in_order(&self.hand) => match self.hand.first() {
+            Peeked::Some(count) if count == self.hand.len() && in_order(&self.hand) => match self
+                .hand
+                .first()
+            {
                 Some(first) => Shown::Lent(*first, count),
                 None => Shown::Misplaced,
             },
@@ -161,16 +186,44 @@ impl Both {
     }
 }
 
-#[test]
-fn pieces_and_other_bytes_are_lent_in_order(rt: HostRuntime) {
-    let name = "a pipe that lends";
+// Takes the steps of a row, and stops the test at the first that shows something else.
+fn play<R: AllocGlobal + Abort>(rt: &R, name: &str, lines: &[Line]) {
     let Some(mut both) = Both::new(rt.alloc()) else {
-        stop(&rt, name, PIECES.len())
+        stop(rt, name, lines.len())
     };
-    for (place, (step, shown, lent, room)) in PIECES.iter().enumerate() {
+    for (place, (step, shown, lent, room)) in lines.iter().enumerate() {
         let is = both.take_step(*step);
         if is != *shown || both.pipe.lent() != *lent || both.pipe.room() != *room {
-            stop(&rt, name, place);
+            stop(rt, name, place);
         }
+    }
+}
+
+#[test]
+fn pieces_and_other_bytes_are_lent_in_order(rt: HostRuntime) {
+    play(&rt, "pieces, and bytes that are none", PIECES);
+}
+
+#[test]
+fn piece_behind_a_byte_is_lent_after_it(rt: HostRuntime) {
+    play(&rt, "a piece behind a byte", BEHIND_A_BYTE);
+}
+
+// The pieces are told from one another by their memory.
+#[test]
+fn whole_pieces_are_moved(rt: HostRuntime) {
+    let name = "a whole piece";
+    let Some(mut both) = Both::new(rt.alloc()) else {
+        stop(&rt, name, 0)
+    };
+    let Ok(ready) = Vec::with_capacity(rt.alloc(), 7) else {
+        stop(&rt, name, 1)
+    };
+    both.ready = ready;
+    if both.fill(b'a', WHOLE) != Shown::Took(WHOLE, None) || both.ready.capacity() != WHOLE {
+        stop(&rt, name, 2);
+    }
+    if both.lend() != Shown::Lent(b'a', WHOLE) || both.hand.capacity() != 7 {
+        stop(&rt, name, 3);
     }
 }

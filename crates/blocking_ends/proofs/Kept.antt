@@ -45,11 +45,11 @@ module _ {X : Type 0} (holds : ℕ → X → Type 0) where
       subst (λ place. holds place x) here (held (count + i) x (sym (slice_get-drop count items i (count + i) refl) ∙ at))
 
   -- of those that are left some more go
-  pub hold_more : (n m gone count : ℕ) (items : List X) → m ≡ n + count → HoldFrom holds n (drop gone items) → HoldFrom holds m (drop (gone + count) items)
-  hold_more n m gone count items is held i x at =
+  pub hold_more : (n m consumed count : ℕ) (items : List X) → m ≡ n + count → HoldFrom holds n (drop consumed items) → HoldFrom holds m (drop (consumed + count) items)
+  hold_more n m consumed count items is held i x at =
       let place : n + (count + i) ≡ m + i = omega (arith, is) in
-      let there = slice_get-drop (gone + count) items i (gone + (count + i)) (omega arith) in
-      let here = slice_get-drop gone items (count + i) (gone + (count + i)) refl in
+      let there = slice_get-drop (consumed + count) items i (consumed + (count + i)) (omega arith) in
+      let here = slice_get-drop consumed items (count + i) (consumed + (count + i)) refl in
       subst (λ k. holds k x) place (held (count + i) x (here ∙ sym there ∙ at))
 
   -- items that join at the end hold from there on
@@ -164,7 +164,7 @@ module _ {X : Type 0} (holds : ℕ → X → Type 0) (ended : ℕ → Type 0) wh
 
     -- items were let go of those that were lent
     pub consumed_kept : (old new : Lending X W) (count sent received : ℕ) (is_open : Bool)
-        → new ≡ record { pipe = record old.pipe { owner_seat = None }; lent = old.lent - count } → count ≤ old.lent → is_open ≡ old.pipe.is_owner_open
+        → new ≡ record old { pipe = record old.pipe { owner_seat = None }; lent = old.lent - count } → count ≤ old.lent → is_open ≡ old.pipe.is_owner_open
         → IsKept holds ended old.pipe.items sent (received + old.lent) old.pipe.is_owner_open
         → (is_open ≡ new.pipe.is_owner_open) × IsKept holds ended new.pipe.items sent (received + count + new.lent) new.pipe.is_owner_open
     consumed_kept old new count sent received is_open after some same kept =
@@ -196,7 +196,7 @@ module _ {X : Type 0} (holds : ℕ → X → Type 0) (ended : ℕ → Type 0) wh
         let here : received + old.lent ≡ received = omega (arith, none) in
         subst (λ p. (is_open ≡ p.pipe.is_owner_open) × IsKept holds ended p.pipe.items sent (received + p.lent) p.pipe.is_owner_open) (sym lends.3) (
           same,
-          left_kept old.pipe.items sent received n old.pipe.is_owner_open lends.1
+          left_kept old.pipe.items sent received n old.pipe.is_owner_open (omega (arith, lends.1))
               (subst (λ m. IsKept holds ended old.pipe.items sent m old.pipe.is_owner_open) here kept),
         )
     lent_kept old new me peeking.Parked piece sent received is_open lends none same kept =

@@ -2,6 +2,7 @@
 -- greatest count, or after the sender's end was closed, is answered as if the other end were closed.
 use Rattle.std.specs.Prelude.{◌≡◌, ◌⊎◌, ℕ, ◌+◌, ◌<◌, min, Bool, false, List, length, Option, Some}
 use Rattle.blocking_pool.specs.Jobs.{JobNumber}
+use Rattle.blocking_core.specs.Pipes.{Pipe}
 use Rattle.blocking_core.specs.PipeAnswers as pipe
 use Rattle.blocking_core.specs.Lending as lending
 use Rattle.blocking_core.specs.declared.pipe.Room.{Room}
@@ -15,7 +16,7 @@ use Rattle.blocking_core.specs.declared.pipe.Received.{Received}
 use Rattle.blocking_core.specs.declared.pipe.Filled.{Filled}
 use Rattle.blocking_core.specs.declared.pipe.Filled.TheVariants as filled
 use Rattle.blocking_ends.specs.Answers.{got_by_drain, got_by_receive}
-use Rattle.blocking_ends.specs.Counted.{Counted, CountedLending}
+use Rattle.blocking_ends.specs.Counted.{Counted}
 
 -- the greatest number of items that may be sent
 abbrev pub greatest : ℕ
@@ -25,52 +26,47 @@ greatest = 18446744073709551615
 abbrev pub TakesNone : ℕ → Bool → Bool → ℕ → Type 0
 TakesNone sent is_open is_read n = (is_read ≡ false) ⊎ ((is_open ≡ false) ⊎ (greatest < sent + n))
 
+-- so many more were sent, and so many more received
+pub record Counts {P : Type 0} (old : Counted P) (more got : ℕ) (new : Counted P) : Type 0 where
+  pub sent : new.sent ≡ old.sent + more
+  pub received : new.received ≡ old.received + got
+
 module _ {X W : Type 0} where
-  -- so many more were sent, and so many more received
-  pub record Counts (old : Counted X W) (more got : ℕ) (new : Counted X W) : Type 0 where
-    pub sent : new.sent ≡ old.sent + more
-    pub received : new.received ≡ old.received + got
-
-  -- the same where the pipe lends
-  pub record LendingCounts (old : CountedLending X W) (more got : ℕ) (new : CountedLending X W) : Type 0 where
-    pub sent : new.sent ≡ old.sent + more
-    pub received : new.received ≡ old.received + got
-
   -- the job looks for room
-  abbrev pub FindsRoom : Counted X W → JobNumber → Room → Counted X W → Type 0
+  abbrev pub FindsRoom : Counted (Pipe X W) → JobNumber → Room → Counted (Pipe X W) → Type 0
   FindsRoom old me answer new = pipe.FindsRoom old.pipe me answer new.pipe × Counts old 0 0 new
 
   -- the job puts items: all of them are inside, or they are lost
-  abbrev pub Puts : Counted X W → List X → Put W → Counted X W → Type 0
+  abbrev pub Puts : Counted (Pipe X W) → List X → Put W → Counted (Pipe X W) → Type 0
   Puts old given (put.In waker) new = pipe.Puts old.pipe given (put.In waker) new.pipe × Counts old (length given) 0 new
   Puts old given put.Lost new = TakesNone old.sent old.pipe.is_job_open old.pipe.is_owner_open (length given) × (new ≡ old)
 
   -- the job sends an item: it is inside, or it comes back
-  abbrev pub Sends : Counted X W → JobNumber → X → Sending X W → Counted X W → Type 0
+  abbrev pub Sends : Counted (Pipe X W) → JobNumber → X → Sending X W → Counted (Pipe X W) → Type 0
   Sends old me item (sending.Sent waker) new = pipe.Sends old.pipe me item (sending.Sent waker) new.pipe × Counts old 1 0 new
   Sends old me item (sending.Parked back) new = pipe.Sends old.pipe me item (sending.Parked back) new.pipe × Counts old 0 0 new
   Sends old me item (sending.Shut back) new =
       TakesNone old.sent old.pipe.is_job_open old.pipe.is_owner_open 1 × (back ≡ item) × (new ≡ old)
 
   -- the owner drains
-  abbrev pub Drains : Counted X W → W → List X → Drained → Option W → Counted X W → List X → Type 0
+  abbrev pub Drains : Counted (Pipe X W) → W → List X → Drained → Option W → Counted (Pipe X W) → List X → Type 0
   Drains old waker out answer spare new got = pipe.Drains old.pipe waker out answer spare new.pipe got × Counts old 0 (got_by_drain answer) new
 
   -- the owner receives
-  abbrev pub Receives : Counted X W → W → Received X → Option W → Counted X W → Type 0
+  abbrev pub Receives : Counted (Pipe X W) → W → Received X → Option W → Counted (Pipe X W) → Type 0
   Receives old waker answer spare new = pipe.Receives old.pipe waker answer spare new.pipe × Counts old 0 (got_by_receive answer) new
 
   -- the owner fills: as many as there is room for are inside; or none, and the waker comes back; or the owner is seated
-  abbrev pub Fills : CountedLending X W → W → List X → Filled → Option W → CountedLending X W → Type 0
+  abbrev pub Fills : Counted (lending.Lending X W) → W → List X → Filled → Option W → Counted (lending.Lending X W) → Type 0
   Fills old waker given (filled.Took n of_job) spare new =
-      lending.FillsIn old.pipe waker given (filled.Took n of_job) spare new.pipe × LendingCounts old n 0 new
+      lending.FillsIn old.pipe waker given (filled.Took n of_job) spare new.pipe × Counts old n 0 new
   Fills old waker given filled.Shut spare new =
       TakesNone old.sent old.pipe.pipe.is_owner_open old.pipe.pipe.is_job_open (min (length given) (lending.free old.pipe))
       × (spare ≡ Some waker)
       × (new ≡ old)
   Fills old waker given (filled.Waits seat) spare new =
-      lending.FillsIn old.pipe waker given (filled.Waits seat) spare new.pipe × LendingCounts old 0 0 new
+      lending.FillsIn old.pipe waker given (filled.Waits seat) spare new.pipe × Counts old 0 0 new
 
-  -- the job, which has nothing in its hand, is lent the front of what is inside
-  abbrev pub Lends : CountedLending X W → JobNumber → Peeked → List X → CountedLending X W → Type 0
-  Lends old me answer piece new = lending.Lends old.pipe me answer piece new.pipe × LendingCounts old 0 0 new
+  -- the job, which has nothing in its hand, is lent the front of what stands in the pipe
+  abbrev pub Lends : Counted (lending.Lending X W) → JobNumber → Peeked → List X → Counted (lending.Lending X W) → Type 0
+  Lends old me answer piece new = lending.Lends old.pipe me answer piece new.pipe × Counts old 0 0 new

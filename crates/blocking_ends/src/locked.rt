@@ -28,12 +28,13 @@ pub(crate) struct JobToOwner<X: Drop, R: PlaceRule<X>> {
 
 impl<X: Drop, R: PlaceRule<X>> Model for JobToOwner<X, R> {
     ghost use Rattle.std.specs.Prelude.{◌≡◌, Option};
+    ghost use Rattle.blocking_core.specs.Pipes.{Pipe as Seen, pipe_code};
     ghost use Rattle.blocking_ends.specs.Counted.{Counted, IsKept, counted_code, waker_code};
     ghost use Rattle.futures.specs.declared.task.waker.Waker.{Waker};
 
-    ghost Value = { Counted X (Option Waker) };
+    ghost Value = { Counted (Seen X (Option Waker)) };
 
-    ghost coded = { counted_code X.code waker_code };
+    ghost coded = { counted_code (pipe_code X.code waker_code) };
 
     ghost view = { λ p. record { pipe = p.pipe; sent = p.sent; received = p.received } };
 
@@ -204,12 +205,13 @@ pub(crate) struct OwnerToJob<X: Drop, R: PlaceRule<X>> {
 
 impl<X: Drop, R: PlaceRule<X>> Model for OwnerToJob<X, R> {
     ghost use Rattle.std.specs.Prelude.{◌≡◌, ◌+◌, Option};
-    ghost use Rattle.blocking_ends.specs.Counted.{CountedLending, IsKept, counted_lending_code, waker_code};
+    ghost use Rattle.blocking_core.specs.Lending.{Lending, lending_code};
+    ghost use Rattle.blocking_ends.specs.Counted.{Counted, IsKept, counted_code, waker_code};
     ghost use Rattle.futures.specs.declared.task.waker.Waker.{Waker};
 
-    ghost Value = { CountedLending X (Option Waker) };
+    ghost Value = { Counted (Lending X (Option Waker)) };
 
-    ghost coded = { counted_lending_code X.code waker_code };
+    ghost coded = { counted_code (lending_code X.code waker_code) };
 
     ghost view = { λ p. record { pipe = p.pipe; sent = p.sent; received = p.received } };
 
@@ -220,14 +222,15 @@ impl<X: Drop, R: PlaceRule<X>> Model for OwnerToJob<X, R> {
 
 impl<X: Drop, R: PlaceRule<X>> OwnerToJob<X, R> {
     ghost use Rattle.blocking_core.specs.Pipes.{empty_pipe};
-    ghost use Rattle.blocking_ends.specs.Sections.{LendingCounts};
+    ghost use Rattle.blocking_ends.specs.Sections.{Counts};
 
-    /// An empty pipe for at most `capacity` items, whose pieces are of `piece`, or an [`AllocError`] where there isn't memory for so many.
+    /// An empty pipe for at most `capacity` items that lends `piece` of them at once at most, or an [`AllocError`] where there isn't memory
+    /// for so many.
     pub(crate) fn new(alloc: Global, capacity: usize, piece: usize) -> Result<Self, AllocError>
         requires some { 0 < capacity }
         requires piece { 0 < piece }
         ensures { IfOk result (λ new. new ≡
-            record { pipe = record { pipe = empty_pipe capacity; lent = 0 }; sent = 0; received = 0 }) }
+            record { pipe = record { pipe = empty_pipe capacity; piece = piece; lent = 0 }; sent = 0; received = 0 }) }
     {
         Ok(OwnerToJob {
             pipe: LendingPipe::new(alloc, capacity, piece)?,
@@ -252,6 +255,13 @@ impl<X: Drop, R: PlaceRule<X>> OwnerToJob<X, R> {
         self.received
     }
 
+    /// How many items are lent at once at most.
+    pub(crate) fn piece(&self) -> usize
+        ensures { result ≡ self.now.pipe.piece }
+    {
+        self.pipe.piece()
+    }
+
     /// How many items are lent.
     pub(crate) fn lent(&self) -> usize
         ensures { result ≡ self.now.pipe.lent }
@@ -262,11 +272,9 @@ impl<X: Drop, R: PlaceRule<X>> OwnerToJob<X, R> {
     /// The owner closes its end, where the items may end. From then on none is taken.
     pub(crate) fn close_owner(&mut self) -> Option<WakeNote>
         requires { R.ended self.old.sent }
-        ensures pipe { self.new.pipe ≡ record {
-          pipe = record self.old.pipe.pipe { is_owner_open = false; job_seat = None };
-          lent = self.old.pipe.lent;
-        } }
-        ensures counts { LendingCounts self.old 0 0 self.new }
+        ensures pipe { self.new.pipe ≡
+            record self.old.pipe { pipe = record self.old.pipe.pipe { is_owner_open = false; job_seat = None } } }
+        ensures counts { Counts self.old 0 0 self.new }
         ensures note { result ≡ self.old.pipe.pipe.job_seat }
     {
         self.is_open = false;
@@ -276,11 +284,11 @@ impl<X: Drop, R: PlaceRule<X>> OwnerToJob<X, R> {
     /// The job lets so many go of the items that it was lent.
     pub(crate) fn consume(&mut self, count: usize) -> Option<OwnerWaker>
         requires { count ≤ self.old.pipe.lent }
-        ensures pipe { self.new.pipe ≡ record {
+        ensures pipe { self.new.pipe ≡ record self.old.pipe {
           pipe = record self.old.pipe.pipe { owner_seat = None };
           lent = self.old.pipe.lent - count;
         } }
-        ensures counts { LendingCounts self.old 0 count self.new }
+        ensures counts { Counts self.old 0 count self.new }
         ensures waker { result ≡ self.old.pipe.pipe.owner_seat }
     {
         let waker = self.pipe.consume(count);
@@ -290,11 +298,9 @@ impl<X: Drop, R: PlaceRule<X>> OwnerToJob<X, R> {
 
     /// The job closes its end.
     pub(crate) fn close_job(&mut self) -> Option<OwnerWaker>
-        ensures pipe { self.new.pipe ≡ record {
-          pipe = record self.old.pipe.pipe { is_job_open = false; owner_seat = None };
-          lent = self.old.pipe.lent;
-        } }
-        ensures counts { LendingCounts self.old 0 0 self.new }
+        ensures pipe { self.new.pipe ≡
+            record self.old.pipe { pipe = record self.old.pipe.pipe { is_job_open = false; owner_seat = None } } }
+        ensures counts { Counts self.old 0 0 self.new }
         ensures waker { result ≡ self.old.pipe.pipe.owner_seat }
     {
         self.pipe.close_job()
@@ -337,13 +343,13 @@ impl<X: Copy, R: PlaceRule<X>> OwnerToJob<X, R> {
         Answered { answer, spare }
     }
 
-    /// The job, which has nothing in its hand, is lent the front of what is inside, each item of which holds at its place, or finds the
-    /// end.
+    /// The job, which has nothing in its hand, is lent the front of what stands in the pipe, a piece at most, each item of which holds at its
+    /// place, or finds the end.
     pub(crate) fn lend_or_seat(&mut self, me: JobNo, piece: &mut Vec<X>) -> Peeked
         requires none { self.old.pipe.lent ≡ 0 }
-        requires room { 0 < vec_capacity piece.old }
+        requires room { self.old.pipe.piece ≤ vec_capacity piece.old }
         ensures lends { Lends self.old me result piece.new.items self.new }
-        ensures room { 0 < vec_capacity piece.new }
+        ensures room { self.old.pipe.piece ≤ vec_capacity piece.new }
         ensures held { IfShown result (λ _. HoldFrom R.holds self.old.received piece.new.items) }
         ensures ended { OnDrained result (R.ended self.old.received) }
     {

@@ -29,8 +29,8 @@ pub fn link<X: Drop, R: PlaceRule<X>, H: Wait + AllocGlobal + Copy>(
     Ok((SendEnd::new(rt, theirs), RecvEnd::new(rt, pipe)))
 }
 
-/// A new pipe for at most `capacity` items that an owner sends to its job: the owner's end and the job's. All its memory is taken
-/// here, and where there isn't so much the answer is an [`AllocError`].
+/// A new pipe for at most `capacity` items that an owner sends to its job, by pieces of 65,536 at most: the owner's end and the job's. All
+/// its memory is taken here, twice the capacity and two pieces, and where there isn't so much the answer is an [`AllocError`].
 pub fn link_in<X: Drop, R: PlaceRule<X>, H: Wait + AllocGlobal + Copy>(
     rt: H,
     capacity: usize,

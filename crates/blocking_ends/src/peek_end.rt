@@ -12,22 +12,22 @@ use std::sync::{Arc, Mutex, Wait};
 /// The end of a job that receives from its owner: the item from each place holds there, by the rule `R`. The job is lent items, which
 /// count as inside until it lets them go, and looks at them under no lock.
 ///
-/// As at the other end, a call uses the pipe only where that has the count that this end knows of and what it was lent, and else
-/// tries again.
+/// As at the other end, a call uses the pipe only where that has the count that this end knows of and has lent as much as it still has,
+/// and where its own memory holds a piece, and else tries again.
 ///
 /// A waker that a call answers was taken out of its seat, and is to be called. One that is let go calls itself.
 #[derive(Drop)]
 pub struct PeekEnd<X: Drop, R: PlaceRule<X>, H: Wait + Copy> {
     pipe: Arc<Mutex<OwnerToJob<X, R>>>,
     received: u64,
-    // What was lent last, and how many of it were let go.
+    // What was lent last, and how many of it were consumed.
     piece: Vec<X>,
-    gone: usize,
+    consumed: usize,
     rt: H,
 }
 
 // What came of a consume: the waker of an owner who waited, and how many items were consumed until then.
-struct Parted {
+struct Consumed {
     waker: Option<OwnerWaker>,
     received: u64,
 }
@@ -41,23 +41,22 @@ impl<X: Drop, R: PlaceRule<X>, H: Wait + Copy> Model for PeekEnd<X, R, H> {
 
     ghost coded = { peeking_code X.code };
 
-    ghost view = { λ e. record { received = e.received; shown = drop e.gone e.piece.items } };
+    ghost view = { λ e. record { received = e.received; shown = drop e.consumed e.piece.items } };
 
-    ghost invariant = { λ e. (e.gone ≤ vec_len e.piece) × (0 < vec_capacity e.piece)
-        × HoldFrom R.holds e.received (drop e.gone e.piece.items) };
+    ghost invariant = { λ e. (e.consumed ≤ vec_len e.piece)
+        × HoldFrom R.holds e.received (drop e.consumed e.piece.items) };
 }
 
 impl<X: Drop, R: PlaceRule<X>, H: Wait + Copy> PeekEnd<X, R, H> {
     pub(crate) fn new(rt: H, pipe: Arc<Mutex<OwnerToJob<X, R>>>, piece: Vec<X>) -> Self
         requires none { piece.items ≡ [] }
-        requires room { 0 < vec_capacity piece }
         ensures { result ≡ record { received = 0; shown = [] } }
     {
         PeekEnd {
             pipe,
             received: 0,
             piece,
-            gone: 0,
+            consumed: 0,
             rt,
         }
     }
@@ -73,11 +72,18 @@ impl<X: Drop, R: PlaceRule<X>, H: Wait + Copy> PeekEnd<X, R, H> {
     pub fn shown(&self) -> &[X]
         ensures { result.now ≡ self.now.shown }
     {
-        &self.piece[self.gone..]
+        &self.piece[self.consumed..]
+    }
+
+    // How many items are shown.
+    fn left(&self) -> usize
+        ensures { result ≡ length self.now.shown }
+    {
+        self.piece.len() - self.consumed
     }
 
     // Lets items go under the lock, where so many are lent.
-    fn part(&self, lent: usize, count: usize) -> Parted
+    fn consume_lent(&self, lent: usize, count: usize) -> Consumed
         requires { count ≤ lent }
         ensures { result.received ≡ self.now.received + count }
     {
@@ -86,7 +92,7 @@ impl<X: Drop, R: PlaceRule<X>, H: Wait + Copy> PeekEnd<X, R, H> {
             if pipe.received() == self.received && pipe.lent() == lent {
                 let waker = pipe.consume(count);
                 let received = pipe.received();
-                return Parted { waker, received };
+                return Consumed { waker, received };
             }
         }
         unreachable!()
@@ -99,10 +105,10 @@ impl<X: Drop, R: PlaceRule<X>, H: Wait + Copy> PeekEnd<X, R, H> {
         ensures received { self.new.received ≡ self.old.received + count }
         ensures shown { self.new.shown ≡ drop count self.old.shown }
     {
-        let left = self.piece.len() - self.gone;
-        let Parted { waker, received } = self.part(left, count);
+        let left = self.left();
+        let Consumed { waker, received } = self.consume_lent(left, count);
         self.received = received;
-        self.gone += count;
+        self.consumed += count;
         waker
     }
 
@@ -112,7 +118,7 @@ impl<X: Drop, R: PlaceRule<X>, H: Wait + Copy> PeekEnd<X, R, H> {
     {
         for _ in self.rt.forever() {
             let mut pipe = enter(&self.pipe, &self.rt);
-            if pipe.received() == self.received {
+            if pipe.received() == self.received && pipe.lent() == self.left() {
                 return pipe.close_job();
             }
         }
@@ -124,16 +130,17 @@ impl<X: Copy, R: PlaceRule<X>, H: Wait + Copy> PeekEnd<X, R, H> {
     ghost use Rattle.blocking_ends.specs.Answers.{IfShown, OnDrained, shown_by};
     ghost use Rattle.blocking_ends.specs.Rules.{HoldFrom};
 
-    /// Shows the first items, and leaves them inside: what is left of those that were shown last, or else the next ones. Where the pipe
-    /// is empty and the owner's end is open the job is seated.
+    /// Shows the first items, and leaves them inside: what is left of those that were shown last, though more may be behind them, or else
+    /// the next ones. Where the pipe is empty and the owner's end is open the job is seated.
     pub fn peek_or_seat(&mut self, me: JobNo) -> Peeked
+        ensures rest { 0 < length self.old.shown → self.new ≡ self.old }
         ensures received { self.new.received ≡ self.old.received }
         ensures shown { length self.new.shown ≡ shown_by result }
         ensures some { IfShown result (λ n. 0 < n) }
         ensures held { HoldFrom R.holds self.old.received self.new.shown }
         ensures ended { OnDrained result (R.ended self.old.received) }
     {
-        let left = self.piece.len() - self.gone;
+        let left = self.left();
         if left > 0 {
             return Peeked::Some(left);
         }
@@ -142,9 +149,12 @@ impl<X: Copy, R: PlaceRule<X>, H: Wait + Copy> PeekEnd<X, R, H> {
             if pipe.received() != self.received || pipe.lent() != 0 {
                 continue;
             }
+            if pipe.piece() > self.piece.capacity() {
+                continue;
+            }
             let peeked = pipe.lend_or_seat(me, &mut self.piece);
             drop(pipe);
-            self.gone = match peeked {
+            self.consumed = match peeked {
                 Peeked::Some(_) => 0,
                 Peeked::Parked | Peeked::Drained => self.piece.len(),
             };

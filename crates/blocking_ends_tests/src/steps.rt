@@ -26,7 +26,7 @@ enum Step {
     CloseSender,
     CloseReceiver,
     Fill(&'static [u64]),
-    // The job peeks into a buffer for three, and consumes so many.
+    // The job peeks, and consumes so many of what it is shown.
     Take(usize),
     Filled,
     Taken,

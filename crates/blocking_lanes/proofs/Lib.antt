@@ -1,3 +1,5 @@
+pub mod Types
+pub mod Words
 pub mod cuts
 pub mod acts
 pub mod ties

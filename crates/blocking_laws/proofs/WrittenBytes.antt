@@ -1,5 +1,5 @@
 -- A job takes no more out of its pipe than its writer took; so no more is accepted and not taken than the pipe holds.
-use Rattle.std.proofs.Common.{◌≡◌, refl, sym, ap, ◌∙◌, ℕ, suc, zero, ◌+◌, ◌-◌, ◌≤◌, ◌==◌, Bool, true, false, if◌then◌else◌, List, [], ◌∷◌, ◌++◌, length, Option, Some, None, arith, length-append}
+use Rattle.std.proofs.Common.{◌≡◌, refl, sym, ap, ◌∙◌, ℕ, suc, zero, ◌+◌, ◌≤◌, ◌==◌, Bool, true, false, if◌then◌else◌, List, [], ◌∷◌, length, Option, Some, None, arith, length-append}
 use Rattle.std.specs.Prelude.{drop, take, map, filter, not, ◌&&◌, ◌||◌}
 use Rattle.std.proofs.lemmas.Bool.{eqb-true}
 use Rattle.std.proofs.lemmas.Bool.Decides.{nat_tests}
@@ -10,10 +10,10 @@ use Rattle.blocking_laws.specs.Behind.{WritesBehind, AllWriteBehind}
 use Rattle.blocking_laws.specs.Core.{Met, Served, Waiting, Closed, drain, receive, fill, find_room, hand_in, peek}
 use Rattle.blocking_laws.specs.JobTable.{Kind, Calling, Reading, Writing, Streaming, Seeking, Operating, JobAction, AskBytes, FindRoom, PutPiece, Peek, OfferBytes, Consume, AskItem, SendItem, CloseEnd, PutResult, Finish, WakeHolder, Over, piece, next_but_wake, next_of_job, next_after_answer, after_put, wake_first, takes_waker, is_answer, has_closed, has_result, has_finished, number}
 use Rattle.blocking_laws.specs.Legal.{Legal}
-use Rattle.blocking_laws.specs.OwnerLaws.{Polls, OwnerActs, Works, JobActs, JobMayAct, OwnerMayAct, OwnerLaw, OwnerLaws}
+use Rattle.blocking_laws.specs.OwnerLaws.{Polls, OwnerActs, Works, JobActs, JobMayAct, OwnerMayAct, OwnerLaws}
 use Rattle.blocking_laws.specs.OwnerSeats.{noted, pipe_seat}
 use Rattle.blocking_laws.specs.OwnerTable.{OwnerAction, Begin, CloseOwn, WakeJob, Drain, Fill, Receive, PollSlot, PollPlace, Say, Rest, next_of_owner}
-use Rattle.blocking_laws.specs.Passed.{accepted, taken, removed, peeked, counted, inside, inside_by, last_job, last_kind, kind_in, is_of_session, room_in}
+use Rattle.blocking_laws.specs.Passed.{accepted, taken, removed, peeked, counted, inside, inside_by, last_job, kind_in, is_of_session, room_in}
 use Rattle.blocking_laws.specs.Places.{seen_drain, seen_receive, seen_fill, seen_room, seated, seen_put, seen_peek, poll_slot, poll_place}
 use Rattle.blocking_laws.specs.Seen.{events, cut, own, acts_of, is_of_job, is_of_pool, is_nothing, is_some_worker, is_this}
 use Rattle.blocking_laws.specs.Sessions.{Session, last_session, jobs_of, kind_of_job, kind_of, call, capacity, is_shut}

@@ -1,6 +1,6 @@
 -- Short traces with owners that operate on their handle, and with those that take it back, for the theorems that show what their laws
 -- accept and refuse. They are written as those of `OwnerTraces`.
-use Rattle.std.specs.Prelude.{List, [], ◌∷◌, Some, None}
+use Rattle.std.specs.Prelude.{List, [], Some, None}
 use Rattle.blocking_pool.specs.declared.pool.answer.Woke.TheVariants.{Entered}
 use Rattle.blocking_pool.specs.declared.pool.standing.Standing.TheVariants.{Done}
 use Rattle.blocking_laws.specs.Traces.{◌▸◌, moment, starting}

@@ -1,6 +1,6 @@
 -- Short traces with owners that seek, for the theorems that show what their laws accept and refuse. They are written as those of
 -- `OwnerTraces`.
-use Rattle.std.specs.Prelude.{List, [], ◌∷◌, None, pos}
+use Rattle.std.specs.Prelude.{List, None, pos}
 use Rattle.blocking_core.specs.declared.io.Position.TheVariants.{Start, Current}
 use Rattle.blocking_pool.specs.declared.pool.standing.Standing.TheVariants.{Done}
 use Rattle.blocking_laws.specs.Traces.{◌▸◌, moment, starting}

@@ -1,5 +1,5 @@
 -- What contracts see of a writing job, and what each of its steps does.
-use Rattle.std.specs.Prelude.{◌+◌, ◌≡◌, ◌<◌, ◌≤◌, ℕ, Bool, List, take, drop, Option, Some, None, refl}
+use Rattle.std.specs.Prelude.{◌+◌, ◌≡◌, ◌<◌, ◌≤◌, ℕ, Bool, List, length, min, take, drop, Option, Some, None, refl}
 use Rattle.std.specs.Coded.{Coded, code_by, coded×, coded_bool, coded_ℕ, coded_list, coded_option}
 use Rattle.std.specs.Io.KnownBytes.{Appends, Keeps}
 use Rattle.std.specs.declared.io.Error.{Error}
@@ -34,7 +34,7 @@ write_code {T} code =
     (λ seen. (seen.core, (seen.writer, (seen.piece, seen.received))))
     (λ parts. record { core = parts.0; writer = parts.1.0; piece = parts.1.1.0; received = parts.1.1.1 }) (λ _. refl)
 
--- this is an answer to that action: one byte at least was copied, and no more were taken than were offered
+-- this is an answer to that action: one byte at least is shown, and no more were taken than were offered
 abbrev pub Answers : WriteAction → WriteAnswer Error → Type 0
 Answers Peek (by.Peeked count) = (0 < count) × (count ≤ 65536)
 Answers Peek by.Parked = Unit {0}
@@ -67,14 +67,16 @@ module _ {T : Type 0} where
   held contents (Some writer) = contents writer
 
   -- What becomes of the writer and the piece: a write offers the first bytes of the piece and no others, and of these the writer holds
-  -- those that it took; nothing else changes what it holds. Bytes leave the front of the piece as they are let go, and only a peek
-  -- brings others.
+  -- those that it took; nothing else changes what it holds. Bytes leave the front of the piece as they are let go, and only a peek brings
+  -- others, once none are left: one that finds some left shows these. What it tells is how many it shows, 65536 at most.
   abbrev pub Hands : (T → Option (List ℕ)) → WriteAction → WriteAnswer Error → WriteSeen T → WriteSeen T → Type 0
   Hands contents (Write most) (by.Took count) old new =
       Appends (held contents old.writer) (held contents new.writer) (take count (take most old.piece)) × (new.piece ≡ old.piece)
   Hands contents (Write most) answer old new = Keeps (held contents old.writer) (held contents new.writer) × (new.piece ≡ old.piece)
   Hands contents Flush answer old new = Keeps (held contents old.writer) (held contents new.writer) × (new.piece ≡ old.piece)
-  Hands contents Peek answer old new = new.writer ≡ old.writer
+  Hands contents Peek (by.Peeked count) old new =
+      (new.writer ≡ old.writer) × (count ≡ min (length new.piece) 65536) × (0 < length old.piece → new.piece ≡ old.piece)
+  Hands contents Peek answer old new = (new.writer ≡ old.writer) × (length new.piece ≡ 0)
   Hands contents (Consume count) answer old new = (new.writer ≡ old.writer) × (new.piece ≡ drop count old.piece)
   Hands contents Finish answer old new = (new.writer ≡ None) × (new.piece ≡ old.piece)
   Hands contents action answer old new = (new.writer ≡ old.writer) × (new.piece ≡ old.piece)

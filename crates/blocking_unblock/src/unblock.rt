@@ -58,7 +58,8 @@ impl<T: Drop, I: Drop, J: Job, H: Runtime> Unblock<T, I, J, H> {
         }
     }
 
-    /// The owner of a handle, whose sessions have pipes for at most `capacity` bytes or items.
+    /// The owner of a handle, whose sessions have pipes for at most `capacity` bytes or items. One that writes takes twice as much memory, and
+    /// two pieces, of 65,536 bytes or of the capacity where that is less.
     pub fn with_capacity(capacity: usize, executor: Executor<J, H>, handle: T) -> Self
         requires { 0 < capacity }
         ensures place { result.place ≡ AtOwner handle }

@@ -371,7 +371,9 @@ pub(crate) fn first_wrong<H: Host + Print>(
     let handle = Gated::new(rt.alloc(), Arc::try_clone(&gate)?)?;
     let mut owner = match way {
         Way::TooMuch => Unblock::with_capacity(usize::MAX, executor, handle),
-        Way::Default | Way::MayBeRefused => Unblock::new(executor, handle),
+        Way::Default => Unblock::new(executor, handle),
+        // (for the whole handle, and few pieces of memory)
+        Way::MayBeRefused => Unblock::with_capacity(131_072, executor, handle),
     };
     for (place, step) in steps.iter().enumerate() {
         let is_right = match way {

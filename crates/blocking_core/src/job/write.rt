@@ -11,9 +11,9 @@ use std::marker::Model;
 /// What a writing job does next.
 #[derive(Clone, Copy, Debug, PartialEq, Eq)]
 pub enum WriteAction {
-    /// Copy the front of the pipe: at most 65,536 bytes.
+    /// Look at the front of the pipe: at most 65,536 bytes.
     Peek,
-    /// Offer the writer so many bytes, those that were copied.
+    /// Offer the writer so many bytes, those that are shown.
     Write(usize),
     /// Let so many bytes leave the pipe, which the writer took.
     Consume(usize),
@@ -32,7 +32,7 @@ pub enum WriteAction {
 /// How an action was answered. `woke` says that the owner's waker was taken out of its seat, and has to be called.
 #[derive(Clone, Copy, Debug, PartialEq, Eq)]
 pub enum WriteAnswer<E> {
-    /// So many bytes were copied, one at least and 65,536 at most. They are still inside.
+    /// So many bytes are shown, one at least and 65,536 at most. They are still inside.
     Peeked(usize),
     /// The pipe is empty, and the job is seated: its run ends waiting.
     Parked,

@@ -1,9 +1,10 @@
 //! A pipe that lends a job what stands at its front, so that the job uses it under no lock.
-ghost use Rattle.std.specs.Prelude.{◌≡◌, ◌<◌, ◌≤◌, ◌+◌, ◌-◌, ◌++◌, ℕ, List, [], Option, true, false, length, take, drop, min, vec_capacity, IfOk, None};
+ghost use Rattle.std.specs.Prelude.{◌≡◌, ◌<◌, ◌≤◌, ◌+◌, ◌-◌, ◌++◌, ℕ, List, [], Option, true, false, length, take, drop, min, vec_len, vec_capacity, IfOk, None};
 ghost use Rattle.std.specs.Bool.{OnTrue, OnFalse};
 ghost use Rattle.blocking_pool.specs.Jobs.{JobNumber};
 ghost use Rattle.blocking_core.specs.PipeAnswers.{Fills, Peeks};
-ghost use Rattle.blocking_core.specs.Lending.{Lending, FillsIn, Lends, in_hand, whole};
+ghost use Rattle.blocking_core.specs.Pipes.{empty_pipe, room};
+ghost use Rattle.blocking_core.specs.Lending.{Lending, FillsIn, Lends, free, in_hand, whole};
 ghost use Rattle.blocking_core.specs.declared.pipe.Filled.{Filled};
 ghost use Rattle.blocking_core.specs.declared.pipe.Peeked.{Peeked};
 ghost use Rattle.blocking_core.specs.declared.pipe.Peeked.TheVariants.{Some};
@@ -16,82 +17,90 @@ use std::alloc::{AllocError, Global};
 use std::marker::Model;
 use std::mem;
 
-// Items that were filled in at once, one at least.
-#[derive(Drop)]
-struct Piece<X: Drop> {
-    items: Vec<X>,
-}
-
-impl<X: Drop> Model for Piece<X> {
-    ghost use Rattle.std.specs.Prelude.{◌<◌, List, length};
-    ghost use Rattle.std.specs.Coded.{coded_list};
-
-    ghost Value = { List X };
-
-    ghost coded = { coded_list X.code };
-
-    ghost view = { λ p. p.items.items };
-
-    ghost invariant = { λ p. 0 < length p.items.items };
-}
-
-/// A pipe from an owner to a job to which it lends its items.
+/// A pipe from an owner to a job to which it lends its items, a piece at a time.
 ///
-/// What the owner hands over by whole pieces goes to the job as it is, and is copied under no lock. What it fills in otherwise is
-/// copied into the pipe, and from there into the job's piece. What the job was lent counts as inside until it lets it go.
+/// A whole piece of the owner's goes to the job as it is, where there is room for all of it and nothing stands in the ring, and is copied
+/// under no lock. Other items are copied into the ring, and from there into the job's piece. What the job was lent counts as inside until
+/// it lets it go.
 #[derive(Drop)]
 pub struct LendingPipe<X: Drop, W: Drop> {
-    // What goes first.
-    pieces: HeapCircularBuffer<Piece<X>>,
-    // What goes next, the ends and the seats.
+    // What stands in front, in whole pieces.
+    pieces: HeapCircularBuffer<Vec<X>>,
+    // What stands behind them, in its ring, with the ends and the seats.
     pipe: Pipe<X, W>,
     // Memory for pieces.
     spent: Vec<Vec<X>>,
-    // How many items stand in the pieces, and how many are lent.
+    // How many items a piece has, how many stand in pieces, and how many are lent.
+    piece: usize,
     queued: usize,
     lent: usize,
 }
 
+// Memory for so many pieces, of so many items each.
+fn empty_pieces<X: Drop>(
+    alloc: Global,
+    most: usize,
+    piece: usize,
+) -> Result<Vec<Vec<X>>, AllocError>
+    ensures all { IfOk result (λ pieces. vec_len pieces ≡ most) }
+    ensures room { IfOk result (λ pieces. most ≤ vec_capacity pieces) }
+{
+    let mut pieces = Vec::with_capacity(alloc, most)?;
+    for _ in 0..most {
+        pieces.push_reserved(Vec::with_capacity(alloc, piece)?);
+    }
+    Ok(pieces)
+}
+
 impl<X: Drop, W: Drop> Model for LendingPipe<X, W> {
-    ghost use Rattle.std.specs.Prelude.{◌++◌, length};
-    ghost use Rattle.std.specs.List.{flat_map};
-    ghost use Rattle.blocking_core.specs.Lending.{Lending, lending_code, IsCounted};
+    ghost use Rattle.std.specs.Prelude.{◌≡◌, ◌++◌, length, flat_map, vec_items, vec_len, vec_capacity};
+    ghost use Rattle.blocking_core.specs.Lending.{Lending, lending_code, IsQueue, IsSpare};
 
     ghost Value = { Lending X W };
 
     ghost coded = { lending_code X.code W.code };
 
     ghost view = { λ p. record {
-      pipe = record p.pipe { items = flat_map (λ piece. piece) p.pieces.items ++ p.pipe.items };
+      pipe = record p.pipe { items = flat_map vec_items p.pieces.items ++ p.pipe.items };
+      piece = p.piece;
       lent = p.lent;
     } };
 
-    ghost invariant = { λ p. IsCounted p.queued p.lent (length p.pipe.items) (length (flat_map (λ piece. piece) p.pieces.items)) p.pipe.capacity };
+    ghost invariant = { λ p.
+        IsQueue vec_items p.pieces.items p.piece p.queued (length p.pipe.items) p.lent p.pipe.capacity
+        × IsSpare (vec_len p.spent) (vec_capacity p.spent) (length p.pieces.items) p.pieces.capacity };
 }
 
 impl<X: Drop, W: Drop> LendingPipe<X, W> {
     ghost use Rattle.blocking_core.specs.Pipes.{empty_pipe};
     ghost use Rattle.blocking_core.specs.Lending.{free};
 
-    /// An empty pipe for at most `capacity` items, whose pieces are of `piece`, and both of whose ends are open. All its memory is taken
-    /// here, and where there isn't so much the answer is an [`AllocError`].
+    /// An empty pipe for at most `capacity` items that lends `piece` of them at once at most, and both of whose ends are open. All its memory
+    /// is taken here, for the capacity and for as many whole pieces as fit into it, and where there isn't so much the answer is an
+    /// [`AllocError`].
     pub fn new(alloc: Global, capacity: usize, piece: usize) -> Result<Self, AllocError>
         requires some { 0 < capacity }
         requires piece { 0 < piece }
-        ensures { IfOk result (λ pipe. pipe ≡ record { pipe = empty_pipe capacity; lent = 0 }) }
+        ensures { IfOk result (λ pipe. pipe ≡ record { pipe = empty_pipe capacity; piece = piece; lent = 0 }) }
     {
+        let pipe = Pipe::new(alloc, capacity)?;
         let most = capacity / piece;
-        let mut spent = Vec::with_capacity(alloc, most)?;
-        for _ in 0..most {
-            spent.push(Vec::with_capacity(alloc, piece)?)?;
-        }
+        let pieces = HeapCircularBuffer::with_capacity(alloc, most)?;
         Ok(LendingPipe {
-            pieces: HeapCircularBuffer::with_capacity(alloc, most)?,
-            pipe: Pipe::new(alloc, capacity)?,
-            spent,
+            pieces,
+            pipe,
+            spent: empty_pieces(alloc, most, piece)?,
+            piece,
             queued: 0,
             lent: 0,
         })
+    }
+
+    /// How many items are lent at once at most.
+    pub fn piece(&self) -> usize
+        ensures { result ≡ self.now.piece }
+    {
+        self.piece
     }
 
     /// How many items are lent.
@@ -112,7 +121,7 @@ impl<X: Drop, W: Drop> LendingPipe<X, W> {
     pub fn consume(&mut self, count: usize) -> Option<W>
         requires { count ≤ self.old.lent }
         ensures pipe { self.new ≡
-            record { pipe = record self.old.pipe { owner_seat = None }; lent = self.old.lent - count } }
+            record self.old { pipe = record self.old.pipe { owner_seat = None }; lent = self.old.lent - count } }
         ensures waker { result ≡ self.old.pipe.owner_seat }
     {
         self.lent -= count;
@@ -121,10 +130,8 @@ impl<X: Drop, W: Drop> LendingPipe<X, W> {
 
     /// The job closes its end. Answers the waker of an owner who waited.
     pub fn close_job(&mut self) -> Option<W>
-        ensures pipe { self.new ≡ record {
-          pipe = record self.old.pipe { is_job_open = false; owner_seat = None };
-          lent = self.old.lent;
-        } }
+        ensures pipe { self.new ≡
+            record self.old { pipe = record self.old.pipe { is_job_open = false; owner_seat = None } } }
         ensures waker { result ≡ self.old.pipe.owner_seat }
     {
         self.pipe.close_job()
@@ -132,44 +139,34 @@ impl<X: Drop, W: Drop> LendingPipe<X, W> {
 
     /// The owner closes its end. Answers the note of a job that waited. What is inside stays.
     pub fn close_owner(&mut self) -> Option<WakeNote>
-        ensures pipe { self.new ≡ record {
-          pipe = record self.old.pipe { is_owner_open = false; job_seat = None };
-          lent = self.old.lent;
-        } }
+        ensures pipe { self.new ≡
+            record self.old { pipe = record self.old.pipe { is_owner_open = false; job_seat = None } } }
         ensures note { result ≡ self.old.pipe.job_seat }
     {
         self.pipe.close_owner()
     }
 
-    // Takes a whole piece behind what is inside, where it goes first and there is memory for the next, which stands then in its place.
+    // Takes what stands ready as it is, where that is a whole piece, there is room for all of it and nothing stands in the ring. Memory for
+    // the next piece takes its place.
     fn hand_over(&mut self, ready: &mut Vec<X>) -> bool
         ensures took { OnTrue result ((0 < length ready.old.items) × (length ready.old.items ≤ free self.old)
             × (ready.new.items ≡ [])
-            × (self.new ≡ record {
-              pipe = record self.old.pipe { items = self.old.pipe.items ++ ready.old.items };
-              lent = self.old.lent;
-            })) }
+            × (self.new ≡ record self.old { pipe = record self.old.pipe { items = self.old.pipe.items ++ ready.old.items } })) }
         ensures left { OnFalse result ((ready.new.items ≡ ready.old.items) × (self.new ≡ self.old)) }
     {
-        let count = ready.len();
-        if count == 0 || count > self.room() || self.pipe.len() > 0 {
+        let places = self.pipe.room() - self.lent;
+        if ready.len() != self.piece || self.piece > places - self.queued || self.pipe.len() > 0 {
             return false;
         }
-        if self.pieces.len() >= self.pieces.capacity() {
-            return false;
-        }
-        let Some(queued) = self.queued.checked_add(count) else {
-            return false;
-        };
+        // (where there is room for a piece, there is one that is spent)
         let Some(mut next) = self.spent.pop() else {
             return false;
         };
         next.clear();
-        let items = mem::replace(ready, next);
-        let Ok(()) = self.pieces.try_push_back(Piece { items }) else {
+        let Ok(()) = self.pieces.try_push_back(mem::replace(ready, next)) else {
             unreachable!()
         };
-        self.queued = queued;
+        self.queued += self.piece;
         true
     }
 }
@@ -183,10 +180,8 @@ impl<X: Copy, W: Drop> LendingPipe<X, W> {
         requires room { 0 < free self.old }
         requires ready { IsReady ready.old.items items.now }
         ensures count { result ≡ min (length items.now) (free self.old) }
-        ensures pipe { self.new ≡ record {
-          pipe = record self.old.pipe { items = self.old.pipe.items ++ take result items.now };
-          lent = self.old.lent;
-        } }
+        ensures pipe { self.new ≡
+            record self.old { pipe = record self.old.pipe { items = self.old.pipe.items ++ take result items.now } } }
         ensures ready { IsReady ready.new.items items.now }
     {
         if self.hand_over(ready) {
@@ -197,7 +192,7 @@ impl<X: Copy, W: Drop> LendingPipe<X, W> {
     }
 
     /// The owner fills in the first of the items, as many as there is room for. Where the pipe is full and the job's end is open the
-    /// owner is seated. What stands ready is a copy of the items, or nothing; a copy that makes a whole piece may be taken, and then
+    /// owner is seated. What stands ready is a copy of the items, or nothing; a copy that makes a whole piece may be taken as it is, and then
     /// memory for the next comes back.
     pub fn fill_or_seat(&mut self, waker: W, items: &[X], ready: &mut Vec<X>) -> Answered<Filled, W>
         requires some { 0 < length items.now }
@@ -224,27 +219,24 @@ impl<X: Copy, W: Drop> LendingPipe<X, W> {
         }
     }
 
-    /// The job, which has let go of all that it was lent, is lent the front of what is inside: a whole piece, for which its own is taken,
-    /// or as much as that holds. Where the pipe is empty and the owner's end is open the job is seated.
+    /// The job, which has let go of all that it was lent, is lent the front of what stands in the pipe, a piece at most: a whole one as it
+    /// is, for which the job's own is taken, or else a copy in that. Where the pipe is empty and the owner's end is open the job is
+    /// seated.
     pub fn lend_or_seat(&mut self, me: JobNo, piece: &mut Vec<X>) -> Peeked
         requires none { self.old.lent ≡ 0 }
-        requires room { 0 < vec_capacity piece.old }
+        requires room { self.old.piece ≤ vec_capacity piece.old }
         ensures lends { Lends self.old me result piece.new.items self.new }
-        ensures room { 0 < vec_capacity piece.new }
+        ensures room { self.old.piece ≤ vec_capacity piece.new }
     {
-        if let Some(next) = self.pieces.pop_front() {
-            let Piece { items } = next;
-            let count = items.len();
-            // (a piece for which there is no place is let go)
-            let _ = self.spent.push(mem::replace(piece, items));
-            self.queued -= count;
-            self.lent = count;
-            return Peeked::Some(count);
+        if let Some(whole) = self.pieces.pop_front() {
+            self.spent.push_reserved(mem::replace(piece, whole));
+            self.queued -= self.piece;
+            self.lent = self.piece;
+            return Peeked::Some(self.piece);
         }
         if self.pipe.len() > 0 {
-            let count = self.pipe.move_front(piece);
-            self.lent = count;
-            return Peeked::Some(count);
+            self.lent = self.pipe.move_front(self.piece, piece);
+            return Peeked::Some(self.lent);
         }
         if !self.pipe.is_owner_open() {
             return Peeked::Drained;
@@ -255,20 +247,35 @@ impl<X: Copy, W: Drop> LendingPipe<X, W> {
 }
 
 /// A pipe that lends is the plain one: seen whole, with what the job has in its hand at the front, it answers and leaves in each call what
-/// [`Pipe`] does. A job that still has something in its hand is shown that again, as by a peek into as many places.
+/// [`Pipe`] does, and what is lent is always what is in that hand. A job that still has something there is shown that again, as by a peek
+/// into as many places.
 pub fn lending_is_plain<X: Drop, W: Drop>()
+    ensures new { (capacity piece : ℕ) →
+        whole {X = X} {W = W} [] (record { pipe = empty_pipe capacity; piece = piece; lent = 0 }) ≡ empty_pipe capacity }
+    ensures room { (seen : Lending X W) (hand : List X) →
+        length hand ≡ seen.lent → free seen ≡ room (whole hand seen) }
     ensures fills { (old new : Lending X W) (hand given : List X) (waker : W) (answer : Filled) (spare : Option W) →
         length hand ≡ old.lent → FillsIn old waker given answer spare new →
-        Fills (whole hand old) waker given answer spare (whole hand new) }
+        Fills (whole hand old) waker given answer spare (whole hand new) × (length hand ≡ new.lent) }
     ensures lends { (old new : Lending X W) (me : JobNumber) (answer : Peeked) (piece : List X) →
         old.lent ≡ 0 → Lends old me answer piece new →
-        Peeks (whole [] old) me piece answer (whole (in_hand answer piece) new) piece }
+        Peeks (whole [] old) me piece answer (whole (in_hand answer piece) new) piece
+        × (length (in_hand answer piece) ≡ new.lent) }
     ensures shows { (seen : Lending X W) (me : JobNumber) (hand : List X) →
         0 < length hand →
         Peeks (whole hand seen) me hand (Some (length hand)) (whole hand seen) hand }
     ensures lets_go { (old new : Lending X W) (hand : List X) (count : ℕ) →
         length hand ≡ old.lent → count ≤ old.lent →
-        new ≡ record { pipe = record old.pipe { owner_seat = None }; lent = old.lent - count } →
-        whole (drop count hand) new
-        ≡ record (whole hand old) { items = drop count (hand ++ old.pipe.items); owner_seat = None } }
+        new ≡ record old { pipe = record old.pipe { owner_seat = None }; lent = old.lent - count } →
+        (whole (drop count hand) new
+        ≡ record (whole hand old) { items = drop count (whole hand old).items; owner_seat = None })
+        × (length (drop count hand) ≡ new.lent) }
+    ensures job_closes { (old new : Lending X W) (hand : List X) →
+        new ≡ record old { pipe = record old.pipe { is_job_open = false; owner_seat = None } } →
+        (whole hand new ≡ record (whole hand old) { is_job_open = false; owner_seat = None }) × (new.lent ≡ old.lent) }
+    ensures owner_closes { (old new : Lending X W) (hand : List X) →
+        new ≡ record old { pipe = record old.pipe { is_owner_open = false; job_seat = None } } →
+        (whole hand new ≡ record (whole hand old) { is_owner_open = false; job_seat = None }) × (new.lent ≡ old.lent) }
+    ensures seats { (seen : Lending X W) (hand : List X) →
+        ((whole hand seen).owner_seat ≡ seen.pipe.owner_seat) × ((whole hand seen).job_seat ≡ seen.pipe.job_seat) }
 {}

@@ -68,8 +68,7 @@ held_runs crew v test held is = (held_is test (hand_at crew.hands v) held is).0
 
 -- where a job is in its turn that waits
 pub waits_at : (at : Stage) → is_waiting at ≡ true → at ≡ stage.Waits
-waits_at stage.Waits is = refl
-waits_at _ is = absurd cc
+waits_at at is = grind arith
 
 pub acts_by : (may_answer : ℕ → Bool → Type 0) (crew : Crew) (v : ℕ) (hand : Hand) (act : Act) (serial : ℕ) (event : Event) (hands : List Hand) → hand_at crew.hands v ≡ hand → Some serial ≡ acting_in hand act
     → hands ≡ with_hand crew.hands v (hand_after_act hand act) → event ≡ seen (Worker v) (Some serial) act (next_start crew) no_growth → Moves may_answer (Work v act) crew event (record { pool = crew.pool; hands = hands })

@@ -14,8 +14,7 @@ use Rattle.blocking_crew.proofs.ready.Hands.{over_ready}
 
 -- what is in a hand of a crew runs
 pub runs_at : (pool : JobPool) (row : List Hand) (n : ℕ) (hand : Hand) → IsReady (record { pool = pool; hands = row }) → slice_get row n ≡ Some hand → RunsIn pool.jobs hand
-runs_at pool row n (Holds held) ready found = ready.runs (n + 1) held (hand_from_place row n (Holds held) found)
-runs_at pool row n _ ready found = tt
+runs_at pool row n hand ready found = grind (arith, hand_from_place)
 
 -- a hand that holds no job
 abbrev pub HoldsNone : Hand → Type 0
@@ -23,9 +22,7 @@ HoldsNone hand = (held : Held) → hand ≡ Holds held → ⊥
 
 -- a hand after its turn has ended
 pub ended_holds_none : (hand after : Hand) (pool new : JobPool) → EndsTurn hand pool after new → HoldsNone after
-ended_holds_none Out after pool new ends held is = (let out = ends.0 in cc)
-ended_holds_none (Free pass) after pool new ends held is = (let free = ends.0 in cc)
-ended_holds_none (Holds one) after pool new ends held is = (let free = ends.1 in cc)
+ended_holds_none hand after pool new ends held is = grind arith
 
 -- a crew is ready after the turn of one hand has ended, where it had one
 pub still_ready : (pool new : JobPool) (row : List Hand) (place : ℕ) (hand after : Hand) → IsReady (record { pool = pool; hands = row }) → slice_get row place ≡ Some hand → EndsTurn hand pool after new
@@ -40,11 +37,7 @@ still_ready pool new row place (Holds held) after ready found ends =
 
 -- after all turns no hand holds a job
 pub all_idle : (pool : JobPool) (hands : List Hand) → IsReady (record { pool = pool; hands = hands }) → AllWithin HoldsNone hands 0 (length hands) → AreIdle pool hands
-all_idle pool row ready jobless = record {
-  valued = ready.valued;
-  idle = ready.idle;
-  jobless = λ n held found. jobless n (Holds held) (omega arith) (slice_get_within row n (Holds held) found) held (get_or_from_slice_get row n (Holds held) (Holds held) found);
-}
+all_idle pool row ready jobless = grind (arith, slice_get_within, get_or_from_slice_get)
 
 -- ---- one pass
 

@@ -1,5 +1,5 @@
 -- A free worker passes over the jobs of a queue.
-use Rattle.std.proofs.Common.{◌≡◌, ◌⊎◌, ℕ, ◌+◌, ◌-◌, ◌<◌, ◌==◌, Bool, true, false, ap, ◌∙◌, subst, refl, inl, inr, arith, Option, None}
+use Rattle.std.proofs.Common.{◌≡◌, ◌⊎◌, ℕ, ◌+◌, ◌-◌, ◌<◌, Bool, true, false, ap, ◌∙◌, subst, refl, inl, inr, arith, Option, None}
 use Rattle.std.proofs.lemmas.Bool.{cond_both}
 use Rattle.std.specs.FinMap.{get, insert, remove}
 use Rattle.blocking_crew.proofs.Types.{Took, Drop, Run, Ticket}
@@ -16,9 +16,7 @@ takes_front may_answer old between took number seen (inr dropped) takes = (dropp
 -- what a test that nothing passes says of the jobs, it says after one was passed over
 pub passed_at : (test : Option (Job Ticket) → Bool) (b : Bool) (jobs : Jobs Ticket) (t : ℕ) (entry : Job Ticket) (s : ℕ) → test None ≡ b → test (get jobs s) ≡ b
     → test (get (remove (insert jobs t entry) t) s) ≡ b
-passed_at test b jobs t entry s none was =
-    ap test (job_out (insert jobs t entry) t s (t == s) refl)
-    ∙ cond_both (t == s) None (get (insert jobs t entry) s) (λ found. test found ≡ b) (λ is. none) (λ is. ap test (job_put jobs t entry s false is) ∙ was)
+passed_at test b jobs t entry s none was = grind (arith, job_out, cond_both, job_put)
 
 module _ (may_answer : ℕ → Bool → Type 0) (old between new : JobPool) (number : JobNumber) (value : Ticket) (to_drop : Bool) (seen : Growth)
     (takes : TakesFront may_answer old number value to_drop seen between) where

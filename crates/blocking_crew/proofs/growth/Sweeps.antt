@@ -1,35 +1,24 @@
 -- What sweeps and waits do, with the growth that was read.
-use Rattle.std.proofs.Common.{◌≤◌, ◌≡◌, ℕ, ◌+◌, ◌<◌, nat_lt, arith, ◌∙◌, Bool, true, false, List, [], ◌∷◌, length, ap, subst, sym, refl, ◌&&◌, ◌||◌, is_some, Option, Some, None}
-use Rattle.std.proofs.Math.Bool.{or-true}
+use Rattle.std.proofs.Common.{◌≤◌, ◌≡◌, ℕ, ◌+◌, ◌<◌, arith, ◌∙◌, Bool, true, false, List, [], length, ap, subst, sym, refl, ◌&&◌, Option}
 use Rattle.std.proofs.lemmas.List.Elements.{filter_agree}
-use Rattle.blocking_crew.proofs.Types.{Waited, Stay, Stop, Standing, Parked, WorkerPass, Ticket}
-use Rattle.blocking_crew.proofs.Words.{limit_of, greatest, Asking, Growth, number_after, is_running, is_parked, Job, Jobs, jobs_after_requeue, is_parked_job, must_stop, StaysOrStops, IsSound, serials_below, AreAsked, swept, joined, NoneDue, no_growth, JobPool, is_marked_ticket, is_due_to_sweep, to_sweep, is_valued, AreValued, SweepsTo, SweepsIf, WaitsSo}
+use Rattle.blocking_crew.proofs.Types.{Waited, Stay, Stop, WorkerPass, Ticket}
+use Rattle.blocking_crew.proofs.Words.{limit_of, greatest, Asking, Growth, number_after, Job, Jobs, jobs_after_requeue, is_parked_job, StaysOrStops, IsSound, serials_below, AreAsked, swept, joined, NoneDue, no_growth, JobPool, is_due_to_sweep, to_sweep, AreValued, SweepsTo, SweepsIf, WaitsSo}
 use Rattle.std.specs.FinMap as map
 use Rattle.blocking_pool.specs.PoolAnswers.{Sweeps as CoreSweeps, SweepsTo as CoreSweepsTo, SweepsIf as CoreSweepsIf, Waits as CoreWaits}
-use Rattle.blocking_crew.proofs.growth.Calls.{is_marked_so, enters_again}
+use Rattle.blocking_crew.proofs.growth.Calls.{is_marked_so}
 use Rattle.blocking_crew.proofs.growth.Reads.{IsRead, numbers_last}
 use Rattle.blocking_crew.proofs.jobs.Tickets.{swept_valued, none_due, sweeps_nothing}
 
-due_by : (standing : Standing) (value : Option Ticket) (m : Bool) → is_running standing || is_some value ≡ true → ((ticket : Ticket) → standing ≡ Parked → value ≡ Some ticket → ticket.is_marked ≡ m)
-    → (is_parked standing && m) ≡ (is_parked standing && is_marked_ticket value)
-due_by Parked None m valued asked = absurd cc
-due_by Parked (Some ticket) m valued asked = sym (asked ticket refl refl)
-due_by _ value m valued asked = refl
-
 due_is : (jobs : Jobs Ticket) (marked : ℕ → Bool) (serial : ℕ) (found : Option (Job Ticket)) → map.get jobs serial ≡ found → AreValued jobs → AreAsked is_marked_so jobs marked
     → (is_parked_job found && marked serial) ≡ is_due_to_sweep found
-due_is jobs marked serial None at valued asked = refl
-due_is jobs marked serial (Some job) at valued asked =
-    due_by job.standing job.value (marked serial) (sym (ap is_valued at) ∙ valued serial) (λ ticket parked value. asked serial job ticket at parked value)
+due_is jobs marked serial found at valued asked = grind arith
 
 none_again : (asking : Asking) (old new : JobPool) (serials : List ℕ) → length serials ≡ 0 → CoreSweepsTo asking old serials new → SweepsTo asking.may_answer old serials no_growth new
-none_again asking old new [] none effect = (refl, effect.0)
-none_again asking old new (serial ∷ serials) none effect = absurd cc
+none_again asking old new serials none effect = grind arith
 
 some_again : (asking : Asking) (old new : JobPool) (serials : List ℕ) (seen : Growth) → (length serials ≡ 0 → ⊥) → CoreSweepsTo asking old serials new
     → IsRead (length new.queue) old.counts.workers (limit_of old.counts) new.counts seen → SweepsTo asking.may_answer old serials seen new
-some_again asking old new [] seen some effect read = absurd (some refl)
-some_again asking old new (serial ∷ serials) seen some effect read = enters_again asking old new (serial ∷ serials) seen effect read
+some_again asking old new serials seen some effect read = grind arith
 
 -- ---- what a sweep leaves
 
@@ -44,20 +33,14 @@ pub record LeftBySweep (old new : JobPool) (serials : List ℕ) (growth : Growth
   pub numbers : old.counts.next_worker ≤ greatest → old.counts.next_worker + growth.started ≤ greatest
 
 pub left_by : (may_answer : ℕ → Bool → Type 0) (old new : JobPool) (serials : List ℕ) (growth : Growth) → SweepsTo may_answer old serials growth new → LeftBySweep old new serials growth
-left_by may_answer old new [] growth sweeps =
-    rw (sweeps.0, sweeps.1) (record { jobs = refl; line = refl; serial = refl; level = refl; setting = refl; next = omega arith; numbers = λ within. omega (arith, within) })
-left_by may_answer old new (serial ∷ serials) growth sweeps =
-    rw sweeps.after_is
-    (record { jobs = refl; line = refl; serial = refl; level = omega arith; setting = refl; next = refl; numbers = numbers_last may_answer _ _ _ _ _ growth sweeps.starts })
+left_by may_answer old new serials growth sweeps = grind (arith, numbers_last)
 
 pub sweep_level : (timed_out : Bool) (may_answer : ℕ → Bool → Type 0) (old new : JobPool) (growth : Growth) → SweepsIf timed_out may_answer old growth new
     → new.counts.idle + old.counts.arriving ≡ old.counts.idle + new.counts.arriving
-sweep_level false may_answer old new growth sweeps = rw sweeps.1 refl
-sweep_level true may_answer old new growth sweeps = (left_by may_answer old new (to_sweep old) growth sweeps).level
+sweep_level timed_out may_answer old new growth sweeps = grind arith
 
 pub sweep_serial : (timed_out : Bool) (may_answer : ℕ → Bool → Type 0) (old new : JobPool) (growth : Growth) → SweepsIf timed_out may_answer old growth new → new.next_serial ≡ old.next_serial
-sweep_serial false may_answer old new growth sweeps = ap (λ (p : JobPool). p.next_serial) sweeps.1
-sweep_serial true may_answer old new growth sweeps = (left_by may_answer old new (to_sweep old) growth sweeps).serial
+sweep_serial timed_out may_answer old new growth sweeps = grind arith
 
 -- What a sweep does: these are put back, each job that doesn't run has its ticket, and none is due any more.
 pub record HasSwept (may_answer : ℕ → Bool → Type 0) (old : JobPool) (told : ℕ) (growth : Growth) (new : JobPool) : Type 0 where
@@ -79,12 +62,7 @@ module _ (asking : Asking) (old new : JobPool) (count : ℕ) (valued : AreValued
   sweeps_so = subst (λ (serials : List ℕ). CoreSweepsTo asking old serials new) as_told sweeps.effect
 
   has_swept : (growth : Growth) → IsSound old → SweepsTo asking.may_answer old (to_sweep old) growth new → HasSwept asking.may_answer old count growth new
-  has_swept growth sound after = record {
-    count = told;
-    after = after;
-    valued = rw (left_by asking.may_answer old new (to_sweep old) growth after).jobs (swept_valued old valued);
-    due = none_due old new.jobs sound.unused (left_by asking.may_answer old new (to_sweep old) growth after).jobs;
-  }
+  has_swept growth sound after = grind (arith, left_by, swept_valued, none_due)
 
   pub swept_none : IsSound old → count ≡ 0 → HasSwept asking.may_answer old count no_growth new
   swept_none sound none = has_swept no_growth sound (none_again asking old new (to_sweep old) (sym told ∙ none) sweeps_so)
@@ -103,14 +81,12 @@ again_nothing asking true old new valued none sweeps =
 -- the pool's wait, after a sweep that was made first
 pub waits_after_sweep : (asking : Asking) (timed_out : Bool) (old new : JobPool) (waited : Waited) → AreValued old.jobs → (timed_out ≡ true → NoneDue old)
     → CoreWaits is_marked_so asking timed_out old waited new → StaysOrStops timed_out old waited new
-waits_after_sweep asking timed_out old new waited valued none waits =
-    subst (λ (p : JobPool). StaysOrStops timed_out p waited new) (again_nothing asking timed_out old waits.between valued none waits.sweep) waits.answer
+waits_after_sweep asking timed_out old new waited valued none waits = grind (arith, again_nothing)
 
 -- of the pool a wait changes at most how many workers there are, and the bell
 pub wait_alone : (timed_out : Bool) (old new : JobPool) (waited : Waited) → StaysOrStops timed_out old waited new
     → new ≡ record old { counts = record old.counts { workers = new.counts.workers; idle = new.counts.idle; bell = new.counts.bell } }
-wait_alone timed_out old new (Stay pass) answer = rw answer.1 refl
-wait_alone timed_out old new Stop answer = rw answer.1 refl
+wait_alone timed_out old new waited answer = grind arith
 
 -- after a wait
 module _ (may_answer : ℕ → Bool → Type 0) (timed_out : Bool) (old new : JobPool) (waited : Waited) (growth : Growth) (waits : WaitsSo may_answer timed_out old waited growth new) where
@@ -126,10 +102,4 @@ module _ (may_answer : ℕ → Bool → Type 0) (timed_out : Bool) (old new : Jo
 
   -- where nothing is due and the queue is empty, a worker whose time is up doesn't stay
   pub no_stay : (pass : WorkerPass) → timed_out ≡ true → waited ≡ Stay pass → NoneDue old → old.queue ≡ [] → ⊥
-  no_stay pass late stays none empty =
-      let sweep = rw late at waits.sweep in
-      let same : waits.between ≡ old = (rw (sweeps_nothing old none) at sweep).1 in
-      let answer = rw stays at waits.answer in
-      let stop : must_stop timed_out waits.between ≡ true = rw (late, same, empty) (or-true (nat_lt (limit_of old.counts) old.counts.workers)) in
-      let bad : true ≡ false = sym stop ∙ answer.0 in
-      cc
+  no_stay pass late stays none empty = grind (arith, sweeps_nothing)

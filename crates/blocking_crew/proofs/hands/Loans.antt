@@ -1,6 +1,5 @@
 -- What is in the hand of a worker, comes out of it and is put into it.
 use Rattle.std.proofs.Common.{◌≡◌, ◌-◌, ◌==◌, ℕ, Bool, true, false, List, slice_get, Option, Some, None, if◌then◌else◌, ap, sym, subst, refl, arith, ◌∙◌, OnSome}
-use Rattle.std.proofs.lemmas.Option.{cond_some}
 use Rattle.std.proofs.lemmas.Bool.{cond_both}
 use Rattle.std.proofs.lemmas.Bool.Decides.{nat_tests}
 use Rattle.blocking_crew.proofs.Types.{WorkerPass, Hand, Free, Holds, Out, Held, Stage}
@@ -16,8 +15,7 @@ pass_is hand pass is = grind arith
 
 -- a job of which a test holds is what a hand holds
 pub held_is : (test : Stage → Bool) (hand : Hand) (held : Held) → Some held ≡ held_if test hand → (hand ≡ Holds held) × (test held.stage ≡ true)
-held_is test (Holds h) held is = let e = cond_some (test h.stage) h held (sym is) in (ap Holds e.1, ap (λ (x : Held). test x.stage) (sym e.1) ∙ e.0)
-held_is test _ held is = absurd cc
+held_is test hand held is = grind arith
 
 -- ---- the hands
 
@@ -37,10 +35,7 @@ changed_if {row'} {before} row v false changed at out is = is ∙ ap (with_hand 
 
 -- a worker whose hand was let out is there, and has nothing in hand
 pub is_out : (row : List Hand) (v : ℕ) (hand : Hand) → IsAt row v hand → hand_of (with_hand row v Out) v ≡ Some Out
-is_out row v hand at =
-    let positive = at.positive in
-    let there : (v == 0) ≡ false = grind (arith, nat_tests) in
-    ap (λ b. if b then None else slice_get (with_hand row v Out) (v - 1)) there ∙ got_same row (v - 1) Out at.within
+is_out row v hand at = grind (arith, nat_tests, got_same)
 
 -- ---- a hand that was lent
 

@@ -1,7 +1,6 @@
 -- The hands of workers: what stands in a row after a change of one hand, and sums over a row.
-use Rattle.std.proofs.Common.{◌≡◌, ℕ, ◌+◌, ◌-◌, ◌<◌, ◌==◌, List, [], ◌∷◌, ◌++◌, Bool, true, false, length, refl, sym, ap, ◌∙◌, subst, arith, if◌then◌else◌, Option, Some, None, zero, suc, slice_get, slice_set}
+use Rattle.std.proofs.Common.{◌≡◌, ℕ, ◌+◌, ◌-◌, ◌<◌, ◌==◌, List, [], ◌∷◌, ◌++◌, Bool, true, false, length, refl, sym, ap, ◌∙◌, subst, arith, if◌then◌else◌, Option, Some, zero, suc, slice_get, slice_set}
 use Rattle.std.proofs.lemmas.Bool.Decides.{nat_tests}
-use Rattle.std.proofs.lemmas.Bool.{eqb-true, eqb-false}
 use Rattle.std.proofs.lemmas.Option.{slice_get_past, slice_get_within}
 use Rattle.blocking_crew.proofs.Types.{Hand, Free, Holds, Out, Held}
 use Rattle.blocking_crew.proofs.Words.{hand_in, hand_at, with_hand, sum_of}
@@ -15,16 +14,11 @@ pub record IsAt (row : List Hand) (v : ℕ) (h : Hand) : Type 0 where
   pub got : slice_get row (v - 1) ≡ Some h
 
 at_by : (b : Bool) (o : Option Hand) (h : Hand) → (if b then Out else hand_in o) ≡ h → (h ≡ Out → ⊥) → (b ≡ false) × (o ≡ Some h)
-at_by true o h e in_use = absurd (in_use (sym e))
-at_by false None h e in_use = absurd (in_use (sym e))
-at_by false (Some g) h e in_use = (refl, ap Some e)
+at_by b o h e in_use = grind arith
 
 -- a hand that isn't out stands in the row
 pub is_at : (row : List Hand) (v : ℕ) (h : Hand) → hand_at row v ≡ h → (h ≡ Out → ⊥) → IsAt row v h
-is_at row v h e in_use =
-    let parts = at_by (v == 0) (slice_get row (v - 1)) h e in_use in
-    let positive : 0 < v = (let z = parts.0 in grind (arith, nat_tests, z)) in
-    record { positive = positive; within = slice_get_within row (v - 1) h parts.1; got = parts.1 }
+is_at row v h e in_use = grind (arith, at_by, nat_tests, slice_get_within)
 
 pub at_held : (row : List Hand) (v : ℕ) (held : Held) → hand_at row v ≡ Holds held → IsAt row v (Holds held)
 at_held row v held e = is_at row v (Holds held) e (λ z. cc)
@@ -37,21 +31,10 @@ pub hand_of_place : (row : List Hand) (v : ℕ) → 0 < v → hand_at row v ≡ 
 hand_of_place row v positive = let e : (v == 0) ≡ false = grind (arith, nat_tests) in rw e refl
 
 pub hand_from_place : (row : List Hand) (n : ℕ) (h : Hand) → slice_get row n ≡ Some h → hand_at row (n + 1) ≡ h
-hand_from_place row n h e =
-    let same : n + 1 - 1 ≡ n = omega arith in
-    hand_of_place row (n + 1) (omega arith) ∙ ap hand_in (ap (slice_get row) same ∙ e)
+hand_from_place row n h e = grind arith
 
 set_by : (row : List Hand) (v u : ℕ) (old h : Hand) → IsAt row v old → (b c : Bool) → (v == u) ≡ b → (u == 0) ≡ c → hand_at (with_hand row v h) u ≡ (if b then h else hand_at row u)
-set_by row v u old h at true c e z =
-    subst (λ n. hand_at (with_hand row v h) n ≡ h) (eqb-true v u e)
-    (hand_of_place (with_hand row v h) v at.positive ∙ ap hand_in (got_same row (v - 1) h at.within))
-set_by row v u old h at false true e z = rw z refl
-set_by row v u old h at false false e z =
-    let there : 0 < u = grind (arith, nat_tests) in
-    let here = at.positive in
-    let ne = eqb-false v u e in
-    let differs : v - 1 ≡ u - 1 → ⊥ = λ same. ne (omega (arith, same, here, there)) in
-    hand_of_place (with_hand row v h) u there ∙ ap hand_in (got_other row (v - 1) (u - 1) h differs) ∙ sym (hand_of_place row u there)
+set_by row v u old h at b c e z = grind (arith, hand_of_place, got_same, nat_tests, got_other)
 
 -- the hands after one has changed
 pub hand_set : (row : List Hand) (v u : ℕ) (old h : Hand) → IsAt row v old → hand_at (with_hand row v h) u ≡ (if v == u then h else hand_at row u)
@@ -73,9 +56,7 @@ hand_pushed row u h = pushed_by row u h (length row + 1 == u) (u == 0) refl refl
 
 -- the worker after the last has no hand
 pub hand_next : (row : List Hand) → hand_at row (length row + 1) ≡ Out
-hand_next row =
-    let same : length row + 1 - 1 ≡ length row = omega arith in
-    hand_of_place row (length row + 1) (omega arith) ∙ ap hand_in (ap (slice_get row) same ∙ slice_get_past row (length row) (omega arith))
+hand_next row = grind (arith, hand_of_place, slice_get_past)
 
 -- ---- sums over a row of hands
 

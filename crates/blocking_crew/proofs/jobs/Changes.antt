@@ -1,8 +1,8 @@
 -- What each move makes of the pool's jobs.
-use Rattle.std.proofs.Common.{◌≡◌, ℕ, ◌==◌, ◌&&◌, Bool, true, false, refl, ap, ◌∙◌, if◌then◌else◌, Option, Some, None, option_map, Ok, Err}
+use Rattle.std.proofs.Common.{◌≡◌, ℕ, ◌==◌, ◌&&◌, Bool, true, false, refl, ap, ◌∙◌, if◌then◌else◌, Option, Some, None, option_map, Ok, Err, arith}
 use Rattle.std.specs.FinMap.{get}
 use Rattle.blocking_crew.proofs.Types.{Memory, NoWorker, Numbers, Stay, Stop, Entered, Marked, Nothing, Ticket}
-use Rattle.blocking_crew.proofs.Words.{Growth, Job as Entry, Jobs, new_job, entry_after_take, entry_after_requeue, entry_after_park, entry_after_wake, entry_after_cancel, job_of, value_at, is_in, has_timed_out, Crew, Move, Adds, TakesJob, EndsTurn, Parks, HasWaited, Sweeps, IsWoken, IsCancelled, IsLetGo, after, May, new_ticket, JobPool, to_sweep, SweepsIf}
+use Rattle.blocking_crew.proofs.Words.{Growth, Job as Entry, new_job, entry_after_take, entry_after_requeue, entry_after_park, entry_after_wake, entry_after_cancel, job_of, value_at, is_in, has_timed_out, Crew, Move, Adds, TakesJob, EndsTurn, Parks, HasWaited, Sweeps, IsWoken, IsCancelled, IsLetGo, after, May, new_ticket, JobPool, to_sweep, SweepsIf}
 use Rattle.blocking_crew.specs.declared.tickets.Parking.TheVariants as parking
 use Rattle.blocking_crew.proofs.growth.Sweeps.{left_by}
 use Rattle.blocking_crew.proofs.jobs.Lookups.{job_put, job_out, job_changed, changed_twice, job_requeued}
@@ -34,8 +34,7 @@ change_of crew move = record { which = λ s. false; becomes = λ found. found }
 
 swept_at : (late : Bool) (may_answer : ℕ → Bool → Type 0) (old new : JobPool) (growth : Growth) (s : ℕ) → SweepsIf late may_answer old growth new
     → get new.jobs s ≡ (if late && is_in s (to_sweep old) then option_map entry_after_requeue (get old.jobs s) else get old.jobs s)
-swept_at false may_answer old new growth s sweeps = ap (λ (p : JobPool). get p.jobs s) sweeps.1
-swept_at true may_answer old new growth s sweeps = ap (λ (jobs : Jobs Ticket). get jobs s) (left_by may_answer old new (to_sweep old) growth sweeps).jobs ∙ job_requeued (to_sweep old) old.jobs s
+swept_at late may_answer old new growth s sweeps = grind (arith, left_by, job_requeued)
 
 -- a job after a move
 pub found_after : (may_answer : ℕ → Bool → Type 0) (crew : Crew) (move : Move) (s : ℕ) → May may_answer crew move

@@ -1,10 +1,10 @@
 -- Look-ups of a job in the pool, after a change of that job or of others.
-use Rattle.std.proofs.Common.{◌≡◌, ℕ, ◌==◌, ◌&&◌, ◌||◌, cond, Bool, true, false, refl, sym, ap, ◌∙◌, if◌then◌else◌, arith, List, [], ◌∷◌, Option, Some, None, option_map, filter}
+use Rattle.std.proofs.Common.{◌≡◌, ℕ, ◌==◌, ◌&&◌, ◌||◌, cond, Bool, true, refl, sym, ap, ◌∙◌, if◌then◌else◌, arith, List, [], ◌∷◌, Option, Some, None, option_map, filter}
 use Rattle.std.proofs.lemmas.Map.Views.{any-filter_same}
 use Rattle.std.specs.Ordering.{eq_by_cmp, nat_cmp}
 use Rattle.std.specs.Cmp.{nat_cmp_total}
 use Rattle.std.specs.FinMap.{get, insert, remove, get-insert, get-remove}
-use Rattle.std.proofs.lemmas.Bool.{eqb-true, eq-eqb}
+use Rattle.std.proofs.lemmas.Bool.{eqb-true}
 use Rattle.blocking_crew.proofs.Types.{Entered, Standing, Parked, Ticket}
 use Rattle.blocking_crew.proofs.Words.{JobNumber, Job as Entry, Jobs, entry_after_take, is_running_job, entry_after_requeue, if_at, is_running_as, jobs_after_change, amend, jobs_after_requeue, is_in, wake_of, cancel_of}
 use Rattle.blocking_pool.proofs.Lists.{eq_by_nat_cmp, turned}
@@ -23,49 +23,33 @@ job_out jobs t s b is = get-remove nat_cmp_total jobs t s ∙ ap (λ c. cond c N
 
 changed_at : (jobs : Jobs Ticket) (t : ℕ) (change : Entry Ticket → Entry Ticket) (s : ℕ) (b : Bool) (found : Option (Entry Ticket)) → get jobs t ≡ found → (t == s) ≡ b
     → get (jobs_after_change jobs t change found) s ≡ (if b then option_map change found else get jobs s)
-changed_at jobs t change s true None at is = ap (get jobs) (sym (eqb-true t s is)) ∙ at
-changed_at jobs t change s false None at is = refl
-changed_at jobs t change s b (Some entry) at is = job_put jobs t (change entry) s b is
+changed_at jobs t change s b found at is = grind (arith, job_put)
 
 -- the jobs after this one has changed
 pub job_changed : (jobs : Jobs Ticket) (t : ℕ) (change : Entry Ticket → Entry Ticket) (s : ℕ) (found : Option (Entry Ticket)) → get jobs t ≡ found
     → get (jobs_after_change jobs t change found) s ≡ (if t == s then option_map change (get jobs s) else get jobs s)
-job_changed jobs t change s found at = changed_at jobs t change s (t == s) found at refl ∙ by (t == s) refl
-  where
-    by : (b : Bool) → (t == s) ≡ b → (if b then option_map change found else get jobs s) ≡ (if b then option_map change (get jobs s) else get jobs s)
-    by true is = ap (option_map change) (sym at ∙ ap (get jobs) (eqb-true t s is))
-    by false is = refl
+job_changed jobs t change s found at = grind (arith, changed_at)
 
 -- and after it has changed again
 pub changed_twice : (jobs : Jobs Ticket) (t : ℕ) (one two : Entry Ticket → Entry Ticket) (s : ℕ)
     → get (amend (amend jobs t one) t two) s ≡ (if t == s then option_map two (option_map one (get jobs s)) else get jobs s)
-changed_twice jobs t one two s =
-    job_changed (amend jobs t one) t two s (get (amend jobs t one) t) refl ∙ ap (λ found. if t == s then option_map two found else found) (job_changed jobs t one s (get jobs t) refl) ∙ by (t == s)
-  where
-    by : (b : Bool) → (if b then option_map two (if b then option_map one (get jobs s) else get jobs s) else (if b then option_map one (get jobs s) else get jobs s))
-        ≡ (if b then option_map two (option_map one (get jobs s)) else get jobs s)
-    by true = refl
-    by false = refl
+changed_twice jobs t one two s = grind (arith, job_changed)
 
 -- a job that a wake or a cancel puts back is parked
 pub woken_is : (o : Option Standing) → Entered ≡ wake_of o → o ≡ Some Parked
-woken_is (Some Parked) e = refl
-woken_is _ e = absurd cc
+woken_is o e = grind arith
 
 pub cancelled_is : (o : Option Standing) → Entered ≡ cancel_of o → o ≡ Some Parked
-cancelled_is (Some Parked) e = refl
-cancelled_is _ e = absurd cc
+cancelled_is o e = grind arith
 
 -- a job that is found by its number is the job of that serial
 pub found_at : (place : ℕ) (found : Option (Entry Ticket)) (entry : Entry Ticket) → if_at place found ≡ Some entry → found ≡ Some entry
-found_at place None entry e = absurd cc
-found_at place (Some found) entry e = grind (arith, e)
+found_at place found entry e = grind arith
 
 twice : (b c : Bool) (found : Option (Entry Ticket))
     → (if c then option_map entry_after_requeue (if b then option_map entry_after_requeue found else found) else (if b then option_map entry_after_requeue found else found))
     ≡ (if b || c then option_map entry_after_requeue found else found)
-twice b c None = grind arith
-twice b c (Some entry) = grind arith
+twice b c found = grind arith
 
 -- the jobs after some entered again
 pub job_requeued : (serials : List ℕ) (jobs : Jobs Ticket) (s : ℕ)
@@ -78,14 +62,11 @@ job_requeued (t ∷ serials) jobs s =
 
 -- a job that was taken up runs
 pub taken_runs : (jobs : Jobs Ticket) (number : JobNumber) (entry : Entry Ticket) → entry.place ≡ number.place → is_running_as (insert jobs number.serial (entry_after_take entry)) number ≡ true
-taken_runs jobs number entry place =
-    ap (λ (o : Option (Entry Ticket)). is_running_job (if_at number.place o)) (job_put jobs number.serial (entry_after_take entry) number.serial true (eq-eqb number.serial number.serial refl))
-    ∙ ap (λ (b : Bool). is_running_job (if b then Some (entry_after_take entry) else None)) (eq-eqb entry.place number.place place)
+taken_runs jobs number entry place = grind (arith, job_put)
 
 -- a job of a number that runs is there, and runs
 pub runs_at : (place : ℕ) (found : Option (Entry Ticket)) → is_running_job (if_at place found) ≡ true → is_running_job found ≡ true
-runs_at place None runs = runs
-runs_at place (Some entry) runs = grind (arith, runs)
+runs_at place found runs = grind arith
 
 -- what a filter leaves is what was there and passes its test
 pub in_filter : (p : ℕ → Bool) (ns : List ℕ) (s : ℕ) → is_in s (filter p ns) ≡ (p s && is_in s ns)

@@ -1,6 +1,6 @@
 -- Marks on the tickets of jobs in the pool.
-use Rattle.std.proofs.Common.{◌≡◌, Option, Some, None, ap, ◌∙◌, subst, refl, ℕ, ◌==◌, Bool, true, false, sym, if◌then◌else◌, OnSome, option_map, IfSome}
-use Rattle.std.proofs.lemmas.Bool.{eqb-true, eq-eqb, cond_both}
+use Rattle.std.proofs.Common.{◌≡◌, Option, Some, None, ℕ, ◌==◌, Bool, true, false, if◌then◌else◌, OnSome, option_map, IfSome, arith}
+use Rattle.std.proofs.lemmas.Bool.{cond_both}
 use Rattle.std.specs.FinMap.{get}
 use Rattle.std.specs.Borrow.{MutBor}
 use Rattle.blocking_crew.proofs.Types.{Ticket}
@@ -9,19 +9,16 @@ use Rattle.blocking_crew.proofs.jobs.Lookups.{job_changed}
 
 -- a mark changes the jobs alone
 pub mark_alone : (pool : JobPool) (number : JobNumber) (value : Option Ticket) → pool_after_mark_of pool number value ≡ record pool { jobs = (pool_after_mark_of pool number value).jobs }
-mark_alone pool number None = refl
-mark_alone pool number (Some value) = refl
+mark_alone pool number value = grind arith
 
 -- so does a holder that lets go
 pub let_go_alone : (pool : JobPool) (number : Option JobNumber) → pool_after_let_go pool number ≡ record pool { jobs = (pool_after_let_go pool number).jobs }
-let_go_alone pool None = refl
-let_go_alone pool (Some number) = mark_alone pool number (value_at (job_of pool.jobs number))
+let_go_alone pool number = grind arith
 
 -- a value that was lent and marked
 pub lent_marked : (inside last : JobPool) (number : JobNumber) (lent : Option (MutBor Ticket)) (job : MutBor Ticket) → lent ≡ Some job
     → OnSome lent (last ≡ with_job inside number.serial (entry_with (ticket_after_mark job.now))) → Some job.now ≡ value_at (job_of inside.jobs number) → last ≡ pool_after_mark inside number
-lent_marked inside last number lent job is holds value =
-    subst (λ (r : Option (MutBor Ticket)). OnSome r (last ≡ with_job inside number.serial (entry_with (ticket_after_mark job.now)))) is holds ∙ ap (pool_after_mark_of inside number) value
+lent_marked inside last number lent job is holds value = grind arith
 
 -- ---- look-ups
 
@@ -40,35 +37,23 @@ abbrev pub mark_if : Bool → Entry Ticket → Entry Ticket
 mark_if b entry = record entry { value = mark_ticket b entry.value }
 
 unmarked : (found : Option (Entry Ticket)) → found ≡ option_map (mark_if false) found
-unmarked None = refl
-unmarked (Some entry) = refl
+unmarked found = grind arith
 
 -- the jobs after the ticket of one was marked, if it was there
 pub marked_by : (pool : JobPool) (number : JobNumber) (s : ℕ) (value : Option Ticket)
     → get (pool_after_mark_of pool number value).jobs s ≡ (if number.serial == s then option_map (mark_by value) (get pool.jobs s) else get pool.jobs s)
-marked_by pool number s None = cond_both (number.serial == s) (option_map (mark_by None) (get pool.jobs s)) (get pool.jobs s) (λ found. get pool.jobs s ≡ found) (λ is. unmarked (get pool.jobs s)) (λ is. refl)
-marked_by pool number s (Some value) = job_changed pool.jobs number.serial (entry_with (ticket_after_mark value)) s (get pool.jobs number.serial) refl
+marked_by pool number s value = grind (arith, cond_both, unmarked, job_changed)
 
 -- what is done to the job of a number marks its ticket
 marks_it : (found : Option (Entry Ticket)) (place : ℕ) (value : Option Ticket) → ((entry : Entry Ticket) → found ≡ Some entry → entry.place ≡ place) → value ≡ value_at (if_at place found)
     → option_map (mark_by value) found ≡ option_map (mark_if true) found
-marks_it None place value placed is = refl
-marks_it (Some entry) place value placed is =
-    marks_by value (is ∙ ap (λ c. value_at (if c then Some entry else None)) (eq-eqb entry.place place (placed entry refl)))
-  where
-    marks_by : (v : Option Ticket) → v ≡ entry.value → Some (mark_by v entry) ≡ Some (mark_if true entry)
-    marks_by None same = ap (λ v. Some (record entry { value = v })) (sym same) ∙ ap (λ v. Some (record entry { value = option_map ticket_after_mark v })) same
-    marks_by (Some ticket) same = ap (λ v. Some (record entry { value = option_map ticket_after_mark v })) same
+marks_it found place value placed is = grind arith
 
 -- the jobs after one was marked
 marked_at : (pool : JobPool) (number : JobNumber) (s : ℕ) (value : Option Ticket) (b : Bool) → (number.serial == s) ≡ b → IsNumberOf pool number → value ≡ value_at (job_of pool.jobs number)
     → get (pool_after_mark_of pool number value).jobs s ≡ option_map (mark_if b) (get pool.jobs s)
-marked_at pool number s value false other placed is = marked_by pool number s value ∙ ap (λ c. if c then option_map (mark_by value) (get pool.jobs s) else get pool.jobs s) other ∙ unmarked (get pool.jobs s)
-marked_at pool number s value true same placed is =
-    marked_by pool number s value ∙ ap (λ c. if c then option_map (mark_by value) (get pool.jobs s) else get pool.jobs s) same
-    ∙ subst (λ n. option_map (mark_by value) (get pool.jobs n) ≡ option_map (mark_if true) (get pool.jobs n)) (eqb-true number.serial s same) (marks_it (get pool.jobs number.serial) number.place value placed is)
+marked_at pool number s value b other placed is = grind (arith, marked_by, unmarked, marks_it)
 
 -- the jobs after a party let go of one, or of none
 pub job_let_go : (pool : JobPool) (number : Option JobNumber) (s : ℕ) → IfSome number (IsNumberOf pool) → get (pool_after_let_go pool number).jobs s ≡ option_map (mark_if (is_serial_of number s)) (get pool.jobs s)
-job_let_go pool None s placed = unmarked (get pool.jobs s)
-job_let_go pool (Some number) s placed = marked_at pool number s (value_at (job_of pool.jobs number)) (number.serial == s) refl placed refl
+job_let_go pool number s placed = grind (arith, unmarked, marked_at)

@@ -1,46 +1,31 @@
 -- The tickets of jobs, and which jobs a sweep puts back.
-use Rattle.std.proofs.Common.{◌≡◌, ℕ, ◌<◌, ◌≤◌, ◌||◌, cond, Bool, true, false, refl, sym, ap, ◌∙◌, if◌then◌else◌, List, [], ◌∷◌, Option, Some, None, inl, inr, arith, option_map, is_some, filter}
+use Rattle.std.proofs.Common.{◌≡◌, ℕ, ◌<◌, ◌≤◌, cond, Bool, true, false, refl, sym, ap, ◌∙◌, if◌then◌else◌, List, [], ◌∷◌, Option, None, inl, inr, arith, option_map, filter}
 use Rattle.std.specs.FinMap.{get}
-use Rattle.std.proofs.Math.Bool.{or-true}
 use Rattle.std.proofs.lemmas.Bool.{cases_lt, and_parts, and_from, cond_both}
-use Rattle.blocking_crew.proofs.Types.{Standing, Parked, Ticket}
-use Rattle.blocking_crew.proofs.Words.{is_running, is_parked, Job, Jobs, entry_after_requeue, jobs_after_requeue, is_parked_job, is_in, serials_below, NoneDue, JobPool, is_marked_ticket, is_due_to_sweep, to_sweep, is_valued, AreValued}
+use Rattle.blocking_crew.proofs.Types.{Ticket}
+use Rattle.blocking_crew.proofs.Words.{Job, Jobs, entry_after_requeue, jobs_after_requeue, is_parked_job, is_in, serials_below, NoneDue, JobPool, is_due_to_sweep, to_sweep, is_valued, AreValued}
 use Rattle.blocking_pool.proofs.SweepLemmas.{stands_below}
 use Rattle.blocking_crew.proofs.jobs.Lookups.{job_requeued, in_filter}
 
--- a job with its ticket is valued
-pub with_ticket : (job : Job Ticket) (ticket : Ticket) → job.value ≡ Some ticket → is_valued (Some job) ≡ true
-with_ticket job ticket has = rw has (or-true (is_running job.standing))
-
-pub parked_has : (standing : Standing) (value : Option Ticket) → is_parked standing ≡ true → (is_running standing || is_some value) ≡ true → is_some value ≡ true
-parked_has Parked value parked has = has
-parked_has _ value parked has = absurd cc
-
+-- a parked job that is valued stays so where it enters again
 requeued_valued : (found : Option (Job Ticket)) → is_parked_job found ≡ true → is_valued found ≡ true → is_valued (option_map entry_after_requeue found) ≡ true
-requeued_valued None parked has = refl
-requeued_valued (Some job) parked has = parked_has job.standing job.value parked has
+requeued_valued found parked has = grind arith
 
 -- ---- sweeps
 
 due_parked : (found : Option (Job Ticket)) → is_due_to_sweep found ≡ true → is_parked_job found ≡ true
-due_parked None due = due
-due_parked (Some job) due = (and_parts (is_parked job.standing) (is_marked_ticket job.value) due).0
+due_parked found due = grind arith
 
 -- what a sweep puts back is parked
 pub swept_parked : (pool : JobPool) (s : ℕ) → is_in s (to_sweep pool) ≡ true → is_parked_job (get pool.jobs s) ≡ true
-swept_parked pool s found =
-    due_parked (get pool.jobs s) (and_parts (is_due_to_sweep (get pool.jobs s)) (is_in s (serials_below pool.next_serial)) (sym (in_filter (λ serial. is_due_to_sweep (get pool.jobs serial)) (serials_below pool.next_serial) s) ∙ found)).0
+swept_parked pool s found = grind (arith, due_parked, and_parts, in_filter)
 
 -- so each job that doesn't run has its ticket after it
 pub swept_valued : (pool : JobPool) → AreValued pool.jobs → AreValued (jobs_after_requeue pool.jobs (to_sweep pool))
-swept_valued pool valued s =
-    ap is_valued (job_requeued (to_sweep pool) pool.jobs s)
-    ∙ cond_both (is_in s (to_sweep pool)) (option_map entry_after_requeue (get pool.jobs s)) (get pool.jobs s) (λ found. is_valued found ≡ true)
-    (λ is. requeued_valued (get pool.jobs s) (swept_parked pool s is) (valued s)) (λ is. valued s)
+swept_valued pool valued s = grind (arith, job_requeued, cond_both, requeued_valued, swept_parked)
 
 requeued_undue : (found : Option (Job Ticket)) → is_due_to_sweep (option_map entry_after_requeue found) ≡ false
-requeued_undue None = refl
-requeued_undue (Some job) = refl
+requeued_undue found = grind arith
 
 undue_if : (b : Bool) (found : Option (Job Ticket)) → (is_due_to_sweep found ≡ true → b ≡ true) → is_due_to_sweep (if b then option_map entry_after_requeue found else found) ≡ false
 undue_if b found due = let undue = requeued_undue found in grind (arith, due, undue)

@@ -1,26 +1,22 @@
 -- Each move is answered as the law of answers says.
-use Rattle.std.proofs.Common.{[], ◌≡◌, ◌<◌, ◌==◌, ◌+◌, ◌&&◌, ◌||◌, nat_lt, ℕ, Bool, true, false, if◌then◌else◌, List, ◌∷◌, length, refl, sym, ap, ap₂, ◌∙◌, subst, arith, Option, Some, None, Ok, Err}
-use Rattle.std.proofs.lemmas.Bool.Decides.{nat_tests}
+use Rattle.std.proofs.Common.{[], ◌≡◌, ◌<◌, ◌==◌, ◌+◌, ◌&&◌, ◌||◌, nat_lt, ℕ, Bool, true, if◌then◌else◌, List, length, refl, sym, ap, ap₂, ◌∙◌, subst, arith, Option, Some, None, Ok, Err}
 use Rattle.std.specs.FinMap.{get}
-use Rattle.blocking_crew.proofs.Types.{Memory, NoWorker, Numbers, Stay, Stop, Standing, Parked, Queued, Running, Ended, TookDropped, Moment, Worker, WaitEnd, Step, Holds, Held, Stage, Ticket, Parking}
-use Rattle.blocking_crew.proofs.Words.{limit_of, greatest, Growth, limit_after, JobNumber, Job as Entry, is_empty, must_stop, wake_of, cancel_of, take_from, take_answer, end_of, end_answer, PoolAnswers, AnswerLaw, workers, limit, IsPlanned, is_woken, is_cancelled, has_ended, is_marked, is_to_drop, standing, seen_to_sweep, queue, joined, has_timed_out, turn, Crew, may_end, outcome_of, standing_after, hand_at, Move, Adds, Arrives, TakesJob, TakesNone, Works, EndsTurn, Parks, HasWaited, Sweeps, IsWoken, IsCancelled, IsLetGo, Tells, call_of, next_start, took_act, parked_act, May, no_growth, JobPool, TakesFront, is_marked_ticket, SweepsIf, ParksTo, ParksSo, ValueAs, FiledAs, FiledHere, turn_of, CrewHolds, moment_of, IsAsked}
+use Rattle.blocking_crew.proofs.Types.{Memory, NoWorker, Numbers, Stay, Stop, Standing, Ended, TookDropped, Moment, Worker, WaitEnd, Step, Holds, Held, Stage, Ticket, Parking}
+use Rattle.blocking_crew.proofs.Words.{limit_of, greatest, Growth, limit_after, JobNumber, Job as Entry, is_empty, must_stop, wake_of, cancel_of, take_from, take_answer, end_of, end_answer, PoolAnswers, AnswerLaw, workers, limit, IsPlanned, is_woken, is_marked, is_to_drop, seen_to_sweep, queue, joined, has_timed_out, turn, Crew, may_end, outcome_of, standing_after, hand_at, Move, Adds, Arrives, TakesJob, TakesNone, Works, EndsTurn, Parks, HasWaited, Sweeps, IsWoken, IsCancelled, IsLetGo, Tells, call_of, next_start, took_act, parked_act, May, no_growth, JobPool, TakesFront, SweepsIf, ParksTo, ParksSo, ValueAs, FiledAs, FiledHere, turn_of, CrewHolds, moment_of, IsAsked}
 use Rattle.blocking_laws.specs.declared.event.Act.TheVariants.{Took}
 use Rattle.blocking_crew.specs.declared.hand.Stage.TheVariants as stage
 use Rattle.blocking_crew.specs.declared.tickets.Parking.TheVariants as parking
 use Rattle.blocking_crew.proofs.jobs.Lookups.{found_at}
 use Rattle.blocking_crew.proofs.ties.Acts.{plain, aside_plain, by_work, by_let_go}
 use Rattle.blocking_crew.proofs.ties.Flows.{workers_now, swept}
-use Rattle.blocking_crew.proofs.ties.Standings.{front_filed, met}
+use Rattle.blocking_crew.proofs.ties.Standings.{met}
 use Rattle.blocking_crew.proofs.ties.Sweeps.{sweep_same}
 
 -- ---- takes
 
 -- the mark of a ticket that is there
 mark_is : (stand : Standing) (found : Option Ticket) (mark : Bool) (value : Ticket) → found ≡ Some value → ValueAs stand found mark → value.is_marked ≡ mark
-mark_is Queued found mark value e v = ap is_marked_ticket (sym e ∙ v)
-mark_is Parked found mark value e v = ap is_marked_ticket (sym e ∙ v)
-mark_is Running found mark value e v = absurd cc
-mark_is _ found mark value e v = absurd v
+mark_is stand found mark value e v = grind arith
 
 -- whether a job is to be dropped, by its entry
 to_drop_is : (entry : Entry Ticket) (stand : Option Standing) (wake cancel mark ended : Bool) (value : Ticket) → entry.value ≡ Some value
@@ -28,12 +24,10 @@ to_drop_is : (entry : Entry Ticket) (stand : Option Standing) (wake cancel mark 
 to_drop_is entry stand wake cancel mark ended value e f = ap₂ (λ (a b : Bool). a || b) (sym f.2) (mark_is entry.standing entry.value mark value e f.4)
 
 took_if : (b : Bool) (s : ℕ) → took_act b s ≡ (if b then TookDropped s else Took s)
-took_if true s = refl
-took_if false s = refl
+took_if b s = grind arith
 
 took_rightly : (setting : ℕ) (past : List Moment) (now : Moment) (b : Bool) (s : ℕ) → took_act b s ≡ take_answer past → PoolAnswers setting past now (took_act b s)
-took_rightly setting past now true s e = e
-took_rightly setting past now false s e = e
+took_rightly setting past now b s e = grind arith
 
 -- ---- the ends of turns
 
@@ -43,18 +37,11 @@ end_is at drop woken s may = grind arith
 -- ---- waits
 
 none_left : (ns : List ℕ) → (length ns == 0) ≡ is_empty ns
-none_left [] = refl
-none_left (n ∷ ns) = grind (arith, nat_tests)
+none_left ns = grind arith
 
 module _ (setting : ℕ) (plan : List Bool) (crew : Crew) (past : List Moment) (step : Step) (owner : Option ℕ) (h : CrewHolds setting plan crew past) where
   take_is : (number : JobNumber) (value : Ticket) (to_drop : Bool) (growth : Growth) (pool : JobPool) → TakesFront (IsPlanned plan) crew.pool number value to_drop growth pool → took_act to_drop number.serial ≡ take_answer past
-  take_is number value to_drop growth pool front =
-      let s = number.serial in
-      let wanted : to_drop ≡ is_to_drop past s =
-      front.wanted
-      ∙ to_drop_is front.job (standing past s) (is_woken past s) (is_cancelled past s) (is_marked past s) (has_ended past s) value front.value_is
-      (front_filed setting plan crew past h (IsPlanned plan) number value to_drop growth pool front) in
-      ap (λ (b : Bool). took_act b s) wanted ∙ took_if (is_to_drop past s) s ∙ ap (take_from past) (sym front.front ∙ h.tied.lined)
+  take_is number value to_drop growth pool front = grind arith
 
   ends : (held : Held) (v : ℕ) → hand_at crew.hands v ≡ Holds held → may_end held.stage ≡ true → Ended held.turn.serial (standing_after (outcome_of held.stage)) ≡ end_answer past held.turn.serial
   ends held v at may = rw (h.tied.handed.turn_is v held at) (end_is held.stage (is_to_drop past held.turn.serial) (is_woken past held.turn.serial) held.turn.serial may)
@@ -77,8 +64,7 @@ module _ (setting : ℕ) (plan : List Bool) (crew : Crew) (past : List Moment) (
       waiting = h.tied.handed.turn_is v held at ∙ ap turn_of waits
 
       by : (p : Parking) → ParksTo crew.pool held.turn ticket so.job p pool → parked_act p s ≡ end_answer past s
-      by (parking.HandedOut back) e = rw (waiting, sym drop ∙ e.0) refl
-      by _ e = rw (waiting, sym drop ∙ e.0, filed.1 ∙ e.1) refl
+      by p e = grind arith
 
   -- the laws stop a worker where the pool does
   stop_is : (end : WaitEnd) (growth : Growth) (between : JobPool) → SweepsIf (has_timed_out end) (IsPlanned plan) crew.pool growth between

@@ -2,7 +2,7 @@
 use Rattle.std.proofs.Common.{◌≡◌, ◌<◌, ◌≤◌, ◌+◌, ◌-◌, ◌&&◌, ◌||◌, nat_lt, ℕ, Bool, true, false, List, [], ◌∷◌, length, refl, sym, ap, ◌∙◌, subst, arith, Option, inl, inr}
 use Rattle.std.proofs.lemmas.Bool.Decides.{nat_tests}
 use Rattle.blocking_crew.proofs.Types.{Stop, WorkerPass, Moment, WaitEnd, Step}
-use Rattle.blocking_crew.proofs.Words.{Counts, limit_of, is_due, Growth, limit_after, is_empty, workers, limit_by, limit, grows, turned_away, IsPlanned, queue, has_timed_out, Crew, Move, Arrives, HasWaited, SetsLimit, event_of, after, May, JobPool, GrowsBy, Served, CrewHolds, moment_of}
+use Rattle.blocking_crew.proofs.Words.{Counts, limit_of, Growth, limit_after, is_empty, workers, limit_by, limit, grows, turned_away, IsPlanned, queue, has_timed_out, Crew, Move, Arrives, HasWaited, SetsLimit, event_of, after, May, JobPool, GrowsBy, Served, CrewHolds, moment_of}
 use Rattle.blocking_laws.specs.Served.{last_refused, last_refused_by}
 use Rattle.blocking_crew.proofs.ties.Counts.{counts_after}
 use Rattle.blocking_crew.proofs.ties.Flows.{Flow, flows, growth_in, workers_now, swept}
@@ -11,8 +11,7 @@ use Rattle.blocking_crew.proofs.ties.Queue.{queue_after}
 -- ---- the limit stays above 0
 
 positive_grown : (r : Bool) (l n : ℕ) → 0 < l → 0 < limit_after l n r
-positive_grown true l n positive = omega arith
-positive_grown false l n positive = positive
+positive_grown r l n positive = grind arith
 
 -- ---- starts
 
@@ -20,24 +19,14 @@ some_queued : (ns : List ℕ) → (ns ≡ [] → ⊥) → 0 < length ns
 some_queued [] some = absurd (some refl)
 some_queued (n ∷ ns) some = omega arith
 
--- where a job is ready and no worker is there, a start is due
-due_unstaffed : (ready idle workers limit m : ℕ) → 0 < ready → 0 < limit → idle + m ≡ 0 → workers + m ≡ 0 → is_due ready idle workers limit m ≡ true
-due_unstaffed ready idle workers limit m some positive none nobody =
-    let ready_is : nat_lt 0 ready ≡ true = grind (arith, nat_tests) in
-    let limit_is : nat_lt 0 limit ≡ true = grind (arith, nat_tests) in
-    rw (none, nobody, ready_is, limit_is) refl
-
 -- so where the pool has grown and no worker is there, the next start was refused
 grew_none : (may_answer : ℕ → Bool → Type 0) (ready : ℕ) (counts : Counts) (growth : Growth) → GrowsBy may_answer ready counts growth → 0 < ready → 0 < limit_of counts → counts.idle ≤ counts.workers
     → counts.workers + growth.started ≡ 0 → growth.refused ≡ true
-grew_none may_answer ready counts growth g some positive fewer nobody =
-    sym g.next ∙ due_unstaffed ready counts.idle counts.workers (limit_of counts) growth.started some positive (omega (arith, fewer, nobody)) nobody
+grew_none may_answer ready counts growth g some positive fewer nobody = grind arith
 
 module _ (setting : ℕ) (plan : List Bool) (crew : Crew) (past : List Moment) (step : Step) (owner : Option ℕ) (h : CrewHolds setting plan crew past) (s : Served setting past) where
   acts : (move : Move) → May (IsPlanned plan) crew move → 0 < limit_by (event_of crew move).act (limit setting past)
-  acts (Arrives pass) may = s.positive
-  acts (SetsLimit n) may = may
-  acts move may = rw ((flows setting plan crew past step owner h move may refl).steady.most (limit setting past)) s.positive
+  acts move may = grind arith
 
   -- who serves the queue of the pool
   before : (crew.pool.queue ≡ [] → ⊥) → crew.pool.counts.workers ≡ 0 → last_refused past ≡ true

@@ -1,6 +1,6 @@
 -- What the workers hold is what was seen: so many passes, and a turn for each running job.
 use Rattle.std.proofs.Common.{◌≡◌, ℕ, ◌+◌, List, [], ◌∷◌, Bool, length, refl, sym, ap, ◌∙◌, subst, arith, Option, Some, zero, suc, ◌&&◌, slice_get, is_some, is_none}
-use Rattle.blocking_crew.proofs.Types.{Moment, Hand, Out}
+use Rattle.blocking_crew.proofs.Types.{Moment, Hand}
 use Rattle.blocking_crew.proofs.Words.{one_if, workers, idle, is_there, is_free, hand, Crew, sum_of, one_if_free, free_hands, one_if_busy, busy_hands, IsReady, HandAs, Crewed, Holding}
 use Rattle.blocking_laws.specs.Staffed.{count_to, passes, turns, IsStaffed, AreAsSeen}
 use Rattle.blocking_crew.proofs.hands.Rows.{hand_from_place}
@@ -30,12 +30,10 @@ count_is one test (h ∷ row) tells =
 
 -- a hand by what was seen of its worker
 free_tells : (h : Hand) (there : Bool) (job : Option ℕ) → HandAs h there job → one_if (there && is_none job) ≡ one_if_free h
-free_tells Out there job tied = ap (λ b. one_if (b && is_none job)) tied.0
-free_tells _ there job tied = ap (λ b. one_if (b && is_none job)) tied.0 ∙ ap (λ j. one_if (is_none j)) tied.1
+free_tells h there job tied = grind arith
 
 busy_tells : (h : Hand) (there : Bool) (job : Option ℕ) → HandAs h there job → one_if (is_some job) ≡ one_if_busy h
-busy_tells Out there job tied = ap (λ j. one_if (is_some j)) tied.1
-busy_tells _ there job tied = ap (λ j. one_if (is_some j)) tied.1
+busy_tells h there job tied = grind arith
 
 module _ (setting : ℕ) (crew : Crew) (past : List Moment) (t : Crewed setting crew past) where
   -- the hand in a place, by what was seen of its worker
@@ -68,18 +66,7 @@ module _ (setting : ℕ) (crew : Crew) (past : List Moment) (t : Crewed setting 
 
   -- So what the hands hold accounts for the workers.
   pub staffed : IsReady crew → IsStaffed (free_hands crew.hands) (busy_hands crew.hands) past
-  staffed ready =
-      let all_now = counts_are.0 in
-      let idle_now = counts_are.1 in
-      let same = t.counted.busy_are in
-      let idle_free = ready.idle in
-      let idle_are = t.counted.idle_are in
-      let arriving_are = t.counted.arriving_are in
-      record {
-        all_are = omega (arith, all_now, idle_free, idle_are, arriving_are, same);
-        idle_are = omega (arith, idle_now, idle_free, arriving_are);
-        jobs_are = same;
-      }
+  staffed ready = grind arith
 
   -- And it is what was seen.
   pub as_seen : AreAsSeen (free_hands crew.hands) (busy_hands crew.hands) past

@@ -1,9 +1,9 @@
 -- The law of turns holds at each move.
-use Rattle.std.proofs.Common.{◌≡◌, ℕ, List, Bool, true, false, refl, sym, ap, ◌∙◌, subst, Option, Some, None, Ok, not}
-use Rattle.blocking_crew.proofs.Types.{Stay, WorkerPass, Act, GaveUp, JobParked, Moment, Party, Worker, Step, Free, Holds, Held, Stage, Ticket}
-use Rattle.blocking_crew.proofs.Words.{Growth, JobNumber, is_in, IsPlanned, running, Turn, turn, hand, FitsTurn, ActsInTurn, TurnLaw, Crew, hand_at, Move, Adds, TakesJob, Works, EndsTurn, Parks, HasWaited, IsLetGo, Tells, next_start, May, no_growth, JobPool, TakesFront, turn_of, CrewHolds, moment_of}
+use Rattle.std.proofs.Common.{◌≡◌, ℕ, List, Bool, true, false, Option, Some, None, Ok, arith}
+use Rattle.blocking_crew.proofs.Types.{Stay, WorkerPass, Act, Moment, Party, Step, Free, Holds, Held, Ticket}
+use Rattle.blocking_crew.proofs.Words.{Growth, JobNumber, is_in, IsPlanned, running, hand, TurnLaw, Crew, hand_at, Move, Adds, TakesJob, Works, EndsTurn, Parks, HasWaited, IsLetGo, Tells, next_start, May, no_growth, JobPool, TakesFront, CrewHolds, moment_of}
 use Rattle.blocking_crew.specs.declared.tickets.Parking.TheVariants as parking
-use Rattle.blocking_crew.proofs.ties.Acts.{now_with, plain, aside_plain, by_work, by_let_go}
+use Rattle.blocking_crew.proofs.ties.Acts.{now_with, plain, aside_plain, by_let_go}
 use Rattle.blocking_crew.proofs.ties.Hands.{hand_seen}
 use Rattle.blocking_crew.proofs.ties.Standings.{front_rests}
 
@@ -23,18 +23,7 @@ module _ (setting : ℕ) (plan : List Bool) (crew : Crew) (past : List Moment) (
 
   -- a job in its hand does what fits its turn
   works : (v : ℕ) (held : Held) (act : Act) → May (IsPlanned plan) crew (Works v held act) → TurnLaw past (moment_of crew (Works v held act) step owner)
-  works v held act may =
-      let mine = its_job v held may.0 in
-      by_work (λ st act. held.stage ≡ st → TurnLaw past (now (Worker v) (Some held.turn.serial) act no_growth))
-      (λ st act is same allowed e.
-      (let p = plain setting past step owner (Worker v) (Some held.turn.serial) (next_start crew) no_growth act is in
-      record { one = p.one; acts = subst (λ b. ActsInTurn (not b) past (now (Worker v) (Some held.turn.serial) act no_growth).event) (sym p.own) (mine, fits act e allowed) }))
-      (λ e. record { one = tt; acts = (mine, fits JobParked e refl) })
-      (λ w e. record { one = tt; acts = (mine, fits (GaveUp w) e refl) })
-      held.stage act may.1 refl
-    where
-      fits : {st : Stage} (a : Act) → held.stage ≡ st → FitsTurn (turn_of st) a → FitsTurn (turn past held.turn.serial) a
-      fits {st} a e f = subst (λ (t : Turn). FitsTurn t a) (sym (h.tied.handed.turn_is v held may.0 ∙ ap turn_of e)) f
+  works v held act may = grind arith
 
   -- The law of turns holds at each move.
   pub turn_law : (move : Move) → May (IsPlanned plan) crew move → TurnLaw past (moment_of crew move step owner)

@@ -1,8 +1,8 @@
 -- Whatever a crew does, it hangs together with what was seen, and the law of the pool holds.
-use Rattle.std.proofs.Common.{[], ◌||◌, ◌≡◌, ℕ, List, ◌∷◌, Bool, true, false, refl, sym, ap, ◌∙◌, subst, Option, None, ◌==◌}
+use Rattle.std.proofs.Common.{[], ◌||◌, ◌≡◌, ℕ, List, ◌∷◌, Bool, true, false, refl, sym, ap, ◌∙◌, subst, Option, None, ◌==◌, arith}
 use Rattle.std.proofs.lemmas.Bool.{cond_both}
 use Rattle.std.specs.Ordering.{nat_cmp}
-use Rattle.blocking_crew.proofs.Types.{Act, NoAction, Event, Moment, Step, Out}
+use Rattle.blocking_crew.proofs.Types.{Act, Event, Moment, Step, Out}
 use Rattle.blocking_crew.proofs.Words.{Narrows, empty_pool, IsPlanned, is_nothing, Crew, Call, Move, Tells, call_of, next_start, after, is_aside, May, Moves, no_growth, FiledAs, HandAs, Crewed, CrewHolds, seen_as, moment_of, IsAsked, IsAside}
 use Rattle.std.specs.FinMap as map
 use Rattle.blocking_laws.specs.Legal.{PoolLaw}
@@ -21,8 +21,7 @@ use Rattle.blocking_crew.proofs.ties.Starts.{may_more}
 
 -- an act that is nothing to the crew, or none at all
 aside_is : (act : Act) → (is_aside act || is_nothing act) ≡ true → is_aside act ≡ true
-aside_is NoAction is = is
-aside_is _ is = is
+aside_is act is = grind arith
 
 module _ (setting : ℕ) (plan : List Bool) (crew : Crew) (past : List Moment) (h : CrewHolds setting plan crew past) where
   -- After each move the crew hangs together with what was seen.

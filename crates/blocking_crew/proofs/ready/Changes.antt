@@ -1,21 +1,16 @@
 -- A crew stays ready where its pool changes, and where one hand changes with it.
-use Rattle.std.proofs.Common.{◌≡◌, ℕ, ◌+◌, ◌-◌, ◌==◌, Bool, true, false, if◌then◌else◌, List, [], ◌∷◌, ◌++◌, length, refl, sym, ap, ◌∙◌, subst, arith}
-use Rattle.std.proofs.lemmas.Bool.{eqb-true, cond_both}
+use Rattle.std.proofs.Common.{◌≡◌, ℕ, ◌+◌, ◌-◌, ◌==◌, Bool, true, false, if◌then◌else◌, List, [], ◌∷◌, ◌++◌, refl, sym, ap, ◌∙◌, subst, arith}
+use Rattle.std.proofs.lemmas.Bool.{cond_both}
 use Rattle.std.specs.FinMap.{get, get-empty}
 use Rattle.std.specs.Ordering.{nat_cmp}
 use Rattle.blocking_crew.proofs.Types.{WorkerPass, Hand, Free, Holds, Out, Held}
-use Rattle.blocking_crew.proofs.Words.{is_running_as, empty_pool, Crew, hand_at, with_hand, one_if_free, free_hands, IsReady, JobPool, is_valued, AreValued}
+use Rattle.blocking_crew.proofs.Words.{is_running_as, empty_pool, Crew, hand_at, with_hand, one_if_free, IsReady, JobPool, is_valued, AreValued}
 use Rattle.blocking_crew.proofs.hands.Rows.{IsAt, hand_set, hand_pushed, sum_set, sum_pushed}
 use Rattle.blocking_crew.proofs.ready.Jobs.{IsKept}
 
 pub pool_ready : (crew : Crew) (pool : JobPool) → IsReady crew → ((s : ℕ) → IsKept false (get crew.pool.jobs s) (get pool.jobs s)) → pool.counts.idle + crew.pool.counts.arriving ≡ crew.pool.counts.idle + pool.counts.arriving
     → IsReady (record crew { pool = pool })
-pool_ready crew pool ready kept level = record {
-  idle = let idle = ready.idle in omega (arith, idle, level);
-  runs = λ v held at. (kept held.turn.serial).runs refl held.turn.place (ready.runs v held at);
-  apart = ready.apart;
-  valued = λ s. (kept s).valued (ready.valued s);
-}
+pool_ready crew pool ready kept level = grind arith
 
 -- ---- one hand changes
 
@@ -34,15 +29,11 @@ module _ (crew : Crew) (pool : JobPool) (v : ℕ) (old new : Hand) (ready : IsRe
   row = with_hand crew.hands v new
 
   runs_by : (u : ℕ) (held : Held) (b : Bool) → (v == u) ≡ b → (if b then new else hand_at crew.hands u) ≡ Holds held → is_running_as pool.jobs held.turn ≡ true
-  runs_by u held true same is = fits.own held is
-  runs_by u held false apart is = fits.others u held apart is
+  runs_by u held b same is = grind arith
 
   apart_by : (u w : ℕ) (one other : Held) (b c : Bool) → (v == u) ≡ b → (v == w) ≡ c → (if b then new else hand_at crew.hands u) ≡ Holds one → (if c then new else hand_at crew.hands w) ≡ Holds other
       → one.turn.serial ≡ other.turn.serial → u ≡ w
-  apart_by u w one other true true e f is there same = sym (eqb-true v u e) ∙ eqb-true v w f
-  apart_by u w one other true false e f is there same = absurd (fits.alone w one other f is there same)
-  apart_by u w one other false true e f is there same = absurd (fits.alone u other one e there is (sym same))
-  apart_by u w one other false false e f is there same = ready.apart u w one other is there same
+  apart_by u w one other b c e f is there same = grind arith
 
   pub hand_ready : IsReady (record { pool = pool; hands = with_hand crew.hands v new })
   hand_ready = record {
@@ -57,19 +48,12 @@ module _ (crew : Crew) (pool : JobPool) (v : ℕ) (old new : Hand) (ready : IsRe
 -- ---- one more hand
 
 pushed_at : (crew : Crew) (pass : WorkerPass) (u : ℕ) (held : Held) → hand_at (crew.hands ++ Free pass ∷ []) u ≡ Holds held → hand_at crew.hands u ≡ Holds held
-pushed_at crew pass u held is =
-    cond_both (length crew.hands + 1 == u) (Free pass) (hand_at crew.hands u) (λ hand. hand ≡ Holds held → hand_at crew.hands u ≡ Holds held) (λ new e. absurd cc) (λ old e. e)
-    (sym (hand_pushed crew.hands u (Free pass)) ∙ is)
+pushed_at crew pass u held is = grind (arith, cond_both, hand_pushed)
 
 pub push_ready : (crew : Crew) (pool : JobPool) (pass : WorkerPass) → IsReady crew → pool.jobs ≡ crew.pool.jobs
     → pool.counts.idle + crew.pool.counts.arriving ≡ crew.pool.counts.idle + pool.counts.arriving + 1
     → IsReady (record { pool = pool; hands = crew.hands ++ Free pass ∷ [] })
-push_ready crew pool pass ready same level = record {
-  idle = let idle = ready.idle in let free : free_hands (crew.hands ++ Free pass ∷ []) ≡ free_hands crew.hands + 1 = sum_pushed one_if_free crew.hands (Free pass) in omega (arith, level, idle, free);
-  runs = λ u held is. ap (λ jobs. is_running_as jobs held.turn) same ∙ ready.runs u held (pushed_at crew pass u held is);
-  apart = λ u w one other is there serial. ready.apart u w one other (pushed_at crew pass u one is) (pushed_at crew pass w other there) serial;
-  valued = subst AreValued (sym same) ready.valued;
-}
+push_ready crew pool pass ready same level = grind (arith, sum_pushed, pushed_at)
 
 -- ---- a new crew
 

@@ -2,15 +2,15 @@
 use Rattle.std.proofs.Common.{◌≡◌, ℕ, ◌==◌, ◌||◌, Bool, true, false, refl, sym, ap, ◌∙◌, Option, Some, None, arith, option_map, Ok}
 use Rattle.std.specs.FinMap.{get}
 use Rattle.std.proofs.lemmas.Bool.{eqb-true, and_parts, cond_both}
-use Rattle.blocking_crew.proofs.Types.{Entered, Marked, Standing, Parked, Queued, Running, Ticket}
-use Rattle.blocking_crew.proofs.Words.{JobNumber, is_running, is_parked, Job, new_job, entry_after_take, is_running_job, entry_after_requeue, entry_after_park, entry_after_wake, entry_after_cancel, if_at, job_of, standing_of, value_at, is_parked_job, is_in, has_timed_out, Crew, Move, Adds, TakesJob, EndsTurn, Parks, HasWaited, Sweeps, IsWoken, IsCancelled, IsLetGo, after, May, new_ticket, to_sweep, is_valued, ticket_after_mark}
+use Rattle.blocking_crew.proofs.Types.{Entered, Marked, Parked, Queued, Ticket}
+use Rattle.blocking_crew.proofs.Words.{JobNumber, Job, new_job, entry_after_take, is_running_job, entry_after_requeue, entry_after_park, entry_after_wake, entry_after_cancel, if_at, job_of, standing_of, value_at, is_parked_job, is_in, has_timed_out, Crew, Move, Adds, TakesJob, EndsTurn, Parks, HasWaited, Sweeps, IsWoken, IsCancelled, IsLetGo, after, May, new_ticket, to_sweep, is_valued}
 use Rattle.blocking_crew.specs.declared.tickets.Parking.TheVariants as parking
 use Rattle.blocking_pool.proofs.Lists.{turned}
 use Rattle.blocking_pool.proofs.PoolLemmas.{parked_one}
 use Rattle.blocking_crew.proofs.jobs.Changes.{change_of, found_after}
-use Rattle.blocking_crew.proofs.jobs.Lookups.{woken_is, cancelled_is, runs_at}
+use Rattle.blocking_crew.proofs.jobs.Lookups.{woken_is, cancelled_is}
 use Rattle.blocking_crew.proofs.jobs.Marks.{mark_by}
-use Rattle.blocking_crew.proofs.jobs.Tickets.{with_ticket, parked_has, swept_parked}
+use Rattle.blocking_crew.proofs.jobs.Tickets.{swept_parked}
 
 pub record IsKept (ends : Bool) (old new : Option (Job Ticket)) : Type 0 where
   pub runs : ends ≡ false → (place : ℕ) → is_running_job (if_at place old) ≡ true → is_running_job (if_at place new) ≡ true
@@ -21,67 +21,36 @@ same_kept ends found = record { runs = λ on place runs. runs; valued = λ value
 
 -- ---- each change
 
-place_alike : (p : ℕ) (job new : Job Ticket) → new.standing ≡ job.standing → new.place ≡ job.place → is_running_job (if_at p (Some new)) ≡ is_running_job (if_at p (Some job))
-place_alike p job new st pl = rw pl (grind (arith, st))
-
 -- the standing and the place stay
 changed_kept : (change : Job Ticket → Job Ticket) → ((job : Job Ticket) → (change job).standing ≡ job.standing) → ((job : Job Ticket) → (change job).place ≡ job.place)
     → ((job : Job Ticket) → is_valued (Some job) ≡ true → is_valued (Some (change job)) ≡ true) → (found : Option (Job Ticket)) → IsKept false found (option_map change found)
-changed_kept change standing place valued None = same_kept false None
-changed_kept change standing place valued (Some job) = record {
-  runs = λ on p runs. place_alike p job (change job) (standing job) (place job) ∙ runs;
-  valued = λ has. valued job has;
-}
+changed_kept change standing place valued found = grind arith
 
 mark_kept : (value : Option Ticket) (found : Option (Job Ticket)) → IsKept false found (option_map (mark_by value) found)
-mark_kept None found = changed_kept (mark_by None) (λ job. refl) (λ job. refl) (λ job has. has) found
-mark_kept (Some ticket) found = changed_kept (mark_by (Some ticket)) (λ job. refl) (λ job. refl) (λ job has. with_ticket (mark_by (Some ticket) job) (ticket_after_mark ticket) refl) found
+mark_kept value found = grind arith
 
 fresh_kept : (found : Option (Job Ticket)) (job : Job Ticket) → found ≡ None → is_valued (Some job) ≡ true → IsKept false found (Some job)
-fresh_kept None job none valued = record { runs = λ on place runs. absurd cc; valued = λ has. valued }
-fresh_kept (Some other) job none valued = absurd cc
-
-not_queued : (standing : Standing) → is_running standing ≡ true → standing ≡ Queued → ⊥
-not_queued Running runs queued = cc
-not_queued _ runs queued = cc
+fresh_kept found job none valued = grind arith
 
 taken_kept : (found : Option (Job Ticket)) (job : Job Ticket) → found ≡ Some job → job.standing ≡ Queued → IsKept false found (option_map entry_after_take found)
-taken_kept None job there queued = absurd cc
-taken_kept (Some other) job there queued = record {
-  runs = λ on place runs. absurd (not_queued other.standing (runs_at place (Some other) runs) (let same : other ≡ job = cc in ap (λ (j : Job Ticket). j.standing) same ∙ queued));
-  valued = λ has. refl;
-}
-
-not_parked : (standing : Standing) → is_running standing ≡ true → is_parked standing ≡ true → ⊥
-not_parked Running runs parked = cc
-not_parked _ runs parked = cc
+taken_kept found job there queued = grind arith
 
 -- a parked job enters again, also where it was cancelled
 parked_kept : (found : Option (Job Ticket)) → is_parked_job found ≡ true → IsKept false found (option_map entry_after_requeue found)
-parked_kept None parked = absurd cc
-parked_kept (Some job) parked = record {
-  runs = λ on place runs. absurd (not_parked job.standing (runs_at place (Some job) runs) parked);
-  valued = λ has. parked_has job.standing job.value parked has;
-}
+parked_kept found parked = grind arith
 
 cancelled_kept : (found : Option (Job Ticket)) → is_parked_job found ≡ true → IsKept false found (option_map entry_after_requeue (option_map entry_after_cancel found))
-cancelled_kept None parked = absurd cc
-cancelled_kept (Some job) parked = record {
-  runs = λ on place runs. absurd (not_parked job.standing (runs_at place (Some job) runs) parked);
-  valued = λ has. parked_has job.standing job.value parked has;
-}
+cancelled_kept found parked = grind arith
 
 -- a turn ends
 ended_kept : (old new : Option (Job Ticket)) → is_valued new ≡ true → IsKept true old new
 ended_kept old new valued = record { runs = λ on place runs. absurd cc; valued = λ has. valued }
 
 park_valued : (ticket : Ticket) (found : Option (Job Ticket)) → is_valued (option_map (entry_after_park ticket) found) ≡ true
-park_valued ticket None = refl
-park_valued ticket (Some job) = with_ticket (entry_after_park ticket job) ticket refl
+park_valued ticket found = grind arith
 
 return_valued : (ticket : Ticket) (found : Option (Job Ticket)) → is_valued (option_map entry_after_requeue (option_map (entry_after_park ticket) found)) ≡ true
-return_valued ticket None = refl
-return_valued ticket (Some job) = refl
+return_valued ticket found = grind arith
 
 -- ---- each move
 

@@ -1,8 +1,8 @@
 -- What holds of each act that a job, a holder or a worker may be seen to do here holds of the one that was seen.
 use Rattle.std.proofs.Common.{arith, [], ◌≡◌, ℕ, ◌==◌, not, Bool, true, false, List, ◌∷◌, length, refl, Option}
-use Rattle.blocking_crew.proofs.Types.{NoWorker, Done, Dropped, Act, Accepted, Answered, Arrived, Drained, Ended, Finished, GaveUp, HandedOut, HolderDropped, HolderWoken, JobCancelled, JobClosed, JobParked, JobWoken, LimitSet, Lost, Peeked, Put, Refused, ResultPut, RoomFree, RoomShut, Stays, Stopped, Swept, TaskCancelled, TookDropped, TookNone, HolderWaker, Moment, Party, Step, Stage, Ticket}
+use Rattle.blocking_crew.proofs.Types.{NoWorker, Done, Dropped, Act, Accepted, Arrived, Ended, GaveUp, HandedOut, HolderDropped, JobCancelled, JobParked, JobWoken, LimitSet, Refused, Stays, Stopped, Swept, TaskCancelled, TookDropped, TookNone, HolderWaker, Moment, Party, Step, Stage, Ticket}
 use Rattle.blocking_crew.proofs.Words.{Growth, Job as Entry, one_if, PoolAnswers, is_arrival, is_stop, limit_by, grows, turned_away, HasWorker, is_limit_set, accepted_jobs, lets_go, entered_by, taken_by, ended_by, is_of_pool, is_there, turn, hand, HoldsOne, FitsTurn, Crew, may_act, stage_after, outcome_of, standing_after, seen, is_aside, FiledHere, turn_of, Handed}
-use Rattle.blocking_laws.specs.declared.event.Act.TheVariants.{Took, Taken as TakenOut}
+use Rattle.blocking_laws.specs.declared.event.Act.TheVariants.{Took}
 use Rattle.blocking_crew.specs.declared.hand.Stage.TheVariants as stage
 
 -- the moment of an act, as the layer above sees it
@@ -33,16 +33,6 @@ pub record EntersOnly (past : List Moment) (act : Act) : Type 0 where
   pub away : turned_away act ≡ 0
   pub taken : taken_by act ≡ []
   pub ended : ended_by act ≡ []
-
-pub enters_so : (past : List Moment) (act : Act) → enters_only act ≡ true → EntersOnly past act
-enters_so past (Refused NoWorker) is = absurd cc
-enters_so past (LimitSet n) is = absurd cc
-enters_so past (Arrived v) is = absurd cc
-enters_so past (Took s) is = absurd cc
-enters_so past (TookDropped s) is = absurd cc
-enters_so past (Stopped v end) is = absurd cc
-enters_so past (Ended s how) is = absurd cc
-enters_so past act is = record { steady = record { came = refl; stop = refl; most = λ l. refl; set = refl }; grew_is = refl; away = refl; taken = refl; ended = refl }
 
 -- whether an act is one of a holder that lets go of nothing, or of a job that goes on in its turn, or none at all
 abbrev pub is_plain : Act → Bool
@@ -123,31 +113,12 @@ aside_plain act is = grind arith
 -- an act of a job: it goes on in its turn, or waits from then on, or gives up
 pub by_work : (P : Stage → Act → Type 0) → ((at : Stage) (act : Act) → is_plain act ≡ true → turn_of (stage_after act at) ≡ turn_of at → FitsTurn (turn_of at) act → P at act)
     → P stage.Runs JobParked → ((waker : HolderWaker) → P stage.MustGiveUp (GaveUp waker)) → (at : Stage) (act : Act) → may_act at act ≡ true → P at act
-by_work P goes_on parks gives_up stage.Runs (Answered answer) may = goes_on stage.Runs (Answered answer) refl refl refl
-by_work P goes_on parks gives_up stage.Runs (RoomFree n) may = goes_on stage.Runs (RoomFree n) refl refl refl
-by_work P goes_on parks gives_up stage.Runs RoomShut may = goes_on stage.Runs RoomShut refl refl refl
-by_work P goes_on parks gives_up stage.Runs JobParked may = parks
-by_work P goes_on parks gives_up stage.Runs (Put n waker) may = goes_on stage.Runs (Put n waker) refl refl refl
-by_work P goes_on parks gives_up stage.Runs (Lost n) may = goes_on stage.Runs (Lost n) refl refl refl
-by_work P goes_on parks gives_up stage.Runs (Peeked bytes) may = goes_on stage.Runs (Peeked bytes) refl refl refl
-by_work P goes_on parks gives_up stage.Runs Drained may = goes_on stage.Runs Drained refl refl refl
-by_work P goes_on parks gives_up stage.Runs (TakenOut n waker) may = goes_on stage.Runs (TakenOut n waker) refl refl refl
-by_work P goes_on parks gives_up stage.Runs (JobClosed waker) may = goes_on stage.Runs (JobClosed waker) refl refl refl
-by_work P goes_on parks gives_up stage.Runs (ResultPut waker) may = goes_on stage.Runs (ResultPut waker) refl refl refl
-by_work P goes_on parks gives_up stage.Runs (Finished waker) may = goes_on stage.Runs (Finished waker) refl refl refl
-by_work P goes_on parks gives_up stage.Runs HolderWoken may = goes_on stage.Runs HolderWoken refl refl refl
-by_work P goes_on parks gives_up stage.MustGiveUp (GaveUp waker) may = gives_up waker
-by_work P goes_on parks gives_up stage.MustWake HolderWoken may = goes_on stage.MustWake HolderWoken refl refl refl
-by_work P goes_on parks gives_up _ act may = absurd cc
+by_work P goes_on parks gives_up at act may = grind arith
 
 -- an act by which a holder lets go
 pub by_let_go : (P : Act → Type 0) → P HolderDropped → P TaskCancelled → (act : Act) → lets_go act ≡ true → P act
-by_let_go P dropped cancelled HolderDropped is = dropped
-by_let_go P dropped cancelled TaskCancelled is = cancelled
-by_let_go P dropped cancelled _ is = absurd cc
+by_let_go P dropped cancelled act is = grind arith
 
 -- the end of a job
 pub by_end : (P : Act → Type 0) (s : ℕ) → P (Ended s Done) → P (Ended s Dropped) → (at : Stage) → P (Ended s (standing_after (outcome_of at)))
-by_end P s done dropped stage.Runs = done
-by_end P s done dropped stage.Waits = done
-by_end P s done dropped _ = dropped
+by_end P s done dropped at = grind arith

@@ -1,5 +1,5 @@
 -- Each move keeps the counts of a crew what the past tells.
-use Rattle.std.proofs.Common.{[], ◌≡◌, ℕ, ◌<◌, ◌≤◌, ◌+◌, ◌==◌, min, List, ◌∷◌, Bool, true, false, cond, length, length-append, refl, sym, ap, ◌∙◌, ap₂, arith, if◌then◌else◌, Option, Some, None, zero, suc, ◌||◌, filter}
+use Rattle.std.proofs.Common.{[], ◌≡◌, ℕ, ◌<◌, ◌≤◌, ◌+◌, ◌==◌, min, List, ◌∷◌, Bool, false, cond, length, length-append, refl, sym, ap, ◌∙◌, ap₂, arith, if◌then◌else◌, Option, Some, None, ◌||◌, filter}
 use Rattle.std.proofs.lemmas.Bool.Decides.{nat_tests}
 use Rattle.blocking_crew.proofs.Types.{WorkerPass, Act, Moment, Party, Step, Free}
 use Rattle.blocking_crew.proofs.Words.{limit_of, greatest, Growth, number_after, limit_after, one_if, added, starts, refused_starts, is_arrival, arrivals, is_stop, workers, limit, grows, IsPlanned, has_limit, running, Crew, one_if_busy, busy_hands, Move, Arrives, SetsLimit, next_start, after, May, no_growth, Counted, CrewHolds, moment_of}
@@ -12,12 +12,10 @@ use Rattle.blocking_crew.proofs.ties.Flows.{GrewBy, flows, gone_of, growth_in, w
 
 -- what is added is a sum
 pub added_is : (n m : ℕ) → added n m ≡ n + m
-added_is n zero = omega arith
-added_is n (suc m) = refl
+added_is n m = grind arith
 
 number_if : (r : Bool) (n : ℕ) → number_after n r ≡ (if r then if n == greatest then n else n + 1 else n)
-number_if true n = refl
-number_if false n = refl
+number_if r n = grind arith
 
 -- the number of the next start, after these starts and the one that was refused, if one was
 next_by : (r : Bool) (bound first started begun refusals : ℕ) → first ≡ min (1 + begun + refusals) bound → (first ≤ bound → first + started ≤ bound)
@@ -98,19 +96,7 @@ module _ (setting : ℕ) (plan : List Bool) (crew : Crew) (past : List Moment) (
       }
 
   sets_limit : (n : ℕ) → Counted setting (after crew (SetsLimit n)) (moment_of crew (SetsLimit n) step owner ∷ past)
-  sets_limit n =
-      let c = h.tied.counted in
-      record {
-        workers_are = c.workers_are;
-        idle_are = c.idle_are;
-        arriving_are = c.arriving_are;
-        hands_are = c.hands_are;
-        busy_are = c.busy_are;
-        setting_is = c.setting_is;
-        limit_is = refl;
-        known_is = refl;
-        next_is = c.next_is;
-      }
+  sets_limit n = grind arith
 
   -- Each move keeps the counts what the past tells.
   pub counts_after : (move : Move) → May (IsPlanned plan) crew move → Counted setting (after crew move) (moment_of crew move step owner ∷ past)

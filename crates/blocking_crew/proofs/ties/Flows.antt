@@ -1,14 +1,14 @@
 -- How jobs and workers come and go at each move: what enters the queue and what leaves it, who is started, and who is idle then.
-use Rattle.std.proofs.Common.{[], ◌≡◌, ℕ, suc, ◌≤◌, ◌+◌, ◌-◌, ◌==◌, List, ◌∷◌, ◌++◌, Bool, true, false, length, length-append, length-set, refl, sym, ap, ◌∙◌, arith, if◌then◌else◌, Option, Some, None, ◌<◌, ◌⊎◌, inl, inr, ap₂, not, slice_get, Ok, Err}
+use Rattle.std.proofs.Common.{[], ◌≡◌, ℕ, suc, ◌≤◌, ◌+◌, ◌-◌, ◌==◌, List, ◌∷◌, ◌++◌, Bool, true, false, length, length-append, length-set, refl, sym, ap, ◌∙◌, arith, if◌then◌else◌, Option, Some, None, ◌<◌, ◌⊎◌, inl, inr, not, slice_get, Ok, Err}
 use Rattle.std.proofs.lemmas.Bool.Decides.{nat_tests}
 use Rattle.blocking_crew.proofs.Types.{Memory, NoWorker, Numbers, Stay, Stop, Entered as PutBack, One, Standing, Parked, Queued, WorkerPass, Act, Accepted, Ended, Refused, Stopped, Moment, Party, Worker, WaitEnd, Step, Hand, Free, Holds, Out, Held, Ticket}
-use Rattle.blocking_crew.proofs.Words.{Counts, limit_of, louder, after_pickup, after_release, after_stop, greatest, Growth, number_after, limit_after, after_growth, JobNumber, without, is_empty, without_job, serials_below, workers, grows, turned_away, IsPlanned, HasWorker, accepted_by, accepted_jobs, seen_to_sweep, entered_by, queue, running, without_all, joined, has_timed_out, Crew, outcome_of, standing_after, hand_at, with_hand, held_after_act, one_if_free, one_if_busy, busy_hands, Move, Idles, Adds, Arrives, TakesJob, TakesNone, Works, EndsTurn, Parks, HasWaited, SetsLimit, Sweeps, IsWoken, IsCancelled, IsLetGo, Tells, next_start, first_stage, hand_after_park, after, May, no_growth, JobPool, GrowsBy, Accepts, FindsNoWorker, TakesFront, to_sweep, SweepsTo, SweepsIf, Lined, Numbered, CrewHolds, moment_of}
+use Rattle.blocking_crew.proofs.Words.{Counts, limit_of, louder, after_pickup, after_release, after_stop, greatest, Growth, number_after, limit_after, after_growth, JobNumber, without, is_empty, without_job, serials_below, workers, grows, turned_away, IsPlanned, HasWorker, accepted_by, accepted_jobs, seen_to_sweep, entered_by, queue, running, joined, has_timed_out, Crew, outcome_of, standing_after, hand_at, with_hand, held_after_act, one_if_free, one_if_busy, busy_hands, Move, Idles, Adds, Arrives, TakesJob, TakesNone, Works, EndsTurn, Parks, HasWaited, SetsLimit, Sweeps, IsWoken, IsCancelled, IsLetGo, Tells, next_start, first_stage, hand_after_park, after, May, no_growth, JobPool, GrowsBy, Accepts, FindsNoWorker, TakesFront, SweepsTo, SweepsIf, Lined, Numbered, CrewHolds, moment_of}
 use Rattle.blocking_crew.specs.declared.tickets.Parking.TheVariants as parking
 use Rattle.blocking_crew.proofs.growth.Reads.{numbers_last}
 use Rattle.blocking_crew.proofs.growth.Sweeps.{sweep_serial}
 use Rattle.blocking_crew.proofs.hands.Rows.{at_held, at_free, sum_set}
 use Rattle.blocking_crew.proofs.jobs.Marks.{let_go_alone}
-use Rattle.blocking_crew.proofs.ties.Acts.{now_with, enters_only, is_plain, plain, aside_plain, by_work, by_let_go, Steady, enters_so, by_end}
+use Rattle.blocking_crew.proofs.ties.Acts.{now_with, enters_only, is_plain, plain, aside_plain, by_work, by_let_go, Steady, by_end}
 use Rattle.blocking_crew.proofs.ties.Standings.{held_once, front_out}
 use Rattle.blocking_crew.proofs.ties.Sweeps.{sweep_same}
 
@@ -28,17 +28,7 @@ pub record GrewBy (gone : ℕ) (old new : Counts) (growth : Growth) (grew : Bool
 
 -- no growth
 pub ungrown : (old new : Counts) (bell : _) → new ≡ record old { bell = bell } → GrewBy 0 old new no_growth false
-ungrown old new bell same = rw same (record {
-  workers = omega arith;
-  idle = omega arith;
-  arriving = omega arith;
-  setting = refl;
-  most = refl;
-  limit = refl;
-  none = λ e. refl;
-  next = omega arith;
-  numbers = λ le. omega (arith, le);
-})
+ungrown old new bell same = grind arith
 
 -- the counts are those after a growth, but for the bell
 abbrev pub AreGrown : Counts → Growth → Counts → Type 0
@@ -46,34 +36,11 @@ AreGrown old growth new = new ≡ record (after_growth old growth) { bell = new.
 
 -- a growth
 pub grew_so : (may_answer : ℕ → Bool → Type 0) (ready : ℕ) (old new : Counts) (growth : Growth) → GrowsBy may_answer ready old growth → AreGrown old growth new → GrewBy 0 old new growth true
-grew_so may_answer ready old new growth starting same = rw same (record {
-  workers = omega arith;
-  idle = omega arith;
-  arriving = refl;
-  setting = refl;
-  most = refl;
-  limit = refl;
-  none = λ e. absurd cc;
-  next = refl;
-  numbers = numbers_last may_answer ready old.idle old.workers (limit_of old) old.next_worker growth starting;
-})
+grew_so may_answer ready old new growth starting same = grind (arith, numbers_last)
 
 -- and a worker stops after it
 stop_grew : (rings : Bool) (old between new : Counts) (growth : Growth) (grew : Bool) → 0 < between.idle → between.idle ≤ between.workers → new ≡ after_stop rings between → GrewBy 0 old between growth grew → GrewBy 1 old new growth grew
-stop_grew rings old between new growth grew some fewer stopped g =
-    let gw = g.workers in
-    let gi = g.idle in
-    rw stopped (record {
-      workers = omega (arith, gw, some, fewer);
-      idle = omega (arith, gi, some);
-      arriving = g.arriving;
-      setting = g.setting;
-      most = g.most;
-      limit = g.limit;
-      none = g.none;
-      next = g.next;
-      numbers = g.numbers;
-    })
+stop_grew rings old between new growth grew some fewer stopped g = grind arith
 
 -- ---- what enters a queue
 
@@ -166,10 +133,7 @@ module _ (setting : ℕ) (plan : List Bool) (crew : Crew) (past : List Moment) (
 
   -- no job was accepted
   pub kept : (new : JobPool) (last : Moment) → new.next_serial ≡ crew.pool.next_serial → accepted_jobs (last ∷ past) ≡ accepted_jobs past → Numbered new (last ∷ past)
-  kept new last same none = record {
-    next = same ∙ h.tied.numbered.next ∙ ap (λ (ns : List ℕ). 1 + length ns) (sym none);
-    all_are = ap serials_below same ∙ h.tied.numbered.all_are ∙ ap (λ (ns : List ℕ). 0 ∷ ns) (sym none);
-  }
+  kept new last same none = grind arith
 
   -- a job was accepted
   accepted : (who : Party) (number : JobNumber) (growth : Growth) (pool : JobPool) → Accepts (IsPlanned plan) crew.pool number growth pool
@@ -186,38 +150,17 @@ module _ (setting : ℕ) (plan : List Bool) (crew : Crew) (past : List Moment) (
 
   -- a sweep, if there was one
   pub swept : (late : Bool) (growth : Growth) (between : JobPool) → SweepsIf late (IsPlanned plan) crew.pool growth between → Entered (IsPlanned plan) crew.pool (if late then seen_to_sweep past else []) growth between
-  swept true growth between sweeps = rw (sym (sweep_same setting plan crew past h)) (sweep_entered (IsPlanned plan) crew.pool between growth (to_sweep crew.pool) sweeps)
-  swept false growth between same = none_entered (IsPlanned plan) crew.pool between growth same.0 (rw same.1 refl)
+  swept late growth between sweeps = grind (arith, sweep_same, sweep_entered, none_entered)
 
   starts_by : (last : Moment) (serials : List ℕ) (between : JobPool) → Entered (IsPlanned plan) crew.pool serials (growth_in last) between → Lined between (last ∷ past) → grows past last.event.act ≡ not (length serials == 0)
       → turned_away last.event.act ≡ 0 → grows past last.event.act ≡ true → GrowsBy (IsPlanned plan) (length (queue (last ∷ past)) + turned_away last.event.act) crew.pool.counts (growth_in last)
-  starts_by last serials between entered lined grew away is =
-      let long : length between.queue ≡ length (queue (last ∷ past)) = ap length lined in
-      let ready : length between.queue ≡ length (queue (last ∷ past)) + turned_away last.event.act = omega (arith, long, away) in
-      rw (← ready) (entered.starts (λ none. (let bad : true ≡ false = sym is ∙ grew ∙ ap (λ (ns : List ℕ). not (length ns == 0)) none in cc)))
+  starts_by last serials between entered lined grew away is = grind arith
 
   -- ---- moves at which jobs may enter, and nothing else happens
 
   entering : (last : Moment) (new : Crew) → enters_only last.event.act ≡ true → Entered (IsPlanned plan) crew.pool (entered_by past last.event.act) (growth_in last) new.pool → Numbered new.pool (last ∷ past)
       → HasWorker last.event.act (workers past + last.event.started) → last.event.first ≡ next_start crew → length new.hands ≡ length crew.hands → busy_hands new.hands ≡ busy_hands crew.hands → Flow 0 last new
-  entering last new only entered numbered worker first hands busy =
-      let a = enters_so past last.event.act only in
-      let same : running (last ∷ past) ≡ running past = ap₂ (λ (gone come : List ℕ). joined (without_all gone (running past)) come) a.ended a.taken in
-      let lined : Lined new.pool (last ∷ past) = entered.line ∙ ap₂ (λ (gone ns : List ℕ). joined (without_all gone ns) (entered_by past last.event.act)) (sym a.taken) h.tied.lined in
-      record {
-        free = crew.pool.counts.idle;
-        steady = a.steady;
-        grew = rw a.grew_is entered.grew;
-        balance = h.tied.counted.idle_are ∙ ap (λ (ns : List ℕ). crew.pool.counts.idle + length ns) (sym same);
-        starts = starts_by last (entered_by past last.event.act) new.pool entered lined a.grew_is a.away;
-        queued = λ still. inl (entered.line ∙ ap (joined crew.pool.queue) (none_there (entered_by past last.event.act) (sym a.grew_is ∙ still)));
-        lined = lined;
-        numbered = numbered;
-        worker = worker;
-        first = first;
-        hands = hands;
-        busy = busy ∙ h.tied.counted.busy_are ∙ ap length (sym same);
-      }
+  entering last new only entered numbered worker first hands busy = grind arith
 
   -- an act at which nothing enters, and no job is accepted
   abbrev Quiet : Act → Type 0
@@ -236,23 +179,7 @@ module _ (setting : ℕ) (plan : List Bool) (crew : Crew) (past : List Moment) (
 
   -- a new job is refused, since nobody works after its growth
   unstaffed : (who : Party) (growth : Growth) (pool : JobPool) → FindsNoWorker (IsPlanned plan) crew.pool growth pool → Flow 0 (now who None (Refused NoWorker) growth) (record crew { pool = pool })
-  unstaffed who growth pool finds =
-      let all = workers_now in
-      let none = finds.unstaffed in
-      record {
-        free = crew.pool.counts.idle;
-        steady = record { came = refl; stop = refl; most = λ l. refl; set = refl };
-        grew = grew_so (IsPlanned plan) (length crew.pool.queue + 1) crew.pool.counts pool.counts growth finds.starts (rw finds.after_is refl);
-        balance = h.tied.counted.idle_are;
-        starts = λ grew. rw (← h.tied.lined) finds.starts;
-        queued = λ still. absurd cc;
-        lined = ap (λ (p : JobPool). p.queue) finds.after_is ∙ h.tied.lined;
-        numbered = kept pool _ (rw finds.after_is refl) refl;
-        worker = omega (arith, all, none);
-        first = refl;
-        hands = refl;
-        busy = h.tied.counted.busy_are;
-      }
+  unstaffed who growth pool finds = grind arith
 
   -- a job is taken
   took : (v : ℕ) (old : WorkerPass) (turn : JobNumber) (ticket : Ticket) (to_drop : Bool) (growth : Growth) (pool : JobPool) (last : Moment) → hand_at crew.hands v ≡ Free old

@@ -1,7 +1,7 @@
 -- Each move keeps the hands as they were seen.
-use Rattle.std.proofs.Common.{[], ◌≡◌, ℕ, ◌+◌, ◌==◌, List, ◌∷◌, ◌++◌, Bool, true, false, length, refl, sym, ap, ◌∙◌, subst, if◌then◌else◌, Option, Some, None, ◌&&◌, ◌||◌, not, Ok, Err}
+use Rattle.std.proofs.Common.{[], ◌≡◌, ℕ, ◌+◌, ◌==◌, List, ◌∷◌, ◌++◌, Bool, true, false, length, refl, sym, ap, ◌∙◌, subst, if◌then◌else◌, Option, Some, None, ◌&&◌, ◌||◌, not, Ok, Err, arith}
 use Rattle.std.proofs.lemmas.Bool.{eqb-true, eqb-false, eq-eqb, ne_eqb, cond_both}
-use Rattle.blocking_crew.proofs.Types.{Stay, Stop, Standing, Parked, Queued, Running, WorkerPass, Act, Ended, GaveUp, JobParked, HolderWaker, Absent, Taken, Moment, Party, Worker, Step, Hand, Free, Holds, Out, Held, Stage}
+use Rattle.blocking_crew.proofs.Types.{Stay, Stop, Standing, Parked, Queued, Running, WorkerPass, Act, Ended, GaveUp, JobParked, HolderWaker, Moment, Party, Worker, Step, Hand, Free, Holds, Out, Held, Stage}
 use Rattle.blocking_crew.proofs.Words.{Growth, JobNumber, IsPlanned, standing, is_there, Turn, GoesOn, IsWaiting, MustGiveUp, HasGivenUp, turn, hand, Crew, may_act, stage_after, outcome_of, standing_after, hand_at, with_hand, held_after_act, Move, Adds, Arrives, TakesJob, TakesNone, Works, EndsTurn, Parks, HasWaited, IsLetGo, Tells, next_start, first_stage, after, May, no_growth, JobPool, HandAs, turn_of, Handed, CrewHolds, moment_of}
 use Rattle.blocking_crew.specs.declared.hand.Stage.TheVariants as stage
 use Rattle.blocking_crew.specs.declared.tickets.Parking.TheVariants as parking
@@ -117,8 +117,7 @@ module _ (setting : ℕ) (plan : List Bool) (crew : Crew) (past : List Moment) (
       before = h.tied.handed.turn_is v held at_hand
 
       gave_up : (w : HolderWaker) (st : Stage) → HasGivenUp ≡ turn_of (stage_after (GaveUp w) st)
-      gave_up Taken st = refl
-      gave_up Absent st = refl
+      gave_up w st = grind arith
 
   -- ---- every move
 

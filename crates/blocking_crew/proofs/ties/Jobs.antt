@@ -1,8 +1,8 @@
 -- Each move keeps the pool's jobs as they were seen.
-use Rattle.std.proofs.Common.{◌≡◌, ℕ, ◌==◌, ◌&&◌, ◌||◌, not, if◌then◌else◌, List, ◌∷◌, Bool, true, false, refl, sym, ap, ◌∙◌, Option, Some, None, Ok, Err, option_map, IfSome}
+use Rattle.std.proofs.Common.{◌≡◌, ℕ, ◌==◌, ◌&&◌, ◌||◌, not, if◌then◌else◌, List, ◌∷◌, Bool, true, false, refl, sym, ap, ◌∙◌, Option, Some, None, Ok, Err, option_map, IfSome, arith}
 use Rattle.std.specs.FinMap.{get, remove}
 use Rattle.blocking_crew.proofs.Types.{Stay, Stop, Woke, Entered, Marked, Nothing, Standing, Done, Dropped, Parked, Queued, Running, WorkerPass, Act, JobCancelled, JobWoken, Moment, Party, Worker, Step, Holds, Held, Ticket}
-use Rattle.blocking_crew.proofs.Words.{Growth, JobNumber, Job as Entry, new_job, entry_after_take, entry_after_requeue, entry_after_park, entry_after_wake, entry_after_cancel, is_in, wake_of, cancel_of, IsPlanned, holder, is_holder, is_woken, is_cancelled, has_ended, is_marked, standing, has_timed_out, Crew, hand_at, Move, Adds, TakesJob, Works, EndsTurn, Parks, HasWaited, Sweeps, IsWoken, IsCancelled, IsLetGo, Tells, call_of, next_start, after, May, no_growth, new_ticket, JobPool, to_sweep, pool_after_let_go, AbsentAs, FiledAs, FiledHere, Filed, IsNumberOf, CrewHolds, moment_of, is_serial_of, HoldsAtRest, IsAsked}
+use Rattle.blocking_crew.proofs.Words.{Growth, JobNumber, Job as Entry, new_job, entry_after_take, entry_after_requeue, entry_after_park, entry_after_wake, entry_after_cancel, is_in, wake_of, cancel_of, IsPlanned, holder, is_holder, is_woken, is_cancelled, has_ended, is_marked, standing, has_timed_out, Crew, hand_at, Move, Adds, TakesJob, Works, EndsTurn, Parks, HasWaited, Sweeps, IsWoken, IsCancelled, IsLetGo, Tells, call_of, next_start, after, May, no_growth, new_ticket, JobPool, to_sweep, pool_after_let_go, AbsentAs, FiledAs, FiledHere, Filed, IsNumberOf, CrewHolds, moment_of, HoldsAtRest, IsAsked}
 use Rattle.blocking_laws.specs.Jobs.{is_parked}
 use Rattle.blocking_crew.specs.declared.tickets.Parking.TheVariants as parking
 use Rattle.blocking_pool.proofs.Lists.{by_eq}
@@ -42,13 +42,11 @@ module _ (setting : ℕ) (plan : List Bool) (crew : Crew) (past : List Moment) (
   -- one job becomes this, and stands so then
   stands_as : (t s : ℕ) (how : Standing) (becomes : Option (Entry Ticket)) → (t ≡ s → FiledAs becomes (Some how) (is_woken past s) (is_cancelled past s) (is_marked past s) (has_ended past s))
       → FiledAs (if t == s then becomes else get crew.pool.jobs s) (if t == s then Some how else standing past s) (is_woken past s) (is_cancelled past s) (is_marked past s) (has_ended past s)
-  stands_as t s how becomes filed =
-      by_eq t s (λ b. FiledAs (if b then becomes else get crew.pool.jobs s) (if b then Some how else standing past s) (is_woken past s) (is_cancelled past s) (is_marked past s) (has_ended past s)) filed (λ other. h.tied.filed s)
+  stands_as t s how becomes filed = grind arith
 
   parked_here : (v : ℕ) (held : Held) (ticket : Ticket) (s : ℕ) → hand_at crew.hands v ≡ Holds held → ticket.is_marked ≡ is_marked past held.turn.serial → held.turn.serial ≡ s
       → FiledAs (option_map (entry_after_park ticket) (get crew.pool.jobs s)) (Some Parked) (is_woken past s) (is_cancelled past s) (is_marked past s) (has_ended past s)
-  parked_here v held ticket s at marked same =
-      parked_filed _ _ _ _ (get crew.pool.jobs s) ticket (marked ∙ ap (is_marked past) same) (stood held.turn.serial s (Some Running) same (held_runs setting plan crew past h v held at))
+  parked_here v held ticket s at marked same = grind (arith, parked_filed, held_runs)
 
   swept_filed : (late : Bool) (found : Option (Entry Ticket)) (s : ℕ) → found ≡ (if late && is_in s (to_sweep crew.pool) then option_map entry_after_requeue (get crew.pool.jobs s) else get crew.pool.jobs s)
       → FiledAs found (if late && is_parked (standing past s) && is_marked past s then Some Queued else standing past s) (is_woken past s) (is_cancelled past s) (is_marked past s) (has_ended past s)
@@ -56,21 +54,16 @@ module _ (setting : ℕ) (plan : List Bool) (crew : Crew) (past : List Moment) (
   swept_filed true found s is = rw (is, due_test setting plan crew past h s) (by (is_parked (standing past s) && is_marked past s) refl)
     where
       due_parked : (stand : Option Standing) (mark : Bool) → (is_parked stand && mark) ≡ true → stand ≡ Some Parked
-      due_parked (Some Parked) mark e = refl
-      due_parked _ mark e = absurd cc
+      due_parked stand mark e = grind arith
 
       by : (b : Bool) → (is_parked (standing past s) && is_marked past s) ≡ b
           → FiledAs (if b then option_map entry_after_requeue (get crew.pool.jobs s) else get crew.pool.jobs s) (if b then Some Queued else standing past s) (is_woken past s) (is_cancelled past s) (is_marked past s) (has_ended past s)
-      by true due = requeued_filed _ _ _ _ (get crew.pool.jobs s) (stood s s (Some Parked) refl (due_parked (standing past s) (is_marked past s) due))
-      by false due = h.tied.filed s
+      by b due = grind arith
 
   let_go_filed : (who : Party) (number : Option JobNumber) (s : ℕ) → IfSome number (IsNumberOf crew.pool) → HoldsAtRest past who number
       → FiledAs (get (pool_after_let_go crew.pool number).jobs s) (standing past s) (is_woken past s) (is_cancelled past s)
       (is_holder (holder past s) who && not (has_ended past s) || is_marked past s) (has_ended past s)
-  let_go_filed who number s placed holds =
-      rw (job_let_go crew.pool number s placed)
-      (marked_filed (is_serial_of number s) (is_holder (holder past s) who) (get crew.pool.jobs s) (standing past s) (is_woken past s) (is_cancelled past s) (is_marked past s) (has_ended past s)
-      (holds s) (λ none. ap (λ o. is_holder o who) (unheld setting plan crew past h s none)) (h.tied.filed s))
+  let_go_filed who number s placed holds = grind (arith, job_let_go, marked_filed, unheld)
 
   -- ---- wakes and cancels
 

@@ -23,10 +23,7 @@ without_times t ns = length-filter_both (λ n. not (t == n)) (λ n. n == t) (λ 
 
 -- the first of a list, and the rest
 pub times_first : (s m : ℕ) (ns : List ℕ) (k : ℕ) → times s (m ∷ ns) ≡ k → times s ns + one_if (m == s) ≡ k
-times_first s m ns k e = by (m == s) e
-  where
-    by : (c : Bool) → length (cond c (m ∷ filter (λ n. n == s) ns) (filter (λ n. n == s) ns)) ≡ k → times s ns + one_if c ≡ k
-    by c e = grind (arith, e)
+times_first s m ns k e = grind arith
 
 -- the front of a list in which it stands once is left by nothing else
 pub front_once : (s : ℕ) (ns : List ℕ) (b : Bool) → times s (s ∷ ns) ≡ one_if b → is_in s ns ≡ false

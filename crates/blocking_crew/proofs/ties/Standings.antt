@@ -9,12 +9,11 @@ use Rattle.blocking_laws.specs.Jobs.{is_running}
 use Rattle.blocking_pool.proofs.Lists.{without-first, is_in-last, is_in-push}
 use Rattle.blocking_laws.proofs.Queues.{queued_so, runs_so, known_so}
 use Rattle.blocking_crew.proofs.jobs.Lookups.{runs_at}
-use Rattle.blocking_crew.proofs.ties.Entries.{filed_runs, filed_none, met_as}
+use Rattle.blocking_crew.proofs.ties.Entries.{filed_runs, filed_none}
 use Rattle.blocking_crew.proofs.ties.Lists.{in_times, front_once, times_below, times_first, without_times}
 
 unknown_is : (st : Option Standing) → one_if (is_some st) ≡ 0 → st ≡ None
-unknown_is None e = refl
-unknown_is (Some how) e = absurd (omega (arith, e))
+unknown_is st e = grind arith
 
 known_by : (k z l : Bool) → one_if k + one_if z ≡ one_if l → k ≡ (not z && l)
 known_by k z l e = grind (arith, e)
@@ -71,8 +70,7 @@ module _ (setting : ℕ) (plan : List Bool) (crew : Crew) (past : List Moment) (
   -- a job is answered as it was seen to stand
   pub met : (answer : Option Standing → Woke) (number : JobNumber) → answer None ≡ answer (Some Done) → answer None ≡ answer (Some Dropped) → IsNumberOf crew.pool number
       → answer (standing_of crew.pool.jobs number) ≡ answer (standing past number.serial)
-  met answer number done dropped placed =
-      met_as answer (get crew.pool.jobs number.serial) number.place (standing past number.serial) _ _ _ _ done dropped placed (h.tied.filed number.serial)
+  met answer number done dropped placed = grind arith
 
   -- the job in a hand runs
   pub held_here : (v : ℕ) (held : Held) → hand_at crew.hands v ≡ Holds held → is_running_job (get crew.pool.jobs held.turn.serial) ≡ true

@@ -1,27 +1,20 @@
 -- A move that there may be under some answers of a starter may be there under more of them.
-use Rattle.std.proofs.Common.{ℕ, ◌+◌, List, [], ◌∷◌, Bool, true, false, length, Ok, Err}
+use Rattle.std.proofs.Common.{ℕ, ◌+◌, List, [], ◌∷◌, Bool, length, Ok, Err, arith}
 use Rattle.blocking_crew.proofs.Types.{NoWorker, Entered}
 use Rattle.blocking_crew.proofs.Words.{Counts, after_pickup, Narrows, Growth, has_timed_out, Crew, Move, Adds, TakesJob, HasWaited, Sweeps, IsWoken, IsCancelled, May, JobPool, GrowsBy, EntersAgain, to_sweep, SweepsTo, SweepsIf}
-use Rattle.blocking_pool.proofs.GrowthLemmas.{answer_before}
 
 module _ (wide narrow : ℕ → Bool → Type 0) (more : Narrows wide narrow) where
   grows : (ready : ℕ) (counts : Counts) (growth : Growth) → GrowsBy narrow ready counts growth → GrowsBy wide ready counts growth
-  grows ready counts growth g = record {
-    each = λ m within. ((g.each m within).0, answer_before wide narrow (counts.next_worker + m) false more (g.each m within).1);
-    next = g.next;
-    cause = λ refused. answer_before wide narrow (counts.next_worker + growth.started) true more (g.cause refused);
-  }
+  grows ready counts growth g = grind arith
 
   again : (old : JobPool) (serials : List ℕ) (growth : Growth) (new : JobPool) → EntersAgain narrow old serials growth new → EntersAgain wide old serials growth new
   again old serials growth new e = record { starts = grows (length _) old.counts growth e.starts; after_is = e.after_is }
 
   sweeps : (old : JobPool) (serials : List ℕ) (growth : Growth) (new : JobPool) → SweepsTo narrow old serials growth new → SweepsTo wide old serials growth new
-  sweeps old [] growth new s = s
-  sweeps old (serial ∷ serials) growth new s = again old (serial ∷ serials) growth new s
+  sweeps old serials growth new s = grind arith
 
   sweeps_if : (late : Bool) (old : JobPool) (growth : Growth) (new : JobPool) → SweepsIf late narrow old growth new → SweepsIf late wide old growth new
-  sweeps_if true old growth new s = sweeps old (to_sweep old) growth new s
-  sweeps_if false old growth new s = s
+  sweeps_if late old growth new s = grind arith
 
   -- A move under some answers is one under more.
   pub may_more : (crew : Crew) (move : Move) → May narrow crew move → May wide crew move

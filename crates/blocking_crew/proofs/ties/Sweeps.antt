@@ -25,8 +25,4 @@ module _ (setting : ℕ) (plan : List Bool) (crew : Crew) (past : List Moment) (
       (λ s. due_filed (get pool.jobs s) (standing past s) (is_woken past s) (is_cancelled past s) (is_marked past s) (has_ended past s) (h.tied.filed s)) (accepted_jobs past)
 
   pub due_test : (s : ℕ) → is_in s (to_sweep crew.pool) ≡ (is_parked (standing past s) && is_marked past s)
-  due_test s =
-      ap (is_in s) sweep_same
-      ∙ in_filter (λ s. is_parked (standing past s) && is_marked past s) (accepted_jobs past) s
-      ∙ ap (λ b. (is_parked (standing past s) && is_marked past s) && b) (accepted_in setting plan crew past h s)
-      ∙ swept_test (standing past s) (is_marked past s)
+  due_test s = grind (arith, in_filter, accepted_in, swept_test)

@@ -1,23 +1,8 @@
 -- An act of its job keeps the law of a task, and the tie of the task to its cut.
-use Rattle.std.proofs.Common.{◌≡◌, ℕ, List, [], ◌∷◌, Bool, true, false, refl, sym, ap, ◌∙◌, subst, Option, Some, None, inl, inr}
-use Rattle.std.specs.Prelude.{◌⊎◌, ◌||◌, not, is_some}
-use Rattle.std.proofs.lemmas.Bool.{or_left, or_right, eq-eqb}
-use Rattle.blocking_core.specs.Slots.{Content, Empty, Full, GivenUp, Abandoned, slot_after, answer_of, slot_without_job, waker_out_of}
-use Rattle.blocking_laws.specs.Seen.{own, acts_of, is_of_pool, is_nothing}
-use Rattle.blocking_laws.specs.JobTable.{Calling, WakeHolder, next_of_job, next_but_wake, is_over, number, has_finished, has_given_up, is_taken}
-use Rattle.blocking_laws.specs.Seats.{task_seat, waker_in}
-use Rattle.blocking_laws.specs.TaskLaws.{is_in_time, was_cancelled, Calls}
-use Rattle.blocking_laws.specs.Wakes.{was_woken, is_waiting}
-use Rattle.blocking_pool.specs.Growth.{Growth}
-use Rattle.blocking_lanes.specs.Ties.{TaskAs, SlotAs, CancelAs}
-use Rattle.blocking_lanes.specs.Steps.{by_job}
-use Rattle.blocking_laws.specs.declared.event.Act.{Act}
-use Rattle.blocking_laws.specs.declared.event.Act.TheVariants.{Answered, Finished, GaveUp, HolderWoken}
-use Rattle.blocking_laws.specs.declared.event.Event.{Event}
-use Rattle.blocking_laws.specs.declared.step.Answer.TheVariants.{Number}
-use Rattle.blocking_lanes.specs.Tasks.{Task, has_let_go, finish_wakes, task_after_finish, give_up_wakes, task_after_give_up}
-use Rattle.blocking_lanes.specs.declared.task.TaskStage.{TaskStage}
-use Rattle.blocking_lanes.specs.declared.task.TaskStage.TheVariants as task_stage
+use Rattle.std.proofs.Common.{◌≡◌, ℕ, List, [], ◌∷◌, Bool, true, false, refl, sym, ap, ◌∙◌, subst, Option, Some, None, inl, inr, ◌⊎◌, ◌||◌, not, is_some, eq-eqb}
+use Rattle.std.proofs.lemmas.Bool.{or_left, or_right}
+use Rattle.blocking_lanes.proofs.Types.{Act, Answered, Finished, GaveUp, HolderWoken, Event, Number, TaskStage}
+use Rattle.blocking_lanes.proofs.Words.{Abandoned, Content, Empty, Full, GivenUp, answer_of, slot_after, slot_without_job, waker_out_of, Growth, Calling, WakeHolder, has_finished, has_given_up, is_over, is_taken, next_but_wake, next_of_job, number, task_seat, waker_in, acts_of, is_nothing, is_of_pool, own, Calls, is_in_time, was_cancelled, is_waiting, was_woken, by_job, Task, task_finish_wakes as finish_wakes, task_give_up_wakes as give_up_wakes, has_let_go, task_after_finish, task_after_give_up, CancelAs, TaskSlotAs as SlotAs, TaskAs}
 use Rattle.blocking_lanes.proofs.acts.TaskActs.{Goes}
 
 acts_more : (v s : ℕ) (act : Act) (first : ℕ) (growth : Growth) (cut : List Event) → is_of_pool act ≡ false → is_nothing act ≡ false → acts_of s (by_job v s act first growth ∷ cut) ≡ act ∷ acts_of s cut
@@ -33,15 +18,14 @@ ToldBy cut acts = is_waiting (own cut) ≡ true → (was_woken cut ≡ true) ⊎
 -- no number came yet, where no answer did
 none_in_time : (how : TaskStage) (content : Content ℕ) (found : Option ℕ) (in_time : Bool) (n m : ℕ) → (in_time ≡ true → false ≡ true)
     → SlotAs how content found false false in_time n → SlotAs how content found false false in_time m
-none_in_time task_stage.Attached Empty found in_time n m timely slot = slot
-none_in_time task_stage.Attached (Full x) found in_time n m timely slot = absurd (let f = slot.0 in cc)
-none_in_time task_stage.Attached GivenUp found in_time n m timely slot = absurd (let f = slot.1 in cc)
-none_in_time task_stage.Attached (Abandoned over) found in_time n m timely slot = absurd slot
-none_in_time task_stage.Cancelled (Abandoned over) None in_time n m timely slot = slot
-none_in_time task_stage.Cancelled (Abandoned over) (Some x) in_time n m timely slot = absurd (let f = timely slot.1.0 in cc)
-none_in_time task_stage.Cancelled _ found in_time n m timely slot = absurd slot
-none_in_time task_stage.Gone content found in_time n m timely slot = slot
-none_in_time task_stage.LetGo content found in_time n m timely slot = slot
+none_in_time TaskStage.Attached Empty found in_time n m timely slot = slot
+none_in_time TaskStage.Attached (Full x) found in_time n m timely slot = absurd (let f = slot.0 in cc)
+none_in_time TaskStage.Attached GivenUp found in_time n m timely slot = absurd (let f = slot.1 in cc)
+none_in_time TaskStage.Attached (Abandoned over) found in_time n m timely slot = absurd slot
+none_in_time TaskStage.Cancelled (Abandoned over) None in_time n m timely slot = slot
+none_in_time TaskStage.Cancelled (Abandoned over) (Some x) in_time n m timely slot = absurd (let f = timely slot.1.0 in cc)
+none_in_time TaskStage.Cancelled _ found in_time n m timely slot = absurd slot
+none_in_time _ content found in_time n m timely slot = slot
 
 -- the call is answered
 pub answer_goes : (task : Task) (v s n first : ℕ) (growth : Growth) (cut : List Event) → acts_of s cut ≡ [] → (is_in_time cut ≡ true → has_finished (acts_of s cut) ≡ true) → TaskAs task s cut
@@ -91,28 +75,28 @@ woken_by wake woken seated over same (inr is) = or_left (is_taken (waker_in wake
 
 -- a slot to which nothing came yet
 abbrev Pends : TaskStage → Content ℕ → Option ℕ → Bool → Type 0
-Pends task_stage.Attached Empty found cancel = cancel ≡ false
-Pends task_stage.Cancelled (Abandoned false) None cancel = cancel ≡ true
-Pends task_stage.Gone Empty found cancel = Unit {0}
-Pends task_stage.Gone (Abandoned false) found cancel = Unit {0}
-Pends task_stage.LetGo Empty found cancel = Unit {0}
-Pends task_stage.LetGo (Abandoned false) found cancel = Unit {0}
+Pends TaskStage.Attached Empty found cancel = cancel ≡ false
+Pends TaskStage.Cancelled (Abandoned false) None cancel = cancel ≡ true
+Pends TaskStage.Gone Empty found cancel = Unit {0}
+Pends TaskStage.Gone (Abandoned false) found cancel = Unit {0}
+Pends TaskStage.LetGo Empty found cancel = Unit {0}
+Pends TaskStage.LetGo (Abandoned false) found cancel = Unit {0}
 Pends how content found cancel = ⊥
 
 none_came : (how : TaskStage) (content : Content ℕ) (found : Option ℕ) (cancel in_time : Bool) (n : ℕ) → (in_time ≡ true → false ≡ true) → CancelAs how cancel
     → SlotAs how content found false false in_time n → Pends how content found cancel
-none_came task_stage.Attached Empty found cancel in_time n timely was slot = was
-none_came task_stage.Attached (Full x) found cancel in_time n timely was slot = absurd (let f = slot.0 in cc)
-none_came task_stage.Attached GivenUp found cancel in_time n timely was slot = absurd (let f = slot.1 in cc)
-none_came task_stage.Cancelled (Abandoned false) None cancel in_time n timely was slot = was
-none_came task_stage.Cancelled (Abandoned true) None cancel in_time n timely was slot = absurd (let f = slot.0 in cc)
-none_came task_stage.Cancelled (Abandoned over) (Some x) cancel in_time n timely was slot = absurd (let f = timely slot.1.0 in cc)
-none_came task_stage.Gone Empty found cancel in_time n timely was slot = tt
-none_came task_stage.Gone (Abandoned false) found cancel in_time n timely was slot = tt
-none_came task_stage.Gone _ found cancel in_time n timely was slot = absurd (slot refl)
-none_came task_stage.LetGo Empty found cancel in_time n timely was slot = tt
-none_came task_stage.LetGo (Abandoned false) found cancel in_time n timely was slot = tt
-none_came task_stage.LetGo _ found cancel in_time n timely was slot = absurd (slot refl)
+none_came TaskStage.Attached Empty found cancel in_time n timely was slot = was
+none_came TaskStage.Attached (Full x) found cancel in_time n timely was slot = absurd (let f = slot.0 in cc)
+none_came TaskStage.Attached GivenUp found cancel in_time n timely was slot = absurd (let f = slot.1 in cc)
+none_came TaskStage.Cancelled (Abandoned false) None cancel in_time n timely was slot = was
+none_came TaskStage.Cancelled (Abandoned true) None cancel in_time n timely was slot = absurd (let f = slot.0 in cc)
+none_came TaskStage.Cancelled (Abandoned over) (Some x) cancel in_time n timely was slot = absurd (let f = timely slot.1.0 in cc)
+none_came TaskStage.Gone Empty found cancel in_time n timely was slot = tt
+none_came TaskStage.Gone (Abandoned false) found cancel in_time n timely was slot = tt
+none_came TaskStage.Gone _ found cancel in_time n timely was slot = absurd (slot refl)
+none_came TaskStage.LetGo Empty found cancel in_time n timely was slot = tt
+none_came TaskStage.LetGo (Abandoned false) found cancel in_time n timely was slot = tt
+none_came TaskStage.LetGo _ found cancel in_time n timely was slot = absurd (slot refl)
 none_came _ _ found cancel in_time n timely was slot = absurd slot
 
 -- such a slot takes a number, and its waker leaves the seat
@@ -122,12 +106,12 @@ pub record Puts (how : TaskStage) (content : Content ℕ) (seat : Option (Unit {
   pub wake : (answer_of content seat n).wake ≡ seat
 
 puts : (how : TaskStage) (content : Content ℕ) (seat : Option (Unit {0})) (found : Option ℕ) (cancel : Bool) (n : ℕ) → Pends how content found cancel → Puts how content seat found cancel n
-puts task_stage.Attached Empty seat found cancel n p = record { slot = (refl, ap not p, refl); empty = refl; wake = refl }
-puts task_stage.Cancelled (Abandoned false) seat None cancel n p = record { slot = (refl, ap not p); empty = refl; wake = refl }
-puts task_stage.Gone Empty seat found cancel n p = record { slot = λ idle. absurd (cc); empty = refl; wake = refl }
-puts task_stage.Gone (Abandoned false) seat found cancel n p = record { slot = λ idle. absurd (cc); empty = refl; wake = refl }
-puts task_stage.LetGo Empty seat found cancel n p = record { slot = λ idle. absurd (cc); empty = refl; wake = refl }
-puts task_stage.LetGo (Abandoned false) seat found cancel n p = record { slot = λ idle. absurd (cc); empty = refl; wake = refl }
+puts TaskStage.Attached Empty seat found cancel n p = record { slot = (refl, ap not p, refl); empty = refl; wake = refl }
+puts TaskStage.Cancelled (Abandoned false) seat None cancel n p = record { slot = (refl, ap not p); empty = refl; wake = refl }
+puts TaskStage.Gone Empty seat found cancel n p = record { slot = λ idle. absurd (cc); empty = refl; wake = refl }
+puts TaskStage.Gone (Abandoned false) seat found cancel n p = record { slot = λ idle. absurd (cc); empty = refl; wake = refl }
+puts TaskStage.LetGo Empty seat found cancel n p = record { slot = λ idle. absurd (cc); empty = refl; wake = refl }
+puts TaskStage.LetGo (Abandoned false) seat found cancel n p = record { slot = λ idle. absurd (cc); empty = refl; wake = refl }
 puts _ _ seat _ cancel n p = absurd p
 
 -- the job puts its number
@@ -165,12 +149,12 @@ pub record Ceases (how : TaskStage) (content : Content ℕ) (seat : Option (Unit
 
 ceases : (how : TaskStage) (content : Content ℕ) (seat : Option (Unit {0})) (found : Option ℕ) (cancel in_time : Bool) (n : ℕ) → SlotAs how content found false false in_time n → Pends how content found cancel
     → Ceases how content seat found in_time n
-ceases task_stage.Attached Empty seat found cancel in_time n slot p = record { slot = (refl, refl, slot.2); empty = refl; wake = refl }
-ceases task_stage.Cancelled (Abandoned false) seat None cancel in_time n slot p = record { slot = (refl, slot.1); empty = refl; wake = refl }
-ceases task_stage.Gone Empty seat found cancel in_time n slot p = record { slot = λ idle. absurd (cc); empty = refl; wake = refl }
-ceases task_stage.Gone (Abandoned false) seat found cancel in_time n slot p = record { slot = λ idle. absurd (cc); empty = refl; wake = refl }
-ceases task_stage.LetGo Empty seat found cancel in_time n slot p = record { slot = λ idle. absurd (cc); empty = refl; wake = refl }
-ceases task_stage.LetGo (Abandoned false) seat found cancel in_time n slot p = record { slot = λ idle. absurd (cc); empty = refl; wake = refl }
+ceases TaskStage.Attached Empty seat found cancel in_time n slot p = record { slot = (refl, refl, slot.2); empty = refl; wake = refl }
+ceases TaskStage.Cancelled (Abandoned false) seat None cancel in_time n slot p = record { slot = (refl, slot.1); empty = refl; wake = refl }
+ceases TaskStage.Gone Empty seat found cancel in_time n slot p = record { slot = λ idle. absurd (cc); empty = refl; wake = refl }
+ceases TaskStage.Gone (Abandoned false) seat found cancel in_time n slot p = record { slot = λ idle. absurd (cc); empty = refl; wake = refl }
+ceases TaskStage.LetGo Empty seat found cancel in_time n slot p = record { slot = λ idle. absurd (cc); empty = refl; wake = refl }
+ceases TaskStage.LetGo (Abandoned false) seat found cancel in_time n slot p = record { slot = λ idle. absurd (cc); empty = refl; wake = refl }
 ceases _ _ seat _ cancel in_time n slot p = absurd p
 
 -- the job gives up

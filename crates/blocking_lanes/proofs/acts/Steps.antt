@@ -1,15 +1,7 @@
 -- A step of a task keeps the law of the task and its tie, and stands in the cut of that task alone.
-use Rattle.std.proofs.Common.{◌≡◌, ℕ, ◌==◌, List, [], Bool, true, false, refl, if◌then◌else◌}
-use Rattle.std.specs.Prelude.{◌&&◌, ◌||◌, not}
-use Rattle.blocking_pool.specs.Growth.{Growth}
-use Rattle.blocking_laws.specs.Seen.{acts_of, is_by_task, is_of_job, is_of_pool, is_nothing}
-use Rattle.blocking_laws.specs.Jobs.{accepted_by}
-use Rattle.blocking_laws.specs.JobTable.{has_finished}
-use Rattle.blocking_laws.specs.TaskLaws.{is_in_time}
-use Rattle.blocking_laws.specs.declared.event.Event.{Event}
-use Rattle.blocking_lanes.specs.Tasks.{Task, task_act}
-use Rattle.blocking_lanes.specs.Ties.{TaskAs}
-use Rattle.blocking_lanes.specs.Steps.{TaskStep, IsCalled, IsAnswered, Finishes, GivesUp, CallsWaker, MayTake, act_of, task_after, event_by}
+use Rattle.std.proofs.Common.{arith, ◌≡◌, ℕ, ◌==◌, List, [], Bool, true, false, refl, if◌then◌else◌, ◌&&◌, ◌||◌, not}
+use Rattle.blocking_lanes.proofs.Types.{Event}
+use Rattle.blocking_lanes.proofs.Words.{Growth, has_finished, accepted_by, acts_of, is_by_task, is_nothing, is_of_job, is_of_pool, is_in_time, TaskCallsWaker as CallsWaker, Finishes, TaskGivesUp as GivesUp, TaskIsAnswered as IsAnswered, IsCalled, TaskMayTake as MayTake, TaskStep, task_act_of as act_of, task_event_by as event_by, task_after, Task, task_act, TaskAs}
 use Rattle.blocking_lanes.proofs.acts.Calls.{by_call, call_plainly}
 use Rattle.blocking_lanes.proofs.acts.TaskActs.{Goes, call_goes}
 use Rattle.blocking_lanes.proofs.acts.JobActs.{answer_goes, finish_goes, give_up_goes, wake_goes}
@@ -30,25 +22,15 @@ is_call (IsCalled call) = true
 is_call _ = false
 
 task_only : (p n i q : Bool) → n ≡ false → (not n && i) || (not p && not n && false && q) ≡ i
-task_only p true i q is = absurd (cc)
-task_only true false true q is = refl
-task_only true false false q is = refl
-task_only false false true q is = refl
-task_only false false false q is = refl
+task_only p n i q is = grind arith
 
 -- a call stands in the cuts of its task, and an act of a job in those of its job
 pub in_cut : (step : TaskStep) (task : Task) (k v s first : ℕ) (growth : Growth) (j t : ℕ)
     → is_by_task j (event_by step k v s (act_of step task) first growth) || is_of_job t (event_by step k v s (act_of step task) first growth) ≡ (if is_call step then k == j else s == t)
 in_cut (IsCalled call) task k v s first growth j t = task_only (is_of_pool (task_act call task)) (is_nothing (task_act call task)) (k == j) false (call_plainly call task)
-in_cut (IsAnswered n) task k v s first growth j t = refl
-in_cut (Finishes n) task k v s first growth j t = refl
-in_cut GivesUp task k v s first growth j t = refl
-in_cut CallsWaker task k v s first growth j t = refl
+in_cut _ task k v s first growth j t = refl
 
 -- no step accepts a job
 pub accepts_none : (step : TaskStep) (task : Task) (k v s first : ℕ) (growth : Growth) → accepted_by (event_by step k v s (act_of step task) first growth).act ≡ []
 accepts_none (IsCalled call) task k v s first growth = by_call (λ act. accepted_by act ≡ []) refl (λ n. refl) refl refl refl refl call task
-accepts_none (IsAnswered n) task k v s first growth = refl
-accepts_none (Finishes n) task k v s first growth = refl
-accepts_none GivesUp task k v s first growth = refl
-accepts_none CallsWaker task k v s first growth = refl
+accepts_none _ task k v s first growth = refl

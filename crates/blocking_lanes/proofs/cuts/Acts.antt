@@ -1,11 +1,7 @@
 -- The cut of a task: its own acts are the task's, and the acts of its job stand all in it.
-use Rattle.std.proofs.Common.{◌≡◌, ℕ, List, [], ◌∷◌, Bool, true, false, refl, sym, ap, ◌∙◌}
-use Rattle.std.specs.Prelude.{◌&&◌, ◌||◌, not, cond, map, filter}
-use Rattle.blocking_laws.specs.Seen.{own, acts_of, acts_of_task, task_cut, is_of_job, is_by_task, is_of_pool, is_nothing, is_some_worker, is_task, is_this}
-use Rattle.blocking_laws.specs.declared.event.Act.{Act}
-use Rattle.blocking_laws.specs.declared.event.Event.{Event}
-use Rattle.blocking_laws.specs.declared.event.Party.{Party}
-use Rattle.blocking_laws.specs.declared.event.Party.TheVariants.{Owner, Task as ByTask, Worker, Pool}
+use Rattle.std.proofs.Common.{arith, ◌≡◌, ℕ, List, [], ◌∷◌, Bool, true, false, refl, sym, ap, ◌∙◌, ◌&&◌, ◌||◌, not, cond, map, filter}
+use Rattle.blocking_lanes.proofs.Types.{Act, Event, Party}
+use Rattle.blocking_lanes.proofs.Words.{acts_of, acts_of_task, is_by_task, is_nothing, is_of_job, is_of_pool, is_some_worker, is_task, is_this, own, task_cut}
 
 abbrev acts_in : List Event → List Act
 acts_in seen = map (λ e. e.act) seen
@@ -30,10 +26,7 @@ own_step e X Y false false false true false i o h = h
 
 -- no worker is a task
 pub no_task : (k : ℕ) (who : Party) → is_some_worker who ≡ true → is_task k who ≡ false
-no_task k (ByTask j) e = absurd (cc)
-no_task k Pool e = refl
-no_task k (Owner h) e = refl
-no_task k (Worker v) e = refl
+no_task k who e = grind arith
 
 -- the own acts of a task's cut are the task's
 pub own_cut : (k s : ℕ) (seen : List Event) → own (task_cut k s seen) ≡ acts_of_task k seen

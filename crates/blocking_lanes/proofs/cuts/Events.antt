@@ -1,8 +1,7 @@
 -- One more event and the cut of a task.
-use Rattle.std.proofs.Common.{◌≡◌, ℕ, List, ◌∷◌, true, false, refl}
-use Rattle.std.specs.Prelude.{◌||◌}
-use Rattle.blocking_laws.specs.Seen.{task_cut, is_by_task, is_of_job}
-use Rattle.blocking_laws.specs.declared.event.Event.{Event}
+use Rattle.std.proofs.Common.{◌≡◌, ℕ, List, ◌∷◌, true, false, refl, ◌||◌}
+use Rattle.blocking_lanes.proofs.Types.{Event}
+use Rattle.blocking_lanes.proofs.Words.{is_by_task, is_of_job, task_cut}
 
 -- it stands in no cut but where it is of the task or of its job
 pub cut_same : (k s : ℕ) (e : Event) (seen : List Event) → is_by_task k e || is_of_job s e ≡ false → task_cut k s (e ∷ seen) ≡ task_cut k s seen

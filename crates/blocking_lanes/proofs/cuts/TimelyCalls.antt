@@ -1,15 +1,8 @@
 -- A call that finished in time has finished, where its task kept the laws.
-use Rattle.std.proofs.Common.{◌≡◌, ℕ, List, [], ◌∷◌, Bool, true, false, refl, sym, subst}
-use Rattle.std.specs.Prelude.{◌&&◌, ◌||◌, not, cond}
-use Rattle.blocking_laws.specs.Seen.{own, acts_of, task_cut, is_by_task, is_of_job, is_nothing, is_task, is_some_worker}
-use Rattle.blocking_laws.specs.JobTable.{has_finished}
-use Rattle.blocking_laws.specs.Places.{poll_task}
-use Rattle.blocking_laws.specs.TaskLaws.{in_time_by, is_in_time, was_cancelled, TaskActs, TaskMayAct, TaskLaws}
+use Rattle.std.proofs.Common.{arith, ◌≡◌, ℕ, List, [], ◌∷◌, Bool, true, false, refl, sym, subst, ◌&&◌, ◌||◌, not, cond}
+use Rattle.blocking_lanes.proofs.Types.{Act, Finished, Event, HolderWaker}
+use Rattle.blocking_lanes.proofs.Words.{has_finished, poll_task, acts_of, is_by_task, is_nothing, is_of_job, is_some_worker, is_task, own, task_cut, TaskActs, TaskLaws, TaskMayAct, in_time_by, is_in_time, was_cancelled}
 use Rattle.blocking_lanes.proofs.cuts.Acts.{no_task, acts_more}
-use Rattle.blocking_laws.specs.declared.event.Act.{Act}
-use Rattle.blocking_laws.specs.declared.event.Act.TheVariants.{Finished}
-use Rattle.blocking_laws.specs.declared.event.Event.{Event}
-use Rattle.blocking_laws.specs.declared.event.HolderWaker.{HolderWaker}
 
 no_finish : (in_time over : Bool) (n : ℕ) (waker : HolderWaker) → Finished waker ≡ poll_task in_time over n → ⊥
 no_finish true over n wake e = cc
@@ -24,9 +17,7 @@ by_a_job false s cut act wake is law =
     absurd (no_finish (is_in_time cut) _ _ wake acts)
 
 of_job : (n t j : Bool) → t ≡ false → (not n && t) || j ≡ true → j ≡ true
-of_job true t j out e = e
-of_job false true j out e = absurd (cc)
-of_job false false j out e = e
+of_job n t j out e = grind arith
 
 finished_by : (act : Act) (j cancel in_time : Bool) (acts : List Act) → ((waker : HolderWaker) → act ≡ Finished waker → j ≡ true) → (in_time ≡ true → has_finished acts ≡ true)
     → in_time_by act cancel in_time ≡ true → has_finished (cond j (act ∷ acts) acts) ≡ true

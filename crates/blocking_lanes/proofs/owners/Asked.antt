@@ -1,12 +1,7 @@
 -- When an owner may be asked, by the law and by the lane.
-use Rattle.std.proofs.Common.{◌≡◌, ◌&&◌, List, [], ◌∷◌, Bool, true, false, refl, ap, ◌∙◌, Some}
-use Rattle.std.specs.Prelude.{◌||◌, not}
-use Rattle.blocking_laws.specs.Sessions.{call, is_into_inner, is_operation, is_pending_operation, was_asked_inner}
-use Rattle.blocking_laws.specs.Wakes.{is_waiting}
-use Rattle.blocking_laws.specs.declared.event.Act.{Act}
-use Rattle.blocking_laws.specs.declared.event.Act.TheVariants.{Asked, Waits}
-use Rattle.blocking_laws.specs.declared.step.HandleCall.{HandleCall}
-use Rattle.blocking_laws.specs.declared.step.HandleCall.TheVariants.{IntoInner}
+use Rattle.std.proofs.Common.{arith, ◌≡◌, ◌&&◌, List, ◌∷◌, Bool, true, false, refl, ap, ◌∙◌, Some, ◌||◌, not}
+use Rattle.blocking_lanes.proofs.Types.{Act, Asked, HandleCall, IntoInner}
+use Rattle.blocking_lanes.proofs.Words.{seen_call as call, seen_is_into_inner as is_into_inner, is_operation, seen_is_pending_operation as is_pending_operation, seen_was_asked_inner as was_asked_inner, is_waiting}
 
 pub both_true : (a b : Bool) → (a && b) ≡ true → (a ≡ true) × (b ≡ true)
 both_true true b e = (refl, e)
@@ -22,11 +17,8 @@ asks_inner IntoInner acts may = refl
 asks_inner _ acts may = none (was_asked_inner acts) may
   where
     none : (b : Bool) → (not b || false) ≡ true → b ≡ false
-    none true e = absurd (cc)
-    none false e = refl
+    none b e = grind arith
 
 -- an operation is pending where one was asked, and the owner waits
 pub pending_is : (acts : List Act) → is_pending_operation acts ≡ (is_waiting acts && is_operation (call acts))
-pending_is [] = refl
-pending_is (Waits ∷ past) = refl
-pending_is (_ ∷ past) = refl
+pending_is acts = grind arith

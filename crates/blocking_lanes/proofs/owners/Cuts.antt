@@ -1,39 +1,22 @@
 -- What the cut of an owner says, by the tie of the owner to it.
-use Rattle.std.proofs.Common.{◌≡◌, ℕ, ◌≤◌, ◌&&◌, cond, List, [], ◌∷◌, ◌++◌, length, append_assoc, Bool, true, false, refl, sym, ap, ◌∙◌, subst, arith, Option, Some, None, if◌then◌else◌}
-use Rattle.std.specs.Prelude.{◌+◌, ◌-◌, not, drop, map, filter, is_none}
-use Rattle.std.proofs.lemmas.Bool.{eq-eqb}
+use Rattle.std.proofs.Common.{◌≡◌, ℕ, ◌≤◌, ◌&&◌, cond, List, [], ◌∷◌, ◌++◌, length, append_assoc, Bool, true, false, refl, sym, ap, ◌∙◌, subst, arith, Option, Some, None, if◌then◌else◌, ◌+◌, ◌-◌, not, drop, map, filter, is_none, eq-eqb}
 use Rattle.std.proofs.Math.Seq.{drop-append_seam}
-use Rattle.blocking_core.specs.Places.{Met, Served, Waiting, Closed, drain, receive}
-use Rattle.blocking_core.specs.Pipes.{room}
-use Rattle.blocking_laws.specs.JobTable.{Kind, Reading, Writing, Streaming, JobAction, next_but_wake, fault, number, has_closed, Seeking, Operating}
-use Rattle.blocking_laws.specs.OwnerSeats.{note_of, noted, is_job_seated}
-use Rattle.blocking_laws.specs.OwnerTable.{owner_next_but_wake, next_of_owner, next_of_owner_by, deliver_first, at_back, after_back, is_at_end}
-use Rattle.blocking_laws.specs.Passed.{inside, inside_by, last_job, last_kind, kind_in, in_hand, room_in, gave, got, accepted, taken, is_of_session, PassesOn}
-use Rattle.blocking_laws.specs.Places.{seen_drain, seen_receive}
-use Rattle.blocking_laws.specs.Seen.{IsBeginning, own, acts_of, is_of_pool, is_nothing, is_some_worker}
-use Rattle.blocking_laws.specs.Sessions.{call, last_session, is_shut, capacity, kind_of_job}
-use Rattle.blocking_laws.specs.Sessions as sessions
-use Rattle.blocking_laws.specs.declared.event.Act.{Act}
-use Rattle.blocking_laws.specs.declared.event.Act.TheVariants.{Accepted, Got, GotEnd, Waits, JobWoken, Back, GotItem}
-use Rattle.blocking_laws.specs.declared.event.Event.{Event}
-use Rattle.blocking_laws.specs.declared.step.HandleCall.{HandleCall}
-use Rattle.blocking_lanes.specs.OwnerTies.{LastAs, Flows, newest_note, seat_of}
-use Rattle.blocking_lanes.specs.Sessions.{Session, serial_of}
-use Rattle.blocking_pool.specs.Jobs.{JobNumber}
+use Rattle.blocking_lanes.proofs.Types.{Act, Accepted, Back, Got, GotEnd, GotItem, JobWoken, Waits, Event, HandleCall}
+use Rattle.blocking_lanes.proofs.Words.{room, Closed, Met, Served, Waiting, drain, receive, JobNumber, JobAction, Kind, Operating, Reading, Seeking, Streaming, Writing, fault, has_closed, next_but_wake, number, is_job_seated, note_of, noted, after_back, at_back, deliver_first, is_at_end, next_of_owner, next_of_owner_by, owner_next_but_wake, PassesOn, accepted, gave, got, in_hand, inside, inside_by, is_of_session, kind_in, last_job, last_kind, room_in, taken, seen_drain, seen_receive, IsBeginning, acts_of, is_nothing, is_of_pool, is_some_worker, own, SeenSession, seen_call as call, seen_capacity as capacity, seen_is_shut as is_shut, seen_kind_of, kind_of_job, seen_last_session as last_session, seen_session, Flows, LastAs, newest_note, seat_of, Session, serial_of}
 
 -- ---- the last session
 
 -- its job's acts
-pub last_job_is : (cut : List Event) (r : sessions.Session) → last_session (own cut) ≡ Some r → last_job cut ≡ acts_of r.serial cut
+pub last_job_is : (cut : List Event) (r : SeenSession) → last_session (own cut) ≡ Some r → last_job cut ≡ acts_of r.serial cut
 last_job_is cut r e = ap (λ l. map (λ e. e.act) (filter (is_of_session l) cut)) e
 
 -- its job is of its kind
-pub kind_of_last : (acts : List Act) (r : sessions.Session) → last_session acts ≡ Some r → kind_of_job r.serial acts ≡ r.kind
+pub kind_of_last : (acts : List Act) (r : SeenSession) → last_session acts ≡ Some r → kind_of_job r.serial acts ≡ r.kind
 kind_of_last [] r e = absurd (cc)
 kind_of_last (Accepted n ∷ past) r e =
-    let same : record { serial = n; kind = sessions.kind_of (call past) } ≡ r = cc in
+    let same : record { serial = n; kind = seen_kind_of (call past) } ≡ r = cc in
     subst (λ q. kind_of_job q.serial (Accepted n ∷ past) ≡ q.kind) same
-    (ap (λ b. if b then sessions.kind_of (call past) else kind_of_job n past) (eq-eqb n n refl))
+    (ap (λ b. if b then seen_kind_of (call past) else kind_of_job n past) (eq-eqb n n refl))
 kind_of_last (_ ∷ past) r e = kind_of_last past r e
 
 pub not_not : (a b : Bool) → a ≡ not b → not a ≡ b
@@ -122,12 +105,10 @@ module _ (s : Session) (bytes : Kind → ℕ) (cut : List Event) (t : LastAs (So
   noted_is = ap serial_of t.seats.job ∙ seat_note its_kind (is_job_seated cut) ∙ ap (λ l. note_of l (is_job_seated cut)) (sym t.lent.begun)
     where
       seat_note : (kind : Kind) (b : Bool) → serial_of (seat_of b s.number) ≡ note_of (Some (record { serial = s.number.serial; kind = kind })) b
-      seat_note kind true = refl
-      seat_note kind false = refl
+      seat_note kind b = grind arith
 
 no_more : (b : Bool) (e : Event) (seen : List Event) → b ≡ false → seen ≡ [] → cond b (e ∷ seen) seen ≡ []
-no_more true e seen out none = absurd (cc)
-no_more false e seen out none = none
+no_more b e seen out none = grind arith
 
 -- no event is of a session that there isn't
 of_none : (seen : List Event) → filter (is_of_session None) seen ≡ []
@@ -135,10 +116,7 @@ of_none [] = refl
 of_none (e ∷ seen) = no_more (is_of_session None e) e (filter (is_of_session None) seen) (out (is_of_pool e.act) (is_nothing e.act) (is_some_worker e.party)) (of_none seen)
   where
     out : (pool nothing worker : Bool) → (not pool && not nothing && worker && false) ≡ false
-    out true nothing worker = refl
-    out false true worker = refl
-    out false false true = refl
-    out false false false = refl
+    out pool nothing worker = grind arith
 
 -- what passed is what the tie says
 pub passes : (last : Option Session) (bytes : Kind → ℕ) (cut : List Event) → ((kind : Kind) → capacity kind (own cut) ≡ bytes kind) → LastAs last bytes cut → PassesOn cut
@@ -173,24 +151,22 @@ pub next_with : (cut : List Event) → next_of_owner cut ≡ deliver_first (newe
 next_with cut = by_acts (own cut)
   where
     by_acts : (acts : List Act) → next_of_owner_by cut acts ≡ deliver_first (newest_note acts) (owner_next_but_wake cut acts)
-    by_acts [] = refl
-    by_acts (act ∷ past) = refl
+    by_acts acts = grind arith
 
 -- What is next stays where the faults of jobs and their numbers do: they matter once the handle is back.
 pub next_stays : (new old : List Event) (acts : List Act)
-    → (is_none (sessions.session acts) ≡ true → (k : Kind) (s : ℕ) → (fault k (acts_of s new) ≡ fault k (acts_of s old)) × (number (acts_of s new) ≡ number (acts_of s old)))
+    → (is_none (seen_session acts) ≡ true → (k : Kind) (s : ℕ) → (fault k (acts_of s new) ≡ fault k (acts_of s old)) × (number (acts_of s new) ≡ number (acts_of s old)))
     → owner_next_but_wake new acts ≡ owner_next_but_wake old acts
-next_stays new old [] same = refl
 next_stays new old (Back ∷ past) same = back (call past) (last_session past)
   where
-    back : (asked : Option HandleCall) (r : Option sessions.Session) → at_back asked r (is_at_end past) new ≡ at_back asked r (is_at_end past) old
+    back : (asked : Option HandleCall) (r : Option SeenSession) → at_back asked r (is_at_end past) new ≡ at_back asked r (is_at_end past) old
     back None r = refl
     back (Some c) None = refl
     back (Some c) (Some r) =
         ap (λ f. after_back c f (is_at_end past) r.kind (number (acts_of r.serial new))) (same refl r.kind r.serial).0
         ∙ ap (λ n. after_back c (fault r.kind (acts_of r.serial old)) (is_at_end past) r.kind n) (same refl r.kind r.serial).1
 next_stays new old (JobWoken s woke ∷ past) same = next_stays new old past same
-next_stays new old (_ ∷ past) same = refl
+next_stays new old _ same = refl
 
 -- ---- what a drain is seen to find
 
@@ -200,9 +176,7 @@ drain_act Waiting = Waits
 drain_act Closed = GotEnd
 
 pub drain_seen : (n : ℕ) (items : List ℕ) (lasts : Bool) (seat : Option JobNumber) → drain_act (drain n items lasts seat) ≡ seen_drain (drain n items lasts (serial_of seat))
-drain_seen n [] true seat = refl
-drain_seen n [] false seat = refl
-drain_seen n (x ∷ xs) lasts seat = refl
+drain_seen n items lasts seat = grind arith
 
 -- and a receipt
 abbrev pub receive_act : Met (ℕ × Option JobNumber) → Act
@@ -211,6 +185,4 @@ receive_act Waiting = Waits
 receive_act Closed = GotEnd
 
 pub receive_shown : (items : List ℕ) (lasts : Bool) (seat : Option JobNumber) → receive_act (receive items lasts seat) ≡ seen_receive (receive items lasts (serial_of seat))
-receive_shown [] true seat = refl
-receive_shown [] false seat = refl
-receive_shown (x ∷ xs) lasts seat = refl
+receive_shown items lasts seat = grind arith

@@ -1,18 +1,8 @@
 -- The session of an owner after each act of the owner itself.
-use Rattle.std.proofs.Common.{◌≡◌, ℕ, ◌<◌, ◌≤◌, List, [], ◌∷◌, ◌++◌, length, length-append, append_assoc, Bool, true, false, refl, sym, ap, ◌∙◌, subst, arith, Option, Some, inl}
-use Rattle.std.specs.Prelude.{◌||◌, ◌⊎◌, ◌-◌, min, max, take, drop}
-use Rattle.std.proofs.lemmas.List.{take-append-drop, length-drop, take_min, length-take}
-use Rattle.blocking_core.specs.Pipes.{room}
-use Rattle.blocking_core.specs.Places.{Served, Waiting, Closed, drain, receive}
-use Rattle.blocking_core.specs.Slots.{Slot, Empty, Full}
-use Rattle.blocking_core.specs.declared.io.Fault.{Fault}
-use Rattle.blocking_laws.specs.JobTable.{Kind, Reading, Writing, Streaming, JobAction, FindRoom, AskBytes, PutPiece, Peek, OfferBytes, Consume, AskFlush, AskItem, SendItem, CloseEnd, Finish, Over, next_but_wake, fault, has_finished, has_given_up, Seeking, Operating, has_closed}
-use Rattle.blocking_laws.specs.Passed.{gave, peeked, taken as taken_by}
-use Rattle.blocking_laws.specs.Sessions as sessions
-use Rattle.blocking_laws.specs.declared.event.Act.{Act}
-use Rattle.blocking_lanes.specs.OwnerTies.{SessionAs, SlotAs, Flows, IsStuckIn, IsOwnerStuckIn, Passed, passed_by, PassedAs, Wrote, wrote_by, WrittenAs, IsDrained, IsDone, PlainFlow, is_piped_kind}
-use Rattle.blocking_lanes.specs.Sessions.{Session, goods_of, new_session, session_after_close, session_after_drain, session_after_look, received, session_after_receive}
-use Rattle.blocking_pool.specs.Jobs.{JobNumber}
+use Rattle.std.proofs.Common.{◌≡◌, ℕ, ◌<◌, ◌≤◌, List, [], ◌∷◌, ◌++◌, length, length-append, append_assoc, Bool, true, false, refl, sym, ap, ◌∙◌, subst, arith, Option, Some, None, inl, ◌||◌, ◌⊎◌, not, ◌-◌, min, max, take, drop, take-append-drop, length-drop, length-take}
+use Rattle.std.proofs.lemmas.List.{take_min}
+use Rattle.blocking_lanes.proofs.Types.{Fault, Act}
+use Rattle.blocking_lanes.proofs.Words.{room, Closed, Served, Waiting, drain, receive, Empty, Full, Slot, JobNumber, AskBytes, AskFlush, AskItem, CloseEnd, Consume, FindRoom, Finish, JobAction, Kind, OfferBytes, Operating, Over, Peek, PutPiece, Reading, Seeking, SendItem, Streaming, Writing, fault, has_finished, has_given_up, is_over, next_but_wake, SeenSession, FlowAs, Flows, IsDone, IsDrained, IsOwnerStuckIn, IsStuckIn, Passed, PassedAs, PlainFlow, SessionAs, SlotAs, WriteFlowAs, WrittenAs, Wrote, is_piped_kind, passed_by, wrote_by, Session, goods_of, new_session, received, session_after_close, session_after_drain, session_after_look, session_after_receive}
 
 -- ---- what a drain finds
 
@@ -90,24 +80,43 @@ stops_writing _ out items lasts shut given_up w p = absurd p
 
 -- ---- what depends on the kind of the session
 
--- through the pipe of a session without one nothing went, be its end closed
-shut_plain : (s : Session) (took accepted : List ℕ) (acts : List Act) → PlainFlow s took accepted (has_closed acts) (gave acts) (peeked acts) (taken_by acts)
-    → PlainFlow (session_after_close s) took accepted (has_closed acts) (gave acts) (peeked acts) (taken_by acts)
-shut_plain s took accepted acts t = record {
-  closed_is = t.closed_is;
+-- what passed through a pipe has passed there whoever sits at it, whatever end is closed, and whatever stands in the slot
+pub flow_with : {hand : ℕ} (s : Session) (runs lasts : Bool) (at_job : Option JobNumber) (at_owner : Option (Unit {0})) (slot : Slot (Option (Fault ℕ)) (Unit {0})) {shut shuts : Bool} {took : List ℕ} {next after : JobAction} {closed closes given_up gives_up : Bool}
+    {passed : Passed} → closes ≡ not runs → PassedAs after (room s.pipe) runs (shuts || gives_up) passed → (is_over after ≡ true → runs ≡ true → gives_up ≡ true) → FlowAs hand s shut took next closed given_up passed
+    → FlowAs hand (record s { pipe = record s.pipe { is_job_open = runs; is_owner_open = lasts; job_seat = at_job; owner_seat = at_owner }; slot = slot }) shuts took after closes gives_up passed
+flow_with s runs lasts at_job at_owner slot closed_is passed_is unclosed t = record {
+  closed_is = closed_is;
   inside = t.inside;
-  unseated = t.unseated;
-  ungot = t.ungot;
-  unfilled = t.unfilled;
-  ungiven = t.ungiven;
-  unfound = t.unfound;
+  put = t.put;
+  bounded = t.bounded;
+  sound = t.sound;
+  passed_is = passed_is;
   unwritten = t.unwritten;
+  unclosed = unclosed;
 }
 
--- be the slot another
-pub same_plain : (s : Session) (slot : Slot (Option (Fault ℕ)) (Unit {0})) (left : ℕ) (took accepted : List ℕ) (closed : Bool) (given found written : List ℕ)
-    → PlainFlow s took accepted closed given found written → PlainFlow (record s { slot = slot; left = left }) took accepted closed given found written
-same_plain s slot left took accepted closed given found written t = record {
+-- the same where the job writes
+pub written_with : (s : Session) (runs lasts : Bool) (at_job : Option JobNumber) (at_owner : Option (Unit {0})) (slot : Slot (Option (Fault ℕ)) (Unit {0})) {shut shuts : Bool} {took accepted : List ℕ} {next after : JobAction}
+    {closed closes given_up gives_up : Bool} {wrote : Wrote} (t : WriteFlowAs s shut took accepted next closed given_up wrote) → closes ≡ not runs → WrittenAs after t.out s.pipe.items runs shuts gives_up wrote
+    → (is_over after ≡ true → runs ≡ true → gives_up ≡ true)
+    → WriteFlowAs (record s { pipe = record s.pipe { is_job_open = runs; is_owner_open = lasts; job_seat = at_job; owner_seat = at_owner }; slot = slot }) shuts took accepted after closes gives_up wrote
+written_with s runs lasts at_job at_owner slot t closed_is written_is unclosed = record {
+  closed_is = closed_is;
+  out = t.out;
+  inside = t.inside;
+  removed = t.removed;
+  begun = t.begun;
+  written_is = written_is;
+  sound = t.sound;
+  ungot = t.ungot;
+  ungiven = t.ungiven;
+  unclosed = unclosed;
+}
+
+-- through the pipe of a session without one nothing went, be its end closed and the slot another
+pub plain_still : (s : Session) (lasts : Bool) (at_job : Option JobNumber) (slot : Slot (Option (Fault ℕ)) (Unit {0})) (left : ℕ) {took accepted : List ℕ} {closed : Bool} {given found written : List ℕ} → PlainFlow s took accepted closed given found written
+    → PlainFlow (record s { pipe = record s.pipe { is_owner_open = lasts; job_seat = at_job }; slot = slot; left = left }) took accepted closed given found written
+plain_still s lasts at_job slot left t = record {
   closed_is = t.closed_is;
   inside = t.inside;
   unseated = t.unseated;
@@ -121,86 +130,24 @@ same_plain s slot left took accepted closed given found written t = record {
 -- what went through its pipe, where its owner's end was closed
 shut_flow : (s : Session) (kind : Kind) (shut : Bool) (took accepted : List ℕ) (next : JobAction) (acts : List Act)
     → Flows kind s shut took accepted next acts → Flows kind (session_after_close s) true took accepted next acts
-shut_flow s Reading shut took accepted next acts t = record {
-  closed_is = t.closed_is;
-  inside = t.inside;
-  put = t.put;
-  bounded = t.bounded;
-  sound = t.sound;
-  passed_is = stops next (room s.pipe) s.pipe.is_job_open (shut || has_given_up acts) (passed_by acts) t.passed_is;
-  unwritten = t.unwritten;
-  unclosed = t.unclosed;
-}
-shut_flow s Streaming shut took accepted next acts t = record {
-  closed_is = t.closed_is;
-  inside = t.inside;
-  put = t.put;
-  bounded = t.bounded;
-  sound = t.sound;
-  passed_is = stops next (room s.pipe) s.pipe.is_job_open (shut || has_given_up acts) (passed_by acts) t.passed_is;
-  unwritten = t.unwritten;
-  unclosed = t.unclosed;
-}
-shut_flow s Writing shut took accepted next acts t = record {
-  closed_is = t.closed_is;
-  out = t.out;
-  inside = t.inside;
-  removed = t.removed;
-  begun = t.begun;
-  written_is = stops_writing next t.out s.pipe.items s.pipe.is_job_open shut (has_given_up acts) (wrote_by acts) t.written_is;
-  sound = t.sound;
-  ungot = t.ungot;
-  ungiven = t.ungiven;
-  unclosed = t.unclosed;
-}
-shut_flow s (Seeking goal) shut took accepted next acts t = record { plain = shut_plain s took accepted acts t.plain; next_is = t.next_is; place = t.place }
-shut_flow s Operating shut took accepted next acts t = record { plain = shut_plain s took accepted acts t.plain; next_is = t.next_is }
+shut_flow s Reading shut took accepted next acts t =
+    flow_with s s.pipe.is_job_open false None s.pipe.owner_seat s.slot t.closed_is (stops next (room s.pipe) s.pipe.is_job_open (shut || has_given_up acts) (passed_by acts) t.passed_is) t.unclosed t
+shut_flow s Streaming shut took accepted next acts t =
+    flow_with s s.pipe.is_job_open false None s.pipe.owner_seat s.slot t.closed_is (stops next (room s.pipe) s.pipe.is_job_open (shut || has_given_up acts) (passed_by acts) t.passed_is) t.unclosed t
+shut_flow s Writing shut took accepted next acts t =
+    written_with s s.pipe.is_job_open false None s.pipe.owner_seat s.slot t t.closed_is (stops_writing next t.out s.pipe.items s.pipe.is_job_open shut (has_given_up acts) (wrote_by acts) t.written_is) t.unclosed
+shut_flow s (Seeking goal) shut took accepted next acts t = record { plain = plain_still s false None s.slot s.left t.plain; next_is = t.next_is; place = t.place }
+shut_flow s Operating shut took accepted next acts t = record { plain = plain_still s false None s.slot s.left t.plain; next_is = t.next_is }
 shut_flow s _ shut took accepted next acts t = absurd t
 
 -- where the slot is another, what went through the pipe is the same
 pub same_flow : (s : Session) (slot : Slot (Option (Fault ℕ)) (Unit {0})) (kind : Kind) (shut : Bool) (took accepted : List ℕ) (next : JobAction) (acts : List Act)
     → Flows kind s shut took accepted next acts → Flows kind (record s { slot = slot }) shut took accepted next acts
-same_flow s slot Reading shut took accepted next acts t = record {
-  closed_is = t.closed_is;
-  inside = t.inside;
-  put = t.put;
-  bounded = t.bounded;
-  sound = t.sound;
-  passed_is = t.passed_is;
-  unwritten = t.unwritten;
-  unclosed = t.unclosed;
-}
-same_flow s slot Streaming shut took accepted next acts t = record {
-  closed_is = t.closed_is;
-  inside = t.inside;
-  put = t.put;
-  bounded = t.bounded;
-  sound = t.sound;
-  passed_is = t.passed_is;
-  unwritten = t.unwritten;
-  unclosed = t.unclosed;
-}
-same_flow s slot Writing shut took accepted next acts t = record {
-  closed_is = t.closed_is;
-  out = t.out;
-  inside = t.inside;
-  removed = t.removed;
-  begun = t.begun;
-  written_is = t.written_is;
-  sound = t.sound;
-  ungot = t.ungot;
-  ungiven = t.ungiven;
-  unclosed = t.unclosed;
-}
-same_flow s slot (Seeking goal) shut took accepted next acts t = record {
-  plain = same_plain s slot s.left took accepted (has_closed acts) (gave acts) (peeked acts) (taken_by acts) t.plain;
-  next_is = t.next_is;
-  place = t.place;
-}
-same_flow s slot Operating shut took accepted next acts t = record {
-  plain = same_plain s slot s.left took accepted (has_closed acts) (gave acts) (peeked acts) (taken_by acts) t.plain;
-  next_is = t.next_is;
-}
+same_flow s slot Reading shut took accepted next acts t = flow_with s s.pipe.is_job_open s.pipe.is_owner_open s.pipe.job_seat s.pipe.owner_seat slot t.closed_is t.passed_is t.unclosed t
+same_flow s slot Streaming shut took accepted next acts t = flow_with s s.pipe.is_job_open s.pipe.is_owner_open s.pipe.job_seat s.pipe.owner_seat slot t.closed_is t.passed_is t.unclosed t
+same_flow s slot Writing shut took accepted next acts t = written_with s s.pipe.is_job_open s.pipe.is_owner_open s.pipe.job_seat s.pipe.owner_seat slot t t.closed_is t.written_is t.unclosed
+same_flow s slot (Seeking goal) shut took accepted next acts t = record { plain = plain_still s s.pipe.is_owner_open s.pipe.job_seat slot s.left t.plain; next_is = t.next_is; place = t.place }
+same_flow s slot Operating shut took accepted next acts t = record { plain = plain_still s s.pipe.is_owner_open s.pipe.job_seat slot s.left t.plain; next_is = t.next_is }
 same_flow s slot _ shut took accepted next acts t = absurd t
 
 -- who can't go on at the pipe can't where the slot is another
@@ -222,7 +169,7 @@ shut_stuck s _ e = e
 
 -- ---- each act, of a session of any kind
 
-module _ (s : Session) (kind : Kind) (capacity : ℕ) (last : Option sessions.Session) (shut back dropped : Bool) (took accepted : List ℕ) (acts : List Act) (js ps ss : Bool) where
+module _ (s : Session) (kind : Kind) (capacity : ℕ) (last : Option SeenSession) (shut back dropped : Bool) (took accepted : List ℕ) (acts : List Act) (js ps ss : Bool) where
   -- it closes its end of the pipe
   pub shuts : SessionAs s kind capacity last shut back dropped took accepted acts js ps ss
       → SessionAs (session_after_close s) kind capacity last true back dropped took accepted acts false ps ss
@@ -288,7 +235,7 @@ module _ (s : Session) (kind : Kind) (capacity : ℕ) (last : Option sessions.Se
 
 -- ---- of one that reads
 
-module _ (s : Session) (capacity : ℕ) (last : Option sessions.Session) (shut back dropped : Bool) (took accepted : List ℕ) (acts : List Act) (js ps ss : Bool) where
+module _ (s : Session) (capacity : ℕ) (last : Option SeenSession) (shut back dropped : Bool) (took accepted : List ℕ) (acts : List Act) (js ps ss : Bool) where
   -- it drains the pipe, and gets bytes
   pub takes : (n : ℕ) (got : List ℕ × Option JobNumber) → drain n s.pipe.items s.pipe.is_job_open s.pipe.job_seat ≡ Served got
       → SessionAs s Reading capacity last shut back dropped took accepted acts js ps ss
@@ -367,7 +314,7 @@ no_more_items [] true seat e = absurd (cc)
 no_more_items [] false seat e = (refl, refl)
 no_more_items (x ∷ xs) lasts seat e = absurd (cc)
 
-module _ (s : Session) (capacity : ℕ) (last : Option sessions.Session) (shut back dropped : Bool) (took accepted : List ℕ) (acts : List Act) (js ps ss : Bool) where
+module _ (s : Session) (capacity : ℕ) (last : Option SeenSession) (shut back dropped : Bool) (took accepted : List ℕ) (acts : List Act) (js ps ss : Bool) where
   -- it receives an item
   pub receives : (got : ℕ × Option JobNumber) → received s ≡ Served got → SessionAs s Streaming capacity last shut back dropped took accepted acts js ps ss
       → SessionAs (session_after_receive (Served got) s) Streaming capacity last shut back dropped (took ++ got.0 ∷ []) accepted acts false ps ss

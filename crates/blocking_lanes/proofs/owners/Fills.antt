@@ -1,20 +1,10 @@
 -- The session of an owner who writes after it fills the pipe.
-use Rattle.std.proofs.Common.{◌≡◌, ℕ, ◌<◌, ◌≤◌, ◌==◌, List, ◌++◌, length, length-append, append_assoc, Bool, true, false, refl, sym, ap, ◌∙◌, subst, arith, Option, if◌then◌else◌}
-use Rattle.std.specs.Prelude.{min, take}
-use Rattle.std.proofs.lemmas.Bool.{eqb-true}
+use Rattle.std.proofs.Common.{◌≡◌, ℕ, ◌<◌, ◌≤◌, ◌==◌, List, ◌++◌, length, length-append, append_assoc, Bool, true, false, refl, sym, ap, ◌∙◌, subst, arith, Option, Some, if◌then◌else◌, min, take, eqb-true, length-take}
 use Rattle.std.proofs.lemmas.Bool.Decides.{nat_tests}
-use Rattle.std.proofs.lemmas.List.{length-take, take-append-le}
-use Rattle.blocking_core.specs.Pipes.{room}
-use Rattle.blocking_core.specs.Places.{Met, Served, Waiting, Closed, fill}
-use Rattle.blocking_laws.specs.JobTable.{Writing, JobAction, Peek, OfferBytes, Consume, AskFlush, CloseEnd, Finish, Over, next_but_wake, has_given_up}
-use Rattle.blocking_laws.specs.Places.{seen_fill}
-use Rattle.blocking_laws.specs.Seen.{IsBeginning}
-use Rattle.blocking_laws.specs.Sessions as sessions
-use Rattle.blocking_laws.specs.declared.event.Act.{Act}
-use Rattle.blocking_laws.specs.declared.event.Act.TheVariants.{Filled, FillShut, Waits}
-use Rattle.blocking_lanes.specs.OwnerTies.{SessionAs, Wrote, wrote_by, WrittenAs}
-use Rattle.blocking_lanes.specs.Sessions.{Session, filled, session_after_fill, serial_of}
-use Rattle.blocking_pool.specs.Jobs.{JobNumber}
+use Rattle.std.proofs.lemmas.List.{take-append-le}
+use Rattle.blocking_lanes.proofs.Types.{Act, FillShut, Filled, Waits}
+use Rattle.blocking_lanes.proofs.Words.{room, Closed, Met, Served, Waiting, fill, JobNumber, AskFlush, CloseEnd, Consume, Finish, JobAction, OfferBytes, Over, Peek, Writing, has_given_up, next_but_wake, seen_fill, IsBeginning, SeenSession, SessionAs, WrittenAs, Wrote, wrote_by, Session, filled, serial_of, session_after_fill}
+use Rattle.blocking_lanes.proofs.owners.Drains.{written_with}
 
 -- ---- what a fill finds
 
@@ -57,15 +47,6 @@ no_room n free true seat e = at (free == 0) refl e
     at true t e = (eqb-true free 0 t, refl)
     at false t e = absurd (cc)
 
--- an owner that is told so found the job's end closed
-pub shut_out : (n free : ℕ) (lasts : Bool) (seat : Option JobNumber) → fill n free lasts seat ≡ Closed → lasts ≡ false
-shut_out n free false seat e = refl
-shut_out n free true seat e = at (free == 0) e
-  where
-    at : (b : Bool) → entry b (min n free) seat ≡ Closed → true ≡ false
-    at true e = absurd (cc)
-    at false e = absurd (cc)
-
 -- ---- of a session
 
 module _ (n : ℕ) (s : Session) where
@@ -75,9 +56,6 @@ module _ (n : ℕ) (s : Session) where
   -- the note that it takes is that of the job that is seated
   pub filled_note : (went : ℕ × Option JobNumber) → filled n s ≡ Served went → (went.1 ≡ s.pipe.job_seat) × (s.pipe.is_job_open ≡ true)
   filled_note went e = let f = enters n (room s.pipe) s.pipe.is_job_open s.pipe.job_seat went e in (f.seat_is, f.lasts_is)
-
-  pub fill_closed : filled n s ≡ Closed → s.pipe.is_job_open ≡ false
-  fill_closed e = shut_out n (room s.pipe) s.pipe.is_job_open s.pipe.job_seat e
 
   pub fill_full : filled n s ≡ Waiting → (room s.pipe ≡ 0) × (s.pipe.is_job_open ≡ true)
   fill_full e = no_room n (room s.pipe) s.pipe.is_job_open s.pipe.job_seat e
@@ -94,8 +72,7 @@ fill_seen n free false seat = refl
 fill_seen n free true seat = at (free == 0)
   where
     at : (b : Bool) → fill_act (entry b (min n free) seat) ≡ seen_fill (if b then Waiting else Served (min n free, serial_of seat))
-    at true = refl
-    at false = refl
+    at b = grind arith
 
 -- ---- what was written, where more goes in
 
@@ -118,7 +95,7 @@ goes_in _ out items more lasts given_up w p = absurd p
 
 -- ---- each fill
 
-module _ (s : Session) (capacity : ℕ) (last : Option sessions.Session) (shut back dropped : Bool) (took accepted : List ℕ) (acts : List Act) (js ps ss : Bool) where
+module _ (s : Session) (capacity : ℕ) (last : Option SeenSession) (shut back dropped : Bool) (took accepted : List ℕ) (acts : List Act) (js ps ss : Bool) where
   -- some of these bytes go in
   pub fills : (bytes : List ℕ) (went : ℕ × Option JobNumber) → filled (length bytes) s ≡ Served went → shut ≡ false
       → SessionAs s Writing capacity last shut back dropped took accepted acts js ps ss
@@ -173,18 +150,7 @@ module _ (s : Session) (capacity : ℕ) (last : Option sessions.Session) (shut b
       → SessionAs (session_after_fill bytes Waiting s) Writing capacity last shut back dropped took accepted acts js true ss
   fill_waits bytes found t = record {
     lent = record { begun = t.lent.begun; goods = t.lent.goods; some = t.lent.some; holds = t.lent.holds; within = t.lent.within; shut_is = t.lent.shut_is };
-    flow = record {
-      closed_is = t.flow.closed_is;
-      out = t.flow.out;
-      inside = t.flow.inside;
-      removed = t.flow.removed;
-      begun = t.flow.begun;
-      written_is = t.flow.written_is;
-      sound = t.flow.sound;
-      ungot = t.flow.ungot;
-      ungiven = t.flow.ungiven;
-      unclosed = t.flow.unclosed;
-    };
+    flow = written_with s s.pipe.is_job_open s.pipe.is_owner_open s.pipe.job_seat (Some tt) s.slot t.flow t.flow.closed_is t.flow.written_is t.flow.unclosed;
     result = t.result;
     seats = record {
       job = t.seats.job;

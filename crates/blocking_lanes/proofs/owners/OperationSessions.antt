@@ -1,16 +1,7 @@
 -- The session of an owner that operates, after each act of its job, and once its owner looked for the result.
 use Rattle.std.proofs.Common.{◌≡◌, ℕ, List, ◌∷◌, Bool, true, refl, ap, Option}
-use Rattle.blocking_core.specs.Slots.{Slot}
-use Rattle.blocking_laws.specs.JobTable.{Operating, AskResult, PutResult, next_but_wake, next_after_answer, is_answer, fault, has_closed, has_finished, has_given_up}
-use Rattle.blocking_laws.specs.Passed.{gave, peeked, taken}
-use Rattle.blocking_laws.specs.Sessions as sessions
-use Rattle.blocking_laws.specs.declared.event.Act.{Act}
-use Rattle.blocking_laws.specs.declared.event.Act.TheVariants.{Answered, ResultPut}
-use Rattle.blocking_laws.specs.declared.event.HolderWaker.{HolderWaker}
-use Rattle.blocking_laws.specs.declared.step.Answer.{Answer}
-use Rattle.blocking_laws.specs.declared.step.Answer.TheVariants.{Number}
-use Rattle.blocking_lanes.specs.OwnerTies.{SessionAs, PlainFlow}
-use Rattle.blocking_lanes.specs.Sessions.{Session}
+use Rattle.blocking_lanes.proofs.Types.{Act, Answered, ResultPut, HolderWaker, Answer, Number}
+use Rattle.blocking_lanes.proofs.Words.{Slot, AskResult, Operating, PutResult, fault, has_closed, has_finished, has_given_up, is_answer, job_next_after_answer as next_after_answer, next_but_wake, gave, peeked, taken, SeenSession, PlainFlow, SessionAs, Session}
 use Rattle.blocking_lanes.proofs.owners.ReadSessions.{At, tied_at, unseated, going, still}
 use Rattle.blocking_lanes.proofs.owners.SeekSessions.{plain_answer, counts_none}
 
@@ -28,7 +19,7 @@ plain_with s kept result took accepted closed given found written t = record {
   unwritten = t.unwritten;
 }
 
-module _ (s : Session) (capacity : ℕ) (last : Option sessions.Session) (shut back dropped : Bool) (took accepted : List ℕ) (acts : List Act) (js ps ss : Bool) where
+module _ (s : Session) (capacity : ℕ) (last : Option SeenSession) (shut back dropped : Bool) (took accepted : List ℕ) (acts : List Act) (js ps ss : Bool) where
   abbrev Tied : Session → List Act → Type 0
   Tied now l = SessionAs now Operating capacity last shut back dropped took accepted l js ps ss
 

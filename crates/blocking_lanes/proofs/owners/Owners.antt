@@ -1,29 +1,10 @@
 -- The tie of the owners and their laws hold after one more moment, where they held before it.
-use Rattle.std.proofs.Common.{◌≡◌, ℕ, ◌==◌, List, [], ◌∷◌, ◌++◌, length, length-append, Bool, true, false, refl, sym, ap, ◌∙◌, subst, arith, if◌then◌else◌, Option, Some, None, ⊎_elim, inl, inr, suc}
-use Rattle.std.specs.Prelude.{◌||◌, ◌⊎◌, cond, filter, slice_get}
+use Rattle.std.proofs.Common.{◌≡◌, ℕ, ◌==◌, List, [], ◌∷◌, ◌++◌, length, length-append, Bool, true, false, refl, sym, ap, ◌∙◌, subst, arith, if◌then◌else◌, Option, Some, None, ⊎_elim, inl, inr, suc, ◌||◌, ◌⊎◌, cond, filter, slice_get, length-set}
 use Rattle.std.proofs.lemmas.Bool.{or_left, or_right}
 use Rattle.std.proofs.lemmas.Bool.Decides.{nat_tests}
 use Rattle.std.proofs.lemmas.Option.{slice_get_within}
-use Rattle.std.proofs.Math.ListN.{length-set}
-use Rattle.blocking_pool.specs.Lists.{is_in}
-use Rattle.blocking_laws.specs.JobTable.{Kind}
-use Rattle.blocking_laws.specs.Jobs.{accepted_by, accepts, holder, newcomer}
-use Rattle.blocking_laws.specs.OwnerLaws.{OwnerLaws}
-use Rattle.blocking_laws.specs.Seen.{events, own, cut, acts_of, is_in_cut, is_of_job, is_some_worker}
-use Rattle.blocking_laws.specs.Sessions.{jobs_of, kind_of_job}
-use Rattle.blocking_laws.specs.Steps.{owners, is_making}
-use Rattle.blocking_laws.specs.declared.event.Act.{Act}
-use Rattle.blocking_laws.specs.declared.event.Act.TheVariants.{Accepted, Made}
-use Rattle.blocking_laws.specs.declared.event.Event.{Event}
-use Rattle.blocking_laws.specs.declared.event.Moment.{Moment}
-use Rattle.blocking_laws.specs.declared.event.Party.{Party}
-use Rattle.blocking_laws.specs.declared.event.Party.TheVariants.{Owner as ByOwner, Task as ByTask, Worker, Pool}
-use Rattle.blocking_pool.specs.Growth.{Growth}
-use Rattle.blocking_lanes.specs.Owners.{Owner, Worked, worked, new_owner, capacity_of}
-use Rattle.blocking_lanes.specs.OwnerSteps.{OwnerStep, IsAsked, Acts, Begins, IsRefused, Delivers, IsDropped, Works, IsAnswered, GivesUp, CallsWaker, IsAside, MakesOwner, TakesStep, MayTake, IsFresh, IsHeld, is_of_its_job, event_for, by_owner, by_its_job, owner_after}
-use Rattle.blocking_lanes.specs.OwnerTies.{OwnerAs, OwnersHold}
-use Rattle.blocking_lanes.specs.SessionJobs.{JobAs}
-use Rattle.blocking_lanes.specs.declared.job.SessionJob.{SessionJob}
+use Rattle.blocking_lanes.proofs.Types.{Act, Accepted, Made, Event, Moment, Party, ByOwner, Worker, SessionJob}
+use Rattle.blocking_lanes.proofs.Words.{Growth, is_in, Kind, accepted_by, accepts, holder, newcomer, OwnerLaws, acts_of, cut, events, is_in_cut, is_of_job, is_some_worker, own, jobs_of, kind_of_job, is_making, owners, Begins, CallsWaker, GivesUp, IsAnswered, IsAside, IsFresh, IsHeld, MakesOwner, MayTake, OwnerStep, TakesStep, DoesWork as Works, by_its_job, by_owner, event_for, is_of_its_job, owner_after_step as owner_after, OwnerAs, OwnersHold, Owner, Worked, capacity_of, new_owner, worked, JobAs}
 use Rattle.blocking_pool.proofs.Places.{got_same, got_other, in_pushed}
 use Rattle.blocking_lanes.proofs.owners.Cuts.{passes}
 use Rattle.blocking_lanes.proofs.owners.Jobs.{worked_on}
@@ -84,15 +65,11 @@ holder_new : (past : List Moment) (now : Moment) (s : ℕ) → accepts s now.eve
 holder_new past now s new = ap (λ b. if b then Some (newcomer past now.event.party) else holder past s) new
 
 nobody : (b : Bool) (new : Party) (before : Option Party) → (if b then Some new else before) ≡ None → before ≡ None
-nobody true new before e = absurd (cc)
-nobody false new before e = e
+nobody b new before e = grind arith
 
 -- a newcomer that is an owner brought the job itself
 newcomer_is : (past : List Moment) (p : Party) (h : ℕ) → Some (newcomer past p) ≡ Some (ByOwner h) → p ≡ ByOwner h
-newcomer_is past (ByOwner g) h e = cc
-newcomer_is past (ByTask k) h e = absurd (cc)
-newcomer_is past (Worker v) h e = absurd (cc)
-newcomer_is past Pool h e = absurd (cc)
+newcomer_is past p h e = grind arith
 
 -- ---- an event of no owner
 
@@ -152,8 +129,7 @@ new_tied h capacity first growth = record {
 }
 
 or_false : (b : Bool) → (b || false) ≡ b
-or_false true = refl
-or_false false = refl
+or_false b = grind arith
 
 pub born : (row : List Owner) (past : List Moment) (now : Moment) (capacity : ℕ) → MakesOwner now.event (length row) capacity → OwnersHold row past
     → OwnersHold (row ++ new_owner capacity ∷ []) (now ∷ past)
@@ -218,20 +194,14 @@ born row past now capacity makes h =
 
 -- what a step looks at is the same in its owner's cut
 may_moved : (step : OwnerStep) (owner : Owner) (kind : Kind) (acts same : List Act) → (is_of_its_job step ≡ true → same ≡ acts) → MayTake step owner kind acts → MayTake step owner kind same
-may_moved (IsAsked call) owner kind acts same is may = may
-may_moved Acts owner kind acts same is may = may
-may_moved (Begins number) owner kind acts same is may = may
-may_moved (IsRefused why) owner kind acts same is may = may
-may_moved (Delivers woke) owner kind acts same is may = may
-may_moved IsDropped owner kind acts same is may = may
 may_moved (Works p) owner kind acts same is may = subst (MayTake (Works p) owner kind) (sym (is refl)) may
 may_moved (IsAnswered p answer) owner kind acts same is may = subst (MayTake (IsAnswered p answer) owner kind) (sym (is refl)) may
 may_moved GivesUp owner kind acts same is may = subst (MayTake GivesUp owner kind) (sym (is refl)) may
 may_moved CallsWaker owner kind acts same is may = subst (MayTake CallsWaker owner kind) (sym (is refl)) may
+may_moved _ owner kind acts same is may = may
 
 held_of : (b : Bool) (past : List Moment) (g s : ℕ) → b ≡ true → IsHeld b past g s → holder past s ≡ Some (ByOwner g)
-held_of true past g s is held = held
-held_of false past g s is held = absurd (cc)
+held_of b past g s is held = grind arith
 
 -- a job that is new was held by nobody, and no job's act brings one
 fresh_for : (step : OwnerStep) (past : List Moment) (act : Act) (s : ℕ) → IsFresh step past → accepted_by act ≡ brought step → accepts s act ≡ true → (holder past s ≡ None) × (is_of_its_job step ≡ false)
@@ -256,8 +226,7 @@ module _ (old new : List Owner) (past : List Moment) (now : Moment) (q : TakesSt
   act_so = ap (λ (x : Event). x.act) q.event_is ∙ at (is_of_its_job q.step)
     where
       at : (b : Bool) → (event_for b q.place q.worker q.job q.act q.first q.growth).act ≡ q.act
-      at true = refl
-      at false = refl
+      at b = grind arith
 
   -- where the step stands
   in_is : (g : ℕ) → is_in_cut g now.event ≡ (q.place == g)

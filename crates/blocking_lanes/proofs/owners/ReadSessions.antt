@@ -1,26 +1,11 @@
 -- The session of an owner after each act of its job.
-use Rattle.std.proofs.Common.{◌≡◌, ℕ, ◌<◌, ◌≤◌, ◌==◌, List, [], ◌∷◌, ◌++◌, length, length-append, append_assoc, Bool, true, false, refl, sym, ap, ◌∙◌, subst, arith, Option, None, if◌then◌else◌, inl, inr}
-use Rattle.std.specs.Prelude.{◌||◌, ◌+◌, ◌-◌, nat_le, not, take, is_some}
-use Rattle.std.proofs.lemmas.Bool.{or_left, or_right, eqb-true}
+use Rattle.std.proofs.Common.{◌≡◌, ℕ, ◌<◌, ◌≤◌, ◌==◌, List, [], ◌∷◌, ◌++◌, length, length-append, append_assoc, Bool, true, false, refl, sym, ap, ◌∙◌, subst, arith, Option, None, if◌then◌else◌, inl, inr, ◌||◌, ◌+◌, ◌-◌, nat_le, not, take, is_some, eqb-true, append-nil}
+use Rattle.std.proofs.lemmas.Bool.{or_left, or_right}
 use Rattle.std.proofs.lemmas.Bool.Decides.{nat_tests}
-use Rattle.std.proofs.lemmas.List.{append-nil}
 use Rattle.std.proofs.Math.Seq.{take-length}
-use Rattle.blocking_core.specs.Pipes.{room}
-use Rattle.blocking_core.specs.Places.{Served, Waiting, Closed, find_room, hand_in}
-use Rattle.blocking_core.specs.Slots.{Content, Empty, Full, GivenUp, Abandoned, Slot, slot_after, slot_without_job}
-use Rattle.blocking_core.specs.declared.io.Fault.{Fault}
-use Rattle.blocking_laws.specs.Ends.{handle_answers, has_failure}
-use Rattle.blocking_laws.specs.JobTable.{Kind, Reading, Writing, Streaming, JobAction, FindRoom, AskBytes, PutPiece, CloseEnd, Finish, Over, next_but_wake, is_over, next_after_answer, is_answer, fault, has_finished, has_given_up, Seeking, Operating, number, has_closed}
-use Rattle.blocking_laws.specs.Passed.{gave, got, answered, was_put, carried, peeked, counted, taken as taken_by}
-use Rattle.blocking_laws.specs.Sessions as sessions
-use Rattle.blocking_laws.specs.declared.event.Act.{Act}
-use Rattle.blocking_laws.specs.declared.event.Act.TheVariants.{RoomFree, RoomShut, JobParked, Answered, Put, Lost, JobClosed, Finished, GaveUp, HolderWoken}
-use Rattle.blocking_laws.specs.declared.event.HolderWaker.{HolderWaker}
-use Rattle.blocking_laws.specs.declared.step.Answer.{Answer}
-use Rattle.blocking_laws.specs.declared.step.Answer.TheVariants.{Gave, Failed}
-use Rattle.blocking_lanes.specs.Sessions.{Session, session_after_room, session_after_put, session_after_job_close, session_after_finish, session_after_give_up}
-use Rattle.blocking_lanes.specs.OwnerTies.{SessionAs, LentAs, Flows, ResultAs, SeatsAs, SlotAs, passed_by, PassedAs, GaveAll, is_finding}
-use Rattle.blocking_lanes.proofs.owners.Drains.{same_plain, same_stuck, same_owner_stuck}
+use Rattle.blocking_lanes.proofs.Types.{Fault, Act, Answered, Finished, GaveUp, HolderWoken, JobClosed, JobParked, Lost, Put, RoomFree, RoomShut, HolderWaker, Answer, Failed, Gave}
+use Rattle.blocking_lanes.proofs.Words.{room, Closed, Served, Waiting, find_room, hand_in, Abandoned, Content, Empty, Full, GivenUp, Slot, slot_after, slot_without_job, handle_answers, has_failure, AskBytes, CloseEnd, FindRoom, Finish, JobAction, Kind, Operating, Over, PutPiece, Reading, Seeking, Streaming, Writing, fault, has_finished, has_given_up, is_answer, is_over, job_next_after_answer as next_after_answer, next_but_wake, number, answered, carried, counted, gave, got, peeked, was_put, SeenSession, Flows, GaveAll, LentAs, PassedAs, ResultAs, SeatsAs, SessionAs, SlotAs, is_finding, passed_by, Session, session_after_finish, session_after_give_up, session_after_job_close, session_after_put, session_after_room}
+use Rattle.blocking_lanes.proofs.owners.Drains.{flow_with, written_with, plain_still, same_stuck, same_owner_stuck}
 
 -- ---- what a job finds
 
@@ -48,8 +33,7 @@ shut_room free false e = refl
 shut_room free true e = at (free == 0) e
   where
     at : (b : Bool) → (if b then Waiting else Served free) ≡ Closed → true ≡ false
-    at true e = absurd (cc)
-    at false e = absurd (cc)
+    at b e = grind arith
 
 module _ {W : Type 0} where
   -- what fits is put where the owner's end is open, and lost where it is closed
@@ -66,8 +50,7 @@ module _ {W : Type 0} where
   lost_is n free true seat e = at (nat_le n free) e
     where
       at : (b : Bool) → (if b then Served seat else Waiting) ≡ Closed → true ≡ false
-      at true e = absurd (cc)
-      at false e = absurd (cc)
+      at b e = grind arith
 
 -- ---- its parts by the job's next action
 
@@ -76,18 +59,22 @@ neither false false e = (refl, refl)
 neither false true e = absurd (cc)
 neither true b e = absurd (cc)
 
--- where the job doesn't wait, nobody sits in its seat
-pub unseated : (s : Session) (kind : Kind) (waits after js ps ss : Bool) → waits ≡ false → SeatsAs s kind waits js ps ss → SeatsAs s kind after js ps ss
-unseated s kind waits after js ps ss e t = record {
+-- where nobody sits in the job's seat, whether it waits doesn't matter
+pub nobody_sits : (s : Session) (kind : Kind) (waits after js ps ss : Bool) → (is_some s.pipe.job_seat ≡ true → ⊥) → SeatsAs s kind waits js ps ss → SeatsAs s kind after js ps ss
+nobody_sits s kind waits after js ps ss none t = record {
   job = t.job;
   owner = t.owner;
   slot = t.slot;
-  reason = record { job = λ seated. (let w = (t.reason.job seated).0 in absurd (cc)); owner = t.reason.owner; slot = t.reason.slot };
+  reason = record { job = λ seated. absurd (none seated); owner = t.reason.owner; slot = t.reason.slot };
 }
+
+-- where the job doesn't wait, nobody sits in its seat
+pub unseated : (s : Session) (kind : Kind) (waits after js ps ss : Bool) → waits ≡ false → SeatsAs s kind waits js ps ss → SeatsAs s kind after js ps ss
+unseated s kind waits after js ps ss e t = nobody_sits s kind waits after js ps ss (λ seated. let w = (t.reason.job seated).0 in cc) t
 
 -- ---- the tie, by the job's next action
 
-module _ (s : Session) (kind : Kind) (capacity : ℕ) (last : Option sessions.Session) (shut back dropped : Bool) (took accepted : List ℕ) (acts : List Act) (js ps ss : Bool) where
+module _ (s : Session) (kind : Kind) (capacity : ℕ) (last : Option SeenSession) (shut back dropped : Bool) (took accepted : List ℕ) (acts : List Act) (js ps ss : Bool) where
   -- the tie, by the job's next action
   pub record At (next : JobAction) : Type 0 where
     pub lent : LentAs s kind capacity last shut
@@ -144,84 +131,22 @@ called_flow s _ shut took accepted acts t = t
 -- and where it gave up
 left_flow : (s : Session) (slot : Slot (Option (Fault ℕ)) (Unit {0})) (kind : Kind) (shut : Bool) (took accepted : List ℕ) (next : JobAction) (acts : List Act) (waker : HolderWaker)
     → Flows kind s shut took accepted next acts → Flows kind (record s { slot = slot }) shut took accepted Over (GaveUp waker ∷ acts)
-left_flow s slot Reading shut took accepted next acts waker t = record {
-  closed_is = t.closed_is;
-  inside = t.inside;
-  put = t.put;
-  bounded = t.bounded;
-  sound = t.sound;
-  passed_is = subst (λ b. GaveAll b (passed_by acts)) (sym (or_right shut true refl)) tt;
-  unclosed = λ is lasts. refl;
-  unwritten = t.unwritten;
-}
-left_flow s slot Streaming shut took accepted next acts waker t = record {
-  closed_is = t.closed_is;
-  inside = t.inside;
-  put = t.put;
-  bounded = t.bounded;
-  sound = t.sound;
-  passed_is = subst (λ b. GaveAll b (passed_by acts)) (sym (or_right shut true refl)) tt;
-  unclosed = λ is lasts. refl;
-  unwritten = t.unwritten;
-}
-left_flow s slot Writing shut took accepted next acts waker t = record {
-  closed_is = t.closed_is;
-  out = t.out;
-  inside = t.inside;
-  removed = t.removed;
-  begun = t.begun;
-  written_is = λ stays. absurd (cc);
-  sound = t.sound;
-  ungot = t.ungot;
-  ungiven = t.ungiven;
-  unclosed = λ is lasts. refl;
-}
-left_flow s slot (Seeking goal) shut took accepted next acts waker t = record {
-  plain = same_plain s slot s.left took accepted (has_closed acts) (gave acts) (peeked acts) (taken_by acts) t.plain;
-  next_is = tt;
-  place = t.place;
-}
-left_flow s slot Operating shut took accepted next acts waker t = record {
-  plain = same_plain s slot s.left took accepted (has_closed acts) (gave acts) (peeked acts) (taken_by acts) t.plain;
-  next_is = tt;
-}
+left_flow s slot Reading shut took accepted next acts waker t =
+    flow_with s s.pipe.is_job_open s.pipe.is_owner_open s.pipe.job_seat s.pipe.owner_seat slot t.closed_is (subst (λ b. GaveAll b (passed_by acts)) (sym (or_right shut true refl)) tt) (λ is lasts. refl) t
+left_flow s slot Streaming shut took accepted next acts waker t =
+    flow_with s s.pipe.is_job_open s.pipe.is_owner_open s.pipe.job_seat s.pipe.owner_seat slot t.closed_is (subst (λ b. GaveAll b (passed_by acts)) (sym (or_right shut true refl)) tt) (λ is lasts. refl) t
+left_flow s slot Writing shut took accepted next acts waker t =
+    written_with s s.pipe.is_job_open s.pipe.is_owner_open s.pipe.job_seat s.pipe.owner_seat slot t t.closed_is (λ stays. absurd (cc)) (λ is lasts. refl)
+left_flow s slot (Seeking goal) shut took accepted next acts waker t = record { plain = plain_still s s.pipe.is_owner_open s.pipe.job_seat slot s.left t.plain; next_is = tt; place = t.place }
+left_flow s slot Operating shut took accepted next acts waker t = record { plain = plain_still s s.pipe.is_owner_open s.pipe.job_seat slot s.left t.plain; next_is = tt }
 left_flow s slot _ shut took accepted next acts waker t = absurd t
 
 -- and where it closed its end
 closed_flow : (s : Session) (kind : Kind) (shut : Bool) (took accepted : List ℕ) (acts : List Act) (waker : HolderWaker)
     → Flows kind s shut took accepted CloseEnd acts → Flows kind (session_after_job_close s) shut took accepted Finish (JobClosed waker ∷ acts)
-closed_flow s Reading shut took accepted acts waker t = record {
-  closed_is = refl;
-  inside = t.inside;
-  put = t.put;
-  bounded = t.bounded;
-  sound = t.sound;
-  passed_is = (refl, t.passed_is.1);
-  unclosed = λ is. absurd (cc);
-  unwritten = t.unwritten;
-}
-closed_flow s Streaming shut took accepted acts waker t = record {
-  closed_is = refl;
-  inside = t.inside;
-  put = t.put;
-  bounded = t.bounded;
-  sound = t.sound;
-  passed_is = (refl, t.passed_is.1);
-  unclosed = λ is. absurd (cc);
-  unwritten = t.unwritten;
-}
-closed_flow s Writing shut took accepted acts waker t = record {
-  closed_is = refl;
-  out = t.out;
-  inside = t.inside;
-  removed = t.removed;
-  begun = t.begun;
-  written_is = (refl, t.written_is.1, t.written_is.2);
-  sound = t.sound;
-  ungot = t.ungot;
-  ungiven = t.ungiven;
-  unclosed = λ is. absurd (cc);
-}
+closed_flow s Reading shut took accepted acts waker t = flow_with s false s.pipe.is_owner_open s.pipe.job_seat None s.slot refl (refl, t.passed_is.1) (λ is. absurd (cc)) t
+closed_flow s Streaming shut took accepted acts waker t = flow_with s false s.pipe.is_owner_open s.pipe.job_seat None s.slot refl (refl, t.passed_is.1) (λ is. absurd (cc)) t
+closed_flow s Writing shut took accepted acts waker t = written_with s false s.pipe.is_owner_open s.pipe.job_seat None s.slot t refl (refl, t.written_is.1, t.written_is.2) (λ is. absurd (cc))
 closed_flow s (Seeking goal) shut took accepted acts waker t = absurd t.next_is
 closed_flow s Operating shut took accepted acts waker t = absurd t.next_is
 closed_flow s _ shut took accepted acts waker t = absurd t
@@ -234,50 +159,17 @@ Leaves kind s acts = Unit {0}
 -- and where it put its result
 finished_flow : (s : Session) (slot : Slot (Option (Fault ℕ)) (Unit {0})) (kind : Kind) (shut : Bool) (took accepted : List ℕ) (acts : List Act) (waker : HolderWaker)
     → Leaves kind s acts → Flows kind s shut took accepted Finish acts → Flows kind (record s { slot = slot }) shut took accepted Over (Finished waker ∷ acts)
-finished_flow s slot Reading shut took accepted acts waker leaves t = record {
-  closed_is = t.closed_is;
-  inside = t.inside;
-  put = t.put;
-  bounded = t.bounded;
-  sound = t.sound;
-  passed_is = t.passed_is.1;
-  unclosed = λ is lasts. absurd (let closed = t.passed_is.0 in cc);
-  unwritten = t.unwritten;
-}
-finished_flow s slot Streaming shut took accepted acts waker leaves t = record {
-  closed_is = t.closed_is;
-  inside = t.inside;
-  put = t.put;
-  bounded = t.bounded;
-  sound = t.sound;
-  passed_is = t.passed_is.1;
-  unclosed = λ is lasts. absurd (let closed = t.passed_is.0 in cc);
-  unwritten = t.unwritten;
-}
-finished_flow s slot Writing shut took accepted acts waker leaves t = record {
-  closed_is = t.closed_is;
-  out = t.out;
-  inside = t.inside;
-  removed = t.removed;
-  begun = t.begun;
-  written_is = λ stays. (t.written_is.1, t.written_is.2);
-  sound = t.sound;
-  ungot = t.ungot;
-  ungiven = t.ungiven;
-  unclosed = λ is lasts. absurd (let closed = t.written_is.0 in cc);
-}
-finished_flow s slot (Seeking goal) shut took accepted acts waker leaves t = record {
-  plain = same_plain s slot s.left took accepted (has_closed acts) (gave acts) (peeked acts) (taken_by acts) t.plain;
-  next_is = tt;
-  place = λ is. leaves;
-}
-finished_flow s slot Operating shut took accepted acts waker leaves t = record {
-  plain = same_plain s slot s.left took accepted (has_closed acts) (gave acts) (peeked acts) (taken_by acts) t.plain;
-  next_is = tt;
-}
+finished_flow s slot Reading shut took accepted acts waker leaves t =
+    flow_with s s.pipe.is_job_open s.pipe.is_owner_open s.pipe.job_seat s.pipe.owner_seat slot t.closed_is t.passed_is.1 (λ is lasts. absurd (let closed = t.passed_is.0 in cc)) t
+finished_flow s slot Streaming shut took accepted acts waker leaves t =
+    flow_with s s.pipe.is_job_open s.pipe.is_owner_open s.pipe.job_seat s.pipe.owner_seat slot t.closed_is t.passed_is.1 (λ is lasts. absurd (let closed = t.passed_is.0 in cc)) t
+finished_flow s slot Writing shut took accepted acts waker leaves t =
+    written_with s s.pipe.is_job_open s.pipe.is_owner_open s.pipe.job_seat s.pipe.owner_seat slot t t.closed_is (λ stays. (t.written_is.1, t.written_is.2)) (λ is lasts. absurd (let closed = t.written_is.0 in cc))
+finished_flow s slot (Seeking goal) shut took accepted acts waker leaves t = record { plain = plain_still s s.pipe.is_owner_open s.pipe.job_seat slot s.left t.plain; next_is = tt; place = λ is. leaves }
+finished_flow s slot Operating shut took accepted acts waker leaves t = record { plain = plain_still s s.pipe.is_owner_open s.pipe.job_seat slot s.left t.plain; next_is = tt }
 finished_flow s slot _ shut took accepted acts waker leaves t = absurd t
 
-module _ (s : Session) (kind : Kind) (capacity : ℕ) (last : Option sessions.Session) (shut back dropped : Bool) (took accepted : List ℕ) (acts : List Act) (js ps ss : Bool) where
+module _ (s : Session) (kind : Kind) (capacity : ℕ) (last : Option SeenSession) (shut back dropped : Bool) (took accepted : List ℕ) (acts : List Act) (js ps ss : Bool) where
   -- the waker that it took is called
   pub calls : SessionAs s kind capacity last shut back dropped took accepted acts js ps ss
       → SessionAs s kind capacity last shut back dropped took accepted (HolderWoken ∷ acts) js ps ss
@@ -365,7 +257,7 @@ module _ (s : Session) (kind : Kind) (capacity : ℕ) (last : Option sessions.Se
 
 -- ---- acts of a job that reads
 
-module _ (s : Session) (capacity : ℕ) (last : Option sessions.Session) (shut back dropped : Bool) (took accepted : List ℕ) (acts : List Act) (js ps ss : Bool) where
+module _ (s : Session) (capacity : ℕ) (last : Option SeenSession) (shut back dropped : Bool) (took accepted : List ℕ) (acts : List Act) (js ps ss : Bool) where
   -- it finds room
   pub finds : (n : ℕ) → find_room (room s.pipe) s.pipe.is_owner_open ≡ Served n → At s Reading capacity last shut back dropped took accepted acts js ps ss FindRoom
       → SessionAs s Reading capacity last shut back dropped took accepted (RoomFree n ∷ acts) js ps ss
@@ -378,16 +270,7 @@ module _ (s : Session) (capacity : ℕ) (last : Option sessions.Session) (shut b
         lent = t.lent;
         flow = record { closed_is = t.flow.closed_is; inside = t.flow.inside; put = t.flow.put; bounded = t.flow.bounded; sound = t.flow.sound; passed_is = (p.0, p.1, omega (arith, free)); unclosed = λ is. absurd (cc); unwritten = t.flow.unwritten };
         result = t.result;
-        seats = record {
-          job = t.seats.job;
-          owner = t.seats.owner;
-          slot = t.seats.slot;
-          reason = record {
-            job = λ seated. (let full = (t.seats.reason.job seated).1 in absurd (omega (arith, full, free, any)));
-            owner = t.seats.reason.owner;
-            slot = t.seats.reason.slot;
-          };
-        };
+        seats = nobody_sits s Reading (true || has_given_up acts) (false || has_given_up acts) js ps ss (λ seated. let full = (t.seats.reason.job seated).1 in omega (arith, full, free, any)) t.seats;
       }
 
   -- it finds the owner's end closed
@@ -398,27 +281,10 @@ module _ (s : Session) (capacity : ℕ) (last : Option sessions.Session) (shut b
       let stopped : shut ≡ true = t.lent.shut_is ∙ ap not closed in
       record {
         lent = t.lent;
-        flow = record {
-          closed_is = t.flow.closed_is;
-          inside = t.flow.inside;
-          put = t.flow.put;
-          bounded = t.flow.bounded;
-          sound = t.flow.sound;
-          passed_is = (t.flow.passed_is.0, subst (λ b. GaveAll (b || has_given_up acts) (passed_by acts)) (sym stopped) tt);
-          unclosed = λ is. absurd (cc);
-          unwritten = t.flow.unwritten;
-        };
+        flow = flow_with s s.pipe.is_job_open s.pipe.is_owner_open s.pipe.job_seat s.pipe.owner_seat s.slot t.flow.closed_is
+            (t.flow.passed_is.0, subst (λ b. GaveAll (b || has_given_up acts) (passed_by acts)) (sym stopped) tt) (λ is. absurd (cc)) t.flow;
         result = t.result;
-        seats = record {
-          job = t.seats.job;
-          owner = t.seats.owner;
-          slot = t.seats.slot;
-          reason = record {
-            job = λ seated. (let lasts = (t.seats.reason.job seated).2 in absurd (cc));
-            owner = t.seats.reason.owner;
-            slot = t.seats.reason.slot;
-          };
-        };
+        seats = nobody_sits s Reading (true || has_given_up acts) (false || has_given_up acts) js ps ss (λ seated. let lasts = (t.seats.reason.job seated).2 in cc) t.seats;
       }
 
   -- it finds none, and is seated
@@ -470,7 +336,7 @@ bounds given put taken items more capacity all inside within fits =
     let whole : length given ≡ length taken + length items = ap (λ (l : List ℕ). length l) (all ∙ append-nil put ∙ inside) ∙ length-append taken items in
     rw length-append (omega (arith, whole, within, fits))
 
-module _ (s : Session) (capacity : ℕ) (last : Option sessions.Session) (shut back dropped : Bool) (took accepted : List ℕ) (acts : List Act) (js ps ss : Bool) (most : ℕ) where
+module _ (s : Session) (capacity : ℕ) (last : Option SeenSession) (shut back dropped : Bool) (took accepted : List ℕ) (acts : List Act) (js ps ss : Bool) (most : ℕ) where
   -- what an answer leaves of a job that asks for bytes
   left : (answer : Answer) (next : JobAction) → is_over next ≡ false → is_finding next ≡ false → next_after_answer (AskBytes most) answer ≡ next → ((piece : List ℕ) → counted answer piece ≡ []) → next_but_wake Reading acts ≡ AskBytes most
       → PassedAs next (room s.pipe) s.pipe.is_job_open (shut || has_given_up acts) (passed_by (Answered answer ∷ acts)) → length (carried answer) ≤ room s.pipe
@@ -527,7 +393,7 @@ module _ (s : Session) (capacity : ℕ) (last : Option sessions.Session) (shut b
 
 -- ---- it puts bytes
 
-module _ (s : Session) (capacity : ℕ) (last : Option sessions.Session) (shut back dropped : Bool) (took accepted : List ℕ) (acts : List Act) (js ps ss : Bool) (bytes : List ℕ) where
+module _ (s : Session) (capacity : ℕ) (last : Option SeenSession) (shut back dropped : Bool) (took accepted : List ℕ) (acts : List Act) (js ps ss : Bool) (bytes : List ℕ) where
   -- they are inside
   pub puts : (waker : HolderWaker) (seat : Option (Unit {0})) → hand_in (length bytes) (room s.pipe) s.pipe.is_owner_open s.pipe.owner_seat ≡ Served seat
       → At s Reading capacity last shut back dropped took accepted acts js ps ss (PutPiece bytes)
@@ -581,16 +447,8 @@ module _ (s : Session) (capacity : ℕ) (last : Option sessions.Session) (shut b
       let stopped : shut ≡ true = t.lent.shut_is ∙ ap not closed in
       record {
         lent = t.lent;
-        flow = record {
-          closed_is = t.flow.closed_is;
-          inside = t.flow.inside;
-          put = t.flow.put;
-          bounded = t.flow.bounded;
-          sound = t.flow.sound;
-          passed_is = (t.flow.passed_is.0, subst (λ b. GaveAll (b || has_given_up acts) (passed_by acts)) (sym stopped) tt);
-          unclosed = λ is. absurd (cc);
-          unwritten = t.flow.unwritten;
-        };
+        flow = flow_with s s.pipe.is_job_open s.pipe.is_owner_open s.pipe.job_seat s.pipe.owner_seat s.slot t.flow.closed_is
+            (t.flow.passed_is.0, subst (λ b. GaveAll (b || has_given_up acts) (passed_by acts)) (sym stopped) tt) (λ is. absurd (cc)) t.flow;
         result = t.result;
         seats = unseated s Reading (false || has_given_up acts) (false || has_given_up acts) js ps ss none t.seats;
       }

@@ -1,8 +1,6 @@
 -- The place where the result of an operation comes, after each act.
-use Rattle.std.proofs.Common.{◌≡◌, ℕ, Bool, true, false, refl, sym, ap, ◌∙◌, subst, Some}
-use Rattle.blocking_core.specs.Slots.{Slot, Content, Empty, Full, GivenUp, Abandoned, after_put, empty_slot, slot_after}
-use Rattle.blocking_laws.specs.JobTable.{Kind, Operating, JobAction, AskResult, PutResult, Finish, Over, first_action}
-use Rattle.blocking_lanes.specs.OwnerTies.{PlaceAs, IsPutBy, HoldsResult}
+use Rattle.std.proofs.Common.{arith, ◌≡◌, ℕ, Bool, true, false, refl, sym, ap, ◌∙◌, subst, Some}
+use Rattle.blocking_lanes.proofs.Words.{Content, Empty, Full, Slot, after_put, empty_slot, slot_after, AskResult, Finish, JobAction, Kind, Operating, Over, PutResult, first_action, HoldsResult, IsPutBy, PlaceAs}
 
 -- whether a session of this kind runs an operation
 abbrev pub is_operating : Kind → Bool
@@ -11,8 +9,7 @@ is_operating _ = false
 
 -- the job of another session puts no result
 unput : (kind : Kind) (next : JobAction) (given_up put : Bool) → is_operating kind ≡ false → IsPutBy kind next given_up put → put ≡ false
-unput Operating next given_up put other is = absurd (cc)
-unput _ next given_up put other is = is
+unput kind next given_up put other is = grind arith
 
 puts_none : (kind : Kind) (next : JobAction) (given_up put : Bool) → is_operating kind ≡ false → put ≡ false → IsPutBy kind next given_up put
 puts_none Operating next given_up put other none = absurd (cc)
@@ -22,15 +19,13 @@ puts_none _ next given_up put other none = none
 renumbered : (content : Content ℕ) (put found : Bool) (n m : ℕ) → put ≡ false → HoldsResult content put found n → HoldsResult content put found m
 renumbered Empty put found n m none holds = holds
 renumbered (Full k) put found n m none holds = absurd (let was = holds.0 in cc)
-renumbered GivenUp put found n m none holds = absurd holds
-renumbered (Abandoned over) put found n m none holds = absurd holds
+renumbered _ put found n m none holds = absurd holds
 
 -- nothing stands there before, and nothing was found
 nothing_yet : (content : Content ℕ) (put found : Bool) (n : ℕ) → put ≡ false → HoldsResult content put found n → (content ≡ Empty) × (found ≡ false)
 nothing_yet Empty put found n none holds = (refl, sym holds ∙ none)
 nothing_yet (Full k) put found n none holds = absurd (let was = holds.0 in cc)
-nothing_yet GivenUp put found n none holds = absurd holds
-nothing_yet (Abandoned over) put found n none holds = absurd holds
+nothing_yet _ put found n none holds = absurd holds
 
 module _ (place : Slot ℕ (Unit {0})) (gave put found : Bool) (n : ℕ) (seated : Bool) where
   -- ---- its job acts

@@ -1,25 +1,13 @@
 -- The session of an owner that seeks after each act of its job.
-use Rattle.std.proofs.Common.{◌≡◌, ℕ, zero, suc, List, [], ◌∷◌, ◌++◌, Bool, true, false, refl, ap, ◌∙◌, Option}
-use Rattle.std.specs.Prelude.{take}
-use Rattle.blocking_core.specs.declared.io.Fault.{Fault}
-use Rattle.blocking_core.specs.declared.io.Position.{Position}
-use Rattle.blocking_laws.specs.JobTable.{Seeking, AskSeek, Finish, next_but_wake, next_after_answer, is_answer, fault, number, has_closed, has_finished, has_given_up}
-use Rattle.blocking_laws.specs.Passed.{gave, carried, counted, peeked, taken}
-use Rattle.blocking_laws.specs.Sessions as sessions
-use Rattle.blocking_laws.specs.declared.event.Act.{Act}
-use Rattle.blocking_laws.specs.declared.event.Act.TheVariants.{Answered, Finished}
-use Rattle.blocking_laws.specs.declared.event.HolderWaker.{HolderWaker}
-use Rattle.blocking_laws.specs.declared.step.Answer.{Answer}
-use Rattle.blocking_laws.specs.declared.step.Answer.TheVariants.{Number, Failed}
-use Rattle.blocking_lanes.specs.OwnerTies.{SessionAs, PlainFlow}
-use Rattle.blocking_lanes.specs.Sessions.{Session, session_after_finish}
-use Rattle.blocking_lanes.proofs.owners.Drains.{same_plain}
+use Rattle.std.proofs.Common.{arith, ◌≡◌, ℕ, List, [], ◌∷◌, ◌++◌, Bool, true, false, refl, ap, ◌∙◌, Option, take}
+use Rattle.blocking_lanes.proofs.Types.{Fault, Position, Act, Answered, Finished, HolderWaker, Answer, Failed, Number}
+use Rattle.blocking_lanes.proofs.Words.{AskSeek, Finish, Seeking, fault, has_closed, has_finished, has_given_up, is_answer, job_next_after_answer as next_after_answer, next_but_wake, number, carried, counted, gave, peeked, taken, SeenSession, PlainFlow, SessionAs, Session, session_after_finish}
+use Rattle.blocking_lanes.proofs.owners.Drains.{plain_still}
 use Rattle.blocking_lanes.proofs.owners.ReadSessions.{At, tied_at, unseated, going, still, finishes}
 
 -- of nothing nothing is taken
 none_taken : (n : ℕ) → take {A = ℕ} n [] ≡ []
-none_taken zero = refl
-none_taken (suc n) = refl
+none_taken n = grind arith
 
 -- an answer that carries nothing, of one that was offered nothing, leaves nothing passed
 pub plain_answer : (s : Session) (took accepted : List ℕ) (acts : List Act) (answer : Answer) → carried answer ≡ [] → counted answer [] ≡ []
@@ -40,7 +28,7 @@ pub counts_none : (answer : Answer) → counted answer [] ≡ []
 counts_none (Number n) = none_taken n
 counts_none _ = refl
 
-module _ (s : Session) (goal : Position) (capacity : ℕ) (last : Option sessions.Session) (shut back dropped : Bool) (took accepted : List ℕ) (acts : List Act) (js ps ss : Bool) where
+module _ (s : Session) (goal : Position) (capacity : ℕ) (last : Option SeenSession) (shut back dropped : Bool) (took accepted : List ℕ) (acts : List Act) (js ps ss : Bool) where
   -- the handle answers it
   answered : (answer : Answer) → carried answer ≡ [] → next_but_wake (Seeking goal) (Answered answer ∷ acts) ≡ Finish
       → At s (Seeking goal) capacity last shut back dropped took accepted acts js ps ss AskSeek
@@ -75,7 +63,7 @@ module _ (s : Session) (goal : Position) (capacity : ℕ) (last : Option session
       record {
         lent = record { begun = t.lent.begun; goods = t.lent.goods; some = t.lent.some; holds = t.lent.holds; within = t.lent.within; shut_is = t.lent.shut_is };
         flow = record {
-          plain = same_plain s s.slot place took accepted (has_closed acts) (gave acts) (peeked acts) (taken acts) t.flow.plain;
+          plain = plain_still s s.pipe.is_owner_open s.pipe.job_seat s.slot place t.flow.plain;
           next_is = tt;
           place = λ is. absurd (cc);
         };

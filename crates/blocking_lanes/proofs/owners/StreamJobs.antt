@@ -1,48 +1,31 @@
 -- How far the job of an iterator is after each of its acts.
-use Rattle.std.proofs.Common.{◌≡◌, ℕ, List, [], ◌∷◌, Bool, true, false, refl, sym, ap, ◌∙◌, None}
-use Rattle.blocking_core.specs.Items.{item_next, item_after, item_in, item_by}
-use Rattle.blocking_core.specs.Machines.{Machine, machine, wake_first}
-use Rattle.blocking_core.specs.declared.job.item.ItemAction.{ItemAction}
-use Rattle.blocking_core.specs.declared.job.item.ItemAction.TheVariants as item
-use Rattle.blocking_core.specs.declared.job.item.ItemAnswer.{ItemAnswer}
-use Rattle.blocking_core.specs.declared.job.item.ItemAnswer.TheVariants as by
-use Rattle.blocking_laws.specs.JobTable.{Streaming, JobAction, AskItem, next_but_wake, next_of_job, next_after_answer, is_answer, takes_waker, fault}
-use Rattle.blocking_laws.specs.JobTable as job
-use Rattle.blocking_laws.specs.declared.event.Act.{Act}
-use Rattle.blocking_laws.specs.declared.event.Act.TheVariants.{Answered, HolderWoken}
-use Rattle.blocking_laws.specs.declared.step.Answer.{Answer}
-use Rattle.blocking_laws.specs.declared.step.Answer.TheVariants.{Item, NoItem}
-use Rattle.blocking_lanes.specs.Reads.{has_waker}
-use Rattle.blocking_lanes.specs.Streams.{Progress, ItemAs, action_as, action_of, progress_with, progress_after_answer}
+use Rattle.std.proofs.Common.{arith, ◌≡◌, ℕ, List, ◌∷◌, Bool, true, false, sym, ap, ◌∙◌, None}
+use Rattle.blocking_lanes.proofs.Types.{ItemAction, ItemAnswer, Act, Answered, HolderWoken, Answer, Item, NoItem}
+use Rattle.blocking_lanes.proofs.Words.{item_after, item_by, core_item_in as item_in, item_next, Machine, machine, wake_first, AskItem, Streaming, job_earlier, fault, is_answer, job_next_after_answer as next_after_answer, next_but_wake, next_of_job, takes_waker, job_wake_first, has_waker, ItemAs, ItemProgress as Progress, item_action_as as action_as, item_action_of as action_of, item_progress_after_answer as progress_after_answer, item_progress_with as progress_with}
+use Rattle.blocking_lanes.proofs.owners.ReadJobs.{awake_by}
 
 -- ---- what it does next
 
 -- what a job does next, by what it has done
-pub next_by : (acts : List Act) → next_of_job Streaming acts ≡ job.wake_first (has_waker acts) (next_but_wake Streaming acts)
-next_by [] = refl
-next_by (act ∷ past) = refl
+pub next_by : (acts : List Act) → next_of_job Streaming acts ≡ job_wake_first (has_waker acts) (next_but_wake Streaming acts)
+next_by acts = grind arith
 
-waking_as : (x : ℕ) (waking : Bool) (doing : ItemAction) → action_as x (wake_first waking item.Deliver doing) ≡ job.wake_first waking (action_as x doing)
-waking_as x true doing = refl
-waking_as x false doing = refl
+waking_as : (x : ℕ) (waking : Bool) (doing : ItemAction) → action_as x (wake_first waking ItemAction.Deliver doing) ≡ job_wake_first waking (action_as x doing)
+waking_as x waking doing = grind arith
 
 -- the machine's next action is that of the table
 pub action_is : (p : Progress) (acts : List Act) → ItemAs p acts → action_of p ≡ next_of_job Streaming acts
 action_is p acts r =
-    waking_as p.item p.core.is_waking p.core.next ∙ ap (λ b. job.wake_first b (action_as p.item p.core.next)) r.waking
-    ∙ ap (job.wake_first (has_waker acts)) r.next ∙ sym (next_by acts)
+    waking_as p.item p.core.is_waking p.core.next ∙ ap (λ b. job_wake_first b (action_as p.item p.core.next)) r.waking
+    ∙ ap (job_wake_first (has_waker acts)) r.next ∙ sym (next_by acts)
 
 -- a machine that does something else than calling a waker took none
 pub record Awake (p : Progress) (next : ItemAction) : Type 0 where
   pub waking : p.core.is_waking ≡ false
   pub next_is : p.core.next ≡ next
 
-pub awake : (p : Progress) (next : ItemAction) → item_next p.core ≡ next → (next ≡ item.Deliver → ⊥) → Awake p next
-awake p next is other = at p.core.is_waking refl
-  where
-    at : (b : Bool) → p.core.is_waking ≡ b → Awake p next
-    at true w = absurd (other (sym is ∙ ap (λ b. wake_first b item.Deliver p.core.next) w))
-    at false w = record { waking = w; next_is = sym (ap (λ b. wake_first b item.Deliver p.core.next) w) ∙ is }
+pub awake : (p : Progress) (next : ItemAction) → item_next p.core ≡ next → (next ≡ ItemAction.Deliver → ⊥) → Awake p next
+awake p next is other = let a = awake_by p.core.is_waking ItemAction.Deliver p.core.next next is other in record { waking = a.0; next_is = a.1 }
 
 -- ---- what it leaves
 
@@ -63,7 +46,7 @@ meets p acts now later woke answer act r a goes table took same =
     }
 
 -- the waker that it took is called
-pub wakes : (p : Progress) (acts : List Act) → ItemAs p acts → item_next p.core ≡ item.Deliver → ItemAs (progress_with p by.Delivered) (HolderWoken ∷ acts)
+pub wakes : (p : Progress) (acts : List Act) → ItemAs p acts → item_next p.core ≡ ItemAction.Deliver → ItemAs (progress_with p ItemAnswer.Delivered) (HolderWoken ∷ acts)
 wakes p acts r is =
     let core = woken p.core is in
     record {
@@ -72,34 +55,28 @@ wakes p acts r is =
       fault_is = r.fault_is;
     }
   where
-    woken_in : (b : Bool) (doing : ItemAction) → wake_first b item.Deliver doing ≡ item.Deliver → item_in b doing by.Delivered ≡ machine doing false
-    woken_in true doing e = refl
-    woken_in false doing e = ap (λ n. item_by n by.Delivered) e ∙ ap (λ n. machine n false) (sym e)
+    woken_in : (b : Bool) (doing : ItemAction) → wake_first b ItemAction.Deliver doing ≡ ItemAction.Deliver → item_in b doing ItemAnswer.Delivered ≡ machine doing false
+    woken_in b doing e = grind arith
 
-    woken : (core : Machine ItemAction) → item_next core ≡ item.Deliver → item_after core by.Delivered ≡ machine core.next false
+    woken : (core : Machine ItemAction) → item_next core ≡ ItemAction.Deliver → item_after core ItemAnswer.Delivered ≡ machine core.next false
     woken core e = woken_in core.is_waking core.next e
 
 -- ---- its handle answers
 
 -- what is asked for an item asks for one
-fetches : (p : Progress) (action : ItemAction) (answer : Answer) → is_answer (action_as p.item action) answer ≡ true → action ≡ item.Next
-fetches p item.Next answer is = refl
-fetches p item.Send answer is = absurd (cc)
-fetches p item.Close answer is = absurd (cc)
-fetches p item.Finish answer is = absurd (cc)
-fetches p item.Deliver answer is = absurd (cc)
-fetches p item.Done answer is = absurd (cc)
+fetches : (p : Progress) (action : ItemAction) (answer : Answer) → is_answer (action_as p.item action) answer ≡ true → action ≡ ItemAction.Next
+fetches p action answer is = grind arith
 
 -- A job that asks its handle: it took no waker, and wants an item.
 pub record Asks (p : Progress) (acts : List Act) (answer : Answer) : Type 0 where
-  pub a : Awake p item.Next
+  pub a : Awake p ItemAction.Next
   pub table : next_but_wake Streaming acts ≡ AskItem
   pub fits : is_answer AskItem answer ≡ true
 
 pub asks : (p : Progress) (acts : List Act) (answer : Answer) → ItemAs p acts → is_answer (action_of p) answer ≡ true → Asks p acts answer
 asks p acts answer r is =
     let found = fetches p (item_next p.core) answer is in
-    let a = awake p item.Next found (λ e. cc) in
+    let a = awake p ItemAction.Next found (λ e. cc) in
     record {
       a = a;
       table = sym r.next ∙ ap (action_as p.item) a.next_is;
@@ -111,18 +88,18 @@ pub answers : (p : Progress) (acts : List Act) (answer : Answer) → ItemAs p ac
     → ItemAs (progress_after_answer p answer) (Answered answer ∷ acts)
 answers p acts (Item x) r is =
     let q = asks p acts (Item x) r is in
-    let core = after_is p item.Next by.Gave q.a in
+    let core = after_is p ItemAction.Next ItemAnswer.Gave q.a in
     record {
       next = ap (λ (c : Machine ItemAction). action_as x c.next) core ∙ ap (λ action. next_after_answer action (Item x)) (sym q.table);
       waking = ap (λ (c : Machine ItemAction). c.is_waking) core;
-      fault_is = ap (λ f. job.earlier f None) r.fault_is;
+      fault_is = ap (λ f. job_earlier f None) r.fault_is;
     }
 answers p acts NoItem r is =
     let q = asks p acts NoItem r is in
-    let core = after_is p item.Next by.Ended q.a in
+    let core = after_is p ItemAction.Next ItemAnswer.Ended q.a in
     record {
       next = ap (λ (c : Machine ItemAction). action_as p.item c.next) core ∙ ap (λ action. next_after_answer action NoItem) (sym q.table);
       waking = ap (λ (c : Machine ItemAction). c.is_waking) core;
-      fault_is = ap (λ f. job.earlier f None) r.fault_is;
+      fault_is = ap (λ f. job_earlier f None) r.fault_is;
     }
 answers p acts answer r is = let q = asks p acts answer r is in absurd (let f = q.fits in cc)

@@ -1,24 +1,12 @@
 -- The session of an owner after each act of a job that runs an iterator.
-use Rattle.std.proofs.Common.{◌≡◌, ℕ, ◌≤◌, List, [], ◌∷◌, ◌++◌, length, length-append, append_assoc, Bool, true, false, refl, sym, ap, ◌∙◌, subst, arith, Option, if◌then◌else◌}
-use Rattle.std.specs.Prelude.{◌||◌, ◌+◌, nat_le, not, take}
+use Rattle.std.proofs.Common.{◌≡◌, ℕ, ◌≤◌, List, [], ◌∷◌, ◌++◌, length, length-append, append_assoc, Bool, true, false, refl, sym, ap, ◌∙◌, subst, arith, Option, if◌then◌else◌, ◌||◌, ◌+◌, nat_le, not, take, append-nil}
 use Rattle.std.proofs.lemmas.Bool.{or_left, or_right}
 use Rattle.std.proofs.lemmas.Bool.Decides.{nat_tests}
-use Rattle.std.proofs.lemmas.List.{append-nil}
 use Rattle.std.proofs.Math.Seq.{take-length}
-use Rattle.blocking_core.specs.Pipes.{room}
-use Rattle.blocking_core.specs.Places.{Served, Waiting, Closed, hand_in}
-use Rattle.blocking_laws.specs.Ends.{handle_answers, has_failure}
-use Rattle.blocking_laws.specs.JobTable.{Streaming, AskItem, SendItem, CloseEnd, next_but_wake, next_after_answer, is_answer, fault, has_finished, has_given_up}
-use Rattle.blocking_laws.specs.Passed.{gave, answered, was_put}
-use Rattle.blocking_laws.specs.Sessions as sessions
-use Rattle.blocking_laws.specs.declared.event.Act.{Act}
-use Rattle.blocking_laws.specs.declared.event.Act.TheVariants.{JobParked, Answered, Put, Lost}
-use Rattle.blocking_laws.specs.declared.event.HolderWaker.{HolderWaker}
-use Rattle.blocking_laws.specs.declared.step.Answer.{Answer}
-use Rattle.blocking_laws.specs.declared.step.Answer.TheVariants.{Item, NoItem}
-use Rattle.blocking_lanes.specs.OwnerTies.{SessionAs, passed_by, GaveAll, is_finding}
-use Rattle.blocking_lanes.specs.Sessions.{Session, session_after_send}
-use Rattle.blocking_lanes.proofs.owners.ReadSessions.{At, at, tied_at, going, longer, lost_is, put_is, still, unseated}
+use Rattle.blocking_lanes.proofs.Types.{Act, Answered, JobParked, Lost, Put, HolderWaker, Answer, Item, NoItem}
+use Rattle.blocking_lanes.proofs.Words.{room, Closed, Served, Waiting, hand_in, handle_answers, has_failure, AskItem, CloseEnd, SendItem, Streaming, fault, has_finished, has_given_up, is_answer, job_next_after_answer as next_after_answer, next_but_wake, answered, gave, was_put, SeenSession, GaveAll, SessionAs, is_finding, passed_by, Session, session_after_send}
+use Rattle.blocking_lanes.proofs.owners.Drains.{flow_with}
+use Rattle.blocking_lanes.proofs.owners.ReadSessions.{At, at, tied_at, going, longer, lost_is, put_is, still, unseated, nobody_sits}
 
 -- a job that waits to send finds the pipe full, and its owner's end open
 pub no_space : {W : Type 0} (free : ℕ) (lasts : Bool) (seat : Option W) → hand_in 1 free lasts seat ≡ Waiting → (free ≡ 0) × (lasts ≡ true)
@@ -35,7 +23,7 @@ one_more given put taken items x capacity all inside within =
     let whole : length given ≡ length taken + length items = ap (λ (l : List ℕ). length l) (all ∙ append-nil put ∙ inside) ∙ length-append taken items in
     rw length-append (omega (arith, whole, within))
 
-module _ (s : Session) (capacity : ℕ) (last : Option sessions.Session) (shut back dropped : Bool) (took accepted : List ℕ) (acts : List Act) (js ps ss : Bool) (x : ℕ) where
+module _ (s : Session) (capacity : ℕ) (last : Option SeenSession) (shut back dropped : Bool) (took accepted : List ℕ) (acts : List Act) (js ps ss : Bool) (x : ℕ) where
   -- its item is inside
   pub sends : (waker : HolderWaker) (seat : Option (Unit {0})) → hand_in 1 (room s.pipe) s.pipe.is_owner_open s.pipe.owner_seat ≡ Served seat
       → At s Streaming capacity last shut back dropped took accepted acts js ps ss (SendItem x)
@@ -87,27 +75,10 @@ module _ (s : Session) (capacity : ℕ) (last : Option sessions.Session) (shut b
       let stopped : shut ≡ true = t.lent.shut_is ∙ ap not closed in
       record {
         lent = t.lent;
-        flow = record {
-          closed_is = t.flow.closed_is;
-          inside = t.flow.inside;
-          put = t.flow.put;
-          bounded = t.flow.bounded;
-          sound = t.flow.sound;
-          passed_is = (t.flow.passed_is.0, subst (λ b. GaveAll (b || has_given_up acts) (passed_by acts)) (sym stopped) tt);
-          unclosed = λ is. absurd (cc);
-          unwritten = t.flow.unwritten;
-        };
+        flow = flow_with s s.pipe.is_job_open s.pipe.is_owner_open s.pipe.job_seat s.pipe.owner_seat s.slot t.flow.closed_is
+            (t.flow.passed_is.0, subst (λ b. GaveAll (b || has_given_up acts) (passed_by acts)) (sym stopped) tt) (λ is. absurd (cc)) t.flow;
         result = t.result;
-        seats = record {
-          job = t.seats.job;
-          owner = t.seats.owner;
-          slot = t.seats.slot;
-          reason = record {
-            job = λ seated. (let lasts = (t.seats.reason.job seated).2 in absurd (cc));
-            owner = t.seats.reason.owner;
-            slot = t.seats.reason.slot;
-          };
-        };
+        seats = nobody_sits s Streaming (true || has_given_up acts) (false || has_given_up acts) js ps ss (λ seated. let lasts = (t.seats.reason.job seated).2 in cc) t.seats;
       }
 
   -- there is no room for it, and the job is seated, with the item in hand
@@ -132,7 +103,7 @@ module _ (s : Session) (capacity : ℕ) (last : Option sessions.Session) (shut b
         };
       }
 
-module _ (s : Session) (capacity : ℕ) (last : Option sessions.Session) (shut back dropped : Bool) (took accepted : List ℕ) (acts : List Act) (js ps ss : Bool) where
+module _ (s : Session) (capacity : ℕ) (last : Option SeenSession) (shut back dropped : Bool) (took accepted : List ℕ) (acts : List Act) (js ps ss : Bool) where
   -- the handle answers what it was asked for
   pub item_answers : (answer : Answer) → is_answer AskItem answer ≡ true → next_but_wake Streaming acts ≡ AskItem
       → SessionAs s Streaming capacity last shut back dropped took accepted acts js ps ss → SessionAs s Streaming capacity last shut back dropped took accepted (Answered answer ∷ acts) js ps ss

@@ -1,23 +1,8 @@
 -- An owner that waits for a job at rest was woken, or wakes the job.
-use Rattle.std.proofs.Common.{◌≡◌, ℕ, ◌<◌, List, length, Bool, true, false, refl, sym, ap, ◌∙◌, subst, arith, Option, Some, None, ⊎_elim}
-use Rattle.std.specs.Prelude.{◌||◌, ◌⊎◌, is_some, is_none}
+use Rattle.std.proofs.Common.{◌≡◌, ℕ, ◌<◌, List, length, Bool, true, false, refl, sym, ap, ◌∙◌, subst, arith, Option, Some, None, ⊎_elim, ◌||◌, ◌⊎◌, is_some, is_none, not}
 use Rattle.std.proofs.lemmas.Bool.{or_left}
-use Rattle.blocking_core.specs.Slots.{Content, Empty, Full, GivenUp, Abandoned}
-use Rattle.blocking_core.specs.declared.io.Fault.{Fault}
-use Rattle.blocking_laws.specs.JobTable.{Kind, Reading, Writing, Streaming, JobAction, FindRoom, Peek, SendItem, next_but_wake, is_over, fault, has_finished, has_given_up, has_result, Seeking, Operating}
-use Rattle.std.specs.Prelude.{not}
-use Rattle.blocking_laws.specs.OwnerSeats.{is_job_seated}
-use Rattle.blocking_laws.specs.Passed.{kind_in, got, accepted}
-use Rattle.blocking_laws.specs.OwnerWakes.{IsSessionOf, HasReason, IsStuck, is_waking}
-use Rattle.blocking_laws.specs.Seen.{own, acts_of}
-use Rattle.blocking_laws.specs.Sessions.{last_session, session, is_dropped}
-use Rattle.blocking_laws.specs.Sessions as sessions
-use Rattle.blocking_laws.specs.Wakes.{is_waiting, was_woken}
-use Rattle.blocking_laws.specs.declared.event.Act.{Act}
-use Rattle.blocking_laws.specs.declared.event.Event.{Event}
-use Rattle.blocking_lanes.specs.Owners.{Owner, capacity_of}
-use Rattle.blocking_lanes.specs.OwnerTies.{OwnerAs, IsPutBy, LastAs, PlaceIn, SlotAs, Flows, is_piped_kind, IsStuckIn, IsOwnerStuckIn, is_finding, seat_of, is_seated}
-use Rattle.blocking_lanes.specs.Sessions.{Session}
+use Rattle.blocking_lanes.proofs.Types.{Fault, Act, Event}
+use Rattle.blocking_lanes.proofs.Words.{Content, Empty, FindRoom, JobAction, Kind, Operating, Peek, Reading, Seeking, SendItem, Streaming, Writing, fault, has_finished, has_given_up, has_result, is_over, next_but_wake, is_job_seated, HasReason, IsSessionOf, IsStuck, is_waking, accepted, got, kind_in, acts_of, own, SeenSession, seen_capacity, seen_is_dropped as is_dropped, seen_is_shut, seen_last_session as last_session, seen_session as session, is_waiting, was_woken, Flows, IsOwnerStuckIn, IsPutBy, IsStuckIn, LastAs, OwnerAs, PlaceIn, SlotAs, is_finding, is_piped_kind, is_seated, seat_of, Owner, capacity_of, Session}
 use Rattle.blocking_lanes.proofs.owners.Cuts.{inside_is}
 use Rattle.blocking_lanes.proofs.owners.OwnerActs.{last_is}
 use Rattle.blocking_lanes.proofs.owners.States.{session_is_last}
@@ -74,9 +59,7 @@ module _ (s : Session) (capacity : Kind → ℕ) (cut : List Event) (t : LastAs 
   -- a job that finished has closed its end of the pipe, and left the handle in the slot
   full_slot : (content : Content (Option (Fault ℕ))) (finished given_up back : Bool) (why : Option (Fault ℕ)) → SlotAs content finished given_up back why → finished ≡ true → back ≡ false → content ≡ Empty → ⊥
   full_slot Empty finished given_up back why slot done lent empty = let same = slot.0 in cc
-  full_slot (Full found) finished given_up back why slot done lent empty = cc
-  full_slot GivenUp finished given_up back why slot done lent empty = cc
-  full_slot (Abandoned over) finished given_up back why slot done lent empty = cc
+  full_slot _ finished given_up back why slot done lent empty = cc
 
   -- Who sits in a seat doesn't wait for a job that finished.
   not_finished : is_none (session (own cut)) ≡ false → has_given_up works ≡ false → has_finished works ≡ true → is_seated (Some s) ≡ true → ⊥
@@ -96,7 +79,7 @@ module _ (s : Session) (capacity : Kind → ℕ) (cut : List Event) (t : LastAs 
       in_slot false seat sits = by_place sits
 
       at : (b : Bool) → is_some s.pipe.owner_seat ≡ b → b || (is_some s.slot.seat || is_some s.result.seat) ≡ true → ⊥
-      at true seat sits = (let given_up = over_closed s (sessions.is_shut (own cut)) (got (own cut)) (accepted (own cut)) works kind (next_but_wake kind works) t.flow
+      at true seat sits = (let given_up = over_closed s (seen_is_shut (own cut)) (got (own cut)) (accepted (own cut)) works kind (next_but_wake kind works) t.flow
           (sym t.result.over_is ∙ or_left (has_finished works) (has_given_up works) done) seat (t.seats.reason.owner seat).1 in cc)
       at false seat sits = in_slot (is_some s.slot.seat) refl sits
 
@@ -108,7 +91,7 @@ module _ (s : Session) (capacity : Kind → ℕ) (cut : List Event) (t : LastAs 
       there = ap is_some (t.seats.job ∙ ap (λ b. seat_of b s.number) job)
 
       -- a job without a pipe doesn't look into it
-      unseated : (k : Kind) → is_piped_kind k ≡ false → (a : JobAction) → Flows k s (sessions.is_shut (own cut)) (got (own cut)) (accepted (own cut)) a works → is_finding a ≡ true → ⊥
+      unseated : (k : Kind) → is_piped_kind k ≡ false → (a : JobAction) → Flows k s (seen_is_shut (own cut)) (got (own cut)) (accepted (own cut)) a works → is_finding a ≡ true → ⊥
       unseated (Seeking goal) none FindRoom flow finding = flow.next_is
       unseated (Seeking goal) none Peek flow finding = flow.next_is
       unseated (Seeking goal) none (SendItem x) flow finding = flow.next_is
@@ -123,11 +106,10 @@ module _ (s : Session) (capacity : Kind → ℕ) (cut : List Event) (t : LastAs 
       finds = without (is_finding (next_but_wake kind works)) (has_given_up works) stays (t.seats.reason.job there).0
         where
           without : (a b : Bool) → b ≡ false → a || b ≡ true → a ≡ true
-          without true b none e = refl
-          without false b none e = absurd (cc)
+          without a b none e = grind arith
 
       lasts : s.pipe.is_job_open ≡ true
-      lasts = finding_lasts s (sessions.is_shut (own cut)) (got (own cut)) (accepted (own cut)) works kind (next_but_wake kind works) finds t.flow
+      lasts = finding_lasts s (seen_is_shut (own cut)) (got (own cut)) (accepted (own cut)) works kind (next_but_wake kind works) finds t.flow
 
       in_slot : (b : Bool) → is_some s.slot.seat ≡ b → b || is_some s.result.seat ≡ true → ⊥
       in_slot true seat sits =
@@ -146,12 +128,12 @@ module _ (s : Session) (capacity : Kind → ℕ) (cut : List Event) (t : LastAs 
       at false seat sits = in_slot (is_some s.slot.seat) refl sits
 
 -- A job that sits in the pipe can't go on, and its owner's end is open.
-pub seated_reason : (s : Session) (bytes : Kind → ℕ) (cut : List Event) → ((kind : Kind) → sessions.capacity kind (own cut) ≡ bytes kind) → LastAs (Some s) bytes cut → is_some s.pipe.job_seat ≡ true → HasReason cut
+pub seated_reason : (s : Session) (bytes : Kind → ℕ) (cut : List Event) → ((kind : Kind) → seen_capacity kind (own cut) ≡ bytes kind) → LastAs (Some s) bytes cut → is_some s.pipe.job_seat ≡ true → HasReason cut
 seated_reason s bytes cut same t seated =
     let reason = t.seats.reason.job seated in
     (t.lent.shut_is ∙ ap not reason.2, by_kind (kind_in (last_session (own cut))) (same (kind_in (last_session (own cut)))) reason.1)
   where
-    by_kind : (kind : Kind) → sessions.capacity kind (own cut) ≡ bytes (kind_in (last_session (own cut))) → IsStuckIn kind s → IsStuck kind cut
+    by_kind : (kind : Kind) → seen_capacity kind (own cut) ≡ bytes (kind_in (last_session (own cut))) → IsStuckIn kind s → IsStuck kind cut
     by_kind Writing whole none = inside_is s bytes cut t ∙ none
     by_kind _ whole full =
         let within = t.lent.within in
@@ -172,10 +154,9 @@ not_lost owner cut t s of waits rests =
     stays works let_go false is = is
 
     only : (a b : Bool) → b ≡ false → a || b ≡ true → a ≡ true
-    only true b none e = refl
-    only false b none e = absurd (cc)
+    only a b none e = grind arith
 
-    lost : (last : Option Session) → LastAs last (capacity_of owner) cut → PlaceIn last cut → (r : Option sessions.Session) → session (own cut) ≡ r → IsSessionOf r s → is_seated last ≡ true → ⊥
+    lost : (last : Option Session) → LastAs last (capacity_of owner) cut → PlaceIn last cut → (r : Option SeenSession) → session (own cut) ≡ r → IsSessionOf r s → is_seated last ≡ true → ⊥
     lost None l placed r is of sits = cc
     lost (Some held) l placed None is of sits = of
     lost (Some held) l placed (Some r) is of sits =
@@ -188,7 +169,7 @@ not_lost owner cut t s of waits rests =
         (only (has_finished works) (has_given_up works) goes (subst (λ n. has_finished (acts_of n cut) || has_given_up (acts_of n cut) ≡ true) (sym same) over)) sits)
         (λ seated. not_seated held (capacity_of owner) cut l placed goes seated sits) rests
       where
-        serial_in : ℕ → Option sessions.Session → ℕ
+        serial_in : ℕ → Option SeenSession → ℕ
         serial_in n None = n
         serial_in n (Some r) = r.serial
 

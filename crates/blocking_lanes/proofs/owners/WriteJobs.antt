@@ -1,70 +1,49 @@
 -- How far the job of a writer is after each of its acts.
-use Rattle.std.proofs.Common.{◌≡◌, ℕ, zero, suc, ◌≤◌, List, [], ◌∷◌, length, Bool, true, false, refl, sym, ap, ◌∙◌, subst, arith, Option, Some, None, if◌then◌else◌}
-use Rattle.std.specs.Prelude.{nat_le}
+use Rattle.std.proofs.Common.{◌≡◌, ℕ, zero, suc, ◌≤◌, List, [], ◌∷◌, length, Bool, true, false, refl, sym, ap, ◌∙◌, subst, arith, Option, None, if◌then◌else◌, nat_le}
 use Rattle.std.proofs.lemmas.Bool.Decides.{nat_tests}
-use Rattle.blocking_core.specs.Machines.{machine, wake_first}
-use Rattle.blocking_core.specs.Writing.{WriteMachine, write_next, write_after, write_in, write_by, noting, first_fault}
+use Rattle.blocking_lanes.proofs.Types.{JobFault, WriteAction, WriteAnswer, Act, Answered, HolderWoken, Peeked, Answer, Failed, Fine, Number}
+use Rattle.blocking_lanes.proofs.Words.{machine, wake_first, WriteMachine, first_fault, noting, write_after, write_by, core_write_in as write_in, write_next, Writing, job_earlier, fault, fault_in, is_answer, job_next_after_answer as next_after_answer, next_but_wake, next_of_job, takes_waker, job_wake_first, has_waker, IsOffered, WriteProgress as Progress, WriteAs, write_action_as as action_as, write_action_of as action_of, write_fault_of as fault_of, write_progress_after_answer as progress_after_answer, progress_after_piece, write_progress_with as progress_with, told_as}
 use Rattle.blocking_core.specs.Writing as core
-use Rattle.blocking_core.specs.declared.io.JobFault.{JobFault}
-use Rattle.blocking_core.specs.declared.job.write.WriteAction.{WriteAction}
-use Rattle.blocking_core.specs.declared.job.write.WriteAction.TheVariants as write
-use Rattle.blocking_core.specs.declared.job.write.WriteAnswer.{WriteAnswer}
-use Rattle.blocking_core.specs.declared.job.write.WriteAnswer.TheVariants as by
-use Rattle.blocking_laws.specs.JobTable.{Writing, JobAction, next_but_wake, next_of_job, next_after_answer, is_answer, takes_waker, fault, fault_in}
-use Rattle.blocking_laws.specs.JobTable as job
-use Rattle.blocking_laws.specs.declared.event.Act.{Act}
-use Rattle.blocking_laws.specs.declared.event.Act.TheVariants.{Answered, Peeked, HolderWoken}
-use Rattle.blocking_laws.specs.declared.step.Answer.{Answer}
-use Rattle.blocking_laws.specs.declared.step.Answer.TheVariants.{Number, Fine, Failed}
-use Rattle.blocking_lanes.specs.Reads.{has_waker}
-use Rattle.blocking_lanes.specs.Writes.{Progress, WriteAs, IsOffered, action_as, action_of, told_as, fault_of, progress_with, progress_after_piece, progress_after_answer}
+use Rattle.blocking_lanes.proofs.owners.ReadJobs.{awake_by}
 
 -- ---- what it does next
 
 -- what a job does next, by what it has done
-pub next_by : (acts : List Act) → next_of_job Writing acts ≡ job.wake_first (has_waker acts) (next_but_wake Writing acts)
-next_by [] = refl
-next_by (act ∷ past) = refl
+pub next_by : (acts : List Act) → next_of_job Writing acts ≡ job_wake_first (has_waker acts) (next_but_wake Writing acts)
+next_by acts = grind arith
 
-waking_as : (piece : List ℕ) (waking : Bool) (next : WriteAction) → action_as piece (wake_first waking write.Deliver next) ≡ job.wake_first waking (action_as piece next)
-waking_as piece true next = refl
-waking_as piece false next = refl
+waking_as : (piece : List ℕ) (waking : Bool) (next : WriteAction) → action_as piece (wake_first waking WriteAction.Deliver next) ≡ job_wake_first waking (action_as piece next)
+waking_as piece waking next = grind arith
 
 -- the machine's next action is that of the table
 pub action_is : (p : Progress) (acts : List Act) → WriteAs p acts → action_of p ≡ next_of_job Writing acts
 action_is p acts r =
-    waking_as p.piece p.core.is_waking p.core.next ∙ ap (λ b. job.wake_first b (action_as p.piece p.core.next)) r.waking
-    ∙ ap (job.wake_first (has_waker acts)) r.next ∙ sym (next_by acts)
+    waking_as p.piece p.core.is_waking p.core.next ∙ ap (λ b. job_wake_first b (action_as p.piece p.core.next)) r.waking
+    ∙ ap (job_wake_first (has_waker acts)) r.next ∙ sym (next_by acts)
 
 -- a machine that does something else than calling a waker took none
 pub record Awake (p : Progress) (next : WriteAction) : Type 0 where
   pub waking : p.core.is_waking ≡ false
   pub next_is : p.core.next ≡ next
 
-pub awake : (p : Progress) (next : WriteAction) → write_next p.core ≡ next → (next ≡ write.Deliver → ⊥) → Awake p next
-awake p next is other = at p.core.is_waking refl
-  where
-    at : (b : Bool) → p.core.is_waking ≡ b → Awake p next
-    at true w = absurd (other (sym is ∙ ap (λ b. wake_first b write.Deliver p.core.next) w))
-    at false w = record { waking = w; next_is = sym (ap (λ b. wake_first b write.Deliver p.core.next) w) ∙ is }
+pub awake : (p : Progress) (next : WriteAction) → write_next p.core ≡ next → (next ≡ WriteAction.Deliver → ⊥) → Awake p next
+awake p next is other = let a = awake_by p.core.is_waking WriteAction.Deliver p.core.next next is other in record { waking = a.0; next_is = a.1 }
 
 -- ---- what it leaves
 
 -- a fault stays
 kept_fault : (held : Option (JobFault ℕ)) → first_fault held None ≡ held
-kept_fault None = refl
-kept_fault (Some why) = refl
+kept_fault held = grind arith
 
 -- the first of two faults is told
-told_first : (held later : Option (JobFault ℕ)) → told_as (first_fault held later) ≡ job.earlier (told_as held) (told_as later)
-told_first None later = refl
-told_first (Some why) later = refl
+told_first : (held later : Option (JobFault ℕ)) → told_as (first_fault held later) ≡ job_earlier (told_as held) (told_as later)
+told_first held later = grind arith
 
 -- the machine after an answer to what it does next
 after_is : (p : Progress) (now : WriteAction) (answer : WriteAnswer ℕ) → Awake p now
     → write_after p.core answer ≡ noting (write_by now answer) (first_fault p.core.fault (core.fault_in now answer))
 after_is p now answer a =
-    ap (λ b. noting (write_in b p.core.next answer) (first_fault p.core.fault (core.fault_in (wake_first b write.Deliver p.core.next) answer))) a.waking
+    ap (λ b. noting (write_in b p.core.next answer) (first_fault p.core.fault (core.fault_in (wake_first b WriteAction.Deliver p.core.next) answer))) a.waking
     ∙ ap (λ n. noting (write_by n answer) (first_fault p.core.fault (core.fault_in n answer))) a.next_is
 
 -- where the answer tells no fault
@@ -89,16 +68,16 @@ pub meets : (p : Progress) (acts : List Act) (now next : WriteAction) (woke : Bo
 meets p acts now next woke answer act r a goes sound table offered took same = meets_with p p.piece acts now next woke answer act r a goes sound table offered took same
 
 -- it found this piece at the front of the pipe
-pub meets_piece : (p : Progress) (acts : List Act) (piece : List ℕ) → WriteAs p acts → Awake p write.Peek → (piece ≡ [] → ⊥) → length piece ≤ 65536
+pub meets_piece : (p : Progress) (acts : List Act) (piece : List ℕ) → WriteAs p acts → Awake p WriteAction.Peek → (piece ≡ [] → ⊥) → length piece ≤ 65536
     → WriteAs (progress_after_piece p piece) (Peeked piece ∷ acts)
 meets_piece p acts [] r a some fits = absurd (some refl)
 meets_piece p acts (b ∷ bs) r a some fits =
     let test : nat_le (length (b ∷ bs)) 65536 ≡ true = grind (arith, nat_tests) in
-    meets_with p (b ∷ bs) acts write.Peek (write.Write (length (b ∷ bs))) false (by.Peeked (length (b ∷ bs))) (Peeked (b ∷ bs)) r a
-    (ap (λ t. machine (if t then write.Write (length (b ∷ bs)) else write.Peek) false) test) refl refl refl refl refl
+    meets_with p (b ∷ bs) acts WriteAction.Peek (WriteAction.Write (length (b ∷ bs))) false (WriteAnswer.Peeked (length (b ∷ bs))) (Peeked (b ∷ bs)) r a
+    (ap (λ t. machine (if t then WriteAction.Write (length (b ∷ bs)) else WriteAction.Peek) false) test) refl refl refl refl refl
 
 -- the waker that it took is called
-pub wakes : (p : Progress) (acts : List Act) → WriteAs p acts → write_next p.core ≡ write.Deliver → WriteAs (progress_with p by.Delivered) (HolderWoken ∷ acts)
+pub wakes : (p : Progress) (acts : List Act) → WriteAs p acts → write_next p.core ≡ WriteAction.Deliver → WriteAs (progress_with p WriteAnswer.Delivered) (HolderWoken ∷ acts)
 wakes p acts r is =
     let after = woken p.core is in
     record {
@@ -108,20 +87,19 @@ wakes p acts r is =
       fault_is = ap fault_of after ∙ r.fault_is;
     }
   where
-    woken_in : (b : Bool) (next : WriteAction) → wake_first b write.Deliver next ≡ write.Deliver → write_in {E = ℕ} b next by.Delivered ≡ machine next false
-    woken_in true next e = refl
-    woken_in false next e = ap (λ n. write_by {E = ℕ} n by.Delivered) e ∙ ap (λ n. machine n false) (sym e)
+    woken_in : (b : Bool) (next : WriteAction) → wake_first b WriteAction.Deliver next ≡ WriteAction.Deliver → write_in {E = ℕ} b next WriteAnswer.Delivered ≡ machine next false
+    woken_in b next e = grind arith
 
-    woken : (machine_of : WriteMachine ℕ) → write_next machine_of ≡ write.Deliver → write_after machine_of by.Delivered ≡ noting (machine machine_of.next false) machine_of.fault
+    woken : (machine_of : WriteMachine ℕ) → write_next machine_of ≡ WriteAction.Deliver → write_after machine_of WriteAnswer.Delivered ≡ noting (machine machine_of.next false) machine_of.fault
     woken machine_of e =
-        ap (λ m. noting m (first_fault machine_of.fault (core.fault_in (write_next machine_of) by.Delivered))) (woken_in machine_of.is_waking machine_of.next e)
-        ∙ ap (λ n. noting (machine machine_of.next false) (first_fault machine_of.fault (core.fault_in n by.Delivered))) e
+        ap (λ m. noting m (first_fault machine_of.fault (core.fault_in (write_next machine_of) WriteAnswer.Delivered))) (woken_in machine_of.is_waking machine_of.next e)
+        ∙ ap (λ n. noting (machine machine_of.next false) (first_fault machine_of.fault (core.fault_in n WriteAnswer.Delivered))) e
         ∙ ap (λ f. noting (machine machine_of.next false) f) (kept_fault machine_of.fault)
 
 -- ---- its writer answers
 
 -- who is answered called no waker
-no_waker : (piece : List ℕ) (action : WriteAction) (answer : Answer) → is_answer (action_as piece action) answer ≡ true → action ≡ write.Deliver → ⊥
+no_waker : (piece : List ℕ) (action : WriteAction) (answer : Answer) → is_answer (action_as piece action) answer ≡ true → action ≡ WriteAction.Deliver → ⊥
 no_waker piece action answer is e = let other = ap (λ n. is_answer (action_as piece n) answer) (sym e) ∙ is in cc
 
 -- A job that asks its writer: it took no waker, and does this by its table.
@@ -148,28 +126,23 @@ module _ (p : Progress) (acts : List Act) (r : WriteAs p acts) where
         next = ap (λ (c : WriteMachine ℕ). action_as p.piece c.next) after ∙ on ∙ ap (λ n. next_after_answer n answer) (sym table);
         offered = subst (λ (c : WriteMachine ℕ). IsOffered c.next p.piece) (sym after) offered;
         waking = ap (λ (c : WriteMachine ℕ). c.is_waking) after;
-        fault_is = ap fault_of after ∙ told_first p.core.fault (core.fault_in now told) ∙ ap (λ f. job.earlier f (told_as (core.fault_in now told))) r.fault_is
-            ∙ ap (job.earlier (fault Writing acts)) (why ∙ ap (λ n. fault_in n answer) (sym table));
+        fault_is = ap fault_of after ∙ told_first p.core.fault (core.fault_in now told) ∙ ap (λ f. job_earlier f (told_as (core.fault_in now told))) r.fault_is
+            ∙ ap (job_earlier (fault Writing acts)) (why ∙ ap (λ n. fault_in n answer) (sym table));
       }
 
   by_action : (now : WriteAction) (answer : Answer) → Awake p now → next_but_wake Writing acts ≡ action_as p.piece now → is_answer (action_as p.piece now) answer ≡ true
       → WriteAs (progress_after_answer p answer) (Answered answer ∷ acts)
-  by_action (write.Write most) (Number zero) a table fits = answered_by (write.Write most) write.Flush (by.Took 0) (Number 0) a table refl refl tt refl
-  by_action (write.Write most) (Number (suc k)) a table fits =
+  by_action (WriteAction.Write most) (Number zero) a table fits = answered_by (WriteAction.Write most) WriteAction.Flush (WriteAnswer.Took 0) (Number 0) a table refl refl tt refl
+  by_action (WriteAction.Write most) (Number (suc k)) a table fits =
       let whole : most ≡ length p.piece = subst (λ n. IsOffered n p.piece) a.next_is r.offered in
-      answered_by (write.Write most) (write.Consume (suc k)) (by.Took (suc k)) (Number (suc k)) a table
-      (ap (λ t. machine (if t then write.Consume (suc k) else write.Write most) false) (ap (nat_le (suc k)) whole ∙ fits)) refl tt refl
-  by_action (write.Write most) (Failed error) a table fits = answered_by (write.Write most) write.Flush (by.Failed error) (Failed error) a table refl refl tt refl
-  by_action (write.Write most) _ a table fits = absurd (cc)
-  by_action write.Flush Fine a table fits = answered_by write.Flush write.Close by.Flushed Fine a table refl refl tt refl
-  by_action write.Flush (Failed error) a table fits = answered_by write.Flush write.Close (by.Failed error) (Failed error) a table refl refl tt refl
-  by_action write.Flush _ a table fits = absurd (cc)
-  by_action write.Peek answer a table fits = absurd (cc)
-  by_action (write.Consume count) answer a table fits = absurd (cc)
-  by_action write.Close answer a table fits = absurd (cc)
-  by_action write.Finish answer a table fits = absurd (cc)
-  by_action write.Deliver answer a table fits = absurd (cc)
-  by_action write.Done answer a table fits = absurd (cc)
+      answered_by (WriteAction.Write most) (WriteAction.Consume (suc k)) (WriteAnswer.Took (suc k)) (Number (suc k)) a table
+      (ap (λ t. machine (if t then WriteAction.Consume (suc k) else WriteAction.Write most) false) (ap (nat_le (suc k)) whole ∙ fits)) refl tt refl
+  by_action (WriteAction.Write most) (Failed error) a table fits = answered_by (WriteAction.Write most) WriteAction.Flush (WriteAnswer.Failed error) (Failed error) a table refl refl tt refl
+  by_action (WriteAction.Write most) _ a table fits = absurd (cc)
+  by_action WriteAction.Flush Fine a table fits = answered_by WriteAction.Flush WriteAction.Close WriteAnswer.Flushed Fine a table refl refl tt refl
+  by_action WriteAction.Flush (Failed error) a table fits = answered_by WriteAction.Flush WriteAction.Close (WriteAnswer.Failed error) (Failed error) a table refl refl tt refl
+  by_action WriteAction.Flush _ a table fits = absurd (cc)
+  by_action _ answer a table fits = absurd (cc)
 
 -- The writer answered so, and the job goes on by its table.
 pub answers : (p : Progress) (acts : List Act) (answer : Answer) → WriteAs p acts → is_answer (action_of p) answer ≡ true

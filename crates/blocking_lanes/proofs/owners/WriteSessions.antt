@@ -1,25 +1,12 @@
 -- The session of an owner who writes after each act of its job.
-use Rattle.std.proofs.Common.{◌≡◌, ℕ, zero, suc, ◌≤◌, List, [], ◌∷◌, ◌++◌, length, length-append, append_assoc, Bool, true, false, refl, sym, ap, ◌∙◌, subst, arith, Option, Some, None}
-use Rattle.std.specs.Prelude.{◌||◌, ◌+◌, not, take, drop}
+use Rattle.std.proofs.Common.{◌≡◌, ℕ, zero, suc, ◌≤◌, List, [], ◌∷◌, ◌++◌, length, length-append, append_assoc, Bool, true, false, refl, sym, ap, ◌∙◌, subst, arith, Option, Some, None, ◌||◌, ◌+◌, not, take, drop, append-nil, take-append-drop, length-drop, length-take}
 use Rattle.std.proofs.lemmas.Bool.{or_left}
 use Rattle.std.proofs.lemmas.Bool.Decides.{nat_tests}
-use Rattle.std.proofs.lemmas.List.{append-nil, take-append-drop, take-append-le, length-drop, length-take}
-use Rattle.blocking_core.specs.Places.{Served, Waiting, Closed, peek}
-use Rattle.blocking_core.specs.declared.io.Fault.{Fault}
-use Rattle.blocking_core.specs.declared.io.Fault.TheVariants.{Io, WriteZero}
-use Rattle.blocking_laws.specs.Ends.{handle_answers, has_failed_write}
-use Rattle.blocking_laws.specs.JobTable.{Writing, JobAction, AskCall, AskBytes, Peek, OfferBytes, Consume, AskFlush, AskItem, AskSeek, AskResult, CloseEnd, next_but_wake, next_after_answer, is_over, is_answer, fault, fault_in, earlier, has_finished, has_given_up}
-use Rattle.blocking_laws.specs.Passed.{carried, counted, peeked, taken}
-use Rattle.blocking_laws.specs.Seen.{IsBeginning}
-use Rattle.blocking_laws.specs.Sessions as sessions
-use Rattle.blocking_laws.specs.declared.event.Act.{Act}
-use Rattle.blocking_laws.specs.declared.event.Act.TheVariants.{JobParked, Answered, Peeked, Drained, Taken}
-use Rattle.blocking_laws.specs.declared.event.HolderWaker.{HolderWaker}
-use Rattle.blocking_laws.specs.declared.step.Answer.{Answer}
-use Rattle.blocking_laws.specs.declared.step.Answer.TheVariants.{Number, Fine, Failed}
-use Rattle.blocking_lanes.specs.OwnerTies.{SessionAs, ResultAs, WrittenAs, wrote_by, is_finding}
-use Rattle.blocking_lanes.specs.Sessions.{Session, found_piece, session_after_peek, session_after_consume}
-use Rattle.blocking_lanes.proofs.owners.ReadSessions.{At, at, tied_at, unseated, going, still}
+use Rattle.std.proofs.lemmas.List.{take-append-le}
+use Rattle.blocking_lanes.proofs.Types.{Fault, Io, WriteZero, Act, Answered, Drained, JobParked, Peeked, TakenOut as Taken, HolderWaker, Answer, Failed, Fine, Number}
+use Rattle.blocking_lanes.proofs.Words.{Closed, Served, Waiting, peek, handle_answers, has_failed_write, AskBytes, AskCall, AskFlush, AskItem, AskResult, AskSeek, CloseEnd, Consume, JobAction, OfferBytes, Peek, Writing, job_earlier as earlier, fault, fault_in, has_finished, has_given_up, is_answer, is_over, job_next_after_answer as next_after_answer, next_but_wake, carried, counted, peeked, taken, IsBeginning, SeenSession, ResultAs, SessionAs, WrittenAs, is_finding, wrote_by, Session, found_piece, session_after_consume, session_after_peek}
+use Rattle.blocking_lanes.proofs.owners.Drains.{written_with}
+use Rattle.blocking_lanes.proofs.owners.ReadSessions.{At, at, tied_at, unseated, going, still, nobody_sits}
 
 -- ---- what a job finds
 
@@ -44,7 +31,7 @@ module _ {X : Type 0} where
 
 -- ---- each act
 
-module _ (s : Session) (capacity : ℕ) (last : Option sessions.Session) (shut back dropped : Bool) (took accepted : List ℕ) (acts : List Act) (js ps ss : Bool) where
+module _ (s : Session) (capacity : ℕ) (last : Option SeenSession) (shut back dropped : Bool) (took accepted : List ℕ) (acts : List Act) (js ps ss : Bool) where
   -- it finds a piece
   pub peeks : (piece : List ℕ) → found_piece s ≡ Served piece → At s Writing capacity last shut back dropped took accepted acts js ps ss Peek
       → SessionAs s Writing capacity last shut back dropped took accepted (Peeked piece ∷ acts) js ps ss
@@ -66,12 +53,7 @@ module _ (s : Session) (capacity : ℕ) (last : Option sessions.Session) (shut b
           unclosed = λ is. absurd (cc);
         };
         result = t.result;
-        seats = record {
-          job = t.seats.job;
-          owner = t.seats.owner;
-          slot = t.seats.slot;
-          reason = record { job = λ seated. absurd (some.1 (t.seats.reason.job seated).1); owner = t.seats.reason.owner; slot = t.seats.reason.slot };
-        };
+        seats = nobody_sits s Writing (true || has_given_up acts) (false || has_given_up acts) js ps ss (λ seated. some.1 (t.seats.reason.job seated).1) t.seats;
       }
 
   -- it finds nothing, and is seated
@@ -82,18 +64,7 @@ module _ (s : Session) (capacity : ℕ) (last : Option sessions.Session) (shut b
       let none = no_piece 65536 s.pipe.items s.pipe.is_owner_open found in
       record {
         lent = record { begun = t.lent.begun; goods = t.lent.goods; some = t.lent.some; holds = t.lent.holds; within = t.lent.within; shut_is = t.lent.shut_is };
-        flow = record {
-          closed_is = t.flow.closed_is;
-          out = t.flow.out;
-          inside = t.flow.inside;
-          removed = t.flow.removed;
-          begun = t.flow.begun;
-          written_is = t.flow.written_is;
-          sound = t.flow.sound;
-          ungot = t.flow.ungot;
-          ungiven = t.flow.ungiven;
-          unclosed = t.flow.unclosed;
-        };
+        flow = written_with s s.pipe.is_job_open s.pipe.is_owner_open (Some s.number) s.pipe.owner_seat s.slot t.flow t.flow.closed_is t.flow.written_is t.flow.unclosed;
         result = t.result;
         seats = record {
           job = refl;
@@ -116,29 +87,9 @@ module _ (s : Session) (capacity : ℕ) (last : Option sessions.Session) (shut b
       let closed = none.1 in
       record {
         lent = t.lent;
-        flow = record {
-          closed_is = t.flow.closed_is;
-          out = t.flow.out;
-          inside = t.flow.inside;
-          removed = t.flow.removed;
-          begun = t.flow.begun;
-          written_is = (p.0, p.1, λ sound. (none.0, t.lent.shut_is ∙ ap not closed));
-          sound = t.flow.sound;
-          ungot = t.flow.ungot;
-          ungiven = t.flow.ungiven;
-          unclosed = λ is. absurd (cc);
-        };
+        flow = written_with s s.pipe.is_job_open s.pipe.is_owner_open s.pipe.job_seat s.pipe.owner_seat s.slot t.flow t.flow.closed_is (p.0, p.1, λ sound. (none.0, t.lent.shut_is ∙ ap not closed)) (λ is. absurd (cc));
         result = t.result;
-        seats = record {
-          job = t.seats.job;
-          owner = t.seats.owner;
-          slot = t.seats.slot;
-          reason = record {
-            job = λ seated. (let lasts = (t.seats.reason.job seated).2 in absurd (cc));
-            owner = t.seats.reason.owner;
-            slot = t.seats.reason.slot;
-          };
-        };
+        seats = nobody_sits s Writing (true || has_given_up acts) (false || has_given_up acts) js ps ss (λ seated. let lasts = (t.seats.reason.job seated).2 in cc) t.seats;
       }
 
   -- what its writer took leaves the pipe
@@ -189,15 +140,14 @@ front_of k piece items found fits = sym (ap (take k) found.1 ∙ take-append-le 
 
 -- a fault stays
 kept : (before : Option (Fault ℕ)) → earlier before None ≡ before
-kept None = refl
-kept (Some why) = refl
+kept before = grind arith
 
 -- and where there is one now there is one
 faulty : (before : Option (Fault ℕ)) (why : Fault ℕ) → earlier before (Some why) ≡ None → ⊥
 faulty None why e = cc
 faulty (Some first) why e = cc
 
-module _ (s : Session) (capacity : ℕ) (last : Option sessions.Session) (shut back dropped : Bool) (took accepted : List ℕ) (acts : List Act) (js ps ss : Bool) where
+module _ (s : Session) (capacity : ℕ) (last : Option SeenSession) (shut back dropped : Bool) (took accepted : List ℕ) (acts : List Act) (js ps ss : Bool) where
   -- its fault after an answer
   fault_after : (action : JobAction) (answer : Answer) → next_but_wake Writing acts ≡ action → fault Writing (Answered answer ∷ acts) ≡ earlier (fault Writing acts) (fault_in action answer)
   fault_after action answer e = ap (λ n. earlier (fault Writing acts) (fault_in n answer)) e

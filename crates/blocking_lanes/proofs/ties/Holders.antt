@@ -1,19 +1,13 @@
 -- Who holds a job, and how many tasks there are, after one more moment.
-use Rattle.std.proofs.Common.{◌≡◌, ℕ, ◌+◌, ◌==◌, List, [], ◌∷◌, true, false, refl, ap, length, suc, arith, if◌then◌else◌, Some}
-use Rattle.std.specs.Prelude.{not, cond, filter}
+use Rattle.std.proofs.Common.{◌≡◌, ℕ, ◌+◌, ◌==◌, List, [], ◌∷◌, true, false, refl, ap, length, suc, arith, if◌then◌else◌, Some, not, cond, filter}
 use Rattle.std.proofs.lemmas.Bool.{and_right}
-use Rattle.blocking_laws.specs.Jobs.{accepted_by, accepts, holder, is_pool, makes_a_task, tasks}
-use Rattle.blocking_laws.specs.declared.event.Act.{Act}
-use Rattle.blocking_laws.specs.declared.event.Act.TheVariants.{Accepted}
-use Rattle.blocking_laws.specs.declared.event.Moment.{Moment}
-use Rattle.blocking_laws.specs.declared.event.Party.TheVariants.{Task as ByTask}
-use Rattle.blocking_lanes.specs.Steps.{MakesTask}
+use Rattle.blocking_lanes.proofs.Types.{Act, Moment, ByTask}
+use Rattle.blocking_lanes.proofs.Words.{accepted_by, accepts, holder, is_pool, makes_a_task, tasks, MakesTask}
 
 -- ---- where no job is accepted
 
 pub accepts_no_job : (act : Act) (s : ℕ) → accepted_by act ≡ [] → accepts s act ≡ false
-accepts_no_job (Accepted t) s none = absurd (cc)
-accepts_no_job _ s none = refl
+accepts_no_job act s none = grind arith
 
 -- who held a job still does
 pub holder_stays : (past : List Moment) (now : Moment) → accepted_by now.event.act ≡ [] → (s : ℕ) → holder (now ∷ past) s ≡ holder past s

@@ -1,23 +1,10 @@
 -- The tie of the tasks and their laws hold after one more moment, where they held before it.
-use Rattle.std.proofs.Common.{◌≡◌, ℕ, ◌+◌, ◌<◌, ◌≤◌, ◌==◌, List, [], ◌∷◌, ◌++◌, length, length-append, Bool, true, false, refl, sym, ap, ◌∙◌, subst, arith, if◌then◌else◌, Option, Some, None, ⊎_elim, ◌⊎◌, inl, inr}
-use Rattle.std.specs.Prelude.{◌||◌, ◌&&◌, not, cond, filter, slice_get, slice_set}
-use Rattle.std.proofs.lemmas.Bool.{eq-eqb, or_parts}
+use Rattle.std.proofs.Common.{◌≡◌, ℕ, ◌+◌, ◌<◌, ◌≤◌, ◌==◌, List, [], ◌∷◌, ◌++◌, length, length-append, Bool, true, false, refl, sym, ap, ◌∙◌, subst, arith, if◌then◌else◌, Option, Some, None, ⊎_elim, ◌⊎◌, inl, inr, ◌||◌, ◌&&◌, not, cond, filter, slice_get, slice_set, eq-eqb, length-set}
+use Rattle.std.proofs.lemmas.Bool.{or_parts}
 use Rattle.std.proofs.lemmas.Bool.Decides.{nat_tests}
 use Rattle.std.proofs.lemmas.Option.{slice_get_within}
-use Rattle.std.proofs.Math.ListN.{length-set}
-use Rattle.blocking_pool.specs.Jobs.{JobNumber}
-use Rattle.blocking_laws.specs.Seen.{events, task_cut, is_by_task, is_of_job}
-use Rattle.blocking_laws.specs.Jobs.{accepted_by, accepts, holder, is_pool, makes_a_task, newcomer, tasks}
-use Rattle.blocking_laws.specs.TaskLaws.{TaskLaw, TaskLaws}
-use Rattle.blocking_laws.specs.declared.event.Act.{Act}
-use Rattle.blocking_laws.specs.declared.event.Act.TheVariants.{Accepted}
-use Rattle.blocking_laws.specs.declared.event.Event.{Event}
-use Rattle.blocking_laws.specs.declared.event.Moment.{Moment}
-use Rattle.blocking_laws.specs.declared.event.Party.{Party}
-use Rattle.blocking_laws.specs.declared.event.Party.TheVariants.{Owner as ByOwner, Task as ByTask}
-use Rattle.blocking_lanes.specs.Tasks.{Task, new_task}
-use Rattle.blocking_lanes.specs.Ties.{TaskAs, Tasked, TasksHold}
-use Rattle.blocking_lanes.specs.Steps.{IsAside, IsBeside, MakesTask, TakesStep, MayTake, task_after}
+use Rattle.blocking_lanes.proofs.Types.{Act, Accepted, Event, Moment, Party, ByOwner, ByTask}
+use Rattle.blocking_lanes.proofs.Words.{JobNumber, accepted_by, accepts, holder, is_pool, makes_a_task, newcomer, tasks, events, is_by_task, is_of_job, task_cut, TaskLaw, TaskLaws, TaskIsAside as IsAside, IsBeside, MakesTask, TaskMayTake as MayTake, TaskTakesStep as TakesStep, task_after, Task, new_task, TaskAs, Tasked, TasksHold}
 use Rattle.blocking_pool.proofs.Places.{got_same, got_other, in_pushed}
 use Rattle.blocking_lanes.proofs.acts.TaskActs.{Goes}
 use Rattle.blocking_lanes.proofs.acts.Steps.{step_goes, is_call, in_cut, accepts_none}
@@ -286,5 +273,4 @@ born row past now number makes free h =
     }
   where
     nobody : (b : Bool) (before : Option Party) → (if b then Some (ByTask (tasks past)) else before) ≡ None → before ≡ None
-    nobody true before is = absurd (cc)
-    nobody false before is = is
+    nobody b before is = grind arith

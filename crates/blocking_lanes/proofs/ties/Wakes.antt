@@ -1,13 +1,7 @@
 -- A task that waits for a job that is over was woken.
-use Rattle.std.proofs.Common.{◌≡◌, ℕ, List, Bool, true, false, ⊎_elim}
-use Rattle.std.specs.Prelude.{◌⊎◌, ◌||◌}
-use Rattle.blocking_laws.specs.Seen.{acts_of, own}
-use Rattle.blocking_laws.specs.JobTable.{has_finished, has_given_up}
-use Rattle.blocking_laws.specs.Seats.{task_seat}
-use Rattle.blocking_laws.specs.Wakes.{was_woken, is_waiting}
-use Rattle.blocking_laws.specs.declared.event.Event.{Event}
-use Rattle.blocking_lanes.specs.Tasks.{Task}
-use Rattle.blocking_lanes.specs.Ties.{TaskAs}
+use Rattle.std.proofs.Common.{◌≡◌, ℕ, List, Bool, true, false, ⊎_elim, ◌⊎◌, ◌||◌}
+use Rattle.blocking_lanes.proofs.Types.{Event}
+use Rattle.blocking_lanes.proofs.Words.{has_finished, has_given_up, task_seat, acts_of, own, is_waiting, was_woken, Task, TaskAs}
 
 told_by : (woken seated over : Bool) → over ≡ true → (woken ≡ true) ⊎ ((seated ≡ true) × (over ≡ false)) → woken ≡ true
 told_by woken seated over is told = ⊎_elim (λ now. now) (λ still. let not_over = still.1 in absurd (cc)) told

@@ -1,14 +1,12 @@
 -- A step has an action in the parts exactly where it has one by what was seen.
-use Rattle.std.proofs.Common.{◌≡◌, ℕ, ◌+◌, List, length, Bool, true, false, refl, sym, ap, ◌∙◌, arith, Option, Some, None, ◌&&◌, ◌||◌, ◌==◌, nat_lt, not, slice_get, is_some, is_none}
+use Rattle.std.proofs.Common.{◌≡◌, ℕ, ◌+◌, List, length, Bool, false, refl, sym, ap, ◌∙◌, arith, Option, Some, None, ◌&&◌, ◌||◌, ◌==◌, nat_lt, not, slice_get, is_some, is_none}
 use Rattle.std.proofs.lemmas.Bool.{lt-ltb}
 use Rattle.std.proofs.lemmas.Bool.Decides.{nat_tests}
 use Rattle.std.proofs.lemmas.Option.{slice_get_within}
-use Rattle.blocking_parts.proofs.Types.{Event, Moment, Party, HandleCall, Step, Arrive, Ask, DropOwner, End, Io, Job, Late, OfTask, Own, SetLimit, Stray, Strike, Take, Wait, TaskCall, Poll, Hand, Out, OwnerNext, Row}
-use Rattle.blocking_parts.proofs.Words.{starts, arrivals, tasks, holder, standing, events, acts_of_task, task_cut, cut, own, acts_of_owner, under_way, is_poll_over, is_there, is_job_action, is_answered_action, is_turn_end, is_for_cancelled, may_call, may_cancel, has_action, was_cancelled, hand, hand_at, is_free_hand, HandAs, OwnerAs, Owner, next_of, did, Task, may_be, is_gone_as, CancelAs, TaskAs, may_call_in, rests_in, may_ask_in, may_own, may_own_in, has_action_in, Parts, row_of, let_go_by, Tied}
+use Rattle.blocking_parts.proofs.Types.{Event, Moment, Party, HandleCall, Step, Arrive, Ask, DropOwner, End, Io, Job, Late, OfTask, Own, SetLimit, Stray, Strike, Take, Wait, TaskCall, Hand, Row}
+use Rattle.blocking_parts.proofs.Words.{starts, arrivals, tasks, holder, standing, events, acts_of_task, task_cut, cut, own, acts_of_owner, under_way, is_poll_over, is_there, is_job_action, is_answered_action, is_turn_end, is_for_cancelled, may_call, may_cancel, has_action, hand, hand_at, is_free_hand, HandAs, OwnerAs, Owner, next_of, did, Task, may_be, is_gone_as, CancelAs, TaskAs, may_call_in, rests_in, may_ask_in, may_own, may_own_in, has_action_in, Parts, row_of, let_go_by, Tied}
 use Rattle.blocking_laws.specs.Sessions as sessions
 use Rattle.blocking_laws.specs.TaskLaws.{is_gone}
-use Rattle.blocking_lanes.specs.declared.owner.OwnerNext.TheVariants as next
-use Rattle.blocking_lanes.specs.declared.task.TaskStage.TheVariants as task_stage
 use Rattle.blocking_lanes.specs.declared.task.TaskStage.{TaskStage}
 use Rattle.blocking_lanes.proofs.cuts.Acts.{own_cut}
 use Rattle.blocking_lanes.proofs.owners.Actions.{acts_some, is_rest, rests_is, may_ask_is, rests_next}
@@ -20,58 +18,40 @@ use Rattle.blocking_parts.proofs.ties.Releases.{let_go_is}
 
 -- an idle worker is there and has no job in hand
 free_by : (h : Hand) (there : Bool) (job : Option ℕ) → HandAs h there job → is_free_hand h ≡ (there && is_none job)
-free_by Out there job holds = sym (ap (λ b. b && is_none job) holds.0)
-free_by _ there job holds = sym (ap (λ b. b && is_none job) holds.0 ∙ ap is_none holds.1)
+free_by h there job holds = grind arith
 
 -- as many are to arrive as were started and haven't arrived
 arrive_by : (m n s : ℕ) → s ≡ m + n → (x y : Bool) → nat_lt 0 m ≡ x → nat_lt n s ≡ y → x ≡ y
-arrive_by m n s sum true true left right = refl
-arrive_by m n s sum true false left right = absurd (grind (arith, nat_tests))
-arrive_by m n s sum false true left right = absurd (grind (arith, nat_tests))
-arrive_by m n s sum false false left right = refl
+arrive_by m n s sum x y left right = grind arith
 
 -- a limit is above 0 exactly where it isn't 0
 limit_by : (n : ℕ) (x y : Bool) → (n == 0) ≡ x → nat_lt 0 n ≡ y → not x ≡ y
-limit_by n true true zeroed above = absurd (grind (arith, nat_tests))
-limit_by n true false zeroed above = refl
-limit_by n false true zeroed above = refl
-limit_by n false false zeroed above = absurd (grind (arith, nat_tests))
+limit_by n x y zeroed above = grind arith
 
 -- ---- tasks
 
 stage_may : (at : TaskStage) (call : TaskCall) (gone was : Bool) → gone ≡ is_gone_as at → CancelAs at was → may_be at call ≡ (not gone && (not was || is_for_cancelled call))
-stage_may task_stage.Cancelled Poll gone was is_gone is_cancelled = rw (is_gone, is_cancelled) refl
-stage_may task_stage.Gone call gone was is_gone is_cancelled = rw is_gone refl
-stage_may task_stage.LetGo call gone was is_gone is_cancelled = rw is_gone refl
-stage_may _ _ gone was is_gone is_cancelled = rw (is_gone, is_cancelled) refl
+stage_may at call gone was is_gone is_cancelled = grind arith
 
 -- a task may be called so exactly where its own acts allow it
 task_may : (k s : ℕ) (task : Task) (seen : List Event) (call : TaskCall) → TaskAs task s (task_cut k s seen) → may_be task.stage call ≡ may_call (acts_of_task k seen) call
-task_may k s task seen call tie =
-    stage_may task.stage call (is_gone (own (task_cut k s seen))) (was_cancelled (own (task_cut k s seen))) tie.gone tie.cancel
-    ∙ ap (λ acts. may_call acts call) (own_cut k s seen)
+task_may k s task seen call tie = grind (arith, stage_may, own_cut)
 
 -- ---- owners
 
 -- the poll of an owner has something to do where it doesn't rest
 owner_may : (owner : Owner) (seen : List Event) → OwnerAs owner seen → may_own (next_of owner) (did owner) ≡ not (is_rest (next_of owner))
-owner_may owner seen tie = by (next_of owner) refl
-  where
-    by : (n : OwnerNext) → next_of owner ≡ n → may_own n (did owner) ≡ not (is_rest n)
-    by (next.Acts count) is = acts_some owner seen tie count is
-    by _ is = refl
+owner_may owner seen tie = grind (arith, is_rest, acts_some)
 
 -- ---- steps
 
 module _ (setting : ℕ) (plan : List Bool) (w : Parts) (past : List Moment) (t : Tied setting plan w past) where
   asks_by : (h : ℕ) (found : Option Owner) → slice_get w.owners h ≡ found → rests_in found ≡ sessions.rests (acts_of_owner h (events past))
-  asks_by h None found = sym (ap (λ l. sessions.rests (own l)) (unseen setting plan w past t h found))
-  asks_by h (Some owner) found = sym (rests_is owner (cut h (events past)) (owner_tie setting plan w past t h owner found))
+  asks_by h found o = grind (arith, unseen, rests_is, owner_tie)
 
   asked_by : (h : ℕ) (call : HandleCall) (found : Option Owner) → slice_get w.owners h ≡ found
       → may_ask_in found call ≡ sessions.may_ask (acts_of_owner h (events past)) call
-  asked_by h call None found = sym (ap (λ l. sessions.may_ask (own l) call) (unseen setting plan w past t h found))
-  asked_by h call (Some owner) found = sym (may_ask_is owner (cut h (events past)) call (owner_tie setting plan w past t h owner found))
+  asked_by h call found o = grind (arith, unseen, may_ask_is, owner_tie)
 
   owns_by : (h : ℕ) (found : Option Owner) → slice_get w.owners h ≡ found → may_own_in found ≡ not (is_poll_over (under_way (acts_of_owner h (events past))))
   owns_by h None found = sym (ap (λ l. not (is_poll_over (under_way (own l)))) (unseen setting plan w past t h found))
@@ -93,16 +73,14 @@ module _ (setting : ℕ) (plan : List Bool) (w : Parts) (past : List Moment) (t 
   stray_by s None found = by (is_some (standing past s)) refl ∙ sym (holder_stands setting plan w past t s)
     where
       by : (b : Bool) → is_some (standing past s) ≡ b → false ≡ b
-      by true some = let row = (has_row setting plan w past t s some).1 in absurd cc
-      by false none = refl
+      by b some = grind (arith, has_row)
   stray_by s (Some row) found = sym (ap is_some (t.rowed.each s row found).held_by)
 
   strike_by : (s : ℕ) (found : Option Row) → row_of w.rows s ≡ found → let_go_by w found ≡ may_cancel (holder past s) past
   strike_by s None found = by (holder past s) (stray_by s None found)
     where
       by : (o : Option Party) → false ≡ is_some o → false ≡ may_cancel o past
-      by None none = refl
-      by (Some who) none = absurd cc
+      by o none = grind arith
   strike_by s (Some row) found = let_go_is setting plan w past t s row found
 
   -- A step has an action in the parts exactly where it has one by what was seen.

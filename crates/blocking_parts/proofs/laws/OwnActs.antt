@@ -1,8 +1,7 @@
 -- What a job does that is its own to do: what is seen of it, and that it stays the job of its owner.
-use Rattle.std.proofs.Common.{◌≡◌, ⊎_elim, ℕ, List, Bool, true, false, refl, sym, ap, ◌∙◌, Option, Some, None, ◌&&◌, not, slice_get}
+use Rattle.std.proofs.Common.{◌≡◌, ⊎_elim, ℕ, List, Bool, true, false, refl, sym, ap, ◌∙◌, Option, Some, None, ◌&&◌, not, slice_get, arith}
 use Rattle.blocking_parts.proofs.Types.{Action, Act, Stage, SessionJob, Core}
 use Rattle.blocking_parts.proofs.Words.{is_of_pool, is_nothing, is_answered, OwnerStep, act_of_work, Owner, Worked, worked, TaskStep, Task, owner_in, call_step_by, call_step, session_step, Done, call_done, session_seen, session_done, done}
-use Rattle.blocking_core.specs.declared.job.Action.TheVariants as action
 use Rattle.blocking_crew.specs.declared.hand.Stage.TheVariants as stage
 use Rattle.blocking_lanes.specs.OwnerSteps as owners
 use Rattle.blocking_parts.specs.declared.row.Core.TheVariants as core
@@ -30,18 +29,14 @@ does : (at : Stage) (c : Core) (all : List Task) (row : List Owner) → is_own_d
 does at (core.Call k call) all row = by at (slice_get all k)
   where
     runs : (next : Action) (task : Task) → is_own_done (call_done k call stage.Runs all row (Some task) (call_step_by next call.number)) ≡ true
-    runs action.Call task = refl
-    runs _ task = refl
+    runs next task = grind arith
 
     by : (at : Stage) (o : Option Task) → is_own_done (call_done k call at all row o (call_step at call)) ≡ true
-    by at None = refl
-    by stage.Runs (Some task) = runs call.next task
-    by _ (Some task) = refl
+    by at o = grind arith
 does at (core.Session h p) all row = by at (slice_get row h)
   where
     seen : (owner : Owner) (act : Option Act) → is_own_if act ≡ true → is_own_done (session_seen h p all row owner (owners.Works p) act) ≡ true
-    seen owner None is = refl
-    seen owner (Some act) is = is
+    seen owner act is = grind arith
 
     by : (at : Stage) (o : Option Owner) → is_own_done (session_done h p all row o (session_step at p)) ≡ true
     by at None = refl
@@ -60,8 +55,7 @@ own_act at c all row did is =
     record { pool = each.0; nothing = each.1; unasked = each.2 }
   where
     by : (a b c : Bool) → (not a && not b && not c) ≡ true → (a ≡ false) × (b ≡ false) × (c ≡ false)
-    by false false false is = (refl, refl, refl)
-    by _ _ _ is = absurd cc
+    by a b c is = grind arith
 
 -- ---- whose job it is
 
@@ -74,18 +68,14 @@ stays : (at : Stage) (c : Core) (all : List Task) (row : List Owner) → owner_l
 stays at (core.Call k call) all row = by (slice_get all k) (call_step at call)
   where
     by : (o : Option Task) (step : Option TaskStep) → owner_left (core.Call k call) (call_done k call at all row o step) ≡ None
-    by None step = refl
-    by (Some task) None = refl
-    by (Some task) (Some step) = refl
+    by o step = grind arith
 stays at (core.Session h p) all row = by (slice_get row h) (session_step at p)
   where
     seen : (owner : Owner) (step : OwnerStep) (act : Option Act) → owner_left (core.Session h p) (session_seen h p all row owner step act) ≡ Some h
-    seen owner step None = refl
-    seen owner step (Some act) = refl
+    seen owner step act = grind arith
 
     by : (o : Option Owner) (step : Option OwnerStep) → owner_left (core.Session h p) (session_done h p all row o step) ≡ Some h
-    by (Some owner) (Some step) = seen owner step (owners.act_of step owner)
-    by _ _ = refl
+    by o step = grind arith
 
 -- A job that does something stays its owner's.
 pub same_owner : (at : Stage) (c : Core) (all : List Task) (row : List Owner) (did : Done) → done at c all row ≡ Some did → owner_in did.core ≡ owner_in c

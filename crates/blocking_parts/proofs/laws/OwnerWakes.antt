@@ -1,14 +1,12 @@
 -- No wake between an owner and its job is lost: an owner that waits for a job at rest was woken.
-use Rattle.std.proofs.Common.{◌≡◌, ◌⊎◌, inl, inr, ℕ, ◌==◌, List, [], ◌∷◌, Bool, true, false, refl, sym, ap, ◌∙◌, subst, Option, Some, None, ◌&&◌, ◌||◌, not, slice_get, is_some}
+use Rattle.std.proofs.Common.{◌≡◌, ◌⊎◌, inl, inr, ℕ, ◌==◌, List, [], ◌∷◌, Bool, true, false, refl, sym, ap, subst, Option, Some, None, ◌&&◌, ◌||◌, not, slice_get, is_some, arith}
 use Rattle.std.specs.FinMap.{get}
 use Rattle.std.proofs.lemmas.Bool.{eq-eqb, or_left}
-use Rattle.blocking_parts.proofs.Types.{Act, Accepted, Filled, Got, GotItem, OwnerClosed, Waits, Event, Moment, ByOwner, OwnerStage}
-use Rattle.blocking_parts.proofs.Words.{JobNumber, is_in, Kind, has_finished, has_given_up, holder, is_woken, is_running, is_parked, standing, is_job_seated, events, is_this, acts_of, cut, own, last_session, session, jobs_of, capacity, turn, newest_note, StageAs, seat_of, LastAs, OwnerAs, Owner, capacity_of, item_in, note_at, Session, Parts, is_at_first, is_waiting_in, is_left, seated_in, is_number, IsMet, Tied}
-use Rattle.blocking_laws.specs.OwnerTable.{note_in}
-use Rattle.blocking_laws.specs.OwnerWakes.{HasReason, IsSessionOf, NoLostOwnerWake, ParksRightly, is_waking, is_waking_by}
+use Rattle.blocking_parts.proofs.Types.{Act, Accepted, Event, Moment, ByOwner, OwnerStage}
+use Rattle.blocking_parts.proofs.Words.{JobNumber, is_in, Kind, has_finished, has_given_up, holder, is_woken, is_running, is_parked, standing, is_job_seated, events, is_this, acts_of, cut, own, last_session, session, jobs_of, capacity, turn, newest_note, StageAs, LastAs, OwnerAs, Owner, note_at, Session, Parts, is_at_first, is_waiting_in, is_left, seated_in, is_number, IsMet, Tied}
+use Rattle.blocking_laws.specs.OwnerWakes.{HasReason, IsSessionOf, NoLostOwnerWake, ParksRightly, is_waking}
 use Rattle.blocking_laws.specs.Sessions as sessions
 use Rattle.blocking_laws.specs.Wakes.{is_at_rest, is_waiting, was_woken}
-use Rattle.blocking_lanes.specs.declared.owner.OwnerStage.TheVariants as stage
 use Rattle.blocking_lanes.proofs.owners.States.{session_is_last}
 use Rattle.blocking_lanes.proofs.owners.Wakes.{not_lost, seated_reason}
 use Rattle.blocking_parts.proofs.laws.Wakes.{rests_over}
@@ -34,36 +32,13 @@ last_among (_ ∷ past) r is = last_among past r is
 
 -- and so is that of the session that isn't over
 session_among : (acts : List Act) (s : ℕ) → IsSessionOf (session acts) s → is_in s (jobs_of acts) ≡ true
-session_among acts s of = by (session acts) refl of
-  where
-    by : (r : Option sessions.Session) → session acts ≡ r → IsSessionOf r s → is_in s (jobs_of acts) ≡ true
-    by None is of = absurd of
-    by (Some r) is of = subst (λ n. is_in n (jobs_of acts) ≡ true) of (last_among acts r (session_is_last acts r is))
+session_among acts s of = grind (arith, last_among, session_is_last)
 
 -- ---- where the owner meets its job
 
--- a job that sits in the pipe was seen to be seated
-seated_seen : (last : Option Session) (bytes : Kind → ℕ) (X : List Event) (s : ℕ) → LastAs last bytes X → is_number (seated_in last) s ≡ true → is_job_seated X ≡ true
-seated_seen None bytes X s t is = absurd cc
-seated_seen (Some held) bytes X s t is = by (is_job_seated X) (ap (λ o. is_number o s) (sym t.seats.job) ∙ is)
-  where
-    by : (b : Bool) → is_number (seat_of b held.number) s ≡ true → b ≡ true
-    by true is = refl
-    by false is = absurd cc
-
--- who waits took no note just now, so has none to deliver
-waits_unnoted : (acts : List Act) → is_waiting acts ≡ true → newest_note acts ≡ None
-waits_unnoted (Waits ∷ past) waits = refl
-waits_unnoted _ waits = absurd cc
-
-none_noted : (here : OwnerStage) (x : ℕ) (X : List Event) (s : ℕ) → StageAs here x X → is_waiting (own X) ≡ true → is_number (note_at here) s ≡ true → ⊥
-none_noted (stage.Wakes poll number) x X s t waits noted = let none = waits_unnoted (own X) waits in let some = t.2 in cc
-none_noted _ x X s t waits noted = cc
-
 -- so an owner that waits meets a job that is left to it in the pipe
 waits_met : (owner : Owner) (X : List Event) (s : ℕ) → OwnerAs owner X → is_waiting (own X) ≡ true → IsMet owner s → is_job_seated X ≡ true
-waits_met owner X s t waits (inl seat) = seated_seen owner.session (capacity_of owner) X s t.last seat
-waits_met owner X s t waits (inr noted) = absurd (none_noted owner.stage (item_in owner.session) X s t.stage waits noted)
+waits_met owner X s t waits o = grind arith
 
 -- ---- why a job waits
 
@@ -73,29 +48,18 @@ seated_so None bytes X s same t is = absurd cc
 seated_so (Some held) bytes X s same t is = seated_reason held bytes X same t (some_seat held.pipe.job_seat is)
   where
     some_seat : (seat : Option JobNumber) → is_number seat s ≡ true → is_some seat ≡ true
-    some_seat None is = absurd cc
-    some_seat (Some number) is = refl
+    some_seat seat is = grind arith
 
 -- the job whose note was taken just now has a wake under way
-waking_by : (s : ℕ) (act : Act) (before : Bool) (n : ℕ) → note_in act ≡ Some n → is_this s (Some n) ≡ true → is_waking_by s act before ≡ true
-waking_by s (OwnerClosed told) before n is same = or_left (is_this s told) before (ap (is_this s) is ∙ same)
-waking_by s (Got bytes told) before n is same = or_left (is_this s told) before (ap (is_this s) is ∙ same)
-waking_by s (GotItem x told) before n is same = or_left (is_this s told) before (ap (is_this s) is ∙ same)
-waking_by s (Filled k told) before n is same = or_left (is_this s told) before (ap (is_this s) is ∙ same)
-waking_by s _ before n is same = absurd cc
-
 noted_waking : (acts : List Act) (s n : ℕ) → newest_note acts ≡ Some n → is_this s (Some n) ≡ true → is_waking s acts ≡ true
-noted_waking [] s n is same = absurd cc
-noted_waking (act ∷ past) s n is same = waking_by s act (is_waking s past) n is same
+noted_waking acts s n is same = grind arith
 
 noted_under_way : (here : OwnerStage) (x : ℕ) (X : List Event) (s : ℕ) → StageAs here x X → is_number (note_at here) s ≡ true → is_waking s (own X) ≡ true
-noted_under_way (stage.Wakes poll number) x X s t noted = noted_waking (own X) s number.serial t.2 noted
-noted_under_way _ x X s t noted = absurd cc
+noted_under_way here x X s t noted = grind (arith, noted_waking)
 
 -- so a job that is left to its owner has reason to wait, or a wake of it is under way
 parks_met : (owner : Owner) (X : List Event) (s : ℕ) → OwnerAs owner X → is_waking s (own X) ≡ false → IsMet owner s → HasReason X
-parks_met owner X s t still (inl seat) = seated_so owner.session (capacity_of owner) X s t.bytes t.last seat
-parks_met owner X s t still (inr noted) = absurd (never _ still (noted_under_way owner.stage (item_in owner.session) X s t.stage noted))
+parks_met owner X s t still o = grind (arith, seated_so, never, noted_under_way)
 
 -- ---- all of them
 

@@ -1,20 +1,15 @@
 -- What is seen of a move is of its step, as the law of steps has it, with those of owners.
-use Rattle.std.proofs.Common.{◌≡◌, ℕ, ◌+◌, ◌-◌, List, length, Bool, true, false, refl, sym, ap, ◌∙◌, subst, arith, Option, Some, None, if◌then◌else◌, nat_lt, not, ◌==◌, slice_set, is_some, Result, Ok, Err}
-use Rattle.std.proofs.lemmas.Bool.{eqb-true}
+use Rattle.std.proofs.Common.{◌≡◌, ℕ, ◌+◌, ◌-◌, List, length, Bool, true, false, refl, sym, ap, ◌∙◌, subst, arith, Option, Some, None, if◌then◌else◌, nat_lt, not, ◌==◌, slice_set, is_some, Result}
 use Rattle.std.proofs.lemmas.Bool.Decides.{nat_tests}
-use Rattle.blocking_parts.proofs.Types.{OwnerAction, Refusal, Stay, Stop, Act, Arrived, Made, NoAction, Event, Moment, Party, ByOwner, Worker, Reply, Answer, Step, Arrive, End, Late, SetLimit, Sweep, Take, Wait, TaskCall, Poll, Holds, Held, Parking, OwnerNext, OwnerStage, Core, Row}
-use Rattle.blocking_parts.proofs.Words.{OwnerMachine, owner_next, Growth, JobNumber, arrivals, IsPlanned, holder, as_owner, is_of_pool, is_nothing, is_there, is_turn_end, owners, has_action, named, party, job_of, IsBegun, IsOfTask, IsEndOf, Fits, Happens, StepLaw, hand, hand_at, is_free_hand, added_act, parked_act, HandAs, Acts, act_in, Owner, item_in, reply_as, note_at, next_to_say, next_by, next_of, Did, reply_did, did_in, did_by, did, Session, Task, task_act, Move, Idles, Makes, Asks, Owns, Lends, Delivers, IsDropped, Begins, Calls, Works, IsAnswered, Parks, Passes, IsWoken, IsStruck, step_by, step_of, rows_after, may_call_in, rests_in, may_ask_in, may_own, may_own_in, has_action_in, is_pass, IsDue, May, CrewMoves, Parts, row_of, owner_by, owner_of, done_in, let_go_by, party_of, owner_in, core_after_answer, moment, Tied}
-use Rattle.blocking_core.specs.declared.unblock.OwnerAction.TheVariants as action
+use Rattle.blocking_parts.proofs.Types.{Refusal, Stay, Stop, Act, Arrived, Made, NoAction, Event, Moment, Party, ByOwner, Worker, Answer, Step, Arrive, End, Late, SetLimit, Sweep, Take, Wait, TaskCall, Holds, Held, Parking, OwnerNext, OwnerStage, Core, Row}
+use Rattle.blocking_parts.proofs.Words.{Growth, JobNumber, arrivals, IsPlanned, holder, as_owner, is_of_pool, is_nothing, is_there, is_turn_end, has_action, named, party, job_of, IsBegun, IsOfTask, IsEndOf, Fits, Happens, StepLaw, hand, hand_at, is_free_hand, added_act, parked_act, HandAs, Acts, act_in, Owner, note_at, next_of, Did, did_by, did, Session, Task, task_act, Move, Idles, Makes, Asks, Owns, Lends, Delivers, IsDropped, Begins, Calls, Works, IsAnswered, Parks, Passes, IsWoken, IsStruck, step_by, step_of, rows_after, may_call_in, rests_in, may_ask_in, may_own, may_own_in, has_action_in, is_pass, IsDue, May, CrewMoves, Parts, row_of, owner_by, owner_of, done_in, let_go_by, party_of, owner_in, core_after_answer, moment, Tied}
 use Rattle.blocking_laws.specs.Steps as law
 use Rattle.blocking_laws.specs.declared.event.WaitEnd.TheVariants.{Woken, TimedOut}
 use Rattle.blocking_crew.specs.Moves as crew
-use Rattle.blocking_crew.specs.declared.tickets.Parking.TheVariants as parking
 use Rattle.blocking_lanes.specs.Owners.{next_at}
 use Rattle.blocking_lanes.specs.declared.owner.OwnerNext.TheVariants as next
-use Rattle.blocking_lanes.specs.declared.owner.OwnerStage.TheVariants as owner_stage
 use Rattle.blocking_parts.specs.Rows.{next_of as next_of_core}
-use Rattle.blocking_parts.specs.declared.row.Core.TheVariants as core
-use Rattle.blocking_lanes.proofs.acts.Calls.{call_plainly, poll_so}
+use Rattle.blocking_lanes.proofs.acts.Calls.{call_plainly}
 use Rattle.blocking_lanes.proofs.owners.Actions.{is_rest}
 use Rattle.blocking_lanes.proofs.owners.Events.{plain_of}
 use Rattle.blocking_parts.proofs.laws.Actions.{has_is}
@@ -28,80 +23,46 @@ use Rattle.blocking_parts.proofs.ties.Jobs.{job_here, next_here, has_row, holder
 
 -- what the pool answers to a new job, what is seen of a call of a task, and the end of a run that waits
 begun_fits : (added : Result JobNumber Refusal) → (is_nothing (added_act added) ≡ false) × IsBegun (added_act added)
-begun_fits (Ok number) = (refl, tt)
-begun_fits (Err why) = (refl, tt)
+begun_fits added = grind arith
 
 lent_fits : (added : Result JobNumber Refusal) → is_of_pool (added_act added) ≡ false
-lent_fits (Ok number) = refl
-lent_fits (Err why) = refl
+lent_fits added = grind arith
 
 call_fits : (call : TaskCall) (task : Task) → IsOfTask call (task_act call task)
-call_fits Poll task = poll_so task
-call_fits _ task = refl
+call_fits call task = grind arith
 
 park_fits : (how : Parking) (s : ℕ) (job : Option ℕ) → job ≡ Some s → (is_nothing (parked_act how s) ≡ false) × IsEndOf job (parked_act how s)
-park_fits (parking.Parked pass) s job is = (refl, is)
-park_fits (parking.Queued pass) s job is = (refl, is)
-park_fits (parking.HandedOut turn) s job is = (refl, is)
+park_fits how s job is = grind arith
 
 -- ---- an owner that does something has an action
 
--- by what its machine does next
-says : (told : Option Reply) (poll : OwnerMachine ℕ) (owner : Owner) → is_some (reply_did told poll owner) ≡ true → is_rest (next_to_say told) ≡ false
-says None poll owner some = absurd cc
-says (Some told) poll owner some = refl
-
-acts_next : (a : OwnerAction ℕ) (poll : OwnerMachine ℕ) (last : Option Session) (owner : Owner) → is_some (did_in a poll last owner) ≡ true → is_rest (next_by a last) ≡ false
-acts_next action.Begin poll last owner some = refl
-acts_next action.Close poll last owner some = refl
-acts_next (action.Drain most) poll last owner some = refl
-acts_next (action.Fill most) poll last owner some = refl
-acts_next action.PollSlot poll last owner some = refl
-acts_next action.PollResult poll last owner some = refl
-acts_next action.DropHandle poll last owner some = refl
-acts_next action.Receive poll last owner some = refl
-acts_next (action.Reply reply) poll last owner some = says (reply_as (item_in last) reply) poll owner some
-acts_next _ poll None owner some = absurd cc
-acts_next _ poll (Some session) owner some = absurd cc
-
 -- by where it is in its polls
 did_next : (here : OwnerStage) (owner : Owner) → is_some (did_by here owner) ≡ true → is_rest (next_at here owner.session) ≡ false
-did_next (owner_stage.Polls poll) owner some = acts_next (owner_next poll) poll owner.session owner some
-did_next _ owner some = absurd cc
+did_next here owner some = grind arith
 
 -- so its poll may go on
 may_so : (n : OwnerNext) (finds : Option Did) → is_rest n ≡ false → is_some finds ≡ true → may_own n finds ≡ true
-may_so next.Rests finds goes some = absurd cc
-may_so (next.Acts count) finds goes some = some
-may_so _ finds goes some = refl
+may_so n finds goes some = grind arith
 
 owner_acts : (owner : Owner) (done : Did) → did owner ≡ Some done → may_own (next_of owner) (did owner) ≡ true
 owner_acts owner done is = may_so (next_of owner) (did owner) (did_next owner.stage owner (ap is_some is)) (ap is_some is)
 
 -- and so has one that has a note to deliver
 noted_next : (here : OwnerStage) (last : Option Session) (number : JobNumber) → note_at here ≡ Some number → next_at here last ≡ next.Delivers
-noted_next (owner_stage.Wakes poll note) last number is = refl
-noted_next _ last number is = absurd cc
+noted_next here last number is = grind arith
 
 -- ---- whose job it is
 
 -- by its core it is of the owner that holds it, and an answer leaves that
 owner_holds : (c : Core) → owner_in c ≡ as_owner (Some (party_of c))
-owner_holds (core.Call k call) = refl
-owner_holds (core.Session h job) = refl
+owner_holds c = grind arith
 
 answer_stays : (answer : Answer) (c : Core) → owner_in (core_after_answer answer c) ≡ owner_in c
-answer_stays answer (core.Call k call) = refl
-answer_stays answer (core.Session h job) = refl
+answer_stays answer c = grind arith
 
 -- a row that was set for one of the same owner leaves each job its owner
 set_stays : (rows : List Row) (t : ℕ) (old new : Row) → row_of rows t ≡ Some old → owner_in new.core ≡ owner_in old.core → (job : Option ℕ) → owner_of (slice_set rows (t - 1) new) job ≡ owner_of rows job
-set_stays rows t old new found same None = refl
-set_stays rows t old new found same (Some s) = ap owner_by (row_set rows t s old new found) ∙ by (t == s) refl
-  where
-    by : (b : Bool) → (t == s) ≡ b → owner_by (if b then Some new else row_of rows s) ≡ owner_by (row_of rows s)
-    by true is = same ∙ ap owner_by (sym found) ∙ ap (λ n. owner_by (row_of rows n)) (eqb-true t s is)
-    by false is = refl
+set_stays rows t old new found same job = grind (arith, row_set)
 
 -- ---- what is seen of a step
 
@@ -113,11 +74,7 @@ record IsOfStep (past : List Moment) (step : Step) (e : Event) : Type 0 where
 
 -- a step that has no action
 idle_so : (past : List Moment) (step : Step) (e : Event) → Told (named step) None NoAction e → has_action past step ≡ false → IsOfStep past step e
-idle_so past step e told none = record {
-  act = subst (λ b. Happens b past step e.act) (sym none) told.act_is;
-  by = told.party ∙ sym (ap (λ a. if is_nothing a then named step else party past step) told.act_is);
-  of = told.job_is ∙ sym (ap (λ a. if is_nothing a then None else job_of past step a) told.act_is);
-}
+idle_so past step e told none = grind arith
 
 -- what the crew shows of an act is that act
 shown : (who : Party) (job : Option ℕ) (act : Act) (first : ℕ) (growth : Growth) → Told who job act (crew.seen who job act first growth)
@@ -145,13 +102,7 @@ module _ (setting : ℕ) (plan : List Bool) (w : Parts) (past : List Moment) (t 
 
   -- a call of the crew that is a step, and did nothing
   idles_so : (call : crew.Call) → is_pass call ≡ true → IsDue w call → crew.has_action w.crew call ≡ false → IsOfStep past (step_by call) (crew.nothing (crew.named call) (crew.next_start w.crew))
-  idles_so crew.Arrive pass is_due none = idle_so past Arrive _ (shown _ _ _ _ _) (rests Arrive none)
-  idles_so (crew.Take v) pass is_due none = idle_so past (Take v) _ (shown _ _ _ _ _) (rests (Take v) none)
-  idles_so (crew.End v) pass is_due none = let some = is_due.1 in absurd cc
-  idles_so (crew.Wait v Woken) pass is_due none = idle_so past (Wait v) _ (shown _ _ _ _ _) (rests (Wait v) none)
-  idles_so (crew.Wait v TimedOut) pass is_due none = idle_so past (Late v) _ (shown _ _ _ _ _) (rests (Late v) none)
-  idles_so (crew.SetLimit n) pass is_due none = idle_so past (SetLimit n) _ (shown _ _ _ _ _) (rests (SetLimit n) none)
-  idles_so _ pass is_due none = absurd cc
+  idles_so call pass is_due none = grind arith
 
   -- what is seen of a call of the crew alone is of its step
   passes_so : (move : crew.Move) → crew.May (IsPlanned plan) w.crew move → is_pass (crew.call_of move) ≡ true → IsDue w (crew.call_of move) → IsOfStep past (step_by (crew.call_of move)) (crew.event_of w.crew move)
@@ -227,14 +178,7 @@ module _ (setting : ℕ) (plan : List Bool) (w : Parts) (past : List Moment) (t 
 
   -- the job that is seen is the same owner's after the move
   owner_stays : (move : Move) (e : Event) (new : Parts) → May w move → SaidBy w move e → new.rows ≡ rows_after w move → owner_of new.rows e.job ≡ owner_of w.rows e.job
-  owner_stays (Lends h owner added) e new may told rows = ap (owner_of new.rows) told.job_is ∙ sym (ap (owner_of w.rows) told.job_is)
-  owner_stays (Begins added) e new may told rows = ap (owner_of new.rows) told.job_is ∙ sym (ap (owner_of w.rows) told.job_is)
-  owner_stays (Works v job done) e new may told rows =
-      ap (λ all. owner_of all e.job) rows
-      ∙ set_stays w.rows job.held.turn.serial job.row _ (job_here w v job may.0).has_row (same_owner job.held.stage job.row.core w.tasks w.owners done may.1) e.job
-  owner_stays (IsAnswered v job answer) e new may told rows =
-      ap (λ all. owner_of all e.job) rows ∙ set_stays w.rows job.held.turn.serial job.row _ (job_here w v job may.0).has_row (answer_stays answer job.row.core) e.job
-  owner_stays _ e new may told rows = ap (λ all. owner_of all e.job) rows
+  owner_stays move e new may told rows = grind (arith, set_stays, job_here, same_owner, answer_stays)
 
   -- A move keeps the law of steps.
   pub step_law : (move : Move) (e : Event) (new : Parts) → May w move → CrewMoves (IsPlanned plan) move w e new → new.rows ≡ rows_after w move → StepLaw past (moment new (step_of move) e)

@@ -1,11 +1,9 @@
 -- No wake of a task is lost: a task that waits, and whose job is over, was woken. The job of a call is never parked.
-use Rattle.std.proofs.Common.{◌≡◌, ℕ, List, [], Bool, true, false, refl, sym, subst, Option, Some, None, ◌||◌}
+use Rattle.std.proofs.Common.{◌≡◌, ℕ, List, [], Bool, true, false, sym, subst, Option, Some, ◌||◌, arith}
 use Rattle.std.specs.FinMap.{get}
-use Rattle.blocking_parts.proofs.Types.{Action, Standing, Done, Dropped, Parked, Act, Moment, ByTask, Ticket, Core}
-use Rattle.blocking_parts.proofs.Words.{Entry, has_finished, has_given_up, holder, is_parked, standing, events, acts_of, task_cut, Turn, turn, FiledAs, RanAs, Parts, party_of, call_action, is_first, is_at_first, CoreAs, PlaceAs, Tied}
-use Rattle.blocking_core.specs.declared.job.Action.TheVariants as action
+use Rattle.blocking_parts.proofs.Types.{Standing, Parked, Act, Moment, ByTask, Ticket, Core}
+use Rattle.blocking_parts.proofs.Words.{Entry, has_finished, has_given_up, holder, is_parked, standing, events, acts_of, task_cut, Turn, turn, FiledAs, Parts, party_of, is_at_first, CoreAs, PlaceAs, Tied}
 use Rattle.blocking_laws.specs.Wakes.{IsTold, NoLostWake}
-use Rattle.blocking_parts.specs.declared.row.Core.TheVariants as core
 use Rattle.blocking_lanes.proofs.cuts.Acts.{acts_cut}
 use Rattle.blocking_lanes.proofs.ties.Wakes.{told_at}
 use Rattle.blocking_parts.proofs.past.ParkedJobs.{parked_acted}
@@ -13,23 +11,13 @@ use Rattle.blocking_parts.proofs.ties.Jobs.{held_row}
 use Rattle.blocking_parts.proofs.ties.Releases.{task_there}
 
 -- the job of a call that is at its first action hasn't acted
-ran_none : (next : Action) (n : ℕ) (acts : List Act) → is_first (call_action next) ≡ true → RanAs next n acts → acts ≡ []
-ran_none action.Call n acts first ran = ran
-ran_none _ n acts first ran = absurd cc
-
 acts_none : (k : ℕ) (c : Core) (acts : List Act) → party_of c ≡ ByTask k → CoreAs c acts → (is_at_first c ≡ true) × (has_given_up acts ≡ false) → acts ≡ []
-acts_none k (core.Call j call) acts party so place = ran_none call.next call.number acts place.0 (so place.1)
-acts_none k (core.Session h read) acts party so place = absurd cc
+acts_none k c acts party so place = grind arith
 
 -- a job at rest that isn't parked is over, by what was seen of it and what the pool has of it
 pub rests_over : (found : Option (Entry Ticket)) (stand : Option Standing) (wake cancel mark ended : Bool) (at : Turn) (first : Bool) (acts : List Act) → FiledAs found stand wake cancel mark ended
     → PlaceAs stand at first acts → (stand ≡ Some Parked → ⊥) → is_parked stand || ended ≡ true → has_finished acts || has_given_up acts ≡ true
-rests_over found (Some Done) wake cancel mark ended at first acts filed place unparked rest = place
-rests_over found (Some Dropped) wake cancel mark ended at first acts filed place unparked rest = place
-rests_over found (Some Parked) wake cancel mark ended at first acts filed place unparked rest = absurd (unparked refl)
-rests_over found None wake cancel mark ended at first acts filed place unparked rest = absurd place
-rests_over None (Some _) wake cancel mark ended at first acts filed place unparked rest = absurd filed
-rests_over (Some entry) (Some _) wake cancel mark ended at first acts filed place unparked rest = let e = filed.3 in absurd cc
+rests_over found stand wake cancel mark ended at first acts filed place unparked rest = grind arith
 
 module _ (setting : ℕ) (plan : List Bool) (w : Parts) (past : List Moment) (t : Tied setting plan w past) where
   -- the job of a call is never parked

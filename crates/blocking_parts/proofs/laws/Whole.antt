@@ -1,14 +1,13 @@
 -- Each move keeps the ties and the laws: so all parts are lawful.
-use Rattle.std.proofs.Common.{◌≡◌, ◌<◌, ◌≤◌, ◌==◌, ◌-◌, ℕ, List, [], ◌∷◌, length, Bool, true, false, refl, sym, ap, ◌∙◌, subst, arith, Option, Some, None, if◌then◌else◌, ◌||◌, not, is_some, slice_get, Ok}
-use Rattle.blocking_parts.proofs.Types.{Event, Moment, Step, Job, Holds, Out, Held, OwnerNext, Row}
-use Rattle.blocking_parts.proofs.Words.{IsPlanned, standing, events, is_nothing, cut, own, acts_of_owner, under_way, is_poll_over, is_job_action, has_action, named, Crew, hand_in, hand_at, free_hands, busy_hands, next_start, nothing, is_aside, IsNumberOf, CrewHolds, IsAsked, IsAside, Owner, next_of, bytes_of, bytes_to_come, is_busy, polls_in, Move, Idles, Lends, Begins, Works, IsAnswered, step_of, call_of, rows_after, tasks_after, owners_after, May, CrewMoves, Moves, Steps, Parts, row_of, owner_of, next_at, Rowed, moment, Tied, IsLawful}
-use Rattle.blocking_pool.specs.Limits.{limit_of_setting, limit_by, number_of}
+use Rattle.std.proofs.Common.{◌≡◌, ◌<◌, ◌≤◌, ℕ, List, [], ◌∷◌, length, Bool, true, refl, sym, ap, subst, arith, Option, Some, None, ◌||◌, not, is_some, slice_get, Ok}
+use Rattle.blocking_parts.proofs.Types.{Event, Moment, Step, Job, Holds, Held, OwnerNext, Row}
+use Rattle.blocking_parts.proofs.Words.{IsPlanned, standing, events, is_nothing, acts_of_owner, under_way, is_poll_over, is_job_action, has_action, named, Crew, hand_at, free_hands, busy_hands, next_start, nothing, is_aside, IsNumberOf, CrewHolds, IsAsked, IsAside, bytes_of, bytes_to_come, is_busy, polls_in, Move, Idles, Lends, Begins, Works, IsAnswered, step_of, call_of, rows_after, tasks_after, owners_after, May, CrewMoves, Moves, Steps, Parts, row_of, owner_of, next_at, Rowed, moment, Tied, IsLawful}
+use Rattle.blocking_pool.specs.Limits.{limit_of_setting}
 use Rattle.blocking_pool.specs.Pools.{empty_pool}
 use Rattle.blocking_laws.specs.Served.{IsServed}
 use Rattle.blocking_laws.specs.Staffed.{IsStaffed, AreAsSeen}
 use Rattle.blocking_crew.specs.Moves as crew
 use Rattle.blocking_crew.specs.Ties.{Served}
-use Rattle.blocking_lanes.specs.declared.owner.OwnerNext.TheVariants as next
 use Rattle.blocking_crew.proofs.laws.Calls.{served_moved, number_moved}
 use Rattle.blocking_crew.proofs.laws.Staffing.{holding, staffed, as_seen}
 use Rattle.blocking_crew.proofs.laws.Whole.{holds_moved, holds_aside, begins}
@@ -144,18 +143,10 @@ first_parts setting = record { crew = record { pool = empty_pool setting 1 1; ha
 
 -- no job has a row there, nor does a worker hold one
 no_row : (s : ℕ) → row_of [] s ≡ None
-no_row s = by (s == 0) (slice_get [] (s - 1)) refl
-  where
-    by : (b : Bool) (o : Option Row) → o ≡ None → (if b then None else o) ≡ None
-    by true o none = refl
-    by false o none = none
+no_row s = grind arith
 
 no_held : (v : ℕ) (held : Held) → hand_at [] v ≡ Holds held → ⊥
-no_held v held at = by (v == 0) at
-  where
-    by : (b : Bool) → (if b then Out else hand_in None) ≡ Holds held → ⊥
-    by true is = cc
-    by false is = cc
+no_held v held at = grind arith
 
 -- new parts are lawful
 pub begins_lawful : (setting : ℕ) (plan : List Bool) → 0 < setting → IsLawful setting plan (first_parts setting) []
@@ -205,15 +196,9 @@ pub begun : (setting : ℕ) (plan : List Bool) (w : Parts) → w ≡ first_parts
 begun setting plan w is positive =
     subst (λ v. IsLawful v.crew.pool.counts.setting plan v []) (sym is) (begins_lawful setting plan positive)
 
--- what a text names as a limit is above 0
-some_limit : (number : Option ℕ) → 0 < limit_by number
-some_limit None = omega arith
-some_limit (Some number) = omega arith
-
 -- a setting's limit is at least 1
 pub positive_limit : (text : Option (List ℕ)) → 0 < limit_of_setting text
-positive_limit None = omega arith
-positive_limit (Some text) = some_limit (number_of text)
+positive_limit text = grind arith
 
 -- ---- what is read off lawful parts
 
@@ -232,8 +217,7 @@ module _ (setting : ℕ) (plan : List Bool) (w : Parts) (past : List Moment) (la
 
 -- an owner is busy where it doesn't rest
 busy_is : (n : OwnerNext) → is_busy n ≡ not (is_rest n)
-busy_is next.Rests = refl
-busy_is _ = refl
+busy_is n = grind arith
 
 module _ (setting : ℕ) (plan : List Bool) (w : Parts) (past : List Moment) (t : Tied setting plan w past) where
   -- The step of a worker's job has an action where its next action is the job's own.
@@ -242,12 +226,7 @@ module _ (setting : ℕ) (plan : List Bool) (w : Parts) (past : List Moment) (t 
 
   -- An owner's poll is under way where it was seen to be.
   pub polls_is : (h : ℕ) → polls_in (slice_get w.owners h) ≡ not (is_poll_over (under_way (acts_of_owner h (events past))))
-  polls_is h = by (slice_get w.owners h) refl
-    where
-      by : (o : Option Owner) → slice_get w.owners h ≡ o → polls_in o ≡ not (is_poll_over (under_way (acts_of_owner h (events past))))
-      by None none = sym (ap (λ l. not (is_poll_over (under_way (own l)))) (unseen setting plan w past t h none))
-      by (Some owner) found =
-          busy_is (next_of owner) ∙ ap not (sym (rests_next owner (cut h (events past)) (owner_tie setting plan w past t h owner found)))
+  polls_is h = grind (arith, unseen, busy_is, rests_next, owner_tie)
 
 -- The event of a step carries no more bytes than were told before it.
 pub carried : (plan : List Bool) (w new : Parts) (step : Step) (e : Event) → Steps (IsPlanned plan) step w e new

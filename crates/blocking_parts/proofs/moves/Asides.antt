@@ -1,5 +1,5 @@
 -- What an owner does by itself is nothing to the crew.
-use Rattle.std.proofs.Common.{◌≡◌, ℕ, List, length, true, refl, Option, Some, None, arith}
+use Rattle.std.proofs.Common.{◌≡◌, ℕ, List, length, true, refl, Option, Some, arith}
 use Rattle.blocking_parts.proofs.Types.{Act}
 use Rattle.blocking_parts.proofs.Words.{OwnerMachine, Met, JobNumber, is_aside, Owner, Did, drain_did, receive_did, fill_did, did, IsDid, Session, reach, drained, received, filled}
 use Rattle.blocking_parts.proofs.moves.PollActs.{is_look, did_holds}
@@ -31,8 +31,4 @@ acts owner done =
 
 -- so what is told of it may be told
 pub told_aside : (old left : Owner) (act : Act) → IsDid (did old) old (Some act) left → is_aside act ≡ true
-told_aside old left act is = by (did old) refl is
-  where
-    by : (done : Option Did) → did old ≡ done → IsDid done old (Some act) left → is_aside act ≡ true
-    by None found is = let seen = is.0 in absurd cc
-    by (Some done) found is = let aside = acts old done found in let seen = is.0 in cc
+told_aside old left act is = grind (arith, acts)

@@ -1,11 +1,9 @@
 -- The event of a move carries no more bytes than was told before it.
-use Rattle.std.proofs.Common.{◌≡◌, ◌≤◌, inl, inr, ℕ, List, [], ◌∷◌, length, Bool, true, false, refl, sym, ap, ◌∙◌, subst, arith, Option, Some, None, slice_get, min, max, Result, Ok, Err}
+use Rattle.std.proofs.Common.{◌≡◌, ◌≤◌, ℕ, List, [], ◌∷◌, length, Bool, true, false, refl, sym, ap, ◌∙◌, subst, arith, Option, Some, None, slice_get, min, max, Result}
 use Rattle.std.proofs.lemmas.Bool.Decides.{nat_tests}
 use Rattle.std.proofs.lemmas.List.{length-take}
-use Rattle.blocking_parts.proofs.Types.{Action, Refusal, Act, Answered, Asked, Got, Peeked, Event, Answer, Gave, HandleCall, Step, Stage, Parking, Core}
-use Rattle.blocking_parts.proofs.Words.{OwnerMachine, Met, drain, JobNumber, is_bare_answer, is_bare_call, is_bare, IsPlanned, added_act, parked_act, act_of_work, Owner, front_in, next_of, bytes_in, Did, drain_did, receive_did, fill_did, did, Worked, worked, Session, received, filled, Task, bytes_of_answer, bytes_of_call, bytes_of, bytes_to_get, front_at, front_for, bytes_to_find, bytes_to_come, Move, Asks, Owns, Lends, Delivers, Begins, Calls, Works, IsAnswered, Parks, Passes, IsWoken, IsStruck, step_of, May, CrewMoves, Moves, Parts, job_at, call_step_by, call_step, session_step, Done, call_done, session_seen, session_done}
-use Rattle.blocking_core.specs.declared.job.Action.TheVariants as call_action
-use Rattle.blocking_laws.specs.declared.step.HandleCall.TheVariants.{Write}
+use Rattle.blocking_parts.proofs.Types.{Action, Refusal, Act, Event, Step, Stage, Parking, Core}
+use Rattle.blocking_parts.proofs.Words.{OwnerMachine, Met, drain, JobNumber, is_bare, IsPlanned, added_act, parked_act, act_of_work, Owner, front_in, next_of, bytes_in, Did, drain_did, receive_did, fill_did, did, Worked, worked, Session, Task, bytes_of, front_at, front_for, bytes_to_come, Move, step_of, May, CrewMoves, Moves, Parts, call_step_by, call_step, session_step, Done, call_done, session_seen, session_done}
 use Rattle.blocking_crew.specs.declared.hand.Stage.TheVariants as turn
 use Rattle.blocking_lanes.specs.OwnerSteps as steps
 use Rattle.blocking_parts.specs.Rows as rows
@@ -13,7 +11,7 @@ use Rattle.blocking_parts.specs.declared.row.Core.TheVariants as core
 use Rattle.blocking_lanes.proofs.acts.Calls.{by_call}
 use Rattle.blocking_parts.proofs.moves.PollActs.{is_look, did_holds}
 use Rattle.blocking_parts.proofs.moves.SessionActs.{DoesSo, carried_at, moved, seen as seen_at, worked_so}
-use Rattle.blocking_parts.proofs.ties.Events.{SaidBy, said}
+use Rattle.blocking_parts.proofs.ties.Events.{said}
 
 -- nothing carried is no more than anything
 none_more : (bytes : List ℕ) (n : ℕ) → bytes ≡ [] → length bytes ≤ n
@@ -40,17 +38,7 @@ looks : (act : Act) → is_look act ≡ true → bytes_of act ≡ []
 looks act is = grind arith
 
 owner_carries : (owner : Owner) (done : Did) → did owner ≡ Some done → length (bytes_of done.act) ≤ bytes_in (next_of owner)
-owner_carries owner done =
-    did_holds (λ (d : Did). length (bytes_of d.act) ≤ bytes_in (next_of owner)) owner
-    (λ poll at. record {
-      replies = λ told. omega arith;
-      drops = omega arith;
-      closes = λ s here. omega arith;
-      drains = λ most s here goes. rw goes (got_within most s.pipe.items s.pipe.is_job_open s.pipe.job_seat poll s owner);
-      receives = λ s here. none_more _ _ (receives (received s) poll s owner);
-      fills = λ bytes s here. none_more _ _ (fills bytes (filled (length bytes) s) poll s owner);
-      looks = λ act at s new here look number pipe. none_more _ _ (looks act look);
-    }) done
+owner_carries owner done = grind (arith, did_holds, got_within, receives, none_more, fills, looks)
 
 -- ---- what a job does
 
@@ -64,23 +52,14 @@ done_carries : (tasks : List Task) (owners : List Owner) (done : Done) (at : Sta
 done_carries tasks owners done at (core.Call k call) is = by at (slice_get tasks k) is
   where
     runs : (next : Action) (task : Task) → call_done k call turn.Runs tasks owners (Some task) (call_step_by next call.number) ≡ Some done → length (bytes_of done.act) ≤ 0
-    runs call_action.Call task is = absurd cc
-    runs call_action.Done task is = absurd cc
-    runs _ task is = moved (λ (d : Done). length (bytes_of d.act) ≤ 0) _ done is (omega arith)
+    runs next task is = grind arith
 
     by : (at : Stage) (o : Option Task) → call_done k call at tasks owners o (call_step at call) ≡ Some done → length (bytes_of done.act) ≤ 0
-    by at None is = absurd cc
-    by turn.Runs (Some task) is = runs call.next task is
-    by turn.MustGiveUp (Some task) is = moved (λ (d : Done). length (bytes_of d.act) ≤ 0) _ done is (omega arith)
-    by turn.MustWake (Some task) is = moved (λ (d : Done). length (bytes_of d.act) ≤ 0) _ done is (omega arith)
-    by _ (Some task) is = absurd cc
+    by at o is = grind arith
 done_carries tasks owners done at (core.Session h job) is = by at (slice_get owners h) is
   where
     works : (owner : Owner) (did : Worked) → DoesSo job owner did → length (bytes_of did.act) ≤ front_in owner.session
-    works owner did (inl wakes) = none_more (bytes_of did.act) _ (ap bytes_of wakes.0)
-    works owner did (inr at) =
-        subst (λ a. length (bytes_of a) ≤ front_in owner.session) (sym at.act_is)
-        (subst (λ last. length (bytes_of (seen_at at.act)) ≤ front_in last) (sym at.here) (carried_at job at.session at.act at.fits))
+    works owner did o = grind (arith, none_more, seen_at, carried_at)
 
     runs : (owner : Owner) (o : Option Worked) → worked job owner ≡ o → session_seen h job tasks owners owner (steps.Works job) (act_of_work o) ≡ Some done → length (bytes_of done.act) ≤ front_in owner.session
     runs owner None found is = absurd cc
@@ -94,58 +73,25 @@ done_carries tasks owners done at (core.Session h job) is = by at (slice_get own
     by _ (Some owner) is = absurd cc
 
 front_row : (w : Parts) (done : Done) (c : Core) → length (bytes_of done.act) ≤ front_of w.owners c → length (bytes_of done.act) ≤ front_for w c
-front_row w done (core.Call k call) fits = fits
-front_row w done (core.Session h job) fits = fits
+front_row w done c fits = grind arith
 
 -- ---- each move
 
 added_bare : (added : Result JobNumber Refusal) → bytes_of (added_act added) ≡ []
-added_bare (Ok number) = refl
-added_bare (Err why) = refl
+added_bare added = grind arith
 
 parked_bare : (how : Parking) (s : ℕ) → bytes_of (parked_act how s) ≡ []
 parked_bare how s = grind arith
 
-answer_bare : (answer : Answer) → is_bare_answer answer ≡ true → bytes_of_answer answer ≡ []
-answer_bare (Gave bytes) is = absurd cc
-answer_bare _ is = refl
-
-call_bare : (call : HandleCall) → is_bare_call call ≡ true → bytes_of_call call ≡ []
-call_bare (Write bytes) is = absurd cc
-call_bare _ is = refl
-
 act_bare : (act : Act) → is_bare act ≡ true → bytes_of act ≡ []
-act_bare (Asked call) is = call_bare call is
-act_bare (Got bytes told) is = absurd cc
-act_bare (Peeked bytes) is = absurd cc
-act_bare (Answered answer) is = answer_bare answer is
-act_bare _ is = refl
+act_bare act is = grind arith
 
 -- an event of this act, which carries nothing
 bare_told : (act : Act) (e : Event) (n : ℕ) → e.act ≡ act → bytes_of act ≡ [] → length (bytes_of e.act) ≤ n
 bare_told act e n is bare = none_more (bytes_of e.act) n (ap bytes_of is ∙ bare)
 
 carried_by : (plan : List Bool) (w : Parts) (move : Move) (e : Event) (new : Parts) → May w move → CrewMoves (IsPlanned plan) move w e new → length (bytes_of e.act) ≤ bytes_to_come w (step_of move)
-carried_by plan w move e new may does = by move may (said plan w move e new may does)
-  where
-    by : (move : Move) → May w move → SaidBy w move e → length (bytes_of e.act) ≤ bytes_to_come w (step_of move)
-    by (Asks h call owner) may seen = subst (λ a. length (bytes_of a) ≤ length (bytes_of_call call)) (sym seen.act_is) (omega arith)
-    by (Owns h owner done) may seen =
-        subst (λ a. length (bytes_of a) ≤ bytes_to_get (slice_get w.owners h)) (sym seen.act_is)
-        (subst (λ o. length (bytes_of done.act) ≤ bytes_to_get o) (sym may.0) (owner_carries owner done may.1))
-    by (Lends h owner added) may seen = bare_told _ e _ seen.act_is (added_bare added)
-    by (Delivers h owner number) may seen = bare_told _ e _ seen.1.act_is refl
-    by (Begins added) may seen = bare_told _ e _ seen.act_is (added_bare added)
-    by (Calls k call task) may seen = bare_told _ e _ seen.act_is (by_call (λ act. bytes_of act ≡ []) refl (λ n. refl) refl refl refl refl call task)
-    by (Works v job done) may seen =
-        subst (λ a. length (bytes_of a) ≤ bytes_to_find w (job_at w v)) (sym seen.act_is)
-        (subst (λ o. length (bytes_of done.act) ≤ bytes_to_find w o) (sym may.0) (front_row w done job.row.core (done_carries w.tasks w.owners done job.held.stage job.row.core may.1)))
-    by (IsAnswered v job answer) may seen = subst (λ a. length (bytes_of a) ≤ length (bytes_of_answer answer)) (sym seen.act_is) (omega arith)
-    by (Parks v job) may seen = bare_told _ e _ seen.1.act_is (parked_bare seen.0 job.held.turn.serial)
-    by (Passes call) may seen = none_more (bytes_of e.act) _ (act_bare e.act seen.bare)
-    by (IsWoken s row) may seen = bare_told _ e _ seen.1.act_is refl
-    by (IsStruck s row) may seen = bare_told _ e _ seen.1.act_is refl
-    by _ may seen = bare_told _ e _ seen.act_is refl
+carried_by plan w move e new may does = grind (arith, said, owner_carries, bare_told, added_bare, by_call, front_row, done_carries, parked_bare, none_more, act_bare)
 
 -- The event of a step carries no more bytes than were told before it.
 pub carried : (plan : List Bool) (step : Step) (w : Parts) (e : Event) (new : Parts) → Moves (IsPlanned plan) step w e new → length (bytes_of e.act) ≤ bytes_to_come w step

@@ -1,24 +1,21 @@
 -- What a step makes of the row of the job in a worker's hand, and of its task or owner, is a move.
-use Rattle.std.proofs.Common.{◌≡◌, ℕ, ◌-◌, ◌<◌, List, length, Bool, true, false, refl, sym, ap, ◌∙◌, subst, Option, Some, None, slice_index_or, slice_get, slice_set, option_map, is_some, if◌then◌else◌}
+use Rattle.std.proofs.Common.{◌≡◌, ℕ, ◌-◌, ◌<◌, List, length, Bool, true, false, refl, sym, ap, ◌∙◌, subst, Option, Some, None, slice_index_or, slice_get, slice_set, option_map, is_some, arith}
 use Rattle.std.proofs.lemmas.Option.{slice_get_within, slice_get_read}
 use Rattle.blocking_parts.proofs.Types.{Act, Answered, Event, Worker, Answer, End, Io, Job, Hand, Holds, Stage, Core, Row}
-use Rattle.blocking_parts.proofs.Words.{is_answered_action, is_turn_end, Crew, may_end, hand_at, over_in, in_hand_of, next_start, nothing, NeverAsked, Owner, Task, Idles, Works, IsAnswered, Parks, IsDue, Moves, Parts, row_of, InHand, job_with, job_in, job_at, places_of, next_in, next_at, done_by, done_in, let_go_of, Done, done, IsDone, core_after_answer}
+use Rattle.blocking_parts.proofs.Words.{is_answered_action, is_turn_end, Crew, may_end, hand_at, in_hand_of, next_start, nothing, NeverAsked, Owner, Task, Idles, Works, IsAnswered, Parks, IsDue, Moves, Parts, row_of, InHand, job_with, job_in, job_at, places_of, next_in, next_at, done_by, done_in, let_go_of, Done, done, IsDone, core_after_answer}
 use Rattle.blocking_crew.specs.Moves as crew
 use Rattle.blocking_crew.specs.declared.crew.InHand as crew_hand
 use Rattle.blocking_crew.specs.declared.hand.Stage.TheVariants as stage
 use Rattle.blocking_parts.specs.Rows.{next_of}
 use Rattle.blocking_parts.specs.declared.parts.JobAt.{JobAt}
 use Rattle.blocking_pool.proofs.Places.{set_same}
-use Rattle.blocking_parts.proofs.moves.Lookups.{row_found, one_found}
+use Rattle.blocking_parts.proofs.moves.Lookups.{one_found}
 use Rattle.blocking_parts.proofs.ties.Jobs.{job_here}
 
 -- ---- the job in a hand
 
 held_as : (hand : Hand) (here : crew_hand.InHand) → Some here ≡ in_hand_of hand → hand ≡ Holds (record { turn = here.number; stage = here.stage })
-held_as (Holds held) here is =
-    let same : here ≡ record { number = held.turn; stage = held.stage } = cc in
-    ap (λ (h : crew_hand.InHand). Holds (record { turn = h.number; stage = h.stage })) (sym same)
-held_as _ here is = absurd cc
+held_as hand here is = grind arith
 
 -- the job in a hand, by what the crew tells of it and by its row
 pub job_by_row : (w : Parts) (v : ℕ) (here : crew_hand.InHand) (row : Option Row) → Some here ≡ in_hand_of (hand_at w.crew.hands v) → row_of w.rows here.number.serial ≡ row
@@ -33,27 +30,14 @@ pub record Placed (w : Parts) (v : ℕ) (at : JobAt) : Type 0 where
   pub row : slice_get w.rows at.row ≡ Some job.row
 
 pub placed : (w : Parts) (v : ℕ) (at : JobAt) → Some at ≡ option_map places_of (job_at w v) → Placed w v at
-placed w v at is = by (job_at w v) refl is
-  where
-    by : (o : Option InHand) → job_at w v ≡ o → Some at ≡ option_map places_of o → Placed w v at
-    by None found is = absurd cc
-    by (Some job) found is =
-        let same : at ≡ places_of job = cc in
-        record {
-          job = job;
-          job_is = found;
-          at_is = same;
-          row = ap (λ (p : JobAt). slice_get w.rows p.row) same ∙ (row_found w.rows job.held.turn.serial job.row (job_here w v job found).has_row).1;
-        }
+placed w v at is = grind arith
 
 pub row_within : (w : Parts) (v : ℕ) (at : JobAt) → Some at ≡ option_map places_of (job_at w v) → at.row < length w.rows
 row_within w v at is = let p = placed w v at is in slice_get_within w.rows at.row p.job.row p.row
 
 -- the row that is read there is that of the job
 pub row_read : (w : Parts) (v : ℕ) (at : JobAt) (is : Some at ≡ option_map places_of (job_at w v)) (old : Row) → old ≡ slice_index_or w.rows at.row old → (placed w v at is).job.row ≡ old
-row_read w v at is old value =
-    let p = placed w v at is in
-    one_found (slice_get w.rows at.row) p.job.row old p.row (slice_get_read w.rows (length w.rows) at.row old refl (row_within w v at is) value)
+row_read w v at is old value = grind (arith, placed, one_found, slice_get_read, row_within)
 
 -- what its worker does next
 pub next_placed : (w : Parts) (v : ℕ) (at : JobAt) (is : Some at ≡ option_map places_of (job_at w v)) (old : Row) → old ≡ slice_index_or w.rows at.row old → next_at w v ≡ next_of at.stage old.core
@@ -62,8 +46,7 @@ next_placed w v at is old value =
     ap next_in p.job_is ∙ ap (λ (r : Row). next_of p.job.held.stage r.core) (row_read w v at is old value) ∙ sym (ap (λ (q : JobAt). next_of q.stage old.core) p.at_is)
 
 none_at : (o : Option InHand) → None ≡ option_map places_of o → o ≡ None
-none_at None is = refl
-none_at (Some job) is = absurd cc
+none_at o is = grind arith
 
 pub none_next : (w : Parts) (v : ℕ) → None ≡ option_map places_of (job_at w v) → next_at w v ≡ next_in None
 none_next w v none = ap next_in (none_at (job_at w v) none)
@@ -79,9 +62,7 @@ pub record Acted (w : Parts) (at : JobAt) (old : Row) (core : Core) (tasks : Lis
   pub is_done : IsDone (done at.stage old.core w.tasks w.owners) old.core w.tasks w.owners act core tasks owners
 
 done_same : (w : Parts) (v : ℕ) (at : JobAt) (is : Some at ≡ option_map places_of (job_at w v)) (old : Row) → old ≡ slice_index_or w.rows at.row old → done at.stage old.core w.tasks w.owners ≡ done_by w (placed w v at is).job
-done_same w v at is old value =
-    let p = placed w v at is in
-    ap (λ (q : JobAt). done q.stage old.core w.tasks w.owners) p.at_is ∙ ap (λ (r : Row). done p.job.held.stage r.core w.tasks w.owners) (sym (row_read w v at is old value))
+done_same w v at is old value = grind (arith, placed, row_read)
 
 pub job_acts : (w : Parts) (v : ℕ) (at : JobAt) (old : Row) (core : Core) (tasks : List Task) (owners : List Owner) (act : Act) (e : Event) (new : Crew) → Some at ≡ option_map places_of (job_at w v)
     → Acted w at old core tasks owners (Some act) → crew.Moves NeverAsked (crew.Work v act) w.crew e new
@@ -167,18 +148,9 @@ parked w v at old mark e new is value waits mark_is does =
 -- ---- its turn ends
 
 ends_here : (at : Stage) (c : Core) → is_turn_end (next_of at c) ≡ true → (at ≡ stage.Waits → ⊥) → may_end at ≡ true
-ends_here stage.Runs c ends other = refl
-ends_here stage.GaveUp c ends other = refl
-ends_here stage.Waits c ends other = absurd (other refl)
-ends_here stage.MustGiveUp c ends other = absurd cc
-ends_here stage.MustWake c ends other = absurd cc
+ends_here at c ends other = grind arith
 
 -- a turn with nothing left to do may end, where its job doesn't wait
 pub due : (w : Parts) (v : ℕ) (at : JobAt) (old : Row) (is : Some at ≡ option_map places_of (job_at w v)) → old ≡ slice_index_or w.rows at.row old → is_turn_end (next_of at.stage old.core) ≡ true
     → (at.stage ≡ stage.Waits → ⊥) → IsDue w (crew.End v)
-due w v at old is value ends other =
-    let p = placed w v at is in
-    let may : may_end p.job.held.stage ≡ true = ap (λ (q : JobAt). may_end q.stage) (sym p.at_is) ∙ ends_here at.stage old.core ends other in (
-      ap is_turn_end (next_placed w v at is old value) ∙ ends,
-      ap (λ h. is_some (over_in h)) (job_here w v p.job p.job_is).holds ∙ ap (λ b. is_some (if b then Some p.job.held else None)) may,
-    )
+due w v at old is value ends other = grind (arith, placed, ends_here, next_placed, job_here)

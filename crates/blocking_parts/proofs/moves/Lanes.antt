@@ -1,5 +1,5 @@
 -- What an act of a job does at its task or at its owner is what it does to all of them.
-use Rattle.std.proofs.Common.{◌≡◌, ℕ, List, length, refl, sym, ap, ◌∙◌, subst, Option, Some, None, slice_get, slice_set}
+use Rattle.std.proofs.Common.{◌≡◌, ℕ, List, length, refl, sym, ap, ◌∙◌, subst, Option, Some, None, slice_get, slice_set, arith}
 use Rattle.std.proofs.Math.ListN.{length-set}
 use Rattle.blocking_parts.proofs.Types.{Act, Stage, SessionJob, Core}
 use Rattle.blocking_parts.proofs.Words.{OwnerStep, act_of_work, owner_after_work, job_after_work, Owner, Worked, worked, TaskStep, Task, call_step, session_step, Done, call_done, session_seen, session_done, done, IsDone, IsActed, IsActedFor}
@@ -13,12 +13,7 @@ use Rattle.blocking_parts.proofs.moves.SessionActs.{moved}
 -- the job of a call
 pub call_acts : (tasks : List Task) (owners : List Owner) (k : ℕ) (call new_call : calls.Progress) (at : Stage) (task new_task : Task) (seen : Option Act) → slice_get tasks k ≡ Some task
     → IsActed (call_step at call) at call task seen new_call new_task → IsDone (done at (core.Call k call) tasks owners) (core.Call k call) tasks owners seen (core.Call k new_call) (slice_set tasks k new_task) owners
-call_acts tasks owners k call new_call at task new_task seen found acts =
-    subst (λ o. IsDone (call_done k call at tasks owners o (call_step at call)) (core.Call k call) tasks owners seen (core.Call k new_call) (slice_set tasks k new_task) owners) (sym found) (by (call_step at call) acts)
-  where
-    by : (o : Option TaskStep) → IsActed o at call task seen new_call new_task → IsDone (call_done k call at tasks owners (Some task) o) (core.Call k call) tasks owners seen (core.Call k new_call) (slice_set tasks k new_task) owners
-    by None is = (is.0, ap (core.Call k) is.1, ap (slice_set tasks k) is.2 ∙ set_same tasks k task found, refl)
-    by (Some step) is = (is.0, ap (core.Call k) is.1, ap (slice_set tasks k) is.2, refl)
+call_acts tasks owners k call new_call at task new_task seen found acts = grind (arith, set_same)
 
 -- the job of a session
 pub session_acts : (tasks : List Task) (owners : List Owner) (h : ℕ) (read new_read : SessionJob) (at : Stage) (owner new_owner : Owner) (seen : Option Act) → slice_get owners h ≡ Some owner

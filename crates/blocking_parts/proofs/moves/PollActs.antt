@@ -1,5 +1,5 @@
 -- What a poll of an owner does that asks no pool is one of these few acts, whatever the owner was asked for.
-use Rattle.std.proofs.Common.{◌≡◌, ℕ, List, ◌∷◌, length, Bool, true, false, refl, ap, Option, Some, None}
+use Rattle.std.proofs.Common.{◌≡◌, ℕ, List, ◌∷◌, length, Bool, true, false, refl, ap, Option, Some, None, arith}
 use Rattle.blocking_parts.proofs.Types.{Fault, OwnerAction, Act, Reply as Told, HandleCall, OwnerStage}
 use Rattle.blocking_parts.proofs.Words.{OwnerMachine, owner_next, Content, Empty, Full, Abandoned, Owner, item_in, reply_as, next_by, next_of, Did, looked_as, awaited_as, close_did, drain_did, receive_did, fill_did, fill_did_in, drop_did, stage_after_reply, look_did, find_did, reply_did, did_in, did_by, did, OfBytes, OfItems, Session, reach, drained, received, session_after_look, session_after_find, filled}
 use Rattle.blocking_core.specs.declared.unblock.OwnerAction.TheVariants as action
@@ -32,8 +32,7 @@ module _ (P : Did → Type 0) (owner : Owner) where
 
   module _ (poll : OwnerMachine ℕ) (each : OfEach poll) (done : Did) where
     of_reply : (told : Option Told) → reply_did told poll owner ≡ Some done → P done
-    of_reply (Some told) is = moved P _ done is (each.replies told)
-    of_reply None is = absurd cc
+    of_reply told is = grind arith
 
     of_fill : (asked : Option HandleCall) (last : Option Session) → owner.session ≡ last → fill_did_in poll asked last owner ≡ Some done → P done
     of_fill (Some (handle_call.Write (byte ∷ bytes))) (Some s) here is = moved P _ done (through_some OfBytes s.goods _ done is).1 (each.fills (byte ∷ bytes) s here)

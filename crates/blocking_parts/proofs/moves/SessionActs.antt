@@ -1,9 +1,9 @@
 -- What the job of a session does that is its own to do: it calls the waker that it took, or acts at the session. The other files go by these few
 -- acts, whatever kind of job it is.
-use Rattle.std.proofs.Common.{◌≡◌, ◌⊎◌, inl, inr, ◌≤◌, ℕ, List, [], ◌∷◌, length, Bool, true, false, refl, sym, ap, ◌∙◌, subst, arith, Option, Some, None, if◌then◌else◌, nat_le, min, take, ◌&&◌, not}
+use Rattle.std.proofs.Common.{◌≡◌, ◌⊎◌, inl, ◌≤◌, ℕ, List, [], ◌∷◌, length, Bool, true, false, refl, ap, ◌∙◌, subst, arith, Option, Some, None, if◌then◌else◌, nat_le, min, take, ◌&&◌, not}
 use Rattle.std.proofs.lemmas.List.{length-take}
 use Rattle.blocking_parts.proofs.Types.{Fault, ItemAction, OperationAction, ReadAction, SeekAction, WriteAction, Act, Finished, HolderWoken, JobClosed, JobParked, ResultPut, TakenOut, SessionJob}
-use Rattle.blocking_parts.proofs.Words.{item_next, operation_next, room, Met, Served, Waiting, peek, read_next, seek_next, after_put, write_next, FindRoom, Peek, SendItem, waker_in, is_of_pool, is_nothing, is_answered, may_act, Owner, number_of, Worked, worked_by, calls_waker, read_in, read_as, write_in, write_as, stream_in, stream_as, seek_in, seek_as, operate_in, operate_as, worked, Goods, OfBytes, OfItems, through, Session, found_room, session_after_room, found_put, session_after_put, fits_in, closing_wakes, finish_wakes, session_after_job_close, session_after_finish, front, found_piece, session_after_peek, holds, session_after_consume, Work, work_at_put, work_by, work_of_consume, writer_works, found_send, session_after_send, streamer_works, result_wakes, bytes_of, is_first}
+use Rattle.blocking_parts.proofs.Words.{item_next, operation_next, room, Met, Served, Waiting, peek, read_next, seek_next, after_put, write_next, FindRoom, Peek, SendItem, waker_in, is_of_pool, is_nothing, is_answered, may_act, Owner, Worked, worked_by, calls_waker, read_in, read_as, write_in, write_as, stream_in, stream_as, seek_in, seek_as, operate_in, operate_as, worked, Goods, OfBytes, OfItems, through, Session, found_room, session_after_room, found_put, session_after_put, fits_in, closing_wakes, finish_wakes, session_after_job_close, session_after_finish, front, found_piece, session_after_peek, holds, session_after_consume, Work, work_at_put, work_by, work_of_consume, writer_works, found_send, session_after_send, streamer_works, result_wakes, bytes_of, is_first}
 use Rattle.blocking_core.specs.Places.{hand_in}
 use Rattle.blocking_core.specs.declared.job.item.ItemAction.TheVariants as item
 use Rattle.blocking_core.specs.declared.job.operation.OperationAction.TheVariants as operation
@@ -20,7 +20,6 @@ use Rattle.blocking_lanes.specs.SessionJobs.{action_of, kind_of}
 use Rattle.blocking_lanes.specs.Streams as streams
 use Rattle.blocking_lanes.specs.Writes as writes
 use Rattle.blocking_lanes.specs.declared.job.SessionJob.TheVariants as job_of
-use Rattle.blocking_lanes.proofs.owners.Goods.{through_some}
 
 -- An act of a job at its session, by what it finds there.
 pub data SessionAct : Type 0 where
@@ -90,17 +89,12 @@ moved P x y e holds = let same : x ≡ y = cc in subst P same holds
 
 -- what fits needn't wait
 never_waits : (n free : ℕ) (lasts : Bool) (seat : Option (Unit {0})) → nat_le n free ≡ true → hand_in n free lasts seat ≡ Waiting → ⊥
-never_waits n free false seat fits is = cc
-never_waits n free true seat fits is = let served = ap (λ b. if b then Served seat else Waiting) fits in cc
+never_waits n free lasts seat fits is = grind arith
 
 -- what is done where such things pass as are wanted would be done anyhow
 works_anyhow : (J : Type 0) (of : J → SessionJob) (wanted there : Goods) (work : Option (Work J)) (owner : Owner) (done : Worked) → worked_by of (through wanted there work) owner ≡ Some done
     → worked_by of work owner ≡ Some done
-works_anyhow J of wanted there work owner done does = by (through wanted there work) refl does
-  where
-    by : (o : Option (Work J)) → through wanted there work ≡ o → worked_by of o owner ≡ Some done → worked_by of work owner ≡ Some done
-    by None is does = absurd cc
-    by (Some some) is does = ap (λ o. worked_by of o owner) (through_some wanted there work some is).1 ∙ does
+works_anyhow J of wanted there work owner done does = grind arith
 
 -- what becomes of a job that acts so
 abbrev acting : SessionJob → Owner → Session → SessionAct → Worked
@@ -116,11 +110,7 @@ module _ (owner : Owner) (done : Worked) where
   -- with no session nothing is done
   at_last : (job : SessionJob) (works : Option Session → Option Worked) → works None ≡ None → ((s : Session) → owner.session ≡ Some s → works (Some s) ≡ Some done → ActsAt job owner done)
       → works owner.session ≡ Some done → DoesSo job owner done
-  at_last job works none at does = by owner.session refl does
-    where
-      by : (last : Option Session) → owner.session ≡ last → works last ≡ Some done → DoesSo job owner done
-      by None here does = absurd cc
-      by (Some s) here does = inr (at s here does)
+  at_last job works none at does = grind arith
 
   -- a job that reads
   read_at : (a : ReadAction) (p : reads.Progress) → read_next p.core ≡ a → (s : Session) → owner.session ≡ Some s → worked_by job_of.Read (work_by a p s) owner ≡ Some done → ActsAt (job_of.Read p) owner done
@@ -198,38 +188,12 @@ worked_so (job_of.Items p) owner done does = stream_does owner done (item_next p
 -- ---- what each act is
 
 -- only a job at its first action parks
-pub parks_first : (job : SessionJob) (s : Session) (act : SessionAct) → Fits act job s → seen act ≡ JobParked → is_first (action_of job) ≡ true
-parks_first job s (FindsRoom met) fits parks = ap is_first fits
-parks_first job s (Puts piece Waiting) fits parks = absurd (fits refl)
-parks_first job s (Sends x met) fits parks = ap is_first fits
-parks_first job s (Peeks met) fits parks = ap is_first fits.0
-parks_first job s _ fits parks = absurd cc
-
 pub first_where_parked : (job : SessionJob) (owner : Owner) (done : Worked) → worked job owner ≡ Some done → done.act ≡ JobParked → is_first (action_of job) ≡ true
-first_where_parked job owner done does parks = by (worked_so job owner done does)
-  where
-    by : DoesSo job owner done → is_first (action_of job) ≡ true
-    by (inl wakes) = absurd (let woken = wakes.0 in cc)
-    by (inr at) = parks_first job at.session at.act at.fits (sym at.act_is ∙ parks)
+first_where_parked job owner done does parks = grind arith
 
--- the session stays that of its job
-pub same_number : (act : SessionAct) (s : Session) → (after act s).number ≡ s.number
-same_number act s = grind arith
-
-pub number_worked : (job : SessionJob) (owner : Owner) (done : Worked) → worked job owner ≡ Some done → number_of done.owner ≡ number_of owner
-number_worked job owner done does = by (worked_so job owner done does)
-  where
-    by : DoesSo job owner done → number_of done.owner ≡ number_of owner
-    by (inl wakes) = ap number_of wakes.1
-    by (inr at) = ap number_of at.owner_is ∙ ap Some (same_number at.act at.session) ∙ sym (ap (λ last. number_of (record owner { session = last })) at.here)
-
--- and it stays of its kind
+-- a job stays of its kind
 pub same_kind : (job : SessionJob) (owner : Owner) (done : Worked) → worked job owner ≡ Some done → kind_of done.job ≡ kind_of job
-same_kind job owner done does = by (worked_so job owner done does)
-  where
-    by : DoesSo job owner done → kind_of done.job ≡ kind_of job
-    by (inl wakes) = wakes.2
-    by (inr at) = at.kind_is
+same_kind job owner done does = grind arith
 
 -- it is done while the job's turn goes on
 pub fits_turn : (act : SessionAct) → may_act stage.Runs (seen act) ≡ true
@@ -252,8 +216,4 @@ front_found (x ∷ xs) is_open found is =
     omega (arith, count)
 
 pub carried_at : (job : SessionJob) (s : Session) (act : SessionAct) → Fits act job s → length (bytes_of (seen act)) ≤ front s
-carried_at job s (FindsRoom (Served n)) fits = omega arith
-carried_at job s (Puts piece (Served seat)) fits = omega arith
-carried_at job s (Sends x (Served seat)) fits = omega arith
-carried_at job s (Peeks (Served piece)) fits = front_found s.pipe.items s.pipe.is_owner_open piece fits.1
-carried_at job s _ fits = omega arith
+carried_at job s act fits = grind (arith, front_found)

@@ -1,5 +1,5 @@
 -- What each step makes of the parts is a move.
-use Rattle.std.proofs.Common.{◌≡◌, ◌⊎◌, ⊎_elim, ℕ, ◌<◌, ◌++◌, List, [], ◌∷◌, length, Bool, true, false, refl, sym, ap, ◌∙◌, subst, if◌then◌else◌, Option, Some, None, slice_index_or, slice_get, slice_set, is_ok, is_some, Result, Ok, Err, IfOk}
+use Rattle.std.proofs.Common.{◌≡◌, ◌⊎◌, ⊎_elim, ℕ, ◌<◌, ◌++◌, List, [], ◌∷◌, length, Bool, true, false, refl, sym, ap, ◌∙◌, subst, if◌then◌else◌, Option, Some, None, slice_index_or, slice_get, slice_set, is_ok, is_some, Result, IfOk, arith}
 use Rattle.std.proofs.lemmas.Option.{slice_get_read}
 use Rattle.blocking_parts.proofs.Types.{Refusal, Act, Asked, HolderDropped, Made, Event, ByOwner, Pool, ByTask, HandleCall, Step, Ask, DropOwner, New, OfTask, Own, Spawn, Stray, Strike, TaskCall, Cancel, Detach, Drop, Poll, Row}
 use Rattle.blocking_parts.proofs.Words.{Narrows, JobNumber, named, Crew, next_start, nothing, NeverAsked, Owner, new_owner, number_of, note_at, next_of, owner_after_ask, Did, did, IsDid, new_job_of, owner_after_delivery, owner_after_drop, Task, task_act, task_after_call, Move, Idles, Makes, Asks, Owns, Lends, Delivers, IsDropped, Begins, Calls, Passes, IsWoken, IsStruck, step_by, task_call, rows_after_add, tasks_after_add, lent_step, may_call_in, rests_in, may_ask_in, may_own, may_own_in, has_action_in, is_pass, IsDue, CrewMoves, Moves, Parts, row_of, let_go_of, call_row, session_row}
@@ -168,5 +168,4 @@ delivered may_answer w h old left note e new within value noted left_is does =
 
 -- what holds of a value holds of it under another name
 pub ok_map : {A B : Type 0} (r : Result A B) (P Q : A → Type 0) → ((a : A) → P a → Q a) → IfOk r P → IfOk r Q
-ok_map (Ok a) P Q f is = f a is
-ok_map (Err e) P Q f is = is
+ok_map r P Q f is = grind arith

@@ -1,8 +1,8 @@
 -- Who holds a job: it has a holder exactly if it was accepted.
-use Rattle.std.proofs.Common.{◌≡◌, ℕ, ◌==◌, List, [], ◌∷◌, Bool, true, false, refl, sym, ap, ◌∙◌, Option, Some, if◌then◌else◌, is_some}
+use Rattle.std.proofs.Common.{◌≡◌, ℕ, ◌==◌, List, [], ◌∷◌, Bool, true, false, refl, sym, ◌∙◌, Option, Some, if◌then◌else◌, is_some}
 use Rattle.std.proofs.lemmas.Bool.{eqb-true, eqb-false}
-use Rattle.blocking_parts.proofs.Types.{Act, Accepted, Moment, Party, ByOwner, ByTask}
-use Rattle.blocking_parts.proofs.Words.{is_in, accepted_by, accepted_jobs, accepts, newcomer, holder, is_holder, joined}
+use Rattle.blocking_parts.proofs.Types.{Act, Accepted, Moment, Party}
+use Rattle.blocking_parts.proofs.Words.{is_in, accepted_by, accepted_jobs, accepts, newcomer, holder, joined}
 use Rattle.blocking_pool.proofs.Lists.{is_in-last, is_in-push}
 
 known_by : (act : Act) (s : ℕ) (jobs : List ℕ) (new : Party) (held : Option Party) → is_some held ≡ is_in s jobs → is_some (if accepts s act then Some new else held) ≡ is_in s (joined jobs (accepted_by act))
@@ -16,9 +16,3 @@ known_by _ s jobs new held before = before
 pub holder_known : (past : List Moment) (s : ℕ) → is_some (holder past s) ≡ is_in s (accepted_jobs past)
 holder_known [] s = refl
 holder_known (now ∷ past) s = known_by now.event.act s (accepted_jobs past) (newcomer past now.event.party) (holder past s) (holder_known past s)
-
--- a holder that is this party is no other
-pub holder_is : (held : Option Party) (who : Party) → is_holder held who ≡ true → held ≡ Some who
-holder_is (Some (ByOwner h)) (ByOwner g) is = ap (λ n. Some (ByOwner n)) (sym (eqb-true g h is))
-holder_is (Some (ByTask k)) (ByTask j) is = ap (λ n. Some (ByTask n)) (sym (eqb-true j k is))
-holder_is _ who is = absurd cc

@@ -1,20 +1,8 @@
 -- What the past alone says of a job that is parked: it has acted, since it parks only after its own act.
-use Rattle.std.proofs.Common.{◌≡◌, ℕ, ◌==◌, List, [], ◌∷◌, Bool, true, false, refl, sym, ap, ◌∙◌, Some, if◌then◌else◌, ◌&&◌}
-use Rattle.std.proofs.lemmas.Bool.{eqb-true}
-use Rattle.blocking_parts.proofs.Types.{Entered, Standing, Parked, Queued, Running, Act, Accepted, Ended, HandedOut, JobCancelled, JobWoken, Took, TookDropped, Event, Moment}
-use Rattle.blocking_parts.proofs.Words.{end_of, PoolAnswers, is_marked, sweeps, stands_by, is_parked, standing, PoolLaw, EachMayFollow, events, is_of_job, acts_of, Turn, GoesOn, IsWaiting, MustGiveUp, turn_by, turn}
+use Rattle.std.proofs.Common.{◌≡◌, ℕ, ◌==◌, List, [], ◌∷◌, Bool, true, false, refl, sym, ◌∙◌, Some, if◌then◌else◌, ◌&&◌, arith}
+use Rattle.blocking_parts.proofs.Types.{Entered, Standing, Parked, Queued, Running, Act, Accepted, Ended, JobCancelled, JobWoken, Took, TookDropped, Event, Moment}
+use Rattle.blocking_parts.proofs.Words.{end_of, PoolAnswers, is_marked, sweeps, stands_by, is_parked, standing, PoolLaw, EachMayFollow, events, is_of_job, acts_of, Turn, IsWaiting, turn}
 use Rattle.blocking_lanes.proofs.cuts.Acts.{acts_more}
-
--- an event that is no act of a job leaves no job waiting that didn't wait before
-turned : (b : Bool) (other before : Turn) → (other ≡ IsWaiting → ⊥) → (if b then other else before) ≡ IsWaiting → before ≡ IsWaiting
-turned true other before goes is = absurd (goes is)
-turned false other before goes is = is
-
-waited : (act : Act) (s : ℕ) (before : Turn) → turn_by act false s before ≡ IsWaiting → before ≡ IsWaiting
-waited (Took t) s before is = turned (t == s) GoesOn before (λ e. cc) is
-waited (TookDropped t) s before is = turned (t == s) MustGiveUp before (λ e. cc) is
-waited (HandedOut t) s before is = turned (t == s) MustGiveUp before (λ e. cc) is
-waited _ s before is = is
 
 -- what has acted just now has acted
 acted : (s : ℕ) (e : Event) (X : List Event) → is_of_job s e ≡ true → acts_of s (e ∷ X) ≡ [] → ⊥
@@ -26,15 +14,11 @@ waits_acted [] s waits none = cc
 waits_acted (now ∷ past) s waits none = by (is_of_job s now.event) refl (waits_acted past s)
   where
     by : (b : Bool) → is_of_job s now.event ≡ b → (turn past s ≡ IsWaiting → acts_of s (events past) ≡ [] → ⊥) → ⊥
-    by true own before = acted s now.event (events past) own none
-    by false out before =
-        before (waited now.event.act s (turn past s) (ap (λ b. turn_by now.event.act b s (turn past s)) (sym out) ∙ waits))
-        (sym (acts_more s now.event (events past) false out) ∙ none)
+    by b own before = grind arith
 
 -- a turn ends parked only where its job waits
 ends_parked : (at : Turn) (drop woken : Bool) (s : ℕ) → Ended s Parked ≡ end_of at drop woken s → at ≡ IsWaiting
-ends_parked IsWaiting drop woken s is = refl
-ends_parked _ drop woken s is = absurd cc
+ends_parked at drop woken s is = grind arith
 
 -- a job that is parked has acted
 pub parked_acted : (setting : ℕ) (plan : List Bool) (past : List Moment) → EachMayFollow (PoolLaw setting plan) past → (s : ℕ) → standing past s ≡ Some Parked → acts_of s (events past) ≡ [] → ⊥
@@ -45,16 +29,11 @@ parked_acted setting plan (now ∷ past) laws s parked none = by (is_of_job s no
     quiet_before out = sym (acts_more s now.event (events past) false out) ∙ none
 
     enters : (b : Bool) (how : Standing) → (how ≡ Parked → ⊥) → (standing past s ≡ Some Parked → ⊥) → (if b then Some how else standing past s) ≡ Some Parked → ⊥
-    enters true how other still is = other cc
-    enters false how other still is = still is
+    enters b how other still is = grind arith
 
     ends : (how : Standing) (t : ℕ) (b : Bool) → (t == s) ≡ b → acts_of s (events past) ≡ [] → PoolAnswers setting past now (Ended t how) → (standing past s ≡ Some Parked → ⊥)
         → (if b then Some how else standing past s) ≡ Some Parked → ⊥
-    ends how t true same quiet answers still is =
-        let one : how ≡ Parked = cc in
-        let here : t ≡ s = eqb-true t s same in
-        waits_acted past t (ends_parked (turn past t) _ _ t (ap (Ended t) (sym one) ∙ answers)) (ap (λ n. acts_of n (events past)) here ∙ quiet)
-    ends how t false other quiet answers still is = still is
+    ends how t b same quiet answers still is = grind (arith, waits_acted, ends_parked)
 
     stood : (act : Act) → PoolAnswers setting past now act → acts_of s (events past) ≡ [] → (standing past s ≡ Some Parked → ⊥) → stands_by act s (standing past s) ≡ Some Parked → ⊥
     stood (Accepted t) answers quiet still is = enters (t == s) Queued (λ e. cc) still is

@@ -1,8 +1,8 @@
 -- How a job stands where the pool takes it, by the law of the pool.
-use Rattle.std.proofs.Common.{◌≡◌, ℕ, ◌==◌, List, [], ◌∷◌, length, filter, cond, Bool, true, false, refl, sym, ap, ◌∙◌, Option, Some, if◌then◌else◌, suc}
+use Rattle.std.proofs.Common.{◌≡◌, ℕ, ◌==◌, List, ◌∷◌, length, filter, cond, Bool, refl, sym, ap, ◌∙◌, Option, Some, suc, arith}
 use Rattle.std.proofs.lemmas.Bool.{eq-eqb}
 use Rattle.blocking_parts.proofs.Types.{Standing, Queued, Act, Took, TookDropped, Moment}
-use Rattle.blocking_parts.proofs.Words.{one_if, take_from, is_to_drop, is_queued, standing, PoolLaw, queue, times, EachMayFollow}
+use Rattle.blocking_parts.proofs.Words.{one_if, take_from, is_queued, standing, PoolLaw, queue, times, EachMayFollow}
 use Rattle.blocking_laws.proofs.Queues.{queued_so}
 
 -- whether an act takes this job, to be run or to be dropped
@@ -12,16 +12,10 @@ Takes (TookDropped t) s = t ≡ s
 Takes act s = ⊥
 
 front : (past : List Moment) (s : ℕ) (jobs : List ℕ) → Takes (take_from past jobs) s → (more : List ℕ) × (jobs ≡ s ∷ more)
-front past s [] takes = absurd takes
-front past s (t ∷ more) takes = (more, ap (λ n. n ∷ more) (by (is_to_drop past t) takes))
-  where
-    by : (b : Bool) → Takes (if b then TookDropped t else Took t) s → t ≡ s
-    by true is = is
-    by false is = is
+front past s jobs takes = grind arith
 
 queued_if : (stand : Option Standing) (n : ℕ) → suc n ≡ one_if (is_queued stand) → stand ≡ Some Queued
-queued_if (Some Queued) n is = refl
-queued_if _ n is = absurd cc
+queued_if stand n is = grind arith
 
 -- a job that is taken was queued
 pub taken_queued : (setting : ℕ) (plan : List Bool) (past : List Moment) → EachMayFollow (PoolLaw setting plan) past → (s : ℕ) → Takes (take_from past (queue past)) s → standing past s ≡ Some Queued

@@ -1,17 +1,12 @@
 -- What an act of the job in a hand leaves of it: how far its core is, where it is in its turn, and of whom it is.
-use Rattle.std.proofs.Common.{◌≡◌, inl, inr, ℕ, List, [], ◌∷◌, Bool, true, false, refl, sym, ap, ◌∙◌, subst, Option, Some, None, if◌then◌else◌, ◌&&◌, slice_get}
-use Rattle.blocking_parts.proofs.Types.{Action, Standing, Queued, Running, Act, Answered, Drained, Finished, GaveUp, HolderWoken, JobClosed, JobParked, Lost, Peeked, Put, ResultPut, RoomFree, RoomShut, TakenOut, Moment, Answer, Number, Stage, SessionJob, Core}
-use Rattle.blocking_parts.proofs.Words.{Finish, next_but_wake, next_of_job, is_answer, has_given_up, accepted_by, holder, ends_for_good, sweeps, stands_by, is_parked, waker_in, events, is_of_pool, is_nothing, acts_of, next_in_turn, is_answered_action, is_making, GoesOn, turn_by, may_act, stage_after, turn_of, RanAs, Owner, Worked, worked, JobAs, Task, Parts, party_of, kind_of as kind_in_row, call_action, action_of, is_first, is_at_first, call_step, session_step, Done, call_done, session_seen, session_done, done, core_after_answer, CoreAs, PlaceAs, GaveAs, Tied}
-use Rattle.blocking_core.specs.Cores.{call_after}
-use Rattle.blocking_core.specs.declared.job.Action.TheVariants as action
-use Rattle.blocking_core.specs.declared.job.Answer.TheVariants as answer
-use Rattle.blocking_laws.specs.declared.event.HolderWaker.TheVariants.{Taken, Absent}
+use Rattle.std.proofs.Common.{◌≡◌, ℕ, List, [], ◌∷◌, Bool, true, false, refl, sym, ap, ◌∙◌, subst, Option, Some, None, if◌then◌else◌, ◌&&◌, slice_get, arith}
+use Rattle.blocking_parts.proofs.Types.{Action, Standing, Queued, Running, Act, Answered, JobParked, Moment, Answer, Stage, SessionJob, Core}
+use Rattle.blocking_parts.proofs.Words.{next_but_wake, next_of_job, is_answer, has_given_up, accepted_by, holder, ends_for_good, sweeps, stands_by, is_parked, events, is_of_pool, is_nothing, acts_of, next_in_turn, is_answered_action, is_making, GoesOn, turn_by, may_act, stage_after, turn_of, RanAs, Owner, Worked, worked, JobAs, Task, Parts, party_of, kind_of as kind_in_row, call_action, action_of, is_first, is_at_first, call_step, session_step, Done, call_done, session_seen, session_done, done, core_after_answer, CoreAs, PlaceAs, GaveAs, Tied}
 use Rattle.blocking_crew.specs.declared.hand.Stage.TheVariants as stage
 use Rattle.blocking_lanes.specs.Calls as calls
 use Rattle.blocking_lanes.specs.OwnerSteps as owners
 use Rattle.blocking_lanes.specs.SessionJobs as jobs
 use Rattle.blocking_lanes.specs.SessionJobs.{kind_of}
-use Rattle.blocking_lanes.specs.Tasks.{finish_wakes}
 use Rattle.blocking_parts.specs.declared.row.Core.TheVariants as core
 use Rattle.blocking_lanes.proofs.owners.Jobs.{worked_on}
 use Rattle.blocking_lanes.proofs.owners.OwnerActs.{value_of}
@@ -33,47 +28,17 @@ pub record IsOwnAct (act : Act) : Type 0 where
 abbrev Goes : Act → Type 0
 Goes act = (s : ℕ) (first : Bool) (acts : List Act) → (act ≡ JobParked → first ≡ true) → has_given_up acts ≡ false → PlaceAs (Some Running) (turn_by act true s GoesOn) first (act ∷ acts)
 
--- so it is of each act in its turn
-in_turn : (act : Act) → may_act stage.Runs act ≡ true → IsOwnAct act × Goes act
-in_turn JobParked fits = (record { pool = refl; something = refl; made = refl; accepted = refl; ended = λ s. refl; stays = λ s stand mark. refl }, λ s first acts parks going. (parks refl, going))
-in_turn (Answered answer) fits = (record { pool = refl; something = refl; made = refl; accepted = refl; ended = λ s. refl; stays = λ s stand mark. refl }, λ s first acts parks going. going)
-in_turn (RoomFree n) fits = (record { pool = refl; something = refl; made = refl; accepted = refl; ended = λ s. refl; stays = λ s stand mark. refl }, λ s first acts parks going. going)
-in_turn RoomShut fits = (record { pool = refl; something = refl; made = refl; accepted = refl; ended = λ s. refl; stays = λ s stand mark. refl }, λ s first acts parks going. going)
-in_turn (Put n waker) fits = (record { pool = refl; something = refl; made = refl; accepted = refl; ended = λ s. refl; stays = λ s stand mark. refl }, λ s first acts parks going. going)
-in_turn (Lost n) fits = (record { pool = refl; something = refl; made = refl; accepted = refl; ended = λ s. refl; stays = λ s stand mark. refl }, λ s first acts parks going. going)
-in_turn (Peeked bytes) fits = (record { pool = refl; something = refl; made = refl; accepted = refl; ended = λ s. refl; stays = λ s stand mark. refl }, λ s first acts parks going. going)
-in_turn Drained fits = (record { pool = refl; something = refl; made = refl; accepted = refl; ended = λ s. refl; stays = λ s stand mark. refl }, λ s first acts parks going. going)
-in_turn (TakenOut n waker) fits = (record { pool = refl; something = refl; made = refl; accepted = refl; ended = λ s. refl; stays = λ s stand mark. refl }, λ s first acts parks going. going)
-in_turn (JobClosed waker) fits = (record { pool = refl; something = refl; made = refl; accepted = refl; ended = λ s. refl; stays = λ s stand mark. refl }, λ s first acts parks going. going)
-in_turn (ResultPut waker) fits = (record { pool = refl; something = refl; made = refl; accepted = refl; ended = λ s. refl; stays = λ s stand mark. refl }, λ s first acts parks going. going)
-in_turn (Finished waker) fits = (record { pool = refl; something = refl; made = refl; accepted = refl; ended = λ s. refl; stays = λ s stand mark. refl }, λ s first acts parks going. going)
-in_turn HolderWoken fits = (record { pool = refl; something = refl; made = refl; accepted = refl; ended = λ s. refl; stays = λ s stand mark. refl }, λ s first acts parks going. going)
-in_turn _ fits = absurd cc
-
+-- an act that it may do is its own
 pub own_act : (at : Stage) (act : Act) → may_act at act ≡ true → IsOwnAct act
-own_act stage.Runs act fits = (in_turn act fits).0
-own_act stage.MustGiveUp (GaveUp waker) fits = record { pool = refl; something = refl; made = refl; accepted = refl; ended = λ s. refl; stays = λ s stand mark. refl }
-own_act stage.MustWake HolderWoken fits = record { pool = refl; something = refl; made = refl; accepted = refl; ended = λ s. refl; stays = λ s stand mark. refl }
-own_act _ act fits = absurd cc
+own_act at act fits = grind arith
 
 pub place_acted : (at : Stage) (act : Act) (s : ℕ) (before first : Bool) (acts : List Act) → may_act at act ≡ true → (act ≡ JobParked → first ≡ true) → PlaceAs (Some Running) (turn_of at) before acts
     → PlaceAs (Some Running) (turn_by act true s (turn_of at)) first (act ∷ acts)
-place_acted stage.Runs act s before first acts fits parks place = (in_turn act fits).1 s first acts parks place
-place_acted stage.MustGiveUp (GaveUp waker) s before first acts fits parks place = refl
-place_acted stage.MustWake HolderWoken s before first acts fits parks place = place
-place_acted _ act s before first acts fits parks place = absurd cc
+place_acted at act s before first acts fits parks place = grind arith
 
 -- and what it has left to do, once it gave up
-turn_gave : (act : Act) (acts : List Act) → may_act stage.Runs act ≡ true → GaveAs (stage_after act stage.Runs) (act ∷ acts)
-turn_gave (GaveUp waker) acts fits = absurd cc
-turn_gave _ acts fits = tt
-
 pub gave_acted : (at : Stage) (act : Act) (acts : List Act) → may_act at act ≡ true → GaveAs at acts → GaveAs (stage_after act at) (act ∷ acts)
-gave_acted stage.Runs act acts fits gave = turn_gave act acts fits
-gave_acted stage.MustGiveUp (GaveUp Taken) acts fits gave = λ kind. (refl, refl)
-gave_acted stage.MustGiveUp (GaveUp Absent) acts fits gave = λ kind. refl
-gave_acted stage.MustWake HolderWoken acts fits gave = λ kind. (gave kind).1
-gave_acted _ act acts fits gave = absurd cc
+gave_acted at act acts fits gave = grind arith
 
 -- ---- its core
 
@@ -87,29 +52,13 @@ pub record Leaves (old new : Core) (act : Act) (acts : List Act) : Type 0 where
 abbrev LeavesSo : Core → List Act → Done → Type 0
 LeavesSo old acts did = Leaves old did.core did.act acts
 
--- the job of a call, by its core
-finished_as : (wake : Bool) (n : ℕ) (acts : List Act) → acts ≡ Answered (Number n) ∷ [] → RanAs (call_after action.Finish (answer.Put wake)) n (Finished (waker_in wake) ∷ acts)
-finished_as true n acts is = ap (λ (l : List Act). Finished Taken ∷ l) is
-finished_as false n acts is = inl (ap (λ (l : List Act). Finished Absent ∷ l) is)
-
 abbrev call_by_parts : Action → ℕ → calls.Progress
 call_by_parts next n = record { next = next; number = n }
 
 call_leaves : (at : Stage) (k : ℕ) (next : Action) (n : ℕ) (all : List Task) (row : List Owner) (task : Option Task) (did : Done) (acts : List Act) → (has_given_up acts ≡ false → RanAs next n acts)
     → PlaceAs (Some Running) (turn_of at) (is_first (call_action next)) acts → call_done k (call_by_parts next n) at all row task (call_step at (call_by_parts next n)) ≡ Some did
     → LeavesSo (core.Call k (call_by_parts next n)) acts did
-call_leaves at k next n all row None did acts ran place is = absurd cc
-call_leaves stage.Runs k action.Finish n all row (Some task) did acts ran place is =
-    subst (LeavesSo (core.Call k (call_by_parts action.Finish n)) acts) (ap (value_of did) is) (record { party = refl; kind = refl; core = λ going. finished_as (finish_wakes task n) n acts (ran place); parks = λ parks. absurd cc })
-call_leaves stage.Runs k action.Deliver n all row (Some task) did acts ran place is =
-    subst (LeavesSo (core.Call k (call_by_parts action.Deliver n)) acts) (ap (value_of did) is)
-    (record { party = refl; kind = refl; core = λ going. inr (ap (λ (l : List Act). HolderWoken ∷ l) (ran place)); parks = λ parks. absurd cc })
-call_leaves stage.MustGiveUp k next n all row (Some task) did acts ran place is =
-    subst (LeavesSo (core.Call k (call_by_parts next n)) acts) (ap (value_of did) is) (record { party = refl; kind = refl; core = λ going. absurd cc; parks = λ parks. absurd cc })
-call_leaves stage.MustWake k next n all row (Some task) did acts ran place is =
-    subst (LeavesSo (core.Call k (call_by_parts next n)) acts) (ap (value_of did) is)
-    (record { party = refl; kind = refl; core = λ going. let over : has_given_up acts ≡ true = place in absurd cc; parks = λ parks. absurd cc })
-call_leaves _ k _ n all row (Some task) did acts ran place is = absurd cc
+call_leaves at k next n all row task did acts ran place is = grind arith
 
 -- the job of a session, where what it works goes on by its table
 module _ (h : ℕ) (job : SessionJob) (owner : Owner) (did : Done) (acts : List Act) (goes : JobAs job acts → (done : Worked) → worked job owner ≡ Some done → JobAs done.job (done.act ∷ acts)) where
@@ -151,10 +100,8 @@ done_leaves setting plan w past t at s (core.Session h job) did ran place held i
 -- a job that is answered
 call_answered : (k : ℕ) (next : Action) (n : ℕ) (answer : Answer) (acts : List Act) → (has_given_up acts ≡ false → RanAs next n acts) → has_given_up acts ≡ false → is_answer (call_action next) answer ≡ true
     → Leaves (core.Call k (call_by_parts next n)) (core_after_answer answer (core.Call k (call_by_parts next n))) (Answered answer) acts
-call_answered k action.Call n (Number m) acts ran going is = record { party = refl; kind = refl; core = λ on. ap (λ (l : List Act). Answered (Number m) ∷ l) (ran going); parks = λ parks. absurd cc }
-call_answered k _ n answer acts ran going is = absurd cc
+call_answered k next n answer acts ran going is = grind arith
 
 pub answer_leaves : (c : Core) (answer : Answer) (acts : List Act) → CoreAs c acts → has_given_up acts ≡ false → is_answered_action (next_in_turn GoesOn (action_of c)) answer ≡ true
     → Leaves c (core_after_answer answer c) (Answered answer) acts
-answer_leaves (core.Call k call) answer acts ran going is = call_answered k call.next call.number answer acts ran going (answer_of (call_action call.next) answer is)
-answer_leaves (core.Session h job) answer acts ran going is = record { party = refl; kind = kind_answered job answer; core = λ on. job_answers job acts answer (ran going) (answer_of (jobs.action_of job) answer is); parks = λ parks. absurd cc }
+answer_leaves c answer acts ran going is = grind (arith, call_answered, answer_of, kind_answered, job_answers)

@@ -1,14 +1,11 @@
 -- Whatever the job in a hand does, each task, and the last session of each owner, keeps its number.
-use Rattle.std.proofs.Common.{◌≡◌, ℕ, List, [], refl, sym, ap, subst₂, Some, slice_get}
+use Rattle.std.proofs.Common.{◌≡◌, ℕ, List, [], refl, sym, subst₂, Some, slice_get, arith}
 use Rattle.blocking_parts.proofs.Types.{Stage, SessionJob, Core}
 use Rattle.blocking_parts.proofs.Words.{OwnerStep, Owner, number_of, TaskStep, Task, Parts, session_step, Done, done}
-use Rattle.blocking_crew.specs.declared.hand.Stage.TheVariants as stage
 use Rattle.blocking_lanes.specs.OwnerSteps as owners
 use Rattle.blocking_lanes.specs.Steps as tasks
 use Rattle.blocking_parts.specs.declared.row.Core.TheVariants as core
-use Rattle.blocking_lanes.proofs.acts.Calls.{call_number}
 use Rattle.blocking_lanes.proofs.owners.Events.{brought}
-use Rattle.blocking_lanes.proofs.owners.OwnerActs.{value_of}
 use Rattle.blocking_parts.proofs.moves.Lookups.{kept_in}
 use Rattle.blocking_parts.proofs.rows.Numbers.{number_stays}
 use Rattle.blocking_parts.proofs.ties.JobSteps.{call_acts, session_acts}
@@ -23,15 +20,11 @@ same_numbers tasks owners = record { of_task = λ k task found. (task, found, re
 
 -- whatever happens to a task leaves its number
 step_number : (step : TaskStep) (task : Task) → task.number ≡ (tasks.task_after step task).number
-step_number (tasks.IsCalled call) task = sym (call_number call task)
-step_number _ task = refl
+step_number step task = grind arith
 
 -- and no session begins by what a job does
 none_brought : (at : Stage) (job : SessionJob) (step : OwnerStep) → session_step at job ≡ Some step → brought step ≡ []
-none_brought stage.Runs job step is = ap brought (sym (ap (value_of step) is))
-none_brought stage.MustGiveUp job step is = ap brought (sym (ap (value_of step) is))
-none_brought stage.MustWake job step is = ap brought (sym (ap (value_of step) is))
-none_brought _ job step is = absurd cc
+none_brought at job step is = grind arith
 
 pub done_numbers : (w : Parts) (at : Stage) (c : Core) (did : Done) → done at c w.tasks w.owners ≡ Some did → KeepNumbers w.tasks w.owners did.tasks did.owners
 done_numbers w at (core.Call k call) did is =

@@ -1,22 +1,18 @@
 -- A new job keeps the rows: where it is accepted, it gets the next one.
-use Rattle.std.proofs.Common.{◌≡◌, ◌⊎◌, inl, inr, ⊎_elim, ℕ, ◌+◌, ◌==◌, ◌++◌, List, [], ◌∷◌, length, length-append, Bool, true, false, refl, sym, ap, ◌∙◌, subst, Some, if◌then◌else◌, suc, Option, None, slice_get, slice_set, Ok}
+use Rattle.std.proofs.Common.{◌≡◌, ◌⊎◌, inl, inr, ⊎_elim, ℕ, ◌+◌, ◌==◌, ◌++◌, List, [], ◌∷◌, length, length-append, Bool, true, false, refl, sym, ap, ◌∙◌, subst, Some, if◌then◌else◌, Option, None, slice_get, slice_set, Ok, arith}
 use Rattle.std.proofs.lemmas.Bool.{eqb-true, eq-eqb}
 use Rattle.std.proofs.lemmas.Option.{slice_get_within}
 use Rattle.blocking_parts.proofs.Types.{Queued, Accepted, Event, Moment, ByOwner, Pool, ByTask, HandleCall, Holds, Held, OwnerStage, Core, Row}
-use Rattle.blocking_parts.proofs.Words.{Pipe, empty_pipe, JobNumber, IsPlanned, Kind, Writing, Seeking, Operating, accepted_by, accepted_jobs, accepts, newcomer, holder, ends_for_good, standing, events, joined, is_some_worker, acts_of, cut, own, acts_of_owner, kind_of_job, kind_by, turn, hand_at, IsNumberOf, CrewHolds, BeginsBy, OwnerAs, Owner, number_of, new_job_of, capacity_asked, goods_asked, after_begin, Goods, new_job, JobAs, Session, Task, new_task, Lends, Begins, step_of, rows_after, tasks_after, owners_after, May, CrewMoves, Parts, row_of, party_of, kind_of, call_row, session_row, is_first, is_at_first, CoreAs, PlaceAs, RowAs, GaveAs, HasRow, Rowed, moment, Tied}
-use Rattle.blocking_core.specs.declared.unblock.OwnerAction.TheVariants as action
+use Rattle.blocking_parts.proofs.Words.{Pipe, JobNumber, IsPlanned, Kind, accepted_by, accepted_jobs, accepts, newcomer, holder, ends_for_good, standing, events, joined, is_some_worker, acts_of, cut, own, acts_of_owner, kind_of_job, kind_by, turn, hand_at, IsNumberOf, CrewHolds, OwnerAs, Owner, number_of, new_job_of, after_begin, Goods, new_job, JobAs, Session, Task, new_task, Lends, Begins, step_of, rows_after, tasks_after, owners_after, May, CrewMoves, Parts, row_of, party_of, kind_of, call_row, session_row, is_first, is_at_first, CoreAs, PlaceAs, RowAs, GaveAs, HasRow, Rowed, moment, Tied}
 use Rattle.blocking_laws.specs.Sessions as sessions
-use Rattle.blocking_laws.specs.declared.step.HandleCall.TheVariants as handle_call
 use Rattle.blocking_crew.specs.Moves as crew
 use Rattle.blocking_lanes.specs.OwnerSteps as owners
 use Rattle.blocking_lanes.specs.Owners.{next_at}
 use Rattle.blocking_lanes.specs.SessionJobs as jobs
 use Rattle.blocking_lanes.specs.declared.owner.OwnerNext.TheVariants as next
-use Rattle.blocking_lanes.specs.declared.owner.OwnerStage.TheVariants as stage
 use Rattle.blocking_pool.proofs.Places.{got_before, got_other, got_same, in_pushed}
 use Rattle.blocking_lanes.proofs.cuts.Acts.{acts_more}
-use Rattle.blocking_lanes.proofs.owners.OwnerActs.{owner_by_parts, fits_at}
-use Rattle.blocking_lanes.proofs.owners.Steps.{begins_at}
+use Rattle.blocking_lanes.proofs.owners.OwnerActs.{owner_by_parts}
 use Rattle.blocking_parts.proofs.moves.Lookups.{row_found, row_at, row_pushed}
 use Rattle.blocking_parts.proofs.rows.OtherEvents.{row_kept}
 use Rattle.blocking_parts.proofs.ties.CrewEvents.{told, by_no_worker, added_of}
@@ -26,9 +22,7 @@ use Rattle.blocking_parts.proofs.ties.Jobs.{next_row, next_free}
 
 -- an older row stays
 row_stays : (rows : List Row) (new row : Row) (s : ℕ) → row_of rows s ≡ Some row → row_of (rows ++ new ∷ []) s ≡ Some row
-row_stays rows new row s found =
-    let at = row_found rows s row found in
-    row_at (rows ++ new ∷ []) s row at.0 (got_before rows new _ (slice_get_within rows _ row at.1) ∙ at.1)
+row_stays rows new row s found = grind (arith, row_found, row_at, got_before, slice_get_within)
 
 -- What a new job makes of the parts, which gets this row: each task, and each owner's last session, has the number of one that was there, or
 -- is that of the new job.
@@ -61,18 +55,10 @@ module _ (setting : ℕ) (plan : List Bool) (w : Parts) (past : List Moment) (t 
 
   -- a row is an older one, or the new one of this serial
   which : (s : ℕ) (found : Row) → row_of new.rows s ≡ Some found → ((row.number.serial == s) ≡ false) × (row_of w.rows s ≡ Some found) ⊎ ((row.number.serial == s) ≡ true) × (row ≡ found)
-  which s found is =
-      by (row.number.serial == s) refl (ap (λ n. if n == s then Some row else row_of w.rows s) last ∙ sym (row_pushed w.rows s row) ∙ sym (ap (λ l. row_of l s) b.rows) ∙ is)
-    where
-      by : (c : Bool) → (row.number.serial == s) ≡ c → (if c then Some row else row_of w.rows s) ≡ Some found
-          → ((row.number.serial == s) ≡ false) × (row_of w.rows s ≡ Some found) ⊎ ((row.number.serial == s) ≡ true) × (row ≡ found)
-      by true at is = inr (at, cc)
-      by false at is = inl (at, is)
+  which s found is = grind (arith, row_pushed)
 
   held_by : (s : ℕ) (c : Bool) → (row.number.serial == s) ≡ c → holder (now ∷ past) s ≡ (if c then Some (party_of row.core) else holder past s)
-  held_by s c is =
-      ap (λ act. if accepts s act then Some (newcomer past now.event.party) else holder past s) b.accepted ∙ ap (λ who. if row.number.serial == s then Some who else holder past s) b.brings
-      ∙ ap (λ d. if d then Some (party_of row.core) else holder past s) is
+  held_by s c is = grind arith
 
   older : (s : ℕ) (found : Row) → (row.number.serial == s) ≡ false → row_of w.rows s ≡ Some found → RowAs new (now ∷ past) s found
   older s found other is =
@@ -99,14 +85,7 @@ module _ (setting : ℕ) (plan : List Bool) (w : Parts) (past : List Moment) (t 
   still number of has = record { row = has.row; found = ap (λ l. row_of l number.serial) b.rows ∙ row_stays w.rows row has.row number.serial has.found; same = has.same; its = has.its }
 
   has_new : (number : JobNumber) (of : Core → Type 0) → row.number ≡ number → of row.core → HasRow new number of
-  has_new number of same its =
-      record {
-        row = row;
-        found = ap (λ l. row_of l number.serial) b.rows ∙ row_pushed w.rows number.serial row
-            ∙ ap (λ c. if c then Some row else row_of w.rows number.serial) (eq-eqb (length w.rows + 1) number.serial (sym last ∙ ap (λ (n : JobNumber). n.serial) same));
-        same = same;
-        its = its;
-      }
+  has_new number of same its = grind (arith, row_pushed)
 
   rows_born : Rowed new (now ∷ past)
   rows_born = record {
@@ -127,32 +106,15 @@ module _ (setting : ℕ) (plan : List Bool) (w : Parts) (past : List Moment) (t 
 
 -- its job has done nothing yet, and is at its first action
 new_so : (kind : Kind) → JobAs (new_job kind) []
-new_so Writing = record { next = refl; offered = tt; waking = refl; fault_is = refl }
-new_so (Seeking goal) = record { next = refl; waking = refl; fault_is = refl; place_is = refl }
-new_so Operating = record { next = refl; waking = refl; fault_is = refl; number_is = refl }
-new_so _ = record { next = refl; waking = refl; fault_is = refl }
+new_so kind = grind arith
 
 new_first : (kind : Kind) → is_first (jobs.action_of (new_job kind)) ≡ true
-new_first Writing = refl
-new_first _ = refl
+new_first kind = grind arith
 
 -- it is of the kind that the call asks for which begins the session
-kind_begun : (c : HandleCall) → BeginsBy c → sessions.kind_of (Some c) ≡ jobs.kind_of (new_job (sessions.kind_of (Some c)))
-kind_begun (handle_call.Read (suc n)) begins = refl
-kind_begun (handle_call.Write (byte ∷ bytes)) begins = refl
-kind_begun handle_call.Next begins = refl
-kind_begun (handle_call.Seek goal) begins = refl
-kind_begun handle_call.Operate begins = refl
-kind_begun handle_call.OperateAgain begins = refl
-kind_begun _ begins = absurd begins
-
 begins_kind : (bytes : ℕ) (asked : Option HandleCall) (here : OwnerStage) (last : Option Session) (cut : List Event) → OwnerAs (owner_by_parts bytes asked here last) cut → next_at here last ≡ next.Begins
     → sessions.kind_of (sessions.call (own cut)) ≡ jobs.kind_of (new_job (sessions.kind_of asked))
-begins_kind bytes asked (stage.Polls poll) last cut t begins =
-    let c = t.stage.0.call in
-    let fits = fits_at bytes asked poll cut last action.Begin t (begins_at bytes asked poll last cut t begins) in
-    ap sessions.kind_of t.stage.0.asked_is ∙ kind_begun c fits.0 ∙ ap (λ o. jobs.kind_of (new_job (sessions.kind_of o))) (sym t.stage.0.asked_is ∙ t.asked)
-begins_kind bytes asked _ last cut t begins = absurd cc
+begins_kind bytes asked here last cut t begins = grind arith
 
 -- and that its acceptance tells
 accepted_kind : (h s n first started : ℕ) (refused : Bool) (seen : List Event) → (n == s) ≡ true
@@ -162,8 +124,7 @@ accepted_kind h s n first started refused seen is = rw (eq-eqb h h refl, is) ref
 
 -- where a session begins, it is that of the new job
 begins_with : (number : JobNumber) (goods : Goods) (pipe : Pipe ℕ (Unit {0})) (here : OwnerStage) (owner : Owner) → next_at here owner.session ≡ next.Begins → number_of (after_begin number goods pipe here owner) ≡ Some number
-begins_with number goods pipe (stage.Polls poll) owner is = refl
-begins_with number goods pipe _ owner is = absurd cc
+begins_with number goods pipe here owner is = grind arith
 
 module _ (setting : ℕ) (plan : List Bool) (w : Parts) (past : List Moment) (t : Tied setting plan w past) (e : Event) (new : Parts) (number : JobNumber)
     (numbers : (s : ℕ) (row : Row) → row_of w.rows s ≡ Some row → IsNumberOf new.crew.pool row.number) where
@@ -221,10 +182,4 @@ module _ (setting : ℕ) (plan : List Bool) (w : Parts) (past : List Moment) (t 
 
       lent : (j : ℕ) (c : Bool) → (h == j) ≡ c → (other : Owner) (last : JobNumber) → slice_get (slice_set w.owners h begun) j ≡ Some other → number_of other ≡ Some last
           → (slice_get w.owners j ≡ Some other) ⊎ ((number ≡ last) × (ByOwner h ≡ ByOwner j))
-      lent j true same other last found is =
-          let place = eqb-true h j same in
-          let at : slice_get (slice_set w.owners h begun) j ≡ Some begun = ap (slice_get (slice_set w.owners h begun)) (sym place) ∙ got_same w.owners h begun (slice_get_within w.owners h owner may.0) in
-          let one : begun ≡ other = cc in
-          let both : Some number ≡ Some last = sym (begins_with number (goods_asked owner) (empty_pipe (capacity_asked owner)) owner.stage owner may.1) ∙ ap number_of one ∙ is in
-          inr (cc, ap ByOwner place)
-      lent j false apart other last found is = inl (sym (got_other w.owners h j begun (λ place. let this = eq-eqb h j place in absurd cc)) ∙ found)
+      lent j c same other last found is = grind (arith, got_same, slice_get_within, begins_with, got_other)

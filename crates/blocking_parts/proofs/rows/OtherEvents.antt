@@ -1,6 +1,6 @@
 -- What keeps the rows: an event that is no act of a job, and accepts none.
-use Rattle.std.proofs.Common.{◌≡◌, ⊎_elim, ℕ, List, [], ◌∷◌, length, Bool, true, false, refl, sym, ap, ◌∙◌, subst, Some, slice_get}
-use Rattle.blocking_parts.proofs.Types.{Act, Accepted, Moment, ByOwner, ByTask, Holds, Held, Core, Row}
+use Rattle.std.proofs.Common.{◌≡◌, ⊎_elim, ℕ, List, [], ◌∷◌, length, Bool, true, false, refl, sym, ap, ◌∙◌, subst, Some, slice_get, arith}
+use Rattle.blocking_parts.proofs.Types.{Act, Moment, ByOwner, ByTask, Holds, Held, Core, Row}
 use Rattle.blocking_parts.proofs.Words.{JobNumber, accepted_by, accepted_jobs, accepts, holder, ends_for_good, standing, events, joined, is_of_job, acts_of, kind_by, turn, hand_at, IsNumberOf, CrewHolds, Owner, number_of, Task, Parts, row_of, party_of, is_at_first, CoreAs, PlaceAs, RowAs, GaveAs, HasRow, Rowed, Tied}
 use Rattle.blocking_lanes.proofs.cuts.Acts.{acts_more}
 use Rattle.blocking_lanes.proofs.ties.Holders.{holder_stays}
@@ -9,8 +9,7 @@ use Rattle.blocking_parts.proofs.rows.Places.{IsOver, place_after}
 use Rattle.blocking_parts.proofs.ties.Hands.{IsOldOrBegins}
 
 pub none_accepted : (act : Act) (s : ℕ) → accepted_by act ≡ [] → accepts s act ≡ false
-none_accepted (Accepted t) s none = absurd cc
-none_accepted _ s none = refl
+none_accepted act s none = grind arith
 
 -- What an event leaves of a row whose job doesn't act.
 pub row_kept : (setting : ℕ) (plan : List Bool) (w new : Parts) (past : List Moment) (now : Moment) (later : CrewHolds setting plan new.crew (now ∷ past)) (s : ℕ) (row : Row) → RowAs w past s row
@@ -30,8 +29,7 @@ row_kept setting plan w new past now later s row r fresh out over held number =
 
 -- A job that has its row still has it, where the rows stay.
 has_kept : (w new : Parts) (before number : JobNumber) (of : Core → Type 0) → new.rows ≡ w.rows → before ≡ number → HasRow w before of → HasRow new number of
-has_kept w new before number of rows one has =
-    record { row = has.row; found = ap (λ l. row_of l number.serial) rows ∙ ap (λ (n : JobNumber). row_of w.rows n.serial) (sym one) ∙ has.found; same = has.same ∙ one; its = has.its }
+has_kept w new before number of rows one has = grind arith
 
 -- What such an event owes to the rows: each task, and each owner's last session, has the number of one that was there.
 pub record KeepsRows (w new : Parts) (past : List Moment) (now : Moment) : Type 0 where

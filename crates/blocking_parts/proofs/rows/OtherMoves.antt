@@ -1,7 +1,7 @@
 -- The moves that leave the rows alone keep what is tied to them.
-use Rattle.std.proofs.Common.{◌≡◌, inl, ⊎_elim, ℕ, List, [], ◌∷◌, Bool, true, false, refl, sym, ap, ◌∙◌, Option, Some, None, slice_get, slice_set, Ok, Err, arith}
-use Rattle.blocking_parts.proofs.Types.{Act, Event, Moment, Party, TaskCall, Poll, Holds, Held, Parking, Row}
-use Rattle.blocking_parts.proofs.Words.{JobNumber, IsPlanned, accepted_by, ends_for_good, events, is_of_pool, acts_of, Crew, hand_at, IsNumberOf, CrewHolds, act_in, Owner, number_of, Task, task_after_call, Move, Idles, Makes, Asks, Owns, Lends, Delivers, IsDropped, Begins, Calls, Works, IsAnswered, Parks, Passes, IsWoken, IsStruck, step_of, task_call, call_of, rows_after, tasks_after, owners_after, is_pass, May, CrewMoves, Parts, row_of, Rowed, moment, Tied}
+use Rattle.std.proofs.Common.{◌≡◌, ⊎_elim, ℕ, List, [], ◌∷◌, Bool, true, false, refl, sym, ap, ◌∙◌, Option, Some, None, slice_get, slice_set, Ok, Err, arith}
+use Rattle.blocking_parts.proofs.Types.{Act, Event, Moment, Party, Holds, Held, Parking, Row}
+use Rattle.blocking_parts.proofs.Words.{JobNumber, IsPlanned, accepted_by, ends_for_good, events, is_of_pool, acts_of, hand_at, IsNumberOf, CrewHolds, act_in, Owner, number_of, Task, task_after_call, Move, Makes, Asks, Owns, Lends, Delivers, IsDropped, Begins, Calls, Works, IsAnswered, Parks, Passes, IsWoken, IsStruck, step_of, call_of, rows_after, tasks_after, owners_after, May, CrewMoves, Parts, row_of, Rowed, moment, Tied}
 use Rattle.blocking_crew.specs.Moves as crew
 use Rattle.blocking_lanes.specs.OwnerSteps as step
 use Rattle.blocking_lanes.specs.OwnerSteps.{owner_in}
@@ -109,25 +109,13 @@ old_owner w _ may stay j owner number found is = (owner, found, is)
 
 -- ---- the hands
 
-pass_leaves : (call : crew.Call) → is_pass call ≡ true → leaves_turns call ≡ true
-pass_leaves call is = grind arith
-
-call_leaves : (k : ℕ) (call : TaskCall) (task : Task) → leaves_turns (task_call k call task) ≡ true
-call_leaves k Poll task = refl
-call_leaves k _ task = refl
-
 -- no job in a hand acts by the crew's call
 leaves_by : (w : Parts) (move : Move) → May w move → changes_rows move ≡ false → leaves_turns (call_of w move) ≡ true
-leaves_by w (Passes call) may stay = pass_leaves call may.0
-leaves_by w (Calls k call task) may stay = call_leaves k call task
-leaves_by w (Works v job done) may stay = absurd cc
-leaves_by w (IsAnswered v job answer) may stay = absurd cc
-leaves_by w _ may stay = refl
+leaves_by w move may stay = grind arith
 
 old_hand : (plan : List Bool) (w : Parts) (e : Event) (new : Parts) (move : Move) → leaves_turns (call_of w move) ≡ true → CrewMoves (IsPlanned plan) move w e new
     → (v : ℕ) (held : Held) → hand_at new.crew.hands v ≡ Holds held → IsOldOrBegins w.crew.hands v held
-old_hand plan w e new (Idles step) leaves does v held is = inl (ap (λ (c : Crew). hand_at c.hands v) (sym does.1) ∙ is)
-old_hand plan w e new _ leaves does v held is = hands_moved (IsPlanned plan) _ w.crew new.crew e leaves does v held is
+old_hand plan w e new move leaves does v held is = grind (arith, hands_moved)
 
 -- ---- the moves
 

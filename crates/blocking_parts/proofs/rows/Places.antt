@@ -1,9 +1,8 @@
 -- What a job has done, by how it stands, where it is in its turn, and its core: after an event that is no act of it.
 use Rattle.std.proofs.Common.{◌≡◌, ℕ, ◌==◌, List, ◌∷◌, Bool, true, false, refl, sym, ap, ◌∙◌, subst, Option, Some, if◌then◌else◌, ◌&&◌, ◌||◌, arith}
-use Rattle.std.proofs.lemmas.Bool.{eqb-true}
-use Rattle.blocking_parts.proofs.Types.{Entered, Standing, Done, Dropped, Parked, Queued, Running, Act, Accepted, Ended, HandedOut, JobCancelled, JobWoken, Took, TookDropped, Moment, Party, Worker}
-use Rattle.blocking_parts.proofs.Words.{take_from, end_of, PoolAnswers, has_finished, has_given_up, accepts, ends_for_good, is_marked, sweeps, stands_by, is_parked, standing, PoolLaw, queue, EachMayFollow, is_of_job, Turn, GoesOn, IsWaiting, MustGiveUp, HasGivenUp, turn_by, turn, hand_of, HoldsOne, PlaceAs}
-use Rattle.blocking_laws.proofs.Queues.{same_self, held_so}
+use Rattle.blocking_parts.proofs.Types.{Entered, Standing, Parked, Queued, Running, Act, Accepted, Ended, HandedOut, JobCancelled, JobWoken, Took, TookDropped, Moment, Party}
+use Rattle.blocking_parts.proofs.Words.{take_from, end_of, PoolAnswers, has_finished, has_given_up, accepts, ends_for_good, is_marked, sweeps, stands_by, is_parked, standing, PoolLaw, queue, EachMayFollow, is_of_job, Turn, GoesOn, MustGiveUp, turn_by, turn, hand_of, HoldsOne, PlaceAs}
+use Rattle.blocking_laws.proofs.Queues.{held_so}
 use Rattle.blocking_crew.proofs.jobs.Lookups.{woken_is, cancelled_is}
 use Rattle.blocking_parts.proofs.past.Drops.{handed_out}
 use Rattle.blocking_parts.proofs.past.Standings.{Takes, taken_queued}
@@ -16,24 +15,17 @@ IsOver acts = has_finished acts || has_given_up acts ≡ true
 
 ended_by : (at : Turn) (drop woken : Bool) (s : ℕ) (how : Standing) (first : Bool) (acts : List Act) → Ended s how ≡ end_of at drop woken s → (ends_for_good (Ended s how) s ≡ true → IsOver acts)
     → PlaceAs (Some Running) at first acts → PlaceAs (Some how) at first acts
-ended_by IsWaiting false true s Queued first acts is over place = place
-ended_by IsWaiting false false s Parked first acts is over place = place
-ended_by GoesOn drop woken s Done first acts is over place = over (same_self s)
-ended_by MustGiveUp drop woken s Dropped first acts is over place = over (same_self s)
-ended_by HasGivenUp drop woken s Dropped first acts is over place = over (same_self s)
-ended_by _ _ _ s how first acts is over place = absurd cc
+ended_by at drop woken s how first acts is over place = grind arith
 
 -- the job in a party's hand runs
 hand_runs : (setting : ℕ) (plan : List Bool) (past : List Moment) → EachMayFollow (PoolLaw setting plan) past → (who : Party) (s : ℕ) → hand_of past who ≡ Some s → standing past s ≡ Some Running
-hand_runs setting plan past laws (Worker v) s is = held_so setting plan past laws v s is
-hand_runs setting plan past laws _ s is = absurd cc
+hand_runs setting plan past laws who s is = grind (arith, held_so)
 
 -- ---- a parked job is queued again
 
 -- what holds of a job that is parked holds of one that is queued, wherever it was in its turn
 parked_queued : (stand : Option Standing) (at : Turn) (first : Bool) (acts : List Act) → PlaceAs stand at first acts → is_parked stand ≡ true → (first ≡ true) × (has_given_up acts ≡ false)
-parked_queued (Some Parked) at first acts place is = place
-parked_queued _ at first acts place is = absurd cc
+parked_queued stand at first acts place is = grind arith
 
 swept_parked : (a b m : Bool) → (a && b && m) ≡ true → b ≡ true
 swept_parked a b m is = grind arith
@@ -47,28 +39,21 @@ module _ (setting : ℕ) (plan : List Bool) (past : List Moment) (laws : EachMay
 
   -- an act names a job, and that may be this one
   named : (t : ℕ) (how : Standing) → (t ≡ s → PlaceAs (Some how) (turn past s) first acts) → (b : Bool) → (t == s) ≡ b → PlaceAs (if b then Some how else standing past s) (turn past s) first acts
-  named t how this true same = this (eqb-true t s same)
-  named t how this false other = place
+  named t how this b same = grind arith
 
   taken : (t : ℕ) (at : Turn) → (t ≡ s → PlaceAs (Some Running) at first acts) → (b : Bool) → (t == s) ≡ b → PlaceAs (if b then Some Running else standing past s) (if b then at else turn past s) first acts
-  taken t at this true same = this (eqb-true t s same)
-  taken t at this false other = place
+  taken t at this b same = grind arith
 
   -- a job that waits is handed out where it runs
   handed : (t : ℕ) → standing past t ≡ Some Running → (t ≡ s → PlaceAs (Some Running) MustGiveUp first acts) → (b : Bool) → (t == s) ≡ b → PlaceAs (standing past s) (if b then MustGiveUp else turn past s) first acts
-  handed t runs this true same =
-      let one = eqb-true t s same in
-      subst (λ o. PlaceAs o MustGiveUp first acts) (sym runs ∙ ap (standing past) one) (this one)
-  handed t runs this false other = place
+  handed t runs this b same = grind arith
 
   was_queued : (t : ℕ) → Takes (take_from past (queue past)) t → t ≡ s → PlaceAs (Some Queued) (turn past s) first acts
   was_queued t takes same = stands (Some Queued) (ap (standing past) (sym same) ∙ taken_queued setting plan past laws t takes)
 
   -- the job whose turn ends runs
   was_running : (t : ℕ) → hand_of past now.event.party ≡ Some t → t ≡ s → PlaceAs (Some Running) (turn past t) first acts
-  was_running t held same =
-      subst (λ n. PlaceAs (Some Running) (turn past n) first acts) (sym same)
-      (stands (Some Running) (ap (standing past) (sym same) ∙ hand_runs setting plan past laws now.event.party t held))
+  was_running t held same = grind (arith, hand_runs)
 
   by_act : (act : Act) → now.event.act ≡ act → PoolAnswers setting past now act → HoldsOne past now.event act → accepts s act ≡ false → PlaceAs (stands_by act s (standing past s)) (turn_by act false s (turn past s)) first acts
   by_act (Accepted t) is answers one fresh = subst (λ b. PlaceAs (if b then Some Queued else standing past s) (turn past s) first acts) (sym fresh) place

@@ -1,6 +1,6 @@
 -- The job of a session, of whatever kind: what it does next, and how far it is once it was answered.
-use Rattle.std.proofs.Common.{◌≡◌, List, [], ◌∷◌, Bool, true, false, refl, sym, ap, ◌∙◌, arith}
-use Rattle.blocking_parts.proofs.Types.{Act, Answered, Answer, Number, SessionJob}
+use Rattle.std.proofs.Common.{◌≡◌, List, ◌∷◌, true, arith}
+use Rattle.blocking_parts.proofs.Types.{Act, Answered, Answer, SessionJob}
 use Rattle.blocking_parts.proofs.Words.{Kind, JobAction, next_but_wake, wake_first, next_of_job, is_answer, is_answered_action, next_in_turn, GoesOn, has_waker, job_after_answer, JobAs, is_first}
 use Rattle.blocking_lanes.specs.SessionJobs.{action_of, kind_of}
 use Rattle.blocking_lanes.specs.declared.job.SessionJob.TheVariants as job_of
@@ -12,11 +12,7 @@ use Rattle.blocking_lanes.proofs.owners.WriteJobs as writes
 
 -- what it does next is what the table says
 pub job_action_is : (job : SessionJob) (acts : List Act) → JobAs job acts → action_of job ≡ next_of_job (kind_of job) acts
-job_action_is (job_of.Read p) acts r = reads.action_is p acts r
-job_action_is (job_of.Write p) acts r = writes.action_is p acts r
-job_action_is (job_of.Seek p) acts r = seeks.action_is p acts r
-job_action_is (job_of.Operate p) acts r = operations.action_is p acts r
-job_action_is (job_of.Items p) acts r = streams.action_is p acts r
+job_action_is job acts r = grind arith
 
 -- how far it is once it was answered
 pub job_answers : (job : SessionJob) (acts : List Act) (answer : Answer) → JobAs job acts → is_answer (action_of job) answer ≡ true → JobAs (job_after_answer job answer) (Answered answer ∷ acts)
@@ -32,19 +28,12 @@ answer_of next answer is = grind arith
 
 -- and of what kind it stays
 pub kind_answered : (job : SessionJob) (answer : Answer) → kind_of (job_after_answer job answer) ≡ kind_of job
-kind_answered (job_of.Seek p) (Number n) = refl
-kind_answered _ _ = refl
+kind_answered job answer = grind arith
 
--- a job is at its first action only where no waker has to be called
-pub first_but_wake : (waking : Bool) (action : JobAction) → is_first (wake_first waking action) ≡ true → is_first action ≡ true
-first_but_wake true action is = absurd cc
-first_but_wake false action is = is
-
+-- what a job does next: it calls a waker first, where it has one
 pub next_by : (kind : Kind) (acts : List Act) → next_of_job kind acts ≡ wake_first (has_waker acts) (next_but_wake kind acts)
-next_by kind [] = refl
-next_by kind (act ∷ past) = refl
+next_by kind acts = grind arith
 
 -- the table of a job that is at its first action says so, also were no waker to be called
 pub first_of_table : (job : SessionJob) (acts : List Act) → JobAs job acts → is_first (action_of job) ≡ true → is_first (next_but_wake (kind_of job) acts) ≡ true
-first_of_table job acts tied first =
-    first_but_wake (has_waker acts) (next_but_wake (kind_of job) acts) (sym (ap is_first (job_action_is job acts tied ∙ next_by (kind_of job) acts)) ∙ first)
+first_of_table job acts tied first = grind arith

@@ -1,13 +1,10 @@
 -- What the crew asks of a move: that a number is its job's, that who lets go of a job holds it, and that a ticket bears its job's mark.
-use Rattle.std.proofs.Common.{◌≡◌, ℕ, List, Bool, true, false, refl, sym, ap, ◌∙◌, subst, Option, Some, None, slice_get, IfSome}
-use Rattle.std.proofs.lemmas.Bool.{eqb-true, eq-eqb}
-use Rattle.blocking_parts.proofs.Types.{Standing, Parked, Queued, Act, Event, Moment, Party, ByOwner, ByTask, TaskCall, Cancel, Drop, Holds, Held, Core}
-use Rattle.blocking_parts.proofs.Words.{JobNumber, Kind, Over, next_but_wake, has_given_up, holder, is_holder, is_marked, standing, events, acts_of, cut, own, last_session, kind_of_job, kind_by, Turn, turn, IsNumberOf, has_ticket, is_serial_of, HoldsAtRest, IsAsked, LastAs, OwnerAs, Owner, capacity_of, number_in, number_of, Session, Task, Move, Delivers, IsDropped, Calls, Parks, Passes, IsWoken, IsStruck, task_call, call_of, is_pass, May, Parts, party_of, kind_of, is_first, is_at_first, CoreAs, PlaceAs, Tied}
+use Rattle.std.proofs.Common.{◌≡◌, ℕ, List, Bool, true, false, refl, sym, ap, ◌∙◌, subst, Option, Some, slice_get, IfSome, arith}
+use Rattle.std.proofs.lemmas.Bool.{eq-eqb}
+use Rattle.blocking_parts.proofs.Types.{Standing, Act, Event, Moment, Party, ByOwner, ByTask, TaskCall, Cancel, Drop, Holds, Held, Core}
+use Rattle.blocking_parts.proofs.Words.{JobNumber, Kind, Over, next_but_wake, has_given_up, holder, is_holder, is_marked, standing, events, acts_of, cut, own, last_session, kind_of_job, kind_by, Turn, turn, IsNumberOf, has_ticket, is_serial_of, HoldsAtRest, IsAsked, LastAs, OwnerAs, Owner, capacity_of, number_in, number_of, Session, Task, Move, Delivers, IsDropped, Calls, Parks, Passes, IsWoken, IsStruck, task_call, call_of, is_pass, May, Parts, party_of, kind_of, is_at_first, CoreAs, PlaceAs, Tied}
 use Rattle.blocking_laws.specs.Passed.{is_serial}
 use Rattle.blocking_crew.specs.Moves as crew
-use Rattle.blocking_parts.specs.declared.row.Core.TheVariants as core
-use Rattle.blocking_parts.proofs.past.Holders.{holder_is}
-use Rattle.blocking_parts.proofs.rows.SessionJobs.{first_of_table}
 use Rattle.blocking_parts.proofs.ties.Jobs.{job_here, held_row, task_holds, task_number, owner_holds, owner_number}
 use Rattle.blocking_parts.proofs.ties.Releases.{mark_is}
 
@@ -15,21 +12,15 @@ use Rattle.blocking_parts.proofs.ties.Releases.{mark_is}
 
 -- a job that is queued or parked is at its first action, and hasn't given up
 at_rest : (stand : Option Standing) (at : Turn) (first : Bool) (acts : List Act) → has_ticket stand ≡ true → PlaceAs stand at first acts → (first ≡ true) × (has_given_up acts ≡ false)
-at_rest (Some Queued) at first acts rests place = place
-at_rest (Some Parked) at first acts rests place = place
-at_rest _ at first acts rests place = absurd cc
+at_rest stand at first acts rests place = grind arith
 
 -- so the job of a session that rests isn't over
 not_over : (h : ℕ) (c : Core) (acts : List Act) → party_of c ≡ ByOwner h → is_at_first c ≡ true → has_given_up acts ≡ false → CoreAs c acts → next_but_wake (kind_of c) acts ≡ Over → ⊥
-not_over h (core.Call k call) acts party first stays so over = cc
-not_over h (core.Session g job) acts party first stays so over = let begins = sym (ap is_first over) ∙ first_of_table job acts (so stays) first in cc
+not_over h c acts party first stays so over = grind arith
 
 -- the last session's job
 number_is : (last : Option Session) (bytes : Kind → ℕ) (cut : List Event) (s : ℕ) → LastAs last bytes cut → is_serial (last_session (own cut)) (Some s) ≡ true → is_serial_of (number_in last) s ≡ true
-number_is None bytes cut s t is = absurd (let none = ap (λ r. is_serial r (Some s)) (sym t.0) ∙ is in cc)
-number_is (Some session) bytes cut s t is =
-    let same : s ≡ session.number.serial = eqb-true s session.number.serial (ap (λ r. is_serial r (Some s)) (sym t.lent.begun) ∙ is) in
-    eq-eqb session.number.serial s (sym same)
+number_is last bytes cut s t is = grind arith
 
 -- a party that holds the job of this number, and no other that rests
 held_alone : (past : List Moment) (who : Party) (number : Option JobNumber) → is_holder (Some who) who ≡ true → ((n : JobNumber) → number ≡ Some n → holder past n.serial ≡ Some who)
@@ -37,22 +28,14 @@ held_alone : (past : List Moment) (who : Party) (number : Option JobNumber) → 
 held_alone past who number same its only s rests = by (is_holder (holder past s) who) (is_serial_of number s) refl refl
   where
     held : (o : Option JobNumber) → number ≡ o → is_serial_of o s ≡ true → is_holder (holder past s) who ≡ true
-    held None is this = absurd cc
-    held (Some n) is this = ap (λ m. is_holder (holder past m) who) (sym (eqb-true n.serial s this)) ∙ ap (λ o. is_holder o who) (its n is) ∙ same
+    held o is this = grind arith
 
     by : (a b : Bool) → is_holder (holder past s) who ≡ a → is_serial_of number s ≡ b → a ≡ b
-    by true true holds this = refl
-    by false false holds this = refl
-    by true false holds this = let here = only s rests (holder_is (holder past s) who holds) in cc
-    by false true holds this = let here = held number refl this in cc
+    by a b holds this = grind arith
 
 -- a call of the crew alone asks nothing
 pass_asked : (w : Parts) (past : List Moment) (call : crew.Call) → is_pass call ≡ true → IsAsked w.crew past call
-pass_asked w past (crew.Park v ticket) is = absurd cc
-pass_asked w past (crew.Wake who number) is = absurd cc
-pass_asked w past (crew.Cancel who number) is = absurd cc
-pass_asked w past (crew.LetGo who act number) is = absurd cc
-pass_asked w past _ is = tt
+pass_asked w past call is = grind arith
 
 module _ (setting : ℕ) (plan : List Bool) (w : Parts) (past : List Moment) (t : Tied setting plan w past) where
   -- ---- a task, and an owner, that lets go of its job
@@ -90,11 +73,7 @@ module _ (setting : ℕ) (plan : List Bool) (w : Parts) (past : List Moment) (t 
               absurd (not_over h row.0.core (acts_of s (events past)) row.2 rest.0 rest.1 r.core over)
 
   owner_number_if : (h : ℕ) (owner : Owner) → slice_get w.owners h ≡ Some owner → IfSome (number_of owner) (IsNumberOf w.crew.pool)
-  owner_number_if h owner found = by (number_of owner) refl
-    where
-      by : (o : Option JobNumber) → number_of owner ≡ o → IfSome o (IsNumberOf w.crew.pool)
-      by None is = tt
-      by (Some number) is = owner_number setting plan w past t h owner number found is
+  owner_number_if h owner found = grind (arith, owner_number)
 
   -- ---- each move
 

@@ -1,18 +1,16 @@
 -- What is seen of each move: whose it is, of which job, and what.
-use Rattle.std.proofs.Common.{◌≡◌, ⊎_elim, ℕ, List, length, Bool, true, false, refl, sym, ap, ◌∙◌, subst, Option, Some, None, slice_get, Err}
+use Rattle.std.proofs.Common.{◌≡◌, ⊎_elim, ℕ, List, length, Bool, true, false, refl, sym, ap, ◌∙◌, subst, Option, Some, None, slice_get, Err, arith}
 use Rattle.std.proofs.lemmas.Bool.{or_parts}
-use Rattle.blocking_parts.proofs.Types.{Action, Woke, Act, Answered, Asked, HolderDropped, JobCancelled, JobWoken, Made, NoAction, Event, ByOwner, Pool, ByTask, Worker, Answer, TaskCall, Poll, Holds, Held, Stage, Ticket, Parking, SessionJob, Core}
-use Rattle.blocking_parts.proofs.Words.{IsPlanned, is_some_worker, is_of_job, is_answered_action, named, Crew, may_act, hand_at, added_act, parked_act, Owner, Worked, worked, Task, task_act, Move, Idles, Makes, Asks, Owns, Lends, Delivers, IsDropped, Begins, Calls, Works, IsAnswered, Parks, Passes, IsWoken, IsStruck, task_call, May, CrewMoves, Parts, call_step_by, call_step, session_step, Done, call_done, session_seen, session_done, done}
-use Rattle.blocking_core.specs.declared.job.Action.TheVariants as action
+use Rattle.blocking_parts.proofs.Types.{Woke, Act, Answered, Asked, HolderDropped, JobCancelled, JobWoken, Made, NoAction, Event, ByOwner, Pool, ByTask, Worker, Answer, TaskCall, Holds, Held, Stage, Ticket, Parking, SessionJob, Core}
+use Rattle.blocking_parts.proofs.Words.{IsPlanned, is_some_worker, is_of_job, is_answered_action, named, Crew, may_act, hand_at, added_act, parked_act, Owner, Worked, worked, Task, task_act, Move, Idles, Makes, Asks, Owns, Lends, Delivers, IsDropped, Begins, Calls, Works, IsAnswered, Parks, Passes, IsWoken, IsStruck, task_call, May, CrewMoves, Parts, call_step, session_step, Done, call_done, session_seen, session_done, done}
 use Rattle.blocking_crew.specs.Moves as crew
 use Rattle.blocking_crew.specs.declared.hand.Stage.TheVariants as stage
-use Rattle.blocking_crew.specs.declared.tickets.Parking.TheVariants as parking
 use Rattle.blocking_lanes.specs.Calls as calls
 use Rattle.blocking_lanes.specs.OwnerSteps as owners
 use Rattle.blocking_parts.specs.Rows.{next_of}
 use Rattle.blocking_parts.specs.declared.row.Core.TheVariants as core
 use Rattle.blocking_parts.proofs.moves.SessionActs.{fits_turn, moved, worked_so}
-use Rattle.blocking_parts.proofs.ties.CrewEvents.{Told, ToldBy, IsAlone, IsPlain, told, told_alone, worked as works_so, plain, by_no_worker}
+use Rattle.blocking_parts.proofs.ties.CrewEvents.{Told, ToldBy, IsAlone, IsPlain, told, worked as works_so, plain, by_no_worker}
 use Rattle.blocking_parts.proofs.ties.Jobs.{job_here, next_here}
 
 -- ---- what a job does fits its turn
@@ -24,16 +22,7 @@ MaySo at act = may_act at act ≡ true
 module _ (d : Done) where
   -- the job of a call
   call_so : (at : Stage) (k : ℕ) (call : calls.Progress) (all : List Task) (row : List Owner) (task : Option Task) → call_done k call at all row task (call_step at call) ≡ Some d → MaySo at d.act
-  call_so at k call all row None e = absurd cc
-  call_so stage.Runs k call all row (Some task) e = by call.next e
-    where
-      by : (next : Action) → call_done k call stage.Runs all row (Some task) (call_step_by next call.number) ≡ Some d → MaySo stage.Runs d.act
-      by action.Finish e = moved (λ (x : Done). MaySo stage.Runs x.act) _ d e refl
-      by action.Deliver e = moved (λ (x : Done). MaySo stage.Runs x.act) _ d e refl
-      by _ e = absurd cc
-  call_so stage.MustGiveUp k call all row (Some task) e = moved (λ (x : Done). MaySo stage.MustGiveUp x.act) _ d e refl
-  call_so stage.MustWake k call all row (Some task) e = moved (λ (x : Done). MaySo stage.MustWake x.act) _ d e refl
-  call_so _ k call all row (Some task) e = absurd cc
+  call_so at k call all row task e = grind arith
 
   -- the job of a session
   session_so : (at : Stage) (h : ℕ) (job : SessionJob) (all : List Task) (row : List Owner) (owner : Option Owner) → session_done h job all row owner (session_step at job) ≡ Some d → MaySo at d.act
@@ -55,8 +44,7 @@ module _ (d : Done) where
 
 -- a job is answered only while its turn goes on
 pub answer_fits : (at : Stage) (c : Core) (answer : Answer) → is_answered_action (next_of at c) answer ≡ true → at ≡ stage.Runs
-answer_fits stage.Runs c answer is = refl
-answer_fits _ c answer is = absurd cc
+answer_fits at c answer is = grind arith
 
 -- ---- moves
 
@@ -79,8 +67,7 @@ SaidBy w (IsWoken s row) e = (woke : Woke) × Told Pool None (JobWoken row.numbe
 SaidBy w (IsStruck s row) e = (woke : Woke) × Told Pool None (JobCancelled row.number.serial woke) e
 
 call_said : (k : ℕ) (call : TaskCall) (task : Task) (e : Event) → ToldBy (task_call k call task) e → Told (ByTask k) None (task_act call task) e
-call_said k Poll task e told = told
-call_said k _ task e told = told
+call_said k call task e told = grind arith
 
 -- the run of a job that waits ends so
 parks_so : (may_answer : ℕ → Bool → Type 0) (v : ℕ) (held : Held) (ticket : Ticket) (crew_now new : Crew) (e : Event) → hand_at crew_now.hands v ≡ Holds held → held.stage ≡ stage.Waits
@@ -128,17 +115,7 @@ is_alone _ = false
 
 -- such a move is seen as nothing to them
 pub alone : (w : Parts) (move : Move) (e : Event) → is_alone move ≡ true → SaidBy w move e → IsAlone e
-alone w (Idles step) e is told = told_alone (named step) None NoAction e told (record { out = λ k s. refl; uncut = λ h rows. refl; none_new = refl; none_made = refl })
-alone w (Begins (Err why)) e is told = told_alone Pool None _ e told (record { out = λ k s. refl; uncut = λ h rows. refl; none_new = refl; none_made = refl })
-alone w (Parks v job) e is told = told_alone (Worker v) (Some job.held.turn.serial) _ e told.1 (by told.0)
-  where
-    by : (how : Parking) → IsAlone (record { party = Worker v; owner = None; job = Some job.held.turn.serial; act = parked_act how job.held.turn.serial; first = e.first; started = e.started; start_refused = e.start_refused })
-    by (parking.Parked pass) = record { out = λ k s. refl; uncut = λ h rows. refl; none_new = refl; none_made = refl }
-    by _ = record { out = λ k s. refl; uncut = λ h rows. refl; none_new = refl; none_made = refl }
-alone w (Passes call) e is plain = record { out = plain.out; uncut = plain.uncut; none_new = plain.none_new; none_made = plain.none_made }
-alone w (IsWoken s row) e is told = told_alone Pool None _ e told.1 (record { out = λ k s. refl; uncut = λ h rows. refl; none_new = refl; none_made = refl })
-alone w (IsStruck s row) e is told = told_alone Pool None _ e told.1 (record { out = λ k s. refl; uncut = λ h rows. refl; none_new = refl; none_made = refl })
-alone w _ e is told = absurd cc
+alone w move e is told = grind arith
 
 -- whether the job in a hand acts, or is answered
 abbrev pub is_work : Move → Bool

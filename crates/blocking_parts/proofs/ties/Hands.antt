@@ -1,9 +1,8 @@
 -- What the hands of a crew have after a call of it: what they had, or a job that begins its turn.
-use Rattle.std.proofs.Common.{◌≡◌, ◌⊎◌, inl, inr, ℕ, ◌+◌, ◌==◌, List, length, Bool, true, false, sym, ap, ◌∙◌, subst, if◌then◌else◌}
-use Rattle.blocking_parts.proofs.Types.{Waited, Stay, Stop, Act, Event, Hand, Free, Holds, Held, Parking}
+use Rattle.std.proofs.Common.{◌≡◌, ◌⊎◌, inl, ℕ, ◌+◌, ◌==◌, List, length, Bool, true, false, sym, ◌∙◌, if◌then◌else◌, arith}
+use Rattle.blocking_parts.proofs.Types.{Waited, Act, Event, Hand, Free, Holds, Held, Parking}
 use Rattle.blocking_parts.proofs.Words.{Crew, hand_at, with_hand, GaveAs}
 use Rattle.blocking_crew.specs.Moves as crew
-use Rattle.blocking_crew.specs.declared.tickets.Parking.TheVariants as parking
 use Rattle.blocking_crew.proofs.hands.Rows.{IsAt, at_free, at_held, hand_set, hand_pushed}
 
 -- what holds only of a hand with a job that begins its turn
@@ -11,31 +10,24 @@ abbrev Begins : Hand → Type 0
 Begins (Holds held) = (acts : List Act) → GaveAs held.stage acts
 Begins hand = Unit {0}
 
-begins_of : (hand : Hand) (held : Held) → Begins hand → hand ≡ Holds held → (acts : List Act) → GaveAs held.stage acts
-begins_of hand held begins is = let new : Begins (Holds held) = subst Begins is begins in new
-
 -- a job is in a hand as before, or begins its turn
 abbrev pub IsOldOrBegins : List Hand → ℕ → Held → Type 0
 IsOldOrBegins row u held = (hand_at row u ≡ Holds held) ⊎ ((acts : List Act) → GaveAs held.stage acts)
 
 one_of : (b : Bool) (new before : Hand) (held : Held) → Begins new → (if b then new else before) ≡ Holds held → (before ≡ Holds held) ⊎ ((acts : List Act) → GaveAs held.stage acts)
-one_of true new before held begins is = inr (begins_of new held begins is)
-one_of false new before held begins is = inl is
+one_of b new before held begins is = grind arith
 
 set_hand : (row : List Hand) (v u : ℕ) (old new : Hand) (held : Held) → IsAt row v old → Begins new → hand_at (with_hand row v new) u ≡ Holds held → IsOldOrBegins row u held
 set_hand row v u old new held at begins is = one_of (v == u) new (hand_at row u) held begins (sym (hand_set row v u old new at) ∙ is)
 
 taken : (to_drop : Bool) (acts : List Act) → GaveAs (crew.first_stage to_drop) acts
-taken true acts = tt
-taken false acts = tt
+taken to_drop acts = grind arith
 
 waited : (answer : Waited) → Begins (crew.hand_after_wait answer)
-waited (Stay pass) = tt
-waited Stop = tt
+waited answer = grind arith
 
 parked : (how : Parking) → Begins (crew.hand_after_park how)
-parked (parking.HandedOut turn) = λ acts. tt
-parked _ = tt
+parked how = grind arith
 
 -- whether by a call no job in a hand acts
 abbrev pub leaves_turns : crew.Call → Bool
@@ -57,5 +49,4 @@ hands_by may_answer crew_now _ may other u held is = inl is
 -- A call by which no job in a hand acts leaves each hand with the job that it had, with none, or with one that begins its turn.
 pub hands_moved : (may_answer : ℕ → Bool → Type 0) (call : crew.Call) (crew_now new : Crew) (e : Event) → leaves_turns call ≡ true → crew.Moves may_answer call crew_now e new
     → (u : ℕ) (held : Held) → hand_at new.hands u ≡ Holds held → IsOldOrBegins crew_now.hands u held
-hands_moved may_answer call crew_now new e other m u held is =
-    hands_by may_answer crew_now m.move m.may (ap leaves_turns (sym m.call_is) ∙ other) u held (ap (λ (c : Crew). hand_at c.hands u) (sym m.after_is) ∙ is)
+hands_moved may_answer call crew_now new e other m u held is = grind (arith, hands_by)

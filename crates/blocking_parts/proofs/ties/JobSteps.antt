@@ -1,8 +1,7 @@
 -- What the job in a hand does to its task or its owner where it acts, and how that is seen.
-use Rattle.std.proofs.Common.{◌≡◌, ℕ, ◌-◌, List, [], Bool, true, false, refl, sym, ap, ◌∙◌, subst, Option, Some, None, if◌then◌else◌, slice_get, slice_set}
-use Rattle.std.proofs.lemmas.Bool.{eq-eqb}
+use Rattle.std.proofs.Common.{◌≡◌, ℕ, ◌-◌, List, [], Bool, true, false, refl, sym, ap, ◌∙◌, subst, Option, Some, slice_get, slice_set, arith}
 use Rattle.blocking_parts.proofs.Types.{Running, Act, Answered, Event, Moment, Party, Answer, Stage, SessionJob, Core, Row}
-use Rattle.blocking_parts.proofs.Words.{has_given_up, holder, events, acts_of, next_in_turn, is_answered_action, may_cancel, GoesOn, may_act, turn_of, OwnerStep, Owner, TaskStep, Task, Parts, row_of, owner_by, owner_of, InHand, next_at, owner_in, action_of, is_at_first, call_step, call_after, session_step, job_after, Done, call_done, session_seen, session_done, done, PlaceAs, Tied}
+use Rattle.blocking_parts.proofs.Words.{has_given_up, holder, events, acts_of, next_in_turn, is_answered_action, may_cancel, GoesOn, may_act, turn_of, OwnerStep, Owner, TaskStep, Task, Parts, owner_of, InHand, next_at, owner_in, action_of, is_at_first, call_step, call_after, session_step, job_after, Done, session_seen, session_done, done, PlaceAs, Tied}
 use Rattle.blocking_crew.specs.declared.hand.Stage.TheVariants as stage
 use Rattle.blocking_lanes.specs.Calls as calls
 use Rattle.blocking_lanes.specs.OwnerSteps as owners
@@ -10,11 +9,10 @@ use Rattle.blocking_lanes.specs.Steps as tasks
 use Rattle.blocking_parts.specs.Rows.{next_of}
 use Rattle.blocking_parts.specs.declared.row.Core.TheVariants as core
 use Rattle.blocking_lanes.proofs.owners.Events.{IsPlain}
-use Rattle.blocking_lanes.proofs.owners.OwnerActs.{value_of}
 use Rattle.blocking_parts.proofs.moves.Lookups.{row_set}
 use Rattle.blocking_parts.proofs.past.Drops.{must_drop}
 use Rattle.blocking_parts.proofs.rows.JobActs.{own_act}
-use Rattle.blocking_parts.proofs.ties.CrewEvents.{Told, told_is}
+use Rattle.blocking_parts.proofs.ties.CrewEvents.{Told}
 use Rattle.blocking_parts.proofs.ties.Events.{answer_fits}
 use Rattle.blocking_parts.proofs.ties.Jobs.{IsHere, job_place, next_here}
 
@@ -43,27 +41,17 @@ pub record SessionActs (w : Parts) (at : Stage) (h : ℕ) (read : SessionJob) (d
   pub owners_are : did.owners ≡ slice_set w.owners h (owners.owner_after step owner)
 
 pub call_acts : (w : Parts) (at : Stage) (k : ℕ) (call : calls.Progress) (did : Done) → done at (core.Call k call) w.tasks w.owners ≡ Some did → CallActs w at k call did
-call_acts w at k call did does = by (slice_get w.tasks k) (call_step at call) refl refl does
-  where
-    by : (found : Option Task) (step : Option TaskStep) → slice_get w.tasks k ≡ found → call_step at call ≡ step → call_done k call at w.tasks w.owners found step ≡ Some did → CallActs w at k call did
-    by (Some task) (Some step) found next does =
-        subst (CallActs w at k call) (ap (value_of did) does)
-        (record { step = step; task = task; next = next; there = found; act_is = refl; core_is = refl; tasks_are = refl; owners_are = refl })
-    by _ _ found next does = absurd cc
+call_acts w at k call did does = grind arith
 
 pub session_acts : (w : Parts) (at : Stage) (h : ℕ) (read : SessionJob) (did : Done) → done at (core.Session h read) w.tasks w.owners ≡ Some did → SessionActs w at h read did
 session_acts w at h read did does = by (slice_get w.owners h) (session_step at read) refl refl does
   where
     seen : (owner : Owner) (step : OwnerStep) (act : Option Act) → slice_get w.owners h ≡ Some owner → session_step at read ≡ Some step → owners.act_of step owner ≡ act
         → session_seen h read w.tasks w.owners owner step act ≡ Some did → SessionActs w at h read did
-    seen owner step (Some act) found next is does =
-        subst (SessionActs w at h read) (ap (value_of did) does)
-        (record { step = step; owner = owner; next = next; there = found; act_is = is; core_is = refl; tasks_are = refl; owners_are = refl })
-    seen owner step None found next is does = absurd cc
+    seen owner step act found next is does = grind arith
 
     by : (found : Option Owner) (step : Option OwnerStep) → slice_get w.owners h ≡ found → session_step at read ≡ step → session_done h read w.tasks w.owners found step ≡ Some did → SessionActs w at h read did
-    by (Some owner) (Some step) found next does = seen owner step (owners.act_of step owner) found next refl does
-    by _ _ found next does = absurd cc
+    by found step o next does = grind arith
 
 -- ---- how that is seen
 
@@ -77,25 +65,19 @@ seen_in new e = record e { owner = owner_of new.rows e.job }
 
 pub seen_is : (new : Parts) (who : Party) (job owner : Option ℕ) (act : Act) (e : Event) → Told who job act e → owner_of new.rows job ≡ owner
     → seen_in new e ≡ record { party = who; owner = owner; job = job; act = act; first = e.first; started = e.started; start_refused = e.start_refused }
-seen_is new who job owner act e told whose =
-    ap (seen_in new) (told_is who job act e told) ∙ ap (λ o. record { party = who; owner = o; job = job; act = act; first = e.first; started = e.started; start_refused = e.start_refused }) whose
+seen_is new who job owner act e told whose = grind arith
 
 -- for the job in a hand, that is the owner whom its row tells
 pub its_owner : (w : Parts) (v : ℕ) (job : InHand) (new : Core) (rows : List Row) → IsHere w v job → rows ≡ slice_set w.rows (job.held.turn.serial - 1) (record job.row { core = new })
     → owner_of rows (Some job.held.turn.serial) ≡ owner_in new
-its_owner w v job new rows here is =
-    let s = job.held.turn.serial in
-    let row = record job.row { core = new } in
-    ap (λ all. owner_of all (Some s)) is ∙ ap owner_by (row_set w.rows s s job.row row here.has_row ∙ ap (λ b. if b then Some row else row_of w.rows s) (eq-eqb s s refl))
+its_owner w v job new rows here is = grind (arith, row_set)
 
 -- ---- a job that has to give up
 
 -- its holder let it go
 pub let_go_here : (setting : ℕ) (plan : List Bool) (w : Parts) (past : List Moment) → Tied setting plan w past → (v : ℕ) (job : InHand) → IsHere w v job → job.held.stage ≡ stage.MustGiveUp
     → may_cancel (holder past job.held.turn.serial) past ≡ true
-let_go_here setting plan w past t v job here must =
-    let s = job.held.turn.serial in
-    t.marks.let_go s (must_drop setting plan past t.crewed.laws s (t.crewed.tied.handed.turn_is v job.held here.holds ∙ ap turn_of must))
+let_go_here setting plan w past t v job here must = grind (arith, must_drop)
 
 -- ---- a job that is answered
 

@@ -16,15 +16,8 @@ pub record IsHere (w : Parts) (v : ℕ) (job : InHand) : Type 0 where
   pub holds : hand_at w.crew.hands v ≡ Holds job.held
   pub has_row : row_of w.rows job.held.turn.serial ≡ Some job.row
 
-here_with : (w : Parts) (v : ℕ) (job : InHand) (held : Held) (row : Option Row) → hand_at w.crew.hands v ≡ Holds held → row_of w.rows held.turn.serial ≡ row → job_with held row ≡ Some job → IsHere w v job
-here_with w v job held None at found is = absurd cc
-here_with w v job held (Some row) at found is =
-    let one : record { held = held; row = row } ≡ job = cc in
-    subst (IsHere w v) one (record { holds = at; has_row = found })
-
 here_in : (w : Parts) (v : ℕ) (job : InHand) (hand : Hand) → hand_at w.crew.hands v ≡ hand → job_in w.rows hand ≡ Some job → IsHere w v job
-here_in w v job (Holds held) at is = here_with w v job held (row_of w.rows held.turn.serial) at refl is
-here_in w v job _ at is = absurd cc
+here_in w v job hand at is = grind arith
 
 pub job_here : (w : Parts) (v : ℕ) (job : InHand) → job_at w v ≡ Some job → IsHere w v job
 job_here w v job is = here_in w v job (hand_at w.crew.hands v) refl is
@@ -93,8 +86,7 @@ module _ (setting : ℕ) (plan : List Bool) (w : Parts) (past : List Moment) (t 
   next_free = none_by (holder past w.crew.pool.next_serial) (holder_stands w.crew.pool.next_serial ∙ ap is_some (fresh setting plan w.crew past t.crewed))
     where
       none_by : (o : Option Party) → is_some o ≡ false → o ≡ None
-      none_by None is = refl
-      none_by (Some who) is = absurd cc
+      none_by o is = grind arith
 
   -- a task holds the job of its number, which is that number of the pool's, and is tied to the cut of both
   pub task_holds : (k : ℕ) (task : Task) → slice_get w.tasks k ≡ Some task → holder past task.number.serial ≡ Some (ByTask k)

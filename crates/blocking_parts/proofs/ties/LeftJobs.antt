@@ -2,28 +2,24 @@
 use Rattle.std.proofs.Common.{◌≡◌, ◌⊎◌, inl, inr, ℕ, ◌<◌, List, [], ◌∷◌, ◌++◌, length, Bool, true, false, refl, sym, ap, ◌∙◌, subst, arith, Option, Some, None, slice_get, slice_set, is_some, is_none, Ok, Err}
 use Rattle.std.proofs.lemmas.Bool.{eqb-true, eq-eqb}
 use Rattle.std.proofs.lemmas.Option.{slice_get_within}
-use Rattle.blocking_parts.proofs.Types.{Running, Act, JobParked, JobWoken, Event, Moment, Party, ByOwner, HandleCall, Stage, SessionJob, OwnerStage, Core}
-use Rattle.blocking_parts.proofs.Words.{IsPlanned, Kind, next_but_wake, is_over, fault, has_finished, has_given_up, holder, is_woken, standing, PoolLaw, is_job_seated, EachMayFollow, events, is_of_pool, is_nothing, is_of_job, acts_of, cut, own, kind_of_job, kind_by, turn, turn_of, CrewHolds, OwnerStep, state_as, ResultAs, LastAs, OwnerAs, Owner, new_owner, capacity_of, number_in, number_of, note_at, next_of, Worked, worked, JobAs, Session, Move, Makes, Asks, Owns, Lends, Delivers, IsDropped, Works, IsAnswered, step_of, owners_after, May, CrewMoves, Parts, InHand, done_by, party_of, kind_of, is_first, is_at_first, session_step, Done, done, CoreAs, PlaceAs, is_left, seated_in, is_number, IsMet, Crossed, moment, Tied}
-use Rattle.blocking_core.specs.declared.unblock.OwnerAction.TheVariants as action
+use Rattle.blocking_parts.proofs.Types.{Running, Act, JobParked, Event, Moment, Party, ByOwner, HandleCall, Stage, SessionJob, OwnerStage, Core}
+use Rattle.blocking_parts.proofs.Words.{IsPlanned, Kind, next_but_wake, is_over, fault, has_finished, has_given_up, holder, is_woken, standing, PoolLaw, is_job_seated, EachMayFollow, events, is_of_pool, is_nothing, is_of_job, acts_of, cut, own, kind_of_job, kind_by, turn, turn_of, CrewHolds, OwnerStep, ResultAs, LastAs, OwnerAs, Owner, new_owner, capacity_of, number_in, number_of, note_at, next_of, Worked, worked, JobAs, Session, Move, Makes, Asks, Owns, Lends, Delivers, IsDropped, Works, IsAnswered, step_of, owners_after, May, CrewMoves, Parts, InHand, done_by, party_of, kind_of, is_first, is_at_first, session_step, Done, done, CoreAs, PlaceAs, is_left, seated_in, is_number, IsMet, Crossed, moment, Tied}
 use Rattle.blocking_laws.specs.Sessions as sessions
 use Rattle.blocking_crew.specs.declared.hand.Stage.TheVariants as stage
 use Rattle.blocking_lanes.specs.OwnerSteps as owners
 use Rattle.blocking_lanes.specs.Owners.{next_at}
 use Rattle.blocking_lanes.specs.SessionJobs as jobs
 use Rattle.blocking_lanes.specs.declared.owner.OwnerNext.TheVariants as next
-use Rattle.blocking_lanes.specs.declared.owner.OwnerStage.TheVariants as owner_stage
 use Rattle.blocking_parts.specs.declared.row.Core.TheVariants as core
 use Rattle.blocking_pool.proofs.Places.{got_same, in_pushed}
 use Rattle.blocking_laws.proofs.Beginnings.{keeps}
 use Rattle.blocking_lanes.proofs.owners.Cuts.{its_kind, kind_is}
-use Rattle.blocking_lanes.proofs.owners.OwnerActs.{fits_at, owner_by_parts, value_of}
+use Rattle.blocking_lanes.proofs.owners.OwnerActs.{owner_by_parts, value_of}
 use Rattle.blocking_lanes.proofs.owners.ReadSessions.{going}
-use Rattle.blocking_lanes.proofs.owners.States.{is_away, lent_by}
-use Rattle.blocking_lanes.proofs.owners.Steps.{IsLast, begins_at, its_last}
+use Rattle.blocking_lanes.proofs.owners.Steps.{IsLast, its_last}
 use Rattle.blocking_parts.proofs.moves.Lookups.{in_set, one_found}
-use Rattle.blocking_parts.proofs.moves.Seats.{SeatAs, asked_met, delivered_met, did_met, dropped_met, gave_up_met, refused_met, worked_met, worked_parks}
-use Rattle.blocking_parts.proofs.moves.SessionActs.{first_where_parked}
-use Rattle.blocking_parts.proofs.past.LeftJobs.{left_before, left_place, left_stands, left_unwoken}
+use Rattle.blocking_parts.proofs.moves.Seats.{SeatAs, asked_met, delivered_met, did_met, dropped_met, gave_up_met, refused_met, worked_met}
+use Rattle.blocking_parts.proofs.past.LeftJobs.{left_before, left_place, left_stands}
 use Rattle.blocking_parts.proofs.ties.CrewEvents.{by_worker}
 use Rattle.blocking_parts.proofs.ties.Events.{SaidBy, no_work, said}
 use Rattle.blocking_parts.proofs.ties.JobSteps.{call_acts, session_acts}
@@ -35,8 +31,7 @@ use Rattle.blocking_parts.proofs.ties.Releases.{owner_there}
 
 -- the seat is empty, or that of its job
 seat_as : (last : Option Session) (bytes : Kind → ℕ) (X : List Event) → LastAs last bytes X → SeatAs (is_job_seated X) last
-seat_as None bytes X t = tt
-seat_as (Some session) bytes X t = t.seats.job
+seat_as last bytes X t = grind arith
 
 -- while its job isn't over, the handle isn't back
 still_lent : (session : Session) (bytes : Kind → ℕ) (X : List Event) → LastAs (Some session) bytes X → is_over (next_but_wake (kind_of_job session.number.serial (own X)) (acts_of session.number.serial X)) ≡ false
@@ -52,24 +47,18 @@ still_lent session bytes X t goes =
 
 -- where the handle is with its owner, it is back
 idle_back : (last : Option sessions.Session) (shut : Bool) → sessions.state_in last shut ≡ sessions.Idle → is_none last ≡ true
-idle_back None shut is = refl
-idle_back (Some session) shut is = absurd cc
+idle_back last shut is = grind arith
 
 -- an owner whose session begins has its handle
 begins_idle : (bytes : ℕ) (asked : Option HandleCall) (here : OwnerStage) (last : Option Session) (X : List Event) → OwnerAs (owner_by_parts bytes asked here last) X → next_at here last ≡ next.Begins
     → sessions.state_in (sessions.session (own X)) (sessions.is_shut (own X)) ≡ sessions.Idle
-begins_idle bytes asked (owner_stage.Polls poll) last X t begins =
-    let fits = fits_at bytes asked poll X last action.Begin t (begins_at bytes asked poll last X t begins) in
-    let idle = fits.1 in
-    lent_by (own X) poll.state (ap is_away idle) t.stage.0.at_is ∙ ap state_as idle
-begins_idle bytes asked _ last X t begins = absurd cc
+begins_idle bytes asked here last X t begins = grind arith
 
 -- ---- one act of a job
 
 -- the job of an owner at its first action isn't over
 first_stays : (h : ℕ) (c : Core) (acts : List Act) → party_of c ≡ ByOwner h → is_at_first c ≡ true → has_given_up acts ≡ false → CoreAs c acts → is_over (next_but_wake (kind_of c) acts) ≡ false
-first_stays h (core.Call k call) acts party first going so = absurd cc
-first_stays h (core.Session g job) acts party first going so = first_goes job acts (so going) first
+first_stays h c acts party first going so = grind arith
 
 -- what its job does leaves a job with its owner
 step_met : (at : Stage) (job : SessionJob) (step : OwnerStep) (owner : Owner) (s : ℕ) (seated : Bool) → session_step at job ≡ Some step → SeatAs seated owner.session → IsMet owner s → IsMet (owners.owner_after step owner) s
@@ -90,28 +79,7 @@ record ParksSo (at : Stage) (job : SessionJob) (step : OwnerStep) (owner : Owner
   seat : seated_in (owners.owner_after step owner).session ≡ number_of owner
 
 parks_so : (at : Stage) (job : SessionJob) (step : OwnerStep) (owner : Owner) (act : Act) → session_step at job ≡ Some step → owners.act_of step owner ≡ Some act → act ≡ JobParked → ParksSo at job step owner
-parks_so stage.Runs job step owner act is does parks =
-    let same = ap (value_of step) is in
-    subst (λ (x : OwnerStep). ParksSo stage.Runs job x owner) same (by (worked job owner) refl (ap (λ (x : OwnerStep). owners.act_of x owner) same ∙ does))
-  where
-    by : (o : Option Worked) → worked job owner ≡ o → owners.act_of_work o ≡ Some act → ParksSo stage.Runs job (owners.Works job) owner
-    by None found does = absurd cc
-    by (Some did) found does =
-        let park : did.act ≡ JobParked = ap (value_of act) does ∙ parks in
-        record {
-          runs = refl;
-          first = first_where_parked job owner did found park;
-          seat = ap (λ o. seated_in (owners.owner_after_work o owner).session) found ∙ worked_parks job owner did found park;
-        }
-parks_so stage.MustGiveUp job step owner act is does parks =
-    let same = ap (value_of step) is in
-    let gave : Some (owners.act_of owners.GivesUp owner) ≡ Some (owners.act_of step owner) = ap (λ (x : OwnerStep). Some (owners.act_of x owner)) same in
-    absurd cc
-parks_so stage.MustWake job step owner act is does parks =
-    let same = ap (value_of step) is in
-    let woken : owners.act_of owners.CallsWaker owner ≡ owners.act_of step owner = ap (λ (x : OwnerStep). owners.act_of x owner) same in
-    absurd cc
-parks_so _ job step owner act is does parks = absurd cc
+parks_so at job step owner act is does parks = grind arith
 
 -- ---- a job that was left before
 
@@ -155,8 +123,7 @@ module _ (setting : ℕ) (plan : List Bool) (w : Parts) (past : List Moment) (t 
     set_met g old new found keep owner at = by (in_set w.owners g old new found h owner at)
       where
         by : (slice_get w.owners h ≡ Some owner) ⊎ ((g ≡ h) × (new ≡ owner)) → IsMet owner s
-        by (inl before) = still owner before
-        by (inr now) = subst (λ (o : Owner). IsMet o s) now.1 (keep now.0 (still old (ap (slice_get w.owners) (sym now.0) ∙ found)))
+        by o = grind arith
 
     -- where there is one more, which holds no job yet
     pushed_met : (new : Owner) → MetIn (w.owners ++ new ∷ [])
@@ -197,9 +164,7 @@ module _ (setting : ℕ) (plan : List Bool) (w : Parts) (past : List Moment) (t 
       where
         -- a wake that reaches a job takes it from its owner
         other : is_number (note_at owner.stage) s ≡ true → ⊥
-        other noted =
-            let same : number.serial ≡ s = eqb-true number.serial s (ap (λ o. is_number o s) (sym may.1) ∙ noted) in
-            left_unwoken setting plan past (moment new (step_of (Delivers g owner number)) e) laws s later told.0 (told.1.act_is ∙ ap (λ n. JobWoken n told.0) same)
+        other noted = grind arith
     move_met (IsDropped g owner) e new may told laws later = set_met g owner _ may.0 (λ same met. dropped_met owner s may.1 met)
     move_met (Works v job did) e new may told laws later = acts_met v job did may.1
     move_met _ e new may told laws later = still

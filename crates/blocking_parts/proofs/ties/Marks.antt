@@ -1,17 +1,11 @@
 -- Each move keeps the marks: only a job that was let go is marked or cancelled, and one that was let go and isn't over is marked.
 use Rattle.std.proofs.Common.{◌≡◌, ℕ, ◌≤◌, List, [], ◌∷◌, length, Bool, true, false, refl, sym, ap, ◌∙◌, subst, arith, Option, Some, slice_get, Ok}
-use Rattle.std.proofs.lemmas.Bool.{eqb-true}
-use Rattle.blocking_parts.proofs.Types.{Woke, Nothing, Act, Accepted, HolderDropped, JobCancelled, Event, Moment, ByOwner, ByTask, TaskCall, Stage, Parking, OwnerStage, Row}
-use Rattle.blocking_parts.proofs.Words.{IsPlanned, accepted_by, accepts, tasks, newcomer, holder, cancels, lets_go, events, own, may_cancel, is_let_go, may_act, parked_act, CrewHolds, Owner, is_gone, Did, did, IsDid, Session, Task, task_act, Move, Owns, Lends, Delivers, IsDropped, Begins, Calls, Works, Parks, Passes, IsWoken, IsStruck, step_of, May, CrewMoves, Parts, row_of, let_go_of, Marked, moment, Tied}
-use Rattle.blocking_crew.specs.declared.tickets.Parking.TheVariants as parking
+use Rattle.blocking_parts.proofs.Types.{Woke, Act, Accepted, HolderDropped, JobCancelled, Event, Moment, ByOwner, ByTask, TaskCall, Stage, Parking, OwnerStage, Row}
+use Rattle.blocking_parts.proofs.Words.{IsPlanned, accepted_by, accepts, tasks, newcomer, holder, cancels, lets_go, events, own, may_cancel, is_let_go, may_act, parked_act, CrewHolds, Owner, is_gone, Did, did, Session, Task, task_act, Move, Owns, Lends, Delivers, IsDropped, Begins, Calls, Works, Parks, Passes, IsWoken, IsStruck, step_of, May, CrewMoves, Parts, row_of, let_go_of, Marked, moment, Tied}
 use Rattle.blocking_lanes.specs.Owners.{next_at}
 use Rattle.blocking_lanes.specs.declared.owner.OwnerNext.TheVariants as next
-use Rattle.blocking_lanes.specs.declared.owner.OwnerStage.TheVariants as stage
-use Rattle.blocking_crew.proofs.ties.Acts.{aside_plain, by_work}
-use Rattle.blocking_lanes.proofs.acts.Calls.{by_call}
 use Rattle.blocking_lanes.proofs.cuts.Acts.{own_cut}
-use Rattle.blocking_parts.proofs.moves.Asides.{told_aside}
-use Rattle.blocking_parts.proofs.past.Marks.{KeepsMarks, IsQuiet, quiet_keeps, plain_quiet, marks_kept}
+use Rattle.blocking_parts.proofs.past.Marks.{KeepsMarks, IsQuiet, quiet_keeps, marks_kept}
 use Rattle.blocking_parts.proofs.ties.CrewEvents.{IsPlain}
 use Rattle.blocking_parts.proofs.ties.Events.{SaidBy, said, done_fits}
 use Rattle.blocking_parts.proofs.ties.Jobs.{next_free}
@@ -21,25 +15,19 @@ use Rattle.blocking_parts.proofs.ties.Releases.{let_go_is}
 
 -- an act of a job
 work_quiet : (at : Stage) (act : Act) → may_act at act ≡ true → IsQuiet act
-work_quiet at act may =
-    by_work (λ here done. IsQuiet done) (λ here done plain goes fits. plain_quiet done plain) (record { new = λ s. refl; cancelled = λ s. refl; kept = refl })
-    (λ waker. record { new = λ s. refl; cancelled = λ s. refl; kept = refl }) at act may
+work_quiet at act may = grind arith
 
 -- an act of an owner by itself
 own_quiet : (owner : Owner) (done : Did) → did owner ≡ Some done → IsQuiet done.act
-own_quiet owner done is =
-    let aside = told_aside owner done.owner done.act (subst (λ o. IsDid o owner (Some done.act) done.owner) (sym is) (refl, refl)) in
-    plain_quiet done.act (aside_plain done.act aside)
+own_quiet owner done is = grind arith
 
 -- the end of a run that waits
 parked_quiet : (how : Parking) (s : ℕ) → IsQuiet (parked_act how s)
-parked_quiet (parking.Parked pass) s = record { new = λ s. refl; cancelled = λ s. refl; kept = refl }
-parked_quiet _ s = record { new = λ s. refl; cancelled = λ s. refl; kept = refl }
+parked_quiet how s = grind arith
 
 -- an event of the crew alone
 none_new : (act : Act) (s : ℕ) → accepted_by act ≡ [] → accepts s act ≡ false
-none_new (Accepted t) s none = absurd cc
-none_new _ s none = refl
+none_new act s none = grind arith
 
 pass_quiet : (e : Event) → IsPlain e → IsQuiet e.act
 pass_quiet e plain = record { new = λ s. none_new e.act s plain.none_new; cancelled = plain.cancelled; kept = plain.kept }
@@ -48,13 +36,11 @@ pass_quiet e plain = record { new = λ s. none_new e.act s plain.none_new; cance
 
 -- an owner whose session begins is there
 begins_there : (here : OwnerStage) (session : Option Session) → next_at here session ≡ next.Begins → is_gone here ≡ false
-begins_there stage.Dropped session is = absurd cc
-begins_there _ session is = refl
+begins_there here session is = grind arith
 
 -- the job that a cancel cancels
 cancelled_is : (s t : ℕ) (woke : Woke) → cancels (JobCancelled t woke) s ≡ true → t ≡ s
-cancelled_is s t Nothing is = absurd cc
-cancelled_is s t _ is = eqb-true t s is
+cancelled_is s t woke is = grind arith
 
 module _ (setting : ℕ) (plan : List Bool) (w : Parts) (past : List Moment) (t : Tied setting plan w past) where
   -- a new task let nothing go
@@ -75,27 +61,15 @@ module _ (setting : ℕ) (plan : List Bool) (w : Parts) (past : List Moment) (t 
 
     -- a new job
     new_keeps : (s : ℕ) → now.event.act ≡ Accepted s → may_cancel (Some (newcomer past now.event.party)) past ≡ false → KeepsMarks past now
-    new_keeps s is free = record {
-      cancelled = λ n cancel. let none = ap (λ a. cancels a n) is in absurd cc;
-      dropped = λ h party lets. let none = ap lets_go is in absurd cc;
-      new = λ n accepted. free;
-    }
+    new_keeps s is free = grind arith
 
     -- an owner that is dropped
     drop_keeps : now.event.act ≡ HolderDropped → KeepsMarks past now
-    drop_keeps is = record {
-      cancelled = λ n cancel. let none = ap (λ a. cancels a n) is in absurd cc;
-      dropped = λ h party lets. is;
-      new = λ n accepted. let none = ap (accepts n) is in absurd cc;
-    }
+    drop_keeps is = grind arith
 
     -- a call of a task
     call_keeps : (k : ℕ) (call : TaskCall) (task : Task) → now.event.party ≡ ByTask k → now.event.act ≡ task_act call task → KeepsMarks past now
-    call_keeps k call task party is = record {
-      cancelled = λ n cancel. let none = ap (λ a. cancels a n) is ∙ by_call (λ act. cancels act n ≡ false) refl (λ m. refl) refl refl refl refl call task in absurd cc;
-      dropped = λ h owner lets. absurd cc;
-      new = λ n accepted. let none = ap (accepts n) is ∙ by_call (λ act. accepts n act ≡ false) refl (λ m. refl) refl refl refl refl call task in absurd cc;
-    }
+    call_keeps k call task party is = grind arith
 
     -- a cancel of a job that was let go
     struck_keeps : (s : ℕ) (row : Row) (woke : Woke) → row_of w.rows s ≡ Some row → let_go_of w row.core ≡ true → now.event.act ≡ JobCancelled row.number.serial woke → KeepsMarks past now

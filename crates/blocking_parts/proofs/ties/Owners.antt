@@ -2,7 +2,7 @@
 use Rattle.std.proofs.Common.{◌≡◌, ℕ, ◌==◌, ◌-◌, List, [], ◌∷◌, length, Bool, true, false, refl, sym, ap, ◌∙◌, subst, Some, None, ◌&&◌, not, slice_get, slice_set, Result, Ok, Err, arith}
 use Rattle.std.proofs.lemmas.Bool.{eqb-true, or_parts}
 use Rattle.blocking_parts.proofs.Types.{Refusal, Running, Act, Accepted, Answered, Asked, HolderDropped, JobWoken, Made, Refused, Event, Moment, ByOwner, Pool, ByTask, Worker, Answer, Step, TaskCall, Stage, SessionJob, Core}
-use Rattle.blocking_parts.proofs.Words.{Growth, JobNumber, IsPlanned, Kind, JobAction, Over, next_but_wake, is_over, has_given_up, accepted_by, accepts, holder, events, is_some_worker, is_of_pool, is_nothing, is_of_job, is_by_task, acts_of, is_in_cut, cut, own, kind_of_job, kind_by, next_in_turn, is_answered_action, is_making, may_cancel, GoesOn, added_act, turn_of, OwnerStep, act_in, delivered, act_of, owner_after, MayTake, is_of_its_job, event_by, IsHeld, IsFresh, OwnersHold, Owner, is_gone, JobAs, Task, task_act, Move, Makes, Asks, Owns, Lends, Delivers, IsDropped, Begins, Calls, Works, IsAnswered, step_of, rows_after, owners_after, May, CrewMoves, Parts, owner_of, InHand, next_at, done_by, is_first, is_at_first, session_step, Done, done, core_after_answer, CoreAs, PlaceAs, GaveAs, moment, Tied}
+use Rattle.blocking_parts.proofs.Words.{Growth, JobNumber, IsPlanned, Kind, JobAction, next_but_wake, is_over, has_given_up, accepted_by, holder, events, is_of_pool, is_nothing, is_of_job, is_by_task, acts_of, is_in_cut, cut, own, kind_of_job, kind_by, next_in_turn, is_answered_action, is_making, may_cancel, GoesOn, added_act, turn_of, OwnerStep, act_in, delivered, act_of, owner_after, MayTake, is_of_its_job, event_by, IsHeld, IsFresh, OwnersHold, Owner, is_gone, JobAs, Task, task_act, Move, Makes, Asks, Owns, Lends, Delivers, IsDropped, Begins, Calls, Works, IsAnswered, step_of, rows_after, owners_after, May, CrewMoves, Parts, owner_of, InHand, next_at, done_by, is_first, is_at_first, session_step, Done, done, core_after_answer, CoreAs, PlaceAs, GaveAs, moment, Tied}
 use Rattle.blocking_laws.specs.OwnerLaws.{OwnerLaws}
 use Rattle.blocking_crew.specs.Moves as crew
 use Rattle.blocking_crew.specs.declared.hand.Stage.TheVariants as stage
@@ -12,13 +12,11 @@ use Rattle.blocking_lanes.specs.SessionJobs as jobs
 use Rattle.blocking_parts.specs.Rows as row
 use Rattle.blocking_parts.specs.declared.row.Core.TheVariants as core
 use Rattle.blocking_pool.proofs.Places.{set_same}
-use Rattle.blocking_lanes.proofs.acts.Calls.{by_call}
 use Rattle.blocking_lanes.proofs.owners.Events.{IsPlain}
-use Rattle.blocking_lanes.proofs.owners.OwnerActs.{value_of}
 use Rattle.blocking_lanes.proofs.owners.Owners.{aside, born, stepped}
 use Rattle.blocking_lanes.proofs.ties.Holders.{accepts_no_job}
 use Rattle.blocking_parts.proofs.rows.SessionJobs.{answer_of, first_of_table}
-use Rattle.blocking_parts.proofs.ties.CrewEvents.{Told, IsAlone, added_of, by_no_worker, by_worker}
+use Rattle.blocking_parts.proofs.ties.CrewEvents.{Told, IsAlone, added_of, by_worker}
 use Rattle.blocking_parts.proofs.ties.Events.{SaidBy, alone, done_fits, said}
 use Rattle.blocking_parts.proofs.ties.JobSteps.{call_acts, session_acts, may_plain, seen_in, seen_is, its_owner, let_go_here, asks_here}
 use Rattle.blocking_parts.proofs.ties.Jobs.{IsHere, job_here, its_holder, job_place, next_free}
@@ -28,8 +26,7 @@ use Rattle.blocking_parts.proofs.ties.Releases.{owner_there}
 
 -- a job at its first action isn't over
 first_open : (a : JobAction) → is_first a ≡ true → is_over a ≡ false
-first_open Over first = absurd cc
-first_open _ first = refl
+first_open a first = grind arith
 
 pub first_goes : (job : SessionJob) (acts : List Act) → JobAs job acts → is_first (jobs.action_of job) ≡ true → is_over (next_but_wake (jobs.kind_of job) acts) ≡ false
 first_goes job acts so first = first_open (next_but_wake (jobs.kind_of job) acts) (first_of_table job acts so first)
@@ -38,23 +35,15 @@ first_goes job acts so first = first_open (next_but_wake (jobs.kind_of job) acts
 session_may : (at : Stage) (job : SessionJob) (step : OwnerStep) (owner : Owner) (kind : Kind) (acts : List Act) → kind ≡ jobs.kind_of job → session_step at job ≡ Some step
     → (at ≡ stage.MustGiveUp → is_gone owner.stage ≡ true) → (has_given_up acts ≡ false → JobAs job acts) → PlaceAs (Some Running) (turn_of at) (is_first (jobs.action_of job)) acts → GaveAs at acts
     → MayTake step owner kind acts
-session_may stage.Runs job step owner kind acts of is gone so place gave = subst (λ s. MayTake s owner kind acts) (ap (value_of step) is) (of, so place)
-session_may stage.MustGiveUp job step owner kind acts of is gone so place gave =
-    subst (λ s. MayTake s owner kind acts) (ap (value_of step) is) (gone refl, ap (λ k. is_over (next_but_wake k acts)) of ∙ first_goes job acts (so place.1) place.0)
-session_may stage.MustWake job step owner kind acts of is gone so place gave = subst (λ s. MayTake s owner kind acts) (ap (value_of step) is) (gave kind).0
-session_may _ job step owner kind acts of is gone so place gave = absurd cc
+session_may at job step owner kind acts of is gone so place gave = grind arith
 
 -- that is an act of the owner's job
 its_act : (at : Stage) (job : SessionJob) (step : OwnerStep) → session_step at job ≡ Some step → is_of_its_job step ≡ true
-its_act stage.Runs job step is = ap is_of_its_job (sym (ap (value_of step) is))
-its_act stage.MustGiveUp job step is = ap is_of_its_job (sym (ap (value_of step) is))
-its_act stage.MustWake job step is = ap is_of_its_job (sym (ap (value_of step) is))
-its_act _ job step is = absurd cc
+its_act at job step is = grind arith
 
 -- no session begins by it
 its_fresh : (past : List Moment) (step : OwnerStep) → is_of_its_job step ≡ true → IsFresh step past
-its_fresh past (lanes.Begins number) is = absurd cc
-its_fresh past _ is = tt
+its_fresh past step is = grind arith
 
 -- ---- what is seen where no owner takes a step
 
@@ -74,13 +63,7 @@ module _ (past : List Moment) (new : Parts) (e : Event) where
 
   -- a call of a task
   call_aside : (k : ℕ) (call : TaskCall) (task : Task) → Told (ByTask k) None (task_act call task) e → IsAside past (seen_in new e)
-  call_aside k call task told = record {
-    out = λ h. ap (is_in_cut h) (seen_is new (ByTask k) None None (task_act call task) e told refl) ∙ none_in (not (is_of_pool (task_act call task))) (not (is_nothing (task_act call task)));
-    none_made = ap is_making told.act_is ∙ by_call (λ act. is_making act ≡ false) refl (λ n. refl) refl refl refl refl call task;
-    of_task = λ s its. absurd (let none = by_no_worker s e (ap is_some_worker told.party) in cc);
-    new = λ s new. absurd (let none = ap (accepts s) told.act_is ∙ by_call (λ act. accepts s act ≡ false) refl (λ n. refl) refl refl refl refl call task in cc);
-    not_theirs = λ h s new by. absurd (let other = sym told.party ∙ by in cc);
-  }
+  call_aside k call task told = grind arith
 
   -- an act of the job of a call
   job_aside : (v s k : ℕ) (act : Act) → Told (Worker v) (Some s) act e → IsPlain [] act → owner_of new.rows (Some s) ≡ None → holder past s ≡ Some (ByTask k) → IsAside past (seen_in new e)

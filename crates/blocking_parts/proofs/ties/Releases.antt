@@ -1,11 +1,11 @@
 -- Who let a job go: the parts have it as it was seen, and so has the ticket of a job that parks.
-use Rattle.std.proofs.Common.{◌≡◌, ℕ, ◌<◌, List, [], length, Bool, true, false, refl, sym, ap, ◌∙◌, subst, arith, Option, Some, None, nat_lt, slice_get}
+use Rattle.std.proofs.Common.{◌≡◌, ℕ, ◌<◌, List, [], length, Bool, true, false, refl, sym, ap, ◌∙◌, arith, Option, Some, nat_lt, slice_get}
 use Rattle.std.specs.Cmp.{both_ways}
 use Rattle.std.specs.FinMap.{get}
 use Rattle.std.proofs.lemmas.Bool.{or_right}
 use Rattle.std.proofs.lemmas.Bool.Decides.{nat_tests}
 use Rattle.blocking_parts.proofs.Types.{Standing, Running, Moment, ByOwner, ByTask, Ticket, Core, Row}
-use Rattle.blocking_parts.proofs.Words.{Entry, is_in, holder, is_cancelled, has_ended, is_marked, standing, events, cut, own, jobs_of, may_cancel, is_let_go, AbsentAs, FiledAs, Owner, Task, Parts, row_of, InHand, task_let_go, owner_let_go, let_go_of, party_of, Tied}
+use Rattle.blocking_parts.proofs.Words.{Entry, is_in, holder, is_cancelled, has_ended, is_marked, standing, events, cut, own, jobs_of, may_cancel, is_let_go, FiledAs, Owner, Task, Parts, row_of, InHand, task_let_go, owner_let_go, let_go_of, party_of, Tied}
 use Rattle.blocking_parts.specs.declared.row.Core.TheVariants as core
 use Rattle.blocking_crew.proofs.ties.Standings.{held_runs}
 use Rattle.blocking_lanes.proofs.cuts.Acts.{own_cut}
@@ -14,8 +14,7 @@ use Rattle.blocking_parts.proofs.ties.Jobs.{IsHere}
 
 -- a job that runs isn't over
 goes_on : (found : Option (Entry Ticket)) (stand : Option Standing) (wake cancel mark ended : Bool) → stand ≡ Some Running → FiledAs found stand wake cancel mark ended → ended ≡ false
-goes_on None stand wake cancel mark ended runs filed = absurd (subst (λ o. AbsentAs o wake cancel mark ended) runs filed)
-goes_on (Some entry) stand wake cancel mark ended runs filed = filed.3
+goes_on found stand wake cancel mark ended runs filed = grind arith
 
 module _ (setting : ℕ) (plan : List Bool) (w : Parts) (past : List Moment) (t : Tied setting plan w past) where
   -- who holds a job is there

@@ -1,8 +1,8 @@
 -- Each move keeps the tie of the tasks, and their laws: it is an event of none, makes a new one, or is a step of one.
-use Rattle.std.proofs.Common.{◌≡◌, ℕ, ◌==◌, ◌-◌, List, [], ◌∷◌, length, Bool, true, false, refl, sym, ap, ◌∙◌, subst, Some, None, not, slice_get, slice_set, Result, Ok, Err}
+use Rattle.std.proofs.Common.{◌≡◌, ℕ, ◌==◌, ◌-◌, List, [], ◌∷◌, length, Bool, true, false, refl, sym, ap, ◌∙◌, subst, Some, None, not, slice_get, slice_set, Result, Ok, Err, arith}
 use Rattle.std.proofs.lemmas.Bool.{and_right, eqb-true}
 use Rattle.blocking_parts.proofs.Types.{Action, Refusal, Running, Act, Answered, Event, Moment, ByOwner, Pool, ByTask, Worker, Answer, Number, Step, TaskCall, Stage, Core}
-use Rattle.blocking_parts.proofs.Words.{Growth, JobNumber, IsPlanned, Calling, next_of_job, has_given_up, accepted_by, holder, events, is_task, is_some_worker, is_nothing, acts_of, next_in_turn, is_answered_action, may_cancel, is_let_go, GoesOn, added_act, turn_of, Progress, RanAs, TaskStep, task_after, by_job, IsBeside, Task, may_be, has_let_go, task_act, AllLaws, TasksHold, Move, Makes, Asks, Owns, Lends, Delivers, IsDropped, Begins, Calls, Works, IsAnswered, step_of, tasks_after_add, rows_after, tasks_after, May, CrewMoves, Parts, owner_of, InHand, next_at, done_by, owner_in, call_action, action_of, is_first, is_at_first, call_step_by, call_step, Done, done, core_after_answer, CoreAs, PlaceAs, GaveAs, moment, Tied}
+use Rattle.blocking_parts.proofs.Words.{Growth, JobNumber, IsPlanned, has_given_up, accepted_by, holder, events, is_task, is_nothing, acts_of, next_in_turn, is_answered_action, may_cancel, is_let_go, GoesOn, added_act, turn_of, Progress, RanAs, TaskStep, task_after, by_job, IsBeside, Task, may_be, has_let_go, task_act, AllLaws, TasksHold, Move, Makes, Asks, Owns, Lends, Delivers, IsDropped, Begins, Calls, Works, IsAnswered, step_of, tasks_after_add, rows_after, tasks_after, May, CrewMoves, Parts, owner_of, InHand, next_at, done_by, owner_in, call_action, action_of, is_first, is_at_first, call_step, Done, done, core_after_answer, CoreAs, PlaceAs, GaveAs, moment, Tied}
 use Rattle.blocking_core.specs.declared.job.Action.TheVariants as action
 use Rattle.blocking_crew.specs.Moves as crew
 use Rattle.blocking_crew.specs.declared.hand.Stage.TheVariants as stage
@@ -13,11 +13,10 @@ use Rattle.blocking_pool.proofs.Places.{set_same}
 use Rattle.blocking_lanes.proofs.acts.Steps.{is_call}
 use Rattle.blocking_lanes.proofs.cuts.Acts.{own_cut}
 use Rattle.blocking_lanes.proofs.owners.Events.{IsPlain}
-use Rattle.blocking_lanes.proofs.owners.OwnerActs.{value_of}
 use Rattle.blocking_lanes.proofs.ties.Holders.{accepts_no_job}
 use Rattle.blocking_lanes.proofs.ties.Tasks.{beside, born, stepped, aside_beside}
 use Rattle.blocking_parts.proofs.moves.Lookups.{there}
-use Rattle.blocking_parts.proofs.ties.CrewEvents.{Told, IsAlone, added_of, by_no_worker, by_worker}
+use Rattle.blocking_parts.proofs.ties.CrewEvents.{Told, IsAlone, added_of, by_worker}
 use Rattle.blocking_parts.proofs.ties.Events.{SaidBy, alone, done_fits, said}
 use Rattle.blocking_parts.proofs.ties.JobSteps.{call_acts, session_acts, may_plain, seen_in, seen_is, its_owner, let_go_here, asks_here}
 use Rattle.blocking_parts.proofs.ties.Jobs.{IsHere, job_here, its_holder, job_place, next_free, task_holds}
@@ -27,51 +26,25 @@ use Rattle.blocking_parts.proofs.ties.Jobs.{IsHere, job_here, its_holder, job_pl
 -- where it is in its turn, its next step is one that its task may take
 call_may : (at : Stage) (call : Progress) (step : TaskStep) (task : Task) (acts : List Act) → call_step at call ≡ Some step → (at ≡ stage.MustGiveUp → has_let_go task.stage ≡ true)
     → (has_given_up acts ≡ false → RanAs call.next call.number acts) → PlaceAs (Some Running) (turn_of at) (is_first (call_action call.next)) acts → GaveAs at acts → MayTake step task acts
-call_may stage.Runs call step task acts is lets ran place gave = by call.next is (ran place)
-  where
-    by : (next : Action) → call_step_by next call.number ≡ Some step → RanAs next call.number acts → MayTake step task acts
-    by action.Finish is ran = subst (λ s. MayTake s task acts) (ap (value_of step) is) ran
-    by action.Deliver is ran = subst (λ s. MayTake s task acts) (ap (value_of step) is) (ap (next_of_job Calling) ran)
-    by _ is ran = absurd cc
-call_may stage.MustGiveUp call step task acts is lets ran place gave = subst (λ s. MayTake s task acts) (ap (value_of step) is) (by call.next (ran place.1) place.0, lets refl)
-  where
-    by : (next : Action) → RanAs next call.number acts → is_first (call_action next) ≡ true → acts ≡ []
-    by action.Call ran first = ran
-    by _ ran first = absurd cc
-call_may stage.MustWake call step task acts is lets ran place gave = subst (λ s. MayTake s task acts) (ap (value_of step) is) (gave Calling).0
-call_may _ call step task acts is lets ran place gave = absurd cc
+call_may at call step task acts is lets ran place gave = grind arith
 
 -- that is no call by the task's holder
 never_called : (at : Stage) (call : Progress) (step : TaskStep) → call_step at call ≡ Some step → is_call step ≡ false
-never_called stage.Runs call step is = by call.next is
-  where
-    by : (next : Action) → call_step_by next call.number ≡ Some step → is_call step ≡ false
-    by action.Finish is = ap is_call (sym (ap (value_of step) is))
-    by action.Deliver is = ap is_call (sym (ap (value_of step) is))
-    by _ is = absurd cc
-never_called stage.MustGiveUp call step is = ap is_call (sym (ap (value_of step) is))
-never_called stage.MustWake call step is = ap is_call (sym (ap (value_of step) is))
-never_called _ call step is = absurd cc
+never_called at call step is = grind arith
 
 by_its_job : (step : TaskStep) → is_call step ≡ false → (k v s : ℕ) (act : Act) (first : ℕ) (growth : Growth) → event_by step k v s act first growth ≡ by_job v s act first growth
-by_its_job (lanes.IsCalled call) is k v s act first growth = absurd cc
-by_its_job _ is k v s act first growth = refl
+by_its_job step is k v s act first growth = grind arith
 
 -- it is answered by a number, where it makes its call
 answered_so : (next : Action) (answer : Answer) → is_answered_action (next_in_turn GoesOn (call_action next)) answer ≡ true → (next ≡ action.Call) × ((n : ℕ) × (answer ≡ Number n))
-answered_so action.Call (Number n) is = (refl, (n, refl))
-answered_so _ answer is = absurd cc
+answered_so next answer is = grind arith
 
 -- ---- what is seen where no task takes a step
 
 module _ (past : List Moment) (new : Parts) (e : Event) where
   -- an act of an owner
   owner_beside : (h : ℕ) (act : Act) → Told (ByOwner h) None act e → IsBeside past (seen_in new e)
-  owner_beside h act told = record {
-    out = λ k. and_right (not (is_nothing e.act)) (is_task k e.party) (ap (is_task k) told.party);
-    of_owner = λ s its. absurd (let none = by_no_worker s e (ap is_some_worker told.party) in cc);
-    by_owner = λ s new. (h, told.party);
-  }
+  owner_beside h act told = grind arith
 
   -- an act of the job of a reader
   reader_beside : (v s h : ℕ) (act : Act) → Told (Worker v) (Some s) act e → IsPlain [] act → holder past s ≡ Some (ByOwner h) → IsBeside past (seen_in new e)

@@ -1,5 +1,5 @@
-use Rattle.blocking_lanes.proofs.owners.Owners as proved
 use Rattle.blocking_lanes.proofs.owners.Wakes.{not_lost}
+use Rattle.blocking_lanes.proofs.owners.Owners as proved
 use Rattle.blocking_lanes.proofs.kept.owners.Goals as goal
 
 pub returns-clause-aside : goal.returns-clause-aside

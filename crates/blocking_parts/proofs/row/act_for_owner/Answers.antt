@@ -1,4 +1,4 @@
-use Rattle.std.proofs.Common.{◌≡◌, Option, Some, None}
+use Rattle.std.proofs.Common.{◌≡◌, Option, arith}
 use Rattle.blocking_parts.proofs.Types.{Act, SessionJob}
 use Rattle.blocking_parts.proofs.Words.{act_of_work, owner_after_work, job_after_work, Owner, Worked, worked, IsWorked}
 use Rattle.blocking_parts.proofs.moves.Steps.{ok_map}
@@ -7,8 +7,7 @@ use Rattle.blocking_parts.proofs.row.act_for_owner.Goals as goal
 -- what a job did at its owner is the step of that owner
 works : (done : Option Worked) (job new_job : SessionJob) (owner new_owner : Owner) (seen : Option Act) → IsWorked done job owner seen new_job new_owner
     → (seen ≡ act_of_work done) × (new_job ≡ job_after_work done job) × (new_owner ≡ owner_after_work done owner)
-works None job new_job owner new_owner seen does = does
-works (Some done) job new_job owner new_owner seen does = does
+works done job new_job owner new_owner seen does = grind arith
 
 pub returns-in-Runs-clause-ok : goal.returns-in-Runs-clause-ok
 returns-in-Runs-clause-ok c =

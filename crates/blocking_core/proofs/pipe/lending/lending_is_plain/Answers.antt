@@ -1,10 +1,10 @@
 -- Seen whole, with what the job has in its hand at the front, each call is one of the plain pipe's.
-use Rattle.std.proofs.Common.{◌≡◌, ◌∙◌, ℕ, ◌+◌, ◌-◌, ◌<◌, ◌≤◌, min, Bool, true, false, List, [], ◌∷◌, ◌++◌, length, take, drop, refl, sym, ap, subst, arith, Option, Some, None}
-use Rattle.std.proofs.lemmas.List.{append_assoc, append-nil, drop-append-le, length-append, length-take-le, take-append-drop}
+use Rattle.std.proofs.Common.{◌≡◌, ◌∙◌, ℕ, ◌-◌, ◌<◌, ◌≤◌, Bool, List, [], ◌∷◌, ◌++◌, length, take, drop, refl, sym, ap, subst, arith, Option, None}
+use Rattle.std.proofs.lemmas.List.{append_assoc, append-nil, drop-append-le, length-append, length-drop, length-take-le, take-append-drop}
 use Rattle.std.proofs.Math.Seq.{drop-length, take-append_seam}
 use Rattle.blocking_pool.specs.Jobs.{JobNumber}
-use Rattle.blocking_core.specs.Pipes.{Pipe, room}
-use Rattle.blocking_core.specs.Places.{Met, Served, Waiting, Closed, fill, peek}
+use Rattle.blocking_core.specs.Pipes.{room}
+use Rattle.blocking_core.specs.Places.{Served, Waiting, Closed, fill, peek}
 use Rattle.blocking_core.specs.PipeAnswers.{Fills, Peeks}
 use Rattle.blocking_core.specs.Lending.{Lending, FillsIn, Lends, free, in_hand, whole}
 use Rattle.blocking_core.specs.declared.pipe.Filled.{Filled}
@@ -50,7 +50,7 @@ module _ {X W : Type 0} where
   plain_lends : (old new : Lending X W) (me : JobNumber) (answer : Peeked) (piece : List X)
       → old.lent ≡ 0 → Lends old me answer piece new → Peeks (whole [] old) me piece answer (whole (in_hand answer piece) new) piece
   plain_lends old new me (peeked.Some n) piece none lends =
-      let long : n ≡ length piece = sym (ap length lends.2 ∙ length-take-le n old.pipe.items lends.1) in
+      let long : n ≡ length piece = sym (ap length lends.2 ∙ length-take-le n old.pipe.items (omega (arith, lends.1))) in
       let front : take (length piece) old.pipe.items ≡ take n old.pipe.items = ap (λ k. take k old.pipe.items) (sym long) in
       let some : 0 < length old.pipe.items = omega (arith, lends.0, lends.1) in (
         peeks_front (length piece) old.pipe.items old.pipe.is_owner_open some ∙ ap Served front,
@@ -85,20 +85,55 @@ module _ {X W : Type 0} where
       )
 
   plain_lets_go : (old new : Lending X W) (hand : List X) (count : ℕ) → length hand ≡ old.lent → count ≤ old.lent
-      → new ≡ record { pipe = record old.pipe { owner_seat = None }; lent = old.lent - count }
-      → whole (drop count hand) new ≡ record (whole hand old) { items = drop count (hand ++ old.pipe.items); owner_seat = None }
+      → new ≡ record old { pipe = record old.pipe { owner_seat = None }; lent = old.lent - count }
+      → whole (drop count hand) new ≡ record (whole hand old) { items = drop count (whole hand old).items; owner_seat = None }
   plain_lets_go old new hand count is within after =
       ap (whole (drop count hand)) after
       ∙ ap (λ items. record old.pipe { items = items; owner_seat = None }) (sym (drop-append-le count hand old.pipe.items (omega (arith, is, within))))
 
+  -- what is lent stays so in a fill
+  same_lent_by_fill : (old new : Lending X W) (given : List X) (waker : W) (answer : Filled) (spare : Option W) → FillsIn old waker given answer spare new → old.lent ≡ new.lent
+  same_lent_by_fill old new given waker (filled.Took n _) spare fills = sym (ap (λ seen. seen.lent) fills.2)
+  same_lent_by_fill old new given waker filled.Shut spare fills = sym (ap (λ seen. seen.lent) fills.1)
+  same_lent_by_fill old new given waker (filled.Waits seat) spare fills = sym (ap (λ seen. seen.lent) fills.1)
+
+  -- and is what came into the hand in a loan
+  lent_in_hand : (old new : Lending X W) (me : JobNumber) (answer : Peeked) (piece : List X)
+      → old.lent ≡ 0 → Lends old me answer piece new → length (in_hand answer piece) ≡ new.lent
+  lent_in_hand old new me (peeked.Some n) piece none lends =
+      ap length lends.2 ∙ length-take-le n old.pipe.items (omega (arith, lends.1)) ∙ sym (ap (λ seen. seen.lent) lends.3)
+  lent_in_hand old new me peeked.Parked piece none lends = sym (ap (λ seen. seen.lent) lends.2 ∙ none)
+  lent_in_hand old new me peeked.Drained piece none lends = sym (ap (λ seen. seen.lent) lends.2 ∙ none)
+
+pub returns-clause-new : goal.returns-clause-new
+returns-clause-new g c = λ capacity piece. refl
+
+pub returns-clause-room : goal.returns-clause-room
+returns-clause-room g c = λ seen hand is. sym (same_room seen hand is)
+
 pub returns-clause-fills : goal.returns-clause-fills
-returns-clause-fills g c = plain_fills
+returns-clause-fills g c = λ old new hand given waker answer spare is fills. (
+  plain_fills old new hand given waker answer spare is fills,
+  is ∙ same_lent_by_fill old new given waker answer spare fills,
+)
 
 pub returns-clause-lends : goal.returns-clause-lends
-returns-clause-lends g c = plain_lends
+returns-clause-lends g c = λ old new me answer piece none lends. (
+  plain_lends old new me answer piece none lends,
+  lent_in_hand old new me answer piece none lends,
+)
 
 pub returns-clause-shows : goal.returns-clause-shows
 returns-clause-shows g c = plain_shows
 
 pub returns-clause-lets_go : goal.returns-clause-lets_go
-returns-clause-lets_go g c = plain_lets_go
+returns-clause-lets_go g c = λ old new hand count is within after. (
+  plain_lets_go old new hand count is within after,
+  (let left = length-drop count hand in let lent = ap (λ seen. seen.lent) after in omega (arith, is, left, lent)),
+)
+
+pub returns-clause-job_closes : goal.returns-clause-job_closes
+returns-clause-job_closes g c = λ old new hand after. (ap (whole hand) after, ap (λ seen. seen.lent) after)
+
+pub returns-clause-owner_closes : goal.returns-clause-owner_closes
+returns-clause-owner_closes g c = λ old new hand after. (ap (whole hand) after, ap (λ seen. seen.lent) after)

@@ -7,9 +7,8 @@ use Rattle.blocking_ends.proofs.peek_end.PeekEnd.consume.Goals as goal
 pub invariant_of-self : goal.invariant_of-self
 invariant_of-self g c =
     let inside = c.self.inside in
-    let within : c.args.count ≤ length (drop inside.gone inside.piece.items) = subst (λ seen. c.args.count ≤ length seen.shown) (sym c.self.view_is) c.requires in
-    let received : c.part-waker.result.received ≡ inside.received + c.args.count = search rules in (
-      omega (arith, c.self.invariant.0, within, length-drop inside.gone inside.piece.items),
-      c.self.invariant.1,
-      hold_more g.R.PlaceRule.holds inside.received c.part-waker.result.received inside.gone c.args.count inside.piece.items received c.self.invariant.2,
+    let within : c.args.count ≤ length (drop inside.consumed inside.piece.items) = subst (λ seen. c.args.count ≤ length seen.shown) (sym c.self.view_is) c.requires in
+    let received : c.consume_lent-waker.result.received ≡ inside.received + c.args.count = search rules in (
+      omega (arith, c.self.invariant.0, within, length-drop inside.consumed inside.piece.items),
+      hold_more g.R.PlaceRule.holds inside.received c.consume_lent-waker.result.received inside.consumed c.args.count inside.piece.items received c.self.invariant.1,
     )

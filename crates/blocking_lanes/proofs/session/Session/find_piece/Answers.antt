@@ -1,11 +1,9 @@
-use Rattle.std.proofs.Common.{◌≡◌, ◌≤◌, ℕ, List, [], ◌∷◌, ◌++◌, length, Bool, true, false, sym, ap, ◌∙◌, arith}
-use Rattle.std.specs.Prelude.{min, take, drop}
-use Rattle.std.proofs.lemmas.List.{take_min, append-nil, length-take, with_items_is}
+use Rattle.std.proofs.Common.{◌≡◌, ◌≤◌, ℕ, List, [], ◌∷◌, ◌++◌, length, Bool, true, false, sym, ap, ◌∙◌, arith, min, take, drop, append-nil, length-take}
+use Rattle.std.proofs.lemmas.List.{take_min, with_items_is}
 use Rattle.std.proofs.Math.ListN.{drop_of_length-le}
-use Rattle.blocking_core.specs.Places.{Served, peek}
-use Rattle.blocking_lanes.specs.Sessions.{Session, work_at_peek}
+use Rattle.blocking_lanes.proofs.Types.{Bytes}
+use Rattle.blocking_lanes.proofs.Words.{Served, peek, Session, work_at_peek}
 use Rattle.blocking_lanes.specs.contracts.session.Session.{the_view}
-use Rattle.blocking_lanes.specs.declared.passage.Passage.TheVariants.{Bytes}
 use Rattle.blocking_lanes.proofs.session.Session.find_piece.Goals as goal
 
 -- a look into room for all that a piece has finds that piece, and fills the room

@@ -1,5 +1,5 @@
 -- The pipe holds two bytes, of which its writer took none: there is no room for a third.
-use Rattle.std.proofs.Common.{ℕ, ◌≤◌, refl, arith}
+use Rattle.std.proofs.Common.{◌≤◌, refl, arith}
 use Rattle.blocking_laws.proofs.laws.readings.writers_behind.Goals as goal
 
 never : 3 ≤ 2 → ⊥
