@@ -152,7 +152,7 @@ impl Both {
     }
 
     fn lend(&mut self) -> Shown {
-        if self.pipe.lent() > 0 || self.hand.capacity() == 0 {
+        if self.pipe.lent() > 0 || self.hand.capacity() < self.pipe.piece() {
             return Shown::Misplaced;
         }
         match self.pipe.lend_or_seat(self.job, &mut self.hand) {
