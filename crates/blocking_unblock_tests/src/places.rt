@@ -3,14 +3,15 @@ use crate::kinds::Kinds;
 use crate::reader::comes;
 use crate::writes::Came;
 use blocking::{
-    AsyncReadExt, AsyncSeek, AsyncSeekExt, AsyncWriteExt, Executor, Host, IoFault, Runtime, Unblock,
+    AsyncRead, AsyncReadExt, AsyncSeek, AsyncSeekExt, AsyncWrite, AsyncWriteExt, Executor, Host,
+    IoFault, Runtime, Unblock,
 };
 use blocking_core::io::Fault;
 use blocking_core::pool::{Refusal, Refused};
 use blocking_core::task::CallOn;
 use futures::executor::block_on;
 use futures::test::MockTask;
-use futures::{Future, StreamExt};
+use futures::{Future, Stream, StreamExt};
 use std::alloc::Global;
 use std::fmt::{Debug, Formatter};
 use std::io::{Cursor, Read, Seek, SeekFrom, Write};
@@ -238,10 +239,9 @@ fn failed(why: IoFault) -> Came {
 }
 
 // Whether the next byte that is read is this one.
-fn reads<H: Host>(rt: H, owner: &mut Owner<H>, byte: u8) -> io::Result<Came> {
-    if owner.is_closed() {
-        return Ok(Came::Wrong);
-    }
+fn reads<H: Host, A: AsyncRead>(rt: H, owner: &mut A, byte: u8) -> io::Result<Came>
+    requires { A.closed owner.old → ⊥ }
+{
     let mut one = [0u8; 1];
     let read = block_on(&rt, owner.read(&mut one))?;
     Ok(match read {
@@ -251,10 +251,13 @@ fn reads<H: Host>(rt: H, owner: &mut Owner<H>, byte: u8) -> io::Result<Came> {
 }
 
 // Whether the next item is this one.
-fn gets<H: Host>(rt: H, owner: &mut Owner<H>, item: u8) -> io::Result<Came> {
-    if owner.is_closed() {
-        return Ok(Came::Wrong);
-    }
+fn gets<H: Host, A: Stream<Item = Result<u8, Refusal>>>(
+    rt: H,
+    owner: &mut A,
+    item: u8,
+) -> io::Result<Came>
+    requires { A.can_poll owner.old }
+{
     Ok(match block_on(&rt, owner.next())? {
         Some(Ok(came)) => Came::if_right(came == item),
         Some(Err(why)) => Came::Refused(why),
@@ -263,10 +266,9 @@ fn gets<H: Host>(rt: H, owner: &mut Owner<H>, item: u8) -> io::Result<Came> {
 }
 
 // Whether these bytes are taken for writing.
-fn writes<H: Host>(rt: H, owner: &mut Owner<H>, bytes: &[u8]) -> io::Result<Came> {
-    if owner.is_closed() {
-        return Ok(Came::Wrong);
-    }
+fn writes<H: Host, A: AsyncWrite>(rt: H, owner: &mut A, bytes: &[u8]) -> io::Result<Came>
+    requires { A.closed owner.old → ⊥ }
+{
     Ok(match block_on(&rt, owner.write_all(bytes))? {
         Ok(()) => Came::Right,
         Err(why) => failed(why),
@@ -274,10 +276,9 @@ fn writes<H: Host>(rt: H, owner: &mut Owner<H>, bytes: &[u8]) -> io::Result<Came
 }
 
 // Whether a seek comes to this place.
-fn seeks<H: Host>(rt: H, owner: &mut Owner<H>, to: SeekFrom, place: u64) -> io::Result<Came> {
-    if owner.is_closed() {
-        return Ok(Came::Wrong);
-    }
+fn seeks<H: Host, A: AsyncSeek>(rt: H, owner: &mut A, to: SeekFrom, place: u64) -> io::Result<Came>
+    requires { A.closed owner.old → ⊥ }
+{
     Ok(match block_on(&rt, owner.seek(to))? {
         Ok(came) => Came::if_right(came == place),
         Err(why) => failed(why),
@@ -303,6 +304,9 @@ fn says<H: Host>(rt: H, owner: &Owner<H>, text: &str) -> io::Result<bool> {
 
 // How what a step shows fits.
 fn shows<H: Host>(rt: H, owner: &mut Owner<H>, gate: &Gate, step: Step) -> io::Result<Came> {
+    if owner.is_closed() {
+        return Ok(Came::Wrong);
+    }
     match step {
         Step::Seek(to, place) => seeks(rt, owner, to, place),
         Step::Jump(to, before) => jumps(rt, owner, to, before),
