@@ -1,5 +1,8 @@
 //! Handles that are taken back for good, after many bytes.
-use blocking::{AsyncReadExt, AsyncWriteExt, Executor, Host, ReadJob, Runtime, Unblock, WriteJob};
+use blocking::{
+    AsyncRead, AsyncReadExt, AsyncWrite, AsyncWriteExt, Executor, Host, ReadJob, Runtime, Unblock,
+    WriteJob,
+};
 use blocking_core::pool::{Carries, Job};
 use futures::executor::block_on;
 use std::alloc::Global;
@@ -24,24 +27,35 @@ fn failed() -> io::Error {
     io::Error::from(io::ErrorKind::Other)
 }
 
+// What a reader gives to its end, where that is as much as it must be.
+fn reads_all<H: Host, A: AsyncRead>(rt: H, owner: &mut A) -> io::Result<Option<Vec<u8>>>
+    requires { A.closed owner.old → ⊥ }
+{
+    let mut read = Vec::new(rt.alloc());
+    let count = block_on(&rt, owner.read_to_end(&mut read))?;
+    Ok(match count {
+        Ok(MANY) => Some(read),
+        _ => None,
+    })
+}
+
 // Reads all, takes the reader back, and says whether what was read is what it read from.
 fn reads_back<J: Job + Carries<ReadJob<Cursor<Vec<u8>>, H>>, H: Host>(
     rt: H,
     owner: Unblock<Cursor<Vec<u8>>, (), J, H>,
 ) -> io::Result<bool> {
     let mut owner = owner;
-    let mut read = Vec::new(rt.alloc());
     if owner.is_closed() {
         return Ok(false);
     }
-    let Ok(count) = block_on(&rt, owner.read_to_end(&mut read))? else {
+    let Some(read) = reads_all(rt, &mut owner)? else {
         return Ok(false);
     };
     if owner.is_closed() {
         return Ok(false);
     }
     let cursor = block_on(&rt, owner.into_inner())?;
-    Ok(count == MANY && cursor.get_ref().as_slice() == read.as_slice())
+    Ok(cursor.get_ref().as_slice() == read.as_slice())
 }
 
 #[test]
@@ -54,7 +68,14 @@ fn many_bytes_read_and_the_reader_back(rt: HostRuntime) -> Result<(), Fail> {
     Ok(())
 }
 
-// Writes all, flushes, takes the writer back, and says whether it has what was written.
+// Whether all bytes are taken for writing.
+fn writes_all<H: Host, A: AsyncWrite>(rt: H, owner: &mut A, bytes: &[u8]) -> io::Result<bool>
+    requires { A.closed owner.old → ⊥ }
+{
+    Ok(block_on(&rt, owner.write_all(bytes))?.is_ok())
+}
+
+// Writes all, takes the writer back, and says whether it has what was written.
 fn writes_back<J: Job + Carries<WriteJob<Vec<u8>, H>>, H: Host>(
     rt: H,
     owner: Unblock<Vec<u8>, (), J, H>,
@@ -64,7 +85,7 @@ fn writes_back<J: Job + Carries<WriteJob<Vec<u8>, H>>, H: Host>(
     if owner.is_closed() {
         return Ok(false);
     }
-    if block_on(&rt, owner.write_all(bytes))?.is_err() || owner.is_closed() {
+    if !writes_all(rt, &mut owner, bytes)? || owner.is_closed() {
         return Ok(false);
     }
     let written = block_on(&rt, owner.into_inner())?;

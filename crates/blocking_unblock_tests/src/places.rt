@@ -4,10 +4,10 @@ use crate::reader::comes;
 use crate::writes::Came;
 use blocking::{
     AsyncRead, AsyncReadExt, AsyncSeek, AsyncSeekExt, AsyncWrite, AsyncWriteExt, Executor, Host,
-    IoFault, Runtime, Unblock,
+    IoFault, OpJob, Runtime, SeekJob, Unblock,
 };
 use blocking_core::io::Fault;
-use blocking_core::pool::{Refusal, Refused};
+use blocking_core::pool::{Carries, Job, Refusal, Refused};
 use blocking_core::task::CallOn;
 use futures::executor::block_on;
 use futures::test::MockTask;
@@ -200,12 +200,12 @@ const ROWS: &[(&str, &[Step])] = &[
 
 type Jobs<H> = Kinds<Gated, u8, Jump, H>;
 
-type Owner<H> = Unblock<Gated, u8, Jobs<H>, H>;
+type Owner<J, H> = Unblock<Gated, u8, J, H>;
 
 // Whether a seek that is polled once waits, while the handle can't go on.
-fn begins_seek<H: Host>(
+fn begins_seek<J: Job + Carries<SeekJob<Gated, H>>, H: Host>(
     rt: H,
-    owner: &mut Owner<H>,
+    owner: &mut Owner<J, H>,
     gate: &Gate,
     to: SeekFrom,
 ) -> io::Result<bool> {
@@ -217,7 +217,12 @@ fn begins_seek<H: Host>(
 }
 
 // Whether an operation that is polled once waits, while the handle can't go on. It is dropped then.
-fn begins_jump<H: Host>(rt: H, owner: &mut Owner<H>, gate: &Gate, to: u64) -> io::Result<bool> {
+fn begins_jump<J: Job + Carries<OpJob<Jump, Gated, H>>, H: Host>(
+    rt: H,
+    owner: &mut Owner<J, H>,
+    gate: &Gate,
+    to: u64,
+) -> io::Result<bool> {
     if owner.is_closed() {
         return Ok(false);
     }
@@ -286,7 +291,12 @@ fn seeks<H: Host, A: AsyncSeek>(rt: H, owner: &mut A, to: SeekFrom, place: u64) 
 }
 
 // Whether an operation tells that the handle was there before, or is handed back.
-fn jumps<H: Host>(rt: H, owner: &mut Owner<H>, to: u64, before: u64) -> io::Result<Came> {
+fn jumps<J: Job + Carries<OpJob<Jump, Gated, H>>, H: Host>(
+    rt: H,
+    owner: &mut Owner<J, H>,
+    to: u64,
+    before: u64,
+) -> io::Result<Came> {
     if owner.is_closed() {
         return Ok(Came::Wrong);
     }
@@ -298,12 +308,17 @@ fn jumps<H: Host>(rt: H, owner: &mut Owner<H>, to: u64, before: u64) -> io::Resu
 }
 
 // Whether the owner has this text.
-fn says<H: Host>(rt: H, owner: &Owner<H>, text: &str) -> io::Result<bool> {
+fn says<J: Job, H: Host>(rt: H, owner: &Owner<J, H>, text: &str) -> io::Result<bool> {
     Ok(format!(in rt.alloc(); "{owner:?}")?.as_str() == text)
 }
 
 // How what a step shows fits.
-fn shows<H: Host>(rt: H, owner: &mut Owner<H>, gate: &Gate, step: Step) -> io::Result<Came> {
+fn shows<H: Host>(
+    rt: H,
+    owner: &mut Owner<Jobs<H>, H>,
+    gate: &Gate,
+    step: Step,
+) -> io::Result<Came> {
     if owner.is_closed() {
         return Ok(Came::Wrong);
     }
@@ -331,7 +346,7 @@ fn is_refused(came: Came) -> Came {
 // Whether a step shows what it must. A session may be refused once: that is printed, the owner has its handle, and it tries once more.
 fn is_shown<H: Host + Print>(
     rt: H,
-    owner: &mut Owner<H>,
+    owner: &mut Owner<Jobs<H>, H>,
     gate: &Gate,
     step: Step,
 ) -> io::Result<bool> {

@@ -4,7 +4,7 @@ use crate::writer::Taken::{AtMost, Fails as FailsAt};
 use crate::writer::{Page, Plan, PlannedWriter};
 use crate::writes::Sight::{Count, Done, Fails, WritesNone};
 use crate::writes::{ALL, Came, Sight, counted, done};
-use blocking::{AsyncWriteExt, Executor, Host, Runtime, Unblock, WriteJob};
+use blocking::{AsyncWrite, AsyncWriteExt, Executor, Host, Runtime, Unblock, WriteJob};
 use blocking_core::pool::{Carries, Job};
 use futures::executor::block_on;
 use futures::task::Poll;
@@ -106,6 +106,46 @@ const ROWS: &[Row] = &[
     },
 ];
 
+// How what a flush answers fits.
+fn flushes<H: Host, A: AsyncWrite>(
+    rt: &H,
+    owner: &mut A,
+    sight: Sight,
+) -> io::Result<Option<Came>> {
+    Ok(done(Poll::Ready(block_on(rt, owner.flush())?), sight))
+}
+
+// How what a close answers fits.
+fn closes<H: Host, A: AsyncWrite>(rt: &H, owner: &mut A, sight: Sight) -> io::Result<Option<Came>> {
+    Ok(done(Poll::Ready(block_on(rt, owner.close())?), sight))
+}
+
+// How what one write answers fits.
+fn writes<H: Host, A: AsyncWrite>(
+    rt: &H,
+    owner: &mut A,
+    bytes: &[u8],
+    sight: Sight,
+) -> io::Result<Option<Came>>
+    requires { A.closed owner.old → ⊥ }
+{
+    let count = block_on(rt, owner.write(bytes))?;
+    Ok(counted(Poll::Ready(count), sight))
+}
+
+// How what a write of all bytes answers fits.
+fn writes_all<H: Host, A: AsyncWrite>(
+    rt: &H,
+    owner: &mut A,
+    bytes: &[u8],
+    sight: Sight,
+) -> io::Result<Option<Came>>
+    requires { A.closed owner.old → ⊥ }
+{
+    let whole = block_on(rt, owner.write_all(bytes))?;
+    Ok(done(Poll::Ready(whole), sight))
+}
+
 type Writing<H> = WriteJob<PlannedWriter<H>, H>;
 
 // An owner, and what it shares with its writer.
@@ -121,15 +161,13 @@ impl<J: Job + Carries<WriteJob<PlannedWriter<H>, H>>, H: Host> Scene<J, H> {
     fn take(&mut self, step: Step) -> io::Result<bool> {
         let Scene { rt, owner, page } = self;
         let shows = match step {
-            Flush(sight) => done(Poll::Ready(block_on(rt, owner.flush())?), sight),
-            Close(sight) => done(Poll::Ready(block_on(rt, owner.close())?), sight),
+            Flush(sight) => flushes(rt, owner, sight)?,
+            Close(sight) => closes(rt, owner, sight)?,
             Holds(bytes) => Some(Came::if_right(page.holds(rt, bytes))),
             IsGone(wanted) => Some(Came::if_right(page.track.is_gone() == wanted)),
             _ if owner.is_closed() => None,
-            Write(bytes, sight) => counted(Poll::Ready(block_on(rt, owner.write(bytes))?), sight),
-            WriteAll(bytes, sight) => {
-                done(Poll::Ready(block_on(rt, owner.write_all(bytes))?), sight)
-            }
+            Write(bytes, sight) => writes(rt, owner, bytes, sight)?,
+            WriteAll(bytes, sight) => writes_all(rt, owner, bytes, sight)?,
         };
         Ok(shows.is_some_and(Came::is_right))
     }
