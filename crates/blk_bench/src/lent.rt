@@ -2,7 +2,7 @@
 use crate::figures::{Figures, Request};
 use crate::pipe::failed;
 use blocking::{AsyncSeek, Executor, Host, ItemJob, OpJob, Runtime, SeekJob, Unblock};
-use blocking_core::pool::{Carries, Job};
+use blocking_core::pool::{Carries, Job, Refusal};
 use blocking_core::task::CallOn;
 use futures::executor::{block_on, block_on_queue};
 use futures::task::{Context, Doorbell, Poll, Queue};
@@ -105,22 +105,23 @@ impl Iterator for Numbers {
 
 // Takes all items to the end, and gives how many came, each of them the next number. (none after another)
 #[derive(Drop)]
-struct Streaming<J: Job + Carries<ItemJob<Numbers, u64, R>>, R: Runtime> {
+struct Streaming<S: Stream<Item = Result<u64, Refusal>>, R: Runtime> {
     rt: R,
-    owner: Unblock<Numbers, u64, J, R>,
+    items: S,
     came: u64,
 }
 
-impl<J: Job + Carries<ItemJob<Numbers, u64, R>>, R: Runtime> Future for Streaming<J, R> {
+impl<S: Stream<Item = Result<u64, Refusal>>, R: Runtime> Future for Streaming<S, R> {
     type Output = Option<u64>;
+
+    ghost can_poll = { λ it. S.can_poll it.items };
+
+    ghost needs = { λ it. S.needs it.items };
 
     fn poll(&mut self, cx: &mut Context<'_>) -> Poll<Option<u64>> {
         let rt = self.rt;
         for _ in rt.forever() {
-            if self.owner.is_closed() {
-                return Poll::Ready(None);
-            }
-            match self.owner.poll_next(cx) {
+            match self.items.poll_next(cx) {
                 Poll::Pending => return Poll::Pending,
                 Poll::Ready(Some(Ok(item))) if item == self.came => {
                     self.came = self.came.saturating_add(1);
@@ -148,13 +149,13 @@ fn stream_all<R: Host>(
         let start = Instant::now(&rt)?;
         let shared = executor.try_clone()?;
         let numbers = Numbers { next: 0, end };
-        let owner = match capacity {
+        let items = match capacity {
             Some(capacity) if capacity > 0 => Unblock::with_capacity(capacity, shared, numbers),
             _ => Unblock::new(shared, numbers),
         };
         let streaming = Streaming {
             rt: host,
-            owner,
+            items,
             came: 0,
         };
         let came = block_on(&host, streaming)?;
@@ -173,20 +174,22 @@ fn each(nanos: u128, count: usize) -> u64 {
 
 // Seeks so many positions, one after another, and gives how many were made and right.
 #[derive(Drop)]
-struct Seeking<J: Job + Carries<SeekJob<Cursor<Vec<u8>>, R>>, R: Runtime> {
+struct Seeking<A: AsyncSeek + Drop, R: Runtime> {
     rt: R,
-    owner: Unblock<Cursor<Vec<u8>>, (), J, R>,
+    owner: A,
     made: u64,
     size: u64,
 }
 
-impl<J: Job + Carries<SeekJob<Cursor<Vec<u8>>, R>>, R: Runtime> Future for Seeking<J, R> {
+impl<A: AsyncSeek + Drop, R: Runtime> Future for Seeking<A, R> {
     type Output = u64;
+
+    ghost can_poll = { λ it. A.closed it.owner → ⊥ };
 
     fn poll(&mut self, cx: &mut Context<'_>) -> Poll<u64> {
         let rt = self.rt;
         for _ in rt.forever() {
-            if self.made >= self.size || self.owner.is_closed() {
+            if self.made >= self.size {
                 return Poll::Ready(self.made);
             }
             let place = self.made % BYTES as u64;
@@ -214,7 +217,7 @@ fn seek_all<R: Host>(
     let size = request.size as u64;
     for rep in 0..=request.reps {
         let bytes = vec![in rt.alloc(); 0u8; BYTES]?;
-        let owner = Unblock::new(executor.try_clone()?, Cursor::new(bytes));
+        let owner = Unblock::<_, (), _, R>::new(executor.try_clone()?, Cursor::new(bytes));
         let start = Instant::now(&rt)?;
         let seeking = Seeking {
             rt: host,

@@ -1,4 +1,7 @@
 //! The benchmarks of readers that are lent.
+ghost use Rattle.futures.specs.Poll.{OnPending};
+ghost use Rattle.futures.specs.Task.{IsArmed, Keeps};
+
 use crate::figures::{Figures, Request};
 use crate::pipe::{failed, is_right, pattern};
 use blocking::{AsyncRead, Executor, Host, ReadJob, Runtime, Unblock};
@@ -174,6 +177,32 @@ impl Read for Reader {
     }
 }
 
+// Reads to the end, and counts how many bytes came, of which each piece's first and last were right.
+fn read_all<A: AsyncRead, R: Runtime>(
+    rt: R,
+    owner: &mut A,
+    cx: &mut Context<'_>,
+    buffer: &mut [u8],
+    came: &mut u64,
+) -> Poll<io::Result<()>>
+    requires { A.closed owner.old → ⊥ }
+    ensures open { A.closed owner.new → ⊥ }
+    ensures armed { OnPending result (IsArmed cx.new) }
+    ensures kept { Keeps cx.old cx.new }
+{
+    for _ in rt.forever() {
+        match owner.poll_read(cx, buffer) {
+            Poll::Pending => return Poll::Pending,
+            Poll::Ready(Ok(0)) => return Poll::Ready(Ok(())),
+            Poll::Ready(Ok(count)) if is_right(*came, &buffer[..count]) => {
+                *came = came.saturating_add(count as u64);
+            }
+            Poll::Ready(_) => return Poll::Ready(Err(failed())),
+        }
+    }
+    unreachable!()
+}
+
 // Reads to the end and asks for the reader, and gives how many bytes came, of which each piece's first and last were right.
 #[derive(Drop)]
 struct Reading<J: Job + Carries<ReadJob<Reader, R>>, R: Runtime> {
@@ -187,22 +216,19 @@ impl<J: Job + Carries<ReadJob<Reader, R>>, R: Runtime> Future for Reading<J, R> 
     type Output = io::Result<u64>;
 
     fn poll(&mut self, cx: &mut Context<'_>) -> Poll<io::Result<u64>> {
-        let rt = self.rt;
-        for _ in rt.forever() {
-            if self.owner.is_closed() {
-                return Poll::Ready(Err(failed()));
-            }
-            match self.owner.poll_read(cx, &mut self.buffer) {
-                Poll::Pending => return Poll::Pending,
-                Poll::Ready(Ok(0)) => break,
-                Poll::Ready(Ok(count)) if is_right(self.came, &self.buffer[..count]) => {
-                    self.came = self.came.saturating_add(count as u64);
-                }
-                Poll::Ready(_) => return Poll::Ready(Err(failed())),
-            }
-        }
         if self.owner.is_closed() {
             return Poll::Ready(Err(failed()));
+        }
+        match read_all(
+            self.rt,
+            &mut self.owner,
+            cx,
+            &mut self.buffer,
+            &mut self.came,
+        ) {
+            Poll::Pending => return Poll::Pending,
+            Poll::Ready(Err(error)) => return Poll::Ready(Err(error)),
+            Poll::Ready(Ok(())) => {}
         }
         match self.owner.poll_get_mut(cx) {
             Poll::Pending => Poll::Pending,

@@ -162,13 +162,15 @@ struct Writing<J: Job + Carries<WriteJob<Memory, R>>, R: Runtime> {
 }
 
 // Hands on the bytes from a place on, piece by piece.
-fn hand_on<J: Job + Carries<WriteJob<Memory, R>>, R: Runtime>(
+fn hand_on<A: AsyncWrite, R: Runtime>(
     rt: R,
-    owner: &mut Unblock<Memory, (), J, R>,
+    owner: &mut A,
     cx: &mut Context<'_>,
     bytes: &[u8],
     taken: &mut usize,
 ) -> Poll<io::Result<()>>
+    requires { A.closed owner.old → ⊥ }
+    ensures open { A.closed owner.new → ⊥ }
     ensures armed { OnPending result (IsArmed cx.new) }
     ensures kept { Keeps cx.old cx.new }
 {
@@ -176,9 +178,6 @@ fn hand_on<J: Job + Carries<WriteJob<Memory, R>>, R: Runtime>(
         let rest = bytes.get(*taken..).unwrap_or(&[]);
         if rest.is_empty() {
             return Poll::Ready(Ok(()));
-        }
-        if owner.is_closed() {
-            return Poll::Ready(Err(failed()));
         }
         match owner.poll_write(cx, &rest[..rest.len().min(PIECE)]) {
             Poll::Pending => return Poll::Pending,
@@ -193,6 +192,9 @@ impl<J: Job + Carries<WriteJob<Memory, R>>, R: Runtime> Future for Writing<J, R>
     type Output = io::Result<Vec<u8>>;
 
     fn poll(&mut self, cx: &mut Context<'_>) -> Poll<io::Result<Vec<u8>>> {
+        if self.owner.is_closed() {
+            return Poll::Ready(Err(failed()));
+        }
         match hand_on(self.rt, &mut self.owner, cx, &self.bytes, &mut self.taken) {
             Poll::Pending => return Poll::Pending,
             Poll::Ready(Err(error)) => return Poll::Ready(Err(error)),
@@ -202,9 +204,6 @@ impl<J: Job + Carries<WriteJob<Memory, R>>, R: Runtime> Future for Writing<J, R>
             Poll::Pending => return Poll::Pending,
             Poll::Ready(Ok(())) => {}
             Poll::Ready(Err(_)) => return Poll::Ready(Err(failed())),
-        }
-        if self.owner.is_closed() {
-            return Poll::Ready(Err(failed()));
         }
         match self.owner.poll_get_mut(cx) {
             Poll::Pending => Poll::Pending,
