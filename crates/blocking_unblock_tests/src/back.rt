@@ -12,13 +12,13 @@ use std::test::Fail;
 
 const MANY: usize = 20_000_000;
 
-// So many bytes, byte i being i as `u8`.
+// So many bytes, byte i being i modulo 251, so that one piece of 65,536 bytes differs from the next.
 fn bytes(alloc: Global, count: usize) -> io::Result<Vec<u8>> {
     let mut bytes = Vec::with_capacity(alloc, count)?;
     let mut byte = 0u8;
     for _ in 0..count {
         bytes.push(byte)?;
-        byte = byte.wrapping_add(1);
+        byte = if byte == 250 { 0 } else { byte.wrapping_add(1) };
     }
     Ok(bytes)
 }
