@@ -1,7 +1,9 @@
 //! A thread pool for blocking I/O, as its users name it.
 #![tactic(auto)]
 
-pub use blocking_ends::{AnyPlace, FillEnd, PeekEnd, PlaceRule, RecvEnd, SendEnd, link, link_in};
+pub use blocking_ends::{
+    AnyPlace, FillEnd, PeekEnd, PlaceRule, RecvEnd, SendEnd, link, link_in, link_with,
+};
 pub use blocking_executor::{
     CallJob, Cancel, Counts, Executor, Host, Runtime, Task, executor, job,
     set_max_blocking_threads, task, unblock,

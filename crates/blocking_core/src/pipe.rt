@@ -8,8 +8,10 @@ use std::alloc::{AllocError, Global};
 use std::marker::Model;
 
 mod lending;
+mod moving;
 
 pub use lending::{LendingPipe, lending_is_plain};
+pub use moving::MovingPipe;
 
 /// How many bytes a pipe holds where nobody says otherwise.
 pub const DEFAULT_BYTES: usize = 8_388_608;
@@ -341,6 +343,15 @@ impl<X: Copy, W: Drop> Pipe<X, W> {
         ensures pipe { self.new ≡ record self.old { items = self.old.items ++ take result items.now } }
     {
         self.ring.fill_from_slice(items)
+    }
+
+    // Moves the front of what is inside into `out`, as many items as it holds, and tells how many they were.
+    fn move_into(&mut self, out: &mut [X]) -> usize
+        ensures count { result ≡ min (length out.old) (length self.old.items) }
+        ensures out { out.new ≡ take result self.old.items ++ drop result out.old }
+        ensures pipe { self.new ≡ record self.old { items = drop result self.old.items } }
+    {
+        self.ring.read_into(out)
     }
 
     // Moves the front of what is inside into a piece, as many items as are asked for at most, and tells how many they were.

@@ -15,6 +15,8 @@ mod lent;
 #[cfg(test)]
 mod limit;
 #[cfg(test)]
+mod moving;
+#[cfg(test)]
 mod pipe;
 #[cfg(test)]
 mod pool;

@@ -10,7 +10,7 @@ mod rule;
 mod send_end;
 
 pub use fill_end::FillEnd;
-pub use pair::{link, link_in};
+pub use pair::{link, link_in, link_with};
 pub use peek_end::PeekEnd;
 pub use recv_end::RecvEnd;
 pub use rule::{AnyPlace, PlaceRule};

@@ -5,7 +5,7 @@ ghost use Rattle.std.specs.Prelude.{◌≡◌, ◌<◌, ◌≤◌, ◌+◌, ◌-
 
 use crate::rule::PlaceRule;
 use blocking_core::pipe::{
-    Answered, Drained, Filled, LendingPipe, Peeked, Pipe, Put, Received, Room, Sending,
+    Answered, Drained, Filled, LendingPipe, MovingPipe, Peeked, Put, Received, Room, Sending,
 };
 use blocking_pool::pool::{JobNo, WakeNote};
 use futures::task::Waker;
@@ -18,7 +18,7 @@ pub type OwnerWaker = Option<Waker>;
 /// A pipe into which a job sends and from which its owner receives.
 #[derive(Drop)]
 pub(crate) struct JobToOwner<X: Drop, R: PlaceRule<X>> {
-    pipe: Pipe<X, OwnerWaker>,
+    pipe: MovingPipe<X, OwnerWaker>,
     sent: u64,
     received: u64,
     // Whether the job may still send.
@@ -48,14 +48,15 @@ impl<X: Drop, R: PlaceRule<X>> JobToOwner<X, R> {
     ghost use Rattle.blocking_ends.specs.Answers.{IfReceived, OnEnd};
     ghost use Rattle.blocking_ends.specs.Sections.{Counts, FindsRoom, Sends, Receives};
 
-    /// An empty pipe for at most `capacity` items, or an [`AllocError`] where there isn't memory for so many.
-    pub(crate) fn new(alloc: Global, capacity: usize) -> Result<Self, AllocError>
+    /// An empty pipe for at most `capacity` items, with the memory that the first piece is exchanged for, or an [`AllocError`] where there
+    /// isn't memory for so many.
+    pub(crate) fn new(alloc: Global, capacity: usize, spare: Vec<X>) -> Result<Self, AllocError>
         requires { 0 < capacity }
         ensures { IfOk result
             (λ new. new ≡ record { pipe = empty_pipe capacity; sent = 0; received = 0 }) }
     {
         Ok(JobToOwner {
-            pipe: Pipe::new(alloc, capacity)?,
+            pipe: MovingPipe::new(alloc, capacity, spare)?,
             sent: 0,
             received: 0,
             is_open: true,
@@ -151,19 +152,21 @@ impl<X: Copy, R: PlaceRule<X>> JobToOwner<X, R> {
     ghost use Rattle.blocking_ends.specs.Rules.{HoldFrom};
     ghost use Rattle.blocking_ends.specs.Sections.{Puts, Drains};
 
-    /// The job puts items, for all of which there is room, and which hold at their places.
-    pub(crate) fn put(&mut self, items: &[X]) -> Put<OwnerWaker>
-        requires fits { length items.now ≤ room self.old.pipe }
-        requires held { HoldFrom R.holds self.old.sent items.now }
-        ensures { Puts self.old items.now result self.new }
+    /// The job puts the first `count` items of a piece, for all of which there is room, and which hold at their places.
+    pub(crate) fn put(&mut self, piece: &mut Vec<X>, count: usize) -> Put<OwnerWaker>
+        requires some { count ≤ length piece.old.items }
+        requires fits { count ≤ room self.old.pipe }
+        requires held { HoldFrom R.holds self.old.sent (take count piece.old.items) }
+        ensures puts { Puts self.old (take count piece.old.items) result self.new }
+        ensures long { length piece.new.items ≡ length piece.old.items }
     {
         if !self.is_open {
             return Put::Lost;
         }
-        let Some(sent) = self.sent.checked_add(items.len() as u64) else {
+        let Some(sent) = self.sent.checked_add(count as u64) else {
             return Put::Lost;
         };
-        match self.pipe.put(items) {
+        match self.pipe.put(piece, count) {
             Put::In(waker) => {
                 self.sent = sent;
                 Put::In(waker)

@@ -21,9 +21,23 @@ pub fn link<X: Drop, R: PlaceRule<X>, H: Wait + AllocGlobal + Copy>(
     ensures sent { IfOk result (λ ends. (ends.0.sent ≡ 0) × (ends.0.free ≡ 0)) }
     ensures received { IfOk result (λ ends. ends.1.received ≡ 0) }
 {
+    link_with(rt, capacity, Vec::new(rt.alloc()))
+}
+
+/// As [`link`], with memory for a piece: the first one that a job puts goes into the pipe as it is, and this comes back for it, where it is
+/// as long. A job gives what is as long as its own, so that no piece is copied as long as its owner keeps up.
+pub fn link_with<X: Drop, R: PlaceRule<X>, H: Wait + AllocGlobal + Copy>(
+    rt: H,
+    capacity: usize,
+    spare: Vec<X>,
+) -> Result<(SendEnd<X, R, H>, RecvEnd<X, R, H>), AllocError>
+    requires { 0 < capacity }
+    ensures sent { IfOk result (λ ends. (ends.0.sent ≡ 0) × (ends.0.free ≡ 0)) }
+    ensures received { IfOk result (λ ends. ends.1.received ≡ 0) }
+{
     let pipe = Arc::new(
         rt.alloc(),
-        Mutex::new(JobToOwner::new(rt.alloc(), capacity)?),
+        Mutex::new(JobToOwner::new(rt.alloc(), capacity, spare)?),
     )?;
     let theirs = Arc::try_clone(&pipe)?;
     Ok((SendEnd::new(rt, theirs), RecvEnd::new(rt, pipe)))

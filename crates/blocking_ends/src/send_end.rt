@@ -1,5 +1,5 @@
 //! The end of a job that sends to its owner.
-ghost use Rattle.std.specs.Prelude.{◌≡◌, ◌<◌, ◌≤◌, ◌+◌, ◌-◌, length};
+ghost use Rattle.std.specs.Prelude.{◌≡◌, ◌<◌, ◌≤◌, ◌+◌, ◌-◌, length, take};
 
 use crate::locked::{JobToOwner, OwnerWaker};
 use crate::rule::PlaceRule;
@@ -110,24 +110,29 @@ impl<X: Copy, R: PlaceRule<X>, H: Wait + Copy> SendEnd<X, R, H> {
     ghost use Rattle.blocking_ends.specs.Answers.{sent_by_put};
     ghost use Rattle.blocking_ends.specs.Rules.{HoldFrom};
 
-    /// Puts items into the room that was told last and wasn't used since. They are lost where the owner's end is closed, or this
-    /// one, or where more than 18446744073709551615 items would be sent in all.
-    pub fn put(&mut self, items: &[X]) -> Put<OwnerWaker>
-        requires fits { length items.now ≤ self.old.free }
-        requires held { HoldFrom R.holds self.old.sent items.now }
-        ensures sent { self.new.sent ≡ self.old.sent + sent_by_put result (length items.now) }
-        ensures free { self.new.free ≡ self.old.free - sent_by_put result (length items.now) }
+    /// Puts the first `count` items of a piece into the room that was told last and wasn't used since. They are lost where the owner's end
+    /// is closed, or this one, or where more than 18446744073709551615 items would be sent in all.
+    ///
+    /// A piece goes in as it is, and the memory of the one before comes back for it, where nothing is inside and that is as long. What
+    /// stands in the piece afterwards is not to be relied on.
+    pub fn put(&mut self, piece: &mut Vec<X>, count: usize) -> Put<OwnerWaker>
+        requires some { count ≤ length piece.old.items }
+        requires fits { count ≤ self.old.free }
+        requires held { HoldFrom R.holds self.old.sent (take count piece.old.items) }
+        ensures sent { self.new.sent ≡ self.old.sent + sent_by_put result count }
+        ensures free { self.new.free ≡ self.old.free - sent_by_put result count }
+        ensures long { length piece.new.items ≡ length piece.old.items }
     {
         for _ in self.rt.forever() {
             let mut pipe = enter(&self.pipe, &self.rt);
             if pipe.sent() != self.sent || pipe.room() < self.free {
                 continue;
             }
-            let put = pipe.put(items);
+            let put = pipe.put(piece, count);
             self.sent = pipe.sent();
             drop(pipe);
             if let Put::In(_) = &put {
-                self.free -= items.len();
+                self.free -= count;
             }
             return put;
         }

@@ -2,7 +2,7 @@
 ghost use Rattle.futures.specs.Task.{Keeps};
 
 use blocking::{
-    AnyPlace, Executor, FillEnd, Host, PeekEnd, RecvEnd, Runtime, SendEnd, link, link_in,
+    AnyPlace, Executor, FillEnd, Host, PeekEnd, RecvEnd, Runtime, SendEnd, link_in, link_with,
 };
 use blocking_core::pipe::{Drained, Filled, Peeked, Put, Received, Room, Sending};
 use blocking_core::pool::{Job, JobNo, JobStep, WakeNote};
@@ -162,6 +162,8 @@ const ROWS: &[Row] = &[
 struct Bench<J: Job, H: Runtime> {
     executor: Executor<J, H>,
     me: JobNo,
+    // What the sender puts stands in here.
+    piece: Vec<u64>,
     sender: SendEnd<u64, AnyPlace, H>,
     receiver: RecvEnd<u64, AnyPlace, H>,
     filler: FillEnd<u64, AnyPlace, H>,
@@ -188,8 +190,10 @@ impl<J: Job, H: Runtime> Bench<J, H> {
     }
 
     fn put(&mut self, items: &[u64]) -> Shown {
+        let count = items.len().min(self.piece.len());
+        self.piece[..count].copy_from_slice(&items[..count]);
         match self.sender.room_or_seat(self.me) {
-            Room::Free(free) if items.len() <= free => match self.sender.put(items) {
+            Room::Free(free) if count <= free => match self.sender.put(&mut self.piece, count) {
                 Put::In(waker) => Shown::In(waker.is_some()),
                 Put::Lost => Shown::Shut,
             },
@@ -310,11 +314,12 @@ fn first_wrong<H: Host>(
 ) -> Result<Option<(usize, Shown)>, Fail> {
     let executor: Executor<Nothing, H> = Executor::new(rt, Some("1"))?;
     let me = executor.add(Nothing)?;
-    let (sender, receiver) = link(rt, 2)?;
+    let (sender, receiver) = link_with(rt, 2, vec![in rt.alloc(); 0; 2]?)?;
     let (filler, taker) = link_in(rt, 2)?;
     let bench = Bench {
         executor,
         me,
+        piece: vec![in rt.alloc(); 0; 2]?,
         sender,
         receiver,
         filler,

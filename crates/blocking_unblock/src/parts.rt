@@ -7,7 +7,7 @@ ghost use Rattle.blocking_unblock.specs.Owners.{kind_of};
 use crate::link::{Link, Linked, MayFail};
 use crate::session::{Session, Side};
 use blocking_core::job::PIECE;
-use blocking_ends::{AnyPlace, PeekEnd, SendEnd, link, link_in};
+use blocking_ends::{AnyPlace, PeekEnd, SendEnd, link, link_in, link_with};
 use std::alloc::{AllocError, AllocGlobal};
 use std::sync::{Arc, Wait};
 
@@ -53,17 +53,16 @@ pub(crate) fn read_parts<T: Drop, I: Drop, H: Wait + AllocGlobal + Copy>(
     ensures { IfOk result (λ parts. (0 < vec_len parts.piece)
         × (kind_of parts.session.side ≡ Reading) × (parts.session.owner_end ≡ Open)) }
 {
-    let piece = piece(rt, capacity)?;
     let Linked {
         way_back,
         link: theirs,
     } = Linked::new(rt)?;
-    let (job_end, end) = link(rt, capacity)?;
+    let (job_end, end) = link_with(rt, capacity, piece(rt, capacity)?)?;
     Ok(ReadParts {
         session: Session::new(Side::Reading(end, way_back)),
         end: job_end,
         link: theirs,
-        piece,
+        piece: piece(rt, capacity)?,
     })
 }
 

@@ -123,7 +123,7 @@ impl<T: Drop, H: Wait + Copy> ReadJob<T, H> {
         requires { read_next self.old.core ≡ PutPiece count }
         ensures { IsSteppedBy (PutPiece count) self.old self.new result }
     {
-        match self.end.put(&self.piece[..count]) {
+        match self.end.put(&mut self.piece, count) {
             Put::In(seat) => {
                 let woke = seat.is_some();
                 self.waker = seat.flatten();

@@ -1,7 +1,7 @@
 //! Numbers that a job on a worker puts, and that the owner drains.
 use crate::figures::{Figures, Request};
 use crate::pipe::failed;
-use blocking::{AnyPlace, Executor, Host, RecvEnd, Runtime, SendEnd, link};
+use blocking::{AnyPlace, Executor, Host, RecvEnd, Runtime, SendEnd, link_with};
 use blocking_core::pipe::{DEFAULT_ITEMS, Drained, Put, Room};
 use blocking_core::pool::{Job, JobNo, JobStep};
 use futures::Future;
@@ -18,6 +18,7 @@ const BATCH: usize = 256;
 #[derive(Drop)]
 struct Counter<H: Runtime> {
     end: SendEnd<u64, AnyPlace, H>,
+    batch: Vec<u64>,
     size: u64,
 }
 
@@ -38,11 +39,10 @@ impl<H: Runtime> Job for Counter<H> {
             Room::Parked => return JobStep::Waiting,
             Room::Shut => return JobStep::Done,
         };
-        let mut batch = [0u64; BATCH];
         let most = usize::try_from(left).unwrap_or(BATCH);
-        let count = free.min(BATCH).min(most);
-        number(first, &mut batch[..count]);
-        match self.end.put(&batch[..count]) {
+        let count = free.min(self.batch.len()).min(most);
+        number(first, &mut self.batch[..count]);
+        match self.end.put(&mut self.batch, count) {
             Put::In(_) => JobStep::Again,
             Put::Lost => JobStep::Done,
         }
@@ -113,8 +113,14 @@ impl<'a, J: Job, H: Runtime> Future for Counted<'a, J, H> {
 
 // All numbers from a job to this thread.
 fn cross<R: Host>(host: R, executor: &Executor<Counter<R>, R>, size: u64) -> io::Result<()> {
-    let (theirs, end) = link(host, DEFAULT_ITEMS)?;
-    if executor.add(Counter { end: theirs, size }).is_err() {
+    let (theirs, end) = link_with(host, DEFAULT_ITEMS, vec![in host.alloc(); 0; BATCH]?)?;
+    let batch = vec![in host.alloc(); 0; BATCH]?;
+    let counter = Counter {
+        end: theirs,
+        batch,
+        size,
+    };
+    if executor.add(counter).is_err() {
         return Err(failed());
     }
     let counted = Counted {
