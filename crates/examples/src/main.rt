@@ -6,7 +6,6 @@ mod host;
 mod lines;
 mod log;
 mod own_job;
-mod own_rule;
 mod records;
 mod refusal;
 mod two_kinds;

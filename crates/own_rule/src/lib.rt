@@ -1,9 +1,10 @@
-//! Two ends of a pipe with a rule of the program's own: what its sender owes of each item, its receiver may rely on.
+//! An example: two ends of a pipe with a rule of one's own. What its sender owes of each item, its receiver may rely on.
+#![tactic(auto)]
+
 ghost use Rattle.std.specs.Prelude.{◌≡◌, IfOk};
 
-use crate::host::Host;
 use anyhow::Result;
-use blocking::{Executor, PlaceRule, RecvEnd, Runtime, SendEnd, link};
+use blocking::{Executor, Host, PlaceRule, RecvEnd, Runtime, SendEnd, link};
 use blocking_core::pipe::{Received, Sending};
 use blocking_core::pool::{Job, JobNo, JobStep};
 use futures::Future;
@@ -90,7 +91,7 @@ impl<J: Job, H: Runtime> Future for Counted<J, H> {
 }
 
 /// How many numbers a job on a worker sends and this thread receives, through a pipe that holds two.
-pub(crate) fn received<H: Host>(rt: H) -> Result<u64>
+pub fn received<H: Host>(rt: H) -> Result<u64>
     ensures { IfOk result (λ count. count ≡ 10) }
 {
     let executor: Executor<Counter<H>, H> = Executor::new(rt, Some("1"))?;
