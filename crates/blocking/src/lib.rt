@@ -8,8 +8,9 @@ pub use blocking_executor::{
     CallJob, Cancel, Counts, Executor, Host, Runtime, Task, executor, job,
     set_max_blocking_threads, task, unblock,
 };
-pub use blocking_unblock::{
+pub use blocking_io::{
     AsyncRead, AsyncReadExt, AsyncSeek, AsyncSeekExt, AsyncWrite, AsyncWriteExt, Close, Flush,
-    IntoInner, IoFault, ItemJob, OpJob, ReadExact, ReadJob, ReadSome, ReadToEnd, SeekJob, SeekTo,
-    Unblock, WithMut, WriteAll, WriteJob, WriteSome,
+    IoFault, ReadExact, ReadSome, ReadToEnd, SeekTo, WriteAll, WriteSome,
 };
+pub use blocking_jobs::{ItemJob, OpJob, ReadJob, SeekJob, WriteJob};
+pub use blocking_unblock::{IntoInner, Unblock, WithMut};

@@ -8,18 +8,13 @@ ghost use Rattle.blocking_core.specs.declared.unblock.State.TheVariants.{Idle, L
 ghost use Rattle.blocking_unblock.specs.Owners.{kind_of};
 ghost use Rattle.blocking_unblock.specs.Polls.{Kept, Onward};
 
-use crate::item_job::ItemJob;
-use crate::link::Linked;
-use crate::op_job::{OpJob, ResultPlace, ResultSeat};
 use crate::parts::{ItemParts, ReadParts, WriteParts, item_parts, read_parts, write_parts};
-use crate::read_job::ReadJob;
-use crate::seek_job::SeekJob;
 use crate::session::{Session, Side};
-use crate::write_job::WriteJob;
 use blocking_core::io::Position;
 use blocking_core::pool::{Carries, Job, Refusal, Refused};
 use blocking_core::task::{CallOn, Seat};
 use blocking_executor::{Executor, Runtime};
+use blocking_jobs::{ItemJob, Linked, OpJob, ReadJob, ResultPlace, ResultSeat, SeekJob, WriteJob};
 use futures::task::Context;
 use std::io::{Read, Seek, Write};
 use std::mem;

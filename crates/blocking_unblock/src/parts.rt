@@ -4,10 +4,10 @@ ghost use Rattle.blocking_core.specs.declared.unblock.OwnerEnd.TheVariants.{Open
 ghost use Rattle.blocking_core.specs.declared.unblock.SessionKind.TheVariants.{Reading, Writing, Streaming};
 ghost use Rattle.blocking_unblock.specs.Owners.{kind_of};
 
-use crate::link::{Link, Linked, MayFail};
 use crate::session::{Session, Side};
 use blocking_core::job::PIECE;
 use blocking_ends::{AnyPlace, PeekEnd, SendEnd, link, link_in, link_with};
+use blocking_jobs::{Link, Linked, MayFail};
 use std::alloc::{AllocError, AllocGlobal};
 use std::sync::{Arc, Wait};
 

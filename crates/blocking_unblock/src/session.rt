@@ -7,13 +7,13 @@ ghost use Rattle.blocking_core.specs.declared.unblock.OwnerEnd.TheVariants.{Open
 ghost use Rattle.blocking_ends.specs.Answers.{IfDrained, OnDrainsWait, IfTook, OnFullWait, OnWait};
 ghost use Rattle.blocking_unblock.specs.Owners.{note_of_drain, answer_of_drain, note_of_fill, answer_of_fill, IsBack, IsSought};
 
-use crate::link::{MayFail, Returned, Sought, WayBack};
 use blocking_core::io::{Fault, JobFault, Position};
 use blocking_core::pipe::{Drained, Filled, Received};
 use blocking_core::pool::WakeNote;
 use blocking_core::task::Seat;
 use blocking_core::unblock::{OwnerAnswer, OwnerEnd, SessionKind};
 use blocking_ends::{AnyPlace, FillEnd, RecvEnd};
+use blocking_jobs::{MayFail, Returned, Sought, WayBack};
 use futures::task::Context;
 use std::io;
 use std::sync::Wait;

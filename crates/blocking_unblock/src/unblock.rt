@@ -2,24 +2,20 @@
 ghost use Rattle.std.specs.Prelude.{◌≡◌, ◌⊎◌, ◌<◌, ◌≤◌, ◌↔◌, true, false, length, None, Some, IfOk, IfErr, IfSome};
 ghost use Rattle.futures.specs.Poll.{IfReady, OnPending};
 ghost use Rattle.futures.specs.Task.{IsArmed, Keeps};
-ghost use Rattle.blocking_unblock.specs.Seekers.{position_of};
+ghost use Rattle.blocking_jobs.specs.Seekers.{position_of};
 
-use crate::io::{AsyncRead, AsyncSeek, AsyncWrite, IoFault};
-use crate::item_job::ItemJob;
 use crate::lend::{Capacity, Lends, ToNobody, ToOperate, ToRead, ToSeek, ToStream, ToWrite};
-use crate::op_job::OpJob;
 use crate::place::Place;
-use crate::read_job::ReadJob;
-use crate::seek_job::SeekJob;
 use crate::take_back::IntoInner;
 use crate::with_mut::WithMut;
-use crate::write_job::WriteJob;
 use blocking_core::io::Position;
 use blocking_core::pipe::{DEFAULT_BYTES, DEFAULT_ITEMS, Received};
 use blocking_core::pool::{Carries, Job, Refusal, Refused, WakeNote};
 use blocking_core::task::CallOn;
 use blocking_core::unblock::{OwnerAction, OwnerAnswer, OwnerCall, PollCall, Reply};
 use blocking_executor::{Executor, Runtime};
+use blocking_io::{AsyncRead, AsyncSeek, AsyncWrite, IoFault};
+use blocking_jobs::{ItemJob, OpJob, ReadJob, SeekJob, WriteJob};
 use futures::Stream;
 use futures::task::{Context, Poll};
 use std::fmt::{Debug, Formatter};
@@ -559,7 +555,7 @@ impl<T: Seek + Drop, I: Drop, J: Job + Carries<SeekJob<T, H>>, H: Runtime> Async
     for Unblock<T, I, J, H> {
     ghost use Rattle.blocking_core.specs.declared.unblock.PollCall.TheVariants.{Seek as SeekCall};
     ghost use Rattle.blocking_unblock.specs.Owners.{IsClosed, Follows, KeepsRefused, reply_of_seek};
-    ghost use Rattle.blocking_unblock.specs.Seekers.{position_of};
+    ghost use Rattle.blocking_jobs.specs.Seekers.{position_of};
 
     ghost closed = { λ owner. IsClosed owner.place };
 

@@ -6,12 +6,12 @@ ghost use Rattle.blocking_unblock.specs.Owners.{IsClosed, is_operating};
 ghost use Rattle.blocking_unblock.specs.Lenders.{has_begun, is_over, given_in, OperationGives};
 
 use crate::lend::{Stage, ToOperate};
-use crate::op_job::OpJob;
 use crate::unblock::Unblock;
 use blocking_core::pool::{Carries, Job, Refused};
 use blocking_core::task::CallOn;
 use blocking_core::unblock::{PollCall, Reply};
 use blocking_executor::Runtime;
+use blocking_jobs::OpJob;
 use futures::Future;
 use futures::task::{Context, Poll};
 use std::mem;

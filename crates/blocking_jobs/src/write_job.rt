@@ -34,7 +34,7 @@ pub struct WriteJob<T: Drop, H: Wait + Copy> {
 
 impl<T: Drop, H: Wait + Copy> Model for WriteJob<T, H> {
     ghost use Rattle.std.specs.Prelude.{length};
-    ghost use Rattle.blocking_unblock.specs.Writers.{WriteSeen, write_code, Fits};
+    ghost use Rattle.blocking_jobs.specs.Writers.{WriteSeen, write_code, Fits};
 
     ghost Value = { WriteSeen T };
 
@@ -60,9 +60,10 @@ fn offer<T: Write>(writer: &mut T, piece: &[u8], most: usize) -> io::Result<usiz
 }
 
 impl<T: Drop, H: Wait + Copy> WriteJob<T, H> {
-    ghost use Rattle.blocking_unblock.specs.Writers.{WriteSeen};
+    ghost use Rattle.blocking_jobs.specs.Writers.{WriteSeen};
 
-    pub(crate) fn new(
+    /// The job of a session that writes: `end` shows it the pipe that it writes out. The writer comes back over the link.
+    pub fn new(
         rt: H,
         writer: T,
         end: PeekEnd<u8, AnyPlace, H>,
@@ -81,7 +82,7 @@ impl<T: Drop, H: Wait + Copy> WriteJob<T, H> {
     }
 
     /// The writer, if it wasn't given back. The slot stays as it is.
-    pub(crate) fn into_writer(self) -> Option<T>
+    pub fn into_writer(self) -> Option<T>
         ensures { result ≡ self.writer }
     {
         let WriteJob {
@@ -97,7 +98,7 @@ impl<T: Drop, H: Wait + Copy> WriteJob<T, H> {
 }
 
 impl<T: Write + Drop, H: Wait + Copy> WriteJob<T, H> {
-    ghost use Rattle.blocking_unblock.specs.Writers.{IsSteppedBy};
+    ghost use Rattle.blocking_jobs.specs.Writers.{IsSteppedBy};
 
     fn peek(&mut self, me: JobNo) -> JobStep
         requires { write_next self.old.core ≡ Peek }
@@ -240,7 +241,7 @@ impl<T: Drop, H: Wait + Copy> Carries<WriteJob<T, H>> for WriteJob<T, H> {
 }
 
 impl<T: Write + Drop, H: Wait + Copy> Job for WriteJob<T, H> {
-    ghost use Rattle.blocking_unblock.specs.Writers.{IsStepped};
+    ghost use Rattle.blocking_jobs.specs.Writers.{IsStepped};
 
     // (another thread may set the mark at any time)
     ghost may_answer = { λ _ _. Unit {0} };

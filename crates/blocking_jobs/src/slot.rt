@@ -7,11 +7,11 @@ use futures::task::{Context, Poll, Source, Waker};
 use std::marker::{Model, PhantomData};
 use std::sync::{Mutex, Wait};
 
-// The owner's waker, or none where none could be registered. Letting it go calls it.
-pub(crate) type OwnerWaker = Option<Waker>;
+/// The owner's waker, or none where none could be registered. Letting it go calls it.
+pub type OwnerWaker = Option<Waker>;
 
 /// What may stand in a slot: a type, and a rule of its values for contracts alone.
-pub(crate) trait Left {
+pub trait Left {
     /// What the job leaves.
     type Value;
 
@@ -20,7 +20,7 @@ pub(crate) trait Left {
 }
 
 /// The rule that allows every value of a type.
-pub(crate) struct AnyOf<X> {
+pub struct AnyOf<X> {
     value: PhantomData<X>,
 }
 
@@ -96,26 +96,29 @@ impl<A: Left<Value: Drop>> RuledSlot<A> {
 
 /// A slot under its lock. Each method takes the lock and makes one call of the slot.
 #[derive(Drop)]
-pub(crate) struct LockedSlot<A: Left<Value: Drop>> {
+pub struct LockedSlot<A: Left<Value: Drop>> {
     slot: Mutex<RuledSlot<A>>,
 }
 
 impl<A: Left<Value: Drop>> LockedSlot<A> {
     ghost use Rattle.blocking_executor.specs.SlotAnswers.{IfLookedAt, IfPolled};
 
-    pub(crate) fn new() -> LockedSlot<A> {
+    /// An empty slot, in which nobody waits.
+    pub fn new() -> LockedSlot<A> {
         LockedSlot {
             slot: Mutex::new(RuledSlot::new()),
         }
     }
 
-    pub(crate) fn put<R: Wait>(&self, rt: &R, value: A::Value) -> Put<A::Value, OwnerWaker>
+    /// Leaves a value in the slot, or answers it, where the slot takes none; and the waker of an owner who waits.
+    pub fn put<R: Wait>(&self, rt: &R, value: A::Value) -> Put<A::Value, OwnerWaker>
         requires { A.may_be value }
     {
         self.slot.lock(rt).put(value)
     }
 
-    pub(crate) fn give_up<R: Wait>(&self, rt: &R) -> Option<OwnerWaker> {
+    /// Gives the slot up: no value will come. Answers the waker of an owner who waits.
+    pub fn give_up<R: Wait>(&self, rt: &R) -> Option<OwnerWaker> {
         self.slot.lock(rt).give_up()
     }
 
@@ -148,7 +151,7 @@ impl<A: Left<Value: Drop>> LockedSlot<A> {
     }
 
     /// The owner takes the value, or waits for it.
-    pub(crate) fn await_in<R: Wait + Copy>(
+    pub fn await_in<R: Wait + Copy>(
         &self,
         rt: R,
         source: &Source,

@@ -1,6 +1,6 @@
 use Rattle.std.proofs.Common.{◌≤◌, vec_len}
 use Rattle.futures.specs.Task.{Keeps}
-use Rattle.blocking_unblock.proofs.read_ext.append_all.Given as goal
+use Rattle.blocking_io.proofs.read_ext.append_all.Given as goal
 
 abbrev pub invariant-loop : goal.invariant-loop
 invariant-loop g l = (g.A.AsyncRead.closed l.reader → ⊥) × (l.start ≤ vec_len l.out) × Keeps l.initial.cx l.cx

@@ -30,7 +30,7 @@ pub struct ItemJob<T: Iterator<Item = I> + Drop, I: Drop, H: Wait + Copy> {
 }
 
 impl<T: Iterator<Item = I> + Drop, I: Drop, H: Wait + Copy> Model for ItemJob<T, I, H> {
-    ghost use Rattle.blocking_unblock.specs.Iterators.{ItemSeen, item_code, Fits};
+    ghost use Rattle.blocking_jobs.specs.Iterators.{ItemSeen, item_code, Fits};
 
     ghost Value = { ItemSeen T I };
 
@@ -43,9 +43,10 @@ impl<T: Iterator<Item = I> + Drop, I: Drop, H: Wait + Copy> Model for ItemJob<T,
 }
 
 impl<T: Iterator<Item = I> + Drop, I: Drop, H: Wait + Copy> ItemJob<T, I, H> {
-    ghost use Rattle.blocking_unblock.specs.Iterators.{ItemSeen, IsSteppedBy};
+    ghost use Rattle.blocking_jobs.specs.Iterators.{ItemSeen, IsSteppedBy};
 
-    pub(crate) fn new(
+    /// The job of a session of items: `end` is the pipe into which they go. The iterator comes back over the link.
+    pub fn new(
         rt: H,
         iterator: T,
         end: SendEnd<I, AnyPlace, H>,
@@ -66,7 +67,7 @@ impl<T: Iterator<Item = I> + Drop, I: Drop, H: Wait + Copy> ItemJob<T, I, H> {
     }
 
     /// The iterator, if it wasn't given back. The slot stays as it is.
-    pub(crate) fn into_iterator(self) -> Option<T>
+    pub fn into_iterator(self) -> Option<T>
         ensures { result ≡ self.iterator }
     {
         let ItemJob {
@@ -209,7 +210,7 @@ impl<T: Iterator<Item = I> + Drop, I: Drop, H: Wait + Copy> Carries<ItemJob<T, I
 }
 
 impl<T: Iterator<Item = I> + Drop, I: Drop, H: Wait + Copy> Job for ItemJob<T, I, H> {
-    ghost use Rattle.blocking_unblock.specs.Iterators.{IsStepped};
+    ghost use Rattle.blocking_jobs.specs.Iterators.{IsStepped};
 
     // (another thread may set the mark at any time)
     ghost may_answer = { λ _ _. Unit {0} };

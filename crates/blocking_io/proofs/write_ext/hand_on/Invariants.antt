@@ -1,6 +1,6 @@
 use Rattle.std.proofs.Common.{◌≤◌, ◌-◌, length}
 use Rattle.futures.specs.Task.{Keeps}
-use Rattle.blocking_unblock.proofs.write_ext.hand_on.Given as goal
+use Rattle.blocking_io.proofs.write_ext.hand_on.Given as goal
 
 abbrev pub invariant-loop-taken : goal.invariant-loop-taken
 invariant-loop-taken g l = (g.A.AsyncWrite.closed l.writer → ⊥) × (l.taken ≤ length l.bytes) × Keeps l.initial.cx l.cx

@@ -1,6 +1,6 @@
 use Rattle.std.proofs.Common.{◌≡◌, ◌≤◌, ◌-◌, length}
 use Rattle.futures.specs.Task.{Keeps}
-use Rattle.blocking_unblock.proofs.read_ext.fill.Given as goal
+use Rattle.blocking_io.proofs.read_ext.fill.Given as goal
 
 abbrev pub invariant-loop-filled : goal.invariant-loop-filled
 invariant-loop-filled g l =

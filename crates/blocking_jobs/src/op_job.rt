@@ -15,7 +15,7 @@ use std::marker::{Model, PhantomData};
 use std::sync::{Arc, Wait};
 
 /// The rule of the place in which an operation's result is left: one that the operation may give.
-pub(crate) struct ResultOf<F, T> {
+pub struct ResultOf<F, T> {
     of: PhantomData<(F, T)>,
 }
 
@@ -27,7 +27,7 @@ impl<F: CallOn<T>, T> Left for ResultOf<F, T> {
 
 /// Where the owner of an operation waits for its result.
 #[derive(Drop)]
-pub(crate) struct ResultSeat<F: CallOn<T, Out: Drop>, T, H: Wait + Copy> {
+pub struct ResultSeat<F: CallOn<T, Out: Drop>, T, H: Wait + Copy> {
     place: Arc<LockedSlot<ResultOf<F, T>>>,
     source: Source,
     rt: H,
@@ -35,7 +35,7 @@ pub(crate) struct ResultSeat<F: CallOn<T, Out: Drop>, T, H: Wait + Copy> {
 
 impl<F: CallOn<T, Out: Drop>, T, H: Wait + Copy> ResultSeat<F, T, H> {
     /// Takes the result out of its place, or waits there for it.
-    pub(crate) fn poll(&self, cx: &mut Context<'_>) -> Result<F::Out, Seat>
+    pub fn poll(&self, cx: &mut Context<'_>) -> Result<F::Out, Seat>
         ensures allowed { IfOk result F.may_give }
         ensures armed { OnErr result (IsArmed cx.new) }
         ensures kept { Keeps cx.old cx.new }
@@ -46,13 +46,14 @@ impl<F: CallOn<T, Out: Drop>, T, H: Wait + Copy> ResultSeat<F, T, H> {
 
 /// A new place for a result: where its owner waits, and what the job has of it.
 #[derive(Drop)]
-pub(crate) struct ResultPlace<F: CallOn<T, Out: Drop>, T, H: Wait + Copy> {
+pub struct ResultPlace<F: CallOn<T, Out: Drop>, T, H: Wait + Copy> {
     pub seat: ResultSeat<F, T, H>,
     pub place: Arc<LockedSlot<ResultOf<F, T>>>,
 }
 
 impl<F: CallOn<T, Out: Drop>, T, H: Wait + AllocGlobal + Copy> ResultPlace<F, T, H> {
-    pub(crate) fn new(rt: H) -> Result<ResultPlace<F, T, H>, AllocError> {
+    /// A new place, with no result in it. It errs where its memory is refused.
+    pub fn new(rt: H) -> Result<ResultPlace<F, T, H>, AllocError> {
         let place = Arc::new(rt.alloc(), LockedSlot::new())?;
         let theirs = Arc::try_clone(&place)?;
         let seat = ResultSeat {
@@ -86,7 +87,7 @@ pub struct OpJob<F: CallOn<T, Out: Drop> + Drop, T: Drop, H: Wait + Copy> {
 }
 
 impl<F: CallOn<T, Out: Drop> + Drop, T: Drop, H: Wait + Copy> Model for OpJob<F, T, H> {
-    ghost use Rattle.blocking_unblock.specs.Operators.{OpSeen, op_code, Fits};
+    ghost use Rattle.blocking_jobs.specs.Operators.{OpSeen, op_code, Fits};
 
     ghost Value = { OpSeen F T F.Out };
 
@@ -98,9 +99,10 @@ impl<F: CallOn<T, Out: Drop> + Drop, T: Drop, H: Wait + Copy> Model for OpJob<F,
 }
 
 impl<F: CallOn<T, Out: Drop> + Drop, T: Drop, H: Wait + Copy> OpJob<F, T, H> {
-    ghost use Rattle.blocking_unblock.specs.Operators.{OpSeen, IsSteppedBy};
+    ghost use Rattle.blocking_jobs.specs.Operators.{OpSeen, IsSteppedBy};
 
-    pub(crate) fn new(
+    /// The job that makes this operation on this handle. Its result goes to `place`, and the handle comes back over the link.
+    pub fn new(
         rt: H,
         operation: F,
         handle: T,
@@ -122,7 +124,7 @@ impl<F: CallOn<T, Out: Drop> + Drop, T: Drop, H: Wait + Copy> OpJob<F, T, H> {
     }
 
     /// The operation, if it wasn't called, and the handle, if it wasn't given back. The places stay as they are.
-    pub(crate) fn into_parts(self) -> (Option<F>, Option<T>)
+    pub fn into_parts(self) -> (Option<F>, Option<T>)
         ensures { result ≡ (self.operation, self.handle) }
     {
         let OpJob {
@@ -246,7 +248,7 @@ impl<F: CallOn<T, Out: Drop> + Drop, T: Drop, H: Wait + Copy> Carries<OpJob<F, T
 }
 
 impl<F: CallOn<T, Out: Drop> + Drop, T: Drop, H: Wait + Copy> Job for OpJob<F, T, H> {
-    ghost use Rattle.blocking_unblock.specs.Operators.{IsStepped};
+    ghost use Rattle.blocking_jobs.specs.Operators.{IsStepped};
 
     // (another thread may set the mark at any time)
     ghost may_answer = { λ _ _. Unit {0} };

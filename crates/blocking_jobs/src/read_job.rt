@@ -35,7 +35,7 @@ pub struct ReadJob<T: Drop, H: Wait + Copy> {
 
 impl<T: Drop, H: Wait + Copy> Model for ReadJob<T, H> {
     ghost use Rattle.std.specs.Prelude.{◌<◌, vec_len};
-    ghost use Rattle.blocking_unblock.specs.Readers.{ReadSeen, read_code, Fits};
+    ghost use Rattle.blocking_jobs.specs.Readers.{ReadSeen, read_code, Fits};
 
     ghost Value = { ReadSeen T };
 
@@ -57,9 +57,11 @@ fn ask<T: Read>(reader: &mut T, piece: &mut [u8], most: usize) -> io::Result<usi
 
 impl<T: Drop, H: Wait + Copy> ReadJob<T, H> {
     ghost use Rattle.std.specs.Prelude.{vec_len};
-    ghost use Rattle.blocking_unblock.specs.Readers.{ReadSeen, IsSteppedBy};
+    ghost use Rattle.blocking_jobs.specs.Readers.{ReadSeen, IsSteppedBy};
 
-    pub(crate) fn new(
+    /// The job of a session that reads: `piece` is what it reads into, and `end` the pipe into which that goes. The reader comes back over
+    /// the link.
+    pub fn new(
         rt: H,
         reader: T,
         piece: Vec<u8>,
@@ -82,7 +84,7 @@ impl<T: Drop, H: Wait + Copy> ReadJob<T, H> {
     }
 
     /// The reader, if it wasn't given back. The slot stays as it is.
-    pub(crate) fn into_reader(self) -> Option<T>
+    pub fn into_reader(self) -> Option<T>
         ensures { result ≡ self.reader }
     {
         let ReadJob {
@@ -175,7 +177,7 @@ impl<T: Drop, H: Wait + Copy> ReadJob<T, H> {
 }
 
 impl<T: Read + Drop, H: Wait + Copy> ReadJob<T, H> {
-    ghost use Rattle.blocking_unblock.specs.Readers.{IsSteppedBy};
+    ghost use Rattle.blocking_jobs.specs.Readers.{IsSteppedBy};
 
     fn read(&mut self, most: usize) -> JobStep
         requires { read_next self.old.core ≡ ReadPiece most }
@@ -239,7 +241,7 @@ impl<T: Drop, H: Wait + Copy> Carries<ReadJob<T, H>> for ReadJob<T, H> {
 }
 
 impl<T: Read + Drop, H: Wait + Copy> Job for ReadJob<T, H> {
-    ghost use Rattle.blocking_unblock.specs.Readers.{IsStepped};
+    ghost use Rattle.blocking_jobs.specs.Readers.{IsStepped};
 
     // (another thread may set the mark at any time)
     ghost may_answer = { λ _ _. Unit {0} };

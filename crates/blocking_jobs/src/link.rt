@@ -13,21 +13,21 @@ use std::sync::atomic::{AtomicBool, Ordering};
 use std::sync::{Arc, Wait};
 
 /// What a job tells that uses its handle until nobody wants more: its fault, if there was one.
-pub(crate) type MayFail = Option<JobFault<io::Error>>;
+pub type MayFail = Option<JobFault<io::Error>>;
 
 /// What a seeking job tells: where its handle is now.
-pub(crate) type Sought = io::Result<u64>;
+pub type Sought = io::Result<u64>;
 
 /// A handle that its job gives back, and what the job tells.
 #[derive(Drop)]
-pub(crate) struct Returned<T: Drop, X: Drop> {
+pub struct Returned<T: Drop, X: Drop> {
     pub handle: T,
     pub told: X,
 }
 
 /// What the owner and the job share.
 #[derive(Drop)]
-pub(crate) struct Link<T: Drop, X: Drop> {
+pub struct Link<T: Drop, X: Drop> {
     slot: LockedSlot<AnyOf<Returned<T, X>>>,
     // Whether the owner is gone.
     mark: AtomicBool,
@@ -35,12 +35,12 @@ pub(crate) struct Link<T: Drop, X: Drop> {
 
 impl<T: Drop, X: Drop> Link<T, X> {
     /// Whether the mark is set. It takes no lock.
-    pub(crate) fn is_marked(&self) -> bool {
+    pub fn is_marked(&self) -> bool {
         self.mark.load(Ordering::SeqCst)
     }
 
     /// Gives the handle back, and answers the waker of an owner who waits.
-    pub(crate) fn give_back<R: Wait>(&self, rt: &R, handle: T, told: X) -> Option<OwnerWaker> {
+    pub fn give_back<R: Wait>(&self, rt: &R, handle: T, told: X) -> Option<OwnerWaker> {
         let Put { back, wake } = self.slot.put(rt, Returned { handle, told });
         // (a handle that nobody wants is dropped under no lock)
         drop(back);
@@ -48,14 +48,14 @@ impl<T: Drop, X: Drop> Link<T, X> {
     }
 
     /// Gives the slot up: no handle will come. Answers the waker of an owner who waits.
-    pub(crate) fn give_up<R: Wait>(&self, rt: &R) -> Option<OwnerWaker> {
+    pub fn give_up<R: Wait>(&self, rt: &R) -> Option<OwnerWaker> {
         self.slot.give_up(rt)
     }
 }
 
 /// Where the owner waits for the handle, and says that it is gone.
 #[derive(Drop)]
-pub(crate) struct WayBack<T: Drop, X: Drop, H: Wait + Copy> {
+pub struct WayBack<T: Drop, X: Drop, H: Wait + Copy> {
     link: Arc<Link<T, X>>,
     source: Source,
     rt: H,
@@ -63,13 +63,14 @@ pub(crate) struct WayBack<T: Drop, X: Drop, H: Wait + Copy> {
 
 /// Both sides of a new link: the owner's, and what the job has of it.
 #[derive(Drop)]
-pub(crate) struct Linked<T: Drop, X: Drop, H: Wait + Copy> {
+pub struct Linked<T: Drop, X: Drop, H: Wait + Copy> {
     pub way_back: WayBack<T, X, H>,
     pub link: Arc<Link<T, X>>,
 }
 
 impl<T: Drop, X: Drop, H: Wait + AllocGlobal + Copy> Linked<T, X, H> {
-    pub(crate) fn new(rt: H) -> Result<Linked<T, X, H>, AllocError> {
+    /// A new link: no handle came back, and no mark is set. It errs where its memory is refused.
+    pub fn new(rt: H) -> Result<Linked<T, X, H>, AllocError> {
         let link = Arc::new(
             rt.alloc(),
             Link {
@@ -92,12 +93,12 @@ impl<T: Drop, X: Drop, H: Wait + AllocGlobal + Copy> Linked<T, X, H> {
 
 impl<T: Drop, X: Drop, H: Wait + Copy> WayBack<T, X, H> {
     /// Sets the mark of the session, which stays set and takes no lock: its owner is gone.
-    pub(crate) fn mark(&self) {
+    pub fn mark(&self) {
         self.link.mark.store(true, Ordering::SeqCst);
     }
 
     /// Takes the handle out of the slot, or waits there for it.
-    pub(crate) fn poll(&self, cx: &mut Context<'_>) -> Result<Returned<T, X>, Seat>
+    pub fn poll(&self, cx: &mut Context<'_>) -> Result<Returned<T, X>, Seat>
         ensures armed { OnErr result (IsArmed cx.new) }
         ensures kept { Keeps cx.old cx.new }
     {

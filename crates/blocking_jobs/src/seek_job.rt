@@ -2,7 +2,7 @@
 ghost use Rattle.std.specs.Prelude.{◌≡◌, None, Some};
 ghost use Rattle.blocking_core.specs.declared.job.seek.SeekAction.TheVariants.{Seek as MakeSeek, Finish, Deliver};
 ghost use Rattle.blocking_core.specs.Seeks.{new_seek, seek_next};
-ghost use Rattle.blocking_unblock.specs.Seekers.{seek_from};
+ghost use Rattle.blocking_jobs.specs.Seekers.{seek_from};
 
 use crate::link::{Link, Sought};
 use crate::slot::OwnerWaker;
@@ -30,7 +30,7 @@ pub struct SeekJob<T: Drop, H: Wait + Copy> {
 }
 
 impl<T: Drop, H: Wait + Copy> Model for SeekJob<T, H> {
-    ghost use Rattle.blocking_unblock.specs.Seekers.{SeekSeen, seek_code, Fits};
+    ghost use Rattle.blocking_jobs.specs.Seekers.{SeekSeen, seek_code, Fits};
 
     ghost Value = { SeekSeen T };
 
@@ -53,9 +53,10 @@ fn seek_from(position: Position) -> SeekFrom
 }
 
 impl<T: Drop, H: Wait + Copy> SeekJob<T, H> {
-    ghost use Rattle.blocking_unblock.specs.Seekers.{SeekSeen};
+    ghost use Rattle.blocking_jobs.specs.Seekers.{SeekSeen};
 
-    pub(crate) fn new(rt: H, handle: T, to: Position, link: Arc<Link<T, Sought>>) -> SeekJob<T, H>
+    /// The job that seeks `to` a position. The handle comes back over the link, and with it where it is then.
+    pub fn new(rt: H, handle: T, to: Position, link: Arc<Link<T, Sought>>) -> SeekJob<T, H>
         ensures { result ≡ record { core = new_seek; handle = Some handle; to = to; sought = None } }
     {
         SeekJob {
@@ -70,7 +71,7 @@ impl<T: Drop, H: Wait + Copy> SeekJob<T, H> {
     }
 
     /// The handle, if it wasn't given back. The slot stays as it is.
-    pub(crate) fn into_handle(self) -> Option<T>
+    pub fn into_handle(self) -> Option<T>
         ensures { result ≡ self.handle }
     {
         let SeekJob {
@@ -87,7 +88,7 @@ impl<T: Drop, H: Wait + Copy> SeekJob<T, H> {
 }
 
 impl<T: Seek + Drop, H: Wait + Copy> SeekJob<T, H> {
-    ghost use Rattle.blocking_unblock.specs.Seekers.{IsSteppedBy};
+    ghost use Rattle.blocking_jobs.specs.Seekers.{IsSteppedBy};
 
     fn seek(&mut self) -> JobStep
         requires { seek_next self.old.core ≡ MakeSeek }
@@ -180,7 +181,7 @@ impl<T: Drop, H: Wait + Copy> Carries<SeekJob<T, H>> for SeekJob<T, H> {
 }
 
 impl<T: Seek + Drop, H: Wait + Copy> Job for SeekJob<T, H> {
-    ghost use Rattle.blocking_unblock.specs.Seekers.{IsStepped};
+    ghost use Rattle.blocking_jobs.specs.Seekers.{IsStepped};
 
     // (another thread may set the mark at any time)
     ghost may_answer = { λ _ _. Unit {0} };

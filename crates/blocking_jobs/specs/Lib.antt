@@ -1,0 +1,5 @@
+pub mod Iterators
+pub mod Operators
+pub mod Readers
+pub mod Seekers
+pub mod Writers

@@ -1,0 +1,18 @@
+//! The jobs to which a handle is lent, each with the pipe that it feeds or empties, and the way on which the handle comes back.
+#![tactic(auto)]
+
+mod item_job;
+mod link;
+mod op_job;
+mod read_job;
+mod seek_job;
+mod slot;
+mod write_job;
+
+pub use item_job::ItemJob;
+pub use link::{Link, Linked, MayFail, Returned, Sought, WayBack};
+pub use op_job::{OpJob, ResultPlace, ResultSeat};
+pub use read_job::ReadJob;
+pub use seek_job::SeekJob;
+pub use slot::OwnerWaker;
+pub use write_job::WriteJob;
