@@ -2,7 +2,7 @@
 #![tactic(auto)]
 
 pub use blocking_ends::{
-    AnyPlace, FillEnd, PeekEnd, PlaceRule, RecvEnd, SendEnd, link, link_in, link_with,
+    AnyPlace, FillEnd, OwnerWaker, PeekEnd, PlaceRule, RecvEnd, SendEnd, link, link_in, link_with,
 };
 pub use blocking_executor::{
     CallJob, Cancel, Counts, Executor, Host, Runtime, Task, executor, job,

@@ -132,7 +132,9 @@ pub enum Filled {
 /// The answer to an owner, and the waker that it leaves over: the one that was handed in, where the owner needn't wait, or
 /// the one that it replaced in the seat. It is handed back so that no lock is held while it is dropped.
 pub struct Answered<A, W> {
+    /// What is answered.
     pub answer: A,
+    /// The waker that has no seat.
     pub spare: Option<W>,
 }
 

@@ -15,6 +15,8 @@ use std::sync::{Arc, Mutex, Wait};
 /// A poll that finds room takes the pipe's lock once and makes no waker. One that waits is seated by the waker of its context, and
 /// leaves its seat to the next poll. As at the other end, a call uses the pipe only where that has the count that this end knows
 /// of, and else tries again.
+///
+/// Dropping it closes nothing, and a job that waits for items stays parked: it is closed first.
 #[derive(Drop)]
 pub struct FillEnd<X: Drop, R: PlaceRule<X>, H: Wait + Copy> {
     pipe: Arc<Mutex<OwnerToJob<X, R>>>,

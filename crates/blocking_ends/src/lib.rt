@@ -10,6 +10,7 @@ mod rule;
 mod send_end;
 
 pub use fill_end::FillEnd;
+pub use locked::OwnerWaker;
 pub use pair::{link, link_in, link_with};
 pub use peek_end::PeekEnd;
 pub use recv_end::RecvEnd;

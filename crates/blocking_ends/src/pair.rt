@@ -24,8 +24,8 @@ pub fn link<X: Drop, R: PlaceRule<X>, H: Wait + AllocGlobal + Copy>(
     link_with(rt, capacity, Vec::new(rt.alloc()))
 }
 
-/// As [`link`], with memory for a piece: the first one that a job puts goes into the pipe as it is, and this comes back for it, where it is
-/// as long. A job gives what is as long as its own, so that no piece is copied as long as its owner keeps up.
+/// As [`link`], with `spare`, for which the first piece that is put is exchanged, if both are as long. Pieces that are all as long as `spare`
+/// are never copied into the pipe while its owner keeps up and drains. Where there isn't so much memory, `spare` is dropped.
 pub fn link_with<X: Drop, R: PlaceRule<X>, H: Wait + AllocGlobal + Copy>(
     rt: H,
     capacity: usize,

@@ -16,6 +16,8 @@ use std::sync::{Arc, Mutex, Wait};
 /// and where its own memory holds a piece, and else tries again.
 ///
 /// A waker that a call answers was taken out of its seat, and is to be called. One that is let go calls itself.
+///
+/// Dropping it closes nothing, and the owner goes on waiting: it is closed first.
 #[derive(Drop)]
 pub struct PeekEnd<X: Drop, R: PlaceRule<X>, H: Wait + Copy> {
     pipe: Arc<Mutex<OwnerToJob<X, R>>>,

@@ -15,6 +15,8 @@ use std::sync::{Arc, Mutex, Wait};
 /// A poll that finds something takes the pipe's lock once and makes no waker. One that waits is seated by the waker of its context,
 /// and leaves its seat to the next poll. As at the other end, a call uses the pipe only where that has the count that this end
 /// knows of, and else tries again.
+///
+/// Dropping it closes nothing, and a job that waits for room stays parked: it is closed first.
 #[derive(Drop)]
 pub struct RecvEnd<X: Drop, R: PlaceRule<X>, H: Wait + Copy> {
     pipe: Arc<Mutex<JobToOwner<X, R>>>,
@@ -65,6 +67,8 @@ impl<X: Drop, R: PlaceRule<X>, H: Wait + Copy> RecvEnd<X, R, H> {
 
     /// Receives the first item, and with it the note of a job that waits, which has to be spent. Where the pipe is empty and the
     /// job's end is open the poll waits.
+    ///
+    /// Out of a piece that was put, an item costs as much as is left of the piece, and no later piece moves in as it is: those are drained.
     pub fn receive_or_seat(&mut self, cx: &mut Context<'_>) -> Received<X>
         ensures received { self.new.received ≡ self.old.received + got_by_receive result }
         ensures held { IfReceived result (R.holds self.old.received) }

@@ -14,6 +14,8 @@ use std::sync::{Arc, Mutex, Wait};
 /// that this end knows of, which for the pair that was made it always has; else it lets go and tries again.
 ///
 /// A waker that a call answers was taken out of its seat, and is to be called. One that is let go calls itself.
+///
+/// Dropping it closes nothing, and the owner goes on waiting: it is closed first.
 #[derive(Drop)]
 pub struct SendEnd<X: Drop, R: PlaceRule<X>, H: Wait + Copy> {
     pipe: Arc<Mutex<JobToOwner<X, R>>>,
@@ -45,7 +47,8 @@ impl<X: Drop, R: PlaceRule<X>, H: Wait + Copy> SendEnd<X, R, H> {
         self.sent
     }
 
-    /// Looks for room for items, of which `put` may use as much as is told. The job is seated where there is none.
+    /// Looks for room for items, of which `put` may use as much as is told. The job is seated where there is none, and is told `Shut` where
+    /// the owner's end is closed. Once this end is closed what is told is of no use: `put` and `send` send nothing more.
     pub fn room_or_seat(&mut self, me: JobNo) -> Room
         ensures sent { self.new.sent ≡ self.old.sent }
         ensures free { self.new.free ≡ free_after result self.old.free }

@@ -16,7 +16,8 @@ pub trait AsyncRead {
     /// Whether it was closed. What is closed isn't read.
     ghost closed: { Self → Type 0 };
 
-    /// Reads the next bytes into `buf`, and answers how many they are. None, where the buffer has room for one, means the end.
+    /// Reads the next bytes into `buf`, and answers how many they are. None, where the buffer has room for one, means the end. After a
+    /// fault of its own, or a refusal where reading couldn't begin, nothing was read, and it may be read again.
     ///
     /// A poll that waits has registered, and is polled again.
     fn poll_read(&mut self, cx: &mut Context<'_>, buf: &mut [u8]) -> Poll<Result<usize, IoFault>>
@@ -34,7 +35,8 @@ pub trait AsyncWrite {
     ghost closed: { Self → Type 0 };
 
     /// Takes the first bytes of `bytes` for writing, and answers how many they are. None, where there is one, means that an earlier write
-    /// failed: no more is taken until a flush or a close has told that fault.
+    /// failed: no more is taken until a call that asks for something else has met that fault; a flush and a close tell it. After a fault,
+    /// or a refusal where writing couldn't begin, nothing of `bytes` was taken.
     ///
     /// A poll that waits has registered, and is polled again.
     fn poll_write(&mut self, cx: &mut Context<'_>, bytes: &[u8]) -> Poll<Result<usize, IoFault>>
@@ -67,7 +69,8 @@ pub trait AsyncSeek {
     ghost closed: { Self → Type 0 };
 
     /// Moves to a position, and answers where that is, counted in bytes from the start. A poll that asks for the position of a seek under
-    /// way takes that one's answer; one that asks for another begins anew.
+    /// way takes that one's answer; one that asks for another begins anew. A fault is that of the move, or of what was under way before; a
+    /// refusal says that moving couldn't begin. It may be asked again after both.
     ///
     /// A poll that waits has registered, and is polled again.
     fn poll_seek(&mut self, cx: &mut Context<'_>, to: SeekFrom) -> Poll<Result<u64, IoFault>>

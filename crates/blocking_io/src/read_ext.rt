@@ -13,7 +13,7 @@ use std::io::ErrorKind;
 /// Whole reads of what is read by polls.
 pub trait AsyncReadExt: AsyncRead {
     /// A future that reads once: what is there, as much as `buf` holds. It answers how many bytes that were; none, where `buf` has room
-    /// for one, means the end. Until it was ready it may be polled.
+    /// for one, means the end. It fails as [`AsyncRead::poll_read`] does. Until it was ready it may be polled.
     final fn read<'a>(&'a mut self, buf: &'a mut [u8]) -> ReadSome<'a, Self>
     where
         Self: Sized,
@@ -25,8 +25,8 @@ pub trait AsyncReadExt: AsyncRead {
         ReadSome { reader: self, buf }
     }
 
-    /// A future that fills `buf`. Where the end comes before, it answers an error of the kind `UnexpectedEof`, and what was read until
-    /// then stands in the front of `buf`. Until it was ready it may be polled.
+    /// A future that fills `buf`. Where the end comes before, it answers an error of the kind `UnexpectedEof`, else it fails as
+    /// [`AsyncRead::poll_read`] does; what was read until then stands in the front of `buf`. Until it was ready it may be polled.
     final fn read_exact<'a>(&'a mut self, buf: &'a mut [u8]) -> ReadExact<'a, Self>
     where
         Self: Sized,
@@ -107,7 +107,7 @@ fn fill<A: AsyncRead>(
     requires within { filled.old ≤ length buf.old }
     ensures open { A.closed reader.new → ⊥ }
     ensures within { filled.new ≤ length buf.new }
-    ensures whole { IfReady result (λ r. IfOk r (λ _. filled.new ≡ length buf.old)) }
+    ensures whole { IfReady result (λ r. IfOk r (λ _. filled.new ≡ length buf.new)) }
     ensures armed { OnPending result (IsArmed cx.new) }
     ensures kept { Keeps cx.old cx.new }
 {
@@ -128,11 +128,19 @@ fn fill<A: AsyncRead>(
 impl<'a, A: AsyncRead> Future for ReadExact<'a, A> {
     type Output = Result<(), IoFault>;
 
-    ghost use Rattle.std.specs.Prelude.{◌≤◌, length};
+    ghost use Rattle.std.specs.Prelude.{◌≡◌, ◌≤◌, length, IfOk};
+    ghost use Rattle.futures.specs.Poll.{IfReady, OnPending};
+    ghost use Rattle.futures.specs.Task.{IsArmed, Keeps};
 
     ghost can_poll = { λ read. (A.closed read.reader.now → ⊥) × (read.filled ≤ length read.buf.now) };
 
-    fn poll(&mut self, cx: &mut Context<'_>) -> Poll<Result<(), IoFault>> {
+    fn poll(&mut self, cx: &mut Context<'_>) -> Poll<Result<(), IoFault>>
+        requires { (A.closed self.old.reader.now → ⊥) × (self.old.filled ≤ length self.old.buf.now) }
+        ensures whole { IfReady result (λ r. IfOk r (λ _. self.new.filled ≡ length self.new.buf.now)) }
+        ensures again { OnPending result ((A.closed self.new.reader.now → ⊥) × (self.new.filled ≤ length self.new.buf.now)) }
+        ensures armed { OnPending result (IsArmed cx.new) }
+        ensures kept { Keeps cx.old cx.new }
+    {
         let reader = &mut *self.reader;
         let buf = &mut *self.buf;
         fill(reader, cx, buf, &mut self.filled)
@@ -148,8 +156,10 @@ pub struct ReadToEnd<'a, A> {
     start: usize,
 }
 
-// How much is asked for at once.
-const CHUNK: usize = 4096;
+// How many bytes are asked for at once: as many as were read before, within these bounds.
+const LEAST: usize = 4_096;
+
+const MOST: usize = 65_536;
 
 // Reads once, behind what is there. The memory is had before, so that no byte that was read is lost.
 fn append<A: AsyncRead>(
@@ -164,17 +174,18 @@ fn append<A: AsyncRead>(
     ensures armed { OnPending result (IsArmed cx.new) }
     ensures kept { Keeps cx.old cx.new }
 {
-    if let Err(error) = out.reserve(CHUNK) {
+    let before = out.len();
+    let room = before.max(LEAST).min(MOST);
+    if let Err(error) = out.resize(before.saturating_add(room), 0) {
         return Poll::Ready(Err(Fault::Io(io::Error::from(error))));
     }
-    let mut chunk = [0u8; CHUNK];
-    match reader.poll_read(cx, &mut chunk) {
-        Poll::Ready(Ok(count)) => match out.extend_from_slice(&chunk[..count]) {
-            Ok(()) => Poll::Ready(Ok(count)),
-            Err(error) => Poll::Ready(Err(Fault::Io(io::Error::from(error)))),
-        },
-        other => other,
-    }
+    let read = reader.poll_read(cx, &mut out[before..]);
+    let count = match &read {
+        Poll::Ready(Ok(count)) => *count,
+        _ => 0,
+    };
+    out.truncate(before + count);
+    read
 }
 
 // Reads to the end, behind what is there, and answers how many bytes there are behind the first `start`.
@@ -206,11 +217,20 @@ fn append_all<A: AsyncRead>(
 impl<'a, A: AsyncRead> Future for ReadToEnd<'a, A> {
     type Output = Result<usize, IoFault>;
 
-    ghost use Rattle.std.specs.Prelude.{◌≤◌, vec_len};
+    ghost use Rattle.std.specs.Prelude.{◌≡◌, ◌≤◌, ◌+◌, vec_len, IfOk};
+    ghost use Rattle.futures.specs.Poll.{IfReady, OnPending};
+    ghost use Rattle.futures.specs.Task.{IsArmed, Keeps};
 
     ghost can_poll = { λ read. (A.closed read.reader.now → ⊥) × (read.start ≤ vec_len read.out.now) };
 
-    fn poll(&mut self, cx: &mut Context<'_>) -> Poll<Result<usize, IoFault>> {
+    fn poll(&mut self, cx: &mut Context<'_>) -> Poll<Result<usize, IoFault>>
+        requires { (A.closed self.old.reader.now → ⊥) × (self.old.start ≤ vec_len self.old.out.now) }
+        ensures count { IfReady result (λ r. IfOk r (λ n. vec_len self.new.out.now ≡ self.old.start + n)) }
+        ensures start { self.new.start ≡ self.old.start }
+        ensures again { OnPending result ((A.closed self.new.reader.now → ⊥) × (self.new.start ≤ vec_len self.new.out.now)) }
+        ensures armed { OnPending result (IsArmed cx.new) }
+        ensures kept { Keeps cx.old cx.new }
+    {
         let reader = &mut *self.reader;
         let out = &mut *self.out;
         append_all(reader, cx, out, self.start)

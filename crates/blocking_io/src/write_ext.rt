@@ -11,7 +11,8 @@ use futures::task::{Context, Poll};
 /// Whole writes of what is written by polls.
 pub trait AsyncWriteExt: AsyncWrite {
     /// A future that writes once: the first of `bytes`, as many as are taken. It answers how many bytes that were; none, where there is
-    /// one, means that an earlier write failed, which a flush tells. Until it was ready it may be polled.
+    /// one, means that an earlier write failed, which a flush tells. It fails as [`AsyncWrite::poll_write`] does. Until it was ready it may
+    /// be polled.
     final fn write<'a>(&'a mut self, bytes: &'a [u8]) -> WriteSome<'a, Self>
     where
         Self: Sized,
@@ -27,7 +28,8 @@ pub trait AsyncWriteExt: AsyncWrite {
     }
 
     /// A future that has all of `bytes` taken for writing; that they are written, a flush tells. Where an earlier write failed it answers
-    /// that fault, and how many bytes were taken before isn't known. Until it was ready it may be polled.
+    /// that fault, or [`Fault::WriteZero`] where the writer takes no more and knows of none; else it fails as [`AsyncWrite::poll_write`]
+    /// does. How many bytes were taken before isn't known then. Until it was ready it may be polled.
     final fn write_all<'a>(&'a mut self, bytes: &'a [u8]) -> WriteAll<'a, Self>
     where
         Self: Sized,
@@ -142,11 +144,19 @@ fn tell_fault<A: AsyncWrite>(writer: &mut A, cx: &mut Context<'_>) -> Poll<IoFau
 impl<'a, A: AsyncWrite> Future for WriteAll<'a, A> {
     type Output = Result<(), IoFault>;
 
-    ghost use Rattle.std.specs.Prelude.{◌≤◌, length};
+    ghost use Rattle.std.specs.Prelude.{◌≡◌, ◌≤◌, length, IfOk};
+    ghost use Rattle.futures.specs.Poll.{IfReady, OnPending};
+    ghost use Rattle.futures.specs.Task.{IsArmed, Keeps};
 
     ghost can_poll = { λ write. (A.closed write.writer.now → ⊥) × (write.taken ≤ length write.bytes.now) };
 
-    fn poll(&mut self, cx: &mut Context<'_>) -> Poll<Result<(), IoFault>> {
+    fn poll(&mut self, cx: &mut Context<'_>) -> Poll<Result<(), IoFault>>
+        requires { (A.closed self.old.writer.now → ⊥) × (self.old.taken ≤ length self.old.bytes.now) }
+        ensures whole { IfReady result (λ r. IfOk r (λ _. self.new.taken ≡ length self.new.bytes.now)) }
+        ensures again { OnPending result ((A.closed self.new.writer.now → ⊥) × (self.new.taken ≤ length self.new.bytes.now)) }
+        ensures armed { OnPending result (IsArmed cx.new) }
+        ensures kept { Keeps cx.old cx.new }
+    {
         let writer = &mut *self.writer;
         if !self.has_failed {
             match hand_on(writer, cx, self.bytes, &mut self.taken) {
@@ -185,9 +195,17 @@ pub struct Close<'a, A> {
 }
 
 impl<'a, A: AsyncWrite> Future for Close<'a, A> {
+    ghost use Rattle.std.specs.Prelude.{IfOk};
+    ghost use Rattle.futures.specs.Poll.{IfReady, OnPending};
+    ghost use Rattle.futures.specs.Task.{IsArmed, Keeps};
+
     type Output = Result<(), IoFault>;
 
-    fn poll(&mut self, cx: &mut Context<'_>) -> Poll<Result<(), IoFault>> {
+    fn poll(&mut self, cx: &mut Context<'_>) -> Poll<Result<(), IoFault>>
+        ensures closed { IfReady result (λ r. IfOk r (λ _. A.closed self.new.writer.now)) }
+        ensures armed { OnPending result (IsArmed cx.new) }
+        ensures kept { Keeps cx.old cx.new }
+    {
         let writer = &mut *self.writer;
         writer.poll_close(cx)
     }

@@ -4,18 +4,18 @@ ghost use Rattle.blocking_core.specs.declared.job.item.ItemAction.TheVariants.{N
 ghost use Rattle.blocking_core.specs.Items.{new_item, item_next};
 
 use crate::link::{Link, MayFail};
-use crate::slot::OwnerWaker;
 use blocking_core::job::{ItemAction, ItemAnswer, ItemCore};
 use blocking_core::pipe::Sending;
 use blocking_core::pool::{Carries, Job, JobNo, JobStep};
-use blocking_ends::{AnyPlace, SendEnd};
+use blocking_ends::{AnyPlace, OwnerWaker, SendEnd};
 use std::marker::Model;
 use std::sync::{Arc, Wait};
 
 /// The job that runs an iterator ahead of an owner: it asks the iterator for an item and sends it through the pipe, until the iterator
 /// ends or nobody wants more. Then it gives the iterator back. One item at most is out of the iterator and not in the pipe.
 ///
-/// One that is dropped before it is done drops the iterator, gives its slot up and calls the owner's waker, with no lock held.
+/// One that is dropped before it is done drops the iterator and gives its slot up, with no lock held. That wakes an owner who waits there for
+/// the iterator, and none who waits at the pipe. A pool drops a job only once its owner is gone.
 pub struct ItemJob<T: Iterator<Item = I> + Drop, I: Drop, H: Wait + Copy> {
     core: ItemCore,
     // The iterator, until it is given back.

@@ -14,5 +14,4 @@ pub use link::{Link, Linked, MayFail, Returned, Sought, WayBack};
 pub use op_job::{OpJob, ResultPlace, ResultSeat};
 pub use read_job::ReadJob;
 pub use seek_job::SeekJob;
-pub use slot::OwnerWaker;
 pub use write_job::WriteJob;

@@ -3,9 +3,10 @@
 ghost use Rattle.std.specs.Prelude.{OnErr, IfOk};
 ghost use Rattle.futures.specs.Task.{IsArmed, Keeps};
 
-use crate::slot::{AnyOf, LockedSlot, OwnerWaker};
+use crate::slot::{AnyOf, LockedSlot};
 use blocking_core::io::JobFault;
 use blocking_core::task::{Put, Seat};
+use blocking_ends::OwnerWaker;
 use futures::task::{Context, Source};
 use std::alloc::{AllocError, AllocGlobal};
 use std::io;
@@ -15,13 +16,15 @@ use std::sync::{Arc, Wait};
 /// What a job tells that uses its handle until nobody wants more: its fault, if there was one.
 pub type MayFail = Option<JobFault<io::Error>>;
 
-/// What a seeking job tells: where its handle is now.
+/// What a seeking job tells: where its handle is now, counted in bytes from the start, or why the seek failed.
 pub type Sought = io::Result<u64>;
 
 /// A handle that its job gives back, and what the job tells.
 #[derive(Drop)]
 pub struct Returned<T: Drop, X: Drop> {
+    /// The handle, which is its owner's again.
     pub handle: T,
+    /// What its job tells: a fault or none, or where a seek came to.
     pub told: X,
 }
 
@@ -35,12 +38,12 @@ pub struct Link<T: Drop, X: Drop> {
 
 impl<T: Drop, X: Drop> Link<T, X> {
     /// Whether the mark is set. It takes no lock.
-    pub fn is_marked(&self) -> bool {
+    pub(crate) fn is_marked(&self) -> bool {
         self.mark.load(Ordering::SeqCst)
     }
 
     /// Gives the handle back, and answers the waker of an owner who waits.
-    pub fn give_back<R: Wait>(&self, rt: &R, handle: T, told: X) -> Option<OwnerWaker> {
+    pub(crate) fn give_back<R: Wait>(&self, rt: &R, handle: T, told: X) -> Option<OwnerWaker> {
         let Put { back, wake } = self.slot.put(rt, Returned { handle, told });
         // (a handle that nobody wants is dropped under no lock)
         drop(back);
@@ -48,7 +51,7 @@ impl<T: Drop, X: Drop> Link<T, X> {
     }
 
     /// Gives the slot up: no handle will come. Answers the waker of an owner who waits.
-    pub fn give_up<R: Wait>(&self, rt: &R) -> Option<OwnerWaker> {
+    pub(crate) fn give_up<R: Wait>(&self, rt: &R) -> Option<OwnerWaker> {
         self.slot.give_up(rt)
     }
 }
@@ -64,7 +67,9 @@ pub struct WayBack<T: Drop, X: Drop, H: Wait + Copy> {
 /// Both sides of a new link: the owner's, and what the job has of it.
 #[derive(Drop)]
 pub struct Linked<T: Drop, X: Drop, H: Wait + Copy> {
+    /// Where the owner waits for the handle.
     pub way_back: WayBack<T, X, H>,
+    /// What the job gives it back by.
     pub link: Arc<Link<T, X>>,
 }
 
@@ -97,7 +102,9 @@ impl<T: Drop, X: Drop, H: Wait + Copy> WayBack<T, X, H> {
         self.link.mark.store(true, Ordering::SeqCst);
     }
 
-    /// Takes the handle out of the slot, or waits there for it.
+    /// Takes the handle out of the slot, or waits there for it. Once it was taken nothing more comes, and a poll waits for good. It isn't
+    /// polled where the job was dropped before it gave the handle back, which a pool does only once the owner is gone: it would ask again
+    /// and again.
     pub fn poll(&self, cx: &mut Context<'_>) -> Result<Returned<T, X>, Seat>
         ensures armed { OnErr result (IsArmed cx.new) }
         ensures kept { Keeps cx.old cx.new }

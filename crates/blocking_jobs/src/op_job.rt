@@ -5,10 +5,11 @@ ghost use Rattle.blocking_core.specs.declared.job.operation.OperationAction.TheV
 ghost use Rattle.blocking_core.specs.Operations.{new_operation, operation_next};
 
 use crate::link::{Link, MayFail};
-use crate::slot::{Left, LockedSlot, OwnerWaker};
+use crate::slot::{Left, LockedSlot};
 use blocking_core::job::{OperationAction, OperationAnswer, OperationCore};
 use blocking_core::pool::{Carries, Job, JobNo, JobStep};
 use blocking_core::task::{CallOn, Put, Seat};
+use blocking_ends::OwnerWaker;
 use futures::task::{Context, Source};
 use std::alloc::{AllocError, AllocGlobal};
 use std::marker::{Model, PhantomData};
@@ -34,7 +35,7 @@ pub struct ResultSeat<F: CallOn<T, Out: Drop>, T, H: Wait + Copy> {
 }
 
 impl<F: CallOn<T, Out: Drop>, T, H: Wait + Copy> ResultSeat<F, T, H> {
-    /// Takes the result out of its place, or waits there for it.
+    /// Takes the result out of its place, or waits there for it. Once it was taken nothing more comes, and a poll waits for good.
     pub fn poll(&self, cx: &mut Context<'_>) -> Result<F::Out, Seat>
         ensures allowed { IfOk result F.may_give }
         ensures armed { OnErr result (IsArmed cx.new) }
@@ -47,7 +48,9 @@ impl<F: CallOn<T, Out: Drop>, T, H: Wait + Copy> ResultSeat<F, T, H> {
 /// A new place for a result: where its owner waits, and what the job has of it.
 #[derive(Drop)]
 pub struct ResultPlace<F: CallOn<T, Out: Drop>, T, H: Wait + Copy> {
+    /// Where the owner waits for the result.
     pub seat: ResultSeat<F, T, H>,
+    /// Where the job leaves it.
     pub place: Arc<LockedSlot<ResultOf<F, T>>>,
 }
 
@@ -70,7 +73,8 @@ impl<F: CallOn<T, Out: Drop>, T, H: Wait + AllocGlobal + Copy> ResultPlace<F, T,
 
 /// The job that makes an operation on a handle, once. It leaves the result in a place of its own, and then gives the handle back.
 ///
-/// One that is dropped before it is done drops the handle, gives its slot up and calls the owner's waker, with no lock held.
+/// One that is dropped before it is done drops the handle and gives its slot up, with no lock held. That wakes an owner who waits there for
+/// the handle, and none who waits for the result. A pool drops a job only once its owner is gone.
 pub struct OpJob<F: CallOn<T, Out: Drop> + Drop, T: Drop, H: Wait + Copy> {
     core: OperationCore,
     // The operation, until it is called.

@@ -1,24 +1,25 @@
 //! The job that reads ahead of an owner.
-ghost use Rattle.std.specs.Prelude.{◌≡◌, ◌<◌, ◌≤◌, length, None, Some, IfOk};
+ghost use Rattle.std.specs.Prelude.{◌≡◌, ◌<◌, ◌≤◌, length, take, None, Some, IfOk};
+ghost use Rattle.std.specs.Io.KnownBytes.{ReadConsumes};
 ghost use Rattle.blocking_core.specs.declared.job.read.ReadAction.TheVariants.{FindRoom, Read as ReadPiece, Put as PutPiece, Close, Finish, Deliver};
 ghost use Rattle.blocking_core.specs.Reading.{new_read, read_next};
 
 use crate::link::{Link, MayFail};
-use crate::slot::OwnerWaker;
 use blocking_core::io::JobFault;
 use blocking_core::job::{ReadAction, ReadAnswer, ReadCore};
 use blocking_core::pipe::{Put, Room};
 use blocking_core::pool::{Carries, Job, JobNo, JobStep};
-use blocking_ends::{AnyPlace, SendEnd};
+use blocking_ends::{AnyPlace, OwnerWaker, SendEnd};
+use std::io;
 use std::io::Read;
 use std::marker::Model;
 use std::sync::{Arc, Wait};
-use std::{io, mem};
 
 /// The job that reads ahead of an owner: it asks its reader for as much as there is room for in the pipe, and puts there what it
 /// was given, until the reader ends or fails or nobody wants more. Then it gives the reader back.
 ///
-/// One that is dropped before it is done drops the reader, gives its slot up and calls the owner's waker, with no lock held.
+/// One that is dropped before it is done drops the reader and gives its slot up, with no lock held. That wakes an owner who waits there for
+/// the reader, and none who waits at the pipe. A pool drops a job only once its owner is gone.
 pub struct ReadJob<T: Drop, H: Wait + Copy> {
     core: ReadCore,
     // The reader, until it is given back.
@@ -41,7 +42,13 @@ impl<T: Drop, H: Wait + Copy> Model for ReadJob<T, H> {
 
     ghost coded = { read_code T.code };
 
-    ghost view = { λ j. record { core = j.core; reader = j.reader; sent = j.end.sent } };
+    ghost view = { λ j. record {
+      core = j.core;
+      reader = j.reader;
+      sent = j.end.sent;
+      fault = j.fault;
+      piece = j.piece.items;
+    } };
 
     ghost invariant = { λ j. (0 < vec_len j.piece) × Fits j.core.next j.end.free (vec_len j.piece) j.reader };
 }
@@ -50,6 +57,7 @@ impl<T: Drop, H: Wait + Copy> Model for ReadJob<T, H> {
 fn ask<T: Read>(reader: &mut T, piece: &mut [u8], most: usize) -> io::Result<usize>
     requires { most ≤ length piece.old }
     ensures count { IfOk result (λ n. n ≤ most) }
+    ensures bytes { ReadConsumes (T.remaining reader.old) (T.remaining reader.new) result (take most piece.new) }
     ensures same { length piece.new ≡ length piece.old }
 {
     reader.read(&mut piece[..most])
@@ -57,7 +65,7 @@ fn ask<T: Read>(reader: &mut T, piece: &mut [u8], most: usize) -> io::Result<usi
 
 impl<T: Drop, H: Wait + Copy> ReadJob<T, H> {
     ghost use Rattle.std.specs.Prelude.{vec_len};
-    ghost use Rattle.blocking_jobs.specs.Readers.{ReadSeen, IsSteppedBy};
+    ghost use Rattle.blocking_jobs.specs.Readers.{ReadSeen};
 
     /// The job of a session that reads: `piece` is what it reads into, and `end` the pipe into which that goes. The reader comes back over
     /// the link.
@@ -69,7 +77,7 @@ impl<T: Drop, H: Wait + Copy> ReadJob<T, H> {
         link: Arc<Link<T, MayFail>>,
     ) -> ReadJob<T, H>
         requires { 0 < vec_len piece }
-        ensures { result ≡ record { core = new_read; reader = Some reader; sent = end.sent } }
+        ensures { result ≡ record { core = new_read; reader = Some reader; sent = end.sent; fault = None; piece = piece.items } }
     {
         ReadJob {
             core: ReadCore::new(),
@@ -99,10 +107,14 @@ impl<T: Drop, H: Wait + Copy> ReadJob<T, H> {
         } = self;
         reader
     }
+}
+
+impl<T: Read + Drop, H: Wait + Copy> ReadJob<T, H> {
+    ghost use Rattle.blocking_jobs.specs.Readers.{IsSteppedBy};
 
     fn find_room(&mut self, me: JobNo) -> JobStep
         requires { read_next self.old.core ≡ FindRoom }
-        ensures { IsSteppedBy FindRoom self.old self.new result }
+        ensures { IsSteppedBy T.remaining FindRoom self.old self.new result }
     {
         match self.end.room_or_seat(me) {
             Room::Free(room) => {
@@ -121,9 +133,26 @@ impl<T: Drop, H: Wait + Copy> ReadJob<T, H> {
         }
     }
 
+    fn read(&mut self, most: usize) -> JobStep
+        requires { read_next self.old.core ≡ ReadPiece most }
+        ensures { IsSteppedBy T.remaining (ReadPiece most) self.old self.new result }
+    {
+        let Some(reader) = &mut self.reader else {
+            unreachable!()
+        };
+        match ask(reader, self.piece.as_mut_slice(), most) {
+            Ok(count) => self.core.answer(ReadAnswer::Gave(count)),
+            Err(error) => {
+                self.fault = Some(JobFault::Io(error));
+                self.core.answer(ReadAnswer::Failed);
+            }
+        }
+        JobStep::Again
+    }
+
     fn put(&mut self, count: usize) -> JobStep
         requires { read_next self.old.core ≡ PutPiece count }
-        ensures { IsSteppedBy (PutPiece count) self.old self.new result }
+        ensures { IsSteppedBy T.remaining (PutPiece count) self.old self.new result }
     {
         match self.end.put(&mut self.piece, count) {
             Put::In(seat) => {
@@ -138,7 +167,7 @@ impl<T: Drop, H: Wait + Copy> ReadJob<T, H> {
 
     fn close(&mut self) -> JobStep
         requires { read_next self.old.core ≡ Close }
-        ensures { IsSteppedBy Close self.old self.new result }
+        ensures { IsSteppedBy T.remaining Close self.old self.new result }
     {
         let seat = self.end.close();
         let woke = seat.is_some();
@@ -149,7 +178,7 @@ impl<T: Drop, H: Wait + Copy> ReadJob<T, H> {
 
     fn finish(&mut self) -> JobStep
         requires { read_next self.old.core ≡ Finish }
-        ensures { IsSteppedBy Finish self.old self.new result }
+        ensures { IsSteppedBy T.remaining Finish self.old self.new result }
     {
         let Some(handle) = self.reader.take() else {
             unreachable!()
@@ -163,7 +192,7 @@ impl<T: Drop, H: Wait + Copy> ReadJob<T, H> {
 
     fn deliver(&mut self) -> JobStep
         requires { read_next self.old.core ≡ Deliver }
-        ensures { IsSteppedBy Deliver self.old self.new result }
+        ensures { IsSteppedBy T.remaining Deliver self.old self.new result }
     {
         if let Some(waker) = self.waker.take() {
             waker.wake();
@@ -173,27 +202,6 @@ impl<T: Drop, H: Wait + Copy> ReadJob<T, H> {
             ReadAction::Done => JobStep::Done,
             _ => JobStep::Again,
         }
-    }
-}
-
-impl<T: Read + Drop, H: Wait + Copy> ReadJob<T, H> {
-    ghost use Rattle.blocking_jobs.specs.Readers.{IsSteppedBy};
-
-    fn read(&mut self, most: usize) -> JobStep
-        requires { read_next self.old.core ≡ ReadPiece most }
-        ensures { IsSteppedBy (ReadPiece most) self.old self.new result }
-    {
-        let Some(reader) = &mut self.reader else {
-            unreachable!()
-        };
-        match ask(reader, self.piece.as_mut_slice(), most) {
-            Ok(count) => self.core.answer(ReadAnswer::Gave(count)),
-            Err(error) => {
-                self.fault = Some(JobFault::Io(error));
-                self.core.answer(ReadAnswer::Failed);
-            }
-        }
-        JobStep::Again
     }
 }
 
@@ -247,7 +255,7 @@ impl<T: Read + Drop, H: Wait + Copy> Job for ReadJob<T, H> {
     ghost may_answer = { λ _ _. Unit {0} };
 
     fn step(&mut self, me: JobNo) -> JobStep
-        ensures { IsStepped self.old self.new result }
+        ensures { IsStepped T.remaining self.old self.new result }
     {
         match self.core.next() {
             ReadAction::FindRoom => self.find_room(me),

@@ -5,17 +5,18 @@ ghost use Rattle.blocking_core.specs.Seeks.{new_seek, seek_next};
 ghost use Rattle.blocking_jobs.specs.Seekers.{seek_from};
 
 use crate::link::{Link, Sought};
-use crate::slot::OwnerWaker;
 use blocking_core::io::Position;
 use blocking_core::job::{SeekAction, SeekAnswer, SeekCore};
 use blocking_core::pool::{Carries, Job, JobNo, JobStep};
+use blocking_ends::OwnerWaker;
 use std::io::{Seek, SeekFrom};
 use std::marker::Model;
 use std::sync::{Arc, Wait};
 
 /// The job that moves a handle to a position, once. Then it gives the handle back, and where that is now or its fault.
 ///
-/// One that is dropped before it is done drops the handle, gives its slot up and calls the owner's waker, with no lock held.
+/// One that is dropped before it is done drops the handle and gives its slot up, with no lock held. That wakes an owner who waits there for
+/// the handle. A pool drops a job only once its owner is gone.
 pub struct SeekJob<T: Drop, H: Wait + Copy> {
     core: SeekCore,
     // The handle, until it is given back.

@@ -3,12 +3,10 @@ ghost use Rattle.std.specs.Prelude.{◌≡◌, IfOk, OnErr};
 ghost use Rattle.futures.specs.Task.{IsArmed, Keeps};
 
 use blocking_core::task::{Looked, Put, Seat, Slot, Slotted};
-use futures::task::{Context, Poll, Source, Waker};
+use blocking_ends::OwnerWaker;
+use futures::task::{Context, Poll, Source};
 use std::marker::{Model, PhantomData};
 use std::sync::{Mutex, Wait};
-
-/// The owner's waker, or none where none could be registered. Letting it go calls it.
-pub type OwnerWaker = Option<Waker>;
 
 /// What may stand in a slot: a type, and a rule of its values for contracts alone.
 pub trait Left {
@@ -104,21 +102,21 @@ impl<A: Left<Value: Drop>> LockedSlot<A> {
     ghost use Rattle.blocking_executor.specs.SlotAnswers.{IfLookedAt, IfPolled};
 
     /// An empty slot, in which nobody waits.
-    pub fn new() -> LockedSlot<A> {
+    pub(crate) fn new() -> LockedSlot<A> {
         LockedSlot {
             slot: Mutex::new(RuledSlot::new()),
         }
     }
 
     /// Leaves a value in the slot, or answers it, where the slot takes none; and the waker of an owner who waits.
-    pub fn put<R: Wait>(&self, rt: &R, value: A::Value) -> Put<A::Value, OwnerWaker>
+    pub(crate) fn put<R: Wait>(&self, rt: &R, value: A::Value) -> Put<A::Value, OwnerWaker>
         requires { A.may_be value }
     {
         self.slot.lock(rt).put(value)
     }
 
     /// Gives the slot up: no value will come. Answers the waker of an owner who waits.
-    pub fn give_up<R: Wait>(&self, rt: &R) -> Option<OwnerWaker> {
+    pub(crate) fn give_up<R: Wait>(&self, rt: &R) -> Option<OwnerWaker> {
         self.slot.lock(rt).give_up()
     }
 
@@ -150,8 +148,8 @@ impl<A: Left<Value: Drop>> LockedSlot<A> {
         unreachable!()
     }
 
-    /// The owner takes the value, or waits for it.
-    pub fn await_in<R: Wait + Copy>(
+    /// The owner takes the value, or waits for it. Once it was taken nothing more comes, and a poll waits for good.
+    pub(crate) fn await_in<R: Wait + Copy>(
         &self,
         rt: R,
         source: &Source,

@@ -6,11 +6,10 @@ ghost use Rattle.blocking_core.specs.declared.job.write.WriteAction.TheVariants.
 ghost use Rattle.blocking_core.specs.Writing.{new_write, write_next};
 
 use crate::link::{Link, MayFail};
-use crate::slot::OwnerWaker;
 use blocking_core::job::{PIECE, WriteAction, WriteAnswer, WriteCore};
 use blocking_core::pipe::Peeked;
 use blocking_core::pool::{Carries, Job, JobNo, JobStep};
-use blocking_ends::{AnyPlace, PeekEnd};
+use blocking_ends::{AnyPlace, OwnerWaker, PeekEnd};
 use std::io;
 use std::io::Write;
 use std::marker::Model;
@@ -19,8 +18,8 @@ use std::sync::{Arc, Wait};
 /// The job that writes behind an owner: it offers its writer what stands at the front of the pipe, and lets go of what the writer took,
 /// until the owner wants no more and all is written, or the writer fails. Then it flushes the writer and gives it back.
 ///
-/// One that is dropped before it is done drops the writer, gives its slot up and calls the owner's waker, with no lock held. What wasn't
-/// written then is lost.
+/// One that is dropped before it is done drops the writer and gives its slot up, with no lock held. That wakes an owner who waits there for
+/// the writer, and none who waits at the pipe. A pool drops a job only once its owner is gone. What wasn't written then is lost.
 pub struct WriteJob<T: Drop, H: Wait + Copy> {
     core: WriteCore<io::Error>,
     // The writer, until it is given back.

@@ -1,5 +1,5 @@
-//! All the memory of a session: the owner's side, and what its job needs beside the handle.
-ghost use Rattle.std.specs.Prelude.{◌≡◌, ◌<◌, ◌≤◌, vec_len, IfOk};
+//! All the memory of a session with a pipe: the owner's side, and what its job needs beside the handle.
+ghost use Rattle.std.specs.Prelude.{◌≡◌, ◌<◌, min, vec_len, IfOk};
 ghost use Rattle.blocking_core.specs.declared.unblock.OwnerEnd.TheVariants.{Open};
 ghost use Rattle.blocking_core.specs.declared.unblock.SessionKind.TheVariants.{Reading, Writing, Streaming};
 ghost use Rattle.blocking_unblock.specs.Owners.{kind_of};
@@ -36,21 +36,22 @@ pub(crate) struct ItemParts<T: Drop, I: Drop, H: Wait + Copy> {
     pub link: Arc<Link<T, MayFail>>,
 }
 
-// The job's own piece, where the pipe holds so many bytes.
+// A piece of a job, where the pipe holds so many bytes.
 fn piece<H: AllocGlobal + Copy>(rt: H, capacity: usize) -> Result<Vec<u8>, AllocError>
     requires { 0 < capacity }
-    ensures { IfOk result (λ piece. (0 < vec_len piece) × (vec_len piece ≤ 65536)) }
+    ensures { IfOk result (λ piece. vec_len piece ≡ min capacity 65536) }
 {
     vec![in rt.alloc(); 0u8; capacity.min(PIECE)]
 }
 
-/// A session that reads through a pipe of so many bytes.
+/// A session that reads through a pipe of so many bytes. The piece that its job reads into is as long as the one that stands ready in the
+/// pipe, so that each moves there as it is.
 pub(crate) fn read_parts<T: Drop, I: Drop, H: Wait + AllocGlobal + Copy>(
     rt: H,
     capacity: usize,
 ) -> Result<ReadParts<T, I, H>, AllocError>
     requires { 0 < capacity }
-    ensures { IfOk result (λ parts. (0 < vec_len parts.piece)
+    ensures { IfOk result (λ parts. (vec_len parts.piece ≡ min capacity 65536)
         × (kind_of parts.session.side ≡ Reading) × (parts.session.owner_end ≡ Open)) }
 {
     let Linked {

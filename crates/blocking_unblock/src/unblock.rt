@@ -26,7 +26,8 @@ use std::{fmt, io, mem};
 
 /// The owner of a blocking handle, which it lends to jobs on a pool: polls then use the handle without waiting for it.
 ///
-/// Dropping it while the handle is lent waits for nothing: the session's job is dropped by a worker, and the handle with it.
+/// Dropping it waits for no job. A handle that is with its owner, or that its job gave back already, is dropped here, by this thread; else
+/// a worker drops it with the session's job, once that waits or is taken. A job that runs goes on until then.
 ///
 /// `I` is the type of the items of a handle that is an iterator; any type will do for another.
 pub struct Unblock<T: Drop, I: Drop, J: Job, H: Runtime> {
@@ -54,8 +55,8 @@ impl<T: Drop, I: Drop, J: Job, H: Runtime> Unblock<T, I, J, H> {
         }
     }
 
-    /// The owner of a handle, whose sessions have pipes for at most `capacity` bytes or items. One that writes takes twice as much memory, and
-    /// two pieces, of 65,536 bytes or of the capacity where that is less.
+    /// The owner of a handle, whose sessions have pipes for at most `capacity` bytes or items. One that reads takes two pieces of memory more,
+    /// of 65,536 bytes or of the capacity where that is less, and one that writes twice the capacity and two such pieces.
     pub fn with_capacity(capacity: usize, executor: Executor<J, H>, handle: T) -> Self
         requires { 0 < capacity }
         ensures place { result.place ≡ AtOwner handle }
@@ -132,7 +133,7 @@ impl<T: Drop, I: Drop, J: Job, H: Runtime> Drop for Unblock<T, I, J, H> {
             executor: _,
             items: _,
         } = self;
-        // (nobody waits for the job: a worker drops it, and its handle with it)
+        // (nobody waits for the job: a worker drops it, and the handle with it, unless that was given back)
         place.mark();
     }
 }

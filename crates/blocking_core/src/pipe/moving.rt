@@ -94,8 +94,8 @@ impl<X: Copy> Front<X> {
     }
 }
 
-/// A pipe from a job to its owner that takes a piece as it is, and gives the job another for it, where nothing is inside. Other items
-/// are copied into its ring, behind what is left of that piece. In each call it answers and leaves what [`Pipe`] does.
+/// A pipe from a job to its owner that takes a piece as it is, and gives the job another for it, where nothing is inside and both are as
+/// long. Other items are copied into its ring, behind what is left of that piece. In each call it answers and leaves what [`Pipe`] does.
 #[derive(Drop)]
 pub struct MovingPipe<X: Drop, W: Drop> {
     front: Front<X>,
@@ -178,7 +178,8 @@ impl<X: Drop, W: Drop> MovingPipe<X, W> {
 
     /// The owner takes the first item. Where the pipe is empty and the job's end is open the owner is seated.
     ///
-    /// What is left of a piece moves up by one, so who puts pieces in had better drain.
+    /// What is left of a piece moves up by one, and the memory of that piece is one shorter then, so that no later one moves in as it is:
+    /// whoever puts pieces in had better drain.
     pub fn receive_or_seat(&mut self, waker: W) -> Answered<Received<X>, W>
         ensures { Receives self.old waker result.answer result.spare self.new }
     {
@@ -217,7 +218,8 @@ impl<X: Copy, W: Drop> MovingPipe<X, W> {
     }
 
     /// The job puts the first `count` items of a piece, for all of which there is room. Where nothing is inside, and the memory that stands
-    /// ready is as long as the piece, that is given for it, and no item is copied.
+    /// ready is as long as the piece, that is given for it, and no item is copied. What stands in the piece afterwards is not to be relied
+    /// on.
     pub fn put(&mut self, piece: &mut Vec<X>, count: usize) -> Put<W>
         requires some { count ≤ length piece.old.items }
         requires room { count ≤ room self.old }

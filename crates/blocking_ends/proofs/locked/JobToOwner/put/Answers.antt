@@ -1,5 +1,4 @@
-use Rattle.std.proofs.Common.{subst, sym, rules, take, length, ◌≡◌}
-use Rattle.std.proofs.lemmas.List.{length-take-le}
+use Rattle.std.proofs.Common.{subst, sym, rules, take}
 use Rattle.blocking_ends.specs.Rules.{HoldFrom}
 use Rattle.blocking_ends.proofs.Kept.{put_kept}
 use Rattle.blocking_ends.proofs.locked.JobToOwner.put.Goals as goal
