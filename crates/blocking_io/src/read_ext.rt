@@ -108,6 +108,7 @@ fn fill<A: AsyncRead>(
     ensures open { A.closed reader.new → ⊥ }
     ensures within { filled.new ≤ length buf.new }
     ensures whole { IfReady result (λ r. IfOk r (λ _. filled.new ≡ length buf.new)) }
+    ensures same_length { length buf.new ≡ length buf.old }
     ensures armed { OnPending result (IsArmed cx.new) }
     ensures kept { Keeps cx.old cx.new }
 {
@@ -137,6 +138,7 @@ impl<'a, A: AsyncRead> Future for ReadExact<'a, A> {
     fn poll(&mut self, cx: &mut Context<'_>) -> Poll<Result<(), IoFault>>
         requires { (A.closed self.old.reader.now → ⊥) × (self.old.filled ≤ length self.old.buf.now) }
         ensures whole { IfReady result (λ r. IfOk r (λ _. self.new.filled ≡ length self.new.buf.now)) }
+        ensures same_length { length self.new.buf.now ≡ length self.old.buf.now }
         ensures again { OnPending result ((A.closed self.new.reader.now → ⊥) × (self.new.filled ≤ length self.new.buf.now)) }
         ensures armed { OnPending result (IsArmed cx.new) }
         ensures kept { Keeps cx.old cx.new }

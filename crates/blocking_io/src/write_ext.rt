@@ -153,6 +153,7 @@ impl<'a, A: AsyncWrite> Future for WriteAll<'a, A> {
     fn poll(&mut self, cx: &mut Context<'_>) -> Poll<Result<(), IoFault>>
         requires { (A.closed self.old.writer.now → ⊥) × (self.old.taken ≤ length self.old.bytes.now) }
         ensures whole { IfReady result (λ r. IfOk r (λ _. self.new.taken ≡ length self.new.bytes.now)) }
+        ensures same_bytes { self.new.bytes.now ≡ self.old.bytes.now }
         ensures again { OnPending result ((A.closed self.new.writer.now → ⊥) × (self.new.taken ≤ length self.new.bytes.now)) }
         ensures armed { OnPending result (IsArmed cx.new) }
         ensures kept { Keeps cx.old cx.new }
