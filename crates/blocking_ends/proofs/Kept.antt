@@ -19,7 +19,7 @@ use Rattle.blocking_core.specs.declared.pipe.Peeked.{Peeked}
 use Rattle.blocking_core.specs.declared.pipe.Peeked.TheVariants as peeking
 use Rattle.blocking_pool.specs.Jobs.{JobNumber}
 use Rattle.blocking_pool.specs.declared.pool.token.WakeNote.{WakeNote}
-use Rattle.blocking_ends.specs.Answers.{IfReceived, IfShown, IfTook, OnDrained, got_by_drain}
+use Rattle.blocking_ends.specs.Answers.{IfReceived, IfTook, got_by_drain}
 use Rattle.blocking_ends.specs.Counted.{IsKept}
 use Rattle.blocking_ends.specs.Rules.{HoldFrom}
 
@@ -205,28 +205,6 @@ module _ {X : Type 0} (holds : ℕ → X → Type 0) (ended : ℕ → Type 0) wh
     lent_kept old new me peeking.Drained piece sent received is_open lends none same kept =
         subst (λ p. (is_open ≡ p.pipe.is_owner_open) × IsKept holds ended p.pipe.items sent (received + p.lent) p.pipe.is_owner_open) (sym lends.2)
         (same, kept)
-
-    -- what was lent holds at its places
-    pub lent_held : (old new : Lending X W) (me : JobNumber) (answer : Peeked) (piece : List X) (sent received : ℕ)
-        → Lends old me answer piece new → old.lent ≡ 0 → IsKept holds ended old.pipe.items sent (received + old.lent) old.pipe.is_owner_open
-        → IfShown answer (λ _. HoldFrom holds received piece)
-    lent_held old new me (peeking.Some n) piece sent received lends none kept =
-        let here : received + old.lent ≡ received = omega (arith, none) in
-        subst (λ items. HoldFrom holds received items) (sym lends.2)
-        (hold_front holds received n old.pipe.items (subst (λ m. HoldFrom holds m old.pipe.items) here kept.each))
-    lent_held old new me peeking.Parked piece sent received lends none kept = tt
-    lent_held old new me peeking.Drained piece sent received lends none kept = tt
-
-    -- where the pipe is drained the items may end
-    pub lent_ended : (old new : Lending X W) (me : JobNumber) (answer : Peeked) (piece : List X) (sent received : ℕ)
-        → Lends old me answer piece new → old.lent ≡ 0 → IsKept holds ended old.pipe.items sent (received + old.lent) old.pipe.is_owner_open
-        → OnDrained answer (ended received)
-    lent_ended old new me (peeking.Some n) piece sent received lends none kept = tt
-    lent_ended old new me peeking.Parked piece sent received lends none kept = tt
-    lent_ended old new me peeking.Drained piece sent received lends none kept =
-        let empty : length old.pipe.items ≡ 0 = ap length lends.0 in
-        let all : sent ≡ received = omega (arith, kept.count, none, empty) in
-        subst ended all (kept.whole lends.1)
 
 module _ {X W : Type 0} where
   -- a fill takes some of what was given

@@ -1,5 +1,6 @@
 //! Whole reads as futures, so that a program needs no loop of polls.
-ghost use Rattle.std.specs.Prelude.{◌≡◌, ◌≤◌, ◌+◌, length, vec_len, IfOk};
+ghost use Rattle.std.specs.Prelude.{◌≡◌, ◌≤◌, ◌+◌, length, vec_items, vec_len, IfOk};
+ghost use Rattle.std.specs.Io.{StartsWith};
 ghost use Rattle.futures.specs.Poll.{IfReady, OnPending};
 ghost use Rattle.futures.specs.Task.{IsArmed, Keeps};
 
@@ -172,7 +173,7 @@ fn append<A: AsyncRead>(
     requires { A.closed reader.old → ⊥ }
     ensures open { A.closed reader.new → ⊥ }
     ensures more { IfReady result (λ r. IfOk r (λ n. vec_len out.new ≡ vec_len out.old + n)) }
-    ensures kept_bytes { vec_len out.old ≤ vec_len out.new }
+    ensures front { StartsWith (vec_items out.new) (vec_items out.old) }
     ensures armed { OnPending result (IsArmed cx.new) }
     ensures kept { Keeps cx.old cx.new }
 {
@@ -202,6 +203,7 @@ fn append_all<A: AsyncRead>(
     ensures open { A.closed reader.new → ⊥ }
     ensures within { start ≤ vec_len out.new }
     ensures count { IfReady result (λ r. IfOk r (λ n. vec_len out.new ≡ start + n)) }
+    ensures front { StartsWith (vec_items out.new) (vec_items out.old) }
     ensures armed { OnPending result (IsArmed cx.new) }
     ensures kept { Keeps cx.old cx.new }
 {
@@ -219,7 +221,8 @@ fn append_all<A: AsyncRead>(
 impl<'a, A: AsyncRead> Future for ReadToEnd<'a, A> {
     type Output = Result<usize, IoFault>;
 
-    ghost use Rattle.std.specs.Prelude.{◌≡◌, ◌≤◌, ◌+◌, vec_len, IfOk};
+    ghost use Rattle.std.specs.Prelude.{◌≡◌, ◌≤◌, ◌+◌, vec_items, vec_len, IfOk};
+    ghost use Rattle.std.specs.Io.{StartsWith};
     ghost use Rattle.futures.specs.Poll.{IfReady, OnPending};
     ghost use Rattle.futures.specs.Task.{IsArmed, Keeps};
 
@@ -229,6 +232,7 @@ impl<'a, A: AsyncRead> Future for ReadToEnd<'a, A> {
         requires { (A.closed self.old.reader.now → ⊥) × (self.old.start ≤ vec_len self.old.out.now) }
         ensures count { IfReady result (λ r. IfOk r (λ n. vec_len self.new.out.now ≡ self.old.start + n)) }
         ensures start { self.new.start ≡ self.old.start }
+        ensures front { StartsWith (vec_items self.new.out.now) (vec_items self.old.out.now) }
         ensures again { OnPending result ((A.closed self.new.reader.now → ⊥) × (self.new.start ≤ vec_len self.new.out.now)) }
         ensures armed { OnPending result (IsArmed cx.new) }
         ensures kept { Keeps cx.old cx.new }

@@ -6,12 +6,10 @@
 #![tactic(auto)]
 
 pub mod bytes;
-mod cuts;
 pub mod event;
 pub mod laws;
 pub mod step;
 mod text;
 
-pub use cuts::cut;
 pub use event::{Act, Event, HolderWaker, Moment, Party, Reply, WaitEnd};
 pub use step::{Answer, HandleCall, Step, TaskCall};

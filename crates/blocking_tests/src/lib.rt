@@ -1,11 +1,13 @@
-//! The tests of `blocking`: calls and jobs on real threads. There is nothing here but tests, since a crate that has tests is proved a
-//! second time with them.
+//! The tests of `blocking`: calls, jobs and the ends of pipes on real threads. There is nothing here but tests, since a crate that has
+//! tests is proved a second time with them.
 #![tactic(auto)]
 
 #[cfg(test)]
 mod calls;
 #[cfg(test)]
 mod counted;
+#[cfg(test)]
+mod ends;
 #[cfg(test)]
 mod leaving;
 #[cfg(test)]

@@ -24,8 +24,8 @@ use Rattle.blocking_core.specs.declared.unblock.OwnerAnswer.TheVariants as by
 use Rattle.blocking_pool.specs.declared.pool.answer.Refusal.{Refusal}
 use Rattle.futures.specs.declared.task.Poll.TheVariants.{Ready}
 use Rattle.std.specs.declared.io.Error.{Error}
-use Rattle.blocking_unblock.specs.Owners.{AnswersTo, BackAt, HasReply, IfRefused, IsAt, IsClosed, IsOfJob, KeepsAtOnce, KeepsRefused, Runs, Reaches, state_of, has, wanted, offered}
-use Rattle.blocking_unblock.specs.Polls.{Kept, Way, Item, Gave, Starts, Operates, HasSession, HasPipe, AtOwnEnd, Onward, FitsReply, IsGoing, Resumes, MayAsk, FitsAction, Stands, CanDo, Brings, KeepsOpen, Does, KeepsFirst, KeepsBrought}
+use Rattle.blocking_unblock.specs.Owners.{AnswersTo, BackAt, HasReply, IfRefused, IsAt, IsClosed, IsOfJob, KeepsAtOnce, KeepsRefused, Runs, Reaches, state_of, has}
+use Rattle.blocking_unblock.specs.Polls.{Kept, Way, Item, Gave, Starts, Operates, HasSession, HasPipe, AtOwnEnd, Onward, FitsReply, IsGoing, Resumes, MayAsk, FitsAction, Stands, Brings, KeepsOpen, Does, KeepsFirst, KeepsBrought}
 use Rattle.blocking_unblock.specs.declared.place.Place.{Place}
 
 -- what a call that begins nothing on its own has to bring: some bytes, or an operation whose session is still to begin
@@ -75,20 +75,6 @@ module _ {B : Type 0} (begins : B → State → Type 0) (keeps : B → Kept → 
   lent_fits (Seeking from) (Seek to) Open brought moves ready = (tt, ready)
   lent_fits Operating (Operate true) end brought moves ready = absurd moves
   lent_fits kind call end brought moves ready = stop_fits call kind end brought ready
-
-  -- what a call does once the handle is gone fits
-  closed_fits : (call : PollCall) (brought : B) → FitsAction begins keeps {E = E} armed call Closed (table call Closed) brought
-  closed_fits (Read zero) brought = omega arith
-  closed_fits (Read (suc most)) brought = refl
-  closed_fits (Write zero) brought = omega arith
-  closed_fits (Write (suc most)) brought = refl
-  closed_fits Flush brought = inr refl
-  closed_fits Close brought = refl
-  closed_fits (Seek to) brought = refl
-  closed_fits Next brought = refl
-  closed_fits (Operate begun) brought = refl
-  closed_fits GetMut brought = refl
-  closed_fits IntoInner brought = refl
 
   -- what a call does first fits, if it isn't an operation that has begun
   first_fits : (call : PollCall) (state : State) (brought : B) → Moves call → begins brought (begun_by call)
@@ -433,18 +419,6 @@ module _ {B : Type 0} (E : Type 0) (keeps : B → Kept → Type 0) (before after
   close_brought Next next same kept = tt
   close_brought GetMut next same kept = tt
   close_brought IntoInner next same kept = tt
-
-  -- a call that isn't an operation keeps nothing
-  other_brought : (call : PollCall) (next : OwnerAction E) → (Operates call → ⊥) → KeepsBrought keeps call next after first
-  other_brought (Operate begun) next not = absurd (not tt)
-  other_brought (Read most) next not = tt
-  other_brought (Write most) next not = tt
-  other_brought Flush next not = tt
-  other_brought Close next not = tt
-  other_brought (Seek to) next not = tt
-  other_brought Next next not = tt
-  other_brought GetMut next not = tt
-  other_brought IntoInner next not = tt
 
   -- who waits for a result keeps nothing else
   way_brought : (call : PollCall) → keeps after Way → KeepsBrought {E = E} keeps call act.Pending after first
@@ -795,26 +769,6 @@ module _ {T I H B : Type 0} (E : Type 0) (begins : B → State → Type 0) (keep
     goes (act.Reply reply) answer noted going = absurd going
     goes act.Pending answer noted going = absurd going
 
-    can_by : (next : OwnerAction E) (room given : ℕ) → IsGoing next → FitsAction begins keeps was call state next before → IsAt state old → wanted call ≡ room → offered call ≡ given
-        → CanDo begins keeps next old room given before
-    can_by act.Begin room given going fits at is holds = (at ∙ fits.0, (begun_by call, fits.2))
-    can_by act.Close room given going fits at is holds = let P : State → Type 0 = λ s. HasPipe s in subst P (sym at) fits.0
-    can_by (act.Drain most) room given going fits at is holds =
-        let whole : most ≡ room = sym (ap wanted fits.1) ∙ is in
-        let some : 0 < most = fits.2 in
-        (at ∙ fits.0, whole, omega arith)
-    can_by (act.Fill most) room given going fits at is holds =
-        let whole : most ≡ given = sym (ap offered fits.1) ∙ holds in
-        let some : 0 < most = fits.2 in
-        (at ∙ fits.0, whole, omega arith)
-    can_by act.Receive room given going fits at is holds = at ∙ fits.0
-    can_by act.PollSlot room given going fits at is holds = let P : State → Type 0 = λ s. HasSession s in subst P (sym at) fits.0
-    can_by act.PollResult room given going fits at is holds = fits.2
-    can_by act.DropHandle room given going fits at is holds = at ∙ fits.0
-    can_by act.Deliver room given going fits at is holds = absurd going
-    can_by (act.Reply reply) room given going fits at is holds = absurd going
-    can_by act.Pending room given going fits at is holds = absurd going
-
   -- A turn of a machine that stands: it does what it names, is told of it, and stands again.
   pub turned : (poll : OwnerMachine E) (answer : OwnerAnswer E) (noted : Bool) → IsGoing poll.next → Stands begins keeps was poll old before
       → Does (begins before) poll.next old answer noted new armed → Brings begins keeps poll.next answer before after
@@ -849,12 +803,6 @@ module _ {T I H B : Type 0} (E : Type 0) (begins : B → State → Type 0) (keep
       let R : OwnerMachine E → Type 0 = λ m. Turned begins keeps poll m old new before after armed in
       let whole : told true poll answer ≡ end = ap (λ m. owner_after m by.Delivered) (sym first) ∙ sym came in
       subst R whole (turned poll answer true going stands (subst Q some (subst P next does)) (subst S next brings))
-
-  -- what such a machine names can be done
-  pub can_do : (poll : OwnerMachine E) (room given : ℕ) → Stands begins keeps was poll old before → IsGoing poll.next
-      → wanted poll.call ≡ room → offered poll.call ≡ given → CanDo begins keeps (owner_next poll) old room given before
-  can_do poll room given stands going is holds =
-      rw stands.awake (can_by poll.call poll.state poll.is_at_end poll.next room given going stands.fits stands.at is holds)
 
 module _ {T I H E B : Type 0} (begins : B → State → Type 0) (keeps : B → Kept → Type 0) where
   -- a poll that begins stands

@@ -6,10 +6,12 @@
 #![tactic(auto)]
 
 mod copies;
+mod cuts;
 mod world;
 
 pub use blocking_laws::bytes::Bytes;
 pub use blocking_laws::{
-    Act, Answer, Event, HandleCall, HolderWaker, Moment, Party, Reply, Step, TaskCall, WaitEnd, cut,
+    Act, Answer, Event, HandleCall, HolderWaker, Moment, Party, Reply, Step, TaskCall, WaitEnd,
 };
+pub use cuts::cut;
 pub use world::{World, run};

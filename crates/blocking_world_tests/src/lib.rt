@@ -1,8 +1,10 @@
-//! Tests of `blocking_laws` and `blocking_world`: rows of steps, with what is seen of each.
+//! Tests of `blocking_laws`, `blocking_crew` and `blocking_world`: rows of steps, with what is seen of each.
 //!
 //! They stand in a crate of their own, since a crate that has tests is proved a second time with them.
 #![tactic(auto)]
 
+#[cfg(test)]
+mod crew;
 #[cfg(test)]
 mod independence;
 #[cfg(test)]

@@ -1,7 +1,7 @@
 -- What the workers hold is what was seen: so many passes, and a turn for each running job.
 use Rattle.std.proofs.Common.{◌≡◌, ℕ, ◌+◌, List, [], ◌∷◌, Bool, length, refl, sym, ap, ◌∙◌, subst, arith, Option, Some, zero, suc, ◌&&◌, slice_get, is_some, is_none}
 use Rattle.blocking_crew.proofs.Types.{Moment, Hand}
-use Rattle.blocking_crew.proofs.Words.{one_if, workers, idle, is_there, is_free, hand, Crew, sum_of, one_if_free, free_hands, one_if_busy, busy_hands, IsReady, HandAs, Crewed, Holding}
+use Rattle.blocking_crew.proofs.Words.{one_if, is_there, is_free, hand, Crew, sum_of, one_if_free, free_hands, one_if_busy, busy_hands, IsReady, HandAs, Crewed, Holding}
 use Rattle.blocking_laws.specs.Staffed.{count_to, passes, turns, IsStaffed, AreAsSeen}
 use Rattle.blocking_crew.proofs.hands.Rows.{hand_from_place}
 
@@ -55,14 +55,6 @@ module _ (setting : ℕ) (crew : Crew) (past : List Moment) (t : Crewed setting 
   -- What the workers hold is what was seen, and there is a turn for each running job.
   pub holding : Holding crew past
   holding = record { passes_are = sym passes_are; turns_are = sym turns_are; jobs_are = turns_are ∙ t.counted.busy_are }
-
-  -- The counts of the pool are those that the past tells.
-  pub counts_are : (crew.pool.counts.workers ≡ workers past) × (crew.pool.counts.idle ≡ idle past)
-  counts_are =
-      let e = t.counted.workers_are in
-      let f = t.counted.idle_are in
-      let all : crew.pool.counts.workers ≡ workers past = omega (arith, e) in
-      (all, omega (arith, all, f))
 
   -- So what the hands hold accounts for the workers.
   pub staffed : IsReady crew → IsStaffed (free_hands crew.hands) (busy_hands crew.hands) past

@@ -1,7 +1,7 @@
 -- The calls of a task: what a poll may answer, and what a call leaves of its task.
 use Rattle.std.proofs.Common.{arith, ◌≡◌, ℕ, true, false, refl, Option, Some}
 use Rattle.blocking_lanes.proofs.Types.{Act, HolderDropped, TaskCancelled, TaskDetached, TaskGot, TaskGotNone, Waits, TaskCall, Cancel, Detach, Drop, Poll, TaskStage}
-use Rattle.blocking_lanes.proofs.Words.{Abandoned, Content, Empty, Full, GivenUp, is_nothing, IsPolled, Task, has_let_go, poll_at, poll_in, poll_of, stage_after_answer, task_act, task_after_call, task_after_poll, task_after_poll_at, task_after_poll_in}
+use Rattle.blocking_lanes.proofs.Words.{Abandoned, Content, Empty, Full, GivenUp, is_nothing, Task, poll_at, poll_in, poll_of, stage_after_answer, task_act, task_after_call, task_after_poll, task_after_poll_at, task_after_poll_in}
 
 -- what holds of each answer to a poll holds of a task's
 pub by_poll : (P : Act → Type 0) → P Waits → ((n : ℕ) → P (TaskGot n)) → P TaskGotNone → (task : Task) → P (poll_of task)
@@ -17,10 +17,6 @@ by_poll P waits got none task = at task.stage task.found task.slot.content
     at : (stage : TaskStage) (found : Option ℕ) (content : Content ℕ) → P (poll_at stage found content)
     at TaskStage.Cancelled (Some n) content = got n
     at _ found content = inside content
-
--- a poll answers a poll
-pub poll_so : (task : Task) → IsPolled (poll_of task)
-poll_so task = by_poll IsPolled tt (λ n. tt) tt task
 
 -- what holds of each act of a task holds of what is seen of its call
 pub by_call : (P : Act → Type 0) → P Waits → ((n : ℕ) → P (TaskGot n)) → P TaskGotNone → P TaskCancelled → P TaskDetached → P HolderDropped
@@ -55,6 +51,3 @@ by_task_after_poll P task seated got none kept = at task.stage task.found task.s
 pub call_number : (call : TaskCall) (task : Task) → (task_after_call call task).number ≡ task.number
 call_number Poll task = by_task_after_poll (λ new. new.number ≡ task.number) task refl refl refl refl
 call_number _ task = refl
-
-answer_stays : (st : TaskStage) → has_let_go st ≡ true → has_let_go (stage_after_answer st) ≡ true
-answer_stays st is = grind arith

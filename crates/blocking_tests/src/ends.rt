@@ -1,0 +1,4 @@
+//! The ends of pipes, on real threads where it says so.
+mod bytes;
+mod numbers;
+mod steps;

@@ -1,0 +1,16 @@
+-- What a poll says of a reply, it says of the same reply by another name.
+use Rattle.std.proofs.Common.{◌≡◌, subst}
+use Rattle.futures.specs.declared.task.Poll.TheVariants.{Ready}
+use Rattle.blocking_core.specs.declared.unblock.PollCall.{PollCall}
+use Rattle.blocking_core.specs.declared.unblock.State.{State}
+use Rattle.blocking_core.specs.declared.unblock.Reply.{Reply}
+use Rattle.blocking_unblock.specs.Owners.{Follows}
+use Rattle.blocking_unblock.specs.Polls.{Kept, FitsReply}
+use Rattle.blocking_unblock.specs.declared.place.Place.{Place}
+
+module _ {E : Type 0} {one other : Reply E} (same : one ≡ other) where
+  pub follows_as : {T I H : Type 0} (call : PollCall) (old new : Place T I H) → Follows call old (Ready one) new → Follows call old (Ready other) new
+  follows_as call old new = subst (λ it. Follows call old (Ready it) new) same
+
+  pub fits_as : (call : PollCall) (state : State) (ready : Type 0) (kept : Kept → Type 0) → FitsReply call state one ready kept → FitsReply call state other ready kept
+  fits_as call state ready kept = subst (λ it. FitsReply call state it ready kept) same

@@ -1,0 +1,7 @@
+use Rattle.blocking_core.specs.declared.unblock.PollCall.TheVariants.{Next}
+use Rattle.blocking_unblock.proofs.Replies.{follows_as}
+use Rattle.blocking_unblock.proofs.unblock.UnblockStream.poll_next.Goals as goal
+
+pub returns-in-Some-clause-follows : goal.returns-in-Some-clause-follows
+returns-in-Some-clause-follows g c =
+    follows_as c.in-Ready-Item.field-0-is Next c.args.self.now.place c.poll.new.self.place c.in-Ready-Item.ensures.follows

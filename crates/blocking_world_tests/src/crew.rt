@@ -1,0 +1,3 @@
+//! Rows of a crew: which calls are made, and what is seen of each.
+mod parking;
+mod row;
