@@ -115,12 +115,15 @@ fn in_order(bytes: &[u8]) -> bool {
 
 impl Both {
     fn new(alloc: Global) -> Option<Both> {
+        let pipe = LendingPipe::new(alloc, 5, WHOLE).ok()?;
+        let ready = Vec::with_capacity(alloc, WHOLE).ok()?;
+        let hand = Vec::with_capacity(alloc, WHOLE).ok()?;
         let bench = Bench::new(alloc, 1)?;
         let job = bench.job(1)?;
         Some(Both {
-            pipe: LendingPipe::new(alloc, 5, WHOLE).ok()?,
-            ready: Vec::with_capacity(alloc, WHOLE).ok()?,
-            hand: Vec::with_capacity(alloc, WHOLE).ok()?,
+            pipe,
+            ready,
+            hand,
             bench,
             job,
         })

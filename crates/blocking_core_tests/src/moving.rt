@@ -142,12 +142,14 @@ fn first_of(bytes: &[u8]) -> Option<u8> {
 
 impl Both {
     fn new(alloc: Global) -> Option<Both> {
+        let spare = piece(alloc, SPARE).ok()?;
+        let pipe = MovingPipe::new(alloc, CAPACITY, spare).ok()?;
+        let piece = piece(alloc, OWN).ok()?;
         let bench = Bench::new(alloc, 1)?;
         let job = bench.job(1)?;
-        let spare = piece(alloc, SPARE).ok()?;
         Some(Both {
-            pipe: MovingPipe::new(alloc, CAPACITY, spare).ok()?,
-            piece: piece(alloc, OWN).ok()?,
+            pipe,
+            piece,
             bench,
             job,
         })

@@ -1,5 +1,5 @@
 //! Whole reads as futures, so that a program needs no loop of polls.
-ghost use Rattle.std.specs.Prelude.{◌≡◌, ◌≤◌, ◌+◌, length, vec_items, vec_len, IfOk};
+ghost use Rattle.std.specs.Prelude.{◌≡◌, ◌≤◌, ◌+◌, length, vec_items, vec_len, IfErr, IfOk};
 ghost use Rattle.std.specs.Io.{StartsWith};
 ghost use Rattle.futures.specs.Poll.{IfReady, OnPending};
 ghost use Rattle.futures.specs.Task.{IsArmed, Keeps};
@@ -174,6 +174,8 @@ fn append<A: AsyncRead>(
     ensures open { A.closed reader.new → ⊥ }
     ensures more { IfReady result (λ r. IfOk r (λ n. vec_len out.new ≡ vec_len out.old + n)) }
     ensures front { StartsWith (vec_items out.new) (vec_items out.old) }
+    ensures waits { OnPending result (vec_items out.new ≡ vec_items out.old) }
+    ensures fault { IfReady result (λ r. IfErr r (λ _. vec_items out.new ≡ vec_items out.old)) }
     ensures armed { OnPending result (IsArmed cx.new) }
     ensures kept { Keeps cx.old cx.new }
 {

@@ -2,7 +2,7 @@
 use crate::row::PlainStep::{
     Arrive, AskFlush, AskRead, AskWrite, End, Flushed, Gives, Io, Job, New, Own, Take,
 };
-use crate::row::{Place, PlainStep, agree, texts};
+use crate::row::{Place, PlainStep, add_line, agree, texts};
 use blocking_laws::event::Event;
 use blocking_laws::step::Step;
 use blocking_world::{World, cut, run};
@@ -125,13 +125,7 @@ fn seen(alloc: Global) -> Result<Vec<Event>, AllocError> {
     events
 }
 
-// Adds a text and a line feed.
-fn add_line(texts: &mut String, text: &str) -> Result<(), AllocError> {
-    texts.push_str(text)?;
-    texts.push_str("\n")
-}
-
-// The texts of all events, each with a line feed.
+// The texts of all events, a line each.
 fn all_texts(alloc: Global) -> Result<String, AllocError> {
     let mut texts = String::new(alloc);
     for (_, _, text) in STEPS {
@@ -140,7 +134,7 @@ fn all_texts(alloc: Global) -> Result<String, AllocError> {
     Ok(texts)
 }
 
-// The texts of the events of this owner and of its job, each with a line feed.
+// The texts of the events of this owner and of its job, a line each.
 fn texts_of(alloc: Global, owner: usize) -> Result<String, AllocError> {
     let mut texts = String::new(alloc);
     for (whose, _, text) in STEPS {

@@ -4,7 +4,7 @@ use crate::row::PlainStep::{
     Arrive, AskNext, AskRead, AskSeek, AskWrite, End, Flushed, Gives, GivesItem, HasNoItem, Io,
     Job, Late, New, OfTask, Own, Spawn, Take,
 };
-use crate::row::{Place, PlainStep, agree, counts};
+use crate::row::{Place, PlainStep, agree, counts, sees};
 use blocking_core::io::Position;
 use blocking_core::pool::Refusal;
 use blocking_laws::bytes::Bytes;
@@ -15,15 +15,6 @@ use blocking_world::{World, cut, run};
 use std::alloc::{AllocError, Global};
 use std::fmt::Write;
 use std::test::Fail;
-
-// This step has an event of this text.
-fn sees(alloc: Global, world: &mut World, step: PlainStep, text: &str) -> Result<(), Fail> {
-    let events = run(alloc, world, &[step.step(alloc)?])?;
-    let [event] = events.as_slice() else {
-        return Err(Fail::new("not one event"));
-    };
-    agree(place(0), format!(in alloc; "{event}")?.as_str(), text)
-}
 
 // How an owner that asked for this is told that its session was refused.
 fn told(asked: PlainStep) -> &'static str {
@@ -40,11 +31,11 @@ fn asks_again(
     owner: usize,
     asked: PlainStep,
 ) -> Result<(), Fail> {
-    sees(alloc, world, Own(owner), told(asked))?;
+    sees(alloc, world, place(0), Own(owner), told(asked))?;
     if world.poll_under_way(owner) {
         return Err(Fail::new("an owner polls that was told"));
     }
-    sees(alloc, world, asked, "asked")
+    sees(alloc, world, place(0), asked, "asked")
 }
 
 // How the world stands, as far as it can be asked: its counts, and whether its first owner polls and its first worker's job has a next
@@ -57,41 +48,58 @@ fn standing(world: &World) -> ((usize, usize, usize, Option<usize>), bool, bool)
     )
 }
 
+// Takes a step once: its event, or none where there was no room for it, which is told with the text that was to be seen.
+fn tries(
+    rt: &impl Print,
+    alloc: Global,
+    world: &mut World,
+    step: PlainStep,
+    text: &str,
+) -> Result<Option<Event>, Fail> {
+    let Ok(taken) = step.step(alloc) else {
+        println!(rt; "refused: {text}: the test's own step")?;
+        return Ok(None);
+    };
+    match run(alloc, world, &[taken]) {
+        Ok(mut events) => Ok(events.pop()),
+        Err(_) => {
+            println!(rt; "refused: {text}: an error")?;
+            Ok(None)
+        }
+    }
+}
+
+// Whether a session or a call was refused for want of memory.
+fn is_refused(event: &Event) -> bool {
+    matches!(event.act, Act::Refused(Refusal::Memory))
+}
+
 // Takes a step until there is room for it, twice at most: until then the world is as it was, but for an owner who was told, and who asks
 // again then.
 fn insists(
     rt: &impl Print,
     alloc: Global,
     world: &mut World,
-    step: PlainStep,
+    (step, text): (PlainStep, &str),
     asked: PlainStep,
 ) -> Result<Event, Fail> {
     for _ in 0..2 {
-        let Ok(taken) = step.step(alloc) else {
-            println!(rt; "refused: {step:?}: the test's own step")?;
-            continue;
-        };
         let before = standing(world);
-        let outcome = run(alloc, world, &[taken]);
-        if let Ok(mut events) = outcome {
-            let Some(event) = events.pop() else {
-                return Err(Fail::new("no event"));
-            };
-            if !matches!(event.act, Act::Refused(Refusal::Memory)) {
-                return Ok(event);
-            }
-            println!(rt; "refused: {step:?}: refused memory")?;
-            if let Own(owner) = step {
+        let event = tries(rt, alloc, world, step, text)?;
+        match (event, step) {
+            (Some(event), _) if !is_refused(&event) => return Ok(event),
+            (Some(_), Own(owner)) => {
+                println!(rt; "refused: {text}: refused memory")?;
                 asks_again(alloc, world, owner, asked)?;
             }
-        } else {
-            println!(rt; "refused: {step:?}: an error")?;
+            (Some(_), _) => println!(rt; "refused: {text}: refused memory")?,
+            (None, _) => {}
         }
         if standing(world) != before {
-            return Err(Fail::new(format_args!("{step:?} was refused and changed the world")));
+            return Err(Fail::new(format_args!("what was refused changed the world: {text}")));
         }
     }
-    Err(Fail::new(format_args!("{step:?} found no room twice")))
+    Err(Fail::new(format_args!("no room twice: {text}")))
 }
 
 // Six calls to be handed in.
@@ -144,7 +152,7 @@ fn place(lines: usize) -> Place<'static> {
 }
 
 // One call and its worker.
-const CALL: [(PlainStep, &str); 10] = [
+const CALL: &[(PlainStep, &str)] = &[
     (Spawn, "accepted 1 +1"),
     (OfTask(0, Poll), "waits"),
     (Arrive, "arrived 1"),
@@ -158,7 +166,7 @@ const CALL: [(PlainStep, &str); 10] = [
 ];
 
 // Six bytes through a pipe of four, two by two.
-const READS: [(PlainStep, &str); 39] = [
+const READS: &[(PlainStep, &str)] = &[
     (New(4), "made 0"),
     (AskRead(0, 2), "asked"),
     (Own(0), "accepted 1 +1"),
@@ -201,7 +209,7 @@ const READS: [(PlainStep, &str); 39] = [
 ];
 
 // Four bytes through a pipe of four, to a writer that takes two of the first piece; then the same handle is read.
-const WRITES: [(PlainStep, &str); 42] = [
+const WRITES: &[(PlainStep, &str)] = &[
     (New(4), "made 0"),
     (AskWrite(0, "abc"), "asked"),
     (Own(0), "accepted 1 +1"),
@@ -247,7 +255,7 @@ const WRITES: [(PlainStep, &str); 42] = [
 ];
 
 // Two items through a pipe of one, and the end; then the same handle is moved.
-const ITEMS_AND_A_SEEK: [(PlainStep, &str); 44] = [
+const ITEMS_AND_A_SEEK: &[(PlainStep, &str)] = &[
     (New(1), "made 0"),
     (AskNext(0), "asked"),
     (Own(0), "accepted 1 +1"),
@@ -303,11 +311,12 @@ fn takes_all(
 ) -> Result<(), Fail> {
     let mut seen = room(rt, alloc)?;
     let mut asked = AskRead(0, 2);
-    for (lines, (step, text)) in steps.iter().enumerate() {
+    for (lines, line) in steps.iter().enumerate() {
+        let (step, text) = *line;
         if let AskRead(_, _) | AskWrite(_, _) | AskNext(_) | AskSeek(_, _) = step {
-            asked = *step;
+            asked = step;
         }
-        let event = insists(rt, alloc, world, *step, asked)?;
+        let event = insists(rt, alloc, world, (step, text), asked)?;
         seen.clear();
         write!(seen, "{event}")?;
         agree(place(lines), seen.as_str(), text)?;
@@ -317,7 +326,7 @@ fn takes_all(
 
 // Takes the steps of a call, hands in six more calls, and then one more.
 fn goes_on(rt: &impl Print, alloc: Global, world: &mut World) -> Result<(), Fail> {
-    takes_all(rt, alloc, world, &CALL)?;
+    takes_all(rt, alloc, world, CALL)?;
     spawns_six(rt, alloc, world)?;
     takes_all(rt, alloc, world, &[(Spawn, "accepted 8")])?;
     if counts(world) == (2, 2, 7, Some(2)) {
@@ -338,7 +347,7 @@ fn each_piece_refused(rt: HostRuntime) -> Result<(), Fail> {
 #[test]
 fn each_piece_of_a_reader_refused(rt: HostRuntime) -> Result<(), Fail> {
     let mut world = World::new(rt.alloc(), Some("4"), Vec::new(rt.alloc()));
-    let outcome = takes_all(&rt, rt.alloc(), &mut world, &READS);
+    let outcome = takes_all(&rt, rt.alloc(), &mut world, READS);
     world.close();
     outcome
 }
@@ -346,7 +355,7 @@ fn each_piece_of_a_reader_refused(rt: HostRuntime) -> Result<(), Fail> {
 #[test]
 fn each_piece_of_a_writer_refused(rt: HostRuntime) -> Result<(), Fail> {
     let mut world = World::new(rt.alloc(), Some("4"), Vec::new(rt.alloc()));
-    let outcome = takes_all(&rt, rt.alloc(), &mut world, &WRITES);
+    let outcome = takes_all(&rt, rt.alloc(), &mut world, WRITES);
     world.close();
     outcome
 }
@@ -354,7 +363,7 @@ fn each_piece_of_a_writer_refused(rt: HostRuntime) -> Result<(), Fail> {
 #[test]
 fn each_piece_of_a_streamer_refused(rt: HostRuntime) -> Result<(), Fail> {
     let mut world = World::new(rt.alloc(), Some("4"), Vec::new(rt.alloc()));
-    let outcome = takes_all(&rt, rt.alloc(), &mut world, &ITEMS_AND_A_SEEK);
+    let outcome = takes_all(&rt, rt.alloc(), &mut world, ITEMS_AND_A_SEEK);
     world.close();
     outcome
 }

@@ -73,16 +73,15 @@ fn texts_at_the_pool(rt: HostRuntime) -> Result<(), Fail> {
 
 #[test]
 fn texts_of_holders(rt: HostRuntime) -> Result<(), Fail> {
+    let letters = bytes(rt.alloc(), b"abc")?;
+    let bounds = bytes(rt.alloc(), &[0, 255])?;
     let rows = [
         (Act::Made(3, 0), "made 3"),
         (Act::Asked(HandleCall::Read(2)), "asked"),
         (Act::OwnerClosed(None), "closed"),
         (Act::OwnerClosed(Some(4)), "closed wake 4"),
-        (Act::Got(bytes(rt.alloc(), b"abc")?, None), "got 616263"),
-        (
-            Act::Got(bytes(rt.alloc(), &[0, 255])?, Some(7)),
-            "got 00ff wake 7",
-        ),
+        (Act::Got(letters, None), "got 616263"),
+        (Act::Got(bounds, Some(7)), "got 00ff wake 7"),
         (Act::GotEnd, "got end"),
         (Act::Back, "back"),
         (Act::Replied(Reply::Count(0)), "replied ok 0"),
@@ -200,19 +199,15 @@ fn texts_of_workers(rt: HostRuntime) -> Result<(), Fail> {
 
 #[test]
 fn texts_of_jobs(rt: HostRuntime) -> Result<(), Fail> {
+    let letters = bytes(rt.alloc(), b"a~")?;
+    let none = bytes(rt.alloc(), &[])?;
     let rows = [
         (
             Act::Answered(Answer::Number(u64::MAX)),
             "answered 18446744073709551615",
         ),
-        (
-            Act::Answered(Answer::Gave(bytes(rt.alloc(), b"a~")?)),
-            "answered 617e",
-        ),
-        (
-            Act::Answered(Answer::Gave(bytes(rt.alloc(), &[])?)),
-            "answered -",
-        ),
+        (Act::Answered(Answer::Gave(letters)), "answered 617e"),
+        (Act::Answered(Answer::Gave(none)), "answered -"),
         (Act::Answered(Answer::Failed(8)), "answered fault 8"),
         (Act::RoomFree(4), "room 4"),
         (Act::RoomShut, "shut"),
@@ -265,10 +260,13 @@ fn starts_stand_at_the_end(rt: HostRuntime) -> Result<(), Fail> {
     ];
     for (act, first, started, start_refused, text) in rows {
         let event = Event {
+            party: Party::Pool,
+            owner: None,
+            job: None,
+            act,
             first,
             started,
             start_refused,
-            ..event(act)
         };
         let place = Place {
             row: "starts",

@@ -1,7 +1,8 @@
 //! Jobs that park, are woken, swept, cancelled and handed out.
 use crate::crew::row::JobAct::{GivesUp, Parks};
+use crate::crew::row::JobCall::{Cancel, LetGo, Wake};
 use crate::crew::row::Step::{
-    Add, Arrive, Cancel, Detach, End, LetGo, Park, SetLimit, Sweep, Take, Wait, Wake, Work,
+    Add, Arrive, Detach, End, On, Park, SetLimit, Sweep, Take, Wait, Work,
 };
 use crate::crew::row::{Row, play};
 use blocking_laws::event::WaitEnd::{TimedOut, Woken};
@@ -27,8 +28,8 @@ const ROWS: &[Row] = &[
             (Work(1, Parks), "nothing"),
             (End(1), "nothing"),
             (Park(1, false), "ended 1 parked"),
-            (Wake(0), "delivered 1 entered"),
-            (Wake(0), "delivered 1 nothing"),
+            (On(0, Wake), "delivered 1 entered"),
+            (On(0, Wake), "delivered 1 nothing"),
             (Take(1), "took 1"),
             (End(1), "ended 1 done"),
             (Wait(1, Woken), "stays 1"),
@@ -42,7 +43,7 @@ const ROWS: &[Row] = &[
             (Add, "accepted 1 +1"),
             (Arrive, "arrived 1"),
             (Take(1), "took 1"),
-            (Wake(0), "delivered 1 marked"),
+            (On(0, Wake), "delivered 1 marked"),
             (Work(1, Parks), "parked"),
             (Park(1, false), "ended 1 queued"),
             (Take(1), "took 1"),
@@ -55,7 +56,7 @@ const ROWS: &[Row] = &[
             (Add, "accepted 1 +1"),
             (Arrive, "arrived 1"),
             (Take(1), "took 1"),
-            (LetGo(0), "dropped"),
+            (On(0, LetGo), "dropped"),
             (Work(1, Parks), "parked"),
             (Park(1, true), "drop 1"),
             (Work(1, GivesUp), "gave up"),
@@ -77,8 +78,8 @@ const ROWS: &[Row] = &[
             (Work(1, Parks), "parked"),
             (Park(1, false), "ended 2 parked"),
             (Sweep, "swept 0"),
-            (LetGo(0), "dropped"),
-            (LetGo(1), "dropped"),
+            (On(0, LetGo), "dropped"),
+            (On(1, LetGo), "dropped"),
             (Add, "accepted 3"),
             (Take(1), "took 3"),
             (SetLimit(2), "limit 2"),
@@ -97,7 +98,7 @@ const ROWS: &[Row] = &[
             (Take(1), "took 1"),
             (Work(1, Parks), "parked"),
             (Park(1, false), "ended 1 parked"),
-            (LetGo(0), "dropped"),
+            (On(0, LetGo), "dropped"),
             (Wait(1, TimedOut), "stays 1"),
             (Take(1), "took 1 dropped"),
             (Work(1, GivesUp), "gave up"),
@@ -106,7 +107,7 @@ const ROWS: &[Row] = &[
             (Take(1), "took 2"),
             (Work(1, Parks), "parked"),
             (Park(1, false), "ended 2 parked"),
-            (Cancel(1), "cancelled 2 entered"),
+            (On(1, Cancel), "cancelled 2 entered"),
             (Take(1), "took 2 dropped"),
         ],
         ..AT_LIMIT_1
@@ -123,7 +124,7 @@ const ROWS: &[Row] = &[
             (Take(1), "took 2"),
             (Work(1, Parks), "parked"),
             (Park(1, false), "ended 2 parked"),
-            (LetGo(0), "dropped"),
+            (On(0, LetGo), "dropped"),
             (Add, "accepted 3"),
         ],
         ..AT_LIMIT_1

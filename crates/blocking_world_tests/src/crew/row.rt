@@ -41,10 +41,16 @@ pub(crate) enum Step {
     Wait(usize, WaitEnd),
     SetLimit(usize),
     Sweep,
-    Wake(usize),
-    Cancel(usize),
-    LetGo(usize),
+    On(usize, JobCall),
     Detach,
+}
+
+// A call on a job.
+#[derive(Clone, Copy)]
+pub(crate) enum JobCall {
+    Wake,
+    Cancel,
+    LetGo,
 }
 
 // What is seen, call by call, of a crew with this setting and this plan of its starts.
@@ -64,6 +70,27 @@ fn job(jobs: &[JobNo], place: usize) -> Result<JobNo, Fail> {
     }
 }
 
+// Whose calls they are that no pool and no worker makes.
+const TASK: Party = Party::Task(0);
+
+// Hands in a job, and keeps its number.
+fn add<S: Starter>(crew: &mut Crew, jobs: &mut Vec<JobNo>, starter: &mut S) -> Result<Event, Fail> {
+    let added = crew.add(Party::Pool, starter);
+    if let Ok(number) = added.number {
+        jobs.push(number)?;
+    }
+    Ok(added.event)
+}
+
+// Makes a call on a job, and answers what is seen of it.
+fn call_on<S: Starter>(crew: &mut Crew, job: JobNo, call: JobCall, starter: &mut S) -> Event {
+    match call {
+        JobCall::Wake => crew.wake(Party::Pool, WakeNote::new(job), starter),
+        JobCall::Cancel => crew.cancel(Party::Pool, job, starter),
+        JobCall::LetGo => crew.let_go(TASK, Act::HolderDropped, Some(job)),
+    }
+}
+
 // Makes a call, and answers what is seen of it.
 fn call<S: Starter>(
     crew: &mut Crew,
@@ -71,16 +98,13 @@ fn call<S: Starter>(
     step: Step,
     starter: &mut S,
 ) -> Result<Event, Fail> {
-    let task = Party::Task(0);
-    let event = match step {
-        Step::Add => {
-            let added = crew.add(Party::Pool, starter);
-            if let Ok(number) = added.number {
-                jobs.push(number)?;
-            }
-            added.event
+    Ok(match step {
+        Step::Add => return add(crew, jobs, starter),
+        Step::Arrive => return Ok(crew.arrive()?),
+        Step::On(place, what) => {
+            let job = job(jobs, place)?;
+            call_on(crew, job, what, starter)
         }
-        Step::Arrive => crew.arrive()?,
         Step::Take(worker) => crew.take(worker, starter),
         Step::Work(worker, act) => crew.work(worker, act.seen()),
         Step::End(worker) => crew.end(worker),
@@ -88,12 +112,8 @@ fn call<S: Starter>(
         Step::Wait(worker, end) => crew.wait(worker, end, starter),
         Step::SetLimit(limit) => crew.set_limit(limit),
         Step::Sweep => crew.sweep(starter),
-        Step::Wake(place) => crew.wake(Party::Pool, WakeNote::new(job(jobs, place)?), starter),
-        Step::Cancel(place) => crew.cancel(Party::Pool, job(jobs, place)?, starter),
-        Step::LetGo(place) => crew.let_go(task, Act::HolderDropped, Some(job(jobs, place)?)),
-        Step::Detach => crew.tell(task, Act::TaskDetached),
-    };
-    Ok(event)
+        Step::Detach => crew.tell(TASK, Act::TaskDetached),
+    })
 }
 
 // What the lines say is seen of the crew.
