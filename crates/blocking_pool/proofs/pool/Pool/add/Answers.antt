@@ -1,4 +1,4 @@
-use Rattle.std.proofs.Common.{◌+◌, ◌∷◌, ◌++◌, [], ap, ◌∙◌, arith, length}
+use Rattle.std.proofs.Common.{rules, ◌+◌, ◌∷◌, ◌++◌, [], ap, ◌∙◌, arith, length}
 use Rattle.std.specs.FinMap.{insert}
 use Rattle.blocking_pool.specs.Counts.{after_ring}
 use Rattle.blocking_pool.specs.Growth.{after_growth}
@@ -20,3 +20,6 @@ invariant_of-self-2 g c =
     (c.ring_one.ensures ∙ ap (after_ring One) c.grow.ensures.growth.1.counts)
     (omega (arith, c.insert.ensures.same_room, c.reserve.ensures.batch))
     (entered_sound _ c.insert.result.place c.args.job (rung_sound _ (grown_sound _ c.grow.ensures.growth.0 c.self.invariant.sound)))
+
+pub returns-then-self-clause-answer : goal.returns-then-self-clause-answer
+returns-then-self-clause-answer g c = search rules

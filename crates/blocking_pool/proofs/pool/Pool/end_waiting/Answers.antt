@@ -1,4 +1,4 @@
-use Rattle.std.proofs.Common.{ap, ◌∙◌}
+use Rattle.std.proofs.Common.{rules, ap, ◌∙◌}
 use Rattle.blocking_pool.specs.Jobs.{is_running_as, standing_of}
 use Rattle.blocking_pool.proofs.PoolLemmas.{running_busy, parked_whole, parked_stands, returned_at_once}
 use Rattle.blocking_pool.proofs.pool.Pool.end_waiting.Goals as goal
@@ -23,3 +23,9 @@ invariant_of-self-2 g c =
     returned_at_once c.self.inside.table c.park.new.self c.enter_again.new.self c.spend-no.result c.args.value c.self.inside.counts c.end_job.new.self c.ring_one.new.self c.self.inside.next_serial c.self.inside.due.room
     (ap (is_running_as c.self.inside.table.jobs) c.spend-no.ensures ∙ ap (λ pool. is_running_as pool.jobs c.args.turn) c.self.view_is ∙ c.requires)
     c.self.invariant c.park.ensures c.enter_again.ensures c.end_job.ensures c.ring_one.ensures
+
+pub returns-then-not-found : goal.returns-then-not-found
+returns-then-not-found g c = search rules
+
+pub returns : goal.returns
+returns g c = search rules
