@@ -1,0 +1,6 @@
+-- An edit makes this false. With an answer of its own it is refused without a second search.
+use Rattle.std.proofs.Common.{rules}
+use Rattle.blocking_core.proofs.unblock.OwnerCall.answer_drain.Goals as goal
+
+pub returns-in-Waits : goal.returns-in-Waits
+returns-in-Waits g c = search rules
