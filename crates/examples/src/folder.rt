@@ -2,26 +2,48 @@
 use crate::host::Host;
 use anyhow::Result;
 use blocking::{Executor, ItemJob, Unblock};
-use futures::StreamExt;
+use blocking_core::pool::Refusal;
 use futures::executor::block_on;
-use std::fs::{DirEntry, ReadDir};
+use futures::{Stream, StreamExt};
 use std::{env, fs, io};
 
 // How many entries the worker looks ahead at most.
 const AHEAD: usize = 4;
 
-type Folder = ReadDir<HostRuntime>;
+type Listers<T, I, H> = Executor<ItemJob<T, io::Result<I>, H>, H>;
 
-type Entry = io::Result<DirEntry<HostRuntime>>;
+// Whether one more entry comes. Where it is an error, or no session could begin, that is told.
+fn next_came<S: Stream<Item = Result<io::Result<I>, Refusal>>, I: Drop, H: Host>(
+    rt: H,
+    entries: &mut S,
+) -> Result<bool>
+    requires { S.can_poll entries.old }
+{
+    let Some(entry) = block_on(&rt, entries.next())? else {
+        return Ok(false);
+    };
+    entry??;
+    Ok(true)
+}
 
-type Folders<H> = Executor<ItemJob<Folder, Entry, H>, H>;
-
-// How many entries a folder has.
-fn entry_count<H: Host>(rt: H, folder: Folder) -> Result<usize> {
-    let executor: Folders<H> = Executor::new(rt, Some("1"))?;
-    let entries = Unblock::with_capacity(AHEAD, executor, folder);
-    let entries = block_on(&rt, entries.collect(rt.alloc()))??;
-    Ok(entries.len())
+// How many entries come of an iterator, up to the first error.
+fn count<T, I, H>(rt: H, entries: T) -> Result<usize>
+where
+    T: Iterator<Item = io::Result<I>> + Drop + Send + 'static,
+    I: Drop + Send + 'static,
+    H: Host,
+    requires { (at : T) → T.can_next at }
+{
+    let executor: Listers<T, I, H> = Executor::new(rt, Some("1"))?;
+    let mut entries = Unblock::with_capacity(AHEAD, executor, entries);
+    let mut count = 0usize;
+    for _ in rt.forever() {
+        if entries.is_closed() || !next_came(rt, &mut entries)? {
+            break;
+        }
+        count = count.saturating_add(1);
+    }
+    Ok(count)
 }
 
 /// Makes a folder with two files, and prints how many entries come of it.
@@ -30,7 +52,7 @@ pub(crate) fn show_folder<H: Host>(rt: H, files: HostRuntime) -> Result<()> {
     fs::create_dir_all(&files, &path)?;
     fs::write(&files, path.join(rt.alloc(), "oaks")?, "")?;
     fs::write(&files, path.join(rt.alloc(), "pines")?, "")?;
-    let count = entry_count(rt, fs::read_dir(&files, &path)?)?;
+    let count = count(rt, fs::read_dir(&files, &path)?)?;
     println!(rt; "{count} entries came")?;
     fs::remove_dir_all(&files, &path)?;
     Ok(())

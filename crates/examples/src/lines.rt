@@ -1,10 +1,11 @@
 //! A file that is read line by line. A worker reads ahead, and this thread waits for nothing but what comes next.
 use crate::host::Host;
 use anyhow::Result;
-use blocking::{AsyncReadExt, Executor, ReadJob, Unblock};
+use blocking::{AsyncRead, AsyncReadExt, Executor, ReadJob, Unblock};
 use futures::executor::block_on;
 use std::env::Env;
 use std::fs::{File, Files};
+use std::io::Read;
 use std::{env, fs};
 
 const TEXT: &str = "the first line\nthe second\nand one that has no end";
@@ -14,7 +15,7 @@ const AHEAD: usize = 32;
 
 const PIECE: usize = 8;
 
-type Readers<H> = Executor<ReadJob<File, H>, H>;
+type Readers<T, H> = Executor<ReadJob<T, H>, H>;
 
 // The line that has come so far, and its number.
 #[derive(Drop)]
@@ -45,26 +46,30 @@ impl Line {
     }
 }
 
-// Prints each line of a file as soon as it has come.
-fn show_lines<H: Host>(rt: H, file: File) -> Result<()> {
-    let executor: Readers<H> = Executor::new(rt, Some("1"))?;
-    let mut file: Unblock<File, (), ReadJob<File, H>, H> = Unblock::with_capacity(
-        AHEAD, executor, file,
-    );
+// Takes the next piece of what is read, and gives how many bytes that were.
+fn take_piece<A: AsyncRead, H: Host>(rt: H, reader: &mut A, line: &mut Line) -> Result<usize>
+    requires { A.closed reader.old → ⊥ }
+{
+    let mut piece = [0u8; PIECE];
+    let count = block_on(&rt, reader.read(&mut piece))??;
+    line.take(&rt, &piece[..count])?;
+    Ok(count)
+}
+
+// Prints each line that is read as soon as it has come.
+fn show_lines<T: Read + Drop + Send + 'static, H: Host>(rt: H, reader: T) -> Result<()> {
     let mut line = Line {
         number: 1,
         bytes: Vec::new(rt.alloc()),
     };
+    let executor: Readers<T, H> = Executor::new(rt, Some("1"))?;
+    let mut reader: Unblock<T, (), ReadJob<T, H>, H> = Unblock::with_capacity(
+        AHEAD, executor, reader,
+    );
     for _ in rt.forever() {
-        let mut piece = [0u8; PIECE];
-        if file.is_closed() {
+        if reader.is_closed() || take_piece(rt, &mut reader, &mut line)? == 0 {
             break;
         }
-        let count = block_on(&rt, file.read(&mut piece))??;
-        if count == 0 {
-            break;
-        }
-        line.take(&rt, &piece[..count])?;
     }
     line.end(&rt)
 }

@@ -1,7 +1,9 @@
 //! A file of records of one length: each is sought and read, while this thread waits for no disk.
 use crate::host::Host;
 use anyhow::Result;
-use blocking::{AsyncReadExt, AsyncSeekExt, Executor, ReadJob, Runtime, SeekJob, Unblock};
+use blocking::{
+    AsyncRead, AsyncReadExt, AsyncSeek, AsyncSeekExt, Executor, ReadJob, Runtime, SeekJob, Unblock,
+};
 use blocking_core::pool::{Carries, Job, JobNo, JobStep};
 use futures::executor::block_on;
 use std::env::Env;
@@ -84,20 +86,19 @@ impl<T: Drop, H: Runtime> Carries<SeekJob<T, H>> for Access<T, H> {
     }
 }
 
-// Prints the record with this number, counted from 0.
-fn show_record<H: Host>(
-    rt: H,
-    file: &mut Unblock<File, (), Access<File, H>, H>,
-    number: u64,
-) -> Result<()> {
-    if file.is_closed() {
-        return Ok(());
-    }
+// Moves a handle to the record with this number, counted from 0.
+fn seek_record<A: AsyncSeek, H: Host>(rt: H, file: &mut A, number: u64) -> Result<()>
+    requires { A.closed file.old → ⊥ }
+{
     let place = number.saturating_mul(LENGTH as u64);
     block_on(&rt, file.seek(SeekFrom::Start(place)))??;
-    if file.is_closed() {
-        return Ok(());
-    }
+    Ok(())
+}
+
+// Reads the next record, and prints it.
+fn show_next<A: AsyncRead, H: Host>(rt: H, file: &mut A, number: u64) -> Result<()>
+    requires { A.closed file.old → ⊥ }
+{
     let mut record = [0u8; LENGTH];
     block_on(&rt, file.read_exact(&mut record))??;
     let text = String::from_utf8_lossy(rt.alloc(), &record)?;
@@ -105,14 +106,34 @@ fn show_record<H: Host>(
     Ok(())
 }
 
-/// Writes a file of records, and prints two of them, the last one first.
+// Prints the record with this number, counted from 0. A handle that is closed has none.
+fn show_record<T: Read + Seek + Drop, H: Host>(
+    rt: H,
+    file: &mut Unblock<T, (), Access<T, H>, H>,
+    number: u64,
+) -> Result<()> {
+    if !file.is_closed() {
+        seek_record(rt, file, number)?;
+    }
+    if file.is_closed() {
+        return Ok(());
+    }
+    show_next(rt, file, number)
+}
+
+// Prints two of the records, the last one first.
+fn show_two<T: Read + Seek + Drop + Send + 'static, H: Host>(rt: H, file: T) -> Result<()> {
+    let executor: Executor<Access<T, H>, H> = Executor::new(rt, Some("1"))?;
+    let mut file = Unblock::new(executor, file);
+    show_record(rt, &mut file, 2)?;
+    show_record(rt, &mut file, 1)
+}
+
+/// Writes a file of records, and prints two of them.
 pub(crate) fn show_records<H: Host + Files<File = File> + Env>(rt: H) -> Result<()> {
     let path = env::temp_dir(&rt)?.join(rt.alloc(), "furuvaite-records")?;
     fs::write(&rt, &path, RECORDS)?;
     let file = File::open(&rt, &path)?;
     fs::remove_file(&rt, &path)?;
-    let executor: Executor<Access<File, H>, H> = Executor::new(rt, Some("1"))?;
-    let mut file = Unblock::new(executor, file);
-    show_record(rt, &mut file, 2)?;
-    show_record(rt, &mut file, 1)
+    show_two(rt, file)
 }
