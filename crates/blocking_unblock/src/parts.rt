@@ -54,16 +54,18 @@ pub(crate) fn read_parts<T: Drop, I: Drop, H: Wait + AllocGlobal + Copy>(
     ensures { IfOk result (λ parts. (vec_len parts.piece ≡ min capacity 65536)
         × (kind_of parts.session.side ≡ Reading) × (parts.session.owner_end ≡ Open)) }
 {
+    let ready = piece(rt, capacity)?;
+    let piece = piece(rt, capacity)?;
     let Linked {
         way_back,
         link: theirs,
     } = Linked::new(rt)?;
-    let (job_end, end) = link_with(rt, capacity, piece(rt, capacity)?)?;
+    let (job_end, end) = link_with(rt, capacity, ready)?;
     Ok(ReadParts {
         session: Session::new(Side::Reading(end, way_back)),
         end: job_end,
         link: theirs,
-        piece: piece(rt, capacity)?,
+        piece,
     })
 }
 
