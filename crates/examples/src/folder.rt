@@ -26,7 +26,7 @@ fn next_came<S: Stream<Item = Result<io::Result<I>, Refusal>>, I: Drop, H: Host>
     Ok(true)
 }
 
-// How many entries come of an iterator, up to the first error.
+// How many entries come of an iterator, or the first error.
 fn count<T, I, H>(rt: H, entries: T) -> Result<usize>
 where
     T: Iterator<Item = io::Result<I>> + Drop + Send + 'static,
