@@ -52,7 +52,9 @@ pub(crate) fn show_folder<H: Host>(rt: H, files: HostRuntime) -> Result<()> {
     fs::create_dir_all(&files, &path)?;
     fs::write(&files, path.join(rt.alloc(), "oaks")?, "")?;
     fs::write(&files, path.join(rt.alloc(), "pines")?, "")?;
-    let count = count(rt, fs::read_dir(&files, &path)?)?;
+    // (in a box: what reads a folder holds its next names, 8192 bytes, and a job is moved as it is)
+    let entries = Box::new(rt.alloc(), fs::read_dir(&files, &path)?)?;
+    let count = count(rt, entries)?;
     println!(rt; "{count} entries came")?;
     fs::remove_dir_all(&files, &path)?;
     Ok(())
