@@ -1,6 +1,6 @@
 //! Sessions whose job is dropped beside its owner, which no pool does by itself: a job type of the test's own lets its job go.
 use crate::reader::Given::{Bytes, Stops as Stop};
-use crate::reader::Planned;
+use crate::reader::{Planned, Track};
 use crate::scene::Sight::Waits;
 use crate::scene::Step::{GoOn, Goes, Poll, PollReader, Rests, Stops, Wakes};
 use crate::scene::{Row, first_wrong_in, rests};
@@ -98,6 +98,19 @@ fn dropped_job_wakes_its_owner(rt: HostRuntime) -> Result<(), Fail> {
 
 type CutWriter<H> = Cut<WriteJob<PlannedWriter<H>, H>>;
 
+// Whether an owner waits for its flush, while its writer stops, until its job is dropped.
+fn waits_for_the_drop<A: AsyncWrite>(owner: &mut A, mock: &mut MockTask, track: &Track) -> bool
+    requires { A.closed owner.old → ⊥ }
+{
+    let wrote = mock.enter(|cx| owner.poll_write(cx, b"ab"));
+    if !matches!(wrote, Polled::Ready(Ok(2))) || !track.stops() {
+        return false;
+    }
+    let flushed = mock.enter(|cx| owner.poll_flush(cx));
+    track.go_on();
+    matches!(flushed, Polled::Pending) && track.goes() && woken(mock)
+}
+
 // Whether the owner of a dropped writing job waits for its flush until the job is dropped, and the worker goes on.
 fn wakes_its_owner<H: Host>(rt: H) -> io::Result<bool> {
     let Ok(executor) = Executor::<CutWriter<H>, H>::new(rt, Some("1")) else {
@@ -108,25 +121,11 @@ fn wakes_its_owner<H: Host>(rt: H) -> io::Result<bool> {
         writes: &[Taken::Stops],
         ..ALL
     };
-    let writer = PlannedWriter::new(rt, Arc::try_clone(&page)?, plan);
-    let mut owner = Unblock::<_, (), CutWriter<H>, H>::with_capacity(
-        4,
-        executor.try_clone()?,
-        writer,
-    );
     let mut mock = MockTask::new(&rt)?;
-    let wrote = mock.enter(|cx| owner.poll_write(cx, b"ab"));
-    if !matches!(wrote, Polled::Ready(Ok(2))) || !page.track.stops() {
-        return Ok(false);
-    }
-    let flushed = mock.enter(|cx| owner.poll_flush(cx));
-    page.track.go_on();
-    Ok(
-        matches!(flushed, Polled::Pending)
-            && page.track.goes()
-            && woken(&mock)
-            && rests(&executor, 1),
-    )
+    let shared = executor.try_clone()?;
+    let writer = PlannedWriter::new(rt, Arc::try_clone(&page)?, plan);
+    let mut owner = Unblock::<_, (), CutWriter<H>, H>::with_capacity(4, shared, writer);
+    Ok(waits_for_the_drop(&mut owner, &mut mock, &page.track) && rests(&executor, 1))
 }
 
 #[test]

@@ -81,8 +81,9 @@ type Writers<H> = Executor<WriteJob<Comparing, H>, H>;
 
 // How many bytes come to the writer, each in its place.
 fn come<H: Host>(rt: H, executor: &Writers<H>, row: &Row) -> io::Result<Option<u64>> {
-    let executor = executor.try_clone()?;
+    let cycle = Cycle::new(rt.alloc())?;
     let writer = Comparing::new(Cycle::new(rt.alloc())?, row.at_once);
+    let executor = executor.try_clone()?;
     let owner = match row.capacity {
         Some(capacity) if capacity > 0 => Unblock::with_capacity(capacity, executor, writer),
         _ => Unblock::new(executor, writer),
@@ -90,7 +91,7 @@ fn come<H: Host>(rt: H, executor: &Writers<H>, row: &Row) -> io::Result<Option<u
     let many = Many {
         rt,
         owner,
-        cycle: Cycle::new(rt.alloc())?,
+        cycle,
         bytes: row.bytes,
         taken: 0,
     };

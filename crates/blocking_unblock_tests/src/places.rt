@@ -4,7 +4,7 @@ use crate::reader::comes;
 use crate::writes::Came;
 use blocking::{
     AsyncRead, AsyncReadExt, AsyncSeek, AsyncSeekExt, AsyncWrite, AsyncWriteExt, Executor, Host,
-    IoFault, OpJob, Runtime, SeekJob, Unblock,
+    IoFault, ItemJob, OpJob, ReadJob, Runtime, SeekJob, Unblock, WriteJob,
 };
 use blocking_core::io::Fault;
 use blocking_core::pool::{Carries, Job, Refusal, Refused};
@@ -136,10 +136,8 @@ pub(crate) enum Step {
     Item(u8),
     // Bytes that are taken for writing.
     Write(&'static [u8]),
-    // A read, a write, or a call for an item, whose session is refused for want of memory.
-    RefusedRead,
-    RefusedWrite,
-    RefusedItem,
+    // One of these whose session is refused for want of memory.
+    Refuses(&'static Step),
     // How often the handle was moved.
     Moves(usize),
     // The text of the owner.
@@ -208,12 +206,12 @@ fn begins_seek<J: Job + Carries<SeekJob<Gated, H>>, H: Host>(
     owner: &mut Owner<J, H>,
     gate: &Gate,
     to: SeekFrom,
-) -> io::Result<bool> {
+) -> io::Result<Came> {
     let mut mock = MockTask::new(&rt)?;
     gate.is_open.store(false, Ordering::SeqCst);
     let waits = mock.enter(|cx| !owner.is_closed() && owner.poll_seek(cx, to).is_pending());
     gate.is_open.store(true, Ordering::SeqCst);
-    Ok(waits)
+    Ok(Came::if_right(waits))
 }
 
 // Whether an operation that is polled once waits, while the handle can't go on. It is dropped then.
@@ -222,9 +220,9 @@ fn begins_jump<J: Job + Carries<OpJob<Jump, Gated, H>>, H: Host>(
     owner: &mut Owner<J, H>,
     gate: &Gate,
     to: u64,
-) -> io::Result<bool> {
+) -> io::Result<Came> {
     if owner.is_closed() {
-        return Ok(false);
+        return Ok(Came::Wrong);
     }
     let mut mock = MockTask::new(&rt)?;
     gate.is_open.store(false, Ordering::SeqCst);
@@ -232,7 +230,7 @@ fn begins_jump<J: Job + Carries<OpJob<Jump, Gated, H>>, H: Host>(
     let waits = mock.enter(|cx| !jump.is_taken() && jump.poll(cx).is_pending());
     drop(jump);
     gate.is_open.store(true, Ordering::SeqCst);
-    Ok(waits)
+    Ok(Came::if_right(waits))
 }
 
 // A call that failed: its session was refused, or it answers wrongly.
@@ -308,57 +306,86 @@ fn jumps<J: Job + Carries<OpJob<Jump, Gated, H>>, H: Host>(
 }
 
 // Whether the owner has this text.
-fn says<J: Job, H: Host>(rt: H, owner: &Owner<J, H>, text: &str) -> io::Result<bool> {
-    Ok(format!(in rt.alloc(); "{owner:?}")?.as_str() == text)
+fn says<J: Job, H: Host>(rt: H, owner: &Owner<J, H>, text: &str) -> io::Result<Came> {
+    let said = format!(in rt.alloc(); "{owner:?}")?;
+    Ok(Came::if_right(said.as_str() == text))
 }
 
-// How what a step shows fits.
-fn shows<H: Host>(
+// An owner, and what it shares with its handle.
+#[derive(Drop)]
+struct Scene<J: Job, H: Runtime> {
     rt: H,
-    owner: &mut Owner<Jobs<H>, H>,
-    gate: &Gate,
-    step: Step,
-) -> io::Result<Came> {
-    if owner.is_closed() {
-        return Ok(Came::Wrong);
-    }
-    match step {
-        Step::Seek(to, place) => seeks(rt, owner, to, place),
-        Step::Jump(to, before) => jumps(rt, owner, to, before),
-        Step::Byte(byte) => reads(rt, owner, byte),
-        Step::Item(item) => gets(rt, owner, item),
-        Step::Write(bytes) => writes(rt, owner, bytes),
-        Step::RefusedRead => Ok(is_refused(reads(rt, owner, 0)?)),
-        Step::RefusedWrite => Ok(is_refused(writes(rt, owner, b"a")?)),
-        Step::RefusedItem => Ok(is_refused(gets(rt, owner, 0)?)),
-        Step::BeginSeek(to) => Ok(Came::if_right(begins_seek(rt, owner, gate, to)?)),
-        Step::BeginJump(to) => Ok(Came::if_right(begins_jump(rt, owner, gate, to)?)),
-        Step::Moves(moves) => Ok(Came::if_right(gate.moves.load(Ordering::SeqCst) == moves)),
-        Step::Debug(text) => Ok(Came::if_right(says(rt, owner, text)?)),
-    }
+    owner: Owner<J, H>,
+    gate: Arc<Gate>,
 }
 
-// That a session was refused for want of memory is right.
-fn is_refused(came: Came) -> Came {
-    Came::if_right(matches!(came, Came::Refused(Refusal::Memory)))
-}
-
-// Whether a step shows what it must. A session may be refused once: that is printed, the owner has its handle, and it tries once more.
-fn is_shown<H: Host + Print>(
-    rt: H,
-    owner: &mut Owner<Jobs<H>, H>,
-    gate: &Gate,
-    step: Step,
-) -> io::Result<bool> {
-    match shows(rt, owner, gate, step)? {
-        Came::Refused(why) => {
-            println!(rt; "refused: {why}")?;
-            Ok(
-                !says(rt, owner, "Unblock { io: <blocked> }")?
-                    && shows(rt, owner, gate, step)?.is_right(),
-            )
+impl<J, H> Scene<J, H>
+where
+    J: Job
+        + Carries<ReadJob<Gated, H>>
+        + Carries<WriteJob<Gated, H>>
+        + Carries<ItemJob<Gated, u8, H>>
+        + Carries<SeekJob<Gated, H>>
+        + Carries<OpJob<Jump, Gated, H>>,
+    H: Host + Print,
+{
+    // How what a step shows fits that isn't to be refused.
+    fn does(&mut self, step: Step) -> io::Result<Came> {
+        let rt = self.rt;
+        let owner = &mut self.owner;
+        let gate = &*self.gate;
+        if owner.is_closed() {
+            return Ok(Came::Wrong);
         }
-        came => Ok(came.is_right()),
+        match step {
+            Step::Seek(to, place) => seeks(rt, owner, to, place),
+            Step::Jump(to, before) => jumps(rt, owner, to, before),
+            Step::Byte(byte) => reads(rt, owner, byte),
+            Step::Item(item) => gets(rt, owner, item),
+            Step::Write(bytes) => writes(rt, owner, bytes),
+            Step::BeginSeek(to) => begins_seek(rt, owner, gate, to),
+            Step::BeginJump(to) => begins_jump(rt, owner, gate, to),
+            Step::Moves(moves) => Ok(Came::if_right(gate.moves.load(Ordering::SeqCst) == moves)),
+            Step::Debug(text) => says(rt, owner, text),
+            Step::Refuses(_) => Ok(Came::Wrong),
+        }
+    }
+
+    // How what a step shows fits.
+    fn shows(&mut self, step: Step) -> io::Result<Came> {
+        let Step::Refuses(refused) = step else {
+            return self.does(step);
+        };
+        let came = self.does(*refused)?;
+        Ok(Came::if_right(matches!(came, Came::Refused(Refusal::Memory))))
+    }
+
+    // Whether a step shows what it must, where its session may be refused once: that is printed, the owner has its handle, and it tries
+    // once more.
+    fn is_shown(&mut self, step: Step) -> io::Result<bool> {
+        let came = self.shows(step)?;
+        let Came::Refused(why) = came else {
+            return Ok(came.is_right());
+        };
+        println!(self.rt; "refused: {why}")?;
+        if says(self.rt, &self.owner, "Unblock { io: <blocked> }")?.is_right() {
+            return Ok(false);
+        }
+        Ok(self.shows(step)?.is_right())
+    }
+
+    // The place of the first step that shows something else than it must, if there is one.
+    fn first_wrong(&mut self, way: Way, steps: &[Step]) -> io::Result<Option<usize>> {
+        for (place, step) in steps.iter().enumerate() {
+            let is_right = match way {
+                Way::MayBeRefused => self.is_shown(*step)?,
+                Way::Default | Way::TooMuch => self.shows(*step)?.is_right(),
+            };
+            if !is_right {
+                return Ok(Some(place));
+            }
+        }
+        Ok(None)
     }
 }
 
@@ -388,22 +415,14 @@ pub(crate) fn first_wrong<H: Host + Print>(
         },
     )?;
     let handle = Gated::new(rt.alloc(), Arc::try_clone(&gate)?)?;
-    let mut owner = match way {
+    let owner = match way {
         Way::TooMuch => Unblock::with_capacity(usize::MAX, executor, handle),
         Way::Default => Unblock::new(executor, handle),
         // (for the whole handle, and few pieces of memory)
         Way::MayBeRefused => Unblock::with_capacity(131_072, executor, handle),
     };
-    for (place, step) in steps.iter().enumerate() {
-        let is_right = match way {
-            Way::MayBeRefused => is_shown(rt, &mut owner, &gate, *step)?,
-            Way::Default | Way::TooMuch => shows(rt, &mut owner, &gate, *step)?.is_right(),
-        };
-        if !is_right {
-            return Ok(Some(place));
-        }
-    }
-    Ok(None)
+    let mut scene = Scene { rt, owner, gate };
+    scene.first_wrong(way, steps)
 }
 
 #[test]
@@ -420,11 +439,11 @@ const REFUSED_ROWS: &[(&str, &[Step])] = &[
     (
         "a read, a write and a call for an item are refused, and leave the handle where it is",
         &[
-            Step::RefusedRead,
+            Step::Refuses(&Step::Byte(0)),
             Step::Debug("Unblock { io: at 0 }"),
-            Step::RefusedWrite,
+            Step::Refuses(&Step::Write(b"a")),
             Step::Debug("Unblock { io: at 0 }"),
-            Step::RefusedItem,
+            Step::Refuses(&Step::Item(0)),
             Step::Debug("Unblock { io: at 0 }"),
             Step::Moves(0),
         ],
@@ -433,13 +452,13 @@ const REFUSED_ROWS: &[(&str, &[Step])] = &[
         "they stop a seek first, and are refused then",
         &[
             Step::BeginSeek(SeekFrom::Start(3)),
-            Step::RefusedRead,
+            Step::Refuses(&Step::Byte(0)),
             Step::Debug("Unblock { io: at 3 }"),
             Step::BeginSeek(SeekFrom::Current(3)),
-            Step::RefusedWrite,
+            Step::Refuses(&Step::Write(b"a")),
             Step::Debug("Unblock { io: at 6 }"),
             Step::BeginSeek(SeekFrom::Current(3)),
-            Step::RefusedItem,
+            Step::Refuses(&Step::Item(0)),
             Step::Debug("Unblock { io: at 9 }"),
             Step::Seek(SeekFrom::Current(3), 12),
         ],
@@ -448,13 +467,13 @@ const REFUSED_ROWS: &[(&str, &[Step])] = &[
         "they stop an operation first, and are refused then",
         &[
             Step::BeginJump(3),
-            Step::RefusedRead,
+            Step::Refuses(&Step::Byte(0)),
             Step::Debug("Unblock { io: at 3 }"),
             Step::BeginJump(6),
-            Step::RefusedWrite,
+            Step::Refuses(&Step::Write(b"a")),
             Step::Debug("Unblock { io: at 6 }"),
             Step::BeginJump(9),
-            Step::RefusedItem,
+            Step::Refuses(&Step::Item(0)),
             Step::Debug("Unblock { io: at 9 }"),
             Step::Jump(12, 9),
         ],

@@ -94,6 +94,20 @@ impl<J: Job + Carries<ReadJob<Planned, H>>, H: Runtime> Seen<J, H> {
         None
     }
 
+    // What a poll, a read or a beginning shows, with the bytes at the buffer's front.
+    fn reads<R: AllocGlobal + Print>(
+        &mut self,
+        rt: &R,
+        step: Step,
+        buffer: &mut [u8],
+    ) -> io::Result<Came<Result<usize, IoFault>>> {
+        match step {
+            Step::Poll(..) => Ok(self.poll(buffer)),
+            Step::Begin(..) => self.begins(rt, buffer),
+            _ => Ok(self.read(buffer)),
+        }
+    }
+
     // Reads from an idle reader, whose session may be refused once.
     fn begins<R: AllocGlobal + Print>(
         &mut self,
@@ -230,19 +244,9 @@ impl<J: Job + Carries<ReadJob<Planned, H>>, H: Runtime + RandomSource + Print> S
             return Ok(false);
         };
         match step {
-            Step::Poll(size, sight) => {
+            Step::Poll(size, sight) | Step::Read(size, sight) | Step::Begin(size, sight) => {
                 let mut buffer = vec![in alloc; 0u8; size]?;
-                let came = seen.poll(&mut buffer);
-                Ok(is_read(came, &buffer, sight))
-            }
-            Step::Read(size, sight) => {
-                let mut buffer = vec![in alloc; 0u8; size]?;
-                let came = seen.read(&mut buffer);
-                Ok(is_read(came, &buffer, sight))
-            }
-            Step::Begin(size, sight) => {
-                let mut buffer = vec![in alloc; 0u8; size]?;
-                let came = seen.begins(&self.rt, &mut buffer)?;
+                let came = seen.reads(&self.rt, step, &mut buffer)?;
                 Ok(is_read(came, &buffer, sight))
             }
             Step::ReadAll(size, text) => seen.reads_all(alloc, size, text),

@@ -51,8 +51,10 @@ type Readers<H> = Executor<ReadJob<Cycling<H>, H>, H>;
 
 // How many bytes come, where each is that of its place.
 fn come<H: Host>(rt: H, executor: &Readers<H>, row: &Row) -> io::Result<Option<u64>> {
-    let executor = executor.try_clone()?;
+    let buffer = vec![in rt.alloc(); 0u8; BUFFER]?;
+    let cycle = Cycle::new(rt.alloc())?;
     let reader = Cycling::new(rt, row.pace, Cycle::new(rt.alloc())?);
+    let executor = executor.try_clone()?;
     let owner = match row.capacity {
         Some(capacity) if capacity > 0 => Unblock::with_capacity(capacity, executor, reader),
         _ => Unblock::new(executor, reader),
@@ -60,8 +62,8 @@ fn come<H: Host>(rt: H, executor: &Readers<H>, row: &Row) -> io::Result<Option<u
     let whole = Whole {
         rt,
         owner,
-        buffer: vec![in rt.alloc(); 0u8; BUFFER]?,
-        cycle: Cycle::new(rt.alloc())?,
+        buffer,
+        cycle,
         came: 0,
     };
     block_on(&rt, whole)

@@ -1,7 +1,7 @@
 //! Whole reads by futures, one after another on one reader.
 use crate::reader::Given::{Bytes, Fails};
 use crate::reader::{Given, Planned, Track};
-use blocking::{AsyncReadExt, Executor, Host, IoFault, ReadJob, Runtime, Unblock};
+use blocking::{AsyncRead, AsyncReadExt, Executor, Host, IoFault, ReadJob, Unblock};
 use blocking_core::io::Fault;
 use blocking_core::pool::{Carries, Job};
 use futures::executor::block_on;
@@ -42,6 +42,47 @@ fn is_io<T: Drop>(read: &Result<T, IoFault>, kind: ErrorKind) -> bool {
     matches!(read, Err(Fault::Io(error)) if error.kind() == kind)
 }
 
+// Whether one read into a buffer for one gives these bytes.
+fn reads<A: AsyncRead, H: Host>(rt: &H, owner: &mut A, bytes: &[u8]) -> io::Result<bool>
+    requires { A.closed owner.old → ⊥ }
+{
+    let mut one = [0u8; 1];
+    let read = block_on(rt, owner.read(&mut one))?;
+    Ok(matches!(read, Ok(count) if one.get(..count) == Some(bytes)))
+}
+
+// Whether a buffer for three is filled with these bytes; or where none are named, whether the end comes before.
+fn fills<A: AsyncRead, H: Host>(rt: &H, owner: &mut A, bytes: Option<&[u8]>) -> io::Result<bool>
+    requires { A.closed owner.old → ⊥ }
+{
+    let mut three = [0u8; 3];
+    let read = block_on(rt, owner.read_exact(&mut three))?;
+    Ok(match bytes {
+        Some(bytes) => read.is_ok() && three.as_slice() == bytes,
+        None => is_io(&read, ErrorKind::UnexpectedEof),
+    })
+}
+
+// Whether a read to the end behind a `>` leaves these bytes, and ends well; or fails, where it is to.
+fn reads_on<A: AsyncRead, H: Host>(
+    rt: &H,
+    owner: &mut A,
+    bytes: &[u8],
+    is_to_fail: bool,
+) -> io::Result<bool>
+    requires { A.closed owner.old → ⊥ }
+{
+    let mut out = Vec::new(rt.alloc());
+    out.push(b'>')?;
+    let read = block_on(rt, owner.read_to_end(&mut out))?;
+    let is_told = if is_to_fail {
+        is_io(&read, ErrorKind::Other)
+    } else {
+        matches!(read, Ok(count) if count.saturating_add(1) == bytes.len())
+    };
+    Ok(is_told && out.as_slice() == bytes)
+}
+
 // Whether a step shows what it must.
 fn shows<J: Job + Carries<ReadJob<Planned, H>>, H: Host>(
     rt: &H,
@@ -51,49 +92,38 @@ fn shows<J: Job + Carries<ReadJob<Planned, H>>, H: Host>(
     if owner.is_closed() {
         return Ok(false);
     }
-    let mut three = [0u8; 3];
-    let mut out = Vec::new(rt.alloc());
-    out.push(b'>')?;
-    Ok(match step {
-        Step::Read(bytes) => match block_on(rt, owner.read(&mut three[..1]))? {
-            Ok(count) => three.get(..count) == Some(bytes),
-            Err(_) => false,
-        },
-        Step::Exact(bytes) => {
-            let read = block_on(rt, owner.read_exact(&mut three))?;
-            read.is_ok() && three.as_slice() == bytes
-        }
-        Step::EndsBefore => {
-            let read = block_on(rt, owner.read_exact(&mut three))?;
-            is_io(&read, ErrorKind::UnexpectedEof)
-        }
-        Step::ToEnd(bytes) => {
-            let read = block_on(rt, owner.read_to_end(&mut out))?;
-            matches!(read, Ok(count) if count.saturating_add(1) == bytes.len())
-                && out.as_slice() == bytes
-        }
-        Step::ToFault(bytes) => {
-            let read = block_on(rt, owner.read_to_end(&mut out))?;
-            is_io(&read, ErrorKind::Other) && out.as_slice() == bytes
-        }
-    })
+    match step {
+        Step::Read(bytes) => reads(rt, owner, bytes),
+        Step::Exact(bytes) => fills(rt, owner, Some(bytes)),
+        Step::EndsBefore => fills(rt, owner, None),
+        Step::ToEnd(bytes) => reads_on(rt, owner, bytes, false),
+        Step::ToFault(bytes) => reads_on(rt, owner, bytes, true),
+    }
 }
 
 // The place of the first step that shows something else than it must, if there is one.
-fn first_wrong<H: Host>(rt: H) -> Result<Option<usize>, Fail> {
-    let executor: Executor<ReadJob<Planned, H>, H> = Executor::new(rt, Some("1"))?;
-    let reader = Planned::new(Arc::new(rt.alloc(), Track::new())?, PLAN);
-    let mut owner: Owner<ReadJob<Planned, H>, H> = Unblock::with_capacity(4, executor, reader);
+fn first_wrong<J: Job + Carries<ReadJob<Planned, H>>, H: Host>(
+    rt: &H,
+    owner: &mut Owner<J, H>,
+) -> io::Result<Option<usize>> {
     for (place, step) in STEPS.iter().enumerate() {
-        if !shows(&rt, &mut owner, *step)? {
+        if !shows(rt, owner, *step)? {
             return Ok(Some(place));
         }
     }
     Ok(None)
 }
 
+// The same, of an owner with a pipe of four.
+fn first_wrong_of_four<H: Host>(rt: H) -> Result<Option<usize>, Fail> {
+    let executor: Executor<ReadJob<Planned, H>, H> = Executor::new(rt, Some("1"))?;
+    let reader = Planned::new(Arc::new(rt.alloc(), Track::new())?, PLAN);
+    let mut owner: Owner<ReadJob<Planned, H>, H> = Unblock::with_capacity(4, executor, reader);
+    Ok(first_wrong(&rt, &mut owner)?)
+}
+
 #[test]
 fn reads_are_whole(rt: HostRuntime) -> Result<(), Fail> {
-    assert_eq!(rt; first_wrong(rt)?, None);
+    assert_eq!(rt; first_wrong_of_four(rt)?, None);
     Ok(())
 }

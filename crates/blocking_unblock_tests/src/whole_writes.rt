@@ -4,7 +4,7 @@ use crate::writer::Taken::{AtMost, Fails as FailsAt};
 use crate::writer::{Page, Plan, PlannedWriter};
 use crate::writes::Sight::{Count, Done, Fails, WritesNone};
 use crate::writes::{ALL, Came, Sight, counted, done};
-use blocking::{AsyncWrite, AsyncWriteExt, Executor, Host, Runtime, Unblock, WriteJob};
+use blocking::{AsyncWrite, AsyncWriteExt, Executor, Host, Unblock, WriteJob};
 use blocking_core::pool::{Carries, Job};
 use futures::executor::block_on;
 use futures::task::Poll;
@@ -148,49 +148,51 @@ fn writes_all<H: Host, A: AsyncWrite>(
 
 type Writing<H> = WriteJob<PlannedWriter<H>, H>;
 
-// An owner, and what it shares with its writer.
-#[derive(Drop)]
-struct Scene<J: Job, H: Runtime> {
-    rt: H,
-    owner: Unblock<PlannedWriter<H>, (), J, H>,
-    page: Arc<Page>,
-}
+type Owner<J, H> = Unblock<PlannedWriter<H>, (), J, H>;
 
-impl<J: Job + Carries<WriteJob<PlannedWriter<H>, H>>, H: Host> Scene<J, H> {
-    // Whether a step shows what it must.
-    fn take(&mut self, step: Step) -> io::Result<bool> {
-        let Scene { rt, owner, page } = self;
-        let shows = match step {
-            Flush(sight) => flushes(rt, owner, sight)?,
-            Close(sight) => closes(rt, owner, sight)?,
-            Holds(bytes) => Some(Came::if_right(page.holds(rt, bytes))),
-            IsGone(wanted) => Some(Came::if_right(page.track.is_gone() == wanted)),
-            _ if owner.is_closed() => None,
-            Write(bytes, sight) => writes(rt, owner, bytes, sight)?,
-            WriteAll(bytes, sight) => writes_all(rt, owner, bytes, sight)?,
-        };
-        Ok(shows.is_some_and(Came::is_right))
+// How what a step shows fits. (none where a closed owner would be asked for what it may not)
+fn shows<J: Job + Carries<Writing<H>>, H: Host>(
+    rt: &H,
+    owner: &mut Owner<J, H>,
+    page: &Page,
+    step: Step,
+) -> io::Result<Option<Came>> {
+    match step {
+        Flush(sight) => flushes(rt, owner, sight),
+        Close(sight) => closes(rt, owner, sight),
+        Holds(bytes) => Ok(Some(Came::if_right(page.holds(rt, bytes)))),
+        IsGone(wanted) => Ok(Some(Came::if_right(page.track.is_gone() == wanted))),
+        _ if owner.is_closed() => Ok(None),
+        Write(bytes, sight) => writes(rt, owner, bytes, sight),
+        WriteAll(bytes, sight) => writes_all(rt, owner, bytes, sight),
     }
 }
 
-// The place of the first step of a row that shows something else than it must, if there is one.
+// The place of the first step that shows something else than it must, if there is one.
+fn first_wrong_of<J: Job + Carries<Writing<H>>, H: Host>(
+    rt: &H,
+    owner: &mut Owner<J, H>,
+    page: &Page,
+    steps: &[Step],
+) -> io::Result<Option<usize>> {
+    for (place, step) in steps.iter().enumerate() {
+        let came = shows(rt, owner, page, *step)?;
+        if !came.is_some_and(Came::is_right) {
+            return Ok(Some(place));
+        }
+    }
+    Ok(None)
+}
+
+// The same, of a row, through a pipe of four.
 fn first_wrong<H: Host>(rt: H, row: &Row) -> io::Result<Option<usize>> {
     let Ok(executor) = Executor::<Writing<H>, H>::new(rt, Some("1")) else {
         return Err(io::Error::from(ErrorKind::Other));
     };
     let page = Arc::new(rt.alloc(), Page::new(rt.alloc()))?;
     let writer = PlannedWriter::new(rt, Arc::try_clone(&page)?, row.plan);
-    let mut scene = Scene {
-        rt,
-        owner: Unblock::with_capacity(4, executor, writer),
-        page,
-    };
-    for (place, step) in row.steps.iter().enumerate() {
-        if !scene.take(*step)? {
-            return Ok(Some(place));
-        }
-    }
-    Ok(None)
+    let mut owner = Unblock::with_capacity(4, executor, writer);
+    first_wrong_of(&rt, &mut owner, &page, row.steps)
 }
 
 #[test]
