@@ -5,6 +5,7 @@ use blocking_core::pool::{Carries, Job};
 use blocking_core::task::Call;
 use futures::executor::block_on;
 use std::io;
+use std::io::ErrorKind;
 use std::sync::Arc;
 use std::sync::atomic::{AtomicU64, Ordering};
 use std::test::Fail;
@@ -95,6 +96,25 @@ fn come_to_rest<J: Job, H: Runtime>(ticks: &Executor<J, H>) -> bool {
     false
 }
 
+// Begins the calls of all users.
+fn begin<H: Host>(
+    rt: &H,
+    ticks: &Executor<Ticks<H>, H>,
+    users: &Users<H>,
+    made: &Arc<AtomicU64>,
+) -> io::Result<Vec<Task<User<Ticks<H>, H>, H>>> {
+    let mut tasks = Vec::new(rt.alloc());
+    for _ in 0..USERS {
+        let made = Arc::try_clone(made)?;
+        let ticks = ticks.try_clone()?;
+        match unblock(users, User { ticks, made }) {
+            Ok(task) => tasks.push(task)?,
+            Err(_) => return Err(io::Error::from(ErrorKind::Other)),
+        }
+    }
+    Ok(tasks)
+}
+
 // How many users there were for whom the counts agreed.
 fn users_agree<J: Job + Carries<CallJob<Tick, H>>, H: Host>(
     rt: &H,
@@ -109,21 +129,20 @@ fn users_agree<J: Job + Carries<CallJob<Tick, H>>, H: Host>(
     Ok(users)
 }
 
+// For how many users the counts agreed, and whether all jobs came to be over after them.
+fn all_agree<H: Host>(rt: H, made: &Arc<AtomicU64>) -> Result<(u64, bool), Fail> {
+    let ticks = Executor::<Ticks<H>, H>::new(rt, None)?;
+    let users = Users::<H>::new(rt, Some("4"))?;
+    let tasks = begin(&rt, &ticks, &users, made)?;
+    Ok((users_agree(&rt, tasks)?, come_to_rest(&ticks)))
+}
+
 #[test]
 fn four_threads_find_the_counts_in_agreement(rt: HostRuntime) -> Result<(), Fail> {
-    let ticks = Executor::<Ticks<HostRuntime>, HostRuntime>::new(rt, None)?;
     let made = Arc::new(rt.alloc(), AtomicU64::new(0))?;
-    let users = Users::<HostRuntime>::new(rt, Some("4"))?;
-    let mut tasks = Vec::new(rt.alloc());
-    for _ in 0..USERS {
-        let user = User {
-            ticks: ticks.try_clone()?,
-            made: Arc::try_clone(&made)?,
-        };
-        tasks.push(unblock(&users, user)?)?;
-    }
-    assert_eq!(rt; users_agree(&rt, tasks)?, USERS);
-    assert!(rt; come_to_rest(&ticks));
+    let (agreed, has_come_to_rest) = all_agree(rt, &made)?;
+    assert_eq!(rt; agreed, USERS);
+    assert!(rt; has_come_to_rest);
     assert_eq!(rt; made.load(Ordering::SeqCst), USERS * CALLS);
     Ok(())
 }

@@ -120,8 +120,8 @@ impl<H: Runtime> Job for Taker<H> {
 // How many bytes are filled in, and how many are taken in order.
 fn cross<H: Host>(rt: H) -> Result<(u64, u64), Fail> {
     let executor: Executor<Taker<H>, H> = Executor::new(rt, Some("1"))?;
-    let (end, theirs) = link_in(rt, 2)?;
     let (told, tells) = oneshot::channel(rt.alloc())?;
+    let (end, theirs) = link_in(rt, 2)?;
     let _job = executor.add(Taker {
         end: theirs,
         told: Some(told),

@@ -312,14 +312,15 @@ fn first_wrong<H: Host>(
     rt: H,
     steps: &'static [(Step, Shown)],
 ) -> Result<Option<(usize, Shown)>, Fail> {
-    let executor: Executor<Nothing, H> = Executor::new(rt, Some("1"))?;
-    let me = executor.add(Nothing)?;
+    let piece = vec![in rt.alloc(); 0; 2]?;
     let (sender, receiver) = link_with(rt, 2, vec![in rt.alloc(); 0; 2]?)?;
     let (filler, taker) = link_in(rt, 2)?;
+    let executor: Executor<Nothing, H> = Executor::new(rt, Some("1"))?;
+    let me = executor.add(Nothing)?;
     let bench = Bench {
         executor,
         me,
-        piece: vec![in rt.alloc(); 0; 2]?,
+        piece,
         sender,
         receiver,
         filler,
