@@ -1,5 +1,5 @@
 //! The benchmarks of calls.
-use crate::figures::{Figures, Request};
+use crate::figures::{Figures, Request, each};
 use blocking::{CallJob, Executor, Host, Task, unblock};
 use blocking_core::task::Call;
 use futures::Future;
@@ -30,6 +30,9 @@ impl Call for Work {
         }
     }
 }
+
+// How long a call of those that sleep does so.
+const MILLIS: u64 = 300;
 
 type Workers<R> = Executor<CallJob<Work, R>, R>;
 
@@ -83,13 +86,9 @@ impl Calls {
         };
         for rep in 0..=request.reps {
             let start = Instant::now(&rt)?;
-            match self {
-                Calls::Roundtrip => roundtrip(&rt, host, &executor, request.size, figures)?,
-                Calls::RoundtripAwait => roundtrip_await(host, &executor, request.size)?,
-                Calls::Burst | Calls::BurstLimited => burst(host, &executor, request.size)?,
-                Calls::Idle => sleepers(rt, host, &executor, request.size)?,
-            }
-            figures.note(rep, self.figure(nanos(start.elapsed(&rt)?), request.size))?;
+            self.call_all(rt, host, &executor, request.size, figures)?;
+            let nanos = start.elapsed(&rt)?.as_nanos();
+            figures.note(rep, self.figure(nanos, request.size))?;
         }
         if let Calls::Idle = self {
             // Whoever watches from outside sees the workers go.
@@ -98,11 +97,27 @@ impl Calls {
         Ok(())
     }
 
-    // In the name's unit.
-    fn figure(self, nanos: u64, size: usize) -> u64 {
+    fn call_all<R: Host>(
+        self,
+        rt: HostRuntime,
+        host: R,
+        executor: &Workers<R>,
+        size: usize,
+        figures: &mut Figures,
+    ) -> io::Result<()> {
         match self {
-            Calls::Idle => nanos / 1_000_000,
-            _ => nanos / (size as u64).max(1),
+            Calls::Roundtrip => roundtrip(&rt, host, executor, size, figures),
+            Calls::RoundtripAwait => roundtrip_await(host, executor, size),
+            Calls::Burst | Calls::BurstLimited => burst(host, executor, size),
+            Calls::Idle => sleepers(rt, host, executor, size),
+        }
+    }
+
+    // In the name's unit.
+    fn figure(self, nanos: u128, size: usize) -> u64 {
+        match self {
+            Calls::Idle => each(nanos, 1_000_000),
+            _ => each(nanos, size),
         }
     }
 }
@@ -209,6 +224,16 @@ fn burst<R: Host>(host: R, executor: &Workers<R>, size: usize) -> io::Result<()>
     block_on(&host, InOrder { tasks, next: 0 })?
 }
 
+// Awaits each of the tasks, which is to answer this.
+fn await_all<R: Host>(host: R, tasks: Vec<Task<Work, R>>, wanted: u64) -> io::Result<()> {
+    let queue = Queue::new(&host, Doorbell::parking())?;
+    let _hold = queue.hold()?;
+    for task in tasks {
+        check(answer_by(host, &queue, task)?, wanted)?;
+    }
+    Ok(())
+}
+
 // Calls that sleep, all at once.
 fn sleepers<R: Host>(
     rt: HostRuntime,
@@ -218,12 +243,7 @@ fn sleepers<R: Host>(
 ) -> io::Result<()> {
     let mut tasks = Vec::with_capacity(host.alloc(), size)?;
     for _ in 0..size {
-        tasks.push(begun(executor, Work::Sleep(rt, 300))?)?;
+        tasks.push(begun(executor, Work::Sleep(rt, MILLIS))?)?;
     }
-    let queue = Queue::new(&host, Doorbell::parking())?;
-    let _hold = queue.hold()?;
-    for task in tasks {
-        check(answer_by(host, &queue, task)?, 300)?;
-    }
-    Ok(())
+    await_all(host, tasks, MILLIS)
 }

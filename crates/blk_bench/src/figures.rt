@@ -24,6 +24,16 @@ impl Request {
     }
 }
 
+/// So many bytes in so many nanoseconds, in MB/s.
+pub(crate) fn rate(bytes: usize, nanos: u128) -> u64 {
+    u64::try_from((bytes as u128).saturating_mul(1000) / nanos.max(1)).unwrap_or(u64::MAX)
+}
+
+/// How many nanoseconds each of so many took.
+pub(crate) fn each(nanos: u128, count: usize) -> u64 {
+    u64::try_from(nanos / (count as u128).max(1)).unwrap_or(u64::MAX)
+}
+
 /// A figure a repetition, in the name's unit, and the nanoseconds that the longest unit of work took.
 #[derive(Drop)]
 pub(crate) struct Figures {

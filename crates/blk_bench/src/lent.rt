@@ -1,5 +1,5 @@
 //! The benchmarks of iterators that are streams, of seeks, and of operations on a lent handle.
-use crate::figures::{Figures, Request};
+use crate::figures::{Figures, Request, each};
 use crate::pipe::failed;
 use blocking::{AsyncSeek, Executor, Host, ItemJob, OpJob, Runtime, SeekJob, Unblock};
 use blocking_core::pool::{Carries, Job, Refusal};
@@ -165,11 +165,6 @@ fn stream_all<R: Host>(
         figures.note(rep, each(start.elapsed(&rt)?.as_nanos(), request.size))?;
     }
     Ok(())
-}
-
-// How many nanoseconds each of so many took.
-fn each(nanos: u128, count: usize) -> u64 {
-    u64::try_from(nanos / (count as u128).max(1)).unwrap_or(u64::MAX)
 }
 
 // Seeks so many positions, one after another, and gives how many were made and right.

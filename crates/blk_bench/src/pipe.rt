@@ -2,7 +2,7 @@
 ghost use Rattle.std.specs.Prelude.{◌≡◌, ◌<◌, ◌≤◌, ◌++◌, length, drop};
 ghost use Rattle.blocking_core.specs.Pipes.{empty_pipe};
 
-use crate::figures::{Figures, Request};
+use crate::figures::{Figures, Request, rate};
 use blocking_core::pipe::{Answered, BytePipe, Drained, Pipe, Put};
 use std::alloc::Global;
 use std::io;
@@ -18,9 +18,8 @@ pub(crate) fn run(rt: HostRuntime, request: Request, figures: &mut Figures) -> i
     for rep in 0..=request.reps {
         let start = Instant::now(&rt)?;
         pass_through(rt.alloc(), &source, &mut buffer)?;
-        let nanos = start.elapsed(&rt)?.as_nanos().max(1);
-        let figure = (request.size as u128).saturating_mul(1000) / nanos;
-        figures.note(rep, u64::try_from(figure).unwrap_or(u64::MAX))?;
+        let nanos = start.elapsed(&rt)?.as_nanos();
+        figures.note(rep, rate(request.size, nanos))?;
     }
     Ok(())
 }

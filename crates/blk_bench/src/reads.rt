@@ -2,7 +2,7 @@
 ghost use Rattle.futures.specs.Poll.{OnPending};
 ghost use Rattle.futures.specs.Task.{IsArmed, Keeps};
 
-use crate::figures::{Figures, Request};
+use crate::figures::{Figures, Request, rate};
 use crate::pipe::{failed, is_right, pattern};
 use blocking::{AsyncRead, Executor, Host, ReadJob, Runtime, Unblock};
 use blocking_core::pool::{Carries, Job};
@@ -97,18 +97,30 @@ impl Reads {
             return Err(failed());
         };
         for rep in 0..=request.reps {
-            let buffer = vec![in rt.alloc(); 0u8; PIECE]?;
-            let start = Instant::now(&rt)?;
-            let reader = self.open(rt, bytes)?;
-            let came = block_on(&host, self.reading(host, &executor, reader, buffer)?)??;
-            let nanos = start.elapsed(&rt)?.as_nanos().max(1);
-            if came != request.size as u64 {
-                return Err(failed());
-            }
-            let figure = (request.size as u128).saturating_mul(1000) / nanos;
-            figures.note(rep, u64::try_from(figure).unwrap_or(u64::MAX))?;
+            let figure = self.once(rt, host, &executor, bytes, request.size)?;
+            figures.note(rep, figure)?;
         }
         Ok(())
+    }
+
+    // One session, in MB/s.
+    fn once<R: Host>(
+        self,
+        rt: HostRuntime,
+        host: R,
+        executor: &Readers<R>,
+        bytes: &Arc<Vec<u8>>,
+        size: usize,
+    ) -> io::Result<u64> {
+        let buffer = vec![in rt.alloc(); 0u8; PIECE]?;
+        let start = Instant::now(&rt)?;
+        let reader = self.open(rt, bytes)?;
+        let reading = self.reading(host, executor, reader, buffer)?;
+        let came = block_on(&host, reading)??;
+        if came != size as u64 {
+            return Err(failed());
+        }
+        Ok(rate(size, start.elapsed(&rt)?.as_nanos()))
     }
 
     fn open(self, rt: HostRuntime, bytes: &Arc<Vec<u8>>) -> io::Result<Reader> {

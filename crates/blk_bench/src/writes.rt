@@ -2,7 +2,7 @@
 ghost use Rattle.futures.specs.Poll.{OnPending};
 ghost use Rattle.futures.specs.Task.{IsArmed, Keeps};
 
-use crate::figures::{Figures, Request};
+use crate::figures::{Figures, Request, rate};
 use crate::pipe::{failed, pattern};
 use blocking::{AsyncWrite, Executor, Host, Runtime, Unblock, WriteJob};
 use blocking_core::pool::{Carries, Job};
@@ -85,18 +85,30 @@ impl Writes {
             return Err(failed());
         };
         for rep in 0..=request.reps {
-            let memory = self.memory(rt.alloc(), request.size)?;
-            let writing = self.writing(host, &executor, memory, Arc::try_clone(&bytes)?)?;
-            let start = Instant::now(&rt)?;
-            let written = block_on(&host, writing)??;
-            let nanos = start.elapsed(&rt)?.as_nanos().max(1);
-            if written.as_slice() != bytes.as_slice() {
-                return Err(failed());
-            }
-            let figure = (request.size as u128).saturating_mul(1000) / nanos;
-            figures.note(rep, u64::try_from(figure).unwrap_or(u64::MAX))?;
+            let figure = self.once(rt, host, &executor, &bytes)?;
+            figures.note(rep, figure)?;
         }
         Ok(())
+    }
+
+    // One session, in MB/s.
+    fn once<R: Host>(
+        self,
+        rt: HostRuntime,
+        host: R,
+        executor: &Writers<R>,
+        bytes: &Arc<Vec<u8>>,
+    ) -> io::Result<u64> {
+        let size = bytes.len();
+        let memory = self.memory(rt.alloc(), size)?;
+        let writing = self.writing(host, executor, memory, Arc::try_clone(bytes)?)?;
+        let start = Instant::now(&rt)?;
+        let written = block_on(&host, writing)??;
+        let nanos = start.elapsed(&rt)?.as_nanos();
+        if written.as_slice() != bytes.as_slice() {
+            return Err(failed());
+        }
+        Ok(rate(size, nanos))
     }
 
     fn writing<R: Host>(

@@ -1,5 +1,5 @@
 //! Bytes that the owner fills in, and that a job on a worker peeks and consumes.
-use crate::figures::{Figures, Request};
+use crate::figures::{Figures, Request, rate};
 use crate::pipe::{failed, is_right, pattern};
 use blocking::{AnyPlace, Executor, FillEnd, Host, PeekEnd, Runtime, link_in};
 use blocking_core::pipe::{Filled, Peeked};
@@ -102,8 +102,8 @@ impl<'a, J: Job, H: Runtime> Future for Filling<'a, J, H> {
 
 // All bytes of the source to a job.
 fn cross<R: Host>(host: R, executor: &Executor<Taker<R>, R>, source: &[u8]) -> io::Result<()> {
-    let (end, theirs) = link_in(host, PIECE)?;
     let (told, tells) = oneshot::channel(host.alloc())?;
+    let (end, theirs) = link_in(host, PIECE)?;
     let taker = Taker {
         end: theirs,
         told: Some(told),
@@ -124,6 +124,18 @@ fn cross<R: Host>(host: R, executor: &Executor<Taker<R>, R>, source: &[u8]) -> i
     }
 }
 
+// One crossing, in MB/s.
+fn once<R: Host>(
+    rt: HostRuntime,
+    host: R,
+    executor: &Executor<Taker<R>, R>,
+    source: &[u8],
+) -> io::Result<u64> {
+    let start = Instant::now(&rt)?;
+    cross(host, executor, source)?;
+    Ok(rate(source.len(), start.elapsed(&rt)?.as_nanos()))
+}
+
 /// In MB/s.
 pub(crate) fn run<R: Host>(
     rt: HostRuntime,
@@ -131,16 +143,13 @@ pub(crate) fn run<R: Host>(
     request: Request,
     figures: &mut Figures,
 ) -> io::Result<()> {
+    let source = pattern(rt.alloc(), request.size)?;
     let Ok(executor) = Executor::new(host, None) else {
         return Err(failed());
     };
-    let source = pattern(rt.alloc(), request.size)?;
     for rep in 0..=request.reps {
-        let start = Instant::now(&rt)?;
-        cross(host, &executor, &source)?;
-        let nanos = start.elapsed(&rt)?.as_nanos().max(1);
-        let figure = (request.size as u128).saturating_mul(1000) / nanos;
-        figures.note(rep, u64::try_from(figure).unwrap_or(u64::MAX))?;
+        let figure = once(rt, host, &executor, &source)?;
+        figures.note(rep, figure)?;
     }
     Ok(())
 }

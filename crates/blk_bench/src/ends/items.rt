@@ -1,5 +1,5 @@
 //! Numbers that a job on a worker puts, and that the owner drains.
-use crate::figures::{Figures, Request};
+use crate::figures::{Figures, Request, each};
 use crate::pipe::failed;
 use blocking::{AnyPlace, Executor, Host, RecvEnd, Runtime, SendEnd, link_with};
 use blocking_core::pipe::{DEFAULT_ITEMS, Drained, Put, Room};
@@ -113,8 +113,8 @@ impl<'a, J: Job, H: Runtime> Future for Counted<'a, J, H> {
 
 // All numbers from a job to this thread.
 fn cross<R: Host>(host: R, executor: &Executor<Counter<R>, R>, size: u64) -> io::Result<()> {
-    let (theirs, end) = link_with(host, DEFAULT_ITEMS, vec![in host.alloc(); 0; BATCH]?)?;
     let batch = vec![in host.alloc(); 0; BATCH]?;
+    let (theirs, end) = link_with(host, DEFAULT_ITEMS, vec![in host.alloc(); 0; BATCH]?)?;
     let counter = Counter {
         end: theirs,
         batch,
@@ -134,6 +134,18 @@ fn cross<R: Host>(host: R, executor: &Executor<Counter<R>, R>, size: u64) -> io:
     }
 }
 
+// One crossing, in ns an item.
+fn once<R: Host>(
+    rt: HostRuntime,
+    host: R,
+    executor: &Executor<Counter<R>, R>,
+    size: usize,
+) -> io::Result<u64> {
+    let start = Instant::now(&rt)?;
+    cross(host, executor, size as u64)?;
+    Ok(each(start.elapsed(&rt)?.as_nanos(), size))
+}
+
 /// In ns an item.
 pub(crate) fn run<R: Host>(
     rt: HostRuntime,
@@ -144,13 +156,9 @@ pub(crate) fn run<R: Host>(
     let Ok(executor) = Executor::new(host, None) else {
         return Err(failed());
     };
-    let size = request.size as u64;
     for rep in 0..=request.reps {
-        let start = Instant::now(&rt)?;
-        cross(host, &executor, size)?;
-        let nanos = start.elapsed(&rt)?.as_nanos();
-        let figure = nanos / u128::from(size.max(1));
-        figures.note(rep, u64::try_from(figure).unwrap_or(u64::MAX))?;
+        let figure = once(rt, host, &executor, request.size)?;
+        figures.note(rep, figure)?;
     }
     Ok(())
 }
