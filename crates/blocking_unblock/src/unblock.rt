@@ -29,6 +29,8 @@ use std::{fmt, io, mem};
 /// Dropping it waits for no job. A handle that is with its owner, or that its job gave back already, is dropped here, by this thread; else
 /// a worker drops it with the session's job, once that waits or is taken. A job that runs goes on until then.
 ///
+/// A handle is moved as it is, with its owner and with its job, so one that holds a buffer of its own is best lent in a `Box`.
+///
 /// `I` is the type of the items of a handle that is an iterator; any type will do for another.
 pub struct Unblock<T: Drop, I: Drop, J: Job, H: Runtime> {
     place: Place<T, I, H>,
