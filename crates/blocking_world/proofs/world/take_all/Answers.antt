@@ -1,4 +1,4 @@
-use Rattle.std.proofs.Common.{◌≡◌, ◌+◌, ◌++◌, ◌∷◌, [], List, Result, is_ok, true, if◌then◌else◌, length, take, arith, ap, sym, subst, ◌∙◌}
+use Rattle.std.proofs.Common.{rules, ◌≡◌, ◌+◌, ◌++◌, ◌∷◌, [], List, Result, is_ok, true, if◌then◌else◌, length, take, arith, ap, sym, subst, ◌∙◌}
 use Rattle.std.proofs.lemmas.List.{take_more, length-append}
 use Rattle.std.proofs.lemmas.Result.{err_from_is_err_and}
 use Rattle.blocking_world.specs.Runs.{StopsShort}
@@ -38,3 +38,7 @@ loop-step-preserved c =
       omega (arith, longer, many),
       omega (arith, grows, room),
     )
+
+-- An edit makes this false. With an answer of its own it is refused without a second search.
+pub returns-clause-err : goal.returns-clause-err
+returns-clause-err c = search rules
