@@ -31,7 +31,7 @@ impl Call for Work {
     }
 }
 
-// How long a call of those that sleep does so.
+// How many milliseconds a call sleeps, of those that sleep.
 const MILLIS: u64 = 300;
 
 type Workers<R> = Executor<CallJob<Work, R>, R>;
@@ -97,6 +97,7 @@ impl Calls {
         Ok(())
     }
 
+    // So many calls, made in this way.
     fn call_all<R: Host>(
         self,
         rt: HostRuntime,

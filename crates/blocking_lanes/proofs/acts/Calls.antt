@@ -1,5 +1,5 @@
 -- The calls of a task: what a poll may answer, and what a call leaves of its task.
-use Rattle.std.proofs.Common.{arith, ◌≡◌, ℕ, true, false, refl, Option, Some}
+use Rattle.std.proofs.Common.{◌≡◌, ℕ, true, false, refl, Option, Some}
 use Rattle.blocking_lanes.proofs.Types.{Act, HolderDropped, TaskCancelled, TaskDetached, TaskGot, TaskGotNone, Waits, TaskCall, Cancel, Detach, Drop, Poll, TaskStage}
 use Rattle.blocking_lanes.proofs.Words.{Abandoned, Content, Empty, Full, GivenUp, is_nothing, Task, poll_at, poll_in, poll_of, stage_after_answer, task_act, task_after_call, task_after_poll, task_after_poll_at, task_after_poll_in}
 
