@@ -85,16 +85,32 @@ impl Calls {
             return Err(failed());
         };
         for rep in 0..=request.reps {
-            let start = Instant::now(&rt)?;
-            self.call_all(rt, host, &executor, request.size, figures)?;
-            let nanos = start.elapsed(&rt)?.as_nanos();
-            figures.note(rep, self.figure(nanos, request.size))?;
+            let figure = self.once(rt, host, &executor, request.size, figures)?;
+            figures.note(rep, figure)?;
         }
         if let Calls::Idle = self {
             // Whoever watches from outside sees the workers go.
             thread::sleep(&rt, Duration::from_millis(1500));
         }
         Ok(())
+    }
+
+    // So many calls, in the name's unit.
+    fn once<R: Host>(
+        self,
+        rt: HostRuntime,
+        host: R,
+        executor: &Workers<R>,
+        size: usize,
+        figures: &mut Figures,
+    ) -> io::Result<u64> {
+        let start = Instant::now(&rt)?;
+        self.call_all(rt, host, executor, size, figures)?;
+        let nanos = start.elapsed(&rt)?.as_nanos();
+        Ok(match self {
+            Calls::Idle => each(nanos, 1_000_000),
+            _ => each(nanos, size),
+        })
     }
 
     // So many calls, made in this way.
@@ -111,14 +127,6 @@ impl Calls {
             Calls::RoundtripAwait => roundtrip_await(host, executor, size),
             Calls::Burst | Calls::BurstLimited => burst(host, executor, size),
             Calls::Idle => sleepers(rt, host, executor, size),
-        }
-    }
-
-    // In the name's unit.
-    fn figure(self, nanos: u128, size: usize) -> u64 {
-        match self {
-            Calls::Idle => each(nanos, 1_000_000),
-            _ => each(nanos, size),
         }
     }
 }

@@ -134,6 +134,8 @@ impl<S: Stream<Item = Result<u64, Refusal>>, R: Runtime> Future for Streaming<S,
     }
 }
 
+type Numbered<R> = ItemJob<Numbers, u64, R>;
+
 fn stream_all<R: Host>(
     rt: HostRuntime,
     host: R,
@@ -141,30 +143,42 @@ fn stream_all<R: Host>(
     request: Request,
     figures: &mut Figures,
 ) -> io::Result<()> {
-    let Ok(executor) = Executor::<ItemJob<Numbers, u64, R>, R>::new(host, None) else {
+    let Ok(executor) = Executor::<Numbered<R>, R>::new(host, None) else {
         return Err(failed());
     };
-    let end = request.size as u64;
     for rep in 0..=request.reps {
-        let start = Instant::now(&rt)?;
-        let shared = executor.try_clone()?;
-        let numbers = Numbers { next: 0, end };
-        let items = match capacity {
-            Some(capacity) if capacity > 0 => Unblock::with_capacity(capacity, shared, numbers),
-            _ => Unblock::new(shared, numbers),
-        };
-        let streaming = Streaming {
-            rt: host,
-            items,
-            came: 0,
-        };
-        let came = block_on(&host, streaming)?;
-        if came != Some(end) {
-            return Err(failed());
-        }
-        figures.note(rep, each(start.elapsed(&rt)?.as_nanos(), request.size))?;
+        let figure = stream_once(rt, host, &executor, capacity, request.size)?;
+        figures.note(rep, figure)?;
     }
     Ok(())
+}
+
+// One session, in ns an item.
+fn stream_once<R: Host>(
+    rt: HostRuntime,
+    host: R,
+    executor: &Executor<Numbered<R>, R>,
+    capacity: Option<usize>,
+    size: usize,
+) -> io::Result<u64> {
+    let end = size as u64;
+    let executor = executor.try_clone()?;
+    let start = Instant::now(&rt)?;
+    let numbers = Numbers { next: 0, end };
+    let items = match capacity {
+        Some(capacity) if capacity > 0 => Unblock::with_capacity(capacity, executor, numbers),
+        _ => Unblock::new(executor, numbers),
+    };
+    let streaming = Streaming {
+        rt: host,
+        items,
+        came: 0,
+    };
+    let came = block_on(&host, streaming)?;
+    if came != Some(end) {
+        return Err(failed());
+    }
+    Ok(each(start.elapsed(&rt)?.as_nanos(), size))
 }
 
 // Seeks so many positions, one after another, and gives how many were made and right.
@@ -200,33 +214,45 @@ impl<A: AsyncSeek + Drop, R: Runtime> Future for Seeking<A, R> {
     }
 }
 
+type Sought<R> = SeekJob<Cursor<Vec<u8>>, R>;
+
 fn seek_all<R: Host>(
     rt: HostRuntime,
     host: R,
     request: Request,
     figures: &mut Figures,
 ) -> io::Result<()> {
-    let Ok(executor) = Executor::<SeekJob<Cursor<Vec<u8>>, R>, R>::new(host, None) else {
+    let Ok(executor) = Executor::<Sought<R>, R>::new(host, None) else {
         return Err(failed());
     };
-    let size = request.size as u64;
     for rep in 0..=request.reps {
-        let bytes = vec![in rt.alloc(); 0u8; BYTES]?;
-        let owner = Unblock::<_, (), _, R>::new(executor.try_clone()?, Cursor::new(bytes));
-        let start = Instant::now(&rt)?;
-        let seeking = Seeking {
-            rt: host,
-            owner,
-            made: 0,
-            size,
-        };
-        let made = block_on(&host, seeking)?;
-        if made != size {
-            return Err(failed());
-        }
-        figures.note(rep, each(start.elapsed(&rt)?.as_nanos(), request.size))?;
+        let figure = seek_once(rt, host, &executor, request.size)?;
+        figures.note(rep, figure)?;
     }
     Ok(())
+}
+
+// All seeks of one owner, in ns each.
+fn seek_once<R: Host>(
+    rt: HostRuntime,
+    host: R,
+    executor: &Executor<Sought<R>, R>,
+    size: usize,
+) -> io::Result<u64> {
+    let bytes = vec![in rt.alloc(); 0u8; BYTES]?;
+    let executor = executor.try_clone()?;
+    let start = Instant::now(&rt)?;
+    let seeking = Seeking {
+        rt: host,
+        owner: Unblock::<_, (), _, R>::new(executor, Cursor::new(bytes)),
+        made: 0,
+        size: size as u64,
+    };
+    let made = block_on(&host, seeking)?;
+    if made != size as u64 {
+        return Err(failed());
+    }
+    Ok(each(start.elapsed(&rt)?.as_nanos(), size))
 }
 
 // Adds to a number, and gives the sum.
@@ -274,12 +300,27 @@ fn operate_all<R: Host>(
         return Err(failed());
     };
     for rep in 0..=request.reps {
-        let mut owner = Unblock::new(executor.try_clone()?, 0u64);
-        let start = Instant::now(&rt)?;
-        if !operate(host, &mut owner, request.size as u64)? {
-            return Err(failed());
-        }
-        figures.note(rep, each(start.elapsed(&rt)?.as_nanos(), request.size))?;
+        let figure = operate_once(rt, host, &executor, request.size)?;
+        figures.note(rep, figure)?;
     }
     Ok(())
+}
+
+// All operations of one owner, in ns each.
+fn operate_once<R: Host>(
+    rt: HostRuntime,
+    host: R,
+    executor: &Executor<OpJob<Add, u64, R>, R>,
+    size: usize,
+) -> io::Result<u64> {
+    let executor = executor.try_clone()?;
+    let start = Instant::now(&rt)?;
+    let mut owner = Unblock::new(executor, 0u64);
+    let all_right = operate(host, &mut owner, size as u64);
+    let took = start.elapsed(&rt);
+    drop(owner);
+    if !all_right? {
+        return Err(failed());
+    }
+    Ok(each(took?.as_nanos(), size))
 }

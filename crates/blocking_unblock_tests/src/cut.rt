@@ -113,17 +113,18 @@ fn waits_for_the_drop<A: AsyncWrite>(owner: &mut A, mock: &mut MockTask, track: 
 
 // Whether the owner of a dropped writing job waits for its flush until the job is dropped, and the worker goes on.
 fn wakes_its_owner<H: Host>(rt: H) -> io::Result<bool> {
+    let page = Arc::new(rt.alloc(), Page::new(rt.alloc()))?;
+    let theirs = Arc::try_clone(&page)?;
+    let mut mock = MockTask::new(&rt)?;
     let Ok(executor) = Executor::<CutWriter<H>, H>::new(rt, Some("1")) else {
         return Err(io::Error::from(io::ErrorKind::Other));
     };
-    let page = Arc::new(rt.alloc(), Page::new(rt.alloc()))?;
+    let shared = executor.try_clone()?;
     let plan = Plan {
         writes: &[Taken::Stops],
         ..ALL
     };
-    let mut mock = MockTask::new(&rt)?;
-    let shared = executor.try_clone()?;
-    let writer = PlannedWriter::new(rt, Arc::try_clone(&page)?, plan);
+    let writer = PlannedWriter::new(rt, theirs, plan);
     let mut owner = Unblock::<_, (), CutWriter<H>, H>::with_capacity(4, shared, writer);
     Ok(waits_for_the_drop(&mut owner, &mut mock, &page.track) && rests(&executor, 1))
 }

@@ -203,10 +203,13 @@ fn iterator_is_asked_again_after_its_end(rt: HostRuntime) -> Result<(), Fail> {
 #[test]
 fn stream_that_is_refused_says_why(rt: HostRuntime) -> Result<(), Fail> {
     let asked = counter(rt)?;
-    let mut owner = owner(rt, usize::MAX, 3, &asked)?;
     let mut mock = MockTask::new(&rt)?;
-    assert_eq!(rt; next(&mut owner, &mut mock), Some(Err(Refusal::Memory)));
-    assert!(rt; says(rt.alloc(), &owner, "Unblock { io: from 0 }")?);
+    let mut owner = owner(rt, usize::MAX, 3, &asked)?;
+    let came = next(&mut owner, &mut mock);
+    let is_back = says(rt.alloc(), &owner, "Unblock { io: from 0 }");
+    drop(owner);
+    assert_eq!(rt; came, Some(Err(Refusal::Memory)));
+    assert!(rt; is_back?);
     assert_eq!(rt; asked.load(Ordering::SeqCst), 0);
     Ok(())
 }

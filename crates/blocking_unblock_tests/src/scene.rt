@@ -218,6 +218,7 @@ struct Scene<J: Job, H: Runtime> {
 impl<J: Job + Carries<ReadJob<Planned, H>>, H: Runtime + RandomSource + Print> Scene<J, H> {
     // One more owner. No capacity is the default.
     fn begin(&mut self, capacity: usize, plan: &'static [Given]) -> io::Result<()> {
+        let mock = MockTask::new(&self.rt)?;
         let track = Arc::new(self.rt.alloc(), Track::new())?;
         let reader = Planned::new(Arc::try_clone(&track)?, plan);
         let executor = self.executor.try_clone()?;
@@ -229,7 +230,7 @@ impl<J: Job + Carries<ReadJob<Planned, H>>, H: Runtime + RandomSource + Print> S
         self.owners.push(Seen {
             owner: Some(owner),
             track,
-            mock: MockTask::new(&self.rt)?,
+            mock,
         })?;
         Ok(())
     }

@@ -186,11 +186,11 @@ fn first_wrong_of<J: Job + Carries<Writing<H>>, H: Host>(
 
 // The same, of a row, through a pipe of four.
 fn first_wrong<H: Host>(rt: H, row: &Row) -> io::Result<Option<usize>> {
+    let page = Arc::new(rt.alloc(), Page::new(rt.alloc()))?;
+    let writer = PlannedWriter::new(rt, Arc::try_clone(&page)?, row.plan);
     let Ok(executor) = Executor::<Writing<H>, H>::new(rt, Some("1")) else {
         return Err(io::Error::from(ErrorKind::Other));
     };
-    let page = Arc::new(rt.alloc(), Page::new(rt.alloc()))?;
-    let writer = PlannedWriter::new(rt, Arc::try_clone(&page)?, row.plan);
     let mut owner = Unblock::with_capacity(4, executor, writer);
     first_wrong_of(&rt, &mut owner, &page, row.steps)
 }
