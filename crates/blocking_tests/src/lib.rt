@@ -1,9 +1,11 @@
-//! The tests of `blocking`: calls, jobs and the ends of pipes on real threads. There is nothing here but tests, since a crate that has
-//! tests is proved a second time with them.
+//! The tests of `blocking`: calls, jobs and the ends of pipes on real threads; and those of `blk`'s commands. There is nothing here but
+//! tests, since a crate that has tests is proved a second time with them.
 #![tactic(auto)]
 
 #[cfg(test)]
 mod calls;
+#[cfg(test)]
+mod commands;
 #[cfg(test)]
 mod counted;
 #[cfg(test)]

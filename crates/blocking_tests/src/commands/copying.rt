@@ -1,5 +1,5 @@
 //! Copies of a reader to a writer, each lent to a pool.
-use crate::doubles::{Broken, Cycle, Full, Lossy, Shared};
+use crate::commands::doubles::{Broken, Cycle, Full, Lossy, Shared};
 use blk_commands::copy::copy;
 use blk_commands::fault::BlkFault;
 use blocking::Host;

@@ -1,5 +1,5 @@
 //! Reads and writes that fail.
-use crate::doubles::{Broken, Full, Lossy};
+use crate::commands::doubles::{Broken, Full, Lossy};
 use blk_commands::command::command;
 use blocking::Host;
 use std::alloc::{AllocError, Global};
