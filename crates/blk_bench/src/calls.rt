@@ -154,11 +154,25 @@ fn begun<R: Host>(executor: &Workers<R>, work: Work) -> io::Result<Task<Work, R>
     }
 }
 
-fn answer_by<R: Host>(host: R, queue: &Queue, task: Task<Work, R>) -> io::Result<u64> {
+// Makes a call, which is to answer 42, and awaits it through a queue of tasks.
+fn call_by<R: Host>(host: R, executor: &Workers<R>, queue: &Queue) -> io::Result<()> {
+    let task = begun(executor, Work::Succeed(41))?;
     if task.is_taken() {
         return Err(failed());
     }
-    block_on_queue(&host, queue, task)
+    check(block_on_queue(&host, queue, task)?, 42)
+}
+
+fn call_in_turn<R: Host>(
+    host: R,
+    executor: &Workers<R>,
+    queue: &Queue,
+    size: usize,
+) -> io::Result<()> {
+    for _ in 0..size {
+        call_by(host, executor, queue)?;
+    }
+    Ok(())
 }
 
 // One call after another, each awaited by a `block_on` of its own.
@@ -187,18 +201,16 @@ fn roundtrip<R: Host>(
 fn roundtrip_await<R: Host>(host: R, executor: &Workers<R>, size: usize) -> io::Result<()> {
     let queue = Queue::new(&host, Doorbell::parking())?;
     let _hold = queue.hold()?;
-    for _ in 0..size {
-        let task = begun(executor, Work::Succeed(41))?;
-        check(answer_by(host, &queue, task)?, 42)?;
-    }
-    Ok(())
+    call_in_turn(host, executor, &queue, size)
 }
 
-// Tasks that are polled to their ends in order: the one that is next, by its place, is to answer one more than that.
+// Tasks that are polled to their ends in order, the one that is next by its place.
 #[derive(Drop)]
 struct InOrder<R: Host> {
     tasks: Vec<Task<Work, R>>,
     next: usize,
+    // What each is to answer; none stands for one more than its place.
+    wanted: Option<u64>,
 }
 
 impl<R: Host> Future for InOrder<R> {
@@ -216,7 +228,7 @@ impl<R: Host> Future for InOrder<R> {
                 return Poll::Pending;
             };
             self.next = self.next.saturating_add(1);
-            if answer != self.next as u64 {
+            if answer != self.wanted.unwrap_or(self.next as u64) {
                 return Poll::Ready(Err(failed()));
             }
         }
@@ -230,17 +242,7 @@ fn burst<R: Host>(host: R, executor: &Workers<R>, size: usize) -> io::Result<()>
     for n in 0..size {
         tasks.push(begun(executor, Work::Succeed(n as u64))?)?;
     }
-    block_on(&host, InOrder { tasks, next: 0 })?
-}
-
-// Awaits each of the tasks, which is to answer this.
-fn await_all<R: Host>(host: R, tasks: Vec<Task<Work, R>>, wanted: u64) -> io::Result<()> {
-    let queue = Queue::new(&host, Doorbell::parking())?;
-    let _hold = queue.hold()?;
-    for task in tasks {
-        check(answer_by(host, &queue, task)?, wanted)?;
-    }
-    Ok(())
+    await_all(host, tasks, None)
 }
 
 // Calls that sleep, all at once.
@@ -254,5 +256,14 @@ fn sleepers<R: Host>(
     for _ in 0..size {
         tasks.push(begun(executor, Work::Sleep(rt, MILLIS))?)?;
     }
-    await_all(host, tasks, MILLIS)
+    await_all(host, tasks, Some(MILLIS))
+}
+
+fn await_all<R: Host>(host: R, tasks: Vec<Task<Work, R>>, wanted: Option<u64>) -> io::Result<()> {
+    let in_order = InOrder {
+        tasks,
+        next: 0,
+        wanted,
+    };
+    block_on(&host, in_order)?
 }

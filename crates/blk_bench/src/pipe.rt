@@ -41,19 +41,29 @@ pub(crate) fn is_right(place: u64, piece: &[u8]) -> bool {
     piece.first() == Some(&((place % 256) as u8)) && piece.last() == Some(&((last % 256) as u8))
 }
 
-// All pieces of the source, one after another.
-fn pass_through(alloc: Global, source: &[u8], buffer: &mut [u8]) -> io::Result<()> {
-    let mut pipe = Pipe::new(alloc, PIECE)?;
+// Whether all pieces of the source come out of a pipe as they went in, one after another.
+fn passes(pipe: &mut BytePipe<u8>, source: &[u8], buffer: &mut [u8]) -> bool
+    requires empty { pipe.old ≡ empty_pipe 65536 }
+{
     for piece in source.chunks(PIECE) {
         if piece.is_empty() || piece.len() > PIECE || piece.len() > buffer.len() {
-            return Err(failed());
+            return false;
         }
-        pass(&mut pipe, piece, buffer);
+        pass(pipe, piece, buffer);
         if buffer.first() != piece.first() || buffer.get(piece.len() - 1) != piece.last() {
-            return Err(failed());
+            return false;
         }
     }
-    Ok(())
+    true
+}
+
+fn pass_through(alloc: Global, source: &[u8], buffer: &mut [u8]) -> io::Result<()> {
+    let mut pipe = Pipe::new(alloc, PIECE)?;
+    if passes(&mut pipe, source, buffer) {
+        Ok(())
+    } else {
+        Err(failed())
+    }
 }
 
 // Puts a piece into an empty pipe and drains it: it is in the buffer then, and the pipe is as before.

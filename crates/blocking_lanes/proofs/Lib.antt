@@ -1,5 +1,6 @@
 pub mod Types
 pub mod Words
+pub mod Clashes
 pub mod cuts
 pub mod acts
 pub mod ties

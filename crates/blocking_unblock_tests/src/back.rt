@@ -39,32 +39,41 @@ fn reads_all<H: Host, A: AsyncRead>(rt: H, owner: &mut A) -> io::Result<Option<V
     })
 }
 
-// Reads all, takes the reader back, and says whether what was read is what it read from.
-fn reads_back<J: Job + Carries<ReadJob<Cursor<Vec<u8>>, H>>, H: Host>(
+// The handle, taken back for good.
+fn taken_back<T: Drop, J: Job, H: Host>(
     rt: H,
-    owner: Unblock<Cursor<Vec<u8>>, (), J, H>,
+    owner: Unblock<T, (), J, H>,
+) -> io::Result<Option<T>> {
+    if owner.is_closed() {
+        return Ok(None);
+    }
+    Ok(Some(block_on(&rt, owner.into_inner())?))
+}
+
+type Bytes = Cursor<Vec<u8>>;
+
+// Reads all, takes the reader back, and says whether what was read is what it read from.
+fn reads_back<J: Job + Carries<ReadJob<Bytes, H>>, H: Host>(
+    rt: H,
+    executor: Executor<J, H>,
+    reader: Bytes,
 ) -> io::Result<bool> {
-    let mut owner = owner;
-    if owner.is_closed() {
-        return Ok(false);
-    }
-    let Some(read) = reads_all(rt, &mut owner)? else {
-        return Ok(false);
-    };
-    if owner.is_closed() {
-        return Ok(false);
-    }
-    let cursor = block_on(&rt, owner.into_inner())?;
-    Ok(cursor.get_ref().as_slice() == read.as_slice())
+    let mut owner = Unblock::new(executor, reader);
+    let read = reads_all(rt, &mut owner);
+    let back = taken_back(rt, owner)?;
+    Ok(match (read?, back) {
+        (Some(read), Some(reader)) => reader.get_ref().as_slice() == read.as_slice(),
+        _ => false,
+    })
 }
 
 #[test]
 fn many_bytes_read_and_the_reader_back(rt: HostRuntime) -> Result<(), Fail> {
-    let Ok(executor) = Executor::<ReadJob<Cursor<Vec<u8>>, _>, _>::new(rt, None) else {
+    let bytes = bytes(rt.alloc(), MANY)?;
+    let Ok(executor) = Executor::<ReadJob<Bytes, _>, _>::new(rt, None) else {
         return Err(failed().into());
     };
-    let handle = Cursor::new(bytes(rt.alloc(), MANY)?);
-    assert!(rt; reads_back(rt, Unblock::new(executor, handle))?);
+    assert!(rt; reads_back(rt, executor, Cursor::new(bytes))?);
     Ok(())
 }
 
@@ -78,27 +87,24 @@ fn writes_all<H: Host, A: AsyncWrite>(rt: H, owner: &mut A, bytes: &[u8]) -> io:
 // Writes all, takes the writer back, and says whether it has what was written.
 fn writes_back<J: Job + Carries<WriteJob<Vec<u8>, H>>, H: Host>(
     rt: H,
-    owner: Unblock<Vec<u8>, (), J, H>,
+    executor: Executor<J, H>,
     bytes: &[u8],
 ) -> io::Result<bool> {
-    let mut owner = owner;
-    if owner.is_closed() {
-        return Ok(false);
-    }
-    if !writes_all(rt, &mut owner, bytes)? || owner.is_closed() {
-        return Ok(false);
-    }
-    let written = block_on(&rt, owner.into_inner())?;
-    Ok(written.as_slice() == bytes)
+    let mut owner = Unblock::new(executor, Vec::new(rt.alloc()));
+    let is_taken = writes_all(rt, &mut owner, bytes);
+    let back = taken_back(rt, owner)?;
+    Ok(match back {
+        Some(written) => is_taken? && written.as_slice() == bytes,
+        None => false,
+    })
 }
 
 #[test]
 fn many_bytes_written_and_the_writer_back(rt: HostRuntime) -> Result<(), Fail> {
+    let bytes = bytes(rt.alloc(), MANY)?;
     let Ok(executor) = Executor::<WriteJob<Vec<u8>, _>, _>::new(rt, None) else {
         return Err(failed().into());
     };
-    let bytes = bytes(rt.alloc(), MANY)?;
-    let owner = Unblock::new(executor, Vec::new(rt.alloc()));
-    assert!(rt; writes_back(rt, owner, &bytes)?);
+    assert!(rt; writes_back(rt, executor, &bytes)?);
     Ok(())
 }

@@ -14,14 +14,14 @@ use std::io;
 use std::sync::Arc;
 use std::test::Fail;
 
-// A job that is dropped after so many steps.
+// A job that is dropped after so many steps. One at whose end it waits isn't counted, since it looks again once it is woken.
 #[derive(Drop)]
 struct Cut<J: Job> {
     job: Option<J>,
     left: u32,
 }
 
-// It has found room, and has read; or it has looked at the pipe, and has written.
+// It has found room, and has read; or it has found bytes, and has written.
 const STEPS: u32 = 2;
 
 impl<J: Job> Carries<J> for Cut<J> {
@@ -53,11 +53,14 @@ impl<J: Job> Job for Cut<J> {
             self.job = None;
             return JobStep::Done;
         }
-        self.left -= 1;
-        match &mut self.job {
-            Some(job) => job.step(me),
-            None => JobStep::Done,
+        let Some(job) = &mut self.job else {
+            return JobStep::Done;
+        };
+        let step = job.step(me);
+        if let JobStep::Again = step {
+            self.left -= 1;
         }
+        step
     }
 
     fn abandoned(&self) -> bool {

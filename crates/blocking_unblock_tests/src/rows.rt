@@ -161,9 +161,10 @@ const STOPPED: &[Row] = &[
     Row {
         name: "a job that waits for room is woken by the stop",
         capacity: 4,
-        plans: &[&[Bytes(b"abcdefgh")]],
+        plans: &[&[Stop, Bytes(b"abcdefgh")]],
         steps: &[
             (0, Poll(2, Waits)),
+            (0, GoOn),
             (0, Wakes),
             (0, Rests(1)),
             (0, Reader(After(4))),
@@ -203,9 +204,10 @@ const DROPPED: &[Row] = &[
     Row {
         name: "an owner is dropped while the job waits for room",
         capacity: 4,
-        plans: &[&[Bytes(b"abcdefgh")]],
+        plans: &[&[Stop, Bytes(b"abcdefgh")]],
         steps: &[
             (0, Poll(2, Waits)),
+            (0, GoOn),
             (0, Wakes),
             (0, Rests(1)),
             (0, Drop),
@@ -216,9 +218,10 @@ const DROPPED: &[Row] = &[
     Row {
         name: "an owner is dropped while its reader is in the slot",
         capacity: 8,
-        plans: &[&[Bytes(b"ab")]],
+        plans: &[&[Stop, Bytes(b"ab")]],
         steps: &[
             (0, Poll(2, Waits)),
+            (0, GoOn),
             (0, Wakes),
             (0, Rests(1)),
             (0, Drop),

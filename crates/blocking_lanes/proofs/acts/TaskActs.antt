@@ -3,6 +3,7 @@ use Rattle.std.proofs.Common.{◌≡◌, ℕ, List, ◌∷◌, Bool, true, false
 use Rattle.std.proofs.lemmas.Bool.{or_from, or_left, or_right}
 use Rattle.blocking_lanes.proofs.Types.{Act, HolderDropped, TaskCancelled, TaskDetached, TaskGot, TaskGotNone, Waits, Event, TaskCall, Cancel, Detach, Drop, Poll, TaskStage}
 use Rattle.blocking_lanes.proofs.Words.{IsPending, Abandoned, Content, Empty, Full, GivenUp, full_with, without_owner, Growth, JobNumber, has_finished, has_given_up, number, poll_task, acts_of, TaskLaw, is_in_time, poll_answer, by_task, Task, may_be, poll_of, task_act, task_after_call, task_after_cancel, task_after_detach, task_after_drop, task_after_poll, TaskSlotAs as SlotAs, TaskAs}
+use Rattle.blocking_lanes.proofs.Clashes.{never}
 
 -- a task by its parts
 abbrev pub task_by : JobNumber → TaskStage → Content ℕ → Option (Unit {0}) → Option ℕ → Task
@@ -60,9 +61,9 @@ cancelled_got : (place : JobNumber) (over : Bool) (seat : Option (Unit {0})) (fo
     → poll_with answer ≡ poll_answer s cut
     → TaskAs (task_by place TaskStage.Cancelled (Abandoned over) seat found) s cut → Goes (task_by place TaskStage.LetGo (Abandoned over) seat found) s cut (by_task k (poll_with answer) first growth)
 cancelled_got place over seat found (Some n) s k first growth cut law t =
-    record { law = (t.gone, law); tie = record { gone = refl; cancel = tt; let_go = t.let_go; seat = t.seat; slot = pending over (has_finished (acts_of s cut) || has_given_up (acts_of s cut)) t.slot.0; told = λ w. absurd (cc) } }
+    record { law = (t.gone, law); tie = record { gone = refl; cancel = tt; let_go = t.let_go; seat = t.seat; slot = pending over (has_finished (acts_of s cut) || has_given_up (acts_of s cut)) t.slot.0; told = λ w. absurd (never w) } }
 cancelled_got place over seat found None s k first growth cut law t =
-    record { law = (t.gone, law); tie = record { gone = refl; cancel = tt; let_go = t.let_go; seat = t.seat; slot = pending over (has_finished (acts_of s cut) || has_given_up (acts_of s cut)) t.slot.0; told = λ w. absurd (cc) } }
+    record { law = (t.gone, law); tie = record { gone = refl; cancel = tt; let_go = t.let_go; seat = t.seat; slot = pending over (has_finished (acts_of s cut) || has_given_up (acts_of s cut)) t.slot.0; told = λ w. absurd (never w) } }
 
 -- a poll of a task that may be polled
 pub poll_goes : (place : JobNumber) (how : TaskStage) (found : Option ℕ) (content : Content ℕ) (seat : Option (Unit {0})) (s k first : ℕ) (growth : Growth) (cut : List Event)
@@ -113,23 +114,23 @@ cancel_goes : (place : JobNumber) (how : TaskStage) (found : Option ℕ) (conten
     → may_be how Cancel ≡ true → TaskAs (task_by place how content seat found) s cut
     → Goes (task_after_cancel (task_by place how content seat found)) s cut (by_task k TaskCancelled first growth)
 cancel_goes place TaskStage.Attached found content seat s k first growth cut may t =
-    record { law = (t.gone, t.cancel); tie = record { gone = t.gone; cancel = refl; let_go = refl; seat = t.seat; slot = keeps_found content (has_finished (acts_of s cut)) (has_given_up (acts_of s cut)) (is_in_time cut) (number (acts_of s cut)) t.slot; told = λ w. absurd (cc) } }
+    record { law = (t.gone, t.cancel); tie = record { gone = t.gone; cancel = refl; let_go = refl; seat = t.seat; slot = keeps_found content (has_finished (acts_of s cut)) (has_given_up (acts_of s cut)) (is_in_time cut) (number (acts_of s cut)) t.slot; told = λ w. absurd (never w) } }
 cancel_goes place _ found content seat s k first growth cut may t = absurd (cc)
 
 detach_goes : (place : JobNumber) (how : TaskStage) (found : Option ℕ) (content : Content ℕ) (seat : Option (Unit {0})) (s k first : ℕ) (growth : Growth) (cut : List Event)
     → may_be how Detach ≡ true → TaskAs (task_by place how content seat found) s cut
     → Goes (task_after_detach (task_by place how content seat found)) s cut (by_task k TaskDetached first growth)
 detach_goes place TaskStage.Attached found content seat s k first growth cut may t =
-    record { law = (t.gone, t.cancel); tie = record { gone = refl; cancel = tt; let_go = t.let_go; seat = t.seat; slot = not_over content (has_finished (acts_of s cut)) (has_given_up (acts_of s cut)) (is_in_time cut) (number (acts_of s cut)) t.slot; told = λ w. absurd (cc) } }
+    record { law = (t.gone, t.cancel); tie = record { gone = refl; cancel = tt; let_go = t.let_go; seat = t.seat; slot = not_over content (has_finished (acts_of s cut)) (has_given_up (acts_of s cut)) (is_in_time cut) (number (acts_of s cut)) t.slot; told = λ w. absurd (never w) } }
 detach_goes place _ found content seat s k first growth cut may t = absurd (cc)
 
 drop_goes : (place : JobNumber) (how : TaskStage) (found : Option ℕ) (content : Content ℕ) (seat : Option (Unit {0})) (s k first : ℕ) (growth : Growth) (cut : List Event)
     → may_be how Drop ≡ true → TaskAs (task_by place how content seat found) s cut
     → Goes (task_after_drop (task_by place how content seat found)) s cut (by_task k HolderDropped first growth)
 drop_goes place TaskStage.Attached found content seat s k first growth cut may t =
-    record { law = (t.gone, tt); tie = record { gone = refl; cancel = tt; let_go = refl; seat = t.seat; slot = not_over content (has_finished (acts_of s cut)) (has_given_up (acts_of s cut)) (is_in_time cut) (number (acts_of s cut)) t.slot; told = λ w. absurd (cc) } }
+    record { law = (t.gone, tt); tie = record { gone = refl; cancel = tt; let_go = refl; seat = t.seat; slot = not_over content (has_finished (acts_of s cut)) (has_given_up (acts_of s cut)) (is_in_time cut) (number (acts_of s cut)) t.slot; told = λ w. absurd (never w) } }
 drop_goes place TaskStage.Cancelled found (Abandoned over) seat s k first growth cut may t =
-    record { law = (t.gone, tt); tie = record { gone = refl; cancel = tt; let_go = refl; seat = t.seat; slot = pending over (has_finished (acts_of s cut) || has_given_up (acts_of s cut)) t.slot.0; told = λ w. absurd (cc) } }
+    record { law = (t.gone, tt); tie = record { gone = refl; cancel = tt; let_go = refl; seat = t.seat; slot = pending over (has_finished (acts_of s cut) || has_given_up (acts_of s cut)) t.slot.0; told = λ w. absurd (never w) } }
 drop_goes place TaskStage.Cancelled found _ seat s k first growth cut may t = absurd t.slot
 drop_goes place _ found content seat s k first growth cut may t = absurd (cc)
 

@@ -3,6 +3,7 @@ use Rattle.std.proofs.Common.{◌≡◌, ℕ, ◌<◌, List, [], ◌∷◌, leng
 use Rattle.std.proofs.lemmas.Bool.Decides.{nat_tests}
 use Rattle.blocking_lanes.proofs.Types.{Fault, ItemAction, OperationAction, ReadAction, SeekAction, WriteAction, OwnerAction, Reply, Act, Event, Told, HandleCall, SessionJob, OwnerNext, NextActs as Acts, Rests, OwnerStage}
 use Rattle.blocking_lanes.proofs.Words.{item_next, operation_next, OwnerMachine, owner_next, read_next, seek_next, Abandoned, Content, GivenUp, write_next, is_in, Consume, JobAction, Kind, Operating, PutPiece, Reading, Seeking, Streaming, Writing, fault, has_finished, has_given_up, has_result, is_asking, is_over, next_but_wake, number, accepted, got, kind_in, acts_of, own, is_again, seen_is_closed, is_for_closed, seen_is_into_inner, seen_is_pending_operation, is_poll_over, seen_is_shut, jobs_of, kind_of_job, seen_last_session, seen_may_ask, seen_rests, seen_session, under_way, seen_was_asked_inner, OperationAs, OperationProgress, operation_action_as, operation_action_of, Flows, HoldsResult, LastAs, OwnerAs, SlotAs, has_found, is_told, state_as, Owner, awaited_as, awaits_operation, close_did, did, did_in, drain_did, fill_did, fill_did_in, find_did, item_in, look_did, looked_as, may_ask, may_ask_at, next_at, next_by, next_of, next_to_say, operate_as, operate_in, read_as, read_in, receive_did, reply_as, reply_did, rests, seek_as, seek_in, stream_as, stream_in, worked, worked_by, write_as, write_in, OfBytes, OfItems, is_piped, ReadProgress, ReadAs, read_action_as, read_action_of, SeekProgress, SeekAs, seek_action_as, seek_action_of, JobAs, action_of, kind_of, Session, drained, filled, fits_in, found_put, goods_of, holds, operation_works, reach, received, session_after_find, session_after_look, streamer_works, work_at_put, work_by, work_of_consume, writer_works, ItemAs, ItemProgress, item_action_as, item_action_of, WriteProgress, WriteAs, write_action_as, write_action_of}
+use Rattle.blocking_lanes.proofs.Clashes.{nothing}
 use Rattle.blocking_lanes.proofs.owners.Cuts.{kind_is}
 use Rattle.blocking_lanes.proofs.owners.Goods.{piped_here, through_here}
 use Rattle.blocking_lanes.proofs.owners.PoolAnswers.{pends_so}
@@ -111,7 +112,7 @@ told_some told p owner known = grind arith
 -- what passes through the pipe of a session, by its kind
 goods_at : (last : Option Session) (bytes : Kind → ℕ) (cut : List Event) (k : Kind) → LastAs last bytes cut → kind_in (seen_last_session (own cut)) ≡ k → (s : Session) → last ≡ Some s
     → s.goods ≡ goods_of k
-goods_at None bytes cut k l is s e = absurd (cc)
+goods_at None bytes cut k l is s e = absurd (nothing e)
 goods_at (Some r) bytes cut k l is s e = let same : r ≡ s = cc in subst (λ (x : Session). x.goods ≡ goods_of k) same (l.lent.goods ∙ ap goods_of is)
 
 -- who was asked to write something, and has a session, can fill

@@ -4,6 +4,7 @@ use Rattle.std.proofs.lemmas.Bool.{or_from, or_left, or_right}
 use Rattle.std.proofs.lemmas.Bool.Decides.{nat_tests}
 use Rattle.blocking_lanes.proofs.Types.{Fault, Position, OwnerAction, OwnerAnswer, OwnerEnd, Open, Shut, PollCall, Reply, SessionKind, State, Act, Answered, Back, FillShut, Filled, Got, GotEnd, GotItem, OwnerClosed, Replied, ResultGot, Waits, Event, Told, Answer, HandleCall, OwnerStage, PollEnd}
 use Rattle.blocking_lanes.proofs.Words.{Pipe, wake_first, OwnerMachine, owner_after, owner_by, owner_in, owner_next, room, Closed, Met, Served, Waiting, drain, fill, receive, same_position, Abandoned, Content, Empty, Full, GivenUp, Slot, Growth, JobNumber, EndsTruly, IsFlushed, IsFlushedBack, IsFlushedIf, IsReadBack, IsReadWhole, IsTrueEnd, came_back, handle_answers, has_failed_write, has_failure, has_flush, is_failure, last_is_end, JobAction, Kind, Operating, Over, Reading, Seeking, Streaming, Writing, job_earlier as earlier, fault, fault_in, has_closed, has_finished, has_given_up, has_result, is_over, next_but_wake, number, OwnerMayAct, Polls, is_job_seated, noted, pipe_seat, pipe_seated_by, place_of, result_seat, result_seated_by, slot_seat, slot_seated_by, deliver_first, next_of_owner, owner_next_but_wake, accepted, data_of, gave, got, inside, kind_in, last_job, room_in, taken as taken_by, poll_place, poll_slot, seen_drain, seen_fill, seen_receive, acts_of, is_some_worker, own, SeenSession, SeenState, seen_call, seen_ends_close, seen_has_begun, seen_is_closed, seen_is_dropped, seen_is_into_inner, is_operation, seen_is_owner_gone, seen_is_shut, seen_last_session, seen_session, seen_state, seen_state_by, seen_state_in, by_owner, EndAs, FlowAs, FitsNext, GaveAll, GoneBy, HoldsResult, IsAtEnd, IsGoneBy, IsLentOpen, IsOperating, LooksFrom, OperatesBy, OwnerAs, Passed, PassedAs, PlaceBy, PollAs, SessionAs, SlotAs, StageBy, WrittenAs, action_as, called_at, has_found, is_end_open, is_piped_kind, kind_as, passed_by, say, seat_of, state_as, wrote_by, Did, Owner, awaited_as, back_answer, capacity_of, close_did, did, did_by, did_in, drain_did, drop_did, fill_did, fill_did_in, find_did, goes_on, is_gone, is_no_more, item_in, look_did, looked_as, note_at, poll_call_of, receive_did, reply_as, reply_did, stage_after_reply, OfBytes, OfItems, Session, drained, filled, reach, received, serial_of, session_after_close, session_after_drain, session_after_fill, session_after_find, session_after_look, session_after_receive, is_made, under_way, seen_capacity, is_in, jobs_of, is_serial, kind_of_job, is_waiting, StageAs, PlaceIn, LastAs}
+use Rattle.blocking_lanes.proofs.Clashes.{never, nothing}
 use Rattle.blocking_core.specs.OwnerCalls as machine
 use Rattle.blocking_laws.specs.OwnerTable as law
 use Rattle.blocking_lanes.proofs.owners.Cuts.{not_not, next_with, inside_is, room_is, lasts_is, open_is, noted_is, its_job, drain_act, drain_seen, receive_act, receive_shown}
@@ -74,7 +75,7 @@ operating_so q (Some number) waits operates begun found is = is
 -- the note that it took is of the job in the seat
 noted_so : (q : OwnerMachine ℕ) (note : Option JobNumber) (sits : Bool) (seated : JobNumber) → note ≡ seat_of sits seated → (number : JobNumber) → note_at (goes_on q note) ≡ Some number
     → Some seated ≡ Some number
-noted_so q None sits seated e number is = absurd (cc)
+noted_so q None sits seated e number is = absurd (nothing is)
 noted_so q (Some note) true seated e number is = sym e ∙ is
 noted_so q (Some note) false seated e number is = absurd (cc)
 
@@ -257,9 +258,9 @@ module _ (bytes : ℕ) (asked : Option HandleCall) (p : OwnerMachine ℕ) (s : S
       place = subst (λ n. PlaceBy result kind acts came (result_seated_by Waits (place_of n) rs)) (sym next) place;
       last = subst (λ n. SessionAs (record s { pipe = pipe; result = result; slot = slot }) kind (bound bytes kind) began shut over gone took written acts js (pipe_seated_by Waits (place_of n) ps) (slot_seated_by Waits (place_of n) ss))
           (sym next) last;
-      ended = λ is_end. absurd (cc);
+      ended = λ is_end. absurd (never is_end);
       earlier = t.earlier;
-      noted = λ number is. absurd (cc);
+      noted = λ number is. absurd (nothing is);
       told = λ waits. (refl, inr sits);
     };
   }
@@ -297,7 +298,7 @@ module _ (bytes : ℕ) (asked : Option HandleCall) (p : OwnerMachine ℕ) (s : S
       on_goes t (OwnerClosed (serial_of note)) note q (session_after_close s) same
       (record { made = t.made; gone = t.gone; asked_is = t.asked; polled = t.polled; holds = t.bytes; acts_so = λ polls. polls; ends = tt; earlier = t.earlier; told = λ waits. cc }) (lawful bytes asked p cut (Some s) OwnerAction.Close t is) (ap OwnerClosed (noted_is s (bound bytes) cut t.last))
       (goes_on_so q note s.item (seen_call (own cut)) (seen_state (own (e ∷ cut))) law.PollSlot false (came_back cut) polled refl) (operates_at OwnerAction.Close is t) t.place
-      (shuts s kind (bound bytes kind) began shut over gone took written acts js ps ss t.last) (λ is_end. absurd (cc)) (noted_so q note js s.number t.last.seats.job)
+      (shuts s kind (bound bytes kind) began shut over gone took written acts js ps ss t.last) (λ is_end. absurd (never is_end)) (noted_so q note js s.number t.last.seats.job)
 
   -- ---- it drains the pipe
 
@@ -330,7 +331,7 @@ module _ (bytes : ℕ) (asked : Option HandleCall) (p : OwnerMachine ℕ) (s : S
       on_goes t (Got found.0 (serial_of found.1)) found.1 q (session_after_drain (Served found) s) same
       (record { made = t.made; gone = t.gone; asked_is = t.asked; polled = t.polled; holds = t.bytes; acts_so = λ polls. polls; ends = tt; earlier = t.earlier; told = λ waits. cc }) (lawful bytes asked p cut (Some s) (OwnerAction.Drain most) t is) (ap drain_act (sym e) ∙ found_so most wanted t)
       (goes_on_so q found.1 s.item (seen_call (own cut)) (seen_state (own cut)) (law.Say (Told.Count (length found.0))) false (came_back cut) polled refl) tt t.place
-      (subst (λ k. SessionAs (session_after_drain (Served found) s) k (bound bytes k) began shut over gone (took ++ found.0) written acts false ps ss) (sym lent.0) last) (λ is_end. absurd (cc)) (noted_so q found.1 js s.number (here.1 ∙ t.last.seats.job))
+      (subst (λ k. SessionAs (session_after_drain (Served found) s) k (bound bytes k) began shut over gone (took ++ found.0) written acts false ps ss) (sym lent.0) last) (λ is_end. absurd (never is_end)) (noted_so q found.1 js s.number (here.1 ∙ t.last.seats.job))
     where
       some_in : (l : List ℕ) → (l ≡ [] → ⊥) → 0 < length l
       some_in [] none = absurd (none refl)
@@ -352,7 +353,7 @@ module _ (bytes : ℕ) (asked : Option HandleCall) (p : OwnerMachine ℕ) (s : S
       on_goes t GotEnd None q s same
       (record { made = t.made; gone = t.gone; asked_is = t.asked; polled = t.polled; holds = t.bytes; acts_so = λ polls. polls; ends = tt; earlier = t.earlier; told = λ waits. cc }) (lawful bytes asked p cut (Some s) (OwnerAction.Drain most) t is) (ap drain_act (sym e) ∙ found_so most fits.1 t)
       (polls_on t q s.item true (came_back cut) refl refl ((subst (λ c. LooksFrom c p.state true) (sym fits.0) (subst (λ st. LooksFrom (HandleCall.Read most) st true) (sym fits.2) tt), refl)), t.stage.1, refl) (operates_at (OwnerAction.Drain most) is t) t.place
-      t.last (λ is_end. (closed.0, closed.1, sym (open_is s (bound bytes) cut t.last) ∙ lent.1)) (λ number is. absurd (cc))
+      t.last (λ is_end. (closed.0, closed.1, sym (open_is s (bound bytes) cut t.last) ∙ lent.1)) (λ number is. absurd (nothing is))
 
   -- ---- it receives an item
 
@@ -378,7 +379,7 @@ module _ (bytes : ℕ) (asked : Option HandleCall) (p : OwnerMachine ℕ) (s : S
       on_goes t (GotItem found.0 (serial_of found.1)) found.1 q (session_after_receive (Served found) s) same
       (record { made = t.made; gone = t.gone; asked_is = t.asked; polled = t.polled; holds = t.bytes; acts_so = λ polls. polls; ends = tt; earlier = t.earlier; told = λ waits. cc }) (lawful bytes asked p cut (Some s) OwnerAction.Receive t is) (ap receive_act (sym e) ∙ item_so t)
       (goes_on_so q found.1 found.0 (seen_call (own cut)) (seen_state (own cut)) (law.Say (Told.OneItem found.0)) false (came_back cut) polled refl) tt t.place
-      (subst (λ k. SessionAs (session_after_receive (Served found) s) k (bound bytes k) began shut over gone (took ++ found.0 ∷ []) written acts false ps ss) (sym lent.0) last) (λ is_end. absurd (cc)) (noted_so q found.1 js s.number (here.1 ∙ t.last.seats.job))
+      (subst (λ k. SessionAs (session_after_receive (Served found) s) k (bound bytes k) began shut over gone (took ++ found.0 ∷ []) written acts false ps ss) (sym lent.0) last) (λ is_end. absurd (never is_end)) (noted_so q found.1 js s.number (here.1 ∙ t.last.seats.job))
   receive_goes is t Waiting e =
       let fits = fits_at bytes asked p cut (Some s) OwnerAction.Receive t is in
       let lent = lent_at (own cut) Streaming true (t.stage.0.at_is ∙ ap state_as fits.1) in
@@ -396,7 +397,7 @@ module _ (bytes : ℕ) (asked : Option HandleCall) (p : OwnerMachine ℕ) (s : S
       on_goes t GotEnd None q s same
       (record { made = t.made; gone = t.gone; asked_is = t.asked; polled = t.polled; holds = t.bytes; acts_so = λ polls. polls; ends = tt; earlier = t.earlier; told = λ waits. cc }) (lawful bytes asked p cut (Some s) OwnerAction.Receive t is) (ap receive_act (sym e) ∙ item_so t)
       (polls_on t q s.item true (came_back cut) refl refl ((subst (λ c. LooksFrom c p.state true) (sym fits.0) (subst (λ st. LooksFrom HandleCall.Next st true) (sym fits.1) tt), refl)), t.stage.1, refl) (operates_at OwnerAction.Receive is t) t.place
-      t.last (λ is_end. (closed.0, closed.1, sym (open_is s (bound bytes) cut t.last) ∙ lent.1)) (λ number is. absurd (cc))
+      t.last (λ is_end. (closed.0, closed.1, sym (open_is s (bound bytes) cut t.last) ∙ lent.1)) (λ number is. absurd (nothing is))
 
   -- ---- it fills the pipe
 
@@ -454,7 +455,7 @@ module _ (bytes : ℕ) (asked : Option HandleCall) (p : OwnerMachine ℕ) (s : S
       on_goes t (Filled went.0 (serial_of went.1)) went.1 q (session_after_fill offered (Served went) s) same
       (record { made = t.made; gone = t.gone; asked_is = t.asked; polled = t.polled; holds = t.bytes; acts_so = λ polls. polls; ends = tt; earlier = t.earlier; told = λ waits. cc }) w.next_is (ap fill_act (sym e) ∙ entered_so (length offered) t)
       (goes_on_so q went.1 s.item (seen_call (own cut)) (seen_state (own cut)) (law.Say (Told.Count went.0)) false (came_back cut) polled refl) tt t.place
-      (subst (λ k. SessionAs (session_after_fill offered (Served went) s) k (bound bytes k) began shut over gone took (accepted (own (seen ∷ cut))) acts false ps ss) (sym w.kind_is) (subst (λ l. SessionAs (session_after_fill offered (Served went) s) Writing (bound bytes Writing) began shut over gone took (written ++ take went.0 l) acts false ps ss) offer last)) (λ is_end. absurd (cc)) (noted_so q went.1 js s.number ((filled_note (length offered) s went e).0 ∙ t.last.seats.job))
+      (subst (λ k. SessionAs (session_after_fill offered (Served went) s) k (bound bytes k) began shut over gone took (accepted (own (seen ∷ cut))) acts false ps ss) (sym w.kind_is) (subst (λ l. SessionAs (session_after_fill offered (Served went) s) Writing (bound bytes Writing) began shut over gone took (written ++ take went.0 l) acts false ps ss) offer last)) (λ is_end. absurd (never is_end)) (noted_so q went.1 js s.number ((filled_note (length offered) s went e).0 ∙ t.last.seats.job))
   fill_goes offered t w Waiting e =
       waits_goes t PollEnd.Waits (record s.pipe { owner_seat = Some tt }) s.result s.slot w.next_is (ap fill_act (sym e) ∙ entered_so (length offered) t) (refl, operates_at (OwnerAction.Fill (length offered)) w.most_is t)
       (subst (λ k. SessionAs (session_after_fill offered Waiting s) k (bound bytes k) began shut over gone took written acts js true ss) (sym w.kind_is)
@@ -838,7 +839,7 @@ module _ (bytes : ℕ) (asked : Option HandleCall) (p : OwnerMachine ℕ) (s : S
       subst (λ (d : Did). Goes d.owner cut (by_owner h d.act first growth)) (ap (value_of done) does) (slot_waits is t e)
   look_goes is t (Full why) e done does =
       subst (λ (d : Did). Goes d.owner cut (by_owner h d.act first growth)) (ap (value_of done) does) (either_goes is t p.state why refl e)
-  look_goes is t GivenUp e done does = absurd (cc)
+  look_goes is t GivenUp e done does = absurd (nothing does)
   look_goes is t (Abandoned was) e done does = absurd (subst (λ c. SlotAs c (has_finished acts) (has_given_up acts) over (fault kind acts)) e t.last.result.slot)
 
   -- ---- it looks for the result of its operation
@@ -874,7 +875,7 @@ module _ (bytes : ℕ) (asked : Option HandleCall) (p : OwnerMachine ℕ) (s : S
   result_fits : (c : HandleCall) (q : OwnerMachine ℕ) (back : Option (List Event)) → is_operation (Some c) ≡ true → FitsNext c q (OwnerAction.Reply Reply.Result) false back
   result_fits HandleCall.Operate q back asks = (refl, refl, tt)
   result_fits HandleCall.OperateAgain q back asks = (refl, refl, tt)
-  result_fits _ q back asks = absurd (cc)
+  result_fits _ q back asks = absurd (never asks)
 
   -- the session, whatever is kept and whatever stands in the place of the result
   tied_with : (t : Old) → Operates t → (kept : ℕ) (result : Slot ℕ (Unit {0})) → SessionAs (record s { item = kept; result = result }) kind (bound bytes kind) began shut over gone took written acts js ps ss
@@ -912,7 +913,7 @@ module _ (bytes : ℕ) (asked : Option HandleCall) (p : OwnerMachine ℕ) (s : S
       subst (λ (d : Did). Goes d.owner cut (by_owner h d.act first growth)) (ap (value_of done) does) (result_awaited is t (operates_so is t) e)
   find_goes is t (Full n) e done does =
       subst (λ (d : Did). Goes d.owner cut (by_owner h d.act first growth)) (ap (value_of done) does) (result_found is t (operates_so is t) n e)
-  find_goes is t GivenUp e done does = absurd (cc)
+  find_goes is t GivenUp e done does = absurd (nothing does)
   find_goes is t (Abandoned was) e done does = absurd (subst (λ c. HoldsResult c (has_result acts) came (number acts)) e t.place.content)
 
 -- ---- it replies
@@ -931,7 +932,7 @@ end_is x c r back said same e = subst (λ told. IsTrueEnd (Some c) (value_of sai
     by_reply c Reply.Closed same e = absurd (cc)
     by_reply HandleCall.Operate Reply.Result same e = tt
     by_reply HandleCall.OperateAgain Reply.Result same e = tt
-    by_reply _ Reply.Result same e = absurd (cc)
+    by_reply _ Reply.Result same e = absurd (never e)
     by_reply _ _ same e = tt
 
 -- where the handle is after a reply: a close that is all done has none
@@ -980,10 +981,10 @@ reply_goes bytes asked p last h first growth cut r said is same t = at (seen_is_
         operates = operates;
         last = t.last;
         place = t.place;
-        ended = λ is_end. absurd (cc);
+        ended = λ is_end. absurd (never is_end);
         earlier = t.earlier;
         noted = λ number is. absurd (let none = awake in cc);
-        told = λ waits. absurd (cc);
+        told = λ waits. absurd (never waits);
       };
     }
       where
@@ -1025,10 +1026,10 @@ drops_goes bytes asked p last h first growth cut is t =
         operates = refl;
         place = t.place;
         last = t.last;
-        ended = λ is_end. absurd (cc);
+        ended = λ is_end. absurd (never is_end);
         earlier = t.earlier;
-        noted = λ number is. absurd (cc);
-        told = λ waits. absurd (cc);
+        noted = λ number is. absurd (nothing is);
+        told = λ waits. absurd (never waits);
       };
     })
 
@@ -1042,9 +1043,9 @@ own_fills bytes (Some (HandleCall.Write (byte ∷ more))) p h first growth cut d
     let asks = Some (HandleCall.Write (byte ∷ more)) in
     subst (λ (d : Did). Goes d.owner cut (by_owner h d.act first growth)) (ap (value_of done) (through_some OfBytes s.goods _ done does).1)
     (fill_goes bytes asks p s h first growth cut (byte ∷ more) t (fills_so bytes asks p s h first growth cut (byte ∷ more) most refl is t) (filled (length (byte ∷ more)) s) refl)
-own_fills bytes (Some (HandleCall.Write (byte ∷ more))) p h first growth cut done most None is t does = absurd (cc)
-own_fills bytes (Some (HandleCall.Write [])) p h first growth cut done most last is t does = absurd (cc)
-own_fills bytes _ p h first growth cut done most last is t does = absurd (cc)
+own_fills bytes (Some (HandleCall.Write (byte ∷ more))) p h first growth cut done most None is t does = absurd (nothing does)
+own_fills bytes (Some (HandleCall.Write [])) p h first growth cut done most last is t does = absurd (nothing does)
+own_fills bytes _ p h first growth cut done most last is t does = absurd (nothing does)
 
 own_by : (bytes : ℕ) (asked : Option HandleCall) (p : OwnerMachine ℕ) (h first : ℕ) (growth : Growth) (cut : List Event) (done : Did) (next : OwnerAction ℕ) (last : Option Session) → p.next ≡ next
     → OwnerAs (owner_by_parts bytes asked (OwnerStage.Polls p) last) cut → did_in next p last (owner_by_parts bytes asked (OwnerStage.Polls p) last) ≡ Some done
@@ -1054,7 +1055,7 @@ own_by bytes asked p h first growth cut done (OwnerAction.Reply r) last is t doe
     replies : (told : Option Told) → reply_as (item_in last) r ≡ told → reply_did told p (owner_by_parts bytes asked (OwnerStage.Polls p) last) ≡ Some done → Goes done.owner cut (by_owner h done.act first growth)
     replies (Some said) same does =
         subst (λ (d : Did). Goes d.owner cut (by_owner h d.act first growth)) (ap (value_of done) does) (reply_goes bytes asked p last h first growth cut r said is same t)
-    replies None same does = absurd (cc)
+    replies None same does = absurd (nothing does)
 own_by bytes asked p h first growth cut done (OwnerAction.Fill most) last is t does = own_fills bytes asked p h first growth cut done most last is t does
 own_by bytes asked p h first growth cut done OwnerAction.DropHandle last is t does =
     subst (λ (d : Did). Goes d.owner cut (by_owner h d.act first growth)) (ap (value_of done) does) (drops_goes bytes asked p last h first growth cut is t)
@@ -1068,15 +1069,15 @@ own_by bytes asked p h first growth cut done OwnerAction.Receive (Some s) is t d
     (receive_goes bytes asked p s h first growth cut is t (received s) refl)
 own_by bytes asked p h first growth cut done OwnerAction.PollSlot (Some s) is t does = look_goes bytes asked p s h first growth cut is t s.slot.content refl done does
 own_by bytes asked p h first growth cut done OwnerAction.PollResult (Some s) is t does = find_goes bytes asked p s h first growth cut is t s.result.content refl done does
-own_by bytes asked p h first growth cut done _ None is t does = absurd (cc)
-own_by bytes asked p h first growth cut done _ (Some s) is t does = absurd (cc)
+own_by bytes asked p h first growth cut done _ None is t does = absurd (nothing does)
+own_by bytes asked p h first growth cut done _ (Some s) is t does = absurd (nothing does)
 
 own_at : (bytes : ℕ) (asked : Option HandleCall) (here : OwnerStage) (last : Option Session) (h first : ℕ) (growth : Growth) (cut : List Event) (done : Did)
     → OwnerAs (owner_by_parts bytes asked here last) cut → did_by here (owner_by_parts bytes asked here last) ≡ Some done → Goes done.owner cut (by_owner h done.act first growth)
 own_at bytes asked (OwnerStage.Polls p) last h first growth cut done t does =
     own_by bytes asked p h first growth cut done p.next last refl t
     (ap (λ n. did_in n p last (owner_by_parts bytes asked (OwnerStage.Polls p) last)) (sym (doing p t.stage.1)) ∙ does)
-own_at bytes asked _ last h first growth cut done t does = absurd (cc)
+own_at bytes asked _ last h first growth cut done t does = absurd (nothing does)
 
 -- an act of its poll that asks no pool
 pub own_goes : (owner : Owner) (h first : ℕ) (growth : Growth) (cut : List Event) (done : Did) → did owner ≡ Some done → OwnerAs owner cut

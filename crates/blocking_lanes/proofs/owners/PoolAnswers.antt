@@ -4,6 +4,7 @@ use Rattle.std.proofs.lemmas.Bool.{or_left}
 use Rattle.std.proofs.lemmas.Bool.Decides.{nat_tests}
 use Rattle.blocking_lanes.proofs.Types.{Fault, OwnerAction, OwnerAnswer, OwnerEnd, Open, Shut, PollCall, Reply, SessionKind, State, Refusal, Woke, Act, Accepted, Asked, HolderDropped, JobWoken, Refused, Event, HandleCall, OwnerStage, PollEnd}
 use Rattle.blocking_lanes.proofs.Words.{OwnerMachine, new_poll, owner_after, owner_in, Abandoned, Content, Empty, Full, GivenUp, empty_slot, Growth, JobNumber, is_in, came_back, Kind, Over, Streaming, fault, has_finished, has_given_up, next_but_wake, Polls, deliver_first, owner_next_but_wake, is_serial, kind_in, acts_of, own, SeenSession, SeenState, seen_call, default_capacity, seen_has_begun as has_begun, is_again, seen_is_closed, seen_is_dropped, is_for_closed, seen_is_into_inner, is_operation, seen_is_pending_operation, seen_is_shut, jobs_of, seen_kind_of as kind_of, kind_of_job, seen_last_session, seen_rests, seen_session, seen_state, seen_state_by, seen_state_in, seen_was_asked_inner, is_waiting, by_owner, BeginsBy, EndsAs, FitsNext, IsOperating, LastAs, LooksFrom, OwnerAs, PlaceBy, SessionAs, SlotAs, action_as, has_found, is_end_open, kind_as, newest_note, state_as, is_for_result, is_pending, item_in, may_call_at, poll_call_of, Session, goods_of, new_session}
+use Rattle.blocking_lanes.proofs.Clashes.{never, nothing}
 use Rattle.blocking_core.specs.OwnerCalls as machine
 use Rattle.blocking_laws.specs.OwnerTable as law
 use Rattle.blocking_lanes.proofs.owners.Cuts.{next_with, next_stays, kind_of_last}
@@ -76,8 +77,8 @@ table_fits (HandleCall.Read (suc n)) (State.Lent kind end) may = session_fits (H
     own : (kind : SessionKind) → machine.goes_on_in kind (PollCall.Read (suc n)) ≡ true
         → FitsNext (HandleCall.Read (suc n)) (new_poll (PollCall.Read (suc n)) (State.Lent kind Open)) (OwnerAction.Drain (suc n)) false None
     own SessionKind.Reading is = (refl, omega arith, refl, refl)
-    own _ is = absurd (cc)
-table_fits (HandleCall.Read (suc n)) State.Closed may = absurd (cc)
+    own _ is = absurd (never is)
+table_fits (HandleCall.Read (suc n)) State.Closed may = absurd (never may)
 table_fits (HandleCall.Write []) at may = (refl, tt, tt)
 table_fits (HandleCall.Write (byte ∷ more)) State.Idle may = (tt, refl, refl)
 table_fits (HandleCall.Write (byte ∷ more)) (State.Lent kind end) may = session_fits (HandleCall.Write (byte ∷ more)) kind end (machine.goes_on_in kind (PollCall.Write (length (byte ∷ more)))) refl (own kind)
@@ -85,8 +86,8 @@ table_fits (HandleCall.Write (byte ∷ more)) (State.Lent kind end) may = sessio
     own : (kind : SessionKind) → machine.goes_on_in kind (PollCall.Write (length (byte ∷ more))) ≡ true
         → FitsNext (HandleCall.Write (byte ∷ more)) (new_poll (PollCall.Write (length (byte ∷ more))) (State.Lent kind Open)) (OwnerAction.Fill (length (byte ∷ more))) false None
     own SessionKind.Writing is = (byte ∷ more, refl, refl, omega arith, refl, refl)
-    own _ is = absurd (cc)
-table_fits (HandleCall.Write (byte ∷ more)) State.Closed may = absurd (cc)
+    own _ is = absurd (never is)
+table_fits (HandleCall.Write (byte ∷ more)) State.Closed may = absurd (never may)
 table_fits HandleCall.Flush State.Idle may = (refl, tt, tt)
 table_fits HandleCall.Flush (State.Lent kind end) may = session_fits HandleCall.Flush kind end (machine.goes_on_in kind PollCall.Flush) refl (λ own. absurd ((stops kind).flush own))
 table_fits HandleCall.Flush State.Closed may = (refl, tt, tt)
@@ -101,14 +102,14 @@ table_fits HandleCall.Next (State.Lent kind end) may = session_fits HandleCall.N
   where
     own : (kind : SessionKind) → machine.goes_on_in kind PollCall.Next ≡ true → FitsNext HandleCall.Next (new_poll PollCall.Next (State.Lent kind Open)) OwnerAction.Receive false None
     own SessionKind.Streaming is = (refl, refl, refl)
-    own _ is = absurd (cc)
+    own _ is = absurd (never is)
 table_fits (HandleCall.Seek to) (State.Lent kind end) may = session_fits (HandleCall.Seek to) kind end (machine.goes_on_in kind (PollCall.Seek to)) refl (own kind)
   where
     own : (kind : SessionKind) → machine.goes_on_in kind (PollCall.Seek to) ≡ true
         → FitsNext (HandleCall.Seek to) (new_poll (PollCall.Seek to) (State.Lent kind Open)) OwnerAction.PollSlot false None
     own (SessionKind.Seeking goal) is = (refl, refl)
-    own _ is = absurd (cc)
-table_fits _ State.Closed may = absurd (cc)
+    own _ is = absurd (never is)
+table_fits _ State.Closed may = absurd (never may)
 table_fits _ State.Idle may = (tt, refl, refl)
 table_fits call (State.Lent kind end) may =
     session_fits call kind end (machine.goes_on_in kind (PollCall.Operate false)) refl (λ own. absurd ((stops kind).operate own))
@@ -186,7 +187,7 @@ asks_so : (x : ℕ) (call : HandleCall) (end : PollEnd) (asked : Option HandleCa
     → EndsAs end at (is_waiting past) (is_operation asked) (has_begun past) (has_found past) → Asks x call (poll_call_of (is_for_result end) call) at past
 asks_so x HandleCall.OperateAgain end asked at past may pends there here ends = asks_again x end asked at past may there here pends ends
 asks_so x HandleCall.Operate end asked at past may pends there here ends = asks_first x HandleCall.Operate at past may there here refl (λ is. refl)
-asks_so x call end asked at past may pends there here ends = asks_first x call at past may there here refl (λ is. absurd (cc))
+asks_so x call end asked at past may pends there here ends = asks_first x call at past may there here refl (λ is. absurd (never is))
 
 -- it rests, by the law
 rests_so : (bytes : ℕ) (asked : Option HandleCall) (here : State) (end : PollEnd) (last : Option Session) (cut : List Event) → OwnerAs (owner_by_parts bytes asked (OwnerStage.Rests here end) last) cut → seen_rests (own cut) ≡ true
@@ -241,10 +242,10 @@ ask_goes bytes asked here end last h first growth cut call may still pends t =
         operates = a.operates;
         last = t.last;
         place = t.place;
-        ended = λ is_end. absurd (cc);
+        ended = λ is_end. absurd (never is_end);
         earlier = t.earlier;
-        noted = λ number is. absurd (cc);
-        told = λ waits. absurd (cc);
+        noted = λ number is. absurd (nothing is);
+        told = λ waits. absurd (never waits);
       };
     }
 
@@ -274,10 +275,10 @@ drop_goes bytes asked here end last h first growth cut t = record {
     operates = tt;
     last = dropped_last last (bound bytes) h first growth cut t.last;
     place = t.place;
-    ended = λ is_end. absurd (cc);
+    ended = λ is_end. absurd (never is_end);
     earlier = t.earlier;
-    noted = λ number is. absurd (cc);
-    told = λ waits. absurd (cc);
+    noted = λ number is. absurd (nothing is);
+    told = λ waits. absurd (never waits);
   };
 }
 
@@ -341,10 +342,10 @@ refuse_goes bytes asked p last h first growth cut reason is t =
         operates = tt;
         last = t.last;
         place = t.place;
-        ended = λ is_end. absurd (cc);
+        ended = λ is_end. absurd (never is_end);
         earlier = t.earlier;
-        noted = λ number is. absurd (cc);
-        told = λ waits. absurd (cc);
+        noted = λ number is. absurd (nothing is);
+        told = λ waits. absurd (never waits);
       };
     })
 
@@ -401,10 +402,10 @@ deliver_goes bytes asked p note last h first growth cut woke t =
         operates = t.operates;
         last = t.last;
         place = t.place;
-        ended = λ is_end. absurd (cc);
+        ended = λ is_end. absurd (never is_end);
         earlier = t.earlier;
-        noted = λ number is. absurd (cc);
-        told = λ waits. absurd (cc);
+        noted = λ number is. absurd (nothing is);
+        told = λ waits. absurd (never waits);
       };
     })
 
@@ -459,15 +460,15 @@ record Began (begun : Bool) (c : HandleCall) (p : OwnerMachine ℕ) (back : Opti
   pub operates : IsOperating (machine.in_own (poll_call_of begun c)) (is_operation (Some c)) true false
 
 begins_by : (begun : Bool) (c : HandleCall) (p : OwnerMachine ℕ) (back : Option (List Event)) → BeginsBy c → p.is_at_end ≡ false → Began begun c p back
-begins_by begun (HandleCall.Read (suc n)) p back begins end = record { lending = tt; at_is = refl; next_is = refl; fits = (refl, omega arith, refl, end); operates = λ is. absurd (cc) }
-begins_by begun (HandleCall.Write (byte ∷ more)) p back begins end = record { lending = tt; at_is = refl; next_is = refl; fits = (byte ∷ more, refl, refl, omega arith, refl, end); operates = λ is. absurd (cc) }
-begins_by begun HandleCall.Next p back begins end = record { lending = tt; at_is = refl; next_is = refl; fits = (refl, refl, end); operates = λ is. absurd (cc) }
+begins_by begun (HandleCall.Read (suc n)) p back begins end = record { lending = tt; at_is = refl; next_is = refl; fits = (refl, omega arith, refl, end); operates = λ is. absurd (never is) }
+begins_by begun (HandleCall.Write (byte ∷ more)) p back begins end = record { lending = tt; at_is = refl; next_is = refl; fits = (byte ∷ more, refl, refl, omega arith, refl, end); operates = λ is. absurd (never is) }
+begins_by begun HandleCall.Next p back begins end = record { lending = tt; at_is = refl; next_is = refl; fits = (refl, refl, end); operates = λ is. absurd (never is) }
 begins_by begun (HandleCall.Seek goal) p back begins end = record {
   lending = tt;
   at_is = refl;
   next_is = refl;
   fits = (subst (λ b. LooksFrom (HandleCall.Seek goal) (State.Lent (SessionKind.Seeking goal) Open) b) (sym end) refl, end);
-  operates = λ is. absurd (cc);
+  operates = λ is. absurd (never is);
 }
 begins_by begun HandleCall.Operate p back begins end = record { lending = tt; at_is = refl; next_is = refl; fits = (refl, refl, end); operates = (refl, refl) }
 begins_by begun HandleCall.OperateAgain p back begins end = record { lending = tt; at_is = refl; next_is = refl; fits = (refl, refl, end); operates = (refl, refl) }
@@ -523,11 +524,11 @@ begin_goes bytes asked p last h first growth cut number is fresh quiet t =
             (subst (λ (k : Kind). SessionAs (new_session number (goods_of k) (bound bytes k)) (kind_of (Some c)) (bound bytes (kind_of (Some c)))
             (Some (record { serial = number.serial; kind = kind_of (Some c) })) false false (seen_is_dropped (own cut)) [] [] [] false false false) same_kind
             (begins number (kind_of (Some c)) (bound bytes (kind_of (Some c))) (seen_is_dropped (own cut)) b.lending (some_bound bytes (kind_of (Some c))))));
-        ended = λ is_end. absurd (cc);
+        ended = λ is_end. absurd (never is_end);
         earlier = λ s among other. ap (λ b. next_but_wake (if b then kind_of (seen_call (own cut)) else kind_of_job s (own cut)) (acts_of s cut)) (turned_round s number.serial other)
             ∙ earlier s (is_serial (seen_last_session (own cut)) (Some s)) refl (in_more s number.serial (jobs_of (own cut)) other among) idle;
-        noted = λ number is. absurd (cc);
-        told = λ waits. absurd (cc);
+        noted = λ number is. absurd (nothing is);
+        told = λ waits. absurd (never waits);
       };
     })
   where

@@ -4,6 +4,7 @@ use Rattle.std.proofs.lemmas.Bool.Decides.{nat_tests}
 use Rattle.blocking_lanes.proofs.Types.{ItemAction, OperationAction, ReadAction, SeekAction, WriteAction, OwnerAction, Act, Answered, GaveUp, HolderWoken, Event, Told, Answer, HandleCall, SessionJob, OwnerNext, OwnerStage}
 use Rattle.blocking_lanes.proofs.Words.{item_next, operation_next, OwnerMachine, read_next, seek_next, write_next, Growth, is_in, came_back, JobAction, Kind, Operating, Reading, Seeking, Streaming, WakeHolder, Writing, fault, is_answer, is_over, next_but_wake, next_of_job, number, OwnerLaw, Works, is_job_seated, pipe_seat, result_seat, slot_seat, accepted, got, is_serial, kind_in, waker_in, acts_of, own, seen_call, is_again, seen_is_dropped, seen_is_into_inner, is_operation, seen_is_shut, jobs_of, kind_of_job, seen_last_session, seen_session, seen_state, OperationAs, OperationProgress, operation_action_as, Acts, Begins, CallsWaker, Delivers, GivesUp, IsAnswered, IsAsked, IsDropped, IsRefused, MayTake, OwnerStep, DoesWork, act_in, act_of, act_of_work, by_its_job, by_owner, event_by, is_of_its_job, owner_after_step as owner_after, owner_after_work, owner_in_step as owner_in, LastAs, OwnerAs, PlaceBy, PlaceIn, SessionAs, StageBy, has_found, newest_note, Did, Owner, Worked, capacity_of, did, giving_up_wakes, is_gone, is_pending, item_in, may_call_at, next_at, next_by, next_to_say, operate_as, operate_in, read_as, read_in, reply_as, seek_as, seek_in, stream_as, stream_in, without_job, worked, worked_by, write_as, write_in, OfBytes, OfItems, through, ReadProgress, ReadAs, read_action_as, SeekProgress, SeekAs, seek_action_as, JobAs, action_of, kind_of, Session, Work, fits_in, found_piece, found_put, found_room, found_send, holds, operation_works, seek_works, streamer_works, work_at_put, work_by, work_of_consume, writer_works, ItemAs, ItemProgress, item_action_as, WriteProgress, WriteAs, write_action_as}
 use Rattle.blocking_laws.specs.OwnerTable as law
+use Rattle.blocking_lanes.proofs.Clashes.{nothing}
 use Rattle.blocking_lanes.proofs.owners.Goods.{through_some, through_none}
 use Rattle.blocking_lanes.proofs.owners.Cuts.{its_kind, kind_is, next_stays, passes}
 use Rattle.blocking_lanes.proofs.owners.JobActs.{WorksOn, room_works, put_works, close_works, finish_works, answer_goes, give_up_goes, peek_works, consume_works, writer_close_works, writer_finish_works, writer_answer_goes, item_answer_goes, send_works, streamer_close_works, streamer_finish_works, asking_goes, seek_finish_works, seek_answer_goes, result_works, operation_finish_works, operation_answer_goes}
@@ -119,7 +120,7 @@ module _ (bytes : ℕ) (asked : Option HandleCall) (here : OwnerStage) (h v firs
   does_so : (J : Type 0) (job_of : J → SessionJob) (s : Session) (t : OwnerAs (owner_by_parts bytes asked here (Some s)) cut) (o : Option (Work J))
       → ((work : Work J) → o ≡ Some work → WorksOn bytes asked here s h v first growth cut t J work) → (done : Worked) → worked_by job_of o (owner_by_parts bytes asked here (Some s)) ≡ Some done
       → WorkGoes s.number.serial done
-  does_so J job_of s t None works done does = absurd (cc)
+  does_so J job_of s t None works done does = absurd (nothing does)
   does_so J job_of s t (Some work) works done does = subst (WorkGoes s.number.serial) (ap (value_of done) does) (works work refl)
 
   -- a job of this kind acts at the session, where it has something to do there
@@ -142,9 +143,9 @@ module _ (bytes : ℕ) (asked : Option HandleCall) (here : OwnerStage) (h v firs
   nothing_done : (J : Type 0) (job_of : J → SessionJob) (last : Option Session) (found : Session → Option (Work J)) (does : Option Session → Option Worked) → does None ≡ None
       → ((s : Session) → does (Some s) ≡ worked_by job_of (found s) (owner_by_parts bytes asked here (Some s))) → ((s : Session) → found s ≡ None)
       → (n : ℕ) (done : Worked) → does last ≡ Some done → WorkGoes n done
-  nothing_done J job_of None found does none found_so never n done e = absurd (let is = sym none ∙ e in cc)
+  nothing_done J job_of None found does none found_so never n done e = absurd (nothing (sym none ∙ e))
   nothing_done J job_of (Some s) found does none found_so never n done e =
-      absurd (let is = sym (found_so s ∙ ap (λ o. worked_by job_of o (owner_by_parts bytes asked here (Some s))) (never s)) ∙ e in cc)
+      absurd (nothing (sym (found_so s ∙ ap (λ o. worked_by job_of o (owner_by_parts bytes asked here (Some s))) (never s)) ∙ e))
 
   -- what is done at the session is what was found to do
   as_done : (s : Session) (t : OwnerAs (owner_by_parts bytes asked here (Some s)) cut) (J : Type 0) {found : Work J} → WorksOn bytes asked here s h v first growth cut t J found
@@ -160,10 +161,10 @@ module _ (bytes : ℕ) (asked : Option HandleCall) (here : OwnerStage) (h v firs
     where
       by_fit : (b : Bool) → fits_in p.piece s ≡ b → (if b then Some (work_at_put (found_put p.piece s) p s) else None) ≡ Some work → WorksOn bytes asked here s h v first growth cut t ReadProgress work
       by_fit true fits does = as_done s t ReadProgress (put_works bytes asked here s h v first growth cut t p r of among count is fits (found_put p.piece s) refl) work does
-      by_fit false fits does = absurd (cc)
+      by_fit false fits does = absurd (nothing does)
   reader_at s t p r of among ReadAction.Close is work does = as_done s t ReadProgress (close_works bytes asked here s h v first growth cut t p r of among is) work does
   reader_at s t p r of among ReadAction.Finish is work does = as_done s t ReadProgress (finish_works bytes asked here s h v first growth cut t p r of among is) work does
-  reader_at s t p r of among _ is work does = absurd (cc)
+  reader_at s t p r of among _ is work does = absurd (nothing does)
 
   -- a job that writes, at the session
   writer_at : (s : Session) (t : OwnerAs (owner_by_parts bytes asked here (Some s)) cut) (p : WriteProgress) (r : WriteAs p (acts_of s.number.serial cut)) → its_kind s (bound bytes) cut t.last ≡ Writing
@@ -174,10 +175,10 @@ module _ (bytes : ℕ) (asked : Option HandleCall) (here : OwnerStage) (h v firs
     where
       by_fit : (b : Bool) → (if b then Some (work_of_consume count p s) else None) ≡ Some work → WorksOn bytes asked here s h v first growth cut t WriteProgress work
       by_fit true does = as_done s t WriteProgress (consume_works bytes asked here s h v first growth cut t p r of among count is) work does
-      by_fit false does = absurd (cc)
+      by_fit false does = absurd (nothing does)
   writer_at s t p r of among WriteAction.Close is work does = as_done s t WriteProgress (writer_close_works bytes asked here s h v first growth cut t p r of among is) work does
   writer_at s t p r of among WriteAction.Finish is work does = as_done s t WriteProgress (writer_finish_works bytes asked here s h v first growth cut t p r of among is) work does
-  writer_at s t p r of among _ is work does = absurd (cc)
+  writer_at s t p r of among _ is work does = absurd (nothing does)
 
   -- a job that runs an iterator, at the session
   streamer_at : (s : Session) (t : OwnerAs (owner_by_parts bytes asked here (Some s)) cut) (p : ItemProgress) (r : ItemAs p (acts_of s.number.serial cut)) → its_kind s (bound bytes) cut t.last ≡ Streaming
@@ -186,14 +187,14 @@ module _ (bytes : ℕ) (asked : Option HandleCall) (here : OwnerStage) (h v firs
   streamer_at s t p r of among ItemAction.Send is work does = as_done s t ItemProgress (send_works bytes asked here s h v first growth cut t p r of among is (found_send s) refl) work does
   streamer_at s t p r of among ItemAction.Close is work does = as_done s t ItemProgress (streamer_close_works bytes asked here s h v first growth cut t p r of among is) work does
   streamer_at s t p r of among ItemAction.Finish is work does = as_done s t ItemProgress (streamer_finish_works bytes asked here s h v first growth cut t p r of among is) work does
-  streamer_at s t p r of among _ is work does = absurd (cc)
+  streamer_at s t p r of among _ is work does = absurd (nothing does)
 
   -- a job that seeks, at the session
   seeker_at : (s : Session) (t : OwnerAs (owner_by_parts bytes asked here (Some s)) cut) (p : SeekProgress) (r : SeekAs p (acts_of s.number.serial cut)) → its_kind s (bound bytes) cut t.last ≡ Seeking p.goal
       → is_in s.number.serial (jobs_of (own cut)) ≡ true → (a : SeekAction) → seek_next p.core ≡ a → (work : Work SeekProgress) → seek_works a p s ≡ Some work
       → WorksOn bytes asked here s h v first growth cut t SeekProgress work
   seeker_at s t p r of among SeekAction.Finish is work does = as_done s t SeekProgress (seek_finish_works bytes asked here s h v first growth cut t p r of among is) work does
-  seeker_at s t p r of among _ is work does = absurd (cc)
+  seeker_at s t p r of among _ is work does = absurd (nothing does)
 
   -- a job that runs an operation, at the session
   operator_at : (s : Session) (t : OwnerAs (owner_by_parts bytes asked here (Some s)) cut) (p : OperationProgress) (r : OperationAs p (acts_of s.number.serial cut)) → its_kind s (bound bytes) cut t.last ≡ Operating
@@ -201,7 +202,7 @@ module _ (bytes : ℕ) (asked : Option HandleCall) (here : OwnerStage) (h v firs
       → WorksOn bytes asked here s h v first growth cut t OperationProgress work
   operator_at s t p r of among OperationAction.PutResult is work does = as_done s t OperationProgress (result_works bytes asked here s h v first growth cut t p r of among is) work does
   operator_at s t p r of among OperationAction.Finish is work does = as_done s t OperationProgress (operation_finish_works bytes asked here s h v first growth cut t p r of among is) work does
-  operator_at s t p r of among _ is work does = absurd (cc)
+  operator_at s t p r of among _ is work does = absurd (nothing does)
 
   -- any act of a job that reads
   read_goes : (last : Option Session) (n : ℕ) → OwnerAs (owner_by_parts bytes asked here last) cut → (p : ReadProgress) → ReadAs p (acts_of n cut) → kind_of_job n (own cut) ≡ Reading
@@ -407,7 +408,7 @@ module _ (bytes : ℕ) (asked : Option HandleCall) (last : Option Session) (h v 
   step_by Acts here t w seen = by_did (did (owner_by_parts bytes asked here last)) refl seen
     where
       by_did : (o : Option Did) → did (owner_by_parts bytes asked here last) ≡ o → act_in o ≡ Some act → Goes (owner_in o (owner_by_parts bytes asked here last)) cut (by_owner h act first growth)
-      by_did None e seen = absurd (cc)
+      by_did None e seen = absurd (nothing seen)
       by_did (Some done) e seen =
           subst (λ a. Goes done.owner cut (by_owner h a first growth)) (ap (value_of act) seen) (own_goes (owner_by_parts bytes asked here last) h first growth cut done e t)
   step_by (Begins number) (OwnerStage.Polls p) t w seen =
@@ -425,7 +426,7 @@ module _ (bytes : ℕ) (asked : Option HandleCall) (last : Option Session) (h v 
     where
       by_work : (o : Option Worked) → worked p (owner_by_parts bytes asked here last) ≡ o → act_of_work o ≡ Some act
           → Goes (owner_after_work o (owner_by_parts bytes asked here last)) cut (by_its_job h v n act first growth)
-      by_work None e seen = absurd (cc)
+      by_work None e seen = absurd (nothing seen)
       by_work (Some done) e seen =
           subst (λ a. Goes done.owner cut (by_its_job h v n a first growth)) (ap (value_of act) seen)
           (works_goes bytes asked here h v first growth cut last n t p w.may.1 w.may.0 (w.among refl) done e)

@@ -43,6 +43,18 @@ module _ (s : Session) (shut : Bool) (took written : List ℕ) (acts : List Act)
   over_closed Operating a flow over sits lasts = absurd (let nobody = flow.plain.unseated in cc)
   over_closed _ a flow over sits lasts = absurd flow
 
+  -- a job without a pipe doesn't look into it
+  unseated : (kind : Kind) (a : JobAction) → is_piped_kind kind ≡ false → is_finding a ≡ true → Flows kind s shut took written a acts → ⊥
+  unseated (Seeking goal) FindRoom none finding flow = flow.next_is
+  unseated (Seeking goal) Peek none finding flow = flow.next_is
+  unseated (Seeking goal) (SendItem x) none finding flow = flow.next_is
+  unseated (Seeking goal) _ none finding flow = cc
+  unseated Operating FindRoom none finding flow = flow.next_is
+  unseated Operating Peek none finding flow = flow.next_is
+  unseated Operating (SendItem x) none finding flow = flow.next_is
+  unseated Operating _ none finding flow = cc
+  unseated _ a none finding flow = cc
+
 -- not both can't go on at a pipe that holds something
 not_both : (s : Session) (kind : Kind) → 0 < s.pipe.capacity → IsStuckIn kind s → IsOwnerStuckIn kind s → ⊥
 not_both s Reading some full none = let empty = ap (λ (l : List ℕ). length l) none in absurd (omega (arith, full, empty, some))
@@ -90,18 +102,6 @@ module _ (s : Session) (capacity : Kind → ℕ) (cut : List Event) (t : LastAs 
       there : is_some s.pipe.job_seat ≡ true
       there = ap is_some (t.seats.job ∙ ap (λ b. seat_of b s.number) job)
 
-      -- a job without a pipe doesn't look into it
-      unseated : (k : Kind) → is_piped_kind k ≡ false → (a : JobAction) → Flows k s (seen_is_shut (own cut)) (got (own cut)) (accepted (own cut)) a works → is_finding a ≡ true → ⊥
-      unseated (Seeking goal) none FindRoom flow finding = flow.next_is
-      unseated (Seeking goal) none Peek flow finding = flow.next_is
-      unseated (Seeking goal) none (SendItem x) flow finding = flow.next_is
-      unseated (Seeking goal) none _ flow finding = cc
-      unseated Operating none FindRoom flow finding = flow.next_is
-      unseated Operating none Peek flow finding = flow.next_is
-      unseated Operating none (SendItem x) flow finding = flow.next_is
-      unseated Operating none _ flow finding = cc
-      unseated _ none a flow finding = cc
-
       finds : is_finding (next_but_wake kind works) ≡ true
       finds = without (is_finding (next_but_wake kind works)) (has_given_up works) stays (t.seats.reason.job there).0
         where
@@ -111,14 +111,17 @@ module _ (s : Session) (capacity : Kind → ℕ) (cut : List Event) (t : LastAs 
       lasts : s.pipe.is_job_open ≡ true
       lasts = finding_lasts s (seen_is_shut (own cut)) (got (own cut)) (accepted (own cut)) works kind (next_but_wake kind works) finds t.flow
 
+      looks_nowhere : is_piped_kind kind ≡ false → ⊥
+      looks_nowhere none = unseated s (seen_is_shut (own cut)) (got (own cut)) (accepted (own cut)) works kind (next_but_wake kind works) none finds t.flow
+
       in_slot : (b : Bool) → is_some s.slot.seat ≡ b → b || is_some s.result.seat ≡ true → ⊥
       in_slot true seat sits =
           ⊎_elim (λ shut. (let open_is = (t.seats.reason.job there).2 in cc))
-          (λ other. ⊎_elim (λ closed. (let open_is = lasts in cc)) (λ without. unseated kind without (next_but_wake kind works) t.flow finds) other)
+          (λ other. ⊎_elim (λ closed. (let open_is = lasts in cc)) (λ without. looks_nowhere without) other)
           (t.seats.reason.slot seat).1
       in_slot false seat sits =
           let operates = (placed.reason sits).0 in
-          unseated kind (ap is_piped_kind operates) (next_but_wake kind works) t.flow finds
+          looks_nowhere (ap is_piped_kind operates)
 
       at : (b : Bool) → is_some s.pipe.owner_seat ≡ b → b || (is_some s.slot.seat || is_some s.result.seat) ≡ true → ⊥
       at true seat sits =

@@ -1,6 +1,6 @@
 use Rattle.std.proofs.Common.{◌≡◌}
 use Rattle.blocking_core.specs.Pipes.{empty_pipe}
-use Rattle.blk_bench.proofs.pipe.pass_through.Given as goal
+use Rattle.blk_bench.proofs.pipe.passes.Given as goal
 
 abbrev pub invariant-loop-piece : goal.invariant-loop-piece
 invariant-loop-piece l =
