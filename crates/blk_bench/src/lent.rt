@@ -162,8 +162,8 @@ fn stream_once<R: Host>(
     size: usize,
 ) -> io::Result<u64> {
     let end = size as u64;
-    let executor = executor.try_clone()?;
     let start = Instant::now(&rt)?;
+    let executor = executor.try_clone()?;
     let numbers = Numbers { next: 0, end };
     let items = match capacity {
         Some(capacity) if capacity > 0 => Unblock::with_capacity(capacity, executor, numbers),
@@ -240,8 +240,8 @@ fn seek_once<R: Host>(
     size: usize,
 ) -> io::Result<u64> {
     let bytes = vec![in rt.alloc(); 0u8; BYTES]?;
-    let executor = executor.try_clone()?;
     let start = Instant::now(&rt)?;
+    let executor = executor.try_clone()?;
     let seeking = Seeking {
         rt: host,
         owner: Unblock::<_, (), _, R>::new(executor, Cursor::new(bytes)),
@@ -313,9 +313,8 @@ fn operate_once<R: Host>(
     executor: &Executor<OpJob<Add, u64, R>, R>,
     size: usize,
 ) -> io::Result<u64> {
-    let executor = executor.try_clone()?;
     let start = Instant::now(&rt)?;
-    let mut owner = Unblock::new(executor, 0u64);
+    let mut owner = Unblock::new(executor.try_clone()?, 0u64);
     let all_right = operate(host, &mut owner, size as u64);
     let took = start.elapsed(&rt);
     drop(owner);

@@ -101,8 +101,8 @@ impl Writes {
     ) -> io::Result<u64> {
         let size = bytes.len();
         let memory = self.memory(rt.alloc(), size)?;
-        let writing = self.writing(host, executor, memory, Arc::try_clone(bytes)?)?;
         let start = Instant::now(&rt)?;
+        let writing = self.writing(host, executor, memory, Arc::try_clone(bytes)?)?;
         let written = block_on(&host, writing)??;
         let nanos = start.elapsed(&rt)?.as_nanos();
         if written.as_slice() != bytes.as_slice() {

@@ -114,22 +114,30 @@ fn waits_for_the_drop<A: AsyncWrite>(owner: &mut A, mock: &mut MockTask, track: 
     matches!(flushed, Polled::Pending) && track.goes() && woken(mock)
 }
 
-// Whether the owner of a dropped writing job waits for its flush until the job is dropped, and the worker goes on.
+// Whether the owner of a writing job that is dropped waits for its flush until then, and the worker goes on.
+fn waits_and_rests<J: Job + Carries<WriteJob<PlannedWriter<H>, H>>, H: Host>(
+    executor: &Executor<J, H>,
+    writer: PlannedWriter<H>,
+    mock: &mut MockTask,
+    track: &Track,
+) -> io::Result<bool> {
+    let shared = executor.try_clone()?;
+    let mut owner = Unblock::<_, (), J, H>::with_capacity(4, shared, writer);
+    Ok(waits_for_the_drop(&mut owner, mock, track) && rests(executor, 1))
+}
+
 fn wakes_its_owner<H: Host>(rt: H) -> io::Result<bool> {
     let page = Arc::new(rt.alloc(), Page::new(rt.alloc()))?;
-    let theirs = Arc::try_clone(&page)?;
-    let mut mock = MockTask::new(&rt)?;
-    let Ok(executor) = Executor::<CutWriter<H>, H>::new(rt, Some("1")) else {
-        return Err(io::Error::from(io::ErrorKind::Other));
-    };
-    let shared = executor.try_clone()?;
     let plan = Plan {
         writes: &[Taken::Stops],
         ..ALL
     };
-    let writer = PlannedWriter::new(rt, theirs, plan);
-    let mut owner = Unblock::<_, (), CutWriter<H>, H>::with_capacity(4, shared, writer);
-    Ok(waits_for_the_drop(&mut owner, &mut mock, &page.track) && rests(&executor, 1))
+    let writer = PlannedWriter::new(rt, Arc::try_clone(&page)?, plan);
+    let mut mock = MockTask::new(&rt)?;
+    let Ok(executor) = Executor::<CutWriter<H>, H>::new(rt, Some("1")) else {
+        return Err(io::Error::from(io::ErrorKind::Other));
+    };
+    waits_and_rests(&executor, writer, &mut mock, &page.track)
 }
 
 #[test]

@@ -47,22 +47,23 @@ type Streams<H> = Executor<ItemJob<Numbers, u64, H>, H>;
 
 // Takes all items to the end, and gives how many came, each in its place. (none where another came or no session could begin)
 #[derive(Drop)]
-struct InOrder<J: Job + Carries<ItemJob<Numbers, u64, H>>, H: Runtime> {
+struct InOrder<S: Stream<Item = Result<u64, Refusal>>, H: Runtime> {
     rt: H,
-    owner: Owner<J, H>,
+    items: S,
     came: u64,
 }
 
-impl<J: Job + Carries<ItemJob<Numbers, u64, H>>, H: Runtime> Future for InOrder<J, H> {
+impl<S: Stream<Item = Result<u64, Refusal>>, H: Runtime> Future for InOrder<S, H> {
     type Output = Option<u64>;
+
+    ghost can_poll = { λ it. S.can_poll it.items };
+
+    ghost needs = { λ it. S.needs it.items };
 
     fn poll(&mut self, cx: &mut Context<'_>) -> Poll<Option<u64>> {
         let rt = self.rt;
         for _ in rt.forever() {
-            if self.owner.is_closed() {
-                return Poll::Ready(None);
-            }
-            match self.owner.poll_next(cx) {
+            match self.items.poll_next(cx) {
                 Poll::Pending => return Poll::Pending,
                 Poll::Ready(Some(Ok(item))) if item == self.came => {
                     self.came = self.came.saturating_add(1);
@@ -82,14 +83,13 @@ fn owner<H: Host>(
     end: u64,
     asked: &Arc<AtomicUsize>,
 ) -> io::Result<Owner<ItemJob<Numbers, u64, H>, H>> {
-    let Ok(executor) = Streams::new(rt, Some("1")) else {
-        return Err(io::Error::from(io::ErrorKind::Other));
-    };
-    let asked = Arc::try_clone(asked)?;
     let numbers = Numbers {
         next: 0,
         end,
-        asked,
+        asked: Arc::try_clone(asked)?,
+    };
+    let Ok(executor) = Streams::new(rt, Some("1")) else {
+        return Err(io::Error::from(io::ErrorKind::Other));
     };
     Ok(if capacity > 0 {
         Unblock::with_capacity(capacity, executor, numbers)
@@ -105,8 +105,11 @@ fn counter<H: Host>(rt: H) -> io::Result<Arc<AtomicUsize>> {
 // How many of so many numbers come in order.
 fn in_order<H: Host>(rt: H, capacity: usize, end: u64) -> io::Result<Option<u64>> {
     let asked = counter(rt)?;
-    let owner = owner(rt, capacity, end, &asked)?;
-    block_on(&rt, InOrder { rt, owner, came: 0 })
+    let items = owner(rt, capacity, end, &asked)?;
+    if items.is_closed() {
+        return Ok(None);
+    }
+    block_on(&rt, InOrder { rt, items, came: 0 })
 }
 
 const MANY: u64 = 100_000;
@@ -171,10 +174,12 @@ fn comes_to(counter: &AtomicUsize, number: usize) -> bool {
 #[test]
 fn at_capacity_one_two_items_are_out_at_most(rt: HostRuntime) -> Result<(), Fail> {
     let asked = counter(rt)?;
-    let mut owner = owner(rt, 1, 3, &asked)?;
     let mut mock = MockTask::new(&rt)?;
+    let mut owner = owner(rt, 1, 3, &asked)?;
     let received = usize::from(polled(&mut owner, &mut mock).is_ready());
-    assert!(rt; comes_to(&asked, 2 + received));
+    let are_two = comes_to(&asked, 2 + received);
+    drop(owner);
+    assert!(rt; are_two);
     Ok(())
 }
 
@@ -183,18 +188,33 @@ fn says<J: Job, H: Runtime>(alloc: Global, owner: &Owner<J, H>, text: &str) -> i
     Ok(format!(in alloc; "{owner:?}")?.as_str() == text)
 }
 
+// Whether three items come in order, and then the end.
+fn gives_three<J: Job + Carries<ItemJob<Numbers, u64, H>>, H: Runtime>(
+    owner: &mut Owner<J, H>,
+    mock: &mut MockTask,
+) -> bool {
+    for item in 0..3 {
+        if next(owner, mock) != Some(Ok(item)) {
+            return false;
+        }
+    }
+    next(owner, mock).is_none()
+}
+
 #[test]
 fn iterator_is_asked_again_after_its_end(rt: HostRuntime) -> Result<(), Fail> {
     let asked = counter(rt)?;
-    let mut owner = owner(rt, 1, 3, &asked)?;
     let mut mock = MockTask::new(&rt)?;
-    for item in 0..3 {
-        assert_eq!(rt; next(&mut owner, &mut mock), Some(Ok(item)));
-    }
-    assert_eq!(rt; next(&mut owner, &mut mock), None);
-    assert_eq!(rt; asked.load(Ordering::SeqCst), 4);
-    assert!(rt; says(rt.alloc(), &owner, "Unblock { io: from 3 }")?);
-    assert_eq!(rt; next(&mut owner, &mut mock), None);
+    let mut owner = owner(rt, 1, 3, &asked)?;
+    let gives_three = gives_three(&mut owner, &mut mock);
+    let asked_first = asked.load(Ordering::SeqCst);
+    let is_there = says(rt.alloc(), &owner, "Unblock { io: from 3 }");
+    let again = next(&mut owner, &mut mock);
+    drop(owner);
+    assert!(rt; gives_three);
+    assert_eq!(rt; asked_first, 4);
+    assert!(rt; is_there?);
+    assert_eq!(rt; again, None);
     assert_eq!(rt; asked.load(Ordering::SeqCst), 5);
     Ok(())
 }

@@ -26,38 +26,49 @@ struct Many<J: Job + Carries<WriteJob<Comparing, H>>, H: Runtime> {
     taken: u64,
 }
 
-impl<J: Job + Carries<WriteJob<Comparing, H>>, H: Runtime> Many<J, H> {
-    // Whether all were taken; none after a fault.
-    fn poll_all(&mut self, cx: &mut Context<'_>) -> Poll<bool>
-        ensures armed { OnPending result (IsArmed cx.new) }
-        ensures kept { Keeps cx.old cx.new }
-    {
-        let rt = self.rt;
-        for _ in rt.forever() {
-            let left = usize::try_from(self.bytes.saturating_sub(self.taken)).unwrap_or(PIECE);
-            if left == 0 || self.owner.is_closed() {
-                return Poll::Ready(left == 0);
-            }
-            match self
-                .owner
-                .poll_write(cx, self.cycle.at(self.taken, left.min(PIECE)))
-            {
-                Poll::Pending => return Poll::Pending,
-                Poll::Ready(Ok(count)) if count > 0 => {
-                    self.taken = self.taken.saturating_add(count as u64);
-                }
-                Poll::Ready(_) => return Poll::Ready(false),
-            }
+// Hands on so many bytes from a place on, piece by piece, and tells whether all were taken; they weren't after a fault.
+fn hand_on<A: AsyncWrite, H: Runtime>(
+    rt: H,
+    owner: &mut A,
+    cx: &mut Context<'_>,
+    cycle: &Cycle,
+    bytes: u64,
+    taken: &mut u64,
+) -> Poll<bool>
+    requires { A.closed owner.old → ⊥ }
+    ensures open { A.closed owner.new → ⊥ }
+    ensures armed { OnPending result (IsArmed cx.new) }
+    ensures kept { Keeps cx.old cx.new }
+{
+    for _ in rt.forever() {
+        let left = usize::try_from(bytes.saturating_sub(*taken)).unwrap_or(PIECE);
+        if left == 0 {
+            return Poll::Ready(true);
         }
-        unreachable!()
+        match owner.poll_write(cx, cycle.at(*taken, left.min(PIECE))) {
+            Poll::Pending => return Poll::Pending,
+            Poll::Ready(Ok(count)) if count > 0 => *taken = taken.saturating_add(count as u64),
+            Poll::Ready(_) => return Poll::Ready(false),
+        }
     }
+    unreachable!()
 }
 
 impl<J: Job + Carries<WriteJob<Comparing, H>>, H: Runtime> Future for Many<J, H> {
     type Output = Option<u64>;
 
     fn poll(&mut self, cx: &mut Context<'_>) -> Poll<Option<u64>> {
-        match self.poll_all(cx) {
+        if self.owner.is_closed() {
+            return Poll::Ready(None);
+        }
+        match hand_on(
+            self.rt,
+            &mut self.owner,
+            cx,
+            &self.cycle,
+            self.bytes,
+            &mut self.taken,
+        ) {
             Poll::Pending => return Poll::Pending,
             Poll::Ready(true) => {}
             Poll::Ready(false) => return Poll::Ready(None),
@@ -77,10 +88,12 @@ impl<J: Job + Carries<WriteJob<Comparing, H>>, H: Runtime> Future for Many<J, H>
     }
 }
 
-type Writers<H> = Executor<WriteJob<Comparing, H>, H>;
-
 // How many bytes come to the writer, each in its place.
-fn come<H: Host>(rt: H, executor: &Writers<H>, row: &Row) -> io::Result<Option<u64>> {
+fn come<J: Job + Carries<WriteJob<Comparing, H>>, H: Host>(
+    rt: H,
+    executor: &Executor<J, H>,
+    row: &Row,
+) -> io::Result<Option<u64>> {
     let cycle = Cycle::new(rt.alloc())?;
     let writer = Comparing::new(Cycle::new(rt.alloc())?, row.at_once);
     let executor = executor.try_clone()?;
@@ -143,7 +156,7 @@ const ROWS: &[Row] = &[
 
 #[test]
 fn bytes_go_in_order(rt: HostRuntime) -> Result<(), Fail> {
-    let executor: Writers<HostRuntime> = Executor::new(rt, Some("1"))?;
+    let executor = Executor::<WriteJob<Comparing, _>, _>::new(rt, Some("1"))?;
     for row in ROWS {
         let came = come(rt, &executor, row)?;
         assert_eq!(rt; came, Some(row.bytes), "{}", row.name);

@@ -404,9 +404,6 @@ pub(crate) fn first_wrong<H: Host + Print>(
     way: Way,
     steps: &[Step],
 ) -> io::Result<Option<usize>> {
-    let Ok(executor) = Executor::<Jobs<H>, H>::new(rt, Some("1")) else {
-        return Err(io::Error::from(io::ErrorKind::Other));
-    };
     let gate = Arc::new(
         rt.alloc(),
         Gate {
@@ -415,6 +412,9 @@ pub(crate) fn first_wrong<H: Host + Print>(
         },
     )?;
     let handle = Gated::new(rt.alloc(), Arc::try_clone(&gate)?)?;
+    let Ok(executor) = Executor::<Jobs<H>, H>::new(rt, Some("1")) else {
+        return Err(io::Error::from(io::ErrorKind::Other));
+    };
     let owner = match way {
         Way::TooMuch => Unblock::with_capacity(usize::MAX, executor, handle),
         Way::Default => Unblock::new(executor, handle),

@@ -12,27 +12,24 @@ use std::test::Fail;
 // How many bytes the owner's buffer holds.
 const BUFFER: usize = 65_536;
 
-type Owner<J, H> = Unblock<Cycling<H>, (), J, H>;
-
 // Reads to the end, and gives how many bytes came, each of which was that of its place. (else none)
 #[derive(Drop)]
-struct Whole<J: Job + Carries<ReadJob<Cycling<H>, H>>, H: Runtime> {
+struct Whole<A: AsyncRead + Drop, H: Runtime> {
     rt: H,
-    owner: Owner<J, H>,
+    owner: A,
     buffer: Vec<u8>,
     cycle: Cycle,
     came: u64,
 }
 
-impl<J: Job + Carries<ReadJob<Cycling<H>, H>>, H: Runtime> Future for Whole<J, H> {
+impl<A: AsyncRead + Drop, H: Runtime> Future for Whole<A, H> {
     type Output = Option<u64>;
+
+    ghost can_poll = { λ it. A.closed it.owner → ⊥ };
 
     fn poll(&mut self, cx: &mut Context<'_>) -> Poll<Option<u64>> {
         let rt = self.rt;
         for _ in rt.forever() {
-            if self.owner.is_closed() {
-                return Poll::Ready(None);
-            }
             match self.owner.poll_read(cx, &mut self.buffer) {
                 Poll::Pending => return Poll::Pending,
                 Poll::Ready(Ok(0)) => return Poll::Ready(Some(self.came)),
@@ -47,15 +44,17 @@ impl<J: Job + Carries<ReadJob<Cycling<H>, H>>, H: Runtime> Future for Whole<J, H
     }
 }
 
-type Readers<H> = Executor<ReadJob<Cycling<H>, H>, H>;
-
 // How many bytes come, where each is that of its place.
-fn come<H: Host>(rt: H, executor: &Readers<H>, row: &Row) -> io::Result<Option<u64>> {
+fn come<J: Job + Carries<ReadJob<Cycling<H>, H>>, H: Host>(
+    rt: H,
+    executor: &Executor<J, H>,
+    row: &Row,
+) -> io::Result<Option<u64>> {
     let buffer = vec![in rt.alloc(); 0u8; BUFFER]?;
     let cycle = Cycle::new(rt.alloc())?;
     let reader = Cycling::new(rt, row.pace, Cycle::new(rt.alloc())?);
     let executor = executor.try_clone()?;
-    let owner = match row.capacity {
+    let owner: Unblock<_, (), J, H> = match row.capacity {
         Some(capacity) if capacity > 0 => Unblock::with_capacity(capacity, executor, reader),
         _ => Unblock::new(executor, reader),
     };
@@ -137,7 +136,7 @@ const ROWS: &[Row] = &[
 
 #[test]
 fn bytes_come_in_order(rt: HostRuntime) -> Result<(), Fail> {
-    let executor: Readers<HostRuntime> = Executor::new(rt, Some("1"))?;
+    let executor = Executor::<ReadJob<Cycling<_>, _>, _>::new(rt, Some("1"))?;
     for row in ROWS {
         let came = come(rt, &executor, row)?;
         assert_eq!(rt; came, Some(row.pace.bytes), "{}", row.name);

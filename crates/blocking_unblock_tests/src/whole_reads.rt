@@ -116,8 +116,8 @@ fn first_wrong<J: Job + Carries<ReadJob<Planned, H>>, H: Host>(
 
 // The same, of an owner with a pipe of four.
 fn first_wrong_of_four<H: Host>(rt: H) -> Result<Option<usize>, Fail> {
-    let executor: Executor<ReadJob<Planned, H>, H> = Executor::new(rt, Some("1"))?;
     let reader = Planned::new(Arc::new(rt.alloc(), Track::new())?, PLAN);
+    let executor: Executor<ReadJob<Planned, H>, H> = Executor::new(rt, Some("1"))?;
     let mut owner: Owner<ReadJob<Planned, H>, H> = Unblock::with_capacity(4, executor, reader);
     Ok(first_wrong(&rt, &mut owner)?)
 }

@@ -428,6 +428,16 @@ where
             Goes => Ok(self.page.track.goes()),
         }
     }
+
+    // The place of the first step that shows something else than it must, if there is one.
+    fn first_wrong(&mut self, steps: &[Step]) -> io::Result<Option<usize>> {
+        for (place, step) in steps.iter().enumerate() {
+            if !self.take(*step)? {
+                return Ok(Some(place));
+            }
+        }
+        Ok(None)
+    }
 }
 
 // What one poll of a step shows.
@@ -457,24 +467,20 @@ where
 
 /// The place of the first step of a row that shows something else than it must, if there is one.
 pub(crate) fn first_wrong<H: Host + Print>(rt: H, row: &Row) -> io::Result<Option<usize>> {
+    let page = Arc::new(rt.alloc(), Page::new(rt.alloc()))?;
+    let writer = PlannedWriter::new(rt, Arc::try_clone(&page)?, row.plan);
+    let mock = MockTask::new(&rt)?;
     let Ok(executor) = Executor::<Both<PlannedWriter<H>, H>, H>::new(rt, Some("1")) else {
         return Err(io::Error::from(ErrorKind::Other));
     };
-    let page = Arc::new(rt.alloc(), Page::new(rt.alloc()))?;
-    let writer = PlannedWriter::new(rt, Arc::try_clone(&page)?, row.plan);
     let capacity = row.capacity.max(1);
     let mut scene = Scene {
         rt,
         owner: Some(Unblock::with_capacity(capacity, executor, writer)),
         page,
-        mock: MockTask::new(&rt)?,
+        mock,
     };
-    for (place, step) in row.steps.iter().enumerate() {
-        if !scene.take(*step)? {
-            return Ok(Some(place));
-        }
-    }
-    Ok(None)
+    scene.first_wrong(row.steps)
 }
 
 #[test]
