@@ -26,7 +26,7 @@ struct Many<J: Job + Carries<WriteJob<Comparing, H>>, H: Runtime> {
     taken: u64,
 }
 
-// Hands on so many bytes from a place on, piece by piece, and tells whether all were taken; they weren't after a fault.
+// Hands on what isn't taken yet of so many bytes, piece by piece. Tells whether all were taken; after a fault they weren't.
 fn hand_on<A: AsyncWrite, H: Runtime>(
     rt: H,
     owner: &mut A,
