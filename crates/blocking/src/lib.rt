@@ -2,7 +2,8 @@
 #![tactic(auto)]
 
 pub use blocking_ends::{
-    AnyPlace, FillEnd, OwnerWaker, PeekEnd, PlaceRule, RecvEnd, SendEnd, link, link_in, link_with,
+    AnyPlace, FillEnd, OwnerWaker, PeekEnd, PlaceRule, RecvEnd, SendEnd, link, link_in,
+    link_in_over, link_over,
 };
 pub use blocking_executor::{
     CallJob, Cancel, Counts, Executor, Host, Runtime, Task, executor, job,

@@ -1,5 +1,6 @@
 pub mod Cores
 pub mod Faults
+pub mod Flat
 pub mod Items
 pub mod Lending
 pub mod Machines
@@ -13,4 +14,5 @@ pub mod Reading
 pub mod Seeks
 pub mod SlotAnswers
 pub mod Slots
+pub mod Stores
 pub mod Writing

@@ -1,5 +1,5 @@
 -- What the calls of a pipe answer, and what each leaves.
-use Rattle.std.specs.Prelude.{◌≡◌, ℕ, ◌<◌, min, List, [], ◌∷◌, ◌++◌, length, take, drop, Option, Some, None}
+use Rattle.std.specs.Prelude.{◌≡◌, ℕ, ◌+◌, ◌-◌, ◌<◌, min, true, false, List, [], ◌∷◌, ◌++◌, length, take, drop, Option, Some, None}
 use Rattle.blocking_pool.specs.Jobs.{JobNumber}
 use Rattle.blocking_core.specs.Pipes.{Pipe, room}
 use Rattle.blocking_core.specs.Places.{Served, Waiting, Closed, drain, receive, fill, find_room, hand_in, peek}
@@ -26,6 +26,20 @@ module _ {X W : Type 0} where
   -- the owner is seated, in the place of whoever was
   abbrev pub owner_seated : Pipe X W → W → Pipe X W
   owner_seated pipe waker = record pipe { owner_seat = Some waker }
+
+  -- The first n items are lent: they aren't inside any more, and take room.
+  abbrev pub front_lent : Pipe X W → ℕ → Pipe X W
+  front_lent pipe n = record pipe { items = drop n pipe.items; capacity = pipe.capacity - n; lent = pipe.lent + n }
+
+  -- The job let go of the first n items, of those that it was lent and then of those inside, and the owner's waker left its seat.
+  abbrev pub let_go : Pipe X W → ℕ → Pipe X W
+  let_go pipe n =
+      record pipe {
+        items = drop (n - pipe.lent) pipe.items;
+        capacity = pipe.capacity + min n pipe.lent;
+        lent = pipe.lent - n;
+        owner_seat = None;
+      }
 
   -- The owner took the first n items, and the note of the job.
   abbrev pub without_front : Pipe X W → ℕ → Pipe X W
@@ -68,6 +82,13 @@ module _ {X W : Type 0} where
   Peeks old me out peeked.Drained new shown =
       (peek (length out) old.items old.is_owner_open ≡ Closed) × (new ≡ old) × (shown ≡ out)
 
+  -- The job is lent the front of what is inside, so many items at most; or it is seated; or the pipe is drained.
+  abbrev pub Lends : Pipe X W → JobNumber → ℕ → Peeked → List X → Pipe X W → Type 0
+  Lends old me most (peeked.Some n) piece new =
+      (0 < n) × (n ≡ min most (length old.items)) × (piece ≡ take n old.items) × (new ≡ front_lent old n)
+  Lends old me most peeked.Parked piece new = (old.items ≡ []) × (old.is_owner_open ≡ true) × (new ≡ job_seated old me)
+  Lends old me most peeked.Drained piece new = (old.items ≡ []) × (old.is_owner_open ≡ false) × (new ≡ old)
+
   -- The owner drains: the front of what is inside is moved out, with the job's note; or that was all; or the owner is seated.
   -- The waker that isn't seated comes back.
   abbrev pub Drains : Pipe X W → W → List X → Drained → Option W → Pipe X W → List X → Type 0
@@ -108,3 +129,10 @@ module _ {X W : Type 0} where
       (fill (length given) (room old) old.is_job_open old.job_seat ≡ Closed) × (new ≡ old) × (spare ≡ Some waker)
   Fills old waker given (filled.Waits seat) spare new =
       (fill (length given) (room old) old.is_job_open old.job_seat ≡ Waiting) × (new ≡ owner_seated old waker) × (spare ≡ old.owner_seat)
+
+  -- An owner of whom n items went in is told of them, and takes the job's note; where none did it is seated.
+  abbrev pub TellsOfFill : Pipe X W → W → ℕ → Filled → Option W → Pipe X W → Type 0
+  TellsOfFill old waker n (filled.Took m note) spare new =
+      (0 < n) × (m ≡ n) × (note ≡ old.job_seat) × (new ≡ record old { job_seat = None }) × (spare ≡ Some waker)
+  TellsOfFill old waker n filled.Shut spare new = ⊥
+  TellsOfFill old waker n (filled.Waits seat) spare new = (n ≡ 0) × (new ≡ owner_seated old waker) × (spare ≡ old.owner_seat)

@@ -1,17 +1,23 @@
 //! The bounded pipe through which bytes or items cross between a job and its owner.
-ghost use Rattle.std.specs.Prelude.{◌≡◌, ◌<◌, ◌≤◌, ◌+◌, ◌++◌, false, length, min, take, drop, vec_capacity, IfOk, Some, None};
+ghost use Rattle.std.specs.Prelude.{◌≡◌, ◌<◌, ◌≤◌, ◌+◌, false, length, min, drop, take, ◌++◌, vec_capacity, IfOk, Some, None};
+ghost use Rattle.blocking_core.specs.declared.pipe.Filled.TheVariants.{Shut};
 
 use crate::task::Seat;
 use blocking_pool::pool::{JobNo, WakeNote};
-use circular_buffer::HeapCircularBuffer;
 use std::alloc::{AllocError, Global};
-use std::marker::Model;
+use std::marker::{Model, PhantomData};
 
+mod flat;
 mod lending;
 mod moving;
+mod ring;
+mod store;
 
-pub use lending::{LendingPipe, lending_is_plain};
-pub use moving::MovingPipe;
+pub use flat::FlatStore;
+pub use lending::LendingStore;
+pub use moving::MovingStore;
+pub use ring::RingStore;
+pub use store::{CopyStore, Store};
 
 /// How many bytes a pipe holds where nobody says otherwise.
 pub const DEFAULT_BYTES: usize = 8_388_608;
@@ -20,25 +26,32 @@ pub const DEFAULT_BYTES: usize = 8_388_608;
 pub const DEFAULT_ITEMS: usize = 8192;
 
 /// A pipe of bytes.
-pub type BytePipe<W> = Pipe<u8, W>;
+pub type BytePipe<W> = Pipe<u8, W, FlatStore>;
 
 /// A pipe of items.
-pub type ItemPipe<X, W> = Pipe<X, W>;
+pub type ItemPipe<X, W> = Pipe<X, W, RingStore<X>>;
 
 /// A list of at most so many items between a job and its owner, with an end for each and a seat at each end.
 ///
 /// Either side takes or gives what it can, and is seated where it can't: the owner by its waker, the job by its number. What
-/// the other side then does takes it out of its seat, to be woken. Either end may be closed, and stays so.
+/// the other side then does takes it out of its seat, to be woken. Either end may be closed, and stays so. What holds the items is its
+/// store `S`, over each of which every call answers the same.
+///
+/// A job may be lent what stands at the front, to use it under no lock. Until it lets go of that, it takes room as if it were inside.
 #[derive(Drop)]
-pub struct Pipe<X: Drop, W: Drop> {
-    ring: HeapCircularBuffer<X>,
+pub struct Pipe<X: Drop, W: Drop, S: Store<X>> {
+    store: S,
+    // How many items are lent.
+    lent: usize,
     is_owner_open: bool,
     is_job_open: bool,
     owner_seat: Option<W>,
     job_seat: Option<JobNo>,
+    item: PhantomData<X>,
 }
 
-impl<X: Drop, W: Drop> Model for Pipe<X, W> {
+impl<X: Drop, W: Drop, S: Store<X>> Model for Pipe<X, W, S> {
+    ghost use Rattle.std.specs.Prelude.{◌-◌};
     ghost use Rattle.blocking_core.specs.Pipes.{Pipe as Seen, pipe_code, IsBounded};
 
     ghost Value = { Seen X W };
@@ -46,15 +59,16 @@ impl<X: Drop, W: Drop> Model for Pipe<X, W> {
     ghost coded = { pipe_code X.code W.code };
 
     ghost view = { λ p. record {
-      items = p.ring.items;
-      capacity = p.ring.capacity;
+      items = (S.held p.store).items;
+      capacity = (S.held p.store).capacity - p.lent;
+      lent = p.lent;
       is_owner_open = p.is_owner_open;
       is_job_open = p.is_job_open;
       owner_seat = p.owner_seat;
       job_seat = p.job_seat;
     } };
 
-    ghost invariant = { λ p. IsBounded p.ring };
+    ghost invariant = { λ p. IsBounded (S.held p.store) p.lent };
 }
 
 /// What a job finds that looks for room.
@@ -138,41 +152,10 @@ pub struct Answered<A, W> {
     pub spare: Option<W>,
 }
 
-// Copies the front of the ring, as much as there is room for, and tells how many items that were.
-fn copy_front<X: Copy>(ring: &HeapCircularBuffer<X>, out: &mut [X]) -> usize
-    ensures count { result ≡ min (length out.old) (length ring.now.items) }
-    ensures front { out.new ≡ take result ring.now.items ++ drop result out.old }
-{
-    let (front, back) = ring.as_slices();
-    let from_front = front.len().min(out.len());
-    let from_back = back.len().min(out.len() - from_front);
-    let count = from_front + from_back;
-    out[..from_front].copy_from_slice(&front[..from_front]);
-    out[from_front..count].copy_from_slice(&back[..from_back]);
-    count
-}
-
-// Appends the first `count` items of the ring, for which the piece has memory.
-fn append_front<X: Copy>(ring: &HeapCircularBuffer<X>, count: usize, piece: &mut Vec<X>)
-    requires inside { count ≤ length ring.now.items }
-    requires fits { length piece.old.items + count ≤ vec_capacity piece.old }
-    ensures items { piece.new.items ≡ piece.old.items ++ take count ring.now.items }
-    ensures room { vec_capacity piece.old ≤ vec_capacity piece.new }
-{
-    let (front, back) = ring.as_slices();
-    let from_front = front.len().min(count);
-    let from_back = count - from_front;
-    let Ok(()) = piece.extend_from_slice(&front[..from_front]) else {
-        unreachable!()
-    };
-    let Ok(()) = piece.extend_from_slice(&back[..from_back]) else {
-        unreachable!()
-    };
-}
-
-impl<X: Drop, W: Drop> Pipe<X, W> {
+impl<X: Drop, W: Drop, S: Store<X>> Pipe<X, W, S> {
+    ghost use Rattle.std.specs.Prelude.{[]};
     ghost use Rattle.blocking_core.specs.Pipes.{empty_pipe, room};
-    ghost use Rattle.blocking_core.specs.PipeAnswers.{FindsRoom, Sends, Receives};
+    ghost use Rattle.blocking_core.specs.PipeAnswers.{FindsRoom, Sends, Receives, let_go};
 
     /// An empty pipe for at most `capacity` items, both of whose ends are open. All its memory is taken here, and where there
     /// isn't so much the answer is an [`AllocError`].
@@ -180,30 +163,69 @@ impl<X: Drop, W: Drop> Pipe<X, W> {
         requires { 0 < capacity }
         ensures { IfOk result (λ pipe. pipe ≡ empty_pipe capacity) }
     {
-        let ring = HeapCircularBuffer::with_capacity(alloc, capacity)?;
-        Ok(Pipe {
-            ring,
+        Ok(Pipe::over(S::new(alloc, capacity)?))
+    }
+
+    /// An empty pipe over an empty store, for as many items as that holds. Both ends are open.
+    pub fn over(store: S) -> Self
+        requires some { let stored = S.held store in 0 < stored.capacity }
+        requires empty { let stored = S.held store in stored.items ≡ [] }
+        ensures { let stored = S.held store in result ≡ empty_pipe stored.capacity }
+    {
+        Pipe {
+            store,
+            lent: 0,
             is_owner_open: true,
             is_job_open: true,
             owner_seat: None,
             job_seat: None,
-        })
+            item: PhantomData,
+        }
+    }
+
+    /// What holds the items.
+    pub fn store(&self) -> &S
+        ensures items { let stored = S.held result.now in stored.items ≡ self.now.items }
+        ensures capacity { let stored = S.held result.now in stored.capacity ≡ self.now.capacity + self.now.lent }
+    {
+        &self.store
     }
 
     /// How many items are inside: the capacity at most.
     pub fn len(&self) -> usize
         ensures len { result ≡ length self.now.items }
         ensures within { length self.now.items ≤ self.now.capacity }
-        ensures some { 0 < self.now.capacity }
+        ensures some { 0 < self.now.capacity + self.now.lent }
     {
-        self.ring.len()
+        self.store.len()
+    }
+
+    /// How many items are lent.
+    pub fn lent(&self) -> usize
+        ensures { result ≡ self.now.lent }
+    {
+        self.lent
     }
 
     /// How many more items the pipe holds: the capacity at most.
     pub fn room(&self) -> usize
         ensures { result ≡ room self.now }
     {
-        self.ring.capacity() - self.len()
+        self.store.room() - self.lent
+    }
+
+    /// Whether the owner's end is open.
+    pub fn is_owner_open(&self) -> bool
+        ensures { result ≡ self.now.is_owner_open }
+    {
+        self.is_owner_open
+    }
+
+    /// Whether the job's end is open.
+    pub fn is_job_open(&self) -> bool
+        ensures { result ≡ self.now.is_job_open }
+    {
+        self.is_job_open
     }
 
     /// The job looks for room, and is seated where there is none.
@@ -228,13 +250,12 @@ impl<X: Drop, W: Drop> Pipe<X, W> {
         if !self.is_owner_open {
             return Sending::Shut(item);
         }
-        match self.ring.try_push_back(item) {
-            Ok(()) => Sending::Sent(self.unseat_owner()),
-            Err(item) => {
-                self.job_seat = Some(me);
-                Sending::Parked(item)
-            }
+        if self.room() == 0 {
+            self.job_seat = Some(me);
+            return Sending::Parked(item);
         }
+        self.store.push(item);
+        Sending::Sent(self.unseat_owner())
     }
 
     /// The job lets the first `count` items go, which are inside. Answers the waker of an owner who waited.
@@ -244,8 +265,19 @@ impl<X: Drop, W: Drop> Pipe<X, W> {
             record self.old { items = drop count self.old.items; owner_seat = None } }
         ensures waker { result ≡ self.old.owner_seat }
     {
-        let rest = self.len() - count;
-        self.ring.truncate_front(rest);
+        self.store.drop_front(count);
+        self.unseat_owner()
+    }
+
+    /// The job lets the first `count` items go, of those that it was lent and then of those inside. Answers the waker of an owner who waited.
+    pub fn let_go(&mut self, count: usize) -> Option<W>
+        requires { count ≤ self.old.lent + length self.old.items }
+        ensures pipe { self.new ≡ let_go self.old count }
+        ensures waker { result ≡ self.old.owner_seat }
+    {
+        let of_lent = count.min(self.lent);
+        self.lent -= of_lent;
+        self.store.drop_front(count - of_lent);
         self.unseat_owner()
     }
 
@@ -262,7 +294,7 @@ impl<X: Drop, W: Drop> Pipe<X, W> {
     pub fn receive_or_seat(&mut self, waker: W) -> Answered<Received<X>, W>
         ensures { Receives self.old waker result.answer result.spare self.new }
     {
-        match self.ring.pop_front() {
+        match self.store.pop() {
             Some(item) => Answered {
                 answer: Received::Got(item, self.unseat_job()),
                 spare: Some(waker),
@@ -296,33 +328,6 @@ impl<X: Drop, W: Drop> Pipe<X, W> {
         self.owner_seat.take()
     }
 
-    fn is_owner_open(&self) -> bool
-        ensures { result ≡ self.now.is_owner_open }
-    {
-        self.is_owner_open
-    }
-
-    fn is_job_open(&self) -> bool
-        ensures { result ≡ self.now.is_job_open }
-    {
-        self.is_job_open
-    }
-
-    // The owner is seated. Answers the waker that stood there.
-    fn seat_owner(&mut self, waker: W) -> Option<W>
-        ensures pipe { self.new ≡ record self.old { owner_seat = Some waker } }
-        ensures waker { result ≡ self.old.owner_seat }
-    {
-        self.owner_seat.replace(waker)
-    }
-
-    // The job is seated.
-    fn seat_job(&mut self, me: JobNo)
-        ensures { self.new ≡ record self.old { job_seat = Some me } }
-    {
-        self.job_seat = Some(me);
-    }
-
     // The job leaves its seat, and is to be woken.
     fn unseat_job(&mut self) -> Option<WakeNote>
         ensures pipe { self.new ≡ record self.old { job_seat = None } }
@@ -335,42 +340,10 @@ impl<X: Drop, W: Drop> Pipe<X, W> {
     }
 }
 
-impl<X: Copy, W: Drop> Pipe<X, W> {
+impl<X: Copy, W: Drop, S: CopyStore<X>> Pipe<X, W, S> {
     ghost use Rattle.blocking_core.specs.Pipes.{room};
-    ghost use Rattle.blocking_core.specs.PipeAnswers.{Puts, Peeks, Drains, Fills};
-
-    // Takes the first of the items, as many as there is room for, and wakes nobody.
-    fn take_in(&mut self, items: &[X]) -> usize
-        ensures count { result ≡ min (length items.now) (room self.old) }
-        ensures pipe { self.new ≡ record self.old { items = self.old.items ++ take result items.now } }
-    {
-        self.ring.fill_from_slice(items)
-    }
-
-    // Moves the front of what is inside into `out`, as many items as it holds, and tells how many they were.
-    fn move_into(&mut self, out: &mut [X]) -> usize
-        ensures count { result ≡ min (length out.old) (length self.old.items) }
-        ensures out { out.new ≡ take result self.old.items ++ drop result out.old }
-        ensures pipe { self.new ≡ record self.old { items = drop result self.old.items } }
-    {
-        self.ring.read_into(out)
-    }
-
-    // Moves the front of what is inside into a piece, as many items as are asked for at most, and tells how many they were.
-    fn move_front(&mut self, most: usize, piece: &mut Vec<X>) -> usize
-        requires { most ≤ vec_capacity piece.old }
-        ensures count { result ≡ min most (length self.old.items) }
-        ensures piece { piece.new.items ≡ take result self.old.items }
-        ensures pipe { self.new ≡ record self.old { items = drop result self.old.items } }
-        ensures room { vec_capacity piece.old ≤ vec_capacity piece.new }
-    {
-        let count = most.min(self.len());
-        let left = self.len() - count;
-        piece.clear();
-        append_front(&self.ring, count, piece);
-        self.ring.truncate_front(left);
-        count
-    }
+    ghost use Rattle.blocking_core.specs.PipeAnswers.{Puts, Peeks, Lends, Drains, Fills, TellsOfFill};
+    ghost use Rattle.blocking_core.specs.Stores.{IsReady};
 
     /// The job puts items, for all of which there is room.
     pub fn put(&mut self, items: &[X]) -> Put<W>
@@ -380,8 +353,31 @@ impl<X: Copy, W: Drop> Pipe<X, W> {
         if !self.is_owner_open {
             return Put::Lost;
         }
-        let _count = self.ring.fill_from_slice(items);
+        self.store.put_all(items);
         Put::In(self.unseat_owner())
+    }
+
+    /// The job puts the first `count` items of a piece, for all of which there is room. A store into which pieces move may take it as it is, and
+    /// gives one as long for it. What stands in the piece afterwards is not to be relied on.
+    pub fn put_piece(&mut self, piece: &mut Vec<X>, count: usize) -> Put<W>
+        requires some { count ≤ length piece.old.items }
+        requires room { count ≤ room self.old }
+        ensures puts { Puts self.old (take count piece.old.items) result self.new }
+        ensures long { length piece.new.items ≡ length piece.old.items }
+    {
+        if !self.is_owner_open {
+            return Put::Lost;
+        }
+        self.store.take_piece(piece, count);
+        Put::In(self.unseat_owner())
+    }
+
+    /// Copies the front of what is inside, as many items as `out` holds, and tells how many they were. Nobody is seated.
+    pub fn peek(&self, out: &mut [X]) -> usize
+        ensures count { result ≡ min (length out.old) (length self.now.items) }
+        ensures front { out.new ≡ take result self.now.items ++ drop result out.old }
+    {
+        self.store.copy_front(out)
     }
 
     /// The job copies the front of what is inside, as many items as `out` holds. Where the pipe is empty and the owner's end
@@ -390,8 +386,28 @@ impl<X: Copy, W: Drop> Pipe<X, W> {
         requires { 0 < length out.old }
         ensures { Peeks self.old me out.old result self.new out.new }
     {
-        if !self.ring.is_empty() {
-            return Peeked::Some(copy_front(&self.ring, out));
+        if self.store.len() > 0 {
+            return Peeked::Some(self.store.copy_front(out));
+        }
+        if !self.is_owner_open {
+            return Peeked::Drained;
+        }
+        self.job_seat = Some(me);
+        Peeked::Parked
+    }
+
+    /// The job is lent the front of what is inside, `most` items at most, in a piece: that which it hands in, whose items are gone then, or one
+    /// of the store's own for it. Where the pipe is empty and the owner's end is open the job is seated.
+    pub fn lend_or_seat(&mut self, me: JobNo, most: usize, piece: &mut Vec<X>) -> Peeked
+        requires some { 0 < most }
+        requires fits { most ≤ vec_capacity piece.old }
+        ensures lends { Lends self.old me most result piece.new.items self.new }
+        ensures fits { most ≤ vec_capacity piece.new }
+    {
+        if self.store.len() > 0 {
+            let count = self.store.give_piece(most, piece);
+            self.lent += count;
+            return Peeked::Some(count);
         }
         if !self.is_owner_open {
             return Peeked::Drained;
@@ -406,8 +422,8 @@ impl<X: Copy, W: Drop> Pipe<X, W> {
         requires { 0 < length out.old }
         ensures { Drains self.old waker out.old result.answer result.spare self.new out.new }
     {
-        if !self.ring.is_empty() {
-            let count = self.ring.read_into(out);
+        if self.store.len() > 0 {
+            let count = self.store.read_front(out);
             return Answered {
                 answer: Drained::Got(count, self.unseat_job()),
                 spare: Some(waker),
@@ -425,6 +441,37 @@ impl<X: Copy, W: Drop> Pipe<X, W> {
         }
     }
 
+    // Takes the first of the items, as many as there is room for, and wakes nobody. All of them may be taken as they stand ready.
+    fn take_in(&mut self, items: &[X], ready: &mut Vec<X>) -> usize
+        requires ready { IsReady ready.old.items items.now }
+        ensures count { result ≡ min (length items.now) (room self.old) }
+        ensures pipe { self.new ≡ record self.old { items = self.old.items ++ take result items.now } }
+        ensures ready { IsReady ready.new.items items.now }
+    {
+        let count = items.len().min(self.room());
+        let is_ready = ready.len() > 0 && count == items.len();
+        if !is_ready || !self.store.take_ready(ready) {
+            self.store.put_all(&items[..count]);
+        }
+        count
+    }
+
+    // What an owner is told of whom so many items went in. Where none did it is seated.
+    fn answer_fill(&mut self, waker: W, count: usize) -> Answered<Filled, W>
+        ensures { TellsOfFill self.old waker count result.answer result.spare self.new }
+    {
+        if count == 0 {
+            return Answered {
+                answer: Filled::Waits(Seat(())),
+                spare: self.owner_seat.replace(waker),
+            };
+        }
+        Answered {
+            answer: Filled::Took(count, self.unseat_job()),
+            spare: Some(waker),
+        }
+    }
+
     /// The owner fills in the first of the items, as many as there is room for. Where the pipe is full and the job's end is open
     /// the owner is seated.
     pub fn fill_or_seat(&mut self, waker: W, items: &[X]) -> Answered<Filled, W>
@@ -432,21 +479,41 @@ impl<X: Copy, W: Drop> Pipe<X, W> {
         ensures { Fills self.old waker items.now result.answer result.spare self.new }
     {
         if !self.is_job_open {
-            return Answered {
-                answer: Filled::Shut,
-                spare: Some(waker),
-            };
+            return shut(waker);
         }
-        if self.ring.is_full() {
-            return Answered {
-                answer: Filled::Waits(Seat(())),
-                spare: self.owner_seat.replace(waker),
-            };
+        let count = items.len().min(self.room());
+        self.store.put_all(&items[..count]);
+        self.answer_fill(waker, count)
+    }
+
+    /// As [`Pipe::fill_or_seat`]. What stands ready is a copy of the items, or nothing: a store that lends whole pieces may take it as it is,
+    /// and gives memory for the next.
+    pub fn fill_ready_or_seat(
+        &mut self,
+        waker: W,
+        items: &[X],
+        ready: &mut Vec<X>,
+    ) -> Answered<Filled, W>
+        requires some { 0 < length items.now }
+        requires ready { IsReady ready.old.items items.now }
+        ensures fills { Fills self.old waker items.now result.answer result.spare self.new }
+        ensures ready { IsReady ready.new.items items.now }
+    {
+        if !self.is_job_open {
+            return shut(waker);
         }
-        let count = self.ring.fill_from_slice(items);
-        Answered {
-            answer: Filled::Took(count, self.unseat_job()),
-            spare: Some(waker),
-        }
+        let count = self.take_in(items, ready);
+        self.answer_fill(waker, count)
+    }
+}
+
+// The job's end is closed.
+fn shut<W: Drop>(waker: W) -> Answered<Filled, W>
+    ensures answer { result.answer ≡ Shut }
+    ensures spare { result.spare ≡ Some waker }
+{
+    Answered {
+        answer: Filled::Shut,
+        spare: Some(waker),
     }
 }

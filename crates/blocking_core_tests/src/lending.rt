@@ -1,7 +1,7 @@
 //! The worked rows of a pipe that lends.
 use crate::pipe::bench::Bench;
 use crate::stop::stop;
-use blocking_core::pipe::{Answered, Filled, LendingPipe, Peeked};
+use blocking_core::pipe::{Answered, Filled, FlatStore, LendingStore, Peeked, Pipe};
 use blocking_core::pool::JobNo;
 use std::alloc::{AllocGlobal, Global};
 use std::process::Abort;
@@ -91,10 +91,10 @@ const BEHIND_A_BYTE: &[Line] = &[
 // A pipe, what stands ready of its owner, and what its job has in its hand.
 #[derive(Drop)]
 struct Both {
-    pipe: LendingPipe<u8, u8>,
+    pipe: Pipe<u8, u8, LendingStore<u8>>,
     ready: Vec<u8>,
     hand: Vec<u8>,
-    bench: Bench,
+    bench: Bench<FlatStore>,
     job: JobNo,
 }
 
@@ -115,7 +115,7 @@ fn in_order(bytes: &[u8]) -> bool {
 
 impl Both {
     fn new(alloc: Global) -> Option<Both> {
-        let pipe = LendingPipe::new(alloc, 5, WHOLE).ok()?;
+        let pipe = Pipe::over(LendingStore::with_piece(alloc, 5, WHOLE).ok()?);
         let ready = Vec::with_capacity(alloc, WHOLE).ok()?;
         let hand = Vec::with_capacity(alloc, WHOLE).ok()?;
         let bench = Bench::new(alloc, 1)?;
@@ -140,7 +140,7 @@ impl Both {
         }
         let Answered { answer, spare } = self
             .pipe
-            .fill_or_seat(OWNER, &bytes[..count], &mut self.ready);
+            .fill_ready_or_seat(OWNER, &bytes[..count], &mut self.ready);
         let shown = match answer {
             Filled::Took(count, note) => Shown::Took(count, self.bench.spend(note)),
             Filled::Shut => Shown::Over,
@@ -155,10 +155,10 @@ impl Both {
     }
 
     fn lend(&mut self) -> Shown {
-        if self.pipe.lent() > 0 || self.hand.capacity() < self.pipe.piece() {
+        if self.pipe.lent() > 0 || self.hand.capacity() < WHOLE {
             return Shown::Misplaced;
         }
-        match self.pipe.lend_or_seat(self.job, &mut self.hand) {
+        match self.pipe.lend_or_seat(self.job, WHOLE, &mut self.hand) {
             Peeked::Some(count) if count == self.hand.len() && in_order(&self.hand) => match self
                 .hand
                 .first()
@@ -177,7 +177,7 @@ impl Both {
             Step::Fill(first, count) => self.fill(first, count),
             Step::Lend => self.lend(),
             Step::Consume(count) if count <= self.pipe.lent() => Shown::Waker(
-                self.pipe.consume(count),
+                self.pipe.let_go(count),
             ),
             Step::Consume(_) => Shown::Misplaced,
             Step::CloseOwner => {

@@ -1,7 +1,9 @@
 //! The worked rows of a pipe into which pieces move.
 use crate::pipe::bench::Bench;
 use crate::stop::stop;
-use blocking_core::pipe::{Answered, Drained, MovingPipe, Put, Received, Room, Sending};
+use blocking_core::pipe::{
+    Answered, Drained, FlatStore, MovingStore, Pipe, Put, Received, RingStore, Room, Sending,
+};
 use blocking_core::pool::JobNo;
 use std::alloc::{AllocError, AllocGlobal, Global};
 use std::process::Abort;
@@ -114,9 +116,9 @@ const ROWS: &[(&str, &[Line])] = &[
 // A pipe, and its job with its piece.
 #[derive(Drop)]
 struct Both {
-    pipe: MovingPipe<u8, u8>,
+    pipe: Pipe<u8, u8, MovingStore<u8, RingStore<u8>>>,
     piece: Vec<u8>,
-    bench: Bench,
+    bench: Bench<FlatStore>,
     job: JobNo,
 }
 
@@ -143,7 +145,7 @@ fn first_of(bytes: &[u8]) -> Option<u8> {
 impl Both {
     fn new(alloc: Global) -> Option<Both> {
         let spare = piece(alloc, SPARE).ok()?;
-        let pipe = MovingPipe::new(alloc, CAPACITY, spare).ok()?;
+        let pipe = Pipe::over(MovingStore::with_spare(alloc, CAPACITY, spare).ok()?);
         let piece = piece(alloc, OWN).ok()?;
         let bench = Bench::new(alloc, 1)?;
         let job = bench.job(1)?;
@@ -172,7 +174,7 @@ impl Both {
             *byte = next;
             next = next.wrapping_add(1);
         }
-        match self.pipe.put(&mut self.piece, count) {
+        match self.pipe.put_piece(&mut self.piece, count) {
             Put::In(waker) => Shown::In(waker),
             Put::Lost => Shown::Over,
         }

@@ -1,5 +1,8 @@
 //! The worked rows of the pipe.
 pub(crate) mod bench;
+mod flat;
+mod lent;
+mod lists;
 
 use self::bench::Shown::{
     Are, Due, Found, Got, In, Item, Lost, Over, Parked, Sees, SeesNone, Shut, Took, Waits, Waker,
@@ -7,11 +10,11 @@ use self::bench::Shown::{
 use self::bench::Step::{
     CloseJob, CloseOwner, Consume, Drain, Fill, Free, Len, Peek, Put, Receive, Send, Unseat,
 };
-use self::bench::{Bench, Line, Row, Step, play};
+use self::bench::{Bench, Line, Row, Step, play, play_over};
 use crate::stop::stop;
 use blocking_core::pipe::{
-    Answered, BytePipe, DEFAULT_BYTES, DEFAULT_ITEMS, ItemPipe, Peeked, Pipe, Received, Room,
-    Sending,
+    Answered, BytePipe, DEFAULT_BYTES, DEFAULT_ITEMS, FlatStore, ItemPipe, Peeked, Pipe, Received,
+    Room, Sending,
 };
 use blocking_core::pool::JobNo;
 use std::alloc::AllocError;
@@ -137,7 +140,7 @@ const ONE_PIECE: &[Row] = &[Row {
 
 #[test]
 fn pipe_takes_one_piece_of_memory(rt: HostRuntime) {
-    play(&rt, ONE_PIECE);
+    play_over::<FlatStore, HostRuntime>(&rt, ONE_PIECE);
 }
 
 const EIGHT_MEBIBYTES: &[Row] = &[Row {
@@ -152,7 +155,7 @@ const EIGHT_MEBIBYTES: &[Row] = &[Row {
 
 #[test]
 fn default_pipe_of_bytes_has_room_for_eight_mebibytes(rt: HostRuntime) {
-    play(&rt, EIGHT_MEBIBYTES);
+    play_over::<FlatStore, HostRuntime>(&rt, EIGHT_MEBIBYTES);
 }
 
 // The first two rounds: from then on four bytes are inside before each.
@@ -180,7 +183,7 @@ fn later_round(next: u8) -> [Line; 4] {
 // Bytes go round a ring of seven by fives and threes, so that both halves of a cut piece are met on every side.
 #[test]
 fn bytes_come_out_in_order_round_the_ring(rt: HostRuntime) {
-    let Some(mut bench) = Bench::new(rt.alloc(), 7) else {
+    let Some(mut bench) = Bench::<FlatStore>::new(rt.alloc(), 7) else {
         stop(&rt, "no memory", 0)
     };
     if let Some(line) = bench.first_wrong(FIRST_ROUNDS) {
@@ -205,7 +208,7 @@ fn takes_all(pipe: &mut ItemPipe<u32, u8>, job: JobNo, count: u32) -> bool {
 
 // The item that is received, the serial of the job that is due then, and the waker that is left over.
 fn received(
-    bench: &mut Bench,
+    bench: &mut Bench<FlatStore>,
     pipe: &mut ItemPipe<u32, u8>,
 ) -> Option<(u32, Option<u64>, Option<u8>)> {
     let Answered { answer, spare } = pipe.receive_or_seat(1);
@@ -218,7 +221,7 @@ fn received(
 #[test]
 fn default_pipe_of_items_is_full_at_8192(rt: HostRuntime) {
     let name = "a pipe of items where nobody says how many";
-    let Some(mut bench) = Bench::new(rt.alloc(), 1) else {
+    let Some(mut bench) = Bench::<FlatStore>::new(rt.alloc(), 1) else {
         stop(&rt, name, 0)
     };
     let (Some(job), Ok(mut pipe)) = (bench.job(1), Pipe::new(rt.alloc(), DEFAULT_ITEMS)) else {

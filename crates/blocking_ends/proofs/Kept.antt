@@ -1,12 +1,11 @@
 -- What a pipe that counts keeps of its place rule, call by call.
 use Rattle.std.proofs.Common.{◌≡◌, ◌⊎◌, ℕ, ◌+◌, ◌-◌, ◌<◌, ◌≤◌, ◌==◌, if◌then◌else◌, min, Bool, true, false, List, [], ◌∷◌, ◌++◌, length, take, drop, get_or, slice_get, refl, sym, ap, ◌∙◌, subst, inl, inr, arith, Option, Some, None}
-use Rattle.std.proofs.lemmas.List.{length-append, length-take, length-take-le, length-drop, take_at}
+use Rattle.std.proofs.lemmas.List.{drop_all, length-append, length-take, length-take-le, length-drop, take_at}
 use Rattle.std.proofs.lemmas.Option.{slice_get_within, slice_get_cases}
-use Rattle.circular_buffer.proofs.Places.{slice_get-append_left, slice_get-append_right, slice_get-drop, slice_get-take}
-use Rattle.blocking_core.specs.Pipes.{Pipe}
+use Rattle.circular_buffer.proofs.Places.{below_or_not, slice_get-append_left, slice_get-append_right, slice_get-drop, slice_get-take}
+use Rattle.blocking_core.specs.Pipes.{Pipe, room}
 use Rattle.blocking_core.specs.Places.{Met, Served, Waiting, receive, fill}
-use Rattle.blocking_core.specs.PipeAnswers.{Puts, Drains, Receives}
-use Rattle.blocking_core.specs.Lending.{Lending, FillsIn, Lends, free}
+use Rattle.blocking_core.specs.PipeAnswers.{Puts, Drains, Receives, Fills, Lends, let_go}
 use Rattle.blocking_core.specs.declared.pipe.Put.{Put}
 use Rattle.blocking_core.specs.declared.pipe.Put.TheVariants as putting
 use Rattle.blocking_core.specs.declared.pipe.Drained.{Drained}
@@ -52,6 +51,21 @@ module _ {X : Type 0} (holds : ℕ → X → Type 0) where
       let here = slice_get-drop consumed items (count + i) (consumed + (count + i)) refl in
       subst (λ k. holds k x) place (held (count + i) x (here ∙ sym there ∙ at))
 
+  -- or all of them
+  pub hold_after : (n m consumed count : ℕ) (items : List X) → m ≡ n + count → HoldFrom holds n (drop consumed items)
+      → HoldFrom holds m (drop (consumed + min count (length (drop consumed items))) items)
+  hold_after n m consumed count items is held = elim (below_or_not (length (drop consumed items)) count) [
+    | inl past ↦
+        let left = length-drop consumed items in
+        let none : drop (consumed + min count (length (drop consumed items))) items ≡ [] =
+        drop_all (consumed + min count (length (drop consumed items))) items (omega (arith, left, past))
+        in
+        subst (λ rest. HoldFrom holds m rest) (sym none) (hold_none m [])
+    | inr inside ↦
+        let some : count ≡ min count (length (drop consumed items)) = omega (arith, inside) in
+        subst (λ k. HoldFrom holds m (drop (consumed + k) items)) some (hold_more n m consumed count items is held)
+  ]
+
   -- items that join at the end hold from there on
   pub hold_joined : (n m : ℕ) (items more : List X) → m ≡ n + length items → HoldFrom holds n items → HoldFrom holds m more → HoldFrom holds n (items ++ more)
   hold_joined n m items more is held also i x at = by (slice_get_cases items i).1 where
@@ -61,6 +75,15 @@ module _ {X : Type 0} (holds : ℕ → X → Type 0) where
         let from : i ≡ length items + (i - length items) = omega (arith, past.0) in
         let here : m + (i - length items) ≡ n + i = omega (arith, is, past.0) in
         subst (λ place. holds place x) here (also (i - length items) x (sym (slice_get-append_right items more i (i - length items) from) ∙ at))
+
+  -- the first items that were copied before others hold where all do
+  pub hold_copied : (n count : ℕ) (items others : List X) → count ≤ length items → HoldFrom holds n items
+      → HoldFrom holds n (take count (take count items ++ drop count others))
+  hold_copied n count items others some held =
+      let front : take count (take count items ++ drop count others) ≡ take count items =
+      take_at (take count items) (drop count others) count (length-take-le count items some)
+      in
+      subst (λ all. HoldFrom holds n all) (sym front) (hold_front n count items held)
 
 -- an item that is received was the first one inside
 first_received : {X N : Type 0} (items : List X) (is_open : Bool) (seat of_job : Option N) (item : X) → receive items is_open seat ≡ Served (item, of_job) → (0 < length items) × (slice_get items 0 ≡ Some item)
@@ -106,14 +129,13 @@ module _ {X : Type 0} (holds : ℕ → X → Type 0) (ended : ℕ → Type 0) wh
 
   module _ {W : Type 0} where
     -- an item was received
-    pub received_kept : (old new : Pipe X W) (waker : W) (answer : Received X) (spare : Option W) (item : X) (of_job : Option WakeNote) (sent received : ℕ) (is_open : Bool)
-        → answer ≡ receiving.Got item of_job → Receives old waker answer spare new → is_open ≡ old.is_job_open
-        → IsKept holds ended old.items sent received old.is_job_open
-        → (is_open ≡ new.is_job_open) × IsKept holds ended new.items sent (received + 1) new.is_job_open
-    received_kept old new waker answer spare item of_job sent received is_open is receives same kept =
+    pub received_kept : (old new : Pipe X W) (waker : W) (answer : Received X) (spare : Option W) (item : X) (of_job : Option WakeNote) (sent received : ℕ)
+        → answer ≡ receiving.Got item of_job → Receives old waker answer spare new
+        → IsKept holds ended old.items sent received old.is_job_open → IsKept holds ended new.items sent (received + 1) new.is_job_open
+    received_kept old new waker answer spare item of_job sent received is receives kept =
         let one : Receives old waker (receiving.Got item of_job) spare new = subst (λ a. Receives old waker a spare new) is receives in
-        subst (λ p. (is_open ≡ p.is_job_open) × IsKept holds ended p.items sent (received + 1) p.is_job_open) (sym one.1)
-        (same, left_kept old.items sent received 1 old.is_job_open (let some = (first_received old.items old.is_job_open old.job_seat of_job item one.0).0 in omega (arith, some)) kept)
+        subst (λ p. IsKept holds ended p.items sent (received + 1) p.is_job_open) (sym one.1)
+        (left_kept old.items sent received 1 old.is_job_open (let some = (first_received old.items old.is_job_open old.job_seat of_job item one.0).0 in omega (arith, some)) kept)
 
     -- what was received holds at its place
     pub received_held : (old new : Pipe X W) (waker : W) (answer : Received X) (spare : Option W) (sent received : ℕ)
@@ -125,15 +147,14 @@ module _ {X : Type 0} (holds : ℕ → X → Type 0) (ended : ℕ → Type 0) wh
     received_held old new waker (receiving.Waits seat) spare sent received kept receives = tt
 
     -- items were drained
-    pub drained_kept : (old new : Pipe X W) (waker : W) (out got : List X) (answer : Drained) (spare : Option W) (count : ℕ) (of_job : Option WakeNote) (sent received : ℕ) (is_open : Bool)
-        → answer ≡ draining.Got count of_job → Drains old waker out answer spare new got → is_open ≡ old.is_job_open
-        → IsKept holds ended old.items sent received old.is_job_open
-        → (is_open ≡ new.is_job_open) × IsKept holds ended new.items sent (received + count) new.is_job_open
-    drained_kept old new waker out got answer spare count of_job sent received is_open is drains same kept =
+    pub drained_kept : (old new : Pipe X W) (waker : W) (out got : List X) (answer : Drained) (spare : Option W) (count : ℕ) (of_job : Option WakeNote) (sent received : ℕ)
+        → answer ≡ draining.Got count of_job → Drains old waker out answer spare new got
+        → IsKept holds ended old.items sent received old.is_job_open → IsKept holds ended new.items sent (received + count) new.is_job_open
+    drained_kept old new waker out got answer spare count of_job sent received is drains kept =
         let one : Drains old waker out (draining.Got count of_job) spare new got = subst (λ a. Drains old waker out a spare new got) is drains in
         let least = one.2 in
-        subst (λ p. (is_open ≡ p.is_job_open) × IsKept holds ended p.items sent (received + count) p.is_job_open) (sym one.3)
-        (same, left_kept old.items sent received count old.is_job_open (omega (arith, least)) kept)
+        subst (λ p. IsKept holds ended p.items sent (received + count) p.is_job_open) (sym one.3)
+        (left_kept old.items sent received count old.is_job_open (omega (arith, least)) kept)
 
     -- what was drained holds at its places
     pub drained_held : (old new : Pipe X W) (waker : W) (out got : List X) (answer : Drained) (spare : Option W) (sent received : ℕ)
@@ -141,76 +162,62 @@ module _ {X : Type 0} (holds : ℕ → X → Type 0) (ended : ℕ → Type 0) wh
         → HoldFrom holds received (take (got_by_drain answer) got)
     drained_held old new waker out got (draining.Got count of_job) spare sent received kept drains =
         let least = drains.2 in
-        let front : take count (take count old.items ++ drop count out) ≡ take count old.items =
-        take_at (take count old.items) (drop count out) count (length-take-le count old.items (omega (arith, least)))
-        in
-        subst (λ all. HoldFrom holds received (take count all)) (sym drains.4)
-        (subst (λ items. HoldFrom holds received items) (sym front) (hold_front holds received count old.items kept.each))
+        subst (λ all. HoldFrom holds received (take count all)) (sym drains.4) (hold_copied holds received count old.items out (omega (arith, least)) kept.each)
     drained_held old new waker out got draining.Ended spare sent received kept drains = hold_none holds received got
     drained_held old new waker out got (draining.Waits seat) spare sent received kept drains = hold_none holds received got
 
     -- items were put, by a job whose end is open
-    pub put_kept : (old new : Pipe X W) (given : List X) (answer : Put W) (waker : Option W) (sent after received : ℕ) (is_open : Bool)
-        → answer ≡ putting.In waker → Puts old given answer new → after ≡ sent + length given → is_open ≡ true → HoldFrom holds sent given
-        → is_open ≡ old.is_job_open → IsKept holds ended old.items sent received old.is_job_open
-        → (is_open ≡ new.is_job_open) × IsKept holds ended new.items after received new.is_job_open
-    put_kept old new given answer waker sent after received is_open is puts more lasts held same kept =
+    pub put_kept : (old new : Pipe X W) (given : List X) (answer : Put W) (waker : Option W) (sent after received : ℕ)
+        → answer ≡ putting.In waker → Puts old given answer new → after ≡ sent + length given → old.is_job_open ≡ true → HoldFrom holds sent given
+        → IsKept holds ended old.items sent received old.is_job_open → IsKept holds ended new.items after received new.is_job_open
+    put_kept old new given answer waker sent after received is puts more lasts held kept =
         let one : Puts old given (putting.In waker) new = subst (λ a. Puts old given a new) is puts in
-        subst (λ p. (is_open ≡ p.is_job_open) × IsKept holds ended p.items after received p.is_job_open) (sym one.1) (
-          same,
-          subst (λ n. IsKept holds ended (old.items ++ given) n received old.is_job_open) (sym more)
-              (joined_kept old.items given sent received old.is_job_open (sym same ∙ lasts) held kept),
-        )
+        subst (λ p. IsKept holds ended p.items after received p.is_job_open) (sym one.1)
+        (subst (λ n. IsKept holds ended (old.items ++ given) n received old.is_job_open) (sym more) (joined_kept old.items given sent received old.is_job_open lasts held kept))
 
-    -- items were let go of those that were lent
-    pub consumed_kept : (old new : Lending X W) (count sent received : ℕ) (is_open : Bool)
-        → new ≡ record old { pipe = record old.pipe { owner_seat = None }; lent = old.lent - count } → count ≤ old.lent → is_open ≡ old.pipe.is_owner_open
-        → IsKept holds ended old.pipe.items sent (received + old.lent) old.pipe.is_owner_open
-        → (is_open ≡ new.pipe.is_owner_open) × IsKept holds ended new.pipe.items sent (received + count + new.lent) new.pipe.is_owner_open
-    consumed_kept old new count sent received is_open after some same kept =
-        let all : received + old.lent ≡ received + count + (old.lent - count) = omega (arith, some) in
-        subst (λ p. (is_open ≡ p.pipe.is_owner_open) × IsKept holds ended p.pipe.items sent (received + count + p.lent) p.pipe.is_owner_open) (sym after)
-        (same, subst (λ n. IsKept holds ended old.pipe.items sent n old.pipe.is_owner_open) all kept)
+    -- items were let go, of those that were lent and then of those inside
+    pub consumed_kept : (old new : Pipe X W) (count sent received : ℕ) → new ≡ let_go old count → count ≤ old.lent + length old.items
+        → IsKept holds ended old.items sent (received + old.lent) old.is_owner_open
+        → IsKept holds ended new.items sent (received + count + new.lent) new.is_owner_open
+    consumed_kept old new count sent received after some kept =
+        let place : received + old.lent + (count - old.lent) ≡ received + count + (old.lent - count) = omega arith in
+        subst (λ p. IsKept holds ended p.items sent (received + count + p.lent) p.is_owner_open) (sym after)
+        (subst (λ n. IsKept holds ended (drop (count - old.lent) old.items) sent n old.is_owner_open) place
+        (left_kept old.items sent (received + old.lent) (count - old.lent) old.is_owner_open (omega (arith, some)) kept))
 
     -- items were filled in, by an owner whose end is open
-    pub filled_kept : (old new : Lending X W) (waker : W) (given : List X) (answer : Filled) (spare : Option W) (count : ℕ) (of_job : Option WakeNote) (sent received : ℕ) (is_open : Bool)
-        → answer ≡ filling.Took count of_job → FillsIn old waker given answer spare new → is_open ≡ true → HoldFrom holds sent given
-        → is_open ≡ old.pipe.is_owner_open → IsKept holds ended old.pipe.items sent (received + old.lent) old.pipe.is_owner_open
-        → (is_open ≡ new.pipe.is_owner_open) × IsKept holds ended new.pipe.items (sent + count) (received + new.lent) new.pipe.is_owner_open
-    filled_kept old new waker given answer spare count of_job sent received is_open is fills lasts held same kept =
-        let one : FillsIn old waker given (filling.Took count of_job) spare new = subst (λ a. FillsIn old waker given a spare new) is fills in
+    pub filled_kept : (old new : Pipe X W) (waker : W) (given : List X) (answer : Filled) (spare : Option W) (count : ℕ) (of_job : Option WakeNote) (sent received : ℕ)
+        → answer ≡ filling.Took count of_job → Fills old waker given answer spare new → old.is_owner_open ≡ true → HoldFrom holds sent given
+        → IsKept holds ended old.items sent (received + old.lent) old.is_owner_open
+        → IsKept holds ended new.items (sent + count) (received + new.lent) new.is_owner_open
+    filled_kept old new waker given answer spare count of_job sent received is fills lasts held kept =
+        let one : Fills old waker given (filling.Took count of_job) spare new = subst (λ a. Fills old waker given a spare new) is fills in
         let taken : length (take count given) ≡ count =
-        length-take-le count given (filled_within (length given) (free old) count old.pipe.is_job_open old.pipe.job_seat of_job one.0) in
-        subst (λ p. (is_open ≡ p.pipe.is_owner_open) × IsKept holds ended p.pipe.items (sent + count) (received + p.lent) p.pipe.is_owner_open) (sym one.2) (
-          same,
-          subst (λ n. IsKept holds ended (old.pipe.items ++ take count given) (sent + n) (received + old.lent) old.pipe.is_owner_open) taken
-              (joined_kept old.pipe.items (take count given) sent (received + old.lent) old.pipe.is_owner_open (sym same ∙ lasts) (hold_front holds sent count given held) kept),
-        )
+        length-take-le count given (filled_within (length given) (room old) count old.is_job_open old.job_seat of_job one.0) in
+        subst (λ p. IsKept holds ended p.items (sent + count) (received + p.lent) p.is_owner_open) (sym one.2)
+        (subst (λ n. IsKept holds ended (old.items ++ take count given) (sent + n) (received + old.lent) old.is_owner_open) taken
+        (joined_kept old.items (take count given) sent (received + old.lent) old.is_owner_open lasts (hold_front holds sent count given held) kept))
 
     -- the front was lent
-    pub lent_kept : (old new : Lending X W) (me : JobNumber) (answer : Peeked) (piece : List X) (sent received : ℕ) (is_open : Bool)
-        → Lends old me answer piece new → old.lent ≡ 0 → is_open ≡ old.pipe.is_owner_open
-        → IsKept holds ended old.pipe.items sent (received + old.lent) old.pipe.is_owner_open
-        → (is_open ≡ new.pipe.is_owner_open) × IsKept holds ended new.pipe.items sent (received + new.lent) new.pipe.is_owner_open
-    lent_kept old new me (peeking.Some n) piece sent received is_open lends none same kept =
-        let here : received + old.lent ≡ received = omega (arith, none) in
-        subst (λ p. (is_open ≡ p.pipe.is_owner_open) × IsKept holds ended p.pipe.items sent (received + p.lent) p.pipe.is_owner_open) (sym lends.3) (
-          same,
-          left_kept old.pipe.items sent received n old.pipe.is_owner_open (omega (arith, lends.1))
-              (subst (λ m. IsKept holds ended old.pipe.items sent m old.pipe.is_owner_open) here kept),
-        )
-    lent_kept old new me peeking.Parked piece sent received is_open lends none same kept =
-        subst (λ p. (is_open ≡ p.pipe.is_owner_open) × IsKept holds ended p.pipe.items sent (received + p.lent) p.pipe.is_owner_open) (sym lends.2)
-        (same, kept)
-    lent_kept old new me peeking.Drained piece sent received is_open lends none same kept =
-        subst (λ p. (is_open ≡ p.pipe.is_owner_open) × IsKept holds ended p.pipe.items sent (received + p.lent) p.pipe.is_owner_open) (sym lends.2)
-        (same, kept)
+    pub lent_kept : (old new : Pipe X W) (me : JobNumber) (most : ℕ) (answer : Peeked) (piece : List X) (sent received : ℕ)
+        → Lends old me most answer piece new
+        → IsKept holds ended old.items sent (received + old.lent) old.is_owner_open
+        → IsKept holds ended new.items sent (received + new.lent) new.is_owner_open
+    lent_kept old new me most (peeking.Some n) piece sent received lends kept =
+        let place : received + old.lent + n ≡ received + (old.lent + n) = omega arith in
+        subst (λ p. IsKept holds ended p.items sent (received + p.lent) p.is_owner_open) (sym lends.3)
+        (subst (λ m. IsKept holds ended (drop n old.items) sent m old.is_owner_open) place
+        (left_kept old.items sent (received + old.lent) n old.is_owner_open (omega (arith, lends.1)) kept))
+    lent_kept old new me most peeking.Parked piece sent received lends kept =
+        subst (λ p. IsKept holds ended p.items sent (received + p.lent) p.is_owner_open) (sym lends.2) kept
+    lent_kept old new me most peeking.Drained piece sent received lends kept =
+        subst (λ p. IsKept holds ended p.items sent (received + p.lent) p.is_owner_open) (sym lends.2) kept
 
 module _ {X W : Type 0} where
   -- a fill takes some of what was given
-  pub filled_some : (old new : Lending X W) (waker : W) (given : List X) (answer : Filled) (spare : Option W) → FillsIn old waker given answer spare new
+  pub filled_some : (old new : Pipe X W) (waker : W) (given : List X) (answer : Filled) (spare : Option W) → Fills old waker given answer spare new
       → IfTook answer (λ n. (0 < n) × (n ≤ length given))
   filled_some old new waker given (filling.Took count of_job) spare fills =
-      (fills.1, filled_within (length given) (free old) count old.pipe.is_job_open old.pipe.job_seat of_job fills.0)
+      (fills.1, filled_within (length given) (room old) count old.is_job_open old.job_seat of_job fills.0)
   filled_some old new waker given filling.Shut spare fills = tt
   filled_some old new waker given (filling.Waits seat) spare fills = tt

@@ -1,9 +1,7 @@
 -- What contracts see of a pipe that counts, and what it keeps of its place rule.
-use Rattle.std.specs.Prelude.{◌≡◌, ℕ, ◌+◌, Bool, false, List, length, Option, refl}
-use Rattle.std.specs.Coded.{Coded, code_by, coded×, coded_ℕ, coded_list, coded_option}
+use Rattle.std.specs.Prelude.{◌≡◌, ℕ, ◌+◌, max, Bool, false, List, length, refl}
+use Rattle.std.specs.Coded.{Coded, code_by, coded×, coded_ℕ, coded_list}
 use Rattle.blocking_ends.specs.Rules.{HoldFrom}
-use Rattle.futures.specs.declared.task.waker.Waker.{Waker}
-use Rattle.futures.specs.contracts.task.waker.Waker.{the_row as waker_row}
 
 -- a pipe, and how many items were sent into it since it was made, and how many its other side took or let go
 pub record Counted (P : Type 0) : Type 0 where
@@ -16,19 +14,21 @@ counted_code {P} pipe =
     code_by (P × (ℕ × ℕ)) (coded× pipe (coded× coded_ℕ coded_ℕ)) (λ seen. (seen.pipe, (seen.sent, seen.received)))
     (λ parts. record { pipe = parts.0; sent = parts.1.0; received = parts.1.1 }) (λ _. refl)
 
--- an end that is lent what it looks at: how many items it let go, and those that it has in its hand
+-- an end that looks at items before it lets them go: how many it let go, those that it was lent and has in its hand, and how many of those
+-- that it looked at last it still may let go
 pub record Peeking (X : Type 0) : Type 0 where
   pub received : ℕ
   pub shown : List X
+  pub peeked : ℕ
 
 abbrev pub peeking_code : {X : Type 0} → Coded X → Coded (Peeking X)
 peeking_code {X} item =
-    code_by (ℕ × List X) (coded× coded_ℕ (coded_list item)) (λ seen. (seen.received, seen.shown))
-    (λ parts. record { received = parts.0; shown = parts.1 }) (λ _. refl)
+    code_by (ℕ × (List X × ℕ)) (coded× coded_ℕ (coded× (coded_list item) coded_ℕ)) (λ seen. (seen.received, (seen.shown, seen.peeked)))
+    (λ parts. record { received = parts.0; shown = parts.1.0; peeked = parts.1.1 }) (λ _. refl)
 
--- the code of an owner's waker, which says nothing of it
-abbrev pub waker_code : Coded (Option Waker)
-waker_code = coded_option waker_row.coded
+-- how many items it may let go: what it was lent, or what it looked at
+abbrev pub may_consume : {X : Type 0} → Peeking X → ℕ
+may_consume seen = max (length seen.shown) seen.peeked
 
 -- What a pipe keeps of a rule: what was sent was received, or is lent, or stands in it; each item that stands in it holds at its place; and
 -- where the sender's end is closed the number that was sent is one at which it may end. (What is lent counts as received here.)

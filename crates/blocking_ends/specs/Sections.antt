@@ -3,8 +3,8 @@
 use Rattle.std.specs.Prelude.{◌≡◌, ◌⊎◌, ℕ, ◌+◌, ◌<◌, min, Bool, false, List, length, Option, Some}
 use Rattle.blocking_pool.specs.Jobs.{JobNumber}
 use Rattle.blocking_core.specs.Pipes.{Pipe}
+use Rattle.blocking_core.specs.Pipes as pipes
 use Rattle.blocking_core.specs.PipeAnswers as pipe
-use Rattle.blocking_core.specs.Lending as lending
 use Rattle.blocking_core.specs.declared.pipe.Room.{Room}
 use Rattle.blocking_core.specs.declared.pipe.Put.{Put}
 use Rattle.blocking_core.specs.declared.pipe.Put.TheVariants as put
@@ -22,9 +22,13 @@ use Rattle.blocking_ends.specs.Counted.{Counted}
 abbrev pub greatest : ℕ
 greatest = 18446744073709551615
 
--- after so many were sent: the other end is closed, or the sender's own, or n more would be too many to count
+-- after so many were sent: the sender's end is closed, or n more would be too many to count
+abbrev pub IsAtEnd : ℕ → Bool → ℕ → Type 0
+IsAtEnd sent is_open n = (is_open ≡ false) ⊎ (greatest < sent + n)
+
+-- that, or the other end is closed
 abbrev pub TakesNone : ℕ → Bool → Bool → ℕ → Type 0
-TakesNone sent is_open is_read n = (is_read ≡ false) ⊎ ((is_open ≡ false) ⊎ (greatest < sent + n))
+TakesNone sent is_open is_read n = (is_read ≡ false) ⊎ IsAtEnd sent is_open n
 
 -- so many more were sent, and so many more received
 pub record Counts {P : Type 0} (old : Counted P) (more got : ℕ) (new : Counted P) : Type 0 where
@@ -57,16 +61,16 @@ module _ {X W : Type 0} where
   Receives old waker answer spare new = pipe.Receives old.pipe waker answer spare new.pipe × Counts old 0 (got_by_receive answer) new
 
   -- the owner fills: as many as there is room for are inside; or none, and the waker comes back; or the owner is seated
-  abbrev pub Fills : Counted (lending.Lending X W) → W → List X → Filled → Option W → Counted (lending.Lending X W) → Type 0
-  Fills old waker given (filled.Took n of_job) spare new =
-      lending.FillsIn old.pipe waker given (filled.Took n of_job) spare new.pipe × Counts old n 0 new
+  abbrev pub Fills : Counted (Pipe X W) → W → List X → Filled → Option W → Counted (Pipe X W) → Type 0
+  Fills old waker given (filled.Took n of_job) spare new = pipe.Fills old.pipe waker given (filled.Took n of_job) spare new.pipe × Counts old n 0 new
   Fills old waker given filled.Shut spare new =
-      TakesNone old.sent old.pipe.pipe.is_owner_open old.pipe.pipe.is_job_open (min (length given) (lending.free old.pipe))
-      × (spare ≡ Some waker)
-      × (new ≡ old)
-  Fills old waker given (filled.Waits seat) spare new =
-      lending.FillsIn old.pipe waker given (filled.Waits seat) spare new.pipe × Counts old 0 0 new
+      TakesNone old.sent old.pipe.is_owner_open old.pipe.is_job_open (min (length given) (pipes.room old.pipe)) × (spare ≡ Some waker) × (new ≡ old)
+  Fills old waker given (filled.Waits seat) spare new = pipe.Fills old.pipe waker given (filled.Waits seat) spare new.pipe × Counts old 0 0 new
 
-  -- the job, which has nothing in its hand, is lent the front of what stands in the pipe
-  abbrev pub Lends : Counted (lending.Lending X W) → JobNumber → Peeked → List X → Counted (lending.Lending X W) → Type 0
-  Lends old me answer piece new = lending.Lends old.pipe me answer piece new.pipe × Counts old 0 0 new
+  -- the job peeks
+  abbrev pub Peeks : Counted (Pipe X W) → JobNumber → List X → Peeked → Counted (Pipe X W) → List X → Type 0
+  Peeks old me out answer new shown = pipe.Peeks old.pipe me out answer new.pipe shown × Counts old 0 0 new
+
+  -- the job, which has nothing in its hand, is lent the front of what is inside
+  abbrev pub Lends : Counted (Pipe X W) → JobNumber → ℕ → Peeked → List X → Counted (Pipe X W) → Type 0
+  Lends old me most answer piece new = pipe.Lends old.pipe me most answer piece new.pipe × Counts old 0 0 new

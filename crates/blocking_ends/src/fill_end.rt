@@ -2,13 +2,13 @@
 ghost use Rattle.std.specs.Prelude.{◌≡◌, ◌<◌, ◌≤◌, ◌+◌, length};
 ghost use Rattle.futures.specs.Task.{Covers, Keeps};
 
-use crate::locked::{OwnerToJob, OwnerWaker};
+use crate::locked::OwnerToJob;
 use crate::rule::PlaceRule;
-use blocking_core::pipe::{Answered, Filled};
-use blocking_lock::enter;
+use blocking_core::pipe::{Answered, CopyStore, Filled, Store};
+use blocking_lock::{OwnerWaker, enter_where};
 use blocking_pool::pool::WakeNote;
 use futures::task::{Context, Poll, Source};
-use std::sync::{Arc, Mutex, Wait};
+use std::sync::{Arc, Mutex, MutexGuard, Wait};
 
 /// The end of an owner that sends to its job: each item holds at its place, by the rule `R`.
 ///
@@ -18,8 +18,8 @@ use std::sync::{Arc, Mutex, Wait};
 ///
 /// Dropping it closes nothing, and a job that waits for items stays parked: it is closed first.
 #[derive(Drop)]
-pub struct FillEnd<X: Drop, R: PlaceRule<X>, H: Wait + Copy> {
-    pipe: Arc<Mutex<OwnerToJob<X, R>>>,
+pub struct FillEnd<X: Drop, R: PlaceRule<X>, S: Store<X>, H: Wait + Copy> {
+    pipe: Arc<Mutex<OwnerToJob<X, R, S>>>,
     // Where a whole piece is copied under no lock, before it is handed over.
     ready: Vec<X>,
     sent: u64,
@@ -27,8 +27,8 @@ pub struct FillEnd<X: Drop, R: PlaceRule<X>, H: Wait + Copy> {
     rt: H,
 }
 
-impl<X: Drop, R: PlaceRule<X>, H: Wait + Copy> FillEnd<X, R, H> {
-    pub(crate) fn new(rt: H, pipe: Arc<Mutex<OwnerToJob<X, R>>>, ready: Vec<X>) -> Self
+impl<X: Drop, R: PlaceRule<X>, S: Store<X>, H: Wait + Copy> FillEnd<X, R, S, H> {
+    pub(crate) fn new(rt: H, pipe: Arc<Mutex<OwnerToJob<X, R, S>>>, ready: Vec<X>) -> Self
         ensures { result.sent ≡ 0 }
     {
         FillEnd {
@@ -47,6 +47,17 @@ impl<X: Drop, R: PlaceRule<X>, H: Wait + Copy> FillEnd<X, R, H> {
         self.sent
     }
 
+    // The pipe, where it has the count that this end knows of.
+    fn enter<'a>(
+        pipe: &'a Mutex<OwnerToJob<X, R, S>>,
+        rt: &H,
+        sent: u64,
+    ) -> MutexGuard<'a, OwnerToJob<X, R, S>>
+        ensures { result.value.sent ≡ sent }
+    {
+        enter_where(pipe, rt, |pipe: &OwnerToJob<X, R, S>| pipe.sent() == sent)
+    }
+
     /// Closes this end, where the items may end. From then on nothing is sent. Answers the note of a job that waits, which has to
     /// be spent. What is inside may still be received.
     pub fn close(&mut self) -> Option<WakeNote>
@@ -54,18 +65,12 @@ impl<X: Drop, R: PlaceRule<X>, H: Wait + Copy> FillEnd<X, R, H> {
         ensures sent { self.new.sent ≡ self.old.sent }
         ensures source { self.new.source ≡ self.old.source }
     {
-        for _ in self.rt.forever() {
-            let mut pipe = enter(&self.pipe, &self.rt);
-            if pipe.sent() == self.sent {
-                return pipe.close_owner();
-            }
-        }
-        unreachable!()
+        Self::enter(&self.pipe, &self.rt, self.sent).close_owner()
     }
 }
 
-impl<X: Copy, R: PlaceRule<X>, H: Wait + Copy> FillEnd<X, R, H> {
-    ghost use Rattle.blocking_core.specs.Lending.{IsReady};
+impl<X: Copy, R: PlaceRule<X>, S: CopyStore<X>, H: Wait + Copy> FillEnd<X, R, S, H> {
+    ghost use Rattle.blocking_core.specs.Stores.{IsReady};
     ghost use Rattle.blocking_ends.specs.Answers.{IfTook, OnFullWait, sent_by_fill};
     ghost use Rattle.blocking_ends.specs.Rules.{HoldFrom};
 
@@ -91,16 +96,10 @@ impl<X: Copy, R: PlaceRule<X>, H: Wait + Copy> FillEnd<X, R, H> {
         ensures ready { IsReady self.new.ready.items items.now }
         ensures took { IfTook result.answer (λ n. (0 < n) × (n ≤ length items.now)) }
     {
-        for _ in self.rt.forever() {
-            let mut pipe = enter(&self.pipe, &self.rt);
-            if pipe.sent() != self.sent {
-                continue;
-            }
-            let answered = pipe.fill_or_seat(waker, items, &mut self.ready);
-            self.sent = pipe.sent();
-            return answered;
-        }
-        unreachable!()
+        let mut pipe = Self::enter(&self.pipe, &self.rt, self.sent);
+        let answered = pipe.fill_or_seat(waker, items, &mut self.ready);
+        self.sent = pipe.sent();
+        answered
     }
 
     /// Sends the first of the items, as many as there is room for, and answers the note of a job that waits, which has to be spent.

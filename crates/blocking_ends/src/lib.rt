@@ -9,9 +9,9 @@ mod recv_end;
 mod rule;
 mod send_end;
 
+pub use blocking_lock::OwnerWaker;
 pub use fill_end::FillEnd;
-pub use locked::OwnerWaker;
-pub use pair::{link, link_in, link_with};
+pub use pair::{link, link_in, link_in_over, link_over};
 pub use peek_end::PeekEnd;
 pub use recv_end::RecvEnd;
 pub use rule::{AnyPlace, PlaceRule};

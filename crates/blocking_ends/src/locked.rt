@@ -1,35 +1,30 @@
 //! A pipe as its lock holds it: with the counts of what was sent and received, and with what its rule says of what is inside.
 //!
 //! There is one type for each direction, since they differ in whose end is the sender's.
-ghost use Rattle.std.specs.Prelude.{◌≡◌, ◌<◌, ◌≤◌, ◌+◌, ◌-◌, true, false, length, take, drop, vec_capacity, IfOk, None};
+ghost use Rattle.std.specs.Prelude.{◌≡◌, ◌<◌, ◌≤◌, ◌+◌, [], true, false, length, min, take, drop, vec_capacity, None, IfSome, IfNone};
 
 use crate::rule::PlaceRule;
 use blocking_core::pipe::{
-    Answered, Drained, Filled, LendingPipe, MovingPipe, Peeked, Put, Received, Room, Sending,
+    Answered, CopyStore, Drained, Filled, Peeked, Pipe, Put, Received, Room, Sending, Store,
 };
+use blocking_lock::OwnerWaker;
 use blocking_pool::pool::{JobNo, WakeNote};
-use futures::task::Waker;
-use std::alloc::{AllocError, Global};
 use std::marker::{Model, PhantomData};
-
-/// The owner's waker, or none where none could be registered. Letting it go calls it.
-pub type OwnerWaker = Option<Waker>;
 
 /// A pipe into which a job sends and from which its owner receives.
 #[derive(Drop)]
-pub(crate) struct JobToOwner<X: Drop, R: PlaceRule<X>> {
-    pipe: MovingPipe<X, OwnerWaker>,
+pub(crate) struct JobToOwner<X: Drop, R: PlaceRule<X>, S: Store<X>> {
+    pipe: Pipe<X, OwnerWaker, S>,
     sent: u64,
     received: u64,
-    // Whether the job may still send.
-    is_open: bool,
     rule: PhantomData<R>,
 }
 
-impl<X: Drop, R: PlaceRule<X>> Model for JobToOwner<X, R> {
-    ghost use Rattle.std.specs.Prelude.{◌≡◌, Option};
+impl<X: Drop, R: PlaceRule<X>, S: Store<X>> Model for JobToOwner<X, R, S> {
+    ghost use Rattle.std.specs.Prelude.{Option};
     ghost use Rattle.blocking_core.specs.Pipes.{Pipe as Seen, pipe_code};
-    ghost use Rattle.blocking_ends.specs.Counted.{Counted, IsKept, counted_code, waker_code};
+    ghost use Rattle.blocking_ends.specs.Counted.{Counted, IsKept, counted_code};
+    ghost use Rattle.blocking_lock.specs.Slots.{waker_code};
     ghost use Rattle.futures.specs.declared.task.waker.Waker.{Waker};
 
     ghost Value = { Counted (Seen X (Option Waker)) };
@@ -38,30 +33,27 @@ impl<X: Drop, R: PlaceRule<X>> Model for JobToOwner<X, R> {
 
     ghost view = { λ p. record { pipe = p.pipe; sent = p.sent; received = p.received } };
 
-    ghost invariant = { λ p.
-        (p.is_open ≡ p.pipe.is_job_open)
-        × IsKept R.holds R.ended p.pipe.items p.sent p.received p.pipe.is_job_open };
+    ghost invariant = { λ p. IsKept R.holds R.ended p.pipe.items p.sent p.received p.pipe.is_job_open };
 }
 
-impl<X: Drop, R: PlaceRule<X>> JobToOwner<X, R> {
+impl<X: Drop, R: PlaceRule<X>, S: Store<X>> JobToOwner<X, R, S> {
     ghost use Rattle.blocking_core.specs.Pipes.{empty_pipe, room};
     ghost use Rattle.blocking_ends.specs.Answers.{IfReceived, OnEnd};
     ghost use Rattle.blocking_ends.specs.Sections.{Counts, FindsRoom, Sends, Receives};
 
-    /// An empty pipe for at most `capacity` items, with the memory that the first piece is exchanged for, or an [`AllocError`] where there
-    /// isn't memory for so many.
-    pub(crate) fn new(alloc: Global, capacity: usize, spare: Vec<X>) -> Result<Self, AllocError>
-        requires { 0 < capacity }
-        ensures { IfOk result
-            (λ new. new ≡ record { pipe = empty_pipe capacity; sent = 0; received = 0 }) }
+    /// An empty pipe over an empty store, into which nothing was sent.
+    pub(crate) fn over(store: S) -> Self
+        requires some { let stored = S.held store in 0 < stored.capacity }
+        requires empty { let stored = S.held store in stored.items ≡ [] }
+        ensures { let stored = S.held store in
+            result ≡ record { pipe = empty_pipe stored.capacity; sent = 0; received = 0 } }
     {
-        Ok(JobToOwner {
-            pipe: MovingPipe::new(alloc, capacity, spare)?,
+        JobToOwner {
+            pipe: Pipe::over(store),
             sent: 0,
             received: 0,
-            is_open: true,
             rule: PhantomData,
-        })
+        }
     }
 
     /// How many items were sent.
@@ -97,7 +89,7 @@ impl<X: Drop, R: PlaceRule<X>> JobToOwner<X, R> {
         requires { R.holds self.old.sent item }
         ensures { Sends self.old me item result self.new }
     {
-        if !self.is_open || self.sent == u64::MAX {
+        if !self.pipe.is_job_open() || self.sent == u64::MAX {
             return Sending::Shut(item);
         }
         match self.pipe.send(me, item) {
@@ -118,7 +110,6 @@ impl<X: Drop, R: PlaceRule<X>> JobToOwner<X, R> {
         ensures counts { Counts self.old 0 0 self.new }
         ensures waker { result ≡ self.old.pipe.owner_seat }
     {
-        self.is_open = false;
         self.pipe.close_job()
     }
 
@@ -146,27 +137,53 @@ impl<X: Drop, R: PlaceRule<X>> JobToOwner<X, R> {
     }
 }
 
-impl<X: Copy, R: PlaceRule<X>> JobToOwner<X, R> {
+impl<X: Copy, R: PlaceRule<X>, S: CopyStore<X>> JobToOwner<X, R, S> {
     ghost use Rattle.blocking_core.specs.Pipes.{room};
     ghost use Rattle.blocking_ends.specs.Answers.{OnDrainsEnd, got_by_drain};
     ghost use Rattle.blocking_ends.specs.Rules.{HoldFrom};
-    ghost use Rattle.blocking_ends.specs.Sections.{Puts, Drains};
+    ghost use Rattle.blocking_ends.specs.Sections.{Puts, Drains, IsAtEnd};
+
+    // How many were sent where so many more are, if the job may still send and that can be counted.
+    fn sent_with(&self, count: usize) -> Option<u64>
+        ensures some { IfSome result (λ sent. (sent ≡ self.now.sent + count) × (self.now.pipe.is_job_open ≡ true)) }
+        ensures none { IfNone result (IsAtEnd self.now.sent self.now.pipe.is_job_open count) }
+    {
+        if !self.pipe.is_job_open() {
+            return None;
+        }
+        self.sent.checked_add(count as u64)
+    }
+
+    /// The job puts items, for all of which there is room, and which hold at their places.
+    pub(crate) fn put(&mut self, items: &[X]) -> Put<OwnerWaker>
+        requires fits { length items.now ≤ room self.old.pipe }
+        requires held { HoldFrom R.holds self.old.sent items.now }
+        ensures { Puts self.old items.now result self.new }
+    {
+        let Some(sent) = self.sent_with(items.len()) else {
+            return Put::Lost;
+        };
+        match self.pipe.put(items) {
+            Put::In(waker) => {
+                self.sent = sent;
+                Put::In(waker)
+            }
+            Put::Lost => Put::Lost,
+        }
+    }
 
     /// The job puts the first `count` items of a piece, for all of which there is room, and which hold at their places.
-    pub(crate) fn put(&mut self, piece: &mut Vec<X>, count: usize) -> Put<OwnerWaker>
+    pub(crate) fn put_piece(&mut self, piece: &mut Vec<X>, count: usize) -> Put<OwnerWaker>
         requires some { count ≤ length piece.old.items }
         requires fits { count ≤ room self.old.pipe }
         requires held { HoldFrom R.holds self.old.sent (take count piece.old.items) }
         ensures puts { Puts self.old (take count piece.old.items) result self.new }
         ensures long { length piece.new.items ≡ length piece.old.items }
     {
-        if !self.is_open {
-            return Put::Lost;
-        }
-        let Some(sent) = self.sent.checked_add(count as u64) else {
+        let Some(sent) = self.sent_with(count) else {
             return Put::Lost;
         };
-        match self.pipe.put(piece, count) {
+        match self.pipe.put_piece(piece, count) {
             Put::In(waker) => {
                 self.sent = sent;
                 Put::In(waker)
@@ -197,51 +214,48 @@ impl<X: Copy, R: PlaceRule<X>> JobToOwner<X, R> {
 
 /// A pipe into which an owner sends and from which its job receives.
 #[derive(Drop)]
-pub(crate) struct OwnerToJob<X: Drop, R: PlaceRule<X>> {
-    pipe: LendingPipe<X, OwnerWaker>,
+pub(crate) struct OwnerToJob<X: Drop, R: PlaceRule<X>, S: Store<X>> {
+    pipe: Pipe<X, OwnerWaker, S>,
     sent: u64,
     received: u64,
-    // Whether the owner may still send.
-    is_open: bool,
     rule: PhantomData<R>,
 }
 
-impl<X: Drop, R: PlaceRule<X>> Model for OwnerToJob<X, R> {
-    ghost use Rattle.std.specs.Prelude.{◌≡◌, ◌+◌, Option};
-    ghost use Rattle.blocking_core.specs.Lending.{Lending, lending_code};
-    ghost use Rattle.blocking_ends.specs.Counted.{Counted, IsKept, counted_code, waker_code};
+impl<X: Drop, R: PlaceRule<X>, S: Store<X>> Model for OwnerToJob<X, R, S> {
+    ghost use Rattle.std.specs.Prelude.{◌+◌, Option};
+    ghost use Rattle.blocking_core.specs.Pipes.{Pipe as Seen, pipe_code};
+    ghost use Rattle.blocking_ends.specs.Counted.{Counted, IsKept, counted_code};
+    ghost use Rattle.blocking_lock.specs.Slots.{waker_code};
     ghost use Rattle.futures.specs.declared.task.waker.Waker.{Waker};
 
-    ghost Value = { Counted (Lending X (Option Waker)) };
+    ghost Value = { Counted (Seen X (Option Waker)) };
 
-    ghost coded = { counted_code (lending_code X.code waker_code) };
+    ghost coded = { counted_code (pipe_code X.code waker_code) };
 
     ghost view = { λ p. record { pipe = p.pipe; sent = p.sent; received = p.received } };
 
     ghost invariant = { λ p.
-        (p.is_open ≡ p.pipe.pipe.is_owner_open)
-        × IsKept R.holds R.ended p.pipe.pipe.items p.sent (p.received + p.pipe.lent) p.pipe.pipe.is_owner_open };
+        IsKept R.holds R.ended p.pipe.items p.sent (p.received + p.pipe.lent) p.pipe.is_owner_open };
 }
 
-impl<X: Drop, R: PlaceRule<X>> OwnerToJob<X, R> {
+impl<X: Drop, R: PlaceRule<X>, S: Store<X>> OwnerToJob<X, R, S> {
     ghost use Rattle.blocking_core.specs.Pipes.{empty_pipe};
+    ghost use Rattle.blocking_core.specs.PipeAnswers.{let_go};
     ghost use Rattle.blocking_ends.specs.Sections.{Counts};
 
-    /// An empty pipe for at most `capacity` items that lends `piece` of them at once at most, or an [`AllocError`] where there isn't memory
-    /// for so many.
-    pub(crate) fn new(alloc: Global, capacity: usize, piece: usize) -> Result<Self, AllocError>
-        requires some { 0 < capacity }
-        requires piece { 0 < piece }
-        ensures { IfOk result (λ new. new ≡
-            record { pipe = record { pipe = empty_pipe capacity; piece = piece; lent = 0 }; sent = 0; received = 0 }) }
+    /// An empty pipe over an empty store, into which nothing was sent.
+    pub(crate) fn over(store: S) -> Self
+        requires some { let stored = S.held store in 0 < stored.capacity }
+        requires empty { let stored = S.held store in stored.items ≡ [] }
+        ensures { let stored = S.held store in
+            result ≡ record { pipe = empty_pipe stored.capacity; sent = 0; received = 0 } }
     {
-        Ok(OwnerToJob {
-            pipe: LendingPipe::new(alloc, capacity, piece)?,
+        OwnerToJob {
+            pipe: Pipe::over(store),
             sent: 0,
             received: 0,
-            is_open: true,
             rule: PhantomData,
-        })
+        }
     }
 
     /// How many items were sent.
@@ -258,13 +272,6 @@ impl<X: Drop, R: PlaceRule<X>> OwnerToJob<X, R> {
         self.received
     }
 
-    /// How many items are lent at once at most.
-    pub(crate) fn piece(&self) -> usize
-        ensures { result ≡ self.now.pipe.piece }
-    {
-        self.pipe.piece()
-    }
-
     /// How many items are lent.
     pub(crate) fn lent(&self) -> usize
         ensures { result ≡ self.now.pipe.lent }
@@ -272,49 +279,50 @@ impl<X: Drop, R: PlaceRule<X>> OwnerToJob<X, R> {
         self.pipe.lent()
     }
 
+    /// How many items are inside.
+    pub(crate) fn len(&self) -> usize
+        ensures { result ≡ length self.now.pipe.items }
+    {
+        self.pipe.len()
+    }
+
     /// The owner closes its end, where the items may end. From then on none is taken.
     pub(crate) fn close_owner(&mut self) -> Option<WakeNote>
         requires { R.ended self.old.sent }
-        ensures pipe { self.new.pipe ≡
-            record self.old.pipe { pipe = record self.old.pipe.pipe { is_owner_open = false; job_seat = None } } }
+        ensures pipe { self.new.pipe ≡ record self.old.pipe { is_owner_open = false; job_seat = None } }
         ensures counts { Counts self.old 0 0 self.new }
-        ensures note { result ≡ self.old.pipe.pipe.job_seat }
+        ensures note { result ≡ self.old.pipe.job_seat }
     {
-        self.is_open = false;
         self.pipe.close_owner()
     }
 
-    /// The job lets so many go of the items that it was lent.
+    /// The job lets the first `count` items go, of those that it was lent and then of those inside.
     pub(crate) fn consume(&mut self, count: usize) -> Option<OwnerWaker>
-        requires { count ≤ self.old.pipe.lent }
-        ensures pipe { self.new.pipe ≡ record self.old.pipe {
-          pipe = record self.old.pipe.pipe { owner_seat = None };
-          lent = self.old.pipe.lent - count;
-        } }
+        requires { count ≤ self.old.pipe.lent + length self.old.pipe.items }
+        ensures pipe { self.new.pipe ≡ let_go self.old.pipe count }
         ensures counts { Counts self.old 0 count self.new }
-        ensures waker { result ≡ self.old.pipe.pipe.owner_seat }
+        ensures waker { result ≡ self.old.pipe.owner_seat }
     {
-        let waker = self.pipe.consume(count);
+        let waker = self.pipe.let_go(count);
         self.received += count as u64;
         waker
     }
 
     /// The job closes its end.
     pub(crate) fn close_job(&mut self) -> Option<OwnerWaker>
-        ensures pipe { self.new.pipe ≡
-            record self.old.pipe { pipe = record self.old.pipe.pipe { is_job_open = false; owner_seat = None } } }
+        ensures pipe { self.new.pipe ≡ record self.old.pipe { is_job_open = false; owner_seat = None } }
         ensures counts { Counts self.old 0 0 self.new }
-        ensures waker { result ≡ self.old.pipe.pipe.owner_seat }
+        ensures waker { result ≡ self.old.pipe.owner_seat }
     {
         self.pipe.close_job()
     }
 }
 
-impl<X: Copy, R: PlaceRule<X>> OwnerToJob<X, R> {
-    ghost use Rattle.blocking_core.specs.Lending.{IsReady};
-    ghost use Rattle.blocking_ends.specs.Answers.{IfShown, IfTook, OnDrained};
+impl<X: Copy, R: PlaceRule<X>, S: CopyStore<X>> OwnerToJob<X, R, S> {
+    ghost use Rattle.blocking_core.specs.Stores.{IsReady};
+    ghost use Rattle.blocking_ends.specs.Answers.{IfShown, IfTook, OnDrained, shown_by};
     ghost use Rattle.blocking_ends.specs.Rules.{HoldFrom};
-    ghost use Rattle.blocking_ends.specs.Sections.{Fills, Lends};
+    ghost use Rattle.blocking_ends.specs.Sections.{Fills, Peeks, Lends};
 
     /// The owner fills in the first of the items, which hold at their places, as many as there is room for. What stands ready is a
     /// copy of them, or nothing.
@@ -333,29 +341,50 @@ impl<X: Copy, R: PlaceRule<X>> OwnerToJob<X, R> {
         ensures ready { IsReady ready.new.items items.now }
     {
         let most = items.len().min(self.pipe.room());
-        if !self.is_open || u64::MAX - self.sent < most as u64 {
+        if !self.pipe.is_owner_open() || u64::MAX - self.sent < most as u64 {
             return Answered {
                 answer: Filled::Shut,
                 spare: Some(waker),
             };
         }
-        let Answered { answer, spare } = self.pipe.fill_or_seat(waker, items, ready);
+        let Answered { answer, spare } = self.pipe.fill_ready_or_seat(waker, items, ready);
         if let Filled::Took(count, _) = &answer {
             self.sent += *count as u64;
         }
         Answered { answer, spare }
     }
 
-    /// The job, which has nothing in its hand, is lent the front of what stands in the pipe, a piece at most, each item of which holds at its
-    /// place, or finds the end.
-    pub(crate) fn lend_or_seat(&mut self, me: JobNo, piece: &mut Vec<X>) -> Peeked
+    /// The job copies the front of what is inside, each item of which holds at its place behind what is lent, and nobody is seated.
+    pub(crate) fn peek(&self, out: &mut [X]) -> usize
+        ensures count { result ≡ min (length out.old) (length self.now.pipe.items) }
+        ensures held { HoldFrom R.holds (self.now.received + self.now.pipe.lent) (take result out.new) }
+        ensures rest { drop result out.new ≡ drop result out.old }
+    {
+        self.pipe.peek(out)
+    }
+
+    /// The job, which has nothing in its hand, copies the front of what is inside, each item of which holds at its place, or finds the end.
+    pub(crate) fn peek_or_seat(&mut self, me: JobNo, out: &mut [X]) -> Peeked
         requires none { self.old.pipe.lent ≡ 0 }
-        requires room { self.old.pipe.piece ≤ vec_capacity piece.old }
-        ensures lends { Lends self.old me result piece.new.items self.new }
-        ensures room { self.old.pipe.piece ≤ vec_capacity piece.new }
+        requires some { 0 < length out.old }
+        ensures peeks { Peeks self.old me out.old result self.new out.new }
+        ensures held { HoldFrom R.holds self.old.received (take (shown_by result) out.new) }
+        ensures ended { OnDrained result (R.ended self.old.received) }
+    {
+        self.pipe.peek_or_seat(me, out)
+    }
+
+    /// The job, which has nothing in its hand, is lent the front of what is inside, so many items at most, each of which holds at its place, or
+    /// finds the end.
+    pub(crate) fn lend_or_seat(&mut self, me: JobNo, most: usize, piece: &mut Vec<X>) -> Peeked
+        requires none { self.old.pipe.lent ≡ 0 }
+        requires some { 0 < most }
+        requires room { most ≤ vec_capacity piece.old }
+        ensures lends { Lends self.old me most result piece.new.items self.new }
+        ensures room { most ≤ vec_capacity piece.new }
         ensures held { IfShown result (λ _. HoldFrom R.holds self.old.received piece.new.items) }
         ensures ended { OnDrained result (R.ended self.old.received) }
     {
-        self.pipe.lend_or_seat(me, piece)
+        self.pipe.lend_or_seat(me, most, piece)
     }
 }

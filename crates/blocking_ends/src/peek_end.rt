@@ -1,40 +1,37 @@
 //! The end of a job that receives from its owner.
-ghost use Rattle.std.specs.Prelude.{◌≡◌, ◌<◌, ◌≤◌, ◌+◌, [], length, drop, vec_capacity};
+ghost use Rattle.std.specs.Prelude.{◌≡◌, ◌<◌, ◌≤◌, ◌+◌, ◌-◌, [], length, max, take, drop, vec_capacity};
 
-use crate::locked::{OwnerToJob, OwnerWaker};
+use crate::locked::OwnerToJob;
 use crate::rule::PlaceRule;
-use blocking_core::pipe::Peeked;
-use blocking_lock::enter;
+use blocking_core::pipe::{CopyStore, Peeked, Store};
+use blocking_lock::{OwnerWaker, enter_where};
 use blocking_pool::pool::JobNo;
 use std::marker::Model;
-use std::sync::{Arc, Mutex, Wait};
+use std::sync::{Arc, Mutex, MutexGuard, Wait};
 
-/// The end of a job that receives from its owner: the item from each place holds there, by the rule `R`. The job is lent items, which
-/// count as inside until it lets them go, and looks at them under no lock.
+/// The end of a job that receives from its owner: the item from each place holds there, by the rule `R`. The job copies items, or is lent them
+/// and looks at them under no lock. Both count as inside until it lets them go.
 ///
-/// As at the other end, a call uses the pipe only where that has the count that this end knows of and has lent as much as it still has,
-/// and where its own memory holds a piece, and else tries again.
+/// As at the other end, a call uses the pipe only where that has the count that this end knows of and has lent as much as it still has, and
+/// else tries again.
 ///
 /// A waker that a call answers was taken out of its seat, and is to be called. One that is let go calls itself.
 ///
 /// Dropping it closes nothing, and the owner goes on waiting: it is closed first.
 #[derive(Drop)]
-pub struct PeekEnd<X: Drop, R: PlaceRule<X>, H: Wait + Copy> {
-    pipe: Arc<Mutex<OwnerToJob<X, R>>>,
+pub struct PeekEnd<X: Drop, R: PlaceRule<X>, S: Store<X>, H: Wait + Copy> {
+    pipe: Arc<Mutex<OwnerToJob<X, R, S>>>,
     received: u64,
     // What was lent last, and how many of it were consumed.
     piece: Vec<X>,
     consumed: usize,
+    // How many items the last peek showed that weren't consumed since, and how many are lent at once at most.
+    peeked: usize,
+    most: usize,
     rt: H,
 }
 
-// What came of a consume: the waker of an owner who waited, and how many items were consumed until then.
-struct Consumed {
-    waker: Option<OwnerWaker>,
-    received: u64,
-}
-
-impl<X: Drop, R: PlaceRule<X>, H: Wait + Copy> Model for PeekEnd<X, R, H> {
+impl<X: Drop, R: PlaceRule<X>, S: Store<X>, H: Wait + Copy> Model for PeekEnd<X, R, S, H> {
     ghost use Rattle.std.specs.Prelude.{◌<◌, ◌≤◌, drop, vec_len, vec_capacity};
     ghost use Rattle.blocking_ends.specs.Counted.{Peeking, peeking_code};
     ghost use Rattle.blocking_ends.specs.Rules.{HoldFrom};
@@ -43,22 +40,37 @@ impl<X: Drop, R: PlaceRule<X>, H: Wait + Copy> Model for PeekEnd<X, R, H> {
 
     ghost coded = { peeking_code X.code };
 
-    ghost view = { λ e. record { received = e.received; shown = drop e.consumed e.piece.items } };
+    ghost view = { λ e. record { received = e.received; shown = drop e.consumed e.piece.items; peeked = e.peeked } };
 
     ghost invariant = { λ e. (e.consumed ≤ vec_len e.piece)
-        × HoldFrom R.holds e.received (drop e.consumed e.piece.items) };
+        × HoldFrom R.holds e.received (drop e.consumed e.piece.items)
+        × (0 < e.most)
+        × (e.most ≤ vec_capacity e.piece) };
 }
 
-impl<X: Drop, R: PlaceRule<X>, H: Wait + Copy> PeekEnd<X, R, H> {
-    pub(crate) fn new(rt: H, pipe: Arc<Mutex<OwnerToJob<X, R>>>, piece: Vec<X>) -> Self
+impl<X: Drop, R: PlaceRule<X>, S: Store<X>, H: Wait + Copy> PeekEnd<X, R, S, H> {
+    ghost use Rattle.blocking_ends.specs.Counted.{may_consume};
+    ghost use Rattle.blocking_ends.specs.Rules.{HoldFrom};
+
+    // The end to which so many items are lent at once at most, for which the piece has memory.
+    pub(crate) fn new(
+        rt: H,
+        pipe: Arc<Mutex<OwnerToJob<X, R, S>>>,
+        piece: Vec<X>,
+        most: usize,
+    ) -> Self
         requires none { piece.items ≡ [] }
-        ensures { result ≡ record { received = 0; shown = [] } }
+        requires some { 0 < most }
+        requires fits { most ≤ vec_capacity piece }
+        ensures { result ≡ record { received = 0; shown = []; peeked = 0 } }
     {
         PeekEnd {
             pipe,
             received: 0,
             piece,
             consumed: 0,
+            peeked: 0,
+            most,
             rt,
         }
     }
@@ -70,47 +82,54 @@ impl<X: Drop, R: PlaceRule<X>, H: Wait + Copy> PeekEnd<X, R, H> {
         self.received
     }
 
-    /// The items that the last peek showed and that weren't consumed since.
+    /// The items that were lent last and weren't consumed since. Each holds at its place.
     pub fn shown(&self) -> &[X]
-        ensures { result.now ≡ self.now.shown }
+        ensures shown { result.now ≡ self.now.shown }
+        ensures held { HoldFrom R.holds self.now.received self.now.shown }
     {
         &self.piece[self.consumed..]
     }
 
-    // How many items are shown.
+    // How many items are lent.
     fn left(&self) -> usize
         ensures { result ≡ length self.now.shown }
     {
         self.piece.len() - self.consumed
     }
 
-    // Lets items go under the lock, where so many are lent.
-    fn consume_lent(&self, lent: usize, count: usize) -> Consumed
-        requires { count ≤ lent }
-        ensures { result.received ≡ self.now.received + count }
+    // The pipe, where it has the count that this end knows of, has lent so many items, and holds so many more.
+    fn enter<'a>(
+        pipe: &'a Mutex<OwnerToJob<X, R, S>>,
+        rt: &H,
+        received: u64,
+        lent: usize,
+        more: usize,
+    ) -> MutexGuard<'a, OwnerToJob<X, R, S>>
+        ensures received { result.value.received ≡ received }
+        ensures lent { result.value.pipe.lent ≡ lent }
+        ensures more { more ≤ length result.value.pipe.items }
     {
-        for _ in self.rt.forever() {
-            let mut pipe = enter(&self.pipe, &self.rt);
-            if pipe.received() == self.received && pipe.lent() == lent {
-                let waker = pipe.consume(count);
-                let received = pipe.received();
-                return Consumed { waker, received };
-            }
-        }
-        unreachable!()
+        enter_where(pipe, rt, |pipe: &OwnerToJob<X, R, S>| {
+            pipe.received() == received && pipe.lent() == lent && more <= pipe.len()
+        })
     }
 
-    /// Lets the first `count` items go, of those that the last peek showed and that weren't consumed since. Answers the waker of an
-    /// owner who waits.
+    /// Lets the first `count` items go, of those that were lent or that the last peek showed and that weren't consumed since. Answers the waker
+    /// of an owner who waits.
     pub fn consume(&mut self, count: usize) -> Option<OwnerWaker>
-        requires { count ≤ length self.old.shown }
+        requires { count ≤ may_consume self.old }
         ensures received { self.new.received ≡ self.old.received + count }
         ensures shown { self.new.shown ≡ drop count self.old.shown }
+        ensures peeked { self.new.peeked ≡ self.old.peeked - count }
     {
-        let left = self.left();
-        let Consumed { waker, received } = self.consume_lent(left, count);
-        self.received = received;
-        self.consumed += count;
+        let lent = self.left();
+        let of_lent = count.min(lent);
+        let mut pipe = Self::enter(&self.pipe, &self.rt, self.received, lent, count - of_lent);
+        let waker = pipe.consume(count);
+        self.received = pipe.received();
+        drop(pipe);
+        self.consumed += of_lent;
+        self.peeked = self.peeked.saturating_sub(count);
         waker
     }
 
@@ -118,23 +137,58 @@ impl<X: Drop, R: PlaceRule<X>, H: Wait + Copy> PeekEnd<X, R, H> {
     pub fn close(&mut self) -> Option<OwnerWaker>
         ensures { self.new ≡ self.old }
     {
-        for _ in self.rt.forever() {
-            let mut pipe = enter(&self.pipe, &self.rt);
-            if pipe.received() == self.received && pipe.lent() == self.left() {
-                return pipe.close_job();
-            }
-        }
-        unreachable!()
+        Self::enter(&self.pipe, &self.rt, self.received, self.left(), 0).close_job()
     }
 }
 
-impl<X: Copy, R: PlaceRule<X>, H: Wait + Copy> PeekEnd<X, R, H> {
+impl<X: Copy, R: PlaceRule<X>, S: CopyStore<X>, H: Wait + Copy> PeekEnd<X, R, S, H> {
     ghost use Rattle.blocking_ends.specs.Answers.{IfShown, OnDrained, shown_by};
     ghost use Rattle.blocking_ends.specs.Rules.{HoldFrom};
 
-    /// Shows the first items, and leaves them inside: what is left of those that were shown last, though more may be behind them, or else
-    /// the next ones. Where the pipe is empty and the owner's end is open the job is seated.
-    pub fn peek_or_seat(&mut self, me: JobNo) -> Peeked
+    // Copies what is lent, and more from behind it, as much as `out` holds, and tells how many items that are.
+    fn peek_lent(&self, out: &mut [X]) -> usize
+        ensures some { 0 < length out.old → 0 < length self.now.shown → 0 < result }
+        ensures within { result ≤ length out.old }
+        ensures held { HoldFrom R.holds self.now.received (take result out.new) }
+        ensures rest { drop result out.new ≡ drop result out.old }
+    {
+        let lent = self.shown();
+        let first = lent.len().min(out.len());
+        out[..first].copy_from_slice(&lent[..first]);
+        if first == out.len() {
+            return first;
+        }
+        let pipe = Self::enter(&self.pipe, &self.rt, self.received, lent.len(), 0);
+        first + pipe.peek(&mut out[first..])
+    }
+
+    /// Copies the first items, as many as there are and `out` holds, and leaves them inside. Where the pipe is empty and the owner's end is open
+    /// the job is seated.
+    pub fn peek_or_seat(&mut self, me: JobNo, out: &mut [X]) -> Peeked
+        requires { 0 < length out.old }
+        ensures received { self.new.received ≡ self.old.received }
+        ensures shown { self.new.shown ≡ self.old.shown }
+        ensures peeked { self.new.peeked ≡ shown_by result }
+        ensures some { IfShown result (λ n. (0 < n) × (n ≤ length out.old)) }
+        ensures held { HoldFrom R.holds self.old.received (take (shown_by result) out.new) }
+        ensures rest { drop (shown_by result) out.new ≡ drop (shown_by result) out.old }
+        ensures ended { OnDrained result (R.ended self.old.received) }
+    {
+        if self.left() > 0 {
+            self.peeked = self.peek_lent(out);
+            return Peeked::Some(self.peeked);
+        }
+        let peeked = Self::enter(&self.pipe, &self.rt, self.received, 0, 0).peek_or_seat(me, out);
+        self.peeked = match peeked {
+            Peeked::Some(count) => count,
+            Peeked::Parked | Peeked::Drained => 0,
+        };
+        peeked
+    }
+
+    /// Lends the first items, which stay inside: what is left of those that were lent last, though more may be behind them, or else the next
+    /// ones. Where the pipe is empty and the owner's end is open the job is seated.
+    pub fn lend_or_seat(&mut self, me: JobNo) -> Peeked
         ensures rest { 0 < length self.old.shown → self.new ≡ self.old }
         ensures received { self.new.received ≡ self.old.received }
         ensures shown { length self.new.shown ≡ shown_by result }
@@ -146,22 +200,13 @@ impl<X: Copy, R: PlaceRule<X>, H: Wait + Copy> PeekEnd<X, R, H> {
         if left > 0 {
             return Peeked::Some(left);
         }
-        for _ in self.rt.forever() {
-            let mut pipe = enter(&self.pipe, &self.rt);
-            if pipe.received() != self.received || pipe.lent() != 0 {
-                continue;
-            }
-            if pipe.piece() > self.piece.capacity() {
-                continue;
-            }
-            let peeked = pipe.lend_or_seat(me, &mut self.piece);
-            drop(pipe);
-            self.consumed = match peeked {
-                Peeked::Some(_) => 0,
-                Peeked::Parked | Peeked::Drained => self.piece.len(),
-            };
-            return peeked;
-        }
-        unreachable!()
+        let mut pipe = Self::enter(&self.pipe, &self.rt, self.received, 0, 0);
+        let lent = pipe.lend_or_seat(me, self.most, &mut self.piece);
+        drop(pipe);
+        self.consumed = match lent {
+            Peeked::Some(_) => 0,
+            Peeked::Parked | Peeked::Drained => self.piece.len(),
+        };
+        lent
     }
 }

@@ -2,13 +2,13 @@
 ghost use Rattle.std.specs.Prelude.{◌≡◌, ◌<◌, ◌≤◌, ◌+◌, length, take, drop};
 ghost use Rattle.futures.specs.Task.{Covers, Keeps};
 
-use crate::locked::{JobToOwner, OwnerWaker};
+use crate::locked::JobToOwner;
 use crate::rule::PlaceRule;
-use blocking_core::pipe::{Answered, Drained, Received};
-use blocking_lock::enter;
+use blocking_core::pipe::{Answered, CopyStore, Drained, Received, Store};
+use blocking_lock::{OwnerWaker, enter_where};
 use blocking_pool::pool::WakeNote;
 use futures::task::{Context, Poll, Source};
-use std::sync::{Arc, Mutex, Wait};
+use std::sync::{Arc, Mutex, MutexGuard, Wait};
 
 /// The end of an owner that receives from its job: the item from each place holds there, by the rule `R`.
 ///
@@ -18,17 +18,17 @@ use std::sync::{Arc, Mutex, Wait};
 ///
 /// Dropping it closes nothing, and a job that waits for room stays parked: it is closed first.
 #[derive(Drop)]
-pub struct RecvEnd<X: Drop, R: PlaceRule<X>, H: Wait + Copy> {
-    pipe: Arc<Mutex<JobToOwner<X, R>>>,
+pub struct RecvEnd<X: Drop, R: PlaceRule<X>, S: Store<X>, H: Wait + Copy> {
+    pipe: Arc<Mutex<JobToOwner<X, R, S>>>,
     received: u64,
     source: Source,
     rt: H,
 }
 
-impl<X: Drop, R: PlaceRule<X>, H: Wait + Copy> RecvEnd<X, R, H> {
+impl<X: Drop, R: PlaceRule<X>, S: Store<X>, H: Wait + Copy> RecvEnd<X, R, S, H> {
     ghost use Rattle.blocking_ends.specs.Answers.{IfReceived, OnEnd, OnWait, got_by_receive};
 
-    pub(crate) fn new(rt: H, pipe: Arc<Mutex<JobToOwner<X, R>>>) -> Self
+    pub(crate) fn new(rt: H, pipe: Arc<Mutex<JobToOwner<X, R, S>>>) -> Self
         ensures { result.received ≡ 0 }
     {
         RecvEnd {
@@ -46,6 +46,19 @@ impl<X: Drop, R: PlaceRule<X>, H: Wait + Copy> RecvEnd<X, R, H> {
         self.received
     }
 
+    // The pipe, where it has the count that this end knows of.
+    fn enter<'a>(
+        pipe: &'a Mutex<JobToOwner<X, R, S>>,
+        rt: &H,
+        received: u64,
+    ) -> MutexGuard<'a, JobToOwner<X, R, S>>
+        ensures { result.value.received ≡ received }
+    {
+        enter_where(pipe, rt, |pipe: &JobToOwner<X, R, S>| {
+            pipe.received() == received
+        })
+    }
+
     // Asks the pipe once. The waker is seated, or it comes back.
     fn ask(&mut self, waker: OwnerWaker) -> Answered<Received<X>, OwnerWaker>
         ensures received { self.new.received ≡ self.old.received + got_by_receive result.answer }
@@ -53,16 +66,10 @@ impl<X: Drop, R: PlaceRule<X>, H: Wait + Copy> RecvEnd<X, R, H> {
         ensures held { IfReceived result.answer (R.holds self.old.received) }
         ensures ended { OnEnd result.answer (R.ended self.old.received) }
     {
-        for _ in self.rt.forever() {
-            let mut pipe = enter(&self.pipe, &self.rt);
-            if pipe.received() != self.received {
-                continue;
-            }
-            let answered = pipe.receive_or_seat(waker);
-            self.received = pipe.received();
-            return answered;
-        }
-        unreachable!()
+        let mut pipe = Self::enter(&self.pipe, &self.rt, self.received);
+        let answered = pipe.receive_or_seat(waker);
+        self.received = pipe.received();
+        answered
     }
 
     /// Receives the first item, and with it the note of a job that waits, which has to be spent. Where the pipe is empty and the
@@ -97,17 +104,11 @@ impl<X: Drop, R: PlaceRule<X>, H: Wait + Copy> RecvEnd<X, R, H> {
         ensures received { self.new.received ≡ self.old.received }
         ensures source { self.new.source ≡ self.old.source }
     {
-        for _ in self.rt.forever() {
-            let mut pipe = enter(&self.pipe, &self.rt);
-            if pipe.received() == self.received {
-                return pipe.close_owner();
-            }
-        }
-        unreachable!()
+        Self::enter(&self.pipe, &self.rt, self.received).close_owner()
     }
 }
 
-impl<X: Copy, R: PlaceRule<X>, H: Wait + Copy> RecvEnd<X, R, H> {
+impl<X: Copy, R: PlaceRule<X>, S: CopyStore<X>, H: Wait + Copy> RecvEnd<X, R, S, H> {
     ghost use Rattle.blocking_ends.specs.Answers.{IfDrained, OnDrainsEnd, OnDrainsWait, got_by_drain};
     ghost use Rattle.blocking_ends.specs.Rules.{HoldFrom};
 
@@ -123,16 +124,10 @@ impl<X: Copy, R: PlaceRule<X>, H: Wait + Copy> RecvEnd<X, R, H> {
             ≡ drop (got_by_drain result.answer) out.old }
         ensures ended { OnDrainsEnd result.answer (R.ended self.old.received) }
     {
-        for _ in self.rt.forever() {
-            let mut pipe = enter(&self.pipe, &self.rt);
-            if pipe.received() != self.received {
-                continue;
-            }
-            let answered = pipe.drain_or_seat(waker, out);
-            self.received = pipe.received();
-            return answered;
-        }
-        unreachable!()
+        let mut pipe = Self::enter(&self.pipe, &self.rt, self.received);
+        let answered = pipe.drain_or_seat(waker, out);
+        self.received = pipe.received();
+        answered
     }
 
     /// Moves the first items into `out`, as many as there are and it holds, and answers the note of a job that waits, which has to

@@ -1,12 +1,12 @@
 //! The end of a job that sends to its owner.
 ghost use Rattle.std.specs.Prelude.{◌≡◌, ◌<◌, ◌≤◌, ◌+◌, ◌-◌, length, take};
 
-use crate::locked::{JobToOwner, OwnerWaker};
+use crate::locked::JobToOwner;
 use crate::rule::PlaceRule;
-use blocking_core::pipe::{Put, Room, Sending};
-use blocking_lock::enter;
+use blocking_core::pipe::{CopyStore, Put, Room, Sending, Store};
+use blocking_lock::{OwnerWaker, enter_where};
 use blocking_pool::pool::JobNo;
-use std::sync::{Arc, Mutex, Wait};
+use std::sync::{Arc, Mutex, MutexGuard, Wait};
 
 /// The end of a job that sends to its owner: each item holds at its place, by the rule `R`.
 ///
@@ -17,18 +17,19 @@ use std::sync::{Arc, Mutex, Wait};
 ///
 /// Dropping it closes nothing, and the owner goes on waiting: it is closed first.
 #[derive(Drop)]
-pub struct SendEnd<X: Drop, R: PlaceRule<X>, H: Wait + Copy> {
-    pipe: Arc<Mutex<JobToOwner<X, R>>>,
+pub struct SendEnd<X: Drop, R: PlaceRule<X>, S: Store<X>, H: Wait + Copy> {
+    pipe: Arc<Mutex<JobToOwner<X, R, S>>>,
     sent: u64,
     // How much of the room that was told is left.
     free: usize,
     rt: H,
 }
 
-impl<X: Drop, R: PlaceRule<X>, H: Wait + Copy> SendEnd<X, R, H> {
+impl<X: Drop, R: PlaceRule<X>, S: Store<X>, H: Wait + Copy> SendEnd<X, R, S, H> {
+    ghost use Rattle.blocking_core.specs.Pipes.{room};
     ghost use Rattle.blocking_ends.specs.Answers.{IfFree, free_after, sent_by_send, ComesBack};
 
-    pub(crate) fn new(rt: H, pipe: Arc<Mutex<JobToOwner<X, R>>>) -> Self
+    pub(crate) fn new(rt: H, pipe: Arc<Mutex<JobToOwner<X, R, S>>>) -> Self
         ensures sent { result.sent ≡ 0 }
         ensures free { result.free ≡ 0 }
     {
@@ -47,6 +48,21 @@ impl<X: Drop, R: PlaceRule<X>, H: Wait + Copy> SendEnd<X, R, H> {
         self.sent
     }
 
+    // The pipe, where it has the counts that this end knows of.
+    fn enter<'a>(
+        pipe: &'a Mutex<JobToOwner<X, R, S>>,
+        rt: &H,
+        sent: u64,
+        free: usize,
+    ) -> MutexGuard<'a, JobToOwner<X, R, S>>
+        ensures sent { result.value.sent ≡ sent }
+        ensures room { free ≤ room result.value.pipe }
+    {
+        enter_where(pipe, rt, |pipe: &JobToOwner<X, R, S>| {
+            pipe.sent() == sent && free <= pipe.room()
+        })
+    }
+
     /// Looks for room for items, of which `put` may use as much as is told. The job is seated where there is none, and is told `Shut` where
     /// the owner's end is closed. Once this end is closed what is told is of no use: `put` and `send` send nothing more.
     pub fn room_or_seat(&mut self, me: JobNo) -> Room
@@ -54,19 +70,11 @@ impl<X: Drop, R: PlaceRule<X>, H: Wait + Copy> SendEnd<X, R, H> {
         ensures free { self.new.free ≡ free_after result self.old.free }
         ensures some { IfFree result (λ n. 0 < n) }
     {
-        for _ in self.rt.forever() {
-            let mut pipe = enter(&self.pipe, &self.rt);
-            if pipe.sent() != self.sent || pipe.room() < self.free {
-                continue;
-            }
-            let room = pipe.room_or_seat(me);
-            drop(pipe);
-            if let Room::Free(free) = room {
-                self.free = free;
-            }
-            return room;
+        let room = Self::enter(&self.pipe, &self.rt, self.sent, self.free).room_or_seat(me);
+        if let Room::Free(free) = room {
+            self.free = free;
         }
-        unreachable!()
+        room
     }
 
     /// Sends an item. Where the pipe is full the job is seated and the item comes back; it also comes back where the owner's end
@@ -77,20 +85,14 @@ impl<X: Drop, R: PlaceRule<X>, H: Wait + Copy> SendEnd<X, R, H> {
         ensures free { self.new.free ≡ self.old.free - sent_by_send result }
         ensures back { ComesBack item result }
     {
-        for _ in self.rt.forever() {
-            let mut pipe = enter(&self.pipe, &self.rt);
-            if pipe.sent() != self.sent || pipe.room() < self.free {
-                continue;
-            }
-            let sending = pipe.send(me, item);
-            self.sent = pipe.sent();
-            drop(pipe);
-            if let Sending::Sent(_) = &sending {
-                self.free = self.free.saturating_sub(1);
-            }
-            return sending;
+        let mut pipe = Self::enter(&self.pipe, &self.rt, self.sent, self.free);
+        let sending = pipe.send(me, item);
+        self.sent = pipe.sent();
+        drop(pipe);
+        if let Sending::Sent(_) = &sending {
+            self.free = self.free.saturating_sub(1);
         }
-        unreachable!()
+        sending
     }
 
     /// Closes this end, where the items may end. From then on nothing is sent. Answers the waker of an owner who waits.
@@ -99,26 +101,35 @@ impl<X: Drop, R: PlaceRule<X>, H: Wait + Copy> SendEnd<X, R, H> {
         ensures sent { self.new.sent ≡ self.old.sent }
         ensures free { self.new.free ≡ self.old.free }
     {
-        for _ in self.rt.forever() {
-            let mut pipe = enter(&self.pipe, &self.rt);
-            if pipe.sent() == self.sent && self.free <= pipe.room() {
-                return pipe.close_job();
-            }
-        }
-        unreachable!()
+        Self::enter(&self.pipe, &self.rt, self.sent, self.free).close_job()
     }
 }
 
-impl<X: Copy, R: PlaceRule<X>, H: Wait + Copy> SendEnd<X, R, H> {
+impl<X: Copy, R: PlaceRule<X>, S: CopyStore<X>, H: Wait + Copy> SendEnd<X, R, S, H> {
     ghost use Rattle.blocking_ends.specs.Answers.{sent_by_put};
     ghost use Rattle.blocking_ends.specs.Rules.{HoldFrom};
 
-    /// Puts the first `count` items of a piece into the room that was told last and wasn't used since. They are lost where the owner's end
-    /// is closed, or this one, or where more than 18446744073709551615 items would be sent in all.
-    ///
-    /// A piece goes in as it is, and the memory of the one before comes back for it, where nothing is inside and that is as long. What
-    /// stands in the piece afterwards is not to be relied on.
-    pub fn put(&mut self, piece: &mut Vec<X>, count: usize) -> Put<OwnerWaker>
+    /// Puts items into the room that was told last and wasn't used since. They are lost where the owner's end is closed, or this one, or where
+    /// more than 18446744073709551615 items would be sent in all.
+    pub fn put(&mut self, items: &[X]) -> Put<OwnerWaker>
+        requires fits { length items.now ≤ self.old.free }
+        requires held { HoldFrom R.holds self.old.sent items.now }
+        ensures sent { self.new.sent ≡ self.old.sent + sent_by_put result (length items.now) }
+        ensures free { self.new.free ≡ self.old.free - sent_by_put result (length items.now) }
+    {
+        let mut pipe = Self::enter(&self.pipe, &self.rt, self.sent, self.free);
+        let put = pipe.put(items);
+        self.sent = pipe.sent();
+        drop(pipe);
+        if let Put::In(_) = &put {
+            self.free -= items.len();
+        }
+        put
+    }
+
+    /// As `put`, for the first `count` items of a piece. A store into which pieces move takes it as it is where it can, and gives memory as long
+    /// for it. What stands in the piece afterwards is not to be relied on.
+    pub fn put_piece(&mut self, piece: &mut Vec<X>, count: usize) -> Put<OwnerWaker>
         requires some { count ≤ length piece.old.items }
         requires fits { count ≤ self.old.free }
         requires held { HoldFrom R.holds self.old.sent (take count piece.old.items) }
@@ -126,19 +137,13 @@ impl<X: Copy, R: PlaceRule<X>, H: Wait + Copy> SendEnd<X, R, H> {
         ensures free { self.new.free ≡ self.old.free - sent_by_put result count }
         ensures long { length piece.new.items ≡ length piece.old.items }
     {
-        for _ in self.rt.forever() {
-            let mut pipe = enter(&self.pipe, &self.rt);
-            if pipe.sent() != self.sent || pipe.room() < self.free {
-                continue;
-            }
-            let put = pipe.put(piece, count);
-            self.sent = pipe.sent();
-            drop(pipe);
-            if let Put::In(_) = &put {
-                self.free -= count;
-            }
-            return put;
+        let mut pipe = Self::enter(&self.pipe, &self.rt, self.sent, self.free);
+        let put = pipe.put_piece(piece, count);
+        self.sent = pipe.sent();
+        drop(pipe);
+        if let Put::In(_) = &put {
+            self.free -= count;
         }
-        unreachable!()
+        put
     }
 }

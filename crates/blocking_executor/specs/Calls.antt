@@ -1,25 +1,11 @@
--- What the locked slot and the job of a call keep.
+-- What the job of a call keeps.
 use Rattle.std.specs.Prelude.{◌≡◌, Bool, Option, refl}
 use Rattle.std.specs.Coded.{Coded, code_by, coded×, coded_option}
-use Rattle.blocking_core.specs.Slots.{Content, Empty, Full, GivenUp, Abandoned}
 use Rattle.blocking_core.specs.Cores.{call_after}
 use Rattle.blocking_core.specs.declared.job.Action.{Action}
 use Rattle.blocking_core.specs.declared.job.Action.TheVariants.{Call, Finish, Deliver, Done}
 use Rattle.blocking_core.specs.declared.job.Answer.TheVariants.{Returned, Put, Delivered}
 use Rattle.blocking_core.specs.contracts.job.Action.{the_row}
-use Rattle.futures.specs.declared.task.waker.Waker.{Waker}
-use Rattle.futures.specs.contracts.task.waker.Waker.{the_row as waker_row}
-
--- a fact of the value in a slot, if there is one
-abbrev pub IfFull : {T : Type 0} → Content T → (T → Type 0) → Type 0
-IfFull Empty P = Unit {0}
-IfFull (Full value) P = P value
-IfFull GivenUp P = Unit {0}
-IfFull (Abandoned is_over) P = Unit {0}
-
--- the code of an owner's waker, which says nothing of it
-abbrev pub waker_code : Coded (Option Waker)
-waker_code = coded_option waker_row.coded
 
 -- what contracts see of the job of a call: its next action, and the call until it is made
 pub record CallSeen (F : Type 0) : Type 0 where

@@ -2,10 +2,11 @@
 ghost use Rattle.std.specs.Prelude.{◌≡◌, ◌↔◌, Some, None};
 ghost use Rattle.blocking_core.specs.declared.job.Action.{Action};
 
-use crate::slot::{Link, OwnerWaker};
+use crate::slot::Link;
 use blocking_core::job::{Action, Answer, CallCore};
 use blocking_core::pool::{Carries, Job, JobNo, JobStep};
 use blocking_core::task::{Call, Put};
+use blocking_lock::OwnerWaker;
 use std::marker::Model;
 use std::mem;
 use std::sync::{Arc, Wait};

@@ -4,9 +4,10 @@ ghost use Rattle.std.specs.Prelude.{◌≡◌, true, false, IfErr, IfOk};
 use crate::executor::Executor;
 use crate::job::CallJob;
 use crate::runtime::Runtime;
-use crate::slot::{Found, Link};
+use crate::slot::{AnswerOf, Link};
 use blocking_core::pool::{Carries, Job, Refusal, Refused};
 use blocking_core::task::{Call, Looked, Slotted};
+use blocking_lock::Found;
 use futures::Future;
 use futures::task::{Context, Poll, Source, Waker};
 use std::sync::{Arc, Wait};
@@ -145,7 +146,7 @@ impl<F: Call<Out: Drop>, H: Wait + Copy> Future for Task<F, H> {
 pub struct Cancel<F: Call<Out: Drop>, H: Wait + Copy> {
     link: Arc<Link<F>>,
     source: Source,
-    found: Found<F>,
+    found: Found<AnswerOf<F>>,
     is_taken: bool,
     rt: H,
 }
@@ -156,7 +157,7 @@ impl<F: Call<Out: Drop>, H: Wait + Copy> Cancel<F, H> {
     ghost use Rattle.futures.specs.Poll.{IfReady, OnPending};
     ghost use Rattle.blocking_executor.specs.SlotAnswers.{settled};
 
-    fn new(rt: H, link: Arc<Link<F>>, source: Source, found: Found<F>) -> Cancel<F, H>
+    fn new(rt: H, link: Arc<Link<F>>, source: Source, found: Found<AnswerOf<F>>) -> Cancel<F, H>
         ensures fresh { result.is_taken ≡ false }
         ensures found { result.found ≡ found }
         ensures source_is { result.source ≡ source }

@@ -5,9 +5,10 @@ ghost use Rattle.blocking_core.specs.Items.{new_item, item_next};
 
 use crate::link::{Link, MayFail};
 use blocking_core::job::{ItemAction, ItemAnswer, ItemCore};
-use blocking_core::pipe::Sending;
+use blocking_core::pipe::{RingStore, Sending};
 use blocking_core::pool::{Carries, Job, JobNo, JobStep};
-use blocking_ends::{AnyPlace, OwnerWaker, SendEnd};
+use blocking_ends::{AnyPlace, SendEnd};
+use blocking_lock::OwnerWaker;
 use std::marker::Model;
 use std::sync::{Arc, Wait};
 
@@ -22,7 +23,7 @@ pub struct ItemJob<T: Iterator<Item = I> + Drop, I: Drop, H: Wait + Copy> {
     iterator: Option<T>,
     // The item that the iterator gave, until it is sent.
     hand: Option<I>,
-    end: SendEnd<I, AnyPlace, H>,
+    end: SendEnd<I, AnyPlace, RingStore<I>, H>,
     // The waker that was taken out of the owner's seat, and has to be called.
     waker: OwnerWaker,
     link: Arc<Link<T, MayFail>>,
@@ -49,7 +50,7 @@ impl<T: Iterator<Item = I> + Drop, I: Drop, H: Wait + Copy> ItemJob<T, I, H> {
     pub fn new(
         rt: H,
         iterator: T,
-        end: SendEnd<I, AnyPlace, H>,
+        end: SendEnd<I, AnyPlace, RingStore<I>, H>,
         link: Arc<Link<T, MayFail>>,
     ) -> ItemJob<T, I, H>
         requires { (state : T) → T.can_next state }

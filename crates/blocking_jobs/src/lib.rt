@@ -6,12 +6,11 @@ mod link;
 mod op_job;
 mod read_job;
 mod seek_job;
-mod slot;
 mod write_job;
 
 pub use item_job::ItemJob;
 pub use link::{Link, Linked, MayFail, Returned, Sought, WayBack};
 pub use op_job::{OpJob, ResultPlace, ResultSeat};
-pub use read_job::ReadJob;
+pub use read_job::{ReadJob, ReadStore};
 pub use seek_job::SeekJob;
-pub use write_job::WriteJob;
+pub use write_job::{WriteJob, WriteStore};

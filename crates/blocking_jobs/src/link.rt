@@ -3,10 +3,9 @@
 ghost use Rattle.std.specs.Prelude.{OnErr, IfOk};
 ghost use Rattle.futures.specs.Task.{IsArmed, Keeps};
 
-use crate::slot::{AnyOf, LockedSlot};
 use blocking_core::io::JobFault;
 use blocking_core::task::{Put, Seat};
-use blocking_ends::OwnerWaker;
+use blocking_lock::{AnyOf, LockedSlot, OwnerWaker};
 use futures::task::{Context, Source};
 use std::alloc::{AllocError, AllocGlobal};
 use std::io;

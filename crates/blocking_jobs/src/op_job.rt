@@ -5,11 +5,10 @@ ghost use Rattle.blocking_core.specs.declared.job.operation.OperationAction.TheV
 ghost use Rattle.blocking_core.specs.Operations.{new_operation, operation_next};
 
 use crate::link::{Link, MayFail};
-use crate::slot::{Left, LockedSlot};
 use blocking_core::job::{OperationAction, OperationAnswer, OperationCore};
 use blocking_core::pool::{Carries, Job, JobNo, JobStep};
 use blocking_core::task::{CallOn, Put, Seat};
-use blocking_ends::OwnerWaker;
+use blocking_lock::{Left, LockedSlot, OwnerWaker};
 use futures::task::{Context, Source};
 use std::alloc::{AllocError, AllocGlobal};
 use std::marker::{Model, PhantomData};

@@ -7,13 +7,17 @@ ghost use Rattle.blocking_core.specs.Reading.{new_read, read_next};
 use crate::link::{Link, MayFail};
 use blocking_core::io::JobFault;
 use blocking_core::job::{ReadAction, ReadAnswer, ReadCore};
-use blocking_core::pipe::{Put, Room};
+use blocking_core::pipe::{FlatStore, MovingStore, Put, Room};
 use blocking_core::pool::{Carries, Job, JobNo, JobStep};
-use blocking_ends::{AnyPlace, OwnerWaker, SendEnd};
+use blocking_ends::{AnyPlace, SendEnd};
+use blocking_lock::OwnerWaker;
 use std::io;
 use std::io::Read;
 use std::marker::Model;
 use std::sync::{Arc, Wait};
+
+/// What holds the bytes of a session that reads: its job's pieces move in as they are.
+pub type ReadStore = MovingStore<u8, FlatStore>;
 
 /// The job that reads ahead of an owner: it asks its reader for as much as there is room for in the pipe, and puts there what it
 /// was given, until the reader ends or fails or nobody wants more. Then it gives the reader back.
@@ -27,7 +31,7 @@ pub struct ReadJob<T: Drop, H: Wait + Copy> {
     fault: MayFail,
     // Where a piece stands between the reader and the pipe.
     piece: Vec<u8>,
-    end: SendEnd<u8, AnyPlace, H>,
+    end: SendEnd<u8, AnyPlace, ReadStore, H>,
     // The waker that was taken out of the owner's seat, and has to be called.
     waker: OwnerWaker,
     link: Arc<Link<T, MayFail>>,
@@ -73,7 +77,7 @@ impl<T: Drop, H: Wait + Copy> ReadJob<T, H> {
         rt: H,
         reader: T,
         piece: Vec<u8>,
-        end: SendEnd<u8, AnyPlace, H>,
+        end: SendEnd<u8, AnyPlace, ReadStore, H>,
         link: Arc<Link<T, MayFail>>,
     ) -> ReadJob<T, H>
         requires { 0 < vec_len piece }
@@ -154,7 +158,7 @@ impl<T: Read + Drop, H: Wait + Copy> ReadJob<T, H> {
         requires { read_next self.old.core ≡ PutPiece count }
         ensures { IsSteppedBy T.remaining (PutPiece count) self.old self.new result }
     {
-        match self.end.put(&mut self.piece, count) {
+        match self.end.put_piece(&mut self.piece, count) {
             Put::In(seat) => {
                 let woke = seat.is_some();
                 self.waker = seat.flatten();

@@ -8,7 +8,7 @@ use crate::link::{Link, Sought};
 use blocking_core::io::Position;
 use blocking_core::job::{SeekAction, SeekAnswer, SeekCore};
 use blocking_core::pool::{Carries, Job, JobNo, JobStep};
-use blocking_ends::OwnerWaker;
+use blocking_lock::OwnerWaker;
 use std::io::{Seek, SeekFrom};
 use std::marker::Model;
 use std::sync::{Arc, Wait};

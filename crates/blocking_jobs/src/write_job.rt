@@ -7,13 +7,17 @@ ghost use Rattle.blocking_core.specs.Writing.{new_write, write_next};
 
 use crate::link::{Link, MayFail};
 use blocking_core::job::{PIECE, WriteAction, WriteAnswer, WriteCore};
-use blocking_core::pipe::Peeked;
+use blocking_core::pipe::{LendingStore, Peeked};
 use blocking_core::pool::{Carries, Job, JobNo, JobStep};
-use blocking_ends::{AnyPlace, OwnerWaker, PeekEnd};
+use blocking_ends::{AnyPlace, PeekEnd};
+use blocking_lock::OwnerWaker;
 use std::io;
 use std::io::Write;
 use std::marker::Model;
 use std::sync::{Arc, Wait};
+
+/// What holds the bytes of a session that writes: whole pieces of its owner's are lent to its job as they are.
+pub type WriteStore = LendingStore<u8>;
 
 /// The job that writes behind an owner: it offers its writer what stands at the front of the pipe, and lets go of what the writer took,
 /// until the owner wants no more and all is written, or the writer fails. Then it flushes the writer and gives it back.
@@ -24,7 +28,7 @@ pub struct WriteJob<T: Drop, H: Wait + Copy> {
     core: WriteCore<io::Error>,
     // The writer, until it is given back.
     writer: Option<T>,
-    end: PeekEnd<u8, AnyPlace, H>,
+    end: PeekEnd<u8, AnyPlace, WriteStore, H>,
     // The waker that was taken out of the owner's seat, and has to be called.
     waker: OwnerWaker,
     link: Arc<Link<T, MayFail>>,
@@ -65,7 +69,7 @@ impl<T: Drop, H: Wait + Copy> WriteJob<T, H> {
     pub fn new(
         rt: H,
         writer: T,
-        end: PeekEnd<u8, AnyPlace, H>,
+        end: PeekEnd<u8, AnyPlace, WriteStore, H>,
         link: Arc<Link<T, MayFail>>,
     ) -> WriteJob<T, H>
         ensures { result ≡ record { core = new_write; writer = Some writer; piece = end.shown; received = end.received } }
@@ -103,7 +107,7 @@ impl<T: Write + Drop, H: Wait + Copy> WriteJob<T, H> {
         requires { write_next self.old.core ≡ Peek }
         ensures { IsSteppedBy T.contents Peek self.old self.new result }
     {
-        match self.end.peek_or_seat(me) {
+        match self.end.lend_or_seat(me) {
             Peeked::Some(count) => {
                 self.core.answer(WriteAnswer::Peeked(count.min(PIECE)));
                 JobStep::Again

@@ -6,8 +6,9 @@ ghost use Rattle.blocking_unblock.specs.Owners.{kind_of};
 
 use crate::session::{Session, Side};
 use blocking_core::job::PIECE;
-use blocking_ends::{AnyPlace, PeekEnd, SendEnd, link, link_in, link_with};
-use blocking_jobs::{Link, Linked, MayFail};
+use blocking_core::pipe::{MovingStore, RingStore};
+use blocking_ends::{AnyPlace, PeekEnd, SendEnd, link, link_in, link_over};
+use blocking_jobs::{Link, Linked, MayFail, ReadStore, WriteStore};
 use std::alloc::{AllocError, AllocGlobal};
 use std::sync::{Arc, Wait};
 
@@ -15,7 +16,7 @@ use std::sync::{Arc, Wait};
 #[derive(Drop)]
 pub(crate) struct ReadParts<T: Drop, I: Drop, H: Wait + Copy> {
     pub session: Session<T, I, H>,
-    pub end: SendEnd<u8, AnyPlace, H>,
+    pub end: SendEnd<u8, AnyPlace, ReadStore, H>,
     pub link: Arc<Link<T, MayFail>>,
     pub piece: Vec<u8>,
 }
@@ -24,7 +25,7 @@ pub(crate) struct ReadParts<T: Drop, I: Drop, H: Wait + Copy> {
 #[derive(Drop)]
 pub(crate) struct WriteParts<T: Drop, I: Drop, H: Wait + Copy> {
     pub session: Session<T, I, H>,
-    pub end: PeekEnd<u8, AnyPlace, H>,
+    pub end: PeekEnd<u8, AnyPlace, WriteStore, H>,
     pub link: Arc<Link<T, MayFail>>,
 }
 
@@ -32,7 +33,7 @@ pub(crate) struct WriteParts<T: Drop, I: Drop, H: Wait + Copy> {
 #[derive(Drop)]
 pub(crate) struct ItemParts<T: Drop, I: Drop, H: Wait + Copy> {
     pub session: Session<T, I, H>,
-    pub end: SendEnd<I, AnyPlace, H>,
+    pub end: SendEnd<I, AnyPlace, RingStore<I>, H>,
     pub link: Arc<Link<T, MayFail>>,
 }
 
@@ -60,7 +61,8 @@ pub(crate) fn read_parts<T: Drop, I: Drop, H: Wait + AllocGlobal + Copy>(
         way_back,
         link: theirs,
     } = Linked::new(rt)?;
-    let (job_end, end) = link_with(rt, capacity, ready)?;
+    let store = MovingStore::with_spare(rt.alloc(), capacity, ready)?;
+    let (job_end, end) = link_over(rt, store)?;
     Ok(ReadParts {
         session: Session::new(Side::Reading(end, way_back)),
         end: job_end,

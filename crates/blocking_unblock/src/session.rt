@@ -8,12 +8,12 @@ ghost use Rattle.blocking_ends.specs.Answers.{IfDrained, OnDrainsWait, IfTook, O
 ghost use Rattle.blocking_unblock.specs.Owners.{note_of_drain, answer_of_drain, note_of_fill, answer_of_fill, IsBack, IsSought};
 
 use blocking_core::io::{Fault, JobFault, Position};
-use blocking_core::pipe::{Drained, Filled, Received};
+use blocking_core::pipe::{Drained, Filled, Received, RingStore};
 use blocking_core::pool::WakeNote;
 use blocking_core::task::Seat;
 use blocking_core::unblock::{OwnerAnswer, OwnerEnd, SessionKind};
 use blocking_ends::{AnyPlace, FillEnd, RecvEnd};
-use blocking_jobs::{MayFail, Returned, Sought, WayBack};
+use blocking_jobs::{MayFail, ReadStore, Returned, Sought, WayBack, WriteStore};
 use futures::task::Context;
 use std::io;
 use std::sync::Wait;
@@ -21,9 +21,9 @@ use std::sync::Wait;
 /// What the owner has of a session, by its kind: its end of the pipe, where there is one, and where the handle comes back.
 #[derive(Drop)]
 pub(crate) enum Side<T: Drop, I: Drop, H: Wait + Copy> {
-    Reading(RecvEnd<u8, AnyPlace, H>, WayBack<T, MayFail, H>),
-    Writing(FillEnd<u8, AnyPlace, H>, WayBack<T, MayFail, H>),
-    Streaming(RecvEnd<I, AnyPlace, H>, WayBack<T, MayFail, H>),
+    Reading(RecvEnd<u8, AnyPlace, ReadStore, H>, WayBack<T, MayFail, H>),
+    Writing(FillEnd<u8, AnyPlace, WriteStore, H>, WayBack<T, MayFail, H>),
+    Streaming(RecvEnd<I, AnyPlace, RingStore<I>, H>, WayBack<T, MayFail, H>),
     Seeking(Position, WayBack<T, Sought, H>),
     Operating(WayBack<T, MayFail, H>),
 }

@@ -2,7 +2,7 @@
 use crate::figures::{Figures, Request, rate};
 use crate::pipe::{failed, is_right, pattern};
 use blocking::{AnyPlace, Executor, FillEnd, Host, PeekEnd, Runtime, link_in};
-use blocking_core::pipe::{Filled, Peeked};
+use blocking_core::pipe::{Filled, LendingStore, Peeked};
 use blocking_core::pool::{Job, JobNo, JobStep, WakeNote};
 use futures::Future;
 use futures::channel::oneshot;
@@ -18,7 +18,7 @@ const PIECE: usize = 65_536;
 // Peeks and consumes to the end, and tells how many bytes there were, of which each piece's first and last were right.
 #[derive(Drop)]
 struct Taker<H: Runtime> {
-    end: PeekEnd<u8, AnyPlace, H>,
+    end: PeekEnd<u8, AnyPlace, LendingStore<u8>, H>,
     told: Option<oneshot::Sender<u64>>,
 }
 
@@ -29,7 +29,7 @@ impl<H: Runtime> Job for Taker<H> {
 
     fn step(&mut self, me: JobNo) -> JobStep {
         let place = self.end.received();
-        match self.end.peek_or_seat(me) {
+        match self.end.lend_or_seat(me) {
             Peeked::Some(count) => {
                 let is_right = is_right(place, self.end.shown());
                 drop(self.end.consume(count));
@@ -59,7 +59,7 @@ impl<H: Runtime> Job for Taker<H> {
 struct Filling<'a, J: Job, H: Runtime> {
     rt: H,
     executor: &'a Executor<J, H>,
-    end: FillEnd<u8, AnyPlace, H>,
+    end: FillEnd<u8, AnyPlace, LendingStore<u8>, H>,
     rest: &'a [u8],
 }
 

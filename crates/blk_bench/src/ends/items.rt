@@ -1,8 +1,8 @@
 //! Numbers that a job on a worker puts, and that the owner drains.
 use crate::figures::{Figures, Request, each};
 use crate::pipe::failed;
-use blocking::{AnyPlace, Executor, Host, RecvEnd, Runtime, SendEnd, link_with};
-use blocking_core::pipe::{DEFAULT_ITEMS, Drained, Put, Room};
+use blocking::{AnyPlace, Executor, Host, RecvEnd, Runtime, SendEnd, link_over};
+use blocking_core::pipe::{DEFAULT_ITEMS, Drained, MovingStore, Put, RingStore, Room};
 use blocking_core::pool::{Job, JobNo, JobStep};
 use futures::Future;
 use futures::executor::block_on;
@@ -14,10 +14,13 @@ use std::time::Instant;
 // How many numbers are put or drained at once.
 const BATCH: usize = 256;
 
+// What holds the numbers: whole batches move in.
+type Batches = MovingStore<u64, RingStore<u64>>;
+
 // Puts the numbers below its size, and closes.
 #[derive(Drop)]
 struct Counter<H: Runtime> {
-    end: SendEnd<u64, AnyPlace, H>,
+    end: SendEnd<u64, AnyPlace, Batches, H>,
     batch: Vec<u64>,
     size: u64,
 }
@@ -42,7 +45,7 @@ impl<H: Runtime> Job for Counter<H> {
         let most = usize::try_from(left).unwrap_or(BATCH);
         let count = free.min(self.batch.len()).min(most);
         number(first, &mut self.batch[..count]);
-        match self.end.put(&mut self.batch, count) {
+        match self.end.put_piece(&mut self.batch, count) {
             Put::In(_) => JobStep::Again,
             Put::Lost => JobStep::Done,
         }
@@ -79,7 +82,7 @@ fn are_numbers(first: u64, batch: &[u64]) -> bool {
 struct Counted<'a, J: Job, H: Runtime> {
     rt: H,
     executor: &'a Executor<J, H>,
-    end: RecvEnd<u64, AnyPlace, H>,
+    end: RecvEnd<u64, AnyPlace, Batches, H>,
 }
 
 impl<'a, J: Job, H: Runtime> Future for Counted<'a, J, H> {
@@ -114,7 +117,9 @@ impl<'a, J: Job, H: Runtime> Future for Counted<'a, J, H> {
 // All numbers from a job to this thread.
 fn cross<R: Host>(host: R, executor: &Executor<Counter<R>, R>, size: u64) -> io::Result<()> {
     let batch = vec![in host.alloc(); 0; BATCH]?;
-    let (theirs, end) = link_with(host, DEFAULT_ITEMS, vec![in host.alloc(); 0; BATCH]?)?;
+    let spare = vec![in host.alloc(); 0; BATCH]?;
+    let store = Batches::with_spare(host.alloc(), DEFAULT_ITEMS, spare)?;
+    let (theirs, end) = link_over(host, store)?;
     let counter = Counter {
         end: theirs,
         batch,

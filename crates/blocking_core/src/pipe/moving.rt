@@ -1,12 +1,10 @@
-//! A pipe into which a job's piece moves as it is, so that nothing of it is copied.
-ghost use Rattle.std.specs.Prelude.{◌≡◌, ◌≤◌, ◌<◌, ◌++◌, ◌∷◌, [], false, length, min, take, drop, IfOk, IfSome, IfNone, Some, None};
+//! A store into which a piece moves as it is, so that nothing of it is copied.
+ghost use Rattle.std.specs.Prelude.{◌≡◌, ◌≤◌, ◌<◌, ◌+◌, ◌++◌, ◌∷◌, [], length, min, take, drop, slice_get, Some, IfOk, IfSome, IfNone};
 ghost use Rattle.std.specs.Bool.{OnTrue, OnFalse};
 
-use crate::pipe::{Answered, Drained, Pipe, Put, Received, Room, Sending};
-use crate::task::Seat;
-use blocking_pool::pool::{JobNo, WakeNote};
+use crate::pipe::store::{CopyStore, Store};
 use std::alloc::{AllocError, Global};
-use std::marker::Model;
+use std::marker::{Model, PhantomData};
 use std::mem;
 
 /// What is left of the piece that moved in last.
@@ -80,6 +78,14 @@ impl<X: Drop> Front<X> {
 }
 
 impl<X: Copy> Front<X> {
+    // The item at a place.
+    fn get(&self, place: usize) -> X
+        requires { place < length self.now }
+        ensures { slice_get self.now place ≡ Some result }
+    {
+        self.piece[self.start..self.end][place]
+    }
+
     // Moves the first of what is left into `out`, as many items as it holds, and tells how many they were.
     fn move_into(&mut self, out: &mut [X]) -> usize
         ensures count { result ≡ min (length out.old) (length self.old) }
@@ -94,168 +100,82 @@ impl<X: Copy> Front<X> {
     }
 }
 
-/// A pipe from a job to its owner that takes a piece as it is, and gives the job another for it, where nothing is inside and both are as
-/// long. Other items are copied into its ring, behind what is left of that piece. In each call it answers and leaves what [`Pipe`] does.
+/// A store that takes a piece as it is, and gives another for it, where nothing is inside and both are as long. Other items are copied into
+/// the store behind it, behind what is left of that piece.
 #[derive(Drop)]
-pub struct MovingPipe<X: Drop, W: Drop> {
+pub struct MovingStore<X: Drop, S: Store<X>> {
     front: Front<X>,
-    // What stands behind it, in its ring, with the ends and the seats.
-    pipe: Pipe<X, W>,
+    behind: S,
+    item: PhantomData<X>,
+    ghost within: { let behind = S.held behind in length front + length behind.items ≤ behind.capacity },
 }
 
-impl<X: Drop, W: Drop> Model for MovingPipe<X, W> {
-    ghost use Rattle.std.specs.Prelude.{◌≤◌, ◌+◌, ◌++◌, length};
-    ghost use Rattle.blocking_core.specs.Pipes.{Pipe as Seen, pipe_code};
+impl<X: Drop, S: Store<X>> MovingStore<X, S> {
+    ghost use Rattle.blocking_core.specs.Stores.{empty_store};
 
-    ghost Value = { Seen X W };
-
-    ghost coded = { pipe_code X.code W.code };
-
-    ghost view = { λ p. record p.pipe { items = p.front ++ p.pipe.items } };
-
-    ghost invariant = { λ p. length p.front + length p.pipe.items ≤ p.pipe.capacity };
-}
-
-impl<X: Drop, W: Drop> MovingPipe<X, W> {
-    ghost use Rattle.blocking_core.specs.Pipes.{empty_pipe, room};
-    ghost use Rattle.blocking_core.specs.PipeAnswers.{FindsRoom, Sends, Receives};
-
-    /// An empty pipe for at most `capacity` items, both of whose ends are open. Its memory is taken here, and where there isn't so much
-    /// the answer is an [`AllocError`]. The spare piece is what the job gets for the first that moves in, where that is as long.
-    pub fn new(alloc: Global, capacity: usize, spare: Vec<X>) -> Result<Self, AllocError>
+    /// A store of nothing, for at most `capacity` items, with the memory that the first piece is exchanged for, if it is as long. All else of
+    /// its memory is taken here, and where there isn't so much the answer is an [`AllocError`], and the memory that was given is dropped.
+    pub fn with_spare(alloc: Global, capacity: usize, spare: Vec<X>) -> Result<Self, AllocError>
         requires { 0 < capacity }
-        ensures { IfOk result (λ pipe. pipe ≡ empty_pipe capacity) }
+        ensures { IfOk result (λ store. ⟦<Self as Store<X>>⟧.held store ≡ empty_store capacity) }
     {
-        Ok(MovingPipe {
+        Ok(MovingStore {
             front: Front::new(spare),
-            pipe: Pipe::new(alloc, capacity)?,
+            behind: S::new(alloc, capacity)?,
+            item: PhantomData,
         })
     }
+}
 
-    /// How many more items the pipe holds: the capacity at most.
-    pub fn room(&self) -> usize
-        ensures { result ≡ room self.now }
-    {
-        self.pipe.room() - self.front.len()
+impl<X: Drop, S: Store<X>> Store<X> for MovingStore<X, S> {
+    ghost held = { λ store. record (S.held store.behind) { items = store.front ++ (S.held store.behind).items } };
+
+    fn new(alloc: Global, capacity: usize) -> Result<MovingStore<X, S>, AllocError> {
+        MovingStore::with_spare(alloc, capacity, Vec::new(alloc))
     }
 
-    /// The job looks for room, and is seated where there is none.
-    pub fn room_or_seat(&mut self, me: JobNo) -> Room
-        ensures { FindsRoom self.old me result self.new }
-    {
-        if !self.pipe.is_owner_open() {
-            return Room::Shut;
-        }
-        let free = self.room();
-        if free == 0 {
-            self.pipe.seat_job(me);
-            return Room::Parked;
-        }
-        Room::Free(free)
+    fn len(&self) -> usize {
+        self.front.len() + self.behind.len()
     }
 
-    /// The job sends an item. Where the pipe is full the job is seated.
-    pub fn send(&mut self, me: JobNo, item: X) -> Sending<X, W>
-        ensures { Sends self.old me item result self.new }
-    {
-        if !self.pipe.is_owner_open() {
-            return Sending::Shut(item);
-        }
-        if self.room() == 0 {
-            self.pipe.seat_job(me);
-            return Sending::Parked(item);
-        }
-        self.pipe.send(me, item)
+    fn room(&self) -> usize {
+        self.behind.room() - self.front.len()
     }
 
-    /// The job closes its end. Answers the waker of an owner who waited. What is inside stays.
-    pub fn close_job(&mut self) -> Option<W>
-        ensures pipe { self.new ≡ record self.old { is_job_open = false; owner_seat = None } }
-        ensures waker { result ≡ self.old.owner_seat }
-    {
-        self.pipe.close_job()
+    fn push(&mut self, item: X) {
+        self.behind.push(item);
     }
 
-    /// The owner takes the first item. Where the pipe is empty and the job's end is open the owner is seated.
-    ///
-    /// What is left of a piece moves up by one, and the memory of that piece is one shorter then, so that no later one moves in as it is:
-    /// whoever puts pieces in had better drain.
-    pub fn receive_or_seat(&mut self, waker: W) -> Answered<Received<X>, W>
-        ensures { Receives self.old waker result.answer result.spare self.new }
-    {
+    fn pop(&mut self) -> Option<X> {
         match self.front.pop() {
-            Some(item) => Answered {
-                answer: Received::Got(item, self.pipe.unseat_job()),
-                spare: Some(waker),
-            },
-            None => self.pipe.receive_or_seat(waker),
+            Some(item) => Some(item),
+            None => self.behind.pop(),
         }
-    }
-
-    /// The owner closes its end. Answers the note of a job that waited. What is inside stays.
-    pub fn close_owner(&mut self) -> Option<WakeNote>
-        ensures pipe { self.new ≡ record self.old { is_owner_open = false; job_seat = None } }
-        ensures note { result ≡ self.old.job_seat }
-    {
-        self.pipe.close_owner()
     }
 }
 
-impl<X: Copy, W: Drop> MovingPipe<X, W> {
-    ghost use Rattle.blocking_core.specs.Pipes.{room};
-    ghost use Rattle.blocking_core.specs.PipeAnswers.{Puts, Drains};
-
-    // Takes the first items of a piece, for which there is room.
-    fn take_in(&mut self, piece: &mut Vec<X>, count: usize)
-        requires some { count ≤ length piece.old.items }
-        requires room { count ≤ room self.old }
-        ensures pipe { self.new ≡ record self.old { items = self.old.items ++ take count piece.old.items } }
-        ensures long { length piece.new.items ≡ length piece.old.items }
-    {
-        if self.pipe.len() > 0 || !self.front.exchange(piece, count) {
-            let _count = self.pipe.take_in(&piece[..count]);
+impl<X: Copy, S: CopyStore<X>> CopyStore<X> for MovingStore<X, S> {
+    fn get(&self, place: usize) -> X {
+        let left = self.front.len();
+        if place < left {
+            self.front.get(place)
+        } else {
+            self.behind.get(place - left)
         }
     }
 
-    /// The job puts the first `count` items of a piece, for all of which there is room. Where nothing is inside, and the memory that stands
-    /// ready is as long as the piece, that is given for it, and no item is copied. What stands in the piece afterwards is not to be relied
-    /// on.
-    pub fn put(&mut self, piece: &mut Vec<X>, count: usize) -> Put<W>
-        requires some { count ≤ length piece.old.items }
-        requires room { count ≤ room self.old }
-        ensures puts { Puts self.old (take count piece.old.items) result self.new }
-        ensures long { length piece.new.items ≡ length piece.old.items }
-    {
-        if !self.pipe.is_owner_open() {
-            return Put::Lost;
-        }
-        self.take_in(piece, count);
-        Put::In(self.pipe.unseat_owner())
+    fn put_all(&mut self, items: &[X]) {
+        self.behind.put_all(items);
     }
 
-    // Moves the front of what is inside into `out`, as many items as it holds, and tells how many they were.
-    fn move_into(&mut self, out: &mut [X]) -> usize
-        ensures count { result ≡ min (length out.old) (length self.old.items) }
-        ensures out { out.new ≡ take result self.old.items ++ drop result out.old }
-        ensures pipe { self.new ≡ record self.old { items = drop result self.old.items } }
-    {
+    fn take_piece(&mut self, piece: &mut Vec<X>, count: usize) {
+        if self.behind.len() > 0 || !self.front.exchange(piece, count) {
+            self.behind.put_all(&piece[..count]);
+        }
+    }
+
+    fn read_front(&mut self, out: &mut [X]) -> usize {
         let first = self.front.move_into(out);
-        first + self.pipe.move_into(&mut out[first..])
-    }
-
-    /// The owner moves the front of what is inside into `out`, as many items as it holds. Where the pipe is empty and the job's
-    /// end is open the owner is seated.
-    pub fn drain_or_seat(&mut self, waker: W, out: &mut [X]) -> Answered<Drained, W>
-        requires { 0 < length out.old }
-        ensures { Drains self.old waker out.old result.answer result.spare self.new out.new }
-    {
-        let count = self.move_into(out);
-        if count > 0 {
-            return Answered {
-                answer: Drained::Got(count, self.pipe.unseat_job()),
-                spare: Some(waker),
-            };
-        }
-        self.pipe.drain_or_seat(waker, out)
+        first + self.behind.read_front(&mut out[first..])
     }
 }

@@ -11,7 +11,7 @@ use blocking_core::job::{
     ItemAction, ItemCore, OperationAction, OperationCore, ReadAction, ReadCore, SeekAction,
     SeekCore, WriteAction, WriteCore,
 };
-use blocking_core::pipe::{Answered, BytePipe, Drained, Filled, Pipe, Received};
+use blocking_core::pipe::{Answered, BytePipe, Drained, Filled, FlatStore, Pipe, Received};
 use blocking_core::pool::Refusal;
 use blocking_core::task::{Polled, Slot, Slotted};
 use blocking_core::unblock::{OwnerAction, OwnerAnswer, OwnerCall, PollCall, Reply, State};
@@ -160,7 +160,7 @@ enum Left {
 /// An owner and its job, with the handle in no one's hand: what it answers stands in the row.
 #[derive(Drop)]
 struct Bench {
-    numbers: Numbers,
+    numbers: Numbers<FlatStore>,
     alloc: Global,
     capacity: usize,
     given: &'static [Given],

@@ -1,6 +1,9 @@
 //! The player of the pipe's rows. It promises nothing: what its helpers need is tested where they run.
 use crate::stop::stop;
-use blocking_core::pipe::{Answered, Drained, Filled, Peeked, Pipe, Put, Received, Room, Sending};
+use blocking_core::pipe::{
+    Answered, CopyStore, Drained, Filled, FlatStore, LendingStore, MovingStore, Peeked, Pipe, Put,
+    Received, RingStore, Room, Sending,
+};
 use blocking_core::pool::{Job, JobNo, JobStep, Pool, StartRefused, Starter, WakeNote};
 use std::alloc::{AllocGlobal, Global};
 use std::process::Abort;
@@ -17,6 +20,8 @@ const BLANK: u8 = b'.';
 pub(super) enum Step {
     /// The job puts bytes.
     Put(u8, usize),
+    /// The job puts the first bytes of a piece.
+    PutPiece(u8, usize),
     /// The job looks for room.
     Room(u64),
     /// The job sends a byte.
@@ -25,11 +30,17 @@ pub(super) enum Step {
     Peek(u64, usize),
     /// The job lets so many bytes go.
     Consume(usize),
+    /// The job is lent so many bytes at most.
+    Lend(u64, usize),
+    /// The job lets so many bytes go, of those that it was lent and then of those inside.
+    LetGo(usize),
     CloseJob,
     /// The owner drains so many bytes.
     Drain(u8, usize),
     /// The owner fills bytes in.
     Fill(u8, u8, usize),
+    /// The owner fills bytes in of which a copy stands ready.
+    FillReady(u8, u8, usize),
     /// The owner takes a byte.
     Receive(u8),
     CloseOwner,
@@ -39,6 +50,8 @@ pub(super) enum Step {
     Len,
     /// How many more fit?
     Free,
+    /// How many are lent?
+    Lent,
 }
 
 /// What a call shows.
@@ -119,26 +132,38 @@ impl Starter for Starts {
     }
 }
 
-/// A pipe, and a pool whose jobs use it: their notes are spent there.
+/// A pipe over a store, and a pool whose jobs use it: their notes are spent there.
 #[derive(Drop)]
-pub(crate) struct Bench {
-    pipe: Pipe<u8, u8>,
+pub(crate) struct Bench<S: CopyStore<u8>> {
+    pipe: Pipe<u8, u8, S>,
+    // What the job puts a piece from, what it was lent, and what stands ready of the owner.
+    piece: Vec<u8>,
+    hand: Vec<u8>,
+    ready: Vec<u8>,
     pool: Pool<Idle>,
     jobs: Vec<JobNo>,
 }
 
-/// Plays rows, each from its beginning on, and tells where one shows something else.
+/// Plays rows over each store, each from its beginning on, and tells where one shows something else.
 pub(super) fn play<R: AllocGlobal + Abort>(rt: &R, rows: &[Row]) {
+    play_over::<RingStore<u8>, R>(rt, rows);
+    play_over::<FlatStore, R>(rt, rows);
+    play_over::<MovingStore<u8, FlatStore>, R>(rt, rows);
+    play_over::<LendingStore<u8>, R>(rt, rows);
+}
+
+/// Plays rows over a store.
+pub(super) fn play_over<S: CopyStore<u8>, R: AllocGlobal + Abort>(rt: &R, rows: &[Row]) {
     for row in rows {
-        if let Some(line) = first_wrong_of(rt.alloc(), row) {
+        if let Some(line) = first_wrong_of::<S>(rt.alloc(), row) {
             stop(rt, row.name, line);
         }
     }
 }
 
 // The place of the first line that shows something else: the end, where there was no memory for the bench.
-fn first_wrong_of(alloc: Global, row: &Row) -> Option<usize> {
-    match Bench::new(alloc, row.capacity) {
+fn first_wrong_of<S: CopyStore<u8>>(alloc: Global, row: &Row) -> Option<usize> {
+    match Bench::<S>::new(alloc, row.capacity) {
         Some(mut bench) => bench.first_wrong(row.steps),
         None => Some(row.steps.len()),
     }
@@ -165,15 +190,26 @@ fn add_jobs(alloc: Global, pool: &mut Pool<Idle>) -> Option<Vec<JobNo>> {
     Some(jobs)
 }
 
-impl Bench {
-    pub(crate) fn new(alloc: Global, capacity: usize) -> Option<Bench> {
+impl<S: CopyStore<u8>> Bench<S> {
+    pub(crate) fn new(alloc: Global, capacity: usize) -> Option<Bench<S>> {
         if capacity == 0 {
             return None;
         }
-        let pipe = Pipe::new(alloc, capacity).ok()?;
+        Bench::over(alloc, Pipe::new(alloc, capacity).ok()?)
+    }
+
+    /// A bench of this pipe.
+    pub(crate) fn over(alloc: Global, pipe: Pipe<u8, u8, S>) -> Option<Bench<S>> {
         let mut pool = Pool::new(alloc, None);
         let jobs = add_jobs(alloc, &mut pool)?;
-        Some(Bench { pipe, pool, jobs })
+        Some(Bench {
+            pipe,
+            piece: vec![in alloc; 0u8; PIECE].ok()?,
+            hand: Vec::with_capacity(alloc, PIECE).ok()?,
+            ready: Vec::with_capacity(alloc, PIECE).ok()?,
+            pool,
+            jobs,
+        })
     }
 
     /// Takes the steps of these lines, and answers the place of the first that shows something else than stands beside it.
@@ -186,21 +222,32 @@ impl Bench {
         None
     }
 
-    fn take_step(&mut self, step: Step) -> Shown {
+    /// The pipe.
+    pub(super) fn pipe(&self) -> &Pipe<u8, u8, S> {
+        &self.pipe
+    }
+
+    /// What a step shows.
+    pub(super) fn take_step(&mut self, step: Step) -> Shown {
         match step {
             Step::Put(first, count) => self.put(first, count),
+            Step::PutPiece(first, count) => self.put_piece(first, count),
             Step::Room(job) => self.room(job),
             Step::Send(job, byte) => self.send(job, byte),
             Step::Peek(job, count) => self.peek(job, count),
             Step::Consume(count) => self.consume(count),
+            Step::Lend(job, most) => self.lend(job, most),
+            Step::LetGo(count) => self.let_go(count),
             Step::CloseJob => Shown::Waker(self.pipe.close_job()),
             Step::Drain(waker, count) => self.drain(waker, count),
             Step::Fill(waker, first, count) => self.fill(waker, first, count),
+            Step::FillReady(waker, first, count) => self.fill_ready(waker, first, count),
             Step::Receive(waker) => self.receive(waker),
             Step::CloseOwner => self.close_owner(),
             Step::Unseat => Shown::Waker(self.pipe.unseat_owner()),
             Step::Len => Shown::Are(self.pipe.len()),
             Step::Free => Shown::Are(self.pipe.room()),
+            Step::Lent => Shown::Are(self.pipe.lent()),
         }
     }
 
@@ -234,6 +281,17 @@ impl Bench {
             return Shown::Misplaced;
         }
         match self.pipe.put(&piece_of(first, count)[..count]) {
+            Put::In(waker) => Shown::In(waker),
+            Put::Lost => Shown::Lost,
+        }
+    }
+
+    fn put_piece(&mut self, first: u8, count: usize) -> Shown {
+        if count > self.piece.len() || count > self.pipe.room() || self.piece.len() != PIECE {
+            return Shown::Misplaced;
+        }
+        self.piece.copy_from_slice(&piece_of(first, PIECE));
+        match self.pipe.put_piece(&mut self.piece, count) {
             Put::In(waker) => Shown::In(waker),
             Put::Lost => Shown::Lost,
         }
@@ -276,6 +334,38 @@ impl Bench {
         Shown::Waker(self.pipe.consume(count))
     }
 
+    fn lend(&mut self, job: u64, most: usize) -> Shown {
+        let Some(no) = self.job(job) else {
+            return Shown::Misplaced;
+        };
+        // (what came back for it may have less memory)
+        self.hand.clear();
+        if most == 0 || most > PIECE || self.hand.reserve(PIECE).is_err() {
+            return Shown::Misplaced;
+        }
+        let lent = self.pipe.lend_or_seat(no, most, &mut self.hand);
+        match lent {
+            Peeked::Some(count) if count == self.hand.len() && count <= PIECE => {
+                let first = self.hand.first().copied().unwrap_or(BLANK);
+                if self.hand[..] == piece_of(first, count)[..count] {
+                    Shown::Sees(first, count)
+                } else {
+                    Shown::Misplaced
+                }
+            }
+            Peeked::Some(_) => Shown::Misplaced,
+            Peeked::Parked | Peeked::Drained => Shown::SeesNone(lent),
+        }
+    }
+
+    fn let_go(&mut self, count: usize) -> Shown {
+        let of_inside = count.saturating_sub(self.pipe.lent());
+        if of_inside > self.pipe.len() {
+            return Shown::Misplaced;
+        }
+        Shown::Waker(self.pipe.let_go(count))
+    }
+
     fn drain(&mut self, waker: u8, count: usize) -> Shown {
         if count == 0 || count > PIECE {
             return Shown::Misplaced;
@@ -301,6 +391,25 @@ impl Bench {
         }
         let piece = piece_of(first, count);
         let Answered { answer, spare } = self.pipe.fill_or_seat(waker, &piece[..count]);
+        self.filled(answer, spare)
+    }
+
+    fn fill_ready(&mut self, waker: u8, first: u8, count: usize) -> Shown {
+        if count == 0 || count > PIECE {
+            return Shown::Misplaced;
+        }
+        let piece = piece_of(first, count);
+        self.ready.clear();
+        if self.ready.extend_from_slice(&piece[..count]).is_err() {
+            return Shown::Misplaced;
+        }
+        let Answered { answer, spare } = self
+            .pipe
+            .fill_ready_or_seat(waker, &piece[..count], &mut self.ready);
+        self.filled(answer, spare)
+    }
+
+    fn filled(&mut self, answer: Filled, spare: Option<u8>) -> Shown {
         match answer {
             Filled::Took(count, note) => Shown::Took(count, self.spend(note), spare),
             Filled::Shut => Shown::Over(spare),

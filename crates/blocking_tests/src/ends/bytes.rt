@@ -1,6 +1,6 @@
 //! Bytes that the test's thread fills in, and that a job on a worker takes.
 use blocking::{Executor, FillEnd, Host, PeekEnd, PlaceRule, Runtime, link_in};
-use blocking_core::pipe::{Filled, Peeked};
+use blocking_core::pipe::{Filled, FlatStore, Peeked};
 use blocking_core::pool::{Job, JobNo, JobStep, WakeNote};
 use futures::Future;
 use futures::channel::oneshot;
@@ -27,7 +27,7 @@ impl PlaceRule<u8> for Cycling {
 struct Filling<J: Job, H: Runtime> {
     rt: H,
     executor: Executor<J, H>,
-    end: FillEnd<u8, Cycling, H>,
+    end: FillEnd<u8, Cycling, FlatStore, H>,
 }
 
 impl<J: Job, H: Runtime> Filling<J, H> {
@@ -68,7 +68,7 @@ impl<J: Job, H: Runtime> Future for Filling<J, H> {
 // Takes bytes until the end, and tells how many there were, each of which was that of its place.
 #[derive(Drop)]
 struct Taker<H: Runtime> {
-    end: PeekEnd<u8, Cycling, H>,
+    end: PeekEnd<u8, Cycling, FlatStore, H>,
     told: Option<oneshot::Sender<u64>>,
 }
 
@@ -92,9 +92,10 @@ impl<H: Runtime> Job for Taker<H> {
     // (a waker that is let go wakes)
     fn step(&mut self, me: JobNo) -> JobStep {
         let place = self.end.received();
-        match self.end.peek_or_seat(me) {
+        let mut bytes = [0u8; 2];
+        match self.end.peek_or_seat(me, &mut bytes) {
             Peeked::Some(count) => {
-                let are_next = are_next(place, self.end.shown());
+                let are_next = are_next(place, &bytes[..count]);
                 drop(self.end.consume(count));
                 if are_next {
                     JobStep::Again

@@ -1,6 +1,6 @@
 //! Numbers that a job on a worker sends, and that the test's thread receives.
 use blocking::{Executor, Host, PlaceRule, RecvEnd, Runtime, SendEnd, link};
-use blocking_core::pipe::{Received, Sending};
+use blocking_core::pipe::{Received, RingStore, Sending};
 use blocking_core::pool::{Job, JobNo, JobStep};
 use futures::Future;
 use futures::executor::block_on;
@@ -24,7 +24,7 @@ impl PlaceRule<u64> for Counting {
 // Sends all numbers, one a step.
 #[derive(Drop)]
 struct Sender<H: Runtime> {
-    end: SendEnd<u64, Counting, H>,
+    end: SendEnd<u64, Counting, RingStore<u64>, H>,
 }
 
 impl<H: Runtime> Job for Sender<H> {
@@ -56,7 +56,7 @@ impl<H: Runtime> Job for Sender<H> {
 struct InOrder<J: Job, H: Runtime> {
     rt: H,
     executor: Executor<J, H>,
-    end: RecvEnd<u64, Counting, H>,
+    end: RecvEnd<u64, Counting, RingStore<u64>, H>,
 }
 
 impl<J: Job, H: Runtime> Future for InOrder<J, H> {

@@ -2,9 +2,11 @@
 ghost use Rattle.futures.specs.Task.{Keeps};
 
 use blocking::{
-    AnyPlace, Executor, FillEnd, Host, PeekEnd, RecvEnd, Runtime, SendEnd, link_in, link_with,
+    AnyPlace, Executor, FillEnd, Host, PeekEnd, RecvEnd, Runtime, SendEnd, link_in, link_over,
 };
-use blocking_core::pipe::{Drained, Filled, Peeked, Put, Received, Room, Sending};
+use blocking_core::pipe::{
+    Drained, Filled, LendingStore, MovingStore, Peeked, Put, Received, RingStore, Room, Sending,
+};
 use blocking_core::pool::{Job, JobNo, JobStep, WakeNote};
 use futures::Future;
 use futures::executor::block_on;
@@ -157,6 +159,11 @@ const ROWS: &[Row] = &[
     ),
 ];
 
+// What holds the items of each.
+type Moving = MovingStore<u64, RingStore<u64>>;
+
+type Lending = LendingStore<u64>;
+
 // The ends of both pipes, and an executor whose job's number the jobs' ends bear.
 #[derive(Drop)]
 struct Bench<J: Job, H: Runtime> {
@@ -164,10 +171,10 @@ struct Bench<J: Job, H: Runtime> {
     me: JobNo,
     // What the sender puts stands in here.
     piece: Vec<u64>,
-    sender: SendEnd<u64, AnyPlace, H>,
-    receiver: RecvEnd<u64, AnyPlace, H>,
-    filler: FillEnd<u64, AnyPlace, H>,
-    taker: PeekEnd<u64, AnyPlace, H>,
+    sender: SendEnd<u64, AnyPlace, Moving, H>,
+    receiver: RecvEnd<u64, AnyPlace, Moving, H>,
+    filler: FillEnd<u64, AnyPlace, Lending, H>,
+    taker: PeekEnd<u64, AnyPlace, Lending, H>,
 }
 
 impl<J: Job, H: Runtime> Bench<J, H> {
@@ -193,7 +200,10 @@ impl<J: Job, H: Runtime> Bench<J, H> {
         let count = items.len().min(self.piece.len());
         self.piece[..count].copy_from_slice(&items[..count]);
         match self.sender.room_or_seat(self.me) {
-            Room::Free(free) if count <= free => match self.sender.put(&mut self.piece, count) {
+            Room::Free(free) if count <= free => match self
+                .sender
+                .put_piece(&mut self.piece, count)
+            {
                 Put::In(waker) => Shown::In(waker.is_some()),
                 Put::Lost => Shown::Shut,
             },
@@ -245,7 +255,7 @@ impl<J: Job, H: Runtime> Bench<J, H> {
     }
 
     fn take(&mut self, count: usize) -> Shown {
-        match self.taker.peek_or_seat(self.me) {
+        match self.taker.lend_or_seat(self.me) {
             Peeked::Some(shown) if 0 < shown && count <= shown => {
                 let first = self.taker.shown()[0];
                 let waker = self.taker.consume(count);
@@ -313,7 +323,8 @@ fn first_wrong<H: Host>(
     steps: &'static [(Step, Shown)],
 ) -> Result<Option<(usize, Shown)>, Fail> {
     let piece = vec![in rt.alloc(); 0; 2]?;
-    let (sender, receiver) = link_with(rt, 2, vec![in rt.alloc(); 0; 2]?)?;
+    let spare = vec![in rt.alloc(); 0; 2]?;
+    let (sender, receiver) = link_over(rt, Moving::with_spare(rt.alloc(), 2, spare)?)?;
     let (filler, taker) = link_in(rt, 2)?;
     let executor: Executor<Nothing, H> = Executor::new(rt, Some("1"))?;
     let me = executor.add(Nothing)?;

@@ -1,0 +1,3 @@
+pub mod Flat
+pub mod Lending
+pub mod Stores

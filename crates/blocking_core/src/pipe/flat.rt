@@ -1,0 +1,155 @@
+//! A store of bytes over one `Vec`.
+#![tactic(auto, using(crate::proofs::Flat::window_length))]
+
+ghost use Rattle.std.specs.Prelude.{◌≡◌, ◌<◌, ◌≤◌, ◌+◌, ◌++◌, length, max, vec_len, vec_capacity};
+ghost use Rattle.blocking_core.specs.Flat.{window, written};
+
+use crate::pipe::ring::{append_slices, copy_slices};
+use crate::pipe::store::{CopyStore, Store};
+use std::alloc::{AllocError, Global};
+
+/// A ring of bytes in one block of memory, used through copies of whole slices.
+#[derive(Drop)]
+pub struct FlatStore {
+    // Its memory is all there from the start, but is only written as bytes come, so that what was never used is never touched.
+    bytes: Vec<u8>,
+    capacity: usize,
+    // Where the first byte stands, and how many follow from there on, round the end.
+    head: usize,
+    len: usize,
+    ghost start_in: { head < capacity },
+    ghost len_in: { len ≤ capacity },
+    ghost written_in: { vec_len bytes ≤ capacity },
+    ghost fits: { capacity ≤ vec_capacity bytes },
+    // Until all the memory is written nothing goes round the end.
+    ghost in_order: { vec_len bytes < capacity → head + len ≡ vec_len bytes },
+}
+
+// Writes over what stands from the place on, or behind what is written.
+fn write_at(bytes: &mut Vec<u8>, place: usize, items: &[u8])
+    requires place { place ≤ vec_len bytes.old }
+    requires within { place < vec_len bytes.old → place + length items.now ≤ vec_len bytes.old }
+    requires fits { place + length items.now ≤ vec_capacity bytes.old }
+    ensures items { bytes.new.items ≡ written place items.now bytes.old.items }
+    ensures len { vec_len bytes.new ≡ max (vec_len bytes.old) (place + length items.now) }
+    ensures room { vec_capacity bytes.old ≤ vec_capacity bytes.new }
+{
+    if place == bytes.len() {
+        let Ok(()) = bytes.extend_from_slice(items) else {
+            unreachable!()
+        };
+        return;
+    }
+    bytes[place..place + items.len()].copy_from_slice(items);
+}
+
+impl FlatStore {
+    /// Where the first byte stands: a place of the memory, below its capacity.
+    pub fn head(&self) -> usize
+        ensures { result ≡ self.now.head }
+    {
+        self.head
+    }
+
+    // The place of the byte that many places behind the first, round the end.
+    fn place_after(&self, count: usize) -> usize
+        requires { count ≤ self.now.capacity }
+        ensures within { result < self.now.capacity }
+        ensures straight { self.now.head + count < self.now.capacity → result ≡ self.now.head + count }
+        ensures round { self.now.capacity ≤ self.now.head + count → result + self.now.capacity ≡ self.now.head + count }
+    {
+        let to_end = self.capacity - self.head;
+        if count < to_end {
+            self.head + count
+        } else {
+            count - to_end
+        }
+    }
+
+    // The bytes inside, before the end of the memory and round it.
+    fn as_slices(&self) -> (&[u8], &[u8])
+        ensures { result.0.now ++ result.1.now ≡ window self.now.head self.now.len self.now.bytes.items }
+    {
+        let first = self.len.min(self.bytes.len() - self.head);
+        let front = &self.bytes[self.head..self.head + first];
+        let back = &self.bytes[..self.len - first];
+        (front, back)
+    }
+
+    // Takes bytes behind those inside, where all of them stand before the end of the memory or all of them round it.
+    fn put_part(&mut self, items: &[u8])
+        requires room { self.old.len + length items.now ≤ self.old.capacity }
+        requires straight { let old = self.old in old.head + old.len < old.capacity → old.head + old.len + length items.now ≤ old.capacity }
+        ensures items { let old = self.old in let new = self.new in window new.head new.len new.bytes.items ≡ window old.head old.len old.bytes.items ++ items.now }
+        ensures capacity { self.new.capacity ≡ self.old.capacity }
+        ensures head { self.new.head ≡ self.old.head }
+        ensures len { self.new.len ≡ self.old.len + length items.now }
+    {
+        let end = self.place_after(self.len);
+        write_at(&mut self.bytes, end, items);
+        self.len += items.len();
+    }
+}
+
+impl Store<u8> for FlatStore {
+    ghost held = { λ store. record { items = window store.head store.len store.bytes.items; capacity = store.capacity } };
+
+    fn new(alloc: Global, capacity: usize) -> Result<FlatStore, AllocError> {
+        let bytes = Vec::with_capacity(alloc, capacity)?;
+        Ok(FlatStore {
+            bytes,
+            capacity,
+            head: 0,
+            len: 0,
+        })
+    }
+
+    fn len(&self) -> usize {
+        self.len
+    }
+
+    fn room(&self) -> usize {
+        self.capacity - self.len
+    }
+
+    fn push(&mut self, item: u8) {
+        self.put_part(&[item]);
+    }
+
+    fn pop(&mut self) -> Option<u8> {
+        if self.len == 0 {
+            return None;
+        }
+        let item = self.bytes[self.head];
+        self.drop_front(1);
+        Some(item)
+    }
+
+    fn drop_front(&mut self, count: usize) {
+        self.head = self.place_after(count);
+        self.len -= count;
+    }
+}
+
+impl CopyStore<u8> for FlatStore {
+    fn get(&self, place: usize) -> u8 {
+        self.bytes[self.place_after(place)]
+    }
+
+    fn put_all(&mut self, items: &[u8]) {
+        let end = self.place_after(self.len);
+        let first = items.len().min(self.capacity - end);
+        self.put_part(&items[..first]);
+        self.put_part(&items[first..]);
+    }
+
+    fn copy_front(&self, out: &mut [u8]) -> usize {
+        let (front, back) = self.as_slices();
+        copy_slices(front, back, out)
+    }
+
+    fn append_front(&self, count: usize, piece: &mut Vec<u8>) {
+        let (front, back) = self.as_slices();
+        append_slices(front, back, count, piece);
+    }
+}

@@ -1,0 +1,146 @@
+//! Lists of calls, drawn by a fixed seed, over each store: all show the same.
+use super::bench::{Bench, Shown, Step};
+use crate::stop::stop;
+use blocking_core::pipe::{CopyStore, FlatStore, LendingStore, MovingStore, Pipe, RingStore};
+use std::alloc::Global;
+
+// How many lists are drawn for each capacity, and how many calls each has.
+const LISTS: u64 = 2500;
+
+const CALLS: usize = 24;
+
+const CAPACITIES: &[usize] = &[1, 2, 3, 7];
+
+// Numbers that follow from a seed, each from the one before.
+#[derive(Drop)]
+struct Draws {
+    state: u64,
+}
+
+impl Draws {
+    // A number below `most`, which is at least 1. (by Marsaglia's xorshift)
+    fn below(&mut self, most: u64) -> u64 {
+        self.state ^= self.state << 13;
+        self.state ^= self.state >> 7;
+        self.state ^= self.state << 17;
+        self.state.checked_rem(most).unwrap_or(0)
+    }
+
+    fn count(&mut self) -> usize {
+        1 + self.below(4) as usize
+    }
+
+    // A call, which brings bytes from this one on. An end is closed seldom.
+    fn step(&mut self, next: u8) -> Step {
+        let job = 1 + self.below(2);
+        let waker = self.below(3) as u8;
+        match self.below(40) {
+            0 => Step::CloseJob,
+            1 => Step::CloseOwner,
+            2 => Step::Unseat,
+            3..8 => Step::Put(next, self.count()),
+            8..12 => Step::PutPiece(next, self.count()),
+            12..15 => Step::Send(job, next),
+            15..18 => Step::Fill(waker, next, self.count()),
+            18..22 => Step::FillReady(waker, next, self.count()),
+            22..24 => Step::Room(job),
+            24..27 => Step::Peek(job, self.count()),
+            27..29 => Step::Consume(self.count()),
+            29..32 => Step::Lend(job, self.count()),
+            32..35 => Step::LetGo(self.count()),
+            35..38 => Step::Drain(waker, self.count()),
+            _ => Step::Receive(waker),
+        }
+    }
+}
+
+// How many bytes such a step brought in, by what it shows.
+fn brought(step: Step, shown: Shown) -> u8 {
+    match (step, shown) {
+        (Step::Put(_, count) | Step::PutPiece(_, count), Shown::In(_)) => count as u8,
+        (Step::Send(_, _), Shown::In(_)) => 1,
+        (_, Shown::Took(count, _, _)) => count as u8,
+        _ => 0,
+    }
+}
+
+// Whether both show the same in each call of a list that is drawn from this seed.
+fn are_alike<A: CopyStore<u8>, B: CopyStore<u8>>(
+    seed: u64,
+    one: &mut Bench<A>,
+    other: &mut Bench<B>,
+) -> bool {
+    let mut draws = Draws { state: seed };
+    let mut next = b'a';
+    for _ in 0..CALLS {
+        let step = draws.step(next);
+        let shown = one.take_step(step);
+        if other.take_step(step) != shown {
+            return false;
+        }
+        for count in [Step::Len, Step::Free, Step::Lent] {
+            if one.take_step(count) != other.take_step(count) {
+                return false;
+            }
+        }
+        next = next.wrapping_add(brought(step, shown));
+    }
+    true
+}
+
+// Whether a pipe over this store and one over the ring show the same.
+fn is_like_ring<S: CopyStore<u8>>(
+    alloc: Global,
+    seed: u64,
+    capacity: usize,
+    pipe: Option<Pipe<u8, u8, S>>,
+) -> bool {
+    let (Some(mut ring), Some(pipe)) = (Bench::<RingStore<u8>>::new(alloc, capacity), pipe) else {
+        return false;
+    };
+    match Bench::over(alloc, pipe) {
+        Some(mut bench) => are_alike(seed, &mut ring, &mut bench),
+        None => false,
+    }
+}
+
+// Pieces of the length of those that are put move in, and pieces of two bytes are lent.
+fn moving(alloc: Global, capacity: usize) -> Option<Pipe<u8, u8, MovingStore<u8, FlatStore>>> {
+    let spare = vec![in alloc; 0u8; 7].ok()?;
+    if capacity == 0 {
+        return None;
+    }
+    Some(Pipe::over(MovingStore::with_spare(alloc, capacity, spare).ok()?))
+}
+
+fn lending(alloc: Global, capacity: usize) -> Option<Pipe<u8, u8, LendingStore<u8>>> {
+    if capacity == 0 {
+        return None;
+    }
+    Some(Pipe::over(LendingStore::with_piece(alloc, capacity, 2).ok()?))
+}
+
+fn flat(alloc: Global, capacity: usize) -> Option<Pipe<u8, u8, FlatStore>> {
+    if capacity == 0 {
+        return None;
+    }
+    Pipe::new(alloc, capacity).ok()
+}
+
+fn all_are_alike(alloc: Global, seed: u64, capacity: usize) -> bool {
+    is_like_ring(alloc, seed, capacity, flat(alloc, capacity))
+        && is_like_ring(alloc, seed, capacity, moving(alloc, capacity))
+        && is_like_ring(alloc, seed, capacity, lending(alloc, capacity))
+}
+
+#[test]
+fn all_stores_show_the_same(rt: HostRuntime) {
+    for capacity in CAPACITIES {
+        for list in 0..LISTS {
+            let seed = 0x9e37_79b9_7f4a_7c15u64.wrapping_mul(1 + list);
+            if !all_are_alike(rt.alloc(), seed, *capacity) {
+                stop(&rt, "a list of calls", list as usize);
+            }
+        }
+    }
+}
