@@ -52,7 +52,7 @@ module _ {X W : Type 0} where
   abbrev pub room : Pipe X W → ℕ
   room pipe = pipe.capacity - length pipe.items
 
--- A pipe holds something, and what is inside with what is lent is never more than its store's capacity.
+-- A pipe has a capacity of one at least, and what is inside with what is lent is never more.
 pub record IsBounded {X : Type 0} (stored : Stored X) (lent : ℕ) : Type 0 where
   pub some : 0 < stored.capacity
   pub within : lent + length stored.items ≤ stored.capacity

@@ -34,8 +34,8 @@ pub type ItemPipe<X, W> = Pipe<X, W, RingStore<X>>;
 /// A list of at most so many items between a job and its owner, with an end for each and a seat at each end.
 ///
 /// Either side takes or gives what it can, and is seated where it can't: the owner by its waker, the job by its number. What
-/// the other side then does takes it out of its seat, to be woken. Either end may be closed, and stays so. What holds the items is its
-/// store `S`, over each of which every call answers the same.
+/// the other side then does takes it out of its seat, to be woken. Either end may be closed, and stays so. Its store `S` holds the items, and
+/// every call answers the same over any store.
 ///
 /// A job may be lent what stands at the front, to use it under no lock. Until it lets go of that, it takes room as if it were inside.
 #[derive(Drop)]
@@ -105,7 +105,7 @@ pub enum Sending<X: Drop, W: Drop> {
 /// What a job finds that looks at the front.
 #[derive(Clone, Copy, Debug, PartialEq, Eq)]
 pub enum Peeked {
-    /// So many items are shown, one at least. They are still inside.
+    /// So many items are shown or lent, one at least. They take room until the job lets them go.
     Some(usize),
     /// The pipe is empty: the job is seated.
     Parked,
@@ -191,7 +191,7 @@ impl<X: Drop, W: Drop, S: Store<X>> Pipe<X, W, S> {
         &self.store
     }
 
-    /// How many items are inside: the capacity at most.
+    /// How many items are inside: with those that are lent, the capacity at most.
     pub fn len(&self) -> usize
         ensures len { result ≡ length self.now.items }
         ensures within { length self.now.items ≤ self.now.capacity }
@@ -258,7 +258,7 @@ impl<X: Drop, W: Drop, S: Store<X>> Pipe<X, W, S> {
         Sending::Sent(self.unseat_owner())
     }
 
-    /// The job lets the first `count` items go, which are inside. Answers the waker of an owner who waited.
+    /// The job lets the first `count` items go, which are inside. What it was lent stays so. Answers the waker of an owner who waited.
     pub fn consume(&mut self, count: usize) -> Option<W>
         requires { count ≤ length self.old.items }
         ensures pipe { self.new ≡

@@ -20,7 +20,7 @@ use std::sync::{Arc, Mutex, MutexGuard, Wait};
 #[derive(Drop)]
 pub struct FillEnd<X: Drop, R: PlaceRule<X>, S: Store<X>, H: Wait + Copy> {
     pipe: Arc<Mutex<OwnerToJob<X, R, S>>>,
-    // Where a whole piece is copied under no lock, before it is handed over.
+    // Where a whole piece is copied under no lock, before it is handed over. A store that takes none has no memory here.
     ready: Vec<X>,
     sent: u64,
     source: Source,

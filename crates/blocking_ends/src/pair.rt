@@ -41,7 +41,8 @@ pub fn link_over<X: Drop, R: PlaceRule<X>, S: Store<X>, H: Wait + AllocGlobal + 
 }
 
 /// A new pipe for at most `capacity` items that an owner sends to its job, over a store of the type `S`: the owner's end and the job's. All its
-/// memory is taken here, also for what the job is lent, 65,536 items at once at most, and where there isn't so much the answer is an
+/// memory is taken here: that of the store, and for what the job is lent at once (65,536 items at most, or as many as the store's pieces
+/// have); for a store that takes pieces as they are, one more for what the owner makes ready. Where there isn't so much the answer is an
 /// [`AllocError`].
 pub fn link_in<X: Drop, R: PlaceRule<X>, S: Store<X>, H: Wait + AllocGlobal + Copy>(
     rt: H,
@@ -49,30 +50,33 @@ pub fn link_in<X: Drop, R: PlaceRule<X>, S: Store<X>, H: Wait + AllocGlobal + Co
 ) -> Result<(FillEnd<X, R, S, H>, PeekEnd<X, R, S, H>), AllocError>
     requires { 0 < capacity }
     ensures sent { IfOk result (λ ends. ends.0.sent ≡ 0) }
-    ensures received { IfOk result (λ ends. (ends.1.received ≡ 0) × (ends.1.shown ≡ [])) }
+    ensures received { IfOk result (λ ends. (ends.1.received ≡ 0) × (ends.1.shown ≡ []) × (ends.1.peeked ≡ 0)) }
 {
-    link_in_over(rt, S::new(rt.alloc(), capacity)?, capacity.min(PIECE))
+    link_in_over(rt, S::new(rt.alloc(), capacity)?)
 }
 
-/// As [`link_in`], over an empty store of one's own, for as many items as that holds. The job is lent `piece` items at once at most, and so
-/// many that are given at once are copied under no lock, for a store that takes them as they stand there.
+/// As [`link_in`], over an empty store of one's own, for as many items as that holds.
 pub fn link_in_over<X: Drop, R: PlaceRule<X>, S: Store<X>, H: Wait + AllocGlobal + Copy>(
     rt: H,
     store: S,
-    piece: usize,
 ) -> Result<(FillEnd<X, R, S, H>, PeekEnd<X, R, S, H>), AllocError>
     requires some { let stored = S.held store in 0 < stored.capacity }
     requires empty { let stored = S.held store in stored.items ≡ [] }
-    requires piece { 0 < piece }
     ensures sent { IfOk result (λ ends. ends.0.sent ≡ 0) }
-    ensures received { IfOk result (λ ends. (ends.1.received ≡ 0) × (ends.1.shown ≡ [])) }
+    ensures received { IfOk result (λ ends. (ends.1.received ≡ 0) × (ends.1.shown ≡ []) × (ends.1.peeked ≡ 0)) }
 {
+    let piece = store.piece();
+    let most = if piece > 0 {
+        piece
+    } else {
+        store.room().min(PIECE)
+    };
     let ready = Vec::with_capacity(rt.alloc(), piece)?;
-    let lent = Vec::with_capacity(rt.alloc(), piece)?;
+    let lent = Vec::with_capacity(rt.alloc(), most)?;
     let pipe = Arc::new(rt.alloc(), Mutex::new(OwnerToJob::over(store)))?;
     let theirs = Arc::try_clone(&pipe)?;
     Ok((
         FillEnd::new(rt, pipe, ready),
-        PeekEnd::new(rt, theirs, lent, piece),
+        PeekEnd::new(rt, theirs, lent, most),
     ))
 }

@@ -10,7 +10,7 @@ use std::marker::Model;
 use std::sync::{Arc, Mutex, MutexGuard, Wait};
 
 /// The end of a job that receives from its owner: the item from each place holds there, by the rule `R`. The job copies items, or is lent them
-/// and looks at them under no lock. Both count as inside until it lets them go.
+/// and looks at them under no lock. Either way they take room until it lets them go.
 ///
 /// As at the other end, a call uses the pipe only where that has the count that this end knows of and has lent as much as it still has, and
 /// else tries again.
@@ -90,6 +90,14 @@ impl<X: Drop, R: PlaceRule<X>, S: Store<X>, H: Wait + Copy> PeekEnd<X, R, S, H> 
         &self.piece[self.consumed..]
     }
 
+    /// How many items may be consumed: those that are lent, or those that the last peek showed and that weren't consumed since, if they are
+    /// more.
+    pub fn may_consume(&self) -> usize
+        ensures { result ≡ may_consume self.now }
+    {
+        self.left().max(self.peeked)
+    }
+
     // How many items are lent.
     fn left(&self) -> usize
         ensures { result ≡ length self.now.shown }
@@ -149,6 +157,7 @@ impl<X: Copy, R: PlaceRule<X>, S: CopyStore<X>, H: Wait + Copy> PeekEnd<X, R, S,
     fn peek_lent(&self, out: &mut [X]) -> usize
         ensures some { 0 < length out.old → 0 < length self.now.shown → 0 < result }
         ensures within { result ≤ length out.old }
+        ensures lent { take (length self.now.shown) (take result out.new) ≡ take (length out.old) self.now.shown }
         ensures held { HoldFrom R.holds self.now.received (take result out.new) }
         ensures rest { drop result out.new ≡ drop result out.old }
     {
@@ -162,14 +171,15 @@ impl<X: Copy, R: PlaceRule<X>, S: CopyStore<X>, H: Wait + Copy> PeekEnd<X, R, S,
         first + pipe.peek(&mut out[first..])
     }
 
-    /// Copies the first items, as many as there are and `out` holds, and leaves them inside. Where the pipe is empty and the owner's end is open
-    /// the job is seated.
+    /// Copies the first items, as many as there are and `out` holds: those that are lent, and then those behind them. They stay where they are.
+    /// Where there are none and the owner's end is open the job is seated.
     pub fn peek_or_seat(&mut self, me: JobNo, out: &mut [X]) -> Peeked
         requires { 0 < length out.old }
         ensures received { self.new.received ≡ self.old.received }
         ensures shown { self.new.shown ≡ self.old.shown }
         ensures peeked { self.new.peeked ≡ shown_by result }
         ensures some { IfShown result (λ n. (0 < n) × (n ≤ length out.old)) }
+        ensures lent { take (length self.old.shown) (take (shown_by result) out.new) ≡ take (length out.old) self.old.shown }
         ensures held { HoldFrom R.holds self.old.received (take (shown_by result) out.new) }
         ensures rest { drop (shown_by result) out.new ≡ drop (shown_by result) out.old }
         ensures ended { OnDrained result (R.ended self.old.received) }
@@ -186,12 +196,13 @@ impl<X: Copy, R: PlaceRule<X>, S: CopyStore<X>, H: Wait + Copy> PeekEnd<X, R, S,
         peeked
     }
 
-    /// Lends the first items, which stay inside: what is left of those that were lent last, though more may be behind them, or else the next
-    /// ones. Where the pipe is empty and the owner's end is open the job is seated.
+    /// Lends the first items, which take room until they are consumed: what is left of those that were lent last, though more may be behind them,
+    /// or else the next ones. Where the pipe is empty and the owner's end is open the job is seated.
     pub fn lend_or_seat(&mut self, me: JobNo) -> Peeked
         ensures rest { 0 < length self.old.shown → self.new ≡ self.old }
         ensures received { self.new.received ≡ self.old.received }
         ensures shown { length self.new.shown ≡ shown_by result }
+        ensures peeked { self.new.peeked ≡ self.old.peeked }
         ensures some { IfShown result (λ n. 0 < n) }
         ensures held { HoldFrom R.holds self.old.received self.new.shown }
         ensures ended { OnDrained result (R.ended self.old.received) }

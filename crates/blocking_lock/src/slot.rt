@@ -1,5 +1,5 @@
 //! A slot under its lock, and how its owner waits there.
-ghost use Rattle.std.specs.Prelude.{◌≡◌, IfOk, OnErr};
+ghost use Rattle.std.specs.Prelude.{◌≡◌, IfOk, IfSome, OnErr};
 ghost use Rattle.futures.specs.Task.{IsArmed, Keeps};
 
 use crate::entry::enter;
@@ -163,6 +163,7 @@ impl<A: Left<Value: Drop>> LockedSlot<A> {
     /// Leaves a value in the slot, or answers it, where the slot takes none; and the waker of an owner who waits.
     pub fn put<R: Wait>(&self, rt: &R, value: A::Value) -> Put<A::Value, OwnerWaker>
         requires { A.may_be value }
+        ensures { IfSome result.back (λ back. back ≡ value) }
     {
         enter(&self.slot, rt).put(value)
     }

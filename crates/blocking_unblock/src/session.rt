@@ -126,17 +126,6 @@ impl<T: Drop, I: Drop, H: Wait + Copy> Session<T, I, H> {
         self.owner_end
     }
 
-    /// Sets the mark of the session: its owner is gone.
-    pub(crate) fn mark(&self) {
-        match &self.side {
-            Side::Reading(_, way_back)
-            | Side::Writing(_, way_back)
-            | Side::Streaming(_, way_back)
-            | Side::Operating(way_back) => way_back.mark(),
-            Side::Seeking(_, way_back) => way_back.mark(),
-        }
-    }
-
     /// Closes the owner's end of the pipe. Answers the note of a job that waits, which has to be spent.
     pub(crate) fn close(&mut self) -> Option<WakeNote>
         requires { has_pipe (kind_of self.old.side) ≡ true }

@@ -193,6 +193,10 @@ impl<X: Copy> Store<X> for LendingStore<X> {
         self.capacity - self.len
     }
 
+    fn piece(&self) -> usize {
+        self.piece
+    }
+
     fn push(&mut self, item: X) {
         let total = self.gone + self.len;
         let mut last = take_last(&mut self.pieces, &mut self.spent, self.piece, total);

@@ -102,6 +102,10 @@ impl<X: Copy> Front<X> {
 
 /// A store that takes a piece as it is, and gives another for it, where nothing is inside and both are as long. Other items are copied into
 /// the store behind it, behind what is left of that piece.
+///
+/// It is made for bytes that are put by pieces and drained. An item that is taken out of a piece by itself, or dropped there, moves those
+/// behind it up, and no later piece moves in then. One that [`Store::new`] made has no piece to give, and copies all: see
+/// [`MovingStore::with_spare`].
 #[derive(Drop)]
 pub struct MovingStore<X: Drop, S: Store<X>> {
     front: Front<X>,

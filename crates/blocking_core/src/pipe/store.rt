@@ -6,7 +6,7 @@ ghost use Rattle.blocking_core.specs.Stores.{Stored, empty_store, free, with_mor
 use std::alloc::{AllocError, Global};
 
 /// Items in a row, at most so many: what holds the items of a pipe. Contracts see it as a list and a capacity, so a pipe says the same over
-/// every store. After [`Store::new`] no call takes memory.
+/// every store. No call but [`Store::new`] is to take memory.
 pub trait Store<X: Drop>: Drop {
     /// What contracts see of it.
     ghost held: { Self → Stored X };
@@ -25,6 +25,12 @@ pub trait Store<X: Drop>: Drop {
     /// How many more items it holds.
     fn room(&self) -> usize
         ensures { result ≡ free (held self.now) };
+
+    /// How many items its pieces have, where it takes and gives whole ones as they are, or else 0. It tells those who make pieces for it, and
+    /// nothing rests on it.
+    fn piece(&self) -> usize {
+        0
+    }
 
     /// Takes an item, for which there is room, behind those inside.
     fn push(&mut self, item: X)
@@ -78,10 +84,11 @@ pub trait CopyStore<X: Copy>: Store<X> {
         self.put_all(&piece[..count]);
     }
 
-    /// Takes all that stands ready in a piece, for which there is room, as it is, and gives empty memory for it; or leaves it.
+    /// Takes all that stands ready in a piece, for which there is room, as it is, and gives empty memory for as much in its place; or leaves it.
     fn take_ready(&mut self, ready: &mut Vec<X>) -> bool
         requires { length ready.old.items ≤ free (Self.held self.old) }
         ensures took { OnTrue result ((ready.new.items ≡ []) × (Self.held self.new ≡ with_more ready.old.items (Self.held self.old))) }
+        ensures room { OnTrue result (length ready.old.items ≤ vec_capacity ready.new) }
         ensures left { OnFalse result ((ready.new.items ≡ ready.old.items) × (Self.held self.new ≡ Self.held self.old)) }
     {
         let _left = ready;

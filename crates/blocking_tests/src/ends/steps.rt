@@ -2,10 +2,12 @@
 ghost use Rattle.futures.specs.Task.{Keeps};
 
 use blocking::{
-    AnyPlace, Executor, FillEnd, Host, PeekEnd, RecvEnd, Runtime, SendEnd, link_in, link_over,
+    AnyPlace, Executor, FillEnd, Host, PeekEnd, RecvEnd, Runtime, SendEnd, link, link_in,
+    link_in_over, link_over,
 };
 use blocking_core::pipe::{
-    Drained, Filled, LendingStore, MovingStore, Peeked, Put, Received, RingStore, Room, Sending,
+    CopyStore, Drained, Filled, FlatStore, LendingStore, MovingStore, Peeked, Put, Received,
+    RingStore, Room, Sending,
 };
 use blocking_core::pool::{Job, JobNo, JobStep, WakeNote};
 use futures::Future;
@@ -18,8 +20,10 @@ use std::test::Fail;
 enum Step {
     Room,
     // The job looks for room, and puts these.
-    Put(&'static [u64]),
-    Send(u64),
+    Put(&'static [u8]),
+    // The same, from a piece.
+    PutPiece(&'static [u8]),
+    Send(u8),
     Receive,
     // The owner drains into a buffer for three.
     Drain,
@@ -27,9 +31,12 @@ enum Step {
     Received,
     CloseSender,
     CloseReceiver,
-    Fill(&'static [u64]),
-    // The job peeks, and consumes so many of what it is shown.
+    Fill(&'static [u8]),
+    // The job is lent items, and consumes so many.
     Take(usize),
+    // The job peeks at so many, and then consumes some.
+    Peek(usize),
+    Consume(usize),
     Filled,
     Taken,
     CloseFiller,
@@ -41,10 +48,10 @@ enum Step {
 enum Shown {
     Free(usize),
     // So many, of which this is the first.
-    Items(usize, u64, bool),
+    Items(usize, u8, bool),
     Took(usize, bool),
     In(bool),
-    Back(u64),
+    Back(u8),
     Waits,
     Shut,
     Over,
@@ -78,7 +85,7 @@ const ROWS: &[Row] = &[
         "items cross one by one and together",
         &[
             (Step::Room, Shown::Free(2)),
-            (Step::Put(&[5, 6]), Shown::In(false)),
+            (Step::PutPiece(&[5, 6]), Shown::In(false)),
             (Step::Room, Shown::Waits),
             (Step::Receive, Shown::Items(1, 5, true)),
             (Step::Send(7), Shown::In(false)),
@@ -140,6 +147,25 @@ const ROWS: &[Row] = &[
         ],
     ),
     (
+        "items are looked at before they go",
+        &[
+            (Step::Peek(1), Shown::Waits),
+            (Step::Fill(&[5, 6]), Shown::Took(2, true)),
+            (Step::Peek(1), Shown::Items(1, 5, false)),
+            (Step::Consume(1), Shown::Closed(false)),
+            (Step::Fill(&[7]), Shown::Took(1, false)),
+            (Step::Take(1), Shown::Items(2, 6, false)),
+            (Step::Fill(&[8]), Shown::Took(1, false)),
+            // (the one that is lent still, and the one behind it)
+            (Step::Peek(3), Shown::Items(2, 7, false)),
+            (Step::Fill(&[9]), Shown::Waits),
+            (Step::Consume(2), Shown::Closed(true)),
+            (Step::Taken, Shown::Count(4)),
+            (Step::CloseFiller, Shown::Closed(false)),
+            (Step::Peek(3), Shown::Over),
+        ],
+    ),
+    (
         "a filler that closes",
         &[
             (Step::Take(1), Shown::Waits),
@@ -159,25 +185,20 @@ const ROWS: &[Row] = &[
     ),
 ];
 
-// What holds the items of each.
-type Moving = MovingStore<u64, RingStore<u64>>;
-
-type Lending = LendingStore<u64>;
-
-// The ends of both pipes, and an executor whose job's number the jobs' ends bear.
+// The ends of both pipes, each over a store, and an executor whose job's number the jobs' ends bear.
 #[derive(Drop)]
-struct Bench<J: Job, H: Runtime> {
+struct Bench<S: CopyStore<u8>, T: CopyStore<u8>, J: Job, H: Runtime> {
     executor: Executor<J, H>,
     me: JobNo,
     // What the sender puts stands in here.
-    piece: Vec<u64>,
-    sender: SendEnd<u64, AnyPlace, Moving, H>,
-    receiver: RecvEnd<u64, AnyPlace, Moving, H>,
-    filler: FillEnd<u64, AnyPlace, Lending, H>,
-    taker: PeekEnd<u64, AnyPlace, Lending, H>,
+    piece: Vec<u8>,
+    sender: SendEnd<u8, AnyPlace, S, H>,
+    receiver: RecvEnd<u8, AnyPlace, S, H>,
+    filler: FillEnd<u8, AnyPlace, T, H>,
+    taker: PeekEnd<u8, AnyPlace, T, H>,
 }
 
-impl<J: Job, H: Runtime> Bench<J, H> {
+impl<S: CopyStore<u8>, T: CopyStore<u8>, J: Job, H: Runtime> Bench<S, T, J, H> {
     // Whether it is a note of the job.
     fn is_woken(&self, note: Option<WakeNote>) -> bool {
         let Some(note) = note else {
@@ -196,7 +217,18 @@ impl<J: Job, H: Runtime> Bench<J, H> {
         }
     }
 
-    fn put(&mut self, items: &[u64]) -> Shown {
+    fn put(&mut self, items: &[u8]) -> Shown {
+        match self.sender.room_or_seat(self.me) {
+            Room::Free(free) if items.len() <= free => match self.sender.put(items) {
+                Put::In(waker) => Shown::In(waker.is_some()),
+                Put::Lost => Shown::Shut,
+            },
+            Room::Free(_) | Room::Parked => Shown::Waits,
+            Room::Shut => Shown::Shut,
+        }
+    }
+
+    fn put_piece(&mut self, items: &[u8]) -> Shown {
         let count = items.len().min(self.piece.len());
         self.piece[..count].copy_from_slice(&items[..count]);
         match self.sender.room_or_seat(self.me) {
@@ -212,7 +244,7 @@ impl<J: Job, H: Runtime> Bench<J, H> {
         }
     }
 
-    fn send(&mut self, item: u64) -> Shown {
+    fn send(&mut self, item: u8) -> Shown {
         match self.sender.send(self.me, item) {
             Sending::Sent(waker) => Shown::In(waker.is_some()),
             Sending::Parked(item) => Shown::Back(item),
@@ -233,7 +265,7 @@ impl<J: Job, H: Runtime> Bench<J, H> {
     fn drain(&mut self, cx: &mut Context<'_>) -> Shown
         ensures { Keeps cx.old cx.new }
     {
-        let mut items = [0u64; 3];
+        let mut items = [0u8; 3];
         match self.receiver.drain_or_seat(cx, &mut items) {
             Drained::Got(count, note) => Shown::Items(count, items[0], self.is_woken(note)),
             Drained::Ended => Shown::Over,
@@ -241,7 +273,7 @@ impl<J: Job, H: Runtime> Bench<J, H> {
         }
     }
 
-    fn fill(&mut self, cx: &mut Context<'_>, items: &[u64]) -> Shown
+    fn fill(&mut self, cx: &mut Context<'_>, items: &[u8]) -> Shown
         ensures { Keeps cx.old cx.new }
     {
         if items.is_empty() {
@@ -267,6 +299,25 @@ impl<J: Job, H: Runtime> Bench<J, H> {
         }
     }
 
+    fn peek(&mut self, most: usize) -> Shown {
+        let mut items = [0u8; 3];
+        if most == 0 || most > 3 {
+            return Shown::Missing;
+        }
+        match self.taker.peek_or_seat(self.me, &mut items[..most]) {
+            Peeked::Some(count) => Shown::Items(count, items[0], false),
+            Peeked::Parked => Shown::Waits,
+            Peeked::Drained => Shown::Over,
+        }
+    }
+
+    fn consume(&mut self, count: usize) -> Shown {
+        if count > self.taker.may_consume() {
+            return Shown::Missing;
+        }
+        Shown::Closed(self.taker.consume(count).is_some())
+    }
+
     // What is seen of a step.
     fn shows(&mut self, step: Step, cx: &mut Context<'_>) -> Shown
         ensures { Keeps cx.old cx.new }
@@ -274,6 +325,7 @@ impl<J: Job, H: Runtime> Bench<J, H> {
         match step {
             Step::Room => self.room(),
             Step::Put(items) => self.put(items),
+            Step::PutPiece(items) => self.put_piece(items),
             Step::Send(item) => self.send(item),
             Step::Receive => self.receive(cx),
             Step::Drain => self.drain(cx),
@@ -286,6 +338,8 @@ impl<J: Job, H: Runtime> Bench<J, H> {
             }
             Step::Fill(items) => self.fill(cx, items),
             Step::Take(count) => self.take(count),
+            Step::Peek(most) => self.peek(most),
+            Step::Consume(count) => self.consume(count),
             Step::Filled => Shown::Count(self.filler.sent()),
             Step::Taken => Shown::Count(self.taker.received()),
             Step::CloseFiller => {
@@ -299,12 +353,12 @@ impl<J: Job, H: Runtime> Bench<J, H> {
 
 // The steps of a row, all in one poll, which gives the place of the first step that shows something else, and what it shows.
 #[derive(Drop)]
-struct Played<J: Job, H: Runtime> {
-    bench: Bench<J, H>,
+struct Played<S: CopyStore<u8>, T: CopyStore<u8>, J: Job, H: Runtime> {
+    bench: Bench<S, T, J, H>,
     steps: &'static [(Step, Shown)],
 }
 
-impl<J: Job, H: Runtime> Future for Played<J, H> {
+impl<S: CopyStore<u8>, T: CopyStore<u8>, J: Job, H: Runtime> Future for Played<S, T, J, H> {
     type Output = Option<(usize, Shown)>;
 
     fn poll(&mut self, cx: &mut Context<'_>) -> Poll<Option<(usize, Shown)>> {
@@ -318,16 +372,18 @@ impl<J: Job, H: Runtime> Future for Played<J, H> {
     }
 }
 
-fn first_wrong<H: Host>(
+// Plays a row over pipes of two items: the job sends through the one, and the owner through the other.
+fn first_wrong<S: CopyStore<u8>, T: CopyStore<u8>, H: Host>(
     rt: H,
+    sending: (SendEnd<u8, AnyPlace, S, H>, RecvEnd<u8, AnyPlace, S, H>),
+    filling: (FillEnd<u8, AnyPlace, T, H>, PeekEnd<u8, AnyPlace, T, H>),
     steps: &'static [(Step, Shown)],
 ) -> Result<Option<(usize, Shown)>, Fail> {
     let piece = vec![in rt.alloc(); 0; 2]?;
-    let spare = vec![in rt.alloc(); 0; 2]?;
-    let (sender, receiver) = link_over(rt, Moving::with_spare(rt.alloc(), 2, spare)?)?;
-    let (filler, taker) = link_in(rt, 2)?;
     let executor: Executor<Nothing, H> = Executor::new(rt, Some("1"))?;
     let me = executor.add(Nothing)?;
+    let (sender, receiver) = sending;
+    let (filler, taker) = filling;
     let bench = Bench {
         executor,
         me,
@@ -341,9 +397,34 @@ fn first_wrong<H: Host>(
 }
 
 #[test]
-fn each_call_answers(rt: HostRuntime) -> Result<(), Fail> {
+fn each_call_answers_over_a_ring(rt: HostRuntime) -> Result<(), Fail> {
     for (name, steps) in ROWS {
-        assert_eq!(rt; first_wrong(rt, steps)?, None, "{name}");
+        let sending = link::<u8, AnyPlace, RingStore<u8>, HostRuntime>(rt, 2)?;
+        let filling = link_in::<u8, AnyPlace, RingStore<u8>, HostRuntime>(rt, 2)?;
+        assert_eq!(rt; first_wrong(rt, sending, filling, steps)?, None, "{name}");
+    }
+    Ok(())
+}
+
+#[test]
+fn each_call_answers_over_a_flat_store(rt: HostRuntime) -> Result<(), Fail> {
+    for (name, steps) in ROWS {
+        let sending = link::<u8, AnyPlace, FlatStore, HostRuntime>(rt, 2)?;
+        let filling = link_in::<u8, AnyPlace, FlatStore, HostRuntime>(rt, 2)?;
+        assert_eq!(rt; first_wrong(rt, sending, filling, steps)?, None, "{name}");
+    }
+    Ok(())
+}
+
+// Pieces of two move in and are lent.
+#[test]
+fn each_call_answers_over_pieces(rt: HostRuntime) -> Result<(), Fail> {
+    for (name, steps) in ROWS {
+        let spare = vec![in rt.alloc(); 0; 2]?;
+        let store: MovingStore<u8, FlatStore> = MovingStore::with_spare(rt.alloc(), 2, spare)?;
+        let sending = link_over(rt, store)?;
+        let filling = link_in_over(rt, LendingStore::with_piece(rt.alloc(), 2, 2)?)?;
+        assert_eq!(rt; first_wrong(rt, sending, filling, steps)?, None, "{name}");
     }
     Ok(())
 }

@@ -1,6 +1,6 @@
 -- What is lent is copied first, and what stands behind it follows: each item holds at its place.
-use Rattle.std.proofs.Common.{rules, ◌≡◌, ℕ, ◌+◌, ◌-◌, ◌≤◌, ◌∙◌, ◌++◌, List, [], length, take, drop, min, sym, ap, subst, arith, take-add}
-use Rattle.std.proofs.lemmas.List.{append-nil, drop-append-le, drop-drop, drop_all, drop_at, length-append, length-drop, length-take-le, take-append-le, take_all, take_at}
+use Rattle.std.proofs.Common.{rules, ◌≡◌, ℕ, ◌+◌, ◌-◌, ◌≤◌, ◌∙◌, ◌++◌, List, [], length, take, drop, min, refl, sym, ap, subst, arith, take-add}
+use Rattle.std.proofs.lemmas.List.{append-nil, drop-append-le, drop-drop, drop_all, drop_at, length-append, length-drop, length-take-le, take-append-le, take-take, take_all, take_at}
 use Rattle.blocking_ends.specs.Rules.{HoldFrom}
 use Rattle.blocking_ends.proofs.Kept.{hold_copied, hold_joined}
 use Rattle.blocking_ends.proofs.peek_end.PeekEnd.peek_lent.Goals as goal
@@ -53,6 +53,35 @@ module _ {X : Type 0} where
       → HoldFrom holds received shown → HoldFrom holds received (take first (one ++ drop first out))
   first_held holds received first shown one out is within held =
       subst (λ l. HoldFrom holds received (take first (l ++ drop first out))) (sym is) (hold_copied holds received first shown out within held)
+
+  -- what is lent is what was copied first, as far as there was a place
+  first_is_lent : (first : ℕ) (shown one out : List X) → one ≡ take first shown → first ≡ length out → first ≤ length shown
+      → take (length shown) (take first (one ++ drop first out)) ≡ take (length out) shown
+  first_is_lent first shown one out is whole within =
+      let long : length one ≡ first = ap length is ∙ length-take-le first shown within in
+      let front = take_at one (drop first out) first long in
+      take_all (length shown) (take first (one ++ drop first out)) (omega (arith, ap length front, long, within))
+      ∙ front ∙ is ∙ ap (λ n. take n shown) whole
+
+  -- or all of it, with more behind
+  all_is_lent : (first n : ℕ) (shown one out more end : List X) → one ≡ take first shown → first ≡ length shown → first ≤ length out
+      → take (length shown) (take (first + n) (take first (one ++ drop first out) ++ (more ++ end))) ≡ take (length out) shown
+  all_is_lent first n shown one out more end is all within =
+      let front = copied_first first shown one out is all in
+      take-take (length shown) (first + n) (take first (one ++ drop first out) ++ (more ++ end)) (omega (arith, all))
+      ∙ ap (λ l. take (length shown) (l ++ (more ++ end))) front
+      ∙ take_at shown (more ++ end) (length shown) refl
+      ∙ sym (take_all (length out) shown (omega (arith, all, within)))
+
+pub returns-then-first-out-clause-lent : goal.returns-then-first-out-clause-lent
+returns-then-first-out-clause-lent g c =
+    rw (← c.shown-lent.ensures.shown)
+    (first_is_lent c.min-first.result c.shown-lent.result.now c.copy_from_slice.new.self c.args.out.now (search rules) (search rules) (omega arith))
+
+pub returns-clause-lent : goal.returns-clause-lent
+returns-clause-lent g c =
+    rw (← c.shown-lent.ensures.shown)
+    (all_is_lent c.min-first.result c.peek.result c.shown-lent.result.now c.copy_from_slice.new.self c.args.out.now c.peek.new.out _ (search rules) (search rules) (omega arith))
 
 pub returns-then-first-out-clause-held : goal.returns-then-first-out-clause-held
 returns-then-first-out-clause-held g c =
