@@ -1,7 +1,10 @@
 //! A thread pool for blocking I/O, as its users name it.
 #![tactic(auto)]
 
-pub use blocking_core::pipe::{CopyStore, FlatStore, LendingStore, MovingStore, RingStore, Store};
+pub use blocking_core::pipe::{
+    CopyStore, FlatMemory, FlatStore, LendingMemory, LendingStore, MovingMemory, MovingStore,
+    RingMemory, RingStore, Store,
+};
 pub use blocking_ends::{
     AnyPlace, FillEnd, OwnerWaker, PeekEnd, PlaceRule, RecvEnd, SendEnd, link, link_in,
     link_in_over, link_over,

@@ -5,7 +5,7 @@ ghost use Rattle.blocking_core.specs.declared.pipe.Filled.TheVariants.{Shut};
 use crate::task::Seat;
 use blocking_pool::pool::{JobNo, WakeNote};
 use std::alloc::{AllocError, Global};
-use std::marker::{Model, PhantomData};
+use std::marker::Model;
 
 mod flat;
 mod lending;
@@ -13,10 +13,10 @@ mod moving;
 mod ring;
 mod store;
 
-pub use flat::FlatStore;
-pub use lending::LendingStore;
-pub use moving::MovingStore;
-pub use ring::RingStore;
+pub use flat::{FlatMemory, FlatStore};
+pub use lending::{LendingMemory, LendingStore};
+pub use moving::{MovingMemory, MovingStore};
+pub use ring::{RingMemory, RingStore};
 pub use store::{CopyStore, Store};
 
 /// How many bytes a pipe holds where nobody says otherwise.
@@ -29,7 +29,7 @@ pub const DEFAULT_ITEMS: usize = 8192;
 pub type BytePipe<W> = Pipe<u8, W, FlatStore>;
 
 /// A pipe of items.
-pub type ItemPipe<X, W> = Pipe<X, W, RingStore<X>>;
+pub type ItemPipe<X, W> = Pipe<X, W, RingStore>;
 
 /// A list of at most so many items between a job and its owner, with an end for each and a seat at each end.
 ///
@@ -40,14 +40,14 @@ pub type ItemPipe<X, W> = Pipe<X, W, RingStore<X>>;
 /// A job may be lent what stands at the front, to use it under no lock. Until it lets go of that, it takes room as if it were inside.
 #[derive(Drop)]
 pub struct Pipe<X: Drop, W: Drop, S: Store<X>> {
-    store: S,
+    // What the store keeps.
+    memory: S::Memory,
     // How many items are lent.
     lent: usize,
     is_owner_open: bool,
     is_job_open: bool,
     owner_seat: Option<W>,
     job_seat: Option<JobNo>,
-    item: PhantomData<X>,
 }
 
 impl<X: Drop, W: Drop, S: Store<X>> Model for Pipe<X, W, S> {
@@ -59,8 +59,8 @@ impl<X: Drop, W: Drop, S: Store<X>> Model for Pipe<X, W, S> {
     ghost coded = { pipe_code X.code W.code };
 
     ghost view = { λ p. record {
-      items = (S.held p.store).items;
-      capacity = (S.held p.store).capacity - p.lent;
+      items = (S.held p.memory).items;
+      capacity = (S.held p.memory).capacity - p.lent;
       lent = p.lent;
       is_owner_open = p.is_owner_open;
       is_job_open = p.is_job_open;
@@ -68,7 +68,7 @@ impl<X: Drop, W: Drop, S: Store<X>> Model for Pipe<X, W, S> {
       job_seat = p.job_seat;
     } };
 
-    ghost invariant = { λ p. IsBounded (S.held p.store) p.lent };
+    ghost invariant = { λ p. IsBounded (S.held p.memory) p.lent };
 }
 
 /// What a job finds that looks for room.
@@ -166,29 +166,28 @@ impl<X: Drop, W: Drop, S: Store<X>> Pipe<X, W, S> {
         Ok(Pipe::over(S::new(alloc, capacity)?))
     }
 
-    /// An empty pipe over an empty store, for as many items as that holds. Both ends are open.
-    pub fn over(store: S) -> Self
-        requires some { let stored = S.held store in 0 < stored.capacity }
-        requires empty { let stored = S.held store in stored.items ≡ [] }
-        ensures { let stored = S.held store in result ≡ empty_pipe stored.capacity }
+    /// An empty pipe over the memory of a store in which nothing stands, for as many items as that holds. Both ends are open.
+    pub fn over(memory: S::Memory) -> Self
+        requires some { let stored = S.held memory in 0 < stored.capacity }
+        requires empty { let stored = S.held memory in stored.items ≡ [] }
+        ensures { let stored = S.held memory in result ≡ empty_pipe stored.capacity }
     {
         Pipe {
-            store,
+            memory,
             lent: 0,
             is_owner_open: true,
             is_job_open: true,
             owner_seat: None,
             job_seat: None,
-            item: PhantomData,
         }
     }
 
-    /// What holds the items.
-    pub fn store(&self) -> &S
+    /// What its store keeps.
+    pub fn memory(&self) -> &S::Memory
         ensures items { let stored = S.held result.now in stored.items ≡ self.now.items }
         ensures capacity { let stored = S.held result.now in stored.capacity ≡ self.now.capacity + self.now.lent }
     {
-        &self.store
+        &self.memory
     }
 
     /// How many items are inside: with those that are lent, the capacity at most.
@@ -197,7 +196,7 @@ impl<X: Drop, W: Drop, S: Store<X>> Pipe<X, W, S> {
         ensures within { length self.now.items ≤ self.now.capacity }
         ensures some { 0 < self.now.capacity + self.now.lent }
     {
-        self.store.len()
+        S::len(&self.memory)
     }
 
     /// How many items are lent.
@@ -211,7 +210,7 @@ impl<X: Drop, W: Drop, S: Store<X>> Pipe<X, W, S> {
     pub fn room(&self) -> usize
         ensures { result ≡ room self.now }
     {
-        self.store.room() - self.lent
+        S::room(&self.memory) - self.lent
     }
 
     /// Whether the owner's end is open.
@@ -254,7 +253,7 @@ impl<X: Drop, W: Drop, S: Store<X>> Pipe<X, W, S> {
             self.job_seat = Some(me);
             return Sending::Parked(item);
         }
-        self.store.push(item);
+        S::push(&mut self.memory, item);
         Sending::Sent(self.unseat_owner())
     }
 
@@ -265,7 +264,7 @@ impl<X: Drop, W: Drop, S: Store<X>> Pipe<X, W, S> {
             record self.old { items = drop count self.old.items; owner_seat = None } }
         ensures waker { result ≡ self.old.owner_seat }
     {
-        self.store.drop_front(count);
+        S::drop_front(&mut self.memory, count);
         self.unseat_owner()
     }
 
@@ -277,7 +276,7 @@ impl<X: Drop, W: Drop, S: Store<X>> Pipe<X, W, S> {
     {
         let of_lent = count.min(self.lent);
         self.lent -= of_lent;
-        self.store.drop_front(count - of_lent);
+        S::drop_front(&mut self.memory, count - of_lent);
         self.unseat_owner()
     }
 
@@ -294,7 +293,7 @@ impl<X: Drop, W: Drop, S: Store<X>> Pipe<X, W, S> {
     pub fn receive_or_seat(&mut self, waker: W) -> Answered<Received<X>, W>
         ensures { Receives self.old waker result.answer result.spare self.new }
     {
-        match self.store.pop() {
+        match S::pop(&mut self.memory) {
             Some(item) => Answered {
                 answer: Received::Got(item, self.unseat_job()),
                 spare: Some(waker),
@@ -353,7 +352,7 @@ impl<X: Copy, W: Drop, S: CopyStore<X>> Pipe<X, W, S> {
         if !self.is_owner_open {
             return Put::Lost;
         }
-        self.store.put_all(items);
+        S::put_all(&mut self.memory, items);
         Put::In(self.unseat_owner())
     }
 
@@ -368,7 +367,7 @@ impl<X: Copy, W: Drop, S: CopyStore<X>> Pipe<X, W, S> {
         if !self.is_owner_open {
             return Put::Lost;
         }
-        self.store.take_piece(piece, count);
+        S::take_piece(&mut self.memory, piece, count);
         Put::In(self.unseat_owner())
     }
 
@@ -377,7 +376,7 @@ impl<X: Copy, W: Drop, S: CopyStore<X>> Pipe<X, W, S> {
         ensures count { result ≡ min (length out.old) (length self.now.items) }
         ensures front { out.new ≡ take result self.now.items ++ drop result out.old }
     {
-        self.store.copy_front(out)
+        S::copy_front(&self.memory, out)
     }
 
     /// The job copies the front of what is inside, as many items as `out` holds. Where the pipe is empty and the owner's end
@@ -386,8 +385,8 @@ impl<X: Copy, W: Drop, S: CopyStore<X>> Pipe<X, W, S> {
         requires { 0 < length out.old }
         ensures { Peeks self.old me out.old result self.new out.new }
     {
-        if self.store.len() > 0 {
-            return Peeked::Some(self.store.copy_front(out));
+        if S::len(&self.memory) > 0 {
+            return Peeked::Some(S::copy_front(&self.memory, out));
         }
         if !self.is_owner_open {
             return Peeked::Drained;
@@ -404,8 +403,8 @@ impl<X: Copy, W: Drop, S: CopyStore<X>> Pipe<X, W, S> {
         ensures lends { Lends self.old me most result piece.new.items self.new }
         ensures fits { most ≤ vec_capacity piece.new }
     {
-        if self.store.len() > 0 {
-            let count = self.store.give_piece(most, piece);
+        if S::len(&self.memory) > 0 {
+            let count = S::give_piece(&mut self.memory, most, piece);
             self.lent += count;
             return Peeked::Some(count);
         }
@@ -422,8 +421,8 @@ impl<X: Copy, W: Drop, S: CopyStore<X>> Pipe<X, W, S> {
         requires { 0 < length out.old }
         ensures { Drains self.old waker out.old result.answer result.spare self.new out.new }
     {
-        if self.store.len() > 0 {
-            let count = self.store.read_front(out);
+        if S::len(&self.memory) > 0 {
+            let count = S::read_front(&mut self.memory, out);
             return Answered {
                 answer: Drained::Got(count, self.unseat_job()),
                 spare: Some(waker),
@@ -450,8 +449,8 @@ impl<X: Copy, W: Drop, S: CopyStore<X>> Pipe<X, W, S> {
     {
         let count = items.len().min(self.room());
         let is_ready = ready.len() > 0 && count == items.len();
-        if !is_ready || !self.store.take_ready(ready) {
-            self.store.put_all(&items[..count]);
+        if !is_ready || !S::take_ready(&mut self.memory, ready) {
+            S::put_all(&mut self.memory, &items[..count]);
         }
         count
     }
@@ -482,7 +481,7 @@ impl<X: Copy, W: Drop, S: CopyStore<X>> Pipe<X, W, S> {
             return shut(waker);
         }
         let count = items.len().min(self.room());
-        self.store.put_all(&items[..count]);
+        S::put_all(&mut self.memory, &items[..count]);
         self.answer_fill(waker, count)
     }
 

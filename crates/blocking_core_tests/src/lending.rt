@@ -1,7 +1,7 @@
 //! The worked rows of a pipe that lends.
 use crate::pipe::bench::Bench;
 use crate::stop::stop;
-use blocking_core::pipe::{Answered, Filled, FlatStore, LendingStore, Peeked, Pipe};
+use blocking_core::pipe::{Answered, Filled, FlatStore, LendingMemory, LendingStore, Peeked, Pipe};
 use blocking_core::pool::JobNo;
 use std::alloc::{AllocGlobal, Global};
 use std::process::Abort;
@@ -91,7 +91,7 @@ const BEHIND_A_BYTE: &[Line] = &[
 // A pipe, what stands ready of its owner, and what its job has in its hand.
 #[derive(Drop)]
 struct Both {
-    pipe: Pipe<u8, u8, LendingStore<u8>>,
+    pipe: Pipe<u8, u8, LendingStore>,
     ready: Vec<u8>,
     hand: Vec<u8>,
     bench: Bench<FlatStore>,
@@ -115,7 +115,7 @@ fn in_order(bytes: &[u8]) -> bool {
 
 impl Both {
     fn new(alloc: Global) -> Option<Both> {
-        let pipe = Pipe::over(LendingStore::with_piece(alloc, 5, WHOLE).ok()?);
+        let pipe = Pipe::over(LendingMemory::with_piece(alloc, 5, WHOLE).ok()?);
         let ready = Vec::with_capacity(alloc, WHOLE).ok()?;
         let hand = Vec::with_capacity(alloc, WHOLE).ok()?;
         let bench = Bench::new(alloc, 1)?;

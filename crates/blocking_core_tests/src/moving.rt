@@ -2,7 +2,8 @@
 use crate::pipe::bench::Bench;
 use crate::stop::stop;
 use blocking_core::pipe::{
-    Answered, Drained, FlatStore, MovingStore, Pipe, Put, Received, RingStore, Room, Sending,
+    Answered, Drained, FlatStore, MovingMemory, MovingStore, Pipe, Put, Received, RingStore, Room,
+    Sending,
 };
 use blocking_core::pool::JobNo;
 use std::alloc::{AllocError, AllocGlobal, Global};
@@ -116,7 +117,7 @@ const ROWS: &[(&str, &[Line])] = &[
 // A pipe, and its job with its piece.
 #[derive(Drop)]
 struct Both {
-    pipe: Pipe<u8, u8, MovingStore<u8, RingStore<u8>>>,
+    pipe: Pipe<u8, u8, MovingStore<RingStore>>,
     piece: Vec<u8>,
     bench: Bench<FlatStore>,
     job: JobNo,
@@ -145,7 +146,7 @@ fn first_of(bytes: &[u8]) -> Option<u8> {
 impl Both {
     fn new(alloc: Global) -> Option<Both> {
         let spare = piece(alloc, SPARE).ok()?;
-        let pipe = Pipe::over(MovingStore::with_spare(alloc, CAPACITY, spare).ok()?);
+        let pipe = Pipe::over(MovingMemory::with_spare(alloc, CAPACITY, spare).ok()?);
         let piece = piece(alloc, OWN).ok()?;
         let bench = Bench::new(alloc, 1)?;
         let job = bench.job(1)?;

@@ -41,15 +41,15 @@ impl<X: Drop, R: PlaceRule<X>, S: Store<X>> JobToOwner<X, R, S> {
     ghost use Rattle.blocking_ends.specs.Answers.{IfReceived, OnEnd};
     ghost use Rattle.blocking_ends.specs.Sections.{Counts, FindsRoom, Sends, Receives};
 
-    /// An empty pipe over an empty store, into which nothing was sent.
-    pub(crate) fn over(store: S) -> Self
-        requires some { let stored = S.held store in 0 < stored.capacity }
-        requires empty { let stored = S.held store in stored.items ≡ [] }
-        ensures { let stored = S.held store in
+    /// An empty pipe over the memory of a store in which nothing stands, and into which nothing was sent.
+    pub(crate) fn over(memory: S::Memory) -> Self
+        requires some { let stored = S.held memory in 0 < stored.capacity }
+        requires empty { let stored = S.held memory in stored.items ≡ [] }
+        ensures { let stored = S.held memory in
             result ≡ record { pipe = empty_pipe stored.capacity; sent = 0; received = 0 } }
     {
         JobToOwner {
-            pipe: Pipe::over(store),
+            pipe: Pipe::over(memory),
             sent: 0,
             received: 0,
             rule: PhantomData,
@@ -243,15 +243,15 @@ impl<X: Drop, R: PlaceRule<X>, S: Store<X>> OwnerToJob<X, R, S> {
     ghost use Rattle.blocking_core.specs.PipeAnswers.{let_go};
     ghost use Rattle.blocking_ends.specs.Sections.{Counts};
 
-    /// An empty pipe over an empty store, into which nothing was sent.
-    pub(crate) fn over(store: S) -> Self
-        requires some { let stored = S.held store in 0 < stored.capacity }
-        requires empty { let stored = S.held store in stored.items ≡ [] }
-        ensures { let stored = S.held store in
+    /// An empty pipe over the memory of a store in which nothing stands, and into which nothing was sent.
+    pub(crate) fn over(memory: S::Memory) -> Self
+        requires some { let stored = S.held memory in 0 < stored.capacity }
+        requires empty { let stored = S.held memory in stored.items ≡ [] }
+        ensures { let stored = S.held memory in
             result ≡ record { pipe = empty_pipe stored.capacity; sent = 0; received = 0 } }
     {
         OwnerToJob {
-            pipe: Pipe::over(store),
+            pipe: Pipe::over(memory),
             sent: 0,
             received: 0,
             rule: PhantomData,

@@ -25,17 +25,17 @@ pub fn link<X: Drop, R: PlaceRule<X>, S: Store<X>, H: Wait + AllocGlobal + Copy>
     link_over(rt, S::new(rt.alloc(), capacity)?)
 }
 
-/// As [`link`], over an empty store of one's own, for as many items as that holds.
+/// As [`link`], over memory of the store that is there already and in which nothing stands, for as many items as that holds.
 pub fn link_over<X: Drop, R: PlaceRule<X>, S: Store<X>, H: Wait + AllocGlobal + Copy>(
     rt: H,
-    store: S,
+    memory: S::Memory,
 ) -> Result<(SendEnd<X, R, S, H>, RecvEnd<X, R, S, H>), AllocError>
-    requires some { let stored = S.held store in 0 < stored.capacity }
-    requires empty { let stored = S.held store in stored.items ≡ [] }
+    requires some { let stored = S.held memory in 0 < stored.capacity }
+    requires empty { let stored = S.held memory in stored.items ≡ [] }
     ensures sent { IfOk result (λ ends. (ends.0.sent ≡ 0) × (ends.0.free ≡ 0)) }
     ensures received { IfOk result (λ ends. ends.1.received ≡ 0) }
 {
-    let pipe = Arc::new(rt.alloc(), Mutex::new(JobToOwner::over(store)))?;
+    let pipe = Arc::new(rt.alloc(), Mutex::new(JobToOwner::over(memory)))?;
     let theirs = Arc::try_clone(&pipe)?;
     Ok((SendEnd::new(rt, theirs), RecvEnd::new(rt, pipe)))
 }
@@ -55,25 +55,25 @@ pub fn link_in<X: Drop, R: PlaceRule<X>, S: Store<X>, H: Wait + AllocGlobal + Co
     link_in_over(rt, S::new(rt.alloc(), capacity)?)
 }
 
-/// As [`link_in`], over an empty store of one's own, for as many items as that holds.
+/// As [`link_in`], over memory of the store that is there already and in which nothing stands, for as many items as that holds.
 pub fn link_in_over<X: Drop, R: PlaceRule<X>, S: Store<X>, H: Wait + AllocGlobal + Copy>(
     rt: H,
-    store: S,
+    memory: S::Memory,
 ) -> Result<(FillEnd<X, R, S, H>, PeekEnd<X, R, S, H>), AllocError>
-    requires some { let stored = S.held store in 0 < stored.capacity }
-    requires empty { let stored = S.held store in stored.items ≡ [] }
+    requires some { let stored = S.held memory in 0 < stored.capacity }
+    requires empty { let stored = S.held memory in stored.items ≡ [] }
     ensures sent { IfOk result (λ ends. ends.0.sent ≡ 0) }
     ensures received { IfOk result (λ ends. (ends.1.received ≡ 0) × (ends.1.shown ≡ []) × (ends.1.peeked ≡ 0)) }
 {
-    let piece = store.piece();
+    let piece = S::piece(&memory);
     let most = if piece > 0 {
         piece
     } else {
-        store.room().min(PIECE)
+        S::room(&memory).min(PIECE)
     };
     let ready = Vec::with_capacity(rt.alloc(), piece)?;
     let lent = Vec::with_capacity(rt.alloc(), most)?;
-    let pipe = Arc::new(rt.alloc(), Mutex::new(OwnerToJob::over(store)))?;
+    let pipe = Arc::new(rt.alloc(), Mutex::new(OwnerToJob::over(memory)))?;
     let theirs = Arc::try_clone(&pipe)?;
     Ok((
         FillEnd::new(rt, pipe, ready),

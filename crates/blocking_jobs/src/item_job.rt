@@ -5,36 +5,32 @@ ghost use Rattle.blocking_core.specs.Items.{new_item, item_next};
 
 use crate::link::{Link, MayFail};
 use blocking_core::job::{ItemAction, ItemAnswer, ItemCore};
-use blocking_core::pipe::{RingStore, Sending, Store};
+use blocking_core::pipe::{RingStore, Sending};
 use blocking_core::pool::{Carries, Job, JobNo, JobStep};
 use blocking_ends::{AnyPlace, SendEnd};
 use blocking_lock::OwnerWaker;
 use std::marker::Model;
 use std::sync::{Arc, Wait};
 
-/// The job that runs an iterator ahead of an owner, whose items pass through a ring.
-pub type ItemJob<T, I, H> = ItemJobOver<T, I, RingStore<I>, H>;
-
 /// The job that runs an iterator ahead of an owner: it asks the iterator for an item and sends it through the pipe, until the iterator
 /// ends or nobody wants more. Then it gives the iterator back. One item at most is out of the iterator and not in the pipe.
 ///
 /// One that is dropped before it is done drops the iterator and gives its slot up, with no lock held. That wakes an owner who waits there for
 /// the iterator, and none who waits at the pipe. A pool drops a job only once its owner is gone.
-pub struct ItemJobOver<T: Iterator<Item = I> + Drop, I: Drop, S: Store<I>, H: Wait + Copy> {
+pub struct ItemJob<T: Iterator<Item = I> + Drop, I: Drop, H: Wait + Copy> {
     core: ItemCore,
     // The iterator, until it is given back.
     iterator: Option<T>,
     // The item that the iterator gave, until it is sent.
     hand: Option<I>,
-    end: SendEnd<I, AnyPlace, S, H>,
+    end: SendEnd<I, AnyPlace, RingStore, H>,
     // The waker that was taken out of the owner's seat, and has to be called.
     waker: OwnerWaker,
     link: Arc<Link<T, MayFail>>,
     rt: H,
 }
 
-impl<T: Iterator<Item = I> + Drop, I: Drop, S: Store<I>, H: Wait + Copy> Model
-    for ItemJobOver<T, I, S, H> {
+impl<T: Iterator<Item = I> + Drop, I: Drop, H: Wait + Copy> Model for ItemJob<T, I, H> {
     ghost use Rattle.blocking_jobs.specs.Iterators.{ItemSeen, item_code, Fits};
 
     ghost Value = { ItemSeen T I };
@@ -47,20 +43,20 @@ impl<T: Iterator<Item = I> + Drop, I: Drop, S: Store<I>, H: Wait + Copy> Model
     ghost invariant = { λ j. ((state : T) → T.can_next state) × Fits j.core.next j.hand j.iterator };
 }
 
-impl<T: Iterator<Item = I> + Drop, I: Drop, S: Store<I>, H: Wait + Copy> ItemJobOver<T, I, S, H> {
+impl<T: Iterator<Item = I> + Drop, I: Drop, H: Wait + Copy> ItemJob<T, I, H> {
     ghost use Rattle.blocking_jobs.specs.Iterators.{ItemSeen, IsSteppedBy};
 
     /// The job of a session of items: `end` is the pipe into which they go. The iterator comes back over the link.
     pub fn new(
         rt: H,
         iterator: T,
-        end: SendEnd<I, AnyPlace, S, H>,
+        end: SendEnd<I, AnyPlace, RingStore, H>,
         link: Arc<Link<T, MayFail>>,
-    ) -> ItemJobOver<T, I, S, H>
+    ) -> ItemJob<T, I, H>
         requires { (state : T) → T.can_next state }
         ensures { result ≡ record { core = new_item; iterator = Some iterator; hand = None; sent = end.sent } }
     {
-        ItemJobOver {
+        ItemJob {
             core: ItemCore::new(),
             iterator: Some(iterator),
             hand: None,
@@ -75,7 +71,7 @@ impl<T: Iterator<Item = I> + Drop, I: Drop, S: Store<I>, H: Wait + Copy> ItemJob
     pub fn into_iterator(self) -> Option<T>
         ensures { result ≡ self.iterator }
     {
-        let ItemJobOver {
+        let ItemJob {
             core: _,
             iterator,
             hand: _,
@@ -170,10 +166,9 @@ impl<T: Iterator<Item = I> + Drop, I: Drop, S: Store<I>, H: Wait + Copy> ItemJob
     }
 }
 
-impl<T: Iterator<Item = I> + Drop, I: Drop, S: Store<I>, H: Wait + Copy> Drop
-    for ItemJobOver<T, I, S, H> {
+impl<T: Iterator<Item = I> + Drop, I: Drop, H: Wait + Copy> Drop for ItemJob<T, I, H> {
     fn drop(self) {
-        let ItemJobOver {
+        let ItemJob {
             core,
             iterator,
             hand,
@@ -196,9 +191,8 @@ impl<T: Iterator<Item = I> + Drop, I: Drop, S: Store<I>, H: Wait + Copy> Drop
 }
 
 // A pool of one kind of iterator has its job as its job type.
-impl<T: Iterator<Item = I> + Drop, I: Drop, S: Store<I>, H: Wait + Copy> Carries<
-    ItemJobOver<T, I, S, H>,
-> for ItemJobOver<T, I, S, H> {
+impl<T: Iterator<Item = I> + Drop, I: Drop, H: Wait + Copy> Carries<ItemJob<T, I, H>>
+    for ItemJob<T, I, H> {
     ghost use Rattle.std.specs.Prelude.{Some, refl};
 
     ghost wrapped = { λ job. job };
@@ -207,17 +201,16 @@ impl<T: Iterator<Item = I> + Drop, I: Drop, S: Store<I>, H: Wait + Copy> Carries
 
     ghost undoes = { λ job. refl };
 
-    fn wrap(named: ItemJobOver<T, I, S, H>) -> ItemJobOver<T, I, S, H> {
+    fn wrap(named: ItemJob<T, I, H>) -> ItemJob<T, I, H> {
         named
     }
 
-    fn unwrap(self) -> Option<ItemJobOver<T, I, S, H>> {
+    fn unwrap(self) -> Option<ItemJob<T, I, H>> {
         Some(self)
     }
 }
 
-impl<T: Iterator<Item = I> + Drop, I: Drop, S: Store<I>, H: Wait + Copy> Job
-    for ItemJobOver<T, I, S, H> {
+impl<T: Iterator<Item = I> + Drop, I: Drop, H: Wait + Copy> Job for ItemJob<T, I, H> {
     ghost use Rattle.blocking_jobs.specs.Iterators.{IsStepped};
 
     // (another thread may set the mark at any time)

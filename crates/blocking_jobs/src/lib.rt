@@ -8,7 +8,7 @@ mod read_job;
 mod seek_job;
 mod write_job;
 
-pub use item_job::{ItemJob, ItemJobOver};
+pub use item_job::ItemJob;
 pub use link::{Link, Linked, MayFail, Returned, Sought, WayBack};
 pub use op_job::{OpJob, ResultPlace, ResultSeat};
 pub use read_job::{ReadJob, ReadStore};

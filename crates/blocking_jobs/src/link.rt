@@ -55,10 +55,8 @@ impl<T: Drop, X: Drop> Link<T, X> {
     }
 }
 
-/// Where the owner waits for the handle.
-///
-/// Dropping it sets the mark of the session, which stays set and takes no lock: its owner is gone. Where the handle came back before, nobody
-/// looks for the mark any more.
+/// Where the owner waits for the handle, and says that it is gone.
+#[derive(Drop)]
 pub struct WayBack<T: Drop, X: Drop, H: Wait + Copy> {
     link: Arc<Link<T, X>>,
     source: Source,
@@ -98,6 +96,11 @@ impl<T: Drop, X: Drop, H: Wait + AllocGlobal + Copy> Linked<T, X, H> {
 }
 
 impl<T: Drop, X: Drop, H: Wait + Copy> WayBack<T, X, H> {
+    /// Sets the mark of the session, which stays set and takes no lock: its owner is gone.
+    pub fn mark(&self) {
+        self.link.mark.store(true, Ordering::SeqCst);
+    }
+
     /// Takes the handle out of the slot, or waits there for it. Once it was taken nothing more comes, and a poll waits for good. It isn't
     /// polled where the job was dropped before it gave the handle back, which a pool does only once the owner is gone: it would ask again
     /// and again.
@@ -106,16 +109,5 @@ impl<T: Drop, X: Drop, H: Wait + Copy> WayBack<T, X, H> {
         ensures kept { Keeps cx.old cx.new }
     {
         self.link.slot.await_in(self.rt, &self.source, cx)
-    }
-}
-
-impl<T: Drop, X: Drop, H: Wait + Copy> Drop for WayBack<T, X, H> {
-    fn drop(self) {
-        let WayBack {
-            link,
-            source: _,
-            rt: _,
-        } = self;
-        link.mark.store(true, Ordering::SeqCst);
     }
 }

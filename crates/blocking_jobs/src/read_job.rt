@@ -17,7 +17,7 @@ use std::marker::Model;
 use std::sync::{Arc, Wait};
 
 /// What holds the bytes of a session that reads: its job's pieces move in as they are.
-pub type ReadStore = MovingStore<u8, FlatStore>;
+pub type ReadStore = MovingStore<FlatStore>;
 
 /// The job that reads ahead of an owner: it asks its reader for as much as there is room for in the pipe, and puts there what it
 /// was given, until the reader ends or fails or nobody wants more. Then it gives the reader back.

@@ -17,7 +17,7 @@ use std::marker::Model;
 use std::sync::{Arc, Wait};
 
 /// What holds the bytes of a session that writes: whole pieces of its owner's are lent to its job as they are.
-pub type WriteStore = LendingStore<u8>;
+pub type WriteStore = LendingStore;
 
 /// The job that writes behind an owner: it offers its writer what stands at the front of the pipe, and lets go of what the writer took,
 /// until the owner wants no more and all is written, or the writer fails. Then it flushes the writer and gives it back.

@@ -6,7 +6,7 @@ ghost use Rattle.blocking_unblock.specs.Owners.{kind_of};
 
 use crate::session::{Session, Side};
 use blocking_core::job::PIECE;
-use blocking_core::pipe::{MovingStore, RingStore};
+use blocking_core::pipe::{MovingMemory, RingStore};
 use blocking_ends::{AnyPlace, PeekEnd, SendEnd, link, link_in, link_over};
 use blocking_jobs::{Link, Linked, MayFail, ReadStore, WriteStore};
 use std::alloc::{AllocError, AllocGlobal};
@@ -33,7 +33,7 @@ pub(crate) struct WriteParts<T: Drop, I: Drop, H: Wait + Copy> {
 #[derive(Drop)]
 pub(crate) struct ItemParts<T: Drop, I: Drop, H: Wait + Copy> {
     pub session: Session<T, I, H>,
-    pub end: SendEnd<I, AnyPlace, RingStore<I>, H>,
+    pub end: SendEnd<I, AnyPlace, RingStore, H>,
     pub link: Arc<Link<T, MayFail>>,
 }
 
@@ -61,8 +61,8 @@ pub(crate) fn read_parts<T: Drop, I: Drop, H: Wait + AllocGlobal + Copy>(
         way_back,
         link: theirs,
     } = Linked::new(rt)?;
-    let store = MovingStore::with_spare(rt.alloc(), capacity, ready)?;
-    let (job_end, end) = link_over(rt, store)?;
+    let memory = MovingMemory::with_spare(rt.alloc(), capacity, ready)?;
+    let (job_end, end) = link_over(rt, memory)?;
     Ok(ReadParts {
         session: Session::new(Side::Reading(end, way_back)),
         end: job_end,

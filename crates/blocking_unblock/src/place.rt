@@ -1,6 +1,6 @@
 //! Where a handle is.
 ghost use Rattle.std.specs.Prelude.{◌≡◌};
-ghost use Rattle.blocking_unblock.specs.Owners.{state_of};
+ghost use Rattle.blocking_unblock.specs.Owners.{state_of, handle_in};
 
 use crate::session::Session;
 use blocking_core::unblock::State;
@@ -25,6 +25,27 @@ impl<T: Drop, I: Drop, H: Wait + Copy> Place<T, I, H> {
             Place::Idle(_) => State::Idle,
             Place::Lent(session) => State::Lent(session.kind(), session.owner_end()),
             Place::Closed => State::Closed,
+        }
+    }
+
+    /// Sets the mark of the session, if there is one: its owner is gone.
+    pub(crate) fn mark(&self) {
+        if let Place::Lent(session) = self {
+            session.mark();
+        }
+    }
+
+    /// The handle, where it is with its owner. A session that is under way is marked.
+    pub(crate) fn into_handle(self) -> Option<T>
+        ensures { result ≡ handle_in self }
+    {
+        match self {
+            Place::Idle(handle) => Some(handle),
+            Place::Lent(session) => {
+                session.mark();
+                None
+            }
+            Place::Closed => None,
         }
     }
 }

@@ -23,7 +23,7 @@ use std::sync::Wait;
 pub(crate) enum Side<T: Drop, I: Drop, H: Wait + Copy> {
     Reading(RecvEnd<u8, AnyPlace, ReadStore, H>, WayBack<T, MayFail, H>),
     Writing(FillEnd<u8, AnyPlace, WriteStore, H>, WayBack<T, MayFail, H>),
-    Streaming(RecvEnd<I, AnyPlace, RingStore<I>, H>, WayBack<T, MayFail, H>),
+    Streaming(RecvEnd<I, AnyPlace, RingStore, H>, WayBack<T, MayFail, H>),
     Seeking(Position, WayBack<T, Sought, H>),
     Operating(WayBack<T, MayFail, H>),
 }
@@ -124,6 +124,17 @@ impl<T: Drop, I: Drop, H: Wait + Copy> Session<T, I, H> {
         ensures { result ≡ self.now.owner_end }
     {
         self.owner_end
+    }
+
+    /// Sets the mark of the session: its owner is gone.
+    pub(crate) fn mark(&self) {
+        match &self.side {
+            Side::Reading(_, way_back)
+            | Side::Writing(_, way_back)
+            | Side::Streaming(_, way_back)
+            | Side::Operating(way_back) => way_back.mark(),
+            Side::Seeking(_, way_back) => way_back.mark(),
+        }
     }
 
     /// Closes the owner's end of the pipe. Answers the note of a job that waits, which has to be spent.

@@ -15,11 +15,18 @@ use futures::task::{Context, Poll};
 #[derive(Drop)]
 pub struct IntoInner<T: Drop, I: Drop, J: Job, H: Runtime> {
     // The owner, until the handle was taken.
-    pub(crate) owner: Option<Unblock<T, I, J, H>>,
+    owner: Option<Unblock<T, I, J, H>>,
     ghost open: { ForSome owner (λ owner. IsClosed owner.place → ⊥) },
 }
 
 impl<T: Drop, I: Drop, J: Job, H: Runtime> IntoInner<T, I, J, H> {
+    pub(crate) fn new(owner: Unblock<T, I, J, H>) -> IntoInner<T, I, J, H>
+        requires { IsClosed owner.place → ⊥ }
+        ensures { result.owner ≡ Some owner }
+    {
+        IntoInner { owner: Some(owner) }
+    }
+
     /// Whether the handle was taken. It may be polled as long as it wasn't.
     pub fn is_taken(&self) -> bool
         ensures { (result ≡ true) ↔ IsNone self.now.owner }
@@ -58,7 +65,7 @@ impl<T: Drop, I: Drop, J: Job, H: Runtime> Future for IntoInner<T, I, J, H> {
                 self.owner = Some(owner);
                 Poll::Pending
             }
-            Poll::Ready(_) => match owner.take_handle() {
+            Poll::Ready(_) => match owner.into_handle() {
                 Some(handle) => Poll::Ready(handle),
                 None => unreachable!(),
             },

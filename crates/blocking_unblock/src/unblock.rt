@@ -26,13 +26,12 @@ use std::{fmt, io, mem};
 
 /// The owner of a blocking handle, which it lends to jobs on a pool: polls then use the handle without waiting for it.
 ///
-/// Dropping it waits for no job, and sets the mark of a session that is under way. A handle that is with its owner, or that its job gave back already, is dropped here, by this thread; else
+/// Dropping it waits for no job. A handle that is with its owner, or that its job gave back already, is dropped here, by this thread; else
 /// a worker drops it with the session's job, once that waits or is taken. A job that runs goes on until then.
 ///
 /// A handle is moved as it is, with its owner and with its job, so one that holds a buffer of its own is best lent in a `Box`.
 ///
 /// `I` is the type of the items of a handle that is an iterator; any type will do for another.
-#[derive(Drop)]
 pub struct Unblock<T: Drop, I: Drop, J: Job, H: Runtime> {
     place: Place<T, I, H>,
     capacity: Capacity,
@@ -87,18 +86,17 @@ impl<T: Drop, I: Drop, J: Job, H: Runtime> Unblock<T, I, J, H> {
     ghost use Rattle.blocking_unblock.specs.Owners.{handle_in, IsClosed};
     ghost use Rattle.blocking_unblock.specs.Lenders.{is_over, given_in};
 
-    /// Takes the handle out, where it is with its owner. Then the owner is closed.
-    pub(crate) fn take_handle(&mut self) -> Option<T>
-        ensures { result ≡ handle_in self.old.place }
+    /// The handle, where it is with its owner.
+    pub(crate) fn into_handle(self) -> Option<T>
+        ensures { result ≡ handle_in self.place }
     {
-        match mem::replace(&mut self.place, Place::Closed) {
-            Place::Idle(handle) => Some(handle),
-            Place::Lent(session) => {
-                self.place = Place::Lent(session);
-                None
-            }
-            Place::Closed => None,
-        }
+        let Unblock {
+            place,
+            capacity: _,
+            executor: _,
+            items: _,
+        } = self;
+        place.into_handle()
     }
 
     /// A future of the handle, for good. A session that is under way is stopped first: what was read ahead is lost, what is to be written
@@ -107,7 +105,7 @@ impl<T: Drop, I: Drop, J: Job, H: Runtime> Unblock<T, I, J, H> {
         requires { IsClosed self.place → ⊥ }
         ensures { result.owner ≡ Some self }
     {
-        IntoInner { owner: Some(self) }
+        IntoInner::new(self)
     }
 
     /// A future of what an operation on the handle gives, which a job makes. A session that is under way is stopped first, as for the handle
@@ -126,6 +124,19 @@ impl<T: Drop, I: Drop, J: Job, H: Runtime> Unblock<T, I, J, H> {
         ensures given { given_in result.operation.stage ≡ Some operation }
     {
         WithMut::new(self, operation)
+    }
+}
+
+impl<T: Drop, I: Drop, J: Job, H: Runtime> Drop for Unblock<T, I, J, H> {
+    fn drop(self) {
+        let Unblock {
+            place,
+            capacity: _,
+            executor: _,
+            items: _,
+        } = self;
+        // (nobody waits for the job: a worker drops it, and the handle with it, unless that was given back)
+        place.mark();
     }
 }
 

@@ -26,7 +26,7 @@ impl PlaceRule<u64> for Counting {
 // Sends the numbers, one a step. A number of another place, or an end before the tenth, would be a compile error here.
 #[derive(Drop)]
 struct Counter<H: Runtime> {
-    end: SendEnd<u64, Counting, RingStore<u64>, H>,
+    end: SendEnd<u64, Counting, RingStore, H>,
 }
 
 impl<H: Runtime> Job for Counter<H> {
@@ -58,7 +58,7 @@ impl<H: Runtime> Job for Counter<H> {
 struct Counted<J: Job, H: Runtime> {
     rt: H,
     executor: Executor<J, H>,
-    end: RecvEnd<u64, Counting, RingStore<u64>, H>,
+    end: RecvEnd<u64, Counting, RingStore, H>,
 }
 
 impl<J: Job, H: Runtime> Future for Counted<J, H> {

@@ -18,7 +18,7 @@ const PIECE: usize = 65_536;
 // Peeks and consumes to the end, and tells how many bytes there were, of which each piece's first and last were right.
 #[derive(Drop)]
 struct Taker<H: Runtime> {
-    end: PeekEnd<u8, AnyPlace, LendingStore<u8>, H>,
+    end: PeekEnd<u8, AnyPlace, LendingStore, H>,
     told: Option<oneshot::Sender<u64>>,
 }
 
@@ -59,7 +59,7 @@ impl<H: Runtime> Job for Taker<H> {
 struct Filling<'a, J: Job, H: Runtime> {
     rt: H,
     executor: &'a Executor<J, H>,
-    end: FillEnd<u8, AnyPlace, LendingStore<u8>, H>,
+    end: FillEnd<u8, AnyPlace, LendingStore, H>,
     rest: &'a [u8],
 }
 

@@ -2,7 +2,9 @@
 use crate::figures::{Figures, Request, each};
 use crate::pipe::failed;
 use blocking::{AnyPlace, Executor, Host, RecvEnd, Runtime, SendEnd, link_over};
-use blocking_core::pipe::{DEFAULT_ITEMS, Drained, MovingStore, Put, RingStore, Room};
+use blocking_core::pipe::{
+    DEFAULT_ITEMS, Drained, MovingMemory, MovingStore, Put, RingStore, Room,
+};
 use blocking_core::pool::{Job, JobNo, JobStep};
 use futures::Future;
 use futures::executor::block_on;
@@ -15,7 +17,7 @@ use std::time::Instant;
 const BATCH: usize = 256;
 
 // What holds the numbers: whole batches move in.
-type Batches = MovingStore<u64, RingStore<u64>>;
+type Batches = MovingStore<RingStore>;
 
 // Puts the numbers below its size, and closes.
 #[derive(Drop)]
@@ -118,8 +120,8 @@ impl<'a, J: Job, H: Runtime> Future for Counted<'a, J, H> {
 fn cross<R: Host>(host: R, executor: &Executor<Counter<R>, R>, size: u64) -> io::Result<()> {
     let batch = vec![in host.alloc(); 0; BATCH]?;
     let spare = vec![in host.alloc(); 0; BATCH]?;
-    let store = Batches::with_spare(host.alloc(), DEFAULT_ITEMS, spare)?;
-    let (theirs, end) = link_over(host, store)?;
+    let memory = MovingMemory::with_spare(host.alloc(), DEFAULT_ITEMS, spare)?;
+    let (theirs, end) = link_over(host, memory)?;
     let counter = Counter {
         end: theirs,
         batch,

@@ -9,8 +9,11 @@ use crate::pipe::store::{CopyStore, Store};
 use std::alloc::{AllocError, Global};
 
 /// A ring of bytes in one block of memory, used through copies of whole slices.
+pub struct FlatStore;
+
+/// The memory of a ring of bytes.
 #[derive(Drop)]
-pub struct FlatStore {
+pub struct FlatMemory {
     // Its memory is all there from the start, but is only written as bytes come, so that what was never used is never touched.
     bytes: Vec<u8>,
     capacity: usize,
@@ -43,7 +46,7 @@ fn write_at(bytes: &mut Vec<u8>, place: usize, items: &[u8])
     bytes[place..place + items.len()].copy_from_slice(items);
 }
 
-impl FlatStore {
+impl FlatMemory {
     /// Where the first byte stands: a place of the memory, below its capacity.
     pub fn head(&self) -> usize
         ensures { result ≡ self.now.head }
@@ -92,11 +95,13 @@ impl FlatStore {
 }
 
 impl Store<u8> for FlatStore {
-    ghost held = { λ store. record { items = window store.head store.len store.bytes.items; capacity = store.capacity } };
+    type Memory = FlatMemory;
 
-    fn new(alloc: Global, capacity: usize) -> Result<FlatStore, AllocError> {
+    ghost held = { λ memory. record { items = window memory.head memory.len memory.bytes.items; capacity = memory.capacity } };
+
+    fn new(alloc: Global, capacity: usize) -> Result<FlatMemory, AllocError> {
         let bytes = Vec::with_capacity(alloc, capacity)?;
-        Ok(FlatStore {
+        Ok(FlatMemory {
             bytes,
             capacity,
             head: 0,
@@ -104,52 +109,52 @@ impl Store<u8> for FlatStore {
         })
     }
 
-    fn len(&self) -> usize {
-        self.len
+    fn len(memory: &FlatMemory) -> usize {
+        memory.len
     }
 
-    fn room(&self) -> usize {
-        self.capacity - self.len
+    fn room(memory: &FlatMemory) -> usize {
+        memory.capacity - memory.len
     }
 
-    fn push(&mut self, item: u8) {
-        self.put_part(&[item]);
+    fn push(memory: &mut FlatMemory, item: u8) {
+        memory.put_part(&[item]);
     }
 
-    fn pop(&mut self) -> Option<u8> {
-        if self.len == 0 {
+    fn pop(memory: &mut FlatMemory) -> Option<u8> {
+        if memory.len == 0 {
             return None;
         }
-        let item = self.bytes[self.head];
-        self.drop_front(1);
+        let item = memory.bytes[memory.head];
+        <Self as Store<u8>>::drop_front(memory, 1);
         Some(item)
     }
 
-    fn drop_front(&mut self, count: usize) {
-        self.head = self.place_after(count);
-        self.len -= count;
+    fn drop_front(memory: &mut FlatMemory, count: usize) {
+        memory.head = memory.place_after(count);
+        memory.len -= count;
     }
 }
 
 impl CopyStore<u8> for FlatStore {
-    fn get(&self, place: usize) -> u8 {
-        self.bytes[self.place_after(place)]
+    fn get(memory: &FlatMemory, place: usize) -> u8 {
+        memory.bytes[memory.place_after(place)]
     }
 
-    fn put_all(&mut self, items: &[u8]) {
-        let end = self.place_after(self.len);
-        let first = items.len().min(self.capacity - end);
-        self.put_part(&items[..first]);
-        self.put_part(&items[first..]);
+    fn put_all(memory: &mut FlatMemory, items: &[u8]) {
+        let end = memory.place_after(memory.len);
+        let first = items.len().min(memory.capacity - end);
+        memory.put_part(&items[..first]);
+        memory.put_part(&items[first..]);
     }
 
-    fn copy_front(&self, out: &mut [u8]) -> usize {
-        let (front, back) = self.as_slices();
+    fn copy_front(memory: &FlatMemory, out: &mut [u8]) -> usize {
+        let (front, back) = memory.as_slices();
         copy_slices(front, back, out)
     }
 
-    fn append_front(&self, count: usize, piece: &mut Vec<u8>) {
-        let (front, back) = self.as_slices();
+    fn append_front(memory: &FlatMemory, count: usize, piece: &mut Vec<u8>) {
+        let (front, back) = memory.as_slices();
         append_slices(front, back, count, piece);
     }
 }

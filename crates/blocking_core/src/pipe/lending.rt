@@ -11,8 +11,11 @@ use std::mem;
 /// A store of pieces, so many items each. A whole piece comes in as it is where those inside are whole too, and memory for the next is given for
 /// it. The first piece goes out as it is where nothing of it is gone and a whole one is asked for, and that which is handed in for it is kept as
 /// memory. All else is copied.
+pub struct LendingStore;
+
+/// The memory of such a store: pieces, those inside and those that are spent.
 #[derive(Drop)]
-pub struct LendingStore<X: Drop> {
+pub struct LendingMemory<X: Drop> {
     // What is inside, in pieces: all but the last are full.
     pieces: HeapCircularBuffer<Vec<X>>,
     // Memory for pieces.
@@ -75,7 +78,7 @@ fn take_last<X: Drop>(
     last
 }
 
-impl<X: Copy> LendingStore<X> {
+impl<X: Copy> LendingMemory<X> {
     ghost use Rattle.blocking_core.specs.Stores.{empty_store, free, with_more, without_first};
 
     /// A store of nothing, for at most `capacity` items, whose pieces have `piece` items each. All its memory is taken here, for the capacity
@@ -83,7 +86,7 @@ impl<X: Copy> LendingStore<X> {
     pub fn with_piece(alloc: Global, capacity: usize, piece: usize) -> Result<Self, AllocError>
         requires some { 0 < capacity }
         requires piece { 0 < piece }
-        ensures { IfOk result (λ store. ⟦<Self as Store<X>>⟧.held store ≡ empty_store capacity) }
+        ensures { IfOk result (λ memory. ⟦<LendingStore as Store<X>>⟧.held memory ≡ empty_store capacity) }
     {
         // (more than can be counted is more than there is)
         let Some(most) = capacity.checked_add(piece) else {
@@ -91,7 +94,7 @@ impl<X: Copy> LendingStore<X> {
         };
         let count = most.div_ceil(piece);
         let pieces = HeapCircularBuffer::with_capacity(alloc, count)?;
-        Ok(LendingStore {
+        Ok(LendingMemory {
             pieces,
             spent: spent_pieces(alloc, count, piece)?,
             piece,
@@ -103,8 +106,8 @@ impl<X: Copy> LendingStore<X> {
 
     // The item at a place.
     fn at(&self, place: usize) -> X
-        requires { let stored = ⟦<Self as Store<X>>⟧.held self.now in place < length stored.items }
-        ensures { let stored = ⟦<Self as Store<X>>⟧.held self.now in slice_get stored.items place ≡ Some result }
+        requires { let stored = ⟦<LendingStore as Store<X>>⟧.held self.now in place < length stored.items }
+        ensures { let stored = ⟦<LendingStore as Store<X>>⟧.held self.now in slice_get stored.items place ≡ Some result }
     {
         let at = self.gone + place;
         let Some(piece) = self.pieces.get(at / self.piece) else {
@@ -117,10 +120,10 @@ impl<X: Copy> LendingStore<X> {
     // one at least.
     fn append(&mut self, items: &[X]) -> usize
         requires some { 0 < length items.now }
-        requires room { length items.now ≤ free (⟦<Self as Store<X>>⟧.held self.old) }
+        requires room { length items.now ≤ free (⟦<LendingStore as Store<X>>⟧.held self.old) }
         ensures some { 0 < result }
         ensures within { result ≤ length items.now }
-        ensures items { ⟦<Self as Store<X>>⟧.held self.new ≡ with_more (take result items.now) (⟦<Self as Store<X>>⟧.held self.old) }
+        ensures items { ⟦<LendingStore as Store<X>>⟧.held self.new ≡ with_more (take result items.now) (⟦<LendingStore as Store<X>>⟧.held self.old) }
     {
         let total = self.gone + self.len;
         let mut last = take_last(&mut self.pieces, &mut self.spent, self.piece, total);
@@ -138,10 +141,10 @@ impl<X: Copy> LendingStore<X> {
     // Drops the first items, `most` of them at most, as many as are left of the first piece, and tells how many they were: one at least.
     fn pass(&mut self, most: usize) -> usize
         requires some { 0 < most }
-        requires inside { let stored = ⟦<Self as Store<X>>⟧.held self.old in most ≤ length stored.items }
+        requires inside { let stored = ⟦<LendingStore as Store<X>>⟧.held self.old in most ≤ length stored.items }
         ensures some { 0 < result }
         ensures within { result ≤ most }
-        ensures rest { ⟦<Self as Store<X>>⟧.held self.new ≡ without_first result (⟦<Self as Store<X>>⟧.held self.old) }
+        ensures rest { ⟦<LendingStore as Store<X>>⟧.held self.new ≡ without_first result (⟦<LendingStore as Store<X>>⟧.held self.old) }
     {
         let left = self.len.min(self.piece - self.gone);
         if most < left {
@@ -160,12 +163,12 @@ impl<X: Copy> LendingStore<X> {
 
     // Gives the first piece, of which nothing is gone, for that which is handed in, and tells how many items it has.
     fn give_first(&mut self, piece: &mut Vec<X>) -> usize
-        requires some { let stored = ⟦<Self as Store<X>>⟧.held self.old in 0 < length stored.items }
+        requires some { let stored = ⟦<LendingStore as Store<X>>⟧.held self.old in 0 < length stored.items }
         requires whole { self.old.gone ≡ 0 }
         requires room { self.old.piece ≤ vec_capacity piece.old }
-        ensures count { let stored = ⟦<Self as Store<X>>⟧.held self.old in result ≡ min self.old.piece (length stored.items) }
-        ensures piece { let stored = ⟦<Self as Store<X>>⟧.held self.old in piece.new.items ≡ take result stored.items }
-        ensures rest { ⟦<Self as Store<X>>⟧.held self.new ≡ without_first result (⟦<Self as Store<X>>⟧.held self.old) }
+        ensures count { let stored = ⟦<LendingStore as Store<X>>⟧.held self.old in result ≡ min self.old.piece (length stored.items) }
+        ensures piece { let stored = ⟦<LendingStore as Store<X>>⟧.held self.old in piece.new.items ≡ take result stored.items }
+        ensures rest { ⟦<LendingStore as Store<X>>⟧.held self.new ≡ without_first result (⟦<LendingStore as Store<X>>⟧.held self.old) }
         ensures room { self.old.piece ≤ vec_capacity piece.new }
     {
         let Some(first) = self.pieces.pop_front() else {
@@ -178,89 +181,91 @@ impl<X: Copy> LendingStore<X> {
     }
 }
 
-impl<X: Copy> Store<X> for LendingStore<X> {
-    ghost held = { λ store. record { items = drop store.gone (flat_map vec_items store.pieces.items); capacity = store.capacity } };
+impl<X: Copy> Store<X> for LendingStore {
+    type Memory = LendingMemory<X>;
 
-    fn new(alloc: Global, capacity: usize) -> Result<LendingStore<X>, AllocError> {
-        LendingStore::with_piece(alloc, capacity, capacity.min(PIECE))
+    ghost held = { λ memory. record { items = drop memory.gone (flat_map vec_items memory.pieces.items); capacity = memory.capacity } };
+
+    fn new(alloc: Global, capacity: usize) -> Result<LendingMemory<X>, AllocError> {
+        LendingMemory::with_piece(alloc, capacity, capacity.min(PIECE))
     }
 
-    fn len(&self) -> usize {
-        self.len
+    fn len(memory: &LendingMemory<X>) -> usize {
+        memory.len
     }
 
-    fn room(&self) -> usize {
-        self.capacity - self.len
+    fn room(memory: &LendingMemory<X>) -> usize {
+        memory.capacity - memory.len
     }
 
-    fn piece(&self) -> usize {
-        self.piece
+    fn piece(memory: &LendingMemory<X>) -> usize {
+        memory.piece
     }
 
-    fn push(&mut self, item: X) {
-        let total = self.gone + self.len;
-        let mut last = take_last(&mut self.pieces, &mut self.spent, self.piece, total);
+    fn push(memory: &mut LendingMemory<X>, item: X) {
+        let total = memory.gone + memory.len;
+        let mut last = take_last(&mut memory.pieces, &mut memory.spent, memory.piece, total);
         last.push_reserved(item);
-        let Ok(()) = self.pieces.try_push_back(last) else {
+        let Ok(()) = memory.pieces.try_push_back(last) else {
             unreachable!()
         };
-        self.len += 1;
+        memory.len += 1;
     }
 
-    fn pop(&mut self) -> Option<X> {
-        if self.len == 0 {
+    fn pop(memory: &mut LendingMemory<X>) -> Option<X> {
+        if memory.len == 0 {
             return None;
         }
-        let item = self.at(0);
-        let _one = self.pass(1);
+        let item = memory.at(0);
+        let _one = memory.pass(1);
         Some(item)
     }
 
-    fn drop_front(&mut self, count: usize) {
+    fn drop_front(memory: &mut LendingMemory<X>, count: usize) {
         let mut left = count;
         while left > 0 {
-            left -= self.pass(left);
+            left -= memory.pass(left);
         }
     }
 }
 
-impl<X: Copy> CopyStore<X> for LendingStore<X> {
-    fn get(&self, place: usize) -> X {
-        self.at(place)
+impl<X: Copy> CopyStore<X> for LendingStore {
+    fn get(memory: &LendingMemory<X>, place: usize) -> X {
+        memory.at(place)
     }
 
-    fn put_all(&mut self, items: &[X]) {
+    fn put_all(memory: &mut LendingMemory<X>, items: &[X]) {
         let mut start = 0;
         while start < items.len() {
-            start += self.append(&items[start..]);
+            start += memory.append(&items[start..]);
         }
     }
 
-    fn take_ready(&mut self, ready: &mut Vec<X>) -> bool {
+    fn take_ready(memory: &mut LendingMemory<X>, ready: &mut Vec<X>) -> bool {
         // (a piece comes behind whole ones only, since places are counted by pieces)
-        if ready.len() != self.piece || (self.gone + self.len) % self.piece > 0 {
+        if ready.len() != memory.piece || (memory.gone + memory.len) % memory.piece > 0 {
             return false;
         }
-        let Some(mut next) = self.spent.pop() else {
+        let Some(mut next) = memory.spent.pop() else {
             unreachable!()
         };
         next.clear();
-        let Ok(()) = self.pieces.try_push_back(mem::replace(ready, next)) else {
+        let Ok(()) = memory.pieces.try_push_back(mem::replace(ready, next)) else {
             unreachable!()
         };
-        self.len += self.piece;
+        memory.len += memory.piece;
         true
     }
 
-    fn give_piece(&mut self, most: usize, piece: &mut Vec<X>) -> usize {
+    fn give_piece(memory: &mut LendingMemory<X>, most: usize, piece: &mut Vec<X>) -> usize {
         // (the first piece is what is asked for: all others are behind a whole one)
-        if self.gone == 0 && most == self.piece && self.len > 0 {
-            return self.give_first(piece);
+        if memory.gone == 0 && most == memory.piece && memory.len > 0 {
+            return memory.give_first(piece);
         }
-        let count = most.min(self.len);
+        let count = most.min(memory.len);
         piece.clear();
-        self.append_front(count, piece);
-        self.drop_front(count);
+        Self::append_front(memory, count, piece);
+        Self::drop_front(memory, count);
         count
     }
 }

@@ -105,81 +105,86 @@ impl<X: Copy> Front<X> {
 ///
 /// It is made for bytes that are put by pieces and drained. An item that is taken out of a piece by itself, or dropped there, moves those
 /// behind it up, and no later piece moves in then. One that [`Store::new`] made has no piece to give, and copies all: see
-/// [`MovingStore::with_spare`].
+/// [`MovingMemory::with_spare`].
+pub struct MovingStore<S> {
+    behind: PhantomData<S>,
+}
+
+/// The memory of such a store: what is left of the piece that moved in last, and what stands behind it.
 #[derive(Drop)]
-pub struct MovingStore<X: Drop, S: Store<X>> {
+pub struct MovingMemory<X: Drop, S: Store<X>> {
     front: Front<X>,
-    behind: S,
-    item: PhantomData<X>,
+    behind: S::Memory,
     ghost within: { let behind = S.held behind in length front + length behind.items ≤ behind.capacity },
 }
 
-impl<X: Drop, S: Store<X>> MovingStore<X, S> {
+impl<X: Drop, S: Store<X>> MovingMemory<X, S> {
     ghost use Rattle.blocking_core.specs.Stores.{empty_store};
 
     /// A store of nothing, for at most `capacity` items, with the memory that the first piece is exchanged for, if it is as long. All else of
     /// its memory is taken here, and where there isn't so much the answer is an [`AllocError`], and the memory that was given is dropped.
     pub fn with_spare(alloc: Global, capacity: usize, spare: Vec<X>) -> Result<Self, AllocError>
         requires { 0 < capacity }
-        ensures { IfOk result (λ store. ⟦<Self as Store<X>>⟧.held store ≡ empty_store capacity) }
+        ensures { IfOk result (λ store. ⟦<MovingStore<S> as Store<X>>⟧.held store ≡ empty_store capacity) }
     {
-        Ok(MovingStore {
+        Ok(MovingMemory {
             front: Front::new(spare),
             behind: S::new(alloc, capacity)?,
-            item: PhantomData,
         })
     }
 }
 
-impl<X: Drop, S: Store<X>> Store<X> for MovingStore<X, S> {
-    ghost held = { λ store. record (S.held store.behind) { items = store.front ++ (S.held store.behind).items } };
+impl<X: Drop, S: Store<X>> Store<X> for MovingStore<S> {
+    type Memory = MovingMemory<X, S>;
 
-    fn new(alloc: Global, capacity: usize) -> Result<MovingStore<X, S>, AllocError> {
-        MovingStore::with_spare(alloc, capacity, Vec::new(alloc))
+    ghost held = { λ memory. record (S.held memory.behind) { items = memory.front ++ (S.held memory.behind).items } };
+
+    fn new(alloc: Global, capacity: usize) -> Result<MovingMemory<X, S>, AllocError> {
+        MovingMemory::with_spare(alloc, capacity, Vec::new(alloc))
     }
 
-    fn len(&self) -> usize {
-        self.front.len() + self.behind.len()
+    fn len(memory: &MovingMemory<X, S>) -> usize {
+        memory.front.len() + S::len(&memory.behind)
     }
 
-    fn room(&self) -> usize {
-        self.behind.room() - self.front.len()
+    fn room(memory: &MovingMemory<X, S>) -> usize {
+        S::room(&memory.behind) - memory.front.len()
     }
 
-    fn push(&mut self, item: X) {
-        self.behind.push(item);
+    fn push(memory: &mut MovingMemory<X, S>, item: X) {
+        S::push(&mut memory.behind, item);
     }
 
-    fn pop(&mut self) -> Option<X> {
-        match self.front.pop() {
+    fn pop(memory: &mut MovingMemory<X, S>) -> Option<X> {
+        match memory.front.pop() {
             Some(item) => Some(item),
-            None => self.behind.pop(),
+            None => S::pop(&mut memory.behind),
         }
     }
 }
 
-impl<X: Copy, S: CopyStore<X>> CopyStore<X> for MovingStore<X, S> {
-    fn get(&self, place: usize) -> X {
-        let left = self.front.len();
+impl<X: Copy, S: CopyStore<X>> CopyStore<X> for MovingStore<S> {
+    fn get(memory: &MovingMemory<X, S>, place: usize) -> X {
+        let left = memory.front.len();
         if place < left {
-            self.front.get(place)
+            memory.front.get(place)
         } else {
-            self.behind.get(place - left)
+            S::get(&memory.behind, place - left)
         }
     }
 
-    fn put_all(&mut self, items: &[X]) {
-        self.behind.put_all(items);
+    fn put_all(memory: &mut MovingMemory<X, S>, items: &[X]) {
+        S::put_all(&mut memory.behind, items);
     }
 
-    fn take_piece(&mut self, piece: &mut Vec<X>, count: usize) {
-        if self.behind.len() > 0 || !self.front.exchange(piece, count) {
-            self.behind.put_all(&piece[..count]);
+    fn take_piece(memory: &mut MovingMemory<X, S>, piece: &mut Vec<X>, count: usize) {
+        if S::len(&memory.behind) > 0 || !memory.front.exchange(piece, count) {
+            S::put_all(&mut memory.behind, &piece[..count]);
         }
     }
 
-    fn read_front(&mut self, out: &mut [X]) -> usize {
-        let first = self.front.move_into(out);
-        first + self.behind.read_front(&mut out[first..])
+    fn read_front(memory: &mut MovingMemory<X, S>, out: &mut [X]) -> usize {
+        let first = memory.front.move_into(out);
+        first + S::read_front(&mut memory.behind, &mut out[first..])
     }
 }

@@ -6,41 +6,46 @@ use circular_buffer::HeapCircularBuffer;
 use std::alloc::{AllocError, Global};
 
 /// A ring of items of any type, in one block of memory.
+pub struct RingStore;
+
+/// The memory of a ring.
 #[derive(Drop)]
-pub struct RingStore<X: Drop> {
+pub struct RingMemory<X: Drop> {
     ring: HeapCircularBuffer<X>,
     ghost within: { length ring.items ≤ ring.capacity },
 }
 
-impl<X: Drop> Store<X> for RingStore<X> {
-    ghost held = { λ store. record { items = store.ring.items; capacity = store.ring.capacity } };
+impl<X: Drop> Store<X> for RingStore {
+    type Memory = RingMemory<X>;
 
-    fn new(alloc: Global, capacity: usize) -> Result<RingStore<X>, AllocError> {
+    ghost held = { λ memory. record { items = memory.ring.items; capacity = memory.ring.capacity } };
+
+    fn new(alloc: Global, capacity: usize) -> Result<RingMemory<X>, AllocError> {
         let ring = HeapCircularBuffer::with_capacity(alloc, capacity)?;
-        Ok(RingStore { ring })
+        Ok(RingMemory { ring })
     }
 
-    fn len(&self) -> usize {
-        self.ring.len()
+    fn len(memory: &RingMemory<X>) -> usize {
+        memory.ring.len()
     }
 
-    fn room(&self) -> usize {
-        self.ring.capacity() - self.ring.len()
+    fn room(memory: &RingMemory<X>) -> usize {
+        memory.ring.capacity() - memory.ring.len()
     }
 
-    fn push(&mut self, item: X) {
-        let Ok(()) = self.ring.try_push_back(item) else {
+    fn push(memory: &mut RingMemory<X>, item: X) {
+        let Ok(()) = memory.ring.try_push_back(item) else {
             unreachable!()
         };
     }
 
-    fn pop(&mut self) -> Option<X> {
-        self.ring.pop_front()
+    fn pop(memory: &mut RingMemory<X>) -> Option<X> {
+        memory.ring.pop_front()
     }
 
-    fn drop_front(&mut self, count: usize) {
-        let rest = self.ring.len() - count;
-        self.ring.truncate_front(rest);
+    fn drop_front(memory: &mut RingMemory<X>, count: usize) {
+        let rest = memory.ring.len() - count;
+        memory.ring.truncate_front(rest);
     }
 }
 
@@ -74,25 +79,25 @@ pub(super) fn append_slices<X: Copy>(front: &[X], back: &[X], count: usize, piec
     };
 }
 
-impl<X: Copy> CopyStore<X> for RingStore<X> {
-    fn get(&self, place: usize) -> X {
-        let Some(item) = self.ring.get(place) else {
+impl<X: Copy> CopyStore<X> for RingStore {
+    fn get(memory: &RingMemory<X>, place: usize) -> X {
+        let Some(item) = memory.ring.get(place) else {
             unreachable!()
         };
         *item
     }
 
-    fn put_all(&mut self, items: &[X]) {
-        let _count = self.ring.fill_from_slice(items);
+    fn put_all(memory: &mut RingMemory<X>, items: &[X]) {
+        let _count = memory.ring.fill_from_slice(items);
     }
 
-    fn copy_front(&self, out: &mut [X]) -> usize {
-        let (front, back) = self.ring.as_slices();
+    fn copy_front(memory: &RingMemory<X>, out: &mut [X]) -> usize {
+        let (front, back) = memory.ring.as_slices();
         copy_slices(front, back, out)
     }
 
-    fn append_front(&self, count: usize, piece: &mut Vec<X>) {
-        let (front, back) = self.ring.as_slices();
+    fn append_front(memory: &RingMemory<X>, count: usize, piece: &mut Vec<X>) {
+        let (front, back) = memory.ring.as_slices();
         append_slices(front, back, count, piece);
     }
 }

@@ -146,10 +146,10 @@ pub(crate) struct Bench<S: CopyStore<u8>> {
 
 /// Plays rows over each store, each from its beginning on, and tells where one shows something else.
 pub(super) fn play<R: AllocGlobal + Abort>(rt: &R, rows: &[Row]) {
-    play_over::<RingStore<u8>, R>(rt, rows);
+    play_over::<RingStore, R>(rt, rows);
     play_over::<FlatStore, R>(rt, rows);
-    play_over::<MovingStore<u8, FlatStore>, R>(rt, rows);
-    play_over::<LendingStore<u8>, R>(rt, rows);
+    play_over::<MovingStore<FlatStore>, R>(rt, rows);
+    play_over::<LendingStore, R>(rt, rows);
 }
 
 /// Plays rows over a store.

@@ -24,7 +24,7 @@ fn first_wrong(alloc: Global, lines: &[(Line, usize, usize)]) -> Option<usize> {
     };
     for (place, ((step, wanted), head, len)) in lines.iter().enumerate() {
         let shown = bench.take_step(*step);
-        if shown != *wanted || bench.pipe().store().head() != *head || bench.pipe().len() != *len {
+        if shown != *wanted || bench.pipe().memory().head() != *head || bench.pipe().len() != *len {
             return Some(place);
         }
     }

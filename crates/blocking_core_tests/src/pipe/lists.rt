@@ -1,7 +1,9 @@
 //! Lists of calls, drawn by a fixed seed, over each store: all show the same.
 use super::bench::{Bench, Shown, Step};
 use crate::stop::stop;
-use blocking_core::pipe::{CopyStore, FlatStore, LendingStore, MovingStore, Pipe, RingStore};
+use blocking_core::pipe::{
+    CopyStore, FlatStore, LendingMemory, LendingStore, MovingMemory, MovingStore, Pipe, RingStore,
+};
 use std::alloc::Global;
 
 // How many lists are drawn for each capacity, and how many calls each has.
@@ -95,7 +97,7 @@ fn is_like_ring<S: CopyStore<u8>>(
     capacity: usize,
     pipe: Option<Pipe<u8, u8, S>>,
 ) -> bool {
-    let (Some(mut ring), Some(pipe)) = (Bench::<RingStore<u8>>::new(alloc, capacity), pipe) else {
+    let (Some(mut ring), Some(pipe)) = (Bench::<RingStore>::new(alloc, capacity), pipe) else {
         return false;
     };
     match Bench::over(alloc, pipe) {
@@ -105,19 +107,19 @@ fn is_like_ring<S: CopyStore<u8>>(
 }
 
 // Pieces of the length of those that are put move in, and pieces of two bytes are lent.
-fn moving(alloc: Global, capacity: usize) -> Option<Pipe<u8, u8, MovingStore<u8, FlatStore>>> {
+fn moving(alloc: Global, capacity: usize) -> Option<Pipe<u8, u8, MovingStore<FlatStore>>> {
     let spare = vec![in alloc; 0u8; 7].ok()?;
     if capacity == 0 {
         return None;
     }
-    Some(Pipe::over(MovingStore::with_spare(alloc, capacity, spare).ok()?))
+    Some(Pipe::over(MovingMemory::with_spare(alloc, capacity, spare).ok()?))
 }
 
-fn lending(alloc: Global, capacity: usize) -> Option<Pipe<u8, u8, LendingStore<u8>>> {
+fn lending(alloc: Global, capacity: usize) -> Option<Pipe<u8, u8, LendingStore>> {
     if capacity == 0 {
         return None;
     }
-    Some(Pipe::over(LendingStore::with_piece(alloc, capacity, 2).ok()?))
+    Some(Pipe::over(LendingMemory::with_piece(alloc, capacity, 2).ok()?))
 }
 
 fn flat(alloc: Global, capacity: usize) -> Option<Pipe<u8, u8, FlatStore>> {

@@ -24,7 +24,7 @@ impl PlaceRule<u64> for Counting {
 // Sends all numbers, one a step.
 #[derive(Drop)]
 struct Sender<H: Runtime> {
-    end: SendEnd<u64, Counting, RingStore<u64>, H>,
+    end: SendEnd<u64, Counting, RingStore, H>,
 }
 
 impl<H: Runtime> Job for Sender<H> {
@@ -56,7 +56,7 @@ impl<H: Runtime> Job for Sender<H> {
 struct InOrder<J: Job, H: Runtime> {
     rt: H,
     executor: Executor<J, H>,
-    end: RecvEnd<u64, Counting, RingStore<u64>, H>,
+    end: RecvEnd<u64, Counting, RingStore, H>,
 }
 
 impl<J: Job, H: Runtime> Future for InOrder<J, H> {

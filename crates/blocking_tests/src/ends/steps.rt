@@ -6,8 +6,8 @@ use blocking::{
     link_in_over, link_over,
 };
 use blocking_core::pipe::{
-    CopyStore, Drained, Filled, FlatStore, LendingStore, MovingStore, Peeked, Put, Received,
-    RingStore, Room, Sending,
+    CopyStore, Drained, Filled, FlatStore, LendingMemory, LendingStore, MovingMemory, MovingStore,
+    Peeked, Put, Received, RingStore, Room, Sending,
 };
 use blocking_core::pool::{Job, JobNo, JobStep, WakeNote};
 use futures::Future;
@@ -399,8 +399,8 @@ fn first_wrong<S: CopyStore<u8>, T: CopyStore<u8>, H: Host>(
 #[test]
 fn each_call_answers_over_a_ring(rt: HostRuntime) -> Result<(), Fail> {
     for (name, steps) in ROWS {
-        let sending = link::<u8, AnyPlace, RingStore<u8>, HostRuntime>(rt, 2)?;
-        let filling = link_in::<u8, AnyPlace, RingStore<u8>, HostRuntime>(rt, 2)?;
+        let sending = link::<u8, AnyPlace, RingStore, HostRuntime>(rt, 2)?;
+        let filling = link_in::<u8, AnyPlace, RingStore, HostRuntime>(rt, 2)?;
         assert_eq!(rt; first_wrong(rt, sending, filling, steps)?, None, "{name}");
     }
     Ok(())
@@ -421,9 +421,10 @@ fn each_call_answers_over_a_flat_store(rt: HostRuntime) -> Result<(), Fail> {
 fn each_call_answers_over_pieces(rt: HostRuntime) -> Result<(), Fail> {
     for (name, steps) in ROWS {
         let spare = vec![in rt.alloc(); 0; 2]?;
-        let store: MovingStore<u8, FlatStore> = MovingStore::with_spare(rt.alloc(), 2, spare)?;
-        let sending = link_over(rt, store)?;
-        let filling = link_in_over(rt, LendingStore::with_piece(rt.alloc(), 2, 2)?)?;
+        let moving = MovingMemory::with_spare(rt.alloc(), 2, spare)?;
+        let lending = LendingMemory::with_piece(rt.alloc(), 2, 2)?;
+        let sending = link_over::<u8, AnyPlace, MovingStore<FlatStore>, HostRuntime>(rt, moving)?;
+        let filling = link_in_over::<u8, AnyPlace, LendingStore, HostRuntime>(rt, lending)?;
         assert_eq!(rt; first_wrong(rt, sending, filling, steps)?, None, "{name}");
     }
     Ok(())

@@ -4,8 +4,8 @@ use Rattle.blocking_core.proofs.pipe.lending.LendingStoreCopyStore.put_all.Goals
 
 pub loop-start-preserved : goal.loop-start-preserved
 loop-start-preserved g c =
-    let now = c.args.self.now in
-    let then = c.loop-start.self in
+    let now = c.args.memory.now in
+    let then = c.loop-start.memory in
     let said = c.append-start.ensures.items in
     record {
       within = omega arith;

@@ -4,9 +4,9 @@ use Rattle.blocking_core.proofs.pipe.lending.LendingStoreCopyStore.put_all.Given
 abbrev pub invariant-loop-start : goal.invariant-loop-start
 invariant-loop-start g l = record {
   within : l.start ≤ length l.items;
-  items : drop l.self.gone (flat_map vec_items l.self.pieces.items)
-      ≡ drop l.initial.self.gone (flat_map vec_items l.initial.self.pieces.items) ++ take l.start l.items;
-  capacity : l.self.capacity ≡ l.initial.self.capacity;
+  items : drop l.memory.gone (flat_map vec_items l.memory.pieces.items)
+      ≡ drop l.initial.memory.gone (flat_map vec_items l.initial.memory.pieces.items) ++ take l.start l.items;
+  capacity : l.memory.capacity ≡ l.initial.memory.capacity;
 }
 
 abbrev pub decreases-loop-start : goal.decreases-loop-start

@@ -4,21 +4,21 @@ use Rattle.blocking_core.proofs.pipe.lending.LendingStoreStore.push.Goals as goa
 
 pub take_last-last-requires-clause-spare : goal.take_last-last-requires-clause-spare
 take_last-last-requires-clause-spare g c =
-    let s = c.args.self.now in
+    let s = c.args.memory.now in
     spare_left vec_items s.pieces.items s.spent.items s.piece s.gone s.len s.capacity s.row s.count s.enough (omega (arith, c.requires))
 
-pub invariant_of-self-clause-row : goal.invariant_of-self-clause-row
-invariant_of-self-clause-row g c =
-    let s = c.args.self.now in
+pub invariant_of-memory-clause-row : goal.invariant_of-memory-clause-row
+invariant_of-memory-clause-row g c =
+    let s = c.args.memory.now in
     let cut = c.take_last-last.ensures.last in
     let left = cut.less in
     rw c.in-Ok.ensures.ok
     (appended vec_items s.pieces.items c.take_last-last.new.pieces.items c.take_last-last.result c.push_reserved.new.self (c.args.item ∷ []) s.piece s.gone s.len 1
     cut c.push_reserved.ensures.items refl (omega arith) (omega arith)).0
 
-pub invariant_of-self-clause-memory : goal.invariant_of-self-clause-memory
-invariant_of-self-clause-memory g c =
-    let s = c.args.self.now in
+pub invariant_of-memory-clause-memory : goal.invariant_of-memory-clause-memory
+invariant_of-memory-clause-memory g c =
+    let s = c.args.memory.now in
     let spent = c.take_last-last.new.spent in
     let before = c.take_last-last.new.pieces in
     rw c.in-Ok.ensures.ok
@@ -27,7 +27,7 @@ invariant_of-self-clause-memory g c =
 
 pub returns : goal.returns
 returns g c =
-    let s = c.args.self.now in
+    let s = c.args.memory.now in
     let cut = c.take_last-last.ensures.last in
     let left = cut.less in
     let items = ap (λ b. drop s.gone (flat_map vec_items b.items)) c.in-Ok.ensures.ok

@@ -56,8 +56,8 @@ module _ {X : Type 0} where
 
 pub returns-clause-front : goal.returns-clause-front
 returns-clause-front g c =
-    let front = c.args.self.now.front in
-    let back = (g.S.Store.held c.args.self.now.behind).items in
+    let front = c.args.memory.now.front in
+    let back = (g.S.Store.held c.args.memory.now.behind).items in
     let f = c.move_into-first in
     let b = c.read_front in
     let order = front_goes_first front back c.args.out.now f.new.out f.result b.result f.ensures.count f.ensures.out b.ensures.count in
@@ -65,10 +65,10 @@ returns-clause-front g c =
 
 pub returns-clause-rest : goal.returns-clause-rest
 returns-clause-rest g c =
-    let front = c.args.self.now.front in
-    let behind = g.S.Store.held c.args.self.now.behind in
+    let front = c.args.memory.now.front in
+    let behind = g.S.Store.held c.args.memory.now.behind in
     let f = c.move_into-first in
     let b = c.read_front in
     let order = front_goes_first front behind.items c.args.out.now f.new.out f.result b.result f.ensures.count f.ensures.out b.ensures.count in
     let left = left_of_both front behind.items f.result b.result order.0 order.1 in
-    left_behind front f.new.self behind (g.S.Store.held b.new.self) f.result b.result f.ensures.rest b.ensures.rest left
+    left_behind front f.new.self behind (g.S.Store.held b.new.memory) f.result b.result f.ensures.rest b.ensures.rest left

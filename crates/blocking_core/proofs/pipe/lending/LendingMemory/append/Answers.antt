@@ -1,7 +1,7 @@
 use Rattle.std.proofs.Common.{◌≡◌, ◌++◌, take, drop, flat_map, vec_items, vec_capacity, ap, ◌∙◌, arith}
 use Rattle.std.proofs.lemmas.List.{length-take-le}
 use Rattle.blocking_core.proofs.Lending.{spare_left, appended, memory_put}
-use Rattle.blocking_core.proofs.pipe.lending.LendingStore.append.Goals as goal
+use Rattle.blocking_core.proofs.pipe.lending.LendingMemory.append.Goals as goal
 
 pub take_last-last-requires-clause-spare : goal.take_last-last-requires-clause-spare
 take_last-last-requires-clause-spare g c =

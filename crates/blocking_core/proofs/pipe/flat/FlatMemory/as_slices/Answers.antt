@@ -1,6 +1,6 @@
 use Rattle.std.proofs.Common.{arith, refl}
 use Rattle.blocking_core.proofs.Flat.{window_parts}
-use Rattle.blocking_core.proofs.pipe.flat.FlatStore.as_slices.Goals as goal
+use Rattle.blocking_core.proofs.pipe.flat.FlatMemory.as_slices.Goals as goal
 
 pub returns : goal.returns
 returns c =

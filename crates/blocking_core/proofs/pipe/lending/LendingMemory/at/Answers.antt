@@ -2,7 +2,7 @@ use Rattle.std.proofs.Common.{◌+◌, ◌/◌, ◌%◌, vec_items, vec_len, sym
 use Rattle.std.proofs.lemmas.Option.{slice_get_read}
 use Rattle.circular_buffer.proofs.Places.{slice_get-some}
 use Rattle.blocking_core.proofs.Lending.{piece_of, place_of}
-use Rattle.blocking_core.proofs.pipe.lending.LendingStore.at.Goals as goal
+use Rattle.blocking_core.proofs.pipe.lending.LendingMemory.at.Goals as goal
 
 pub unreachable-requires : goal.unreachable-requires
 unreachable-requires g c =

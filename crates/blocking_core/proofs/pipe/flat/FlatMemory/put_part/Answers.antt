@@ -1,5 +1,5 @@
 use Rattle.blocking_core.proofs.Flat.{window_after_write}
-use Rattle.blocking_core.proofs.pipe.flat.FlatStore.put_part.Goals as goal
+use Rattle.blocking_core.proofs.pipe.flat.FlatMemory.put_part.Goals as goal
 
 pub returns-clause-items : goal.returns-clause-items
 returns-clause-items c =

@@ -1,7 +1,7 @@
 use Rattle.std.proofs.Common.{◌≡◌, length, drop, flat_map, vec_items, vec_len, vec_capacity, ap, sym, ◌∙◌, arith}
 use Rattle.std.proofs.lemmas.Option.{slice_get_within}
 use Rattle.blocking_core.proofs.Lending.{given_first, room_inside, memory_spent}
-use Rattle.blocking_core.proofs.pipe.lending.LendingStore.give_first.Goals as goal
+use Rattle.blocking_core.proofs.pipe.lending.LendingMemory.give_first.Goals as goal
 
 pub invariant_of-self-clause-row : goal.invariant_of-self-clause-row
 invariant_of-self-clause-row g c =

@@ -1,7 +1,7 @@
 use Rattle.std.proofs.Common.{vec_items, vec_capacity, sym, ◌∙◌}
 use Rattle.std.proofs.lemmas.Option.{slice_get_within}
 use Rattle.blocking_core.proofs.Lending.{passed, room_inside, memory_spent}
-use Rattle.blocking_core.proofs.pipe.lending.LendingStore.pass.Goals as goal
+use Rattle.blocking_core.proofs.pipe.lending.LendingMemory.pass.Goals as goal
 
 pub invariant_of-self-2-clause-row : goal.invariant_of-self-2-clause-row
 invariant_of-self-2-clause-row g c =
