@@ -21,21 +21,23 @@ struct Draws {
 
 impl Draws {
     // A number below `most`, which is at least 1. (by Marsaglia's xorshift)
-    fn below(&mut self, most: u64) -> u64 {
+    fn below(&mut self, most: u8) -> u8 {
         self.state ^= self.state << 13;
         self.state ^= self.state >> 7;
         self.state ^= self.state << 17;
-        self.state.checked_rem(most).unwrap_or(0)
+        let number = self.state.checked_rem(u64::from(most)).unwrap_or(0);
+        u8::try_from(number).unwrap_or(0)
     }
 
+    // How many bytes, from 1 to 4.
     fn count(&mut self) -> usize {
-        1 + self.below(4) as usize
+        usize::from(self.below(4)).saturating_add(1)
     }
 
     // A call, which brings bytes from this one on. An end is closed seldom.
     fn step(&mut self, next: u8) -> Step {
-        let job = 1 + self.below(2);
-        let waker = self.below(3) as u8;
+        let job = u64::from(self.below(2)).saturating_add(1);
+        let waker = self.below(3);
         match self.below(40) {
             0 => Step::CloseJob,
             1 => Step::CloseOwner,
@@ -56,12 +58,21 @@ impl Draws {
     }
 }
 
+// How many bytes a step of the job offers. (all or none go in)
+fn offered(step: Step) -> usize {
+    match step {
+        Step::Put(_, count) => count,
+        Step::PutPiece(_, count) => count,
+        Step::Send(_, _) => 1,
+        _ => 0,
+    }
+}
+
 // How many bytes such a step brought in, by what it shows.
-fn brought(step: Step, shown: Shown) -> u8 {
-    match (step, shown) {
-        (Step::Put(_, count) | Step::PutPiece(_, count), Shown::In(_)) => count as u8,
-        (Step::Send(_, _), Shown::In(_)) => 1,
-        (_, Shown::Took(count, _, _)) => count as u8,
+fn brought(step: Step, shown: Shown) -> usize {
+    match shown {
+        Shown::In(_) => offered(step),
+        Shown::Took(count, _, _) => count,
         _ => 0,
     }
 }
@@ -85,7 +96,7 @@ fn are_alike<A: CopyStore<u8>, B: CopyStore<u8>>(
                 return false;
             }
         }
-        next = next.wrapping_add(brought(step, shown));
+        next = next.wrapping_add(u8::try_from(brought(step, shown)).unwrap_or(0));
     }
     true
 }
@@ -139,7 +150,7 @@ fn all_are_alike(alloc: Global, seed: u64, capacity: usize) -> bool {
 fn all_stores_show_the_same(rt: HostRuntime) {
     for capacity in CAPACITIES {
         for list in 0..LISTS {
-            let seed = 0x9e37_79b9_7f4a_7c15u64.wrapping_mul(1 + list);
+            let seed = 0x9e37_79b9_7f4a_7c15u64.wrapping_mul(list.saturating_add(1));
             if !all_are_alike(rt.alloc(), seed, *capacity) {
                 stop(&rt, "a list of calls", list as usize);
             }
