@@ -5,6 +5,7 @@ use crate::figures::{Figures, Request};
 use crate::lent::Lent;
 use crate::pipe;
 use crate::reads::Reads;
+use crate::sessions::Sessions;
 use crate::writes::Writes;
 use blocking::Host;
 use std::io;
@@ -17,11 +18,12 @@ pub(crate) enum Bench {
     Ends(Ends),
     Reads(Reads),
     Writes(Writes),
+    Sessions(Sessions),
     Lent(Lent),
 }
 
 impl Bench {
-    pub(crate) const ALL: [Bench; 28] = [
+    pub(crate) const ALL: [Bench; 31] = [
         Bench::Calls(Calls::Roundtrip),
         Bench::Calls(Calls::RoundtripAwait),
         Bench::Calls(Calls::Burst),
@@ -44,6 +46,9 @@ impl Bench {
         Bench::Writes(Writes::LongBy64K),
         Bench::Writes(Writes::LongBy4K),
         Bench::Writes(Writes::Growing),
+        Bench::Sessions(Sessions::Writing),
+        Bench::Sessions(Sessions::WritingBy64K),
+        Bench::Sessions(Sessions::Reading),
         Bench::Lent(Lent::Short),
         Bench::Lent(Lent::ShortBy100),
         Bench::Lent(Lent::Long),
@@ -59,6 +64,7 @@ impl Bench {
             Bench::Ends(ends) => ends.name(),
             Bench::Reads(reads) => reads.name(),
             Bench::Writes(writes) => writes.name(),
+            Bench::Sessions(sessions) => sessions.name(),
             Bench::Lent(lent) => lent.name(),
         }
     }
@@ -78,6 +84,7 @@ impl Bench {
             Bench::Pipe => "MB/s",
             Bench::Ends(ends) => ends.unit(),
             Bench::Reads(_) | Bench::Writes(_) => "MB/s",
+            Bench::Sessions(_) => "ns/session",
             Bench::Lent(lent) => lent.unit(),
         }
     }
@@ -89,6 +96,7 @@ impl Bench {
             Bench::Ends(ends) => ends.size(),
             Bench::Reads(reads) => reads.size(),
             Bench::Writes(writes) => writes.size(),
+            Bench::Sessions(sessions) => sessions.size(),
             Bench::Lent(lent) => lent.size(),
         }
     }
@@ -108,6 +116,7 @@ impl Bench {
             Bench::Ends(ends) => ends.run(rt, host, request, figures),
             Bench::Reads(reads) => reads.run(rt, host, request, figures),
             Bench::Writes(writes) => writes.run(rt, host, request, figures),
+            Bench::Sessions(sessions) => sessions.run(rt, host, request, figures),
             Bench::Lent(lent) => lent.run(rt, host, request, figures),
         }
     }

@@ -10,6 +10,7 @@ mod figures;
 mod lent;
 mod pipe;
 mod reads;
+mod sessions;
 mod writes;
 
 use crate::bench::Bench;

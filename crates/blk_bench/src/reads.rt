@@ -126,10 +126,7 @@ impl Reads {
     fn open(self, rt: HostRuntime, bytes: &Arc<Vec<u8>>) -> io::Result<Reader> {
         Ok(match self {
             Reads::File => Reader::File(File::open(&rt, FILE)?),
-            _ => Reader::Memory(Memory {
-                bytes: Arc::try_clone(bytes)?,
-                place: 0,
-            }),
+            _ => Reader::Memory(Memory::over(Arc::try_clone(bytes)?)),
         })
     }
 
@@ -156,11 +153,23 @@ impl Reads {
 
 type Readers<R> = Executor<ReadJob<Reader, R>, R>;
 
-// Bytes in memory, from a place on.
+/// Bytes in memory, from a place on.
 #[derive(Drop)]
-struct Memory {
+pub(crate) struct Memory {
     bytes: Arc<Vec<u8>>,
     place: usize,
+}
+
+impl Memory {
+    /// From the first byte on.
+    pub(crate) fn over(bytes: Arc<Vec<u8>>) -> Memory {
+        Memory { bytes, place: 0 }
+    }
+
+    /// From the first byte on again.
+    pub(crate) fn rewind(&mut self) {
+        self.place = 0;
+    }
 }
 
 impl Read for Memory {
@@ -189,8 +198,8 @@ impl Read for Reader {
     }
 }
 
-// Reads to the end, and counts how many bytes came, of which each piece's first and last were right.
-fn read_all<A: AsyncRead, R: Runtime>(
+/// Reads to the end, and counts how many bytes came, of which each piece's first and last were right.
+pub(crate) fn read_all<A: AsyncRead, R: Runtime>(
     rt: R,
     owner: &mut A,
     cx: &mut Context<'_>,

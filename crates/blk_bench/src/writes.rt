@@ -68,7 +68,7 @@ impl Writes {
             Writes::Growing => Vec::new(alloc),
             _ => vec![in alloc; 1u8; size]?,
         };
-        Ok(Memory { bytes, place: 0 })
+        Ok(Memory::over(bytes))
     }
 
     /// All bytes of the request through a session, once cold and then as often as is asked, in MB/s. They are compared after the
@@ -119,28 +119,43 @@ impl Writes {
         bytes: Arc<Vec<u8>>,
     ) -> io::Result<Writing<WriteJob<Memory, R>, R>> {
         let alloc = rt.alloc();
-        let executor = executor.try_clone()?;
-        let owner = match self.capacity() {
-            Some(capacity) if capacity > 0 => Unblock::with_capacity(capacity, executor, memory),
-            _ => Unblock::new(executor, memory),
-        };
         Ok(Writing {
             rt,
             alloc,
-            owner,
+            owner: owner_of(executor, self.capacity(), memory)?,
             bytes,
             taken: 0,
         })
     }
 }
 
-type Writers<R> = Executor<WriteJob<Memory, R>, R>;
+pub(crate) type Writers<R> = Executor<WriteJob<Memory, R>, R>;
 
-// Memory into which is written, from a place on; behind its end it grows.
+/// An owner of a writer to memory. (no capacity is the default)
+pub(crate) fn owner_of<R: Host>(
+    executor: &Writers<R>,
+    capacity: Option<usize>,
+    memory: Memory,
+) -> io::Result<Unblock<Memory, (), WriteJob<Memory, R>, R>> {
+    let executor = executor.try_clone()?;
+    Ok(match capacity {
+        Some(capacity) if capacity > 0 => Unblock::with_capacity(capacity, executor, memory),
+        _ => Unblock::new(executor, memory),
+    })
+}
+
+/// Memory into which is written, from a place on; behind its end it grows.
 #[derive(Drop)]
-struct Memory {
-    bytes: Vec<u8>,
+pub(crate) struct Memory {
+    pub(crate) bytes: Vec<u8>,
     place: usize,
+}
+
+impl Memory {
+    /// From the first byte on.
+    pub(crate) fn over(bytes: Vec<u8>) -> Memory {
+        Memory { bytes, place: 0 }
+    }
 }
 
 impl Write for Memory {
@@ -173,8 +188,8 @@ struct Writing<J: Job + Carries<WriteJob<Memory, R>>, R: Runtime> {
     taken: usize,
 }
 
-// Hands on the bytes from a place on, piece by piece.
-fn hand_on<A: AsyncWrite, R: Runtime>(
+/// Hands on the bytes from a place on, piece by piece.
+pub(crate) fn hand_on<A: AsyncWrite, R: Runtime>(
     rt: R,
     owner: &mut A,
     cx: &mut Context<'_>,
