@@ -2,12 +2,11 @@
 #![tactic(auto)]
 
 pub use blocking_core::pipe::{
-    CopyStore, FlatMemory, FlatStore, LendingMemory, LendingStore, MovingMemory, MovingStore,
-    RingMemory, RingStore, Store,
+    CopyStore, FlatMemory, FlatStore, LendingMemory, LendingStore, RingMemory, RingStore, Store,
 };
 pub use blocking_ends::{
-    AnyPlace, FillEnd, OwnerWaker, PeekEnd, PlaceRule, RecvEnd, SendEnd, link, link_in,
-    link_in_over, link_over,
+    AnyPlace, DrainEnd, FillEnd, OwnerWaker, PeekEnd, PieceMemory, PlaceRule, RecvEnd, SendEnd,
+    link, link_drain, link_in, link_in_over, link_over, unlink_drain, unlink_in,
 };
 pub use blocking_executor::{
     CallJob, Cancel, Counts, Executor, Host, Runtime, Task, executor, job,

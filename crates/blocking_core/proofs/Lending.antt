@@ -319,6 +319,17 @@ module _ {V X : Type 0} (items_of : V → List X) where
         ap (drop gone) items ∙ drop-append-le gone (flat_map items_of pieces) more (omega (arith, all, front, cut.all)),
       )
 
+  -- A whole piece comes behind whole ones.
+  pub exchanged : (pieces : List V) (put : V) (piece gone len : ℕ) → IsRow items_of pieces piece (gone + len) → (gone + len) % piece ≡ 0
+      → length (items_of put) ≡ piece
+      → IsRow items_of (pieces ++ put ∷ []) piece (gone + (len + piece))
+      × (drop gone (flat_map items_of (pieces ++ put ∷ [])) ≡ drop gone (flat_map items_of pieces) ++ items_of put)
+  exchanged pieces put piece gone len row whole long =
+      let all = row_whole items_of pieces piece (gone + len) row whole in (
+        row_pushed items_of pieces put piece (gone + (len + piece)) all.0 (omega (arith, all.1, long)) (omega (arith, row.some, long)) (omega (arith, long)),
+        ap (drop gone) (items_pushed items_of pieces put) ∙ drop-append-le gone (flat_map items_of pieces) (items_of put) (omega (arith, row.all)),
+      )
+
   -- what a first piece of which nothing is gone is, where it is given whole
   pub given_first : (pieces : List V) (first : V) (piece gone len count : ℕ) → IsRow items_of pieces piece (gone + len) → gone ≡ 0
       → slice_get pieces 0 ≡ Some first → count ≡ length (items_of first)

@@ -13,6 +13,8 @@ use Rattle.blocking_core.specs.declared.pipe.Peeked.{Peeked}
 use Rattle.blocking_core.specs.declared.pipe.Peeked.TheVariants as peeked
 use Rattle.blocking_core.specs.declared.pipe.Drained.{Drained}
 use Rattle.blocking_core.specs.declared.pipe.Drained.TheVariants as drained
+use Rattle.blocking_core.specs.declared.pipe.Fetched.{Fetched}
+use Rattle.blocking_core.specs.declared.pipe.Fetched.TheVariants as fetched
 use Rattle.blocking_core.specs.declared.pipe.Received.{Received}
 use Rattle.blocking_core.specs.declared.pipe.Received.TheVariants as received
 use Rattle.blocking_core.specs.declared.pipe.Filled.{Filled}
@@ -40,6 +42,10 @@ module _ {X W : Type 0} where
         lent = pipe.lent - n;
         owner_seat = None;
       }
+
+  -- The owner let go of n of the items that it was lent, and the job's note left its seat.
+  abbrev pub fetched_gone : Pipe X W → ℕ → Pipe X W
+  fetched_gone pipe n = record pipe { capacity = pipe.capacity + n; lent = pipe.lent - n; job_seat = None }
 
   -- The owner took the first n items, and the note of the job.
   abbrev pub without_front : Pipe X W → ℕ → Pipe X W
@@ -106,6 +112,15 @@ module _ {X W : Type 0} where
       × (new ≡ owner_seated old waker)
       × (got ≡ out)
       × (spare ≡ old.owner_seat)
+
+  -- The owner fetches: it is lent the front of what is inside, so many items at most; or that was all; or the owner is seated. The waker that
+  -- isn't seated comes back.
+  abbrev pub Fetches : Pipe X W → W → ℕ → Fetched → Option W → List X → Pipe X W → Type 0
+  Fetches old waker most (fetched.Got n) spare piece new =
+      (0 < n) × (n ≡ min most (length old.items)) × (piece ≡ take n old.items) × (new ≡ front_lent old n) × (spare ≡ Some waker)
+  Fetches old waker most fetched.Ended spare piece new = (old.items ≡ []) × (old.is_job_open ≡ false) × (new ≡ old) × (spare ≡ Some waker)
+  Fetches old waker most (fetched.Waits seat) spare piece new =
+      (old.items ≡ []) × (old.is_job_open ≡ true) × (new ≡ owner_seated old waker) × (spare ≡ old.owner_seat)
 
   -- The owner receives: the first item leaves, with the job's note; or that was all; or the owner is seated. The waker that
   -- isn't seated comes back.

@@ -9,13 +9,11 @@ use std::marker::Model;
 
 mod flat;
 mod lending;
-mod moving;
 mod ring;
 mod store;
 
 pub use flat::{FlatMemory, FlatStore};
 pub use lending::{LendingMemory, LendingStore};
-pub use moving::{MovingMemory, MovingStore};
 pub use ring::{RingMemory, RingStore};
 pub use store::{CopyStore, Store};
 
@@ -37,7 +35,8 @@ pub type ItemPipe<X, W> = Pipe<X, W, RingStore>;
 /// the other side then does takes it out of its seat, to be woken. Either end may be closed, and stays so. Its store `S` holds the items, and
 /// every call answers the same over any store.
 ///
-/// A job may be lent what stands at the front, to use it under no lock. Until it lets go of that, it takes room as if it were inside.
+/// Whoever receives, job or owner, may be lent what stands at the front, to use it under no lock. Until it lets go of that, it takes room as if it
+/// were inside.
 #[derive(Drop)]
 pub struct Pipe<X: Drop, W: Drop, S: Store<X>> {
     // What the store keeps.
@@ -113,10 +112,35 @@ pub enum Peeked {
     Drained,
 }
 
+/// How many items a pipe has lent. A pipe alone makes one, so whoever has it asked the pipe.
+#[derive(Drop, Debug)]
+pub struct Loan {
+    count: usize,
+}
+
+impl Loan {
+    /// So many items.
+    pub fn count(&self) -> usize
+        ensures { result ≡ self.now.count }
+    {
+        self.count
+    }
+}
+
 /// What an owner finds that drains.
 pub enum Drained {
     /// So many items were moved out, one at least. The note of a job that waited has to be spent.
     Got(usize, Option<WakeNote>),
+    /// The pipe is empty, and the job's end is closed.
+    Ended,
+    /// The pipe is empty: the waker is seated.
+    Waits(Seat),
+}
+
+/// What an owner finds that fetches.
+pub enum Fetched {
+    /// So many items are lent, one at least. They take room until the owner lets them go.
+    Got(usize),
     /// The pipe is empty, and the job's end is closed.
     Ended,
     /// The pipe is empty: the waker is seated.
@@ -155,7 +179,7 @@ pub struct Answered<A, W> {
 impl<X: Drop, W: Drop, S: Store<X>> Pipe<X, W, S> {
     ghost use Rattle.std.specs.Prelude.{[]};
     ghost use Rattle.blocking_core.specs.Pipes.{empty_pipe, room};
-    ghost use Rattle.blocking_core.specs.PipeAnswers.{FindsRoom, Sends, Receives, let_go};
+    ghost use Rattle.blocking_core.specs.PipeAnswers.{FindsRoom, Sends, Receives, let_go, fetched_gone};
 
     /// An empty pipe for at most `capacity` items, both of whose ends are open. All its memory is taken here, and where there
     /// isn't so much the answer is an [`AllocError`].
@@ -190,6 +214,23 @@ impl<X: Drop, W: Drop, S: Store<X>> Pipe<X, W, S> {
         &self.memory
     }
 
+    /// The memory of its store, with what is inside.
+    pub fn into_memory(self) -> S::Memory
+        ensures items { let stored = S.held result in stored.items ≡ self.items }
+        ensures capacity { let stored = S.held result in stored.capacity ≡ self.capacity + self.lent }
+        ensures some { let stored = S.held result in 0 < stored.capacity }
+    {
+        let Pipe {
+            memory,
+            lent: _,
+            is_owner_open: _,
+            is_job_open: _,
+            owner_seat: _,
+            job_seat: _,
+        } = self;
+        memory
+    }
+
     /// How many items are inside: with those that are lent, the capacity at most.
     pub fn len(&self) -> usize
         ensures len { result ≡ length self.now.items }
@@ -204,6 +245,13 @@ impl<X: Drop, W: Drop, S: Store<X>> Pipe<X, W, S> {
         ensures { result ≡ self.now.lent }
     {
         self.lent
+    }
+
+    /// How many items are lent, for an end that keeps it.
+    pub fn loan(&self) -> Loan
+        ensures { result.count ≡ self.now.lent }
+    {
+        Loan { count: self.lent }
     }
 
     /// How many more items the pipe holds: the capacity at most.
@@ -280,6 +328,16 @@ impl<X: Drop, W: Drop, S: Store<X>> Pipe<X, W, S> {
         self.unseat_owner()
     }
 
+    /// The owner lets so many items go of those that it fetched. Answers the note of a job that waited.
+    pub fn let_go_fetched(&mut self, count: usize) -> Option<WakeNote>
+        requires { count ≤ self.old.lent }
+        ensures pipe { self.new ≡ fetched_gone self.old count }
+        ensures note { result ≡ self.old.job_seat }
+    {
+        self.lent -= count;
+        self.unseat_job()
+    }
+
     /// The job closes its end. Answers the waker of an owner who waited. What is inside stays.
     pub fn close_job(&mut self) -> Option<W>
         ensures pipe { self.new ≡ record self.old { is_job_open = false; owner_seat = None } }
@@ -341,7 +399,8 @@ impl<X: Drop, W: Drop, S: Store<X>> Pipe<X, W, S> {
 
 impl<X: Copy, W: Drop, S: CopyStore<X>> Pipe<X, W, S> {
     ghost use Rattle.blocking_core.specs.Pipes.{room};
-    ghost use Rattle.blocking_core.specs.PipeAnswers.{Puts, Peeks, Lends, Drains, Fills, TellsOfFill};
+    ghost use Rattle.std.specs.Prelude.{[], IfSome, IfNone};
+    ghost use Rattle.blocking_core.specs.PipeAnswers.{Puts, Peeks, Lends, Drains, Fetches, Fills, TellsOfFill, front_lent};
     ghost use Rattle.blocking_core.specs.Stores.{IsReady};
 
     /// The job puts items, for all of which there is room.
@@ -356,13 +415,13 @@ impl<X: Copy, W: Drop, S: CopyStore<X>> Pipe<X, W, S> {
         Put::In(self.unseat_owner())
     }
 
-    /// The job puts the first `count` items of a piece, for all of which there is room. A store into which pieces move may take it as it is, and
-    /// gives one as long for it. What stands in the piece afterwards is not to be relied on.
+    /// The job puts the first `count` items of a piece, for all of which there is room. A store of pieces may take it as it is, and gives one
+    /// with memory for as much for it. What stands in the piece afterwards, and how much, is not to be relied on.
     pub fn put_piece(&mut self, piece: &mut Vec<X>, count: usize) -> Put<W>
         requires some { count ≤ length piece.old.items }
         requires room { count ≤ room self.old }
         ensures puts { Puts self.old (take count piece.old.items) result self.new }
-        ensures long { length piece.new.items ≡ length piece.old.items }
+        ensures fits { length piece.old.items ≤ vec_capacity piece.new }
     {
         if !self.is_owner_open {
             return Put::Lost;
@@ -403,9 +462,7 @@ impl<X: Copy, W: Drop, S: CopyStore<X>> Pipe<X, W, S> {
         ensures lends { Lends self.old me most result piece.new.items self.new }
         ensures fits { most ≤ vec_capacity piece.new }
     {
-        if S::len(&self.memory) > 0 {
-            let count = S::give_piece(&mut self.memory, most, piece);
-            self.lent += count;
+        if let Some(count) = self.fetch(most, piece) {
             return Peeked::Some(count);
         }
         if !self.is_owner_open {
@@ -436,6 +493,54 @@ impl<X: Copy, W: Drop, S: CopyStore<X>> Pipe<X, W, S> {
         }
         Answered {
             answer: Drained::Waits(Seat(())),
+            spare: self.owner_seat.replace(waker),
+        }
+    }
+
+    /// Lends the front of what is inside, `most` items at most, in a piece: that which is handed in, whose items are gone then, or one of the
+    /// store's own for it. `None` where the pipe is empty. Nobody is seated.
+    pub fn fetch(&mut self, most: usize, piece: &mut Vec<X>) -> Option<usize>
+        requires some { 0 < most }
+        requires fits { most ≤ vec_capacity piece.old }
+        ensures some { IfSome result (λ n. (0 < n) × (n ≡ min most (length self.old.items))
+            × (piece.new.items ≡ take n self.old.items) × (self.new ≡ front_lent self.old n)) }
+        ensures none { IfNone result ((self.old.items ≡ []) × (self.new ≡ self.old)) }
+        ensures fits { most ≤ vec_capacity piece.new }
+    {
+        if S::len(&self.memory) == 0 {
+            return None;
+        }
+        let count = S::give_piece(&mut self.memory, most, piece);
+        self.lent += count;
+        Some(count)
+    }
+
+    /// The owner is lent the front, as by [`Pipe::fetch`]. Where the pipe is empty and the job's end is open the owner is seated.
+    pub fn fetch_or_seat(
+        &mut self,
+        waker: W,
+        most: usize,
+        piece: &mut Vec<X>,
+    ) -> Answered<Fetched, W>
+        requires some { 0 < most }
+        requires fits { most ≤ vec_capacity piece.old }
+        ensures fetches { Fetches self.old waker most result.answer result.spare piece.new.items self.new }
+        ensures fits { most ≤ vec_capacity piece.new }
+    {
+        if let Some(count) = self.fetch(most, piece) {
+            return Answered {
+                answer: Fetched::Got(count),
+                spare: Some(waker),
+            };
+        }
+        if !self.is_job_open {
+            return Answered {
+                answer: Fetched::Ended,
+                spare: Some(waker),
+            };
+        }
+        Answered {
+            answer: Fetched::Waits(Seat(())),
             spare: self.owner_seat.replace(waker),
         }
     }

@@ -49,7 +49,7 @@ enum Shown {
 // A call, what it shows, how many bytes are lent then, and for how many more there is room.
 type Line = (Step, Shown, usize, usize);
 
-// Capacity 5: the first two pieces go through as they are, the bytes after them through the ring, and the last piece as it is again.
+// Capacity 5: the first two pieces go through as they are, the bytes after them are copied, and the last piece goes as it is again.
 const PIECES: &[Line] = &[
     (Step::Lend, Shown::Parked, 0, 5),
     (Step::Fill(b'a', 2), Shown::Took(2, Some(1)), 0, 3),
@@ -73,7 +73,7 @@ const PIECES: &[Line] = &[
     (Step::Lend, Shown::Drained, 0, 5),
 ];
 
-// Capacity 5: a piece for which there is room goes through the ring, since a byte stands there, and later bytes go round it.
+// Capacity 5: a piece for which there is room is copied, since a byte stands before it, and so are later bytes.
 const BEHIND_A_BYTE: &[Line] = &[
     (Step::Fill(b'a', 1), Shown::Took(1, None), 0, 4),
     (Step::Fill(b'b', 2), Shown::Took(2, None), 0, 2),

@@ -7,6 +7,8 @@ mod call_core;
 #[cfg(test)]
 mod calls;
 #[cfg(test)]
+mod fetching;
+#[cfg(test)]
 mod job_cores;
 #[cfg(test)]
 mod lending;
@@ -14,8 +16,6 @@ mod lending;
 mod lent;
 #[cfg(test)]
 mod limit;
-#[cfg(test)]
-mod moving;
 #[cfg(test)]
 mod pipe;
 #[cfg(test)]

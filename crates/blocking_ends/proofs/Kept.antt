@@ -5,11 +5,13 @@ use Rattle.std.proofs.lemmas.Option.{slice_get_within, slice_get_cases}
 use Rattle.circular_buffer.proofs.Places.{below_or_not, slice_get-append_left, slice_get-append_right, slice_get-drop, slice_get-take}
 use Rattle.blocking_core.specs.Pipes.{Pipe, room}
 use Rattle.blocking_core.specs.Places.{Met, Served, Waiting, receive, fill}
-use Rattle.blocking_core.specs.PipeAnswers.{Puts, Drains, Receives, Fills, Lends, let_go}
+use Rattle.blocking_core.specs.PipeAnswers.{Puts, Drains, Receives, Fetches, Fills, Lends, let_go, front_lent}
 use Rattle.blocking_core.specs.declared.pipe.Put.{Put}
 use Rattle.blocking_core.specs.declared.pipe.Put.TheVariants as putting
 use Rattle.blocking_core.specs.declared.pipe.Drained.{Drained}
 use Rattle.blocking_core.specs.declared.pipe.Drained.TheVariants as draining
+use Rattle.blocking_core.specs.declared.pipe.Fetched.{Fetched}
+use Rattle.blocking_core.specs.declared.pipe.Fetched.TheVariants as fetching
 use Rattle.blocking_core.specs.declared.pipe.Received.{Received}
 use Rattle.blocking_core.specs.declared.pipe.Received.TheVariants as receiving
 use Rattle.blocking_core.specs.declared.pipe.Filled.{Filled}
@@ -18,7 +20,7 @@ use Rattle.blocking_core.specs.declared.pipe.Peeked.{Peeked}
 use Rattle.blocking_core.specs.declared.pipe.Peeked.TheVariants as peeking
 use Rattle.blocking_pool.specs.Jobs.{JobNumber}
 use Rattle.blocking_pool.specs.declared.pool.token.WakeNote.{WakeNote}
-use Rattle.blocking_ends.specs.Answers.{IfReceived, IfTook, got_by_drain}
+use Rattle.blocking_ends.specs.Answers.{IfReceived, IfTook, OnFetched, got_by_drain}
 use Rattle.blocking_ends.specs.Counted.{IsKept}
 use Rattle.blocking_ends.specs.Rules.{HoldFrom}
 
@@ -84,6 +86,12 @@ module _ {X : Type 0} (holds : ℕ → X → Type 0) where
       take_at (take count items) (drop count others) count (length-take-le count items some)
       in
       subst (λ all. HoldFrom holds n all) (sym front) (hold_front n count items held)
+
+  -- as they stand where they were copied to
+  pub hold_moved : (n count : ℕ) (items copied others : List X) → copied ≡ take count items → count ≤ length items → HoldFrom holds n items
+      → HoldFrom holds n (take count (copied ++ drop count others))
+  hold_moved n count items copied others is some held =
+      subst (λ front. HoldFrom holds n (take count (front ++ drop count others))) (sym is) (hold_copied n count items others some held)
 
 -- an item that is received was the first one inside
 first_received : {X N : Type 0} (items : List X) (is_open : Bool) (seat of_job : Option N) (item : X) → receive items is_open seat ≡ Served (item, of_job) → (0 < length items) × (slice_get items 0 ≡ Some item)
@@ -165,6 +173,29 @@ module _ {X : Type 0} (holds : ℕ → X → Type 0) (ended : ℕ → Type 0) wh
         subst (λ all. HoldFrom holds received (take count all)) (sym drains.4) (hold_copied holds received count old.items out (omega (arith, least)) kept.each)
     drained_held old new waker out got draining.Ended spare sent received kept drains = hold_none holds received got
     drained_held old new waker out got (draining.Waits seat) spare sent received kept drains = hold_none holds received got
+
+    -- items were fetched
+    pub fetched_kept : (old new : Pipe X W) (count sent received : ℕ) → new ≡ front_lent old count → count ≤ length old.items
+        → IsKept holds ended old.items sent received old.is_job_open → IsKept holds ended new.items sent (received + count) new.is_job_open
+    fetched_kept old new count sent received after some kept =
+        subst (λ p. IsKept holds ended p.items sent (received + count) p.is_job_open) (sym after)
+        (left_kept old.items sent received count old.is_job_open some kept)
+
+    pub fetch_kept : (old new : Pipe X W) (waker : W) (most : ℕ) (answer : Fetched) (spare : Option W) (piece : List X) (count sent received : ℕ)
+        → answer ≡ fetching.Got count → Fetches old waker most answer spare piece new
+        → IsKept holds ended old.items sent received old.is_job_open → IsKept holds ended new.items sent (received + count) new.is_job_open
+    fetch_kept old new waker most answer spare piece count sent received is fetches kept =
+        let one : Fetches old waker most (fetching.Got count) spare piece new = subst (λ a. Fetches old waker most a spare piece new) is fetches in
+        fetched_kept old new count sent received one.3 (omega (arith, one.1)) kept
+
+    -- what was fetched holds at its places
+    pub fetch_held : (old new : Pipe X W) (waker : W) (most : ℕ) (answer : Fetched) (spare : Option W) (piece : List X) (sent received : ℕ)
+        → IsKept holds ended old.items sent received old.is_job_open → Fetches old waker most answer spare piece new
+        → OnFetched answer (HoldFrom holds received piece)
+    fetch_held old new waker most (fetching.Got n) spare piece sent received kept fetches =
+        subst (λ all. HoldFrom holds received all) (sym fetches.2) (hold_front holds received n old.items kept.each)
+    fetch_held old new waker most fetching.Ended spare piece sent received kept fetches = tt
+    fetch_held old new waker most (fetching.Waits seat) spare piece sent received kept fetches = tt
 
     -- items were put, by a job whose end is open
     pub put_kept : (old new : Pipe X W) (given : List X) (answer : Put W) (waker : Option W) (sent after received : ℕ)

@@ -10,6 +10,8 @@ use Rattle.blocking_core.specs.declared.pipe.Peeked.{Peeked}
 use Rattle.blocking_core.specs.declared.pipe.Peeked.TheVariants as peeked
 use Rattle.blocking_core.specs.declared.pipe.Drained.{Drained}
 use Rattle.blocking_core.specs.declared.pipe.Drained.TheVariants as drained
+use Rattle.blocking_core.specs.declared.pipe.Fetched.{Fetched}
+use Rattle.blocking_core.specs.declared.pipe.Fetched.TheVariants as fetched
 use Rattle.blocking_core.specs.declared.pipe.Received.{Received}
 use Rattle.blocking_core.specs.declared.pipe.Received.TheVariants as received
 use Rattle.blocking_core.specs.declared.pipe.Filled.{Filled}
@@ -73,6 +75,30 @@ abbrev pub OnDrainsWait : Drained → Type 0 → Type 0
 OnDrainsWait (drained.Got n of_job) P = ⊤
 OnDrainsWait drained.Ended P = ⊤
 OnDrainsWait (drained.Waits seat) P = P
+
+-- how many items a fetch has brought
+abbrev pub got_by_fetch : Fetched → ℕ
+got_by_fetch (fetched.Got n) = n
+got_by_fetch fetched.Ended = 0
+got_by_fetch (fetched.Waits seat) = 0
+
+-- what holds where a fetch brought some
+abbrev pub OnFetched : Fetched → Type 0 → Type 0
+OnFetched (fetched.Got n) P = P
+OnFetched fetched.Ended P = ⊤
+OnFetched (fetched.Waits seat) P = ⊤
+
+-- what holds where a fetch found the end
+abbrev pub OnFetchEnd : Fetched → Type 0 → Type 0
+OnFetchEnd (fetched.Got n) P = ⊤
+OnFetchEnd fetched.Ended P = P
+OnFetchEnd (fetched.Waits seat) P = ⊤
+
+-- what holds where a fetch waits
+abbrev pub OnFetchWait : Fetched → Type 0 → Type 0
+OnFetchWait (fetched.Got n) P = ⊤
+OnFetchWait fetched.Ended P = ⊤
+OnFetchWait (fetched.Waits seat) P = P
 
 -- how many items a peek has shown
 abbrev pub shown_by : Peeked → ℕ

@@ -3,7 +3,7 @@ use Rattle.std.specs.Prelude.{◌≡◌, ℕ, ◌+◌, max, Bool, false, List, l
 use Rattle.std.specs.Coded.{Coded, code_by, coded×, coded_ℕ, coded_list}
 use Rattle.blocking_ends.specs.Rules.{HoldFrom}
 
--- a pipe, and how many items were sent into it since it was made, and how many its other side took or let go
+-- a pipe, and how many items were sent into it since it was made, and how many its other side took or let go; what an owner is lent counts as taken
 pub record Counted (P : Type 0) : Type 0 where
   pub pipe : P
   pub sent : ℕ
@@ -29,6 +29,16 @@ peeking_code {X} item =
 -- how many items it may let go: what it was lent, or what it looked at
 abbrev pub may_consume : {X : Type 0} → Peeking X → ℕ
 may_consume seen = max (length seen.shown) seen.peeked
+
+-- a hand: how many items were let go, and those that it was lent and didn't let go yet
+pub record InHand (X : Type 0) : Type 0 where
+  pub received : ℕ
+  pub left : List X
+
+abbrev pub in_hand_code : {X : Type 0} → Coded X → Coded (InHand X)
+in_hand_code {X} item =
+    code_by (ℕ × List X) (coded× coded_ℕ (coded_list item)) (λ seen. (seen.received, seen.left)) (λ parts. record { received = parts.0; left = parts.1 })
+    (λ _. refl)
 
 -- What a pipe keeps of a rule: what was sent was received, or is lent, or stands in it; each item that stands in it holds at its place; and
 -- where the sender's end is closed the number that was sent is one at which it may end. (What is lent counts as received here.)

@@ -12,10 +12,11 @@ use Rattle.blocking_core.specs.declared.pipe.Sending.{Sending}
 use Rattle.blocking_core.specs.declared.pipe.Sending.TheVariants as sending
 use Rattle.blocking_core.specs.declared.pipe.Peeked.{Peeked}
 use Rattle.blocking_core.specs.declared.pipe.Drained.{Drained}
+use Rattle.blocking_core.specs.declared.pipe.Fetched.{Fetched}
 use Rattle.blocking_core.specs.declared.pipe.Received.{Received}
 use Rattle.blocking_core.specs.declared.pipe.Filled.{Filled}
 use Rattle.blocking_core.specs.declared.pipe.Filled.TheVariants as filled
-use Rattle.blocking_ends.specs.Answers.{got_by_drain, got_by_receive}
+use Rattle.blocking_ends.specs.Answers.{got_by_drain, got_by_fetch, got_by_receive}
 use Rattle.blocking_ends.specs.Counted.{Counted}
 
 -- the greatest number of items that may be sent
@@ -55,6 +56,11 @@ module _ {X W : Type 0} where
   -- the owner drains
   abbrev pub Drains : Counted (Pipe X W) → W → List X → Drained → Option W → Counted (Pipe X W) → List X → Type 0
   Drains old waker out answer spare new got = pipe.Drains old.pipe waker out answer spare new.pipe got × Counts old 0 (got_by_drain answer) new
+
+  -- the owner fetches: what it is lent counts as received
+  abbrev pub Fetches : Counted (Pipe X W) → W → ℕ → Fetched → Option W → List X → Counted (Pipe X W) → Type 0
+  Fetches old waker most answer spare piece new =
+      pipe.Fetches old.pipe waker most answer spare piece new.pipe × Counts old 0 (got_by_fetch answer) new
 
   -- the owner receives
   abbrev pub Receives : Counted (Pipe X W) → W → Received X → Option W → Counted (Pipe X W) → Type 0

@@ -40,6 +40,19 @@ impl<X: Drop, R: PlaceRule<X>, S: Store<X>, H: Wait + Copy> FillEnd<X, R, S, H> 
         }
     }
 
+    // The pipe, where nobody else has an end of it, and the memory of what was made ready.
+    pub(crate) fn into_pipe(self) -> Option<(OwnerToJob<X, R, S>, Vec<X>)> {
+        let FillEnd {
+            pipe,
+            ready,
+            sent: _,
+            source: _,
+            rt: _,
+        } = self;
+        let pipe = Arc::into_inner(pipe)?.into_inner();
+        Some((pipe, ready))
+    }
+
     /// How many items were sent: the place of the next one.
     pub fn sent(&self) -> u64
         ensures { result ≡ self.now.sent }

@@ -1,7 +1,9 @@
 //! A pipe between two threads: its two ends, which keep what its sender owes of each item at its place.
 #![tactic(auto)]
 
+mod drain_end;
 mod fill_end;
+mod hand;
 mod locked;
 mod pair;
 mod peek_end;
@@ -10,8 +12,11 @@ mod rule;
 mod send_end;
 
 pub use blocking_lock::OwnerWaker;
+pub use drain_end::DrainEnd;
 pub use fill_end::FillEnd;
-pub use pair::{link, link_in, link_in_over, link_over};
+pub use pair::{
+    PieceMemory, link, link_drain, link_in, link_in_over, link_over, unlink_drain, unlink_in,
+};
 pub use peek_end::PeekEnd;
 pub use recv_end::RecvEnd;
 pub use rule::{AnyPlace, PlaceRule};

@@ -5,7 +5,8 @@ ghost use Rattle.std.specs.Prelude.{◌≡◌, ◌<◌, ◌≤◌, ◌+◌, [], 
 
 use crate::rule::PlaceRule;
 use blocking_core::pipe::{
-    Answered, CopyStore, Drained, Filled, Peeked, Pipe, Put, Received, Room, Sending, Store,
+    Answered, CopyStore, Drained, Fetched, Filled, Loan, Peeked, Pipe, Put, Received, Room,
+    Sending, Store,
 };
 use blocking_lock::OwnerWaker;
 use blocking_pool::pool::{JobNo, WakeNote};
@@ -38,6 +39,7 @@ impl<X: Drop, R: PlaceRule<X>, S: Store<X>> Model for JobToOwner<X, R, S> {
 
 impl<X: Drop, R: PlaceRule<X>, S: Store<X>> JobToOwner<X, R, S> {
     ghost use Rattle.blocking_core.specs.Pipes.{empty_pipe, room};
+    ghost use Rattle.blocking_core.specs.PipeAnswers.{fetched_gone};
     ghost use Rattle.blocking_ends.specs.Answers.{IfReceived, OnEnd};
     ghost use Rattle.blocking_ends.specs.Sections.{Counts, FindsRoom, Sends, Receives};
 
@@ -56,6 +58,19 @@ impl<X: Drop, R: PlaceRule<X>, S: Store<X>> JobToOwner<X, R, S> {
         }
     }
 
+    /// The memory of its store, with what is inside.
+    pub(crate) fn into_memory(self) -> S::Memory
+        ensures { let stored = S.held result in 0 < stored.capacity }
+    {
+        let JobToOwner {
+            pipe,
+            sent: _,
+            received: _,
+            rule: _,
+        } = self;
+        pipe.into_memory()
+    }
+
     /// How many items were sent.
     pub(crate) fn sent(&self) -> u64
         ensures { result ≡ self.now.sent }
@@ -63,7 +78,7 @@ impl<X: Drop, R: PlaceRule<X>, S: Store<X>> JobToOwner<X, R, S> {
         self.sent
     }
 
-    /// How many items were received.
+    /// How many items were received, with those that are lent.
     pub(crate) fn received(&self) -> u64
         ensures { result ≡ self.now.received }
     {
@@ -126,6 +141,30 @@ impl<X: Drop, R: PlaceRule<X>, S: Store<X>> JobToOwner<X, R, S> {
         Answered { answer, spare }
     }
 
+    /// How many items are lent to the owner.
+    pub(crate) fn lent(&self) -> usize
+        ensures { result ≡ self.now.pipe.lent }
+    {
+        self.pipe.lent()
+    }
+
+    /// The same, for an end that keeps it.
+    pub(crate) fn loan(&self) -> Loan
+        ensures { result.count ≡ self.now.pipe.lent }
+    {
+        self.pipe.loan()
+    }
+
+    /// The owner lets so many items go of those that it was lent.
+    pub(crate) fn let_go_fetched(&mut self, count: usize) -> Option<WakeNote>
+        requires { count ≤ self.old.pipe.lent }
+        ensures pipe { self.new.pipe ≡ fetched_gone self.old.pipe count }
+        ensures counts { Counts self.old 0 0 self.new }
+        ensures note { result ≡ self.old.pipe.job_seat }
+    {
+        self.pipe.let_go_fetched(count)
+    }
+
     /// The owner closes its end.
     pub(crate) fn close_owner(&mut self) -> Option<WakeNote>
         ensures pipe { self.new.pipe ≡
@@ -139,9 +178,10 @@ impl<X: Drop, R: PlaceRule<X>, S: Store<X>> JobToOwner<X, R, S> {
 
 impl<X: Copy, R: PlaceRule<X>, S: CopyStore<X>> JobToOwner<X, R, S> {
     ghost use Rattle.blocking_core.specs.Pipes.{room};
-    ghost use Rattle.blocking_ends.specs.Answers.{OnDrainsEnd, got_by_drain};
+    ghost use Rattle.blocking_core.specs.PipeAnswers.{front_lent};
+    ghost use Rattle.blocking_ends.specs.Answers.{OnDrainsEnd, OnFetched, OnFetchEnd, got_by_drain};
     ghost use Rattle.blocking_ends.specs.Rules.{HoldFrom};
-    ghost use Rattle.blocking_ends.specs.Sections.{Puts, Drains, IsAtEnd};
+    ghost use Rattle.blocking_ends.specs.Sections.{Counts, Puts, Drains, Fetches, IsAtEnd};
 
     // How many were sent where so many more are, if the job may still send and that can be counted.
     fn sent_with(&self, count: usize) -> Option<u64>
@@ -178,7 +218,7 @@ impl<X: Copy, R: PlaceRule<X>, S: CopyStore<X>> JobToOwner<X, R, S> {
         requires fits { count ≤ room self.old.pipe }
         requires held { HoldFrom R.holds self.old.sent (take count piece.old.items) }
         ensures puts { Puts self.old (take count piece.old.items) result self.new }
-        ensures long { length piece.new.items ≡ length piece.old.items }
+        ensures fits { length piece.old.items ≤ vec_capacity piece.new }
     {
         let Some(sent) = self.sent_with(count) else {
             return Put::Lost;
@@ -206,6 +246,42 @@ impl<X: Copy, R: PlaceRule<X>, S: CopyStore<X>> JobToOwner<X, R, S> {
     {
         let Answered { answer, spare } = self.pipe.drain_or_seat(waker, out);
         if let Drained::Got(count, _) = &answer {
+            self.received += *count as u64;
+        }
+        Answered { answer, spare }
+    }
+
+    /// The owner is lent the front of what is inside, so many items at most, each of which holds at its place.
+    pub(crate) fn fetch(&mut self, most: usize, piece: &mut Vec<X>) -> Option<usize>
+        requires some { 0 < most }
+        requires fits { most ≤ vec_capacity piece.old }
+        ensures some { IfSome result (λ n. (0 < n) × (n ≡ min most (length self.old.pipe.items)) × (piece.new.items ≡ take n self.old.pipe.items)) }
+        ensures pipe { IfSome result (λ n. (self.new.pipe ≡ front_lent self.old.pipe n) × Counts self.old 0 n self.new) }
+        ensures none { IfNone result ((self.old.pipe.items ≡ []) × (self.new ≡ self.old)) }
+        ensures held { IfSome result (λ _. HoldFrom R.holds self.old.received piece.new.items) }
+        ensures fits { most ≤ vec_capacity piece.new }
+    {
+        let count = self.pipe.fetch(most, piece)?;
+        self.received += count as u64;
+        Some(count)
+    }
+
+    /// As `fetch`, or the owner finds the end, or is seated.
+    pub(crate) fn fetch_or_seat(
+        &mut self,
+        waker: OwnerWaker,
+        most: usize,
+        piece: &mut Vec<X>,
+    ) -> Answered<Fetched, OwnerWaker>
+        requires some { 0 < most }
+        requires fits { most ≤ vec_capacity piece.old }
+        ensures fetches { Fetches self.old waker most result.answer result.spare piece.new.items self.new }
+        ensures held { OnFetched result.answer (HoldFrom R.holds self.old.received piece.new.items) }
+        ensures ended { OnFetchEnd result.answer (R.ended self.old.received) }
+        ensures fits { most ≤ vec_capacity piece.new }
+    {
+        let Answered { answer, spare } = self.pipe.fetch_or_seat(waker, most, piece);
+        if let Fetched::Got(count) = &answer {
             self.received += *count as u64;
         }
         Answered { answer, spare }
@@ -258,6 +334,19 @@ impl<X: Drop, R: PlaceRule<X>, S: Store<X>> OwnerToJob<X, R, S> {
         }
     }
 
+    /// The memory of its store, with what is inside.
+    pub(crate) fn into_memory(self) -> S::Memory
+        ensures { let stored = S.held result in 0 < stored.capacity }
+    {
+        let OwnerToJob {
+            pipe,
+            sent: _,
+            received: _,
+            rule: _,
+        } = self;
+        pipe.into_memory()
+    }
+
     /// How many items were sent.
     pub(crate) fn sent(&self) -> u64
         ensures { result ≡ self.now.sent }
@@ -277,6 +366,13 @@ impl<X: Drop, R: PlaceRule<X>, S: Store<X>> OwnerToJob<X, R, S> {
         ensures { result ≡ self.now.pipe.lent }
     {
         self.pipe.lent()
+    }
+
+    /// The same, for an end that keeps it.
+    pub(crate) fn loan(&self) -> Loan
+        ensures { result.count ≡ self.now.pipe.lent }
+    {
+        self.pipe.loan()
     }
 
     /// How many items are inside.

@@ -1,9 +1,10 @@
 //! The end of a job that receives from its owner.
 ghost use Rattle.std.specs.Prelude.{◌≡◌, ◌<◌, ◌≤◌, ◌+◌, ◌-◌, [], length, max, take, drop, vec_capacity};
 
+use crate::hand::Hand;
 use crate::locked::OwnerToJob;
 use crate::rule::PlaceRule;
-use blocking_core::pipe::{CopyStore, Peeked, Store};
+use blocking_core::pipe::{CopyStore, Loan, Peeked, Store};
 use blocking_lock::{OwnerWaker, enter_where};
 use blocking_pool::pool::JobNo;
 use std::marker::Model;
@@ -21,65 +22,73 @@ use std::sync::{Arc, Mutex, MutexGuard, Wait};
 #[derive(Drop)]
 pub struct PeekEnd<X: Drop, R: PlaceRule<X>, S: Store<X>, H: Wait + Copy> {
     pipe: Arc<Mutex<OwnerToJob<X, R, S>>>,
-    received: u64,
-    // What was lent last, and how many of it were consumed.
-    piece: Vec<X>,
-    consumed: usize,
-    // How many items the last peek showed that weren't consumed since, and how many are lent at once at most.
+    hand: Hand<X, R>,
+    // How many items are lent.
+    lent: Loan,
+    // How many items the last peek showed that weren't consumed since.
     peeked: usize,
-    most: usize,
     rt: H,
 }
 
 impl<X: Drop, R: PlaceRule<X>, S: Store<X>, H: Wait + Copy> Model for PeekEnd<X, R, S, H> {
-    ghost use Rattle.std.specs.Prelude.{◌<◌, ◌≤◌, drop, vec_len, vec_capacity};
+    ghost use Rattle.std.specs.Prelude.{◌≡◌, length};
     ghost use Rattle.blocking_ends.specs.Counted.{Peeking, peeking_code};
-    ghost use Rattle.blocking_ends.specs.Rules.{HoldFrom};
 
     ghost Value = { Peeking X };
 
     ghost coded = { peeking_code X.code };
 
-    ghost view = { λ e. record { received = e.received; shown = drop e.consumed e.piece.items; peeked = e.peeked } };
+    ghost view = { λ e. record { received = e.hand.received; shown = e.hand.left; peeked = e.peeked } };
 
-    ghost invariant = { λ e. (e.consumed ≤ vec_len e.piece)
-        × HoldFrom R.holds e.received (drop e.consumed e.piece.items)
-        × (0 < e.most)
-        × (e.most ≤ vec_capacity e.piece) };
+    ghost invariant = { λ e. e.lent.count ≡ length e.hand.left };
 }
 
 impl<X: Drop, R: PlaceRule<X>, S: Store<X>, H: Wait + Copy> PeekEnd<X, R, S, H> {
     ghost use Rattle.blocking_ends.specs.Counted.{may_consume};
     ghost use Rattle.blocking_ends.specs.Rules.{HoldFrom};
 
-    // The end to which so many items are lent at once at most, for which the piece has memory.
+    // The end to which so many items are lent at once at most, for which the piece has memory; none is yet.
     pub(crate) fn new(
         rt: H,
         pipe: Arc<Mutex<OwnerToJob<X, R, S>>>,
+        lent: Loan,
         piece: Vec<X>,
         most: usize,
     ) -> Self
-        requires none { piece.items ≡ [] }
+        requires none { lent.count ≡ 0 }
         requires some { 0 < most }
         requires fits { most ≤ vec_capacity piece }
         ensures { result ≡ record { received = 0; shown = []; peeked = 0 } }
     {
         PeekEnd {
             pipe,
-            received: 0,
-            piece,
-            consumed: 0,
+            hand: Hand::new(piece, most),
+            lent,
             peeked: 0,
-            most,
             rt,
         }
+    }
+
+    // The piece in which items are lent, and how many at once at most. Its end of the pipe is given up.
+    pub(crate) fn into_parts(self) -> (Vec<X>, usize)
+        ensures some { 0 < result.1 }
+        ensures fits { result.1 ≤ vec_capacity result.0 }
+    {
+        let PeekEnd {
+            pipe: _,
+            hand,
+            lent: _,
+            peeked: _,
+            rt: _,
+        } = self;
+        hand.into_parts()
     }
 
     /// How many items were consumed: the place of the next one.
     pub fn received(&self) -> u64
         ensures { result ≡ self.now.received }
     {
-        self.received
+        self.hand.received()
     }
 
     /// The items that were lent last and weren't consumed since. Each holds at its place.
@@ -87,7 +96,7 @@ impl<X: Drop, R: PlaceRule<X>, S: Store<X>, H: Wait + Copy> PeekEnd<X, R, S, H> 
         ensures shown { result.now ≡ self.now.shown }
         ensures held { HoldFrom R.holds self.now.received self.now.shown }
     {
-        &self.piece[self.consumed..]
+        self.hand.left()
     }
 
     /// How many items may be consumed: those that are lent, or those that the last peek showed and that weren't consumed since, if they are
@@ -95,14 +104,7 @@ impl<X: Drop, R: PlaceRule<X>, S: Store<X>, H: Wait + Copy> PeekEnd<X, R, S, H> 
     pub fn may_consume(&self) -> usize
         ensures { result ≡ may_consume self.now }
     {
-        self.left().max(self.peeked)
-    }
-
-    // How many items are lent.
-    fn left(&self) -> usize
-        ensures { result ≡ length self.now.shown }
-    {
-        self.piece.len() - self.consumed
+        self.hand.len().max(self.peeked)
     }
 
     // The pipe, where it has the count that this end knows of, has lent so many items, and holds so many more.
@@ -110,13 +112,14 @@ impl<X: Drop, R: PlaceRule<X>, S: Store<X>, H: Wait + Copy> PeekEnd<X, R, S, H> 
         pipe: &'a Mutex<OwnerToJob<X, R, S>>,
         rt: &H,
         received: u64,
-        lent: usize,
+        lent: &Loan,
         more: usize,
     ) -> MutexGuard<'a, OwnerToJob<X, R, S>>
         ensures received { result.value.received ≡ received }
-        ensures lent { result.value.pipe.lent ≡ lent }
+        ensures lent { result.value.pipe.lent ≡ lent.now.count }
         ensures more { more ≤ length result.value.pipe.items }
     {
+        let lent = lent.count();
         enter_where(pipe, rt, |pipe: &OwnerToJob<X, R, S>| {
             pipe.received() == received && pipe.lent() == lent && more <= pipe.len()
         })
@@ -130,13 +133,14 @@ impl<X: Drop, R: PlaceRule<X>, S: Store<X>, H: Wait + Copy> PeekEnd<X, R, S, H> 
         ensures shown { self.new.shown ≡ drop count self.old.shown }
         ensures peeked { self.new.peeked ≡ self.old.peeked - count }
     {
-        let lent = self.left();
-        let of_lent = count.min(lent);
-        let mut pipe = Self::enter(&self.pipe, &self.rt, self.received, lent, count - of_lent);
+        let received = self.hand.received();
+        let more = count - count.min(self.hand.len());
+        let mut pipe = Self::enter(&self.pipe, &self.rt, received, &self.lent, more);
         let waker = pipe.consume(count);
-        self.received = pipe.received();
+        let _counted = pipe.received();
+        self.lent = pipe.loan();
         drop(pipe);
-        self.consumed += of_lent;
+        self.hand.pass(count);
         self.peeked = self.peeked.saturating_sub(count);
         waker
     }
@@ -145,7 +149,7 @@ impl<X: Drop, R: PlaceRule<X>, S: Store<X>, H: Wait + Copy> PeekEnd<X, R, S, H> 
     pub fn close(&mut self) -> Option<OwnerWaker>
         ensures { self.new ≡ self.old }
     {
-        Self::enter(&self.pipe, &self.rt, self.received, self.left(), 0).close_job()
+        Self::enter(&self.pipe, &self.rt, self.hand.received(), &self.lent, 0).close_job()
     }
 }
 
@@ -167,7 +171,7 @@ impl<X: Copy, R: PlaceRule<X>, S: CopyStore<X>, H: Wait + Copy> PeekEnd<X, R, S,
         if first == out.len() {
             return first;
         }
-        let pipe = Self::enter(&self.pipe, &self.rt, self.received, lent.len(), 0);
+        let pipe = Self::enter(&self.pipe, &self.rt, self.hand.received(), &self.lent, 0);
         first + pipe.peek(&mut out[first..])
     }
 
@@ -184,11 +188,14 @@ impl<X: Copy, R: PlaceRule<X>, S: CopyStore<X>, H: Wait + Copy> PeekEnd<X, R, S,
         ensures rest { drop (shown_by result) out.new ≡ drop (shown_by result) out.old }
         ensures ended { OnDrained result (R.ended self.old.received) }
     {
-        if self.left() > 0 {
+        if self.hand.len() > 0 {
             self.peeked = self.peek_lent(out);
             return Peeked::Some(self.peeked);
         }
-        let peeked = Self::enter(&self.pipe, &self.rt, self.received, 0, 0).peek_or_seat(me, out);
+        let received = self.hand.received();
+        let mut pipe = Self::enter(&self.pipe, &self.rt, received, &self.lent, 0);
+        let peeked = pipe.peek_or_seat(me, out);
+        drop(pipe);
         self.peeked = match peeked {
             Peeked::Some(count) => count,
             Peeked::Parked | Peeked::Drained => 0,
@@ -207,17 +214,13 @@ impl<X: Copy, R: PlaceRule<X>, S: CopyStore<X>, H: Wait + Copy> PeekEnd<X, R, S,
         ensures held { HoldFrom R.holds self.old.received self.new.shown }
         ensures ended { OnDrained result (R.ended self.old.received) }
     {
-        let left = self.left();
+        let left = self.hand.len();
         if left > 0 {
             return Peeked::Some(left);
         }
-        let mut pipe = Self::enter(&self.pipe, &self.rt, self.received, 0, 0);
-        let lent = pipe.lend_or_seat(me, self.most, &mut self.piece);
-        drop(pipe);
-        self.consumed = match lent {
-            Peeked::Some(_) => 0,
-            Peeked::Parked | Peeked::Drained => self.piece.len(),
-        };
+        let mut pipe = Self::enter(&self.pipe, &self.rt, self.hand.received(), &self.lent, 0);
+        let lent = self.hand.lend_or_seat(&mut *pipe, me);
+        self.lent = pipe.loan();
         lent
     }
 }

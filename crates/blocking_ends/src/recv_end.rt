@@ -74,8 +74,6 @@ impl<X: Drop, R: PlaceRule<X>, S: Store<X>, H: Wait + Copy> RecvEnd<X, R, S, H> 
 
     /// Receives the first item, and with it the note of a job that waits, which has to be spent. Where the pipe is empty and the
     /// job's end is open the poll waits.
-    ///
-    /// Over a store into which pieces move, an item out of a piece costs as much as is left of it, and no later piece moves in: those are drained.
     pub fn receive_or_seat(&mut self, cx: &mut Context<'_>) -> Received<X>
         ensures received { self.new.received ≡ self.old.received + got_by_receive result }
         ensures held { IfReceived result (R.holds self.old.received) }

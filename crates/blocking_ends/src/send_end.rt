@@ -1,5 +1,5 @@
 //! The end of a job that sends to its owner.
-ghost use Rattle.std.specs.Prelude.{◌≡◌, ◌<◌, ◌≤◌, ◌+◌, ◌-◌, length, take};
+ghost use Rattle.std.specs.Prelude.{◌≡◌, ◌<◌, ◌≤◌, ◌+◌, ◌-◌, length, take, vec_capacity, IsNone};
 
 use crate::locked::JobToOwner;
 use crate::rule::PlaceRule;
@@ -105,6 +105,21 @@ impl<X: Drop, R: PlaceRule<X>, S: Store<X>, H: Wait + Copy> SendEnd<X, R, S, H> 
     }
 }
 
+// Makes a piece so long again, with this item where nothing stood. One that was used before is so already.
+fn lengthen<X: Copy>(piece: &mut Vec<X>, long: usize, item: Option<X>)
+    requires fits { long ≤ vec_capacity piece.old }
+    requires some { IsNone item → long ≡ 0 }
+    ensures { length piece.new.items ≡ long }
+{
+    let Some(item) = item else {
+        piece.clear();
+        return;
+    };
+    let Ok(()) = piece.resize(long, item) else {
+        unreachable!()
+    };
+}
+
 impl<X: Copy, R: PlaceRule<X>, S: CopyStore<X>, H: Wait + Copy> SendEnd<X, R, S, H> {
     ghost use Rattle.blocking_ends.specs.Answers.{sent_by_put};
     ghost use Rattle.blocking_ends.specs.Rules.{HoldFrom};
@@ -127,8 +142,8 @@ impl<X: Copy, R: PlaceRule<X>, S: CopyStore<X>, H: Wait + Copy> SendEnd<X, R, S,
         put
     }
 
-    /// As `put`, for the first `count` items of a piece. A store into which pieces move takes it as it is where it can, and gives memory as long
-    /// for it. What stands in the piece afterwards is not to be relied on.
+    /// As `put`, for the first `count` items of a piece. A store of pieces takes it as it is where it can, and gives another for it. The piece is
+    /// as long afterwards, and what stands in it is not to be relied on.
     pub fn put_piece(&mut self, piece: &mut Vec<X>, count: usize) -> Put<OwnerWaker>
         requires some { count ≤ length piece.old.items }
         requires fits { count ≤ self.old.free }
@@ -137,6 +152,8 @@ impl<X: Copy, R: PlaceRule<X>, S: CopyStore<X>, H: Wait + Copy> SendEnd<X, R, S,
         ensures free { self.new.free ≡ self.old.free - sent_by_put result count }
         ensures long { length piece.new.items ≡ length piece.old.items }
     {
+        let long = piece.len();
+        let first = piece.first().copied();
         let mut pipe = Self::enter(&self.pipe, &self.rt, self.sent, self.free);
         let put = pipe.put_piece(piece, count);
         self.sent = pipe.sent();
@@ -144,6 +161,7 @@ impl<X: Copy, R: PlaceRule<X>, S: CopyStore<X>, H: Wait + Copy> SendEnd<X, R, S,
         if let Put::In(_) = &put {
             self.free -= count;
         }
+        lengthen(piece, long, first);
         put
     }
 }

@@ -3,3 +3,4 @@ pub mod Operators
 pub mod Readers
 pub mod Seekers
 pub mod Writers
+pub mod Works

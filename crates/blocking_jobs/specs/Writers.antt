@@ -1,5 +1,5 @@
 -- What contracts see of a writing job, and what each of its steps does.
-use Rattle.std.specs.Prelude.{◌+◌, ◌≡◌, ◌<◌, ◌≤◌, ℕ, Bool, List, length, min, take, drop, Option, Some, None, refl}
+use Rattle.std.specs.Prelude.{◌+◌, ◌≡◌, ◌<◌, ◌≤◌, ℕ, Bool, List, length, min, take, drop, Option, Some, None, IsSome, refl}
 use Rattle.std.specs.Coded.{Coded, code_by, coded×, coded_bool, coded_ℕ, coded_list, coded_option}
 use Rattle.std.specs.Io.KnownBytes.{Appends, Keeps}
 use Rattle.std.specs.declared.io.Error.{Error}
@@ -14,25 +14,33 @@ use Rattle.blocking_core.specs.declared.job.write.WriteAnswer.TheVariants as by
 use Rattle.blocking_core.specs.contracts.job.write.WriteAction.{the_row}
 use Rattle.blocking_pool.specs.declared.pool.job.JobStep.{JobStep}
 use Rattle.blocking_pool.specs.declared.pool.job.JobStep.TheVariants as step
+use Rattle.blocking_jobs.specs.Works.{Both}
 
--- a writing job: what it does next and what its writer did wrong, its writer until that is given back, the bytes that it was lent and
--- still has, and how many bytes it let go of
-pub record WriteSeen (T : Type 0) : Type 0 where
-  pub core : WriteMachine Error
-  pub writer : Option T
+-- a writer at work: the bytes that were lent and are left, and how many bytes were let go
+pub record Writing (T : Type 0) : Type 0 where
+  pub writer : T
   pub piece : List ℕ
   pub received : ℕ
+
+-- a writing job: what it does next and what its writer did wrong, and its writer at work until that is given back
+pub record WriteSeen (T : Type 0) : Type 0 where
+  pub core : WriteMachine Error
+  pub work : Option (Writing T)
 
 abbrev pub machine_code : Coded (WriteMachine Error)
 machine_code =
     code_by (WriteAction × (Bool × Option (JobFault Error))) (coded× the_row.coded (coded× coded_bool (coded_option (fault_row error_row).coded)))
     (λ core. (core.next, (core.is_waking, core.fault))) (λ parts. record { next = parts.0; is_waking = parts.1.0; fault = parts.1.1 }) (λ _. refl)
 
+abbrev pub writing_code : {T : Type 0} → Coded T → Coded (Writing T)
+writing_code {T} code =
+    code_by (T × (List ℕ × ℕ)) (coded× code (coded× (coded_list coded_ℕ) coded_ℕ)) (λ seen. (seen.writer, (seen.piece, seen.received)))
+    (λ parts. record { writer = parts.0; piece = parts.1.0; received = parts.1.1 }) (λ _. refl)
+
 abbrev pub write_code : {T : Type 0} → Coded T → Coded (WriteSeen T)
 write_code {T} code =
-    code_by (WriteMachine Error × (Option T × (List ℕ × ℕ))) (coded× machine_code (coded× (coded_option code) (coded× (coded_list coded_ℕ) coded_ℕ)))
-    (λ seen. (seen.core, (seen.writer, (seen.piece, seen.received))))
-    (λ parts. record { core = parts.0; writer = parts.1.0; piece = parts.1.1.0; received = parts.1.1.1 }) (λ _. refl)
+    code_by (WriteMachine Error × Option (Writing T)) (coded× machine_code (coded_option (writing_code code))) (λ seen. (seen.core, seen.work))
+    (λ parts. record { core = parts.0; work = parts.1 }) (λ _. refl)
 
 -- this is an answer to that action: one byte at least is shown, and no more were taken than were offered
 abbrev pub Answers : WriteAction → WriteAnswer Error → Type 0
@@ -55,38 +63,35 @@ told_by by.Parked next = step.Waiting
 told_by answer Done = step.Done
 told_by answer next = step.Again
 
--- how many bytes leave the pipe by an action
-abbrev pub let_go_by : WriteAction → ℕ
-let_go_by (Consume count) = count
-let_go_by action = 0
-
 module _ {T : Type 0} where
-  -- what a writer holds, where that is known
-  abbrev pub held : (T → Option (List ℕ)) → Option T → Option (List ℕ)
-  held contents None = None
-  held contents (Some writer) = contents writer
+  -- it lets go of nothing, and its piece is the same
+  abbrev pub KeepsPlace : Writing T → Writing T → Type 0
+  KeepsPlace was is = (is.piece ≡ was.piece) × (is.received ≡ was.received)
 
-  -- What becomes of the writer and the piece: a write offers the first bytes of the piece and no others, and of these the writer holds
-  -- those that it took; nothing else changes what it holds. Bytes leave the front of the piece as they are let go, and only a peek brings
-  -- others, once none are left: one that finds some left shows these. What it tells is how many it shows, 65536 at most.
-  abbrev pub Hands : (T → Option (List ℕ)) → WriteAction → WriteAnswer Error → WriteSeen T → WriteSeen T → Type 0
+  -- What becomes of the writer at work: a write offers the first bytes of the piece and no others, and of these the writer holds those that it
+  -- took; nothing else changes what it holds. Bytes leave the front of the piece as they are let go, and only a peek brings others, once none
+  -- are left: one that finds some left shows these. What it tells is how many it shows, 65536 at most.
+  abbrev pub Hands : (T → Option (List ℕ)) → WriteAction → WriteAnswer Error → Option (Writing T) → Option (Writing T) → Type 0
   Hands contents (Write most) (by.Took count) old new =
-      Appends (held contents old.writer) (held contents new.writer) (take count (take most old.piece)) × (new.piece ≡ old.piece)
-  Hands contents (Write most) answer old new = Keeps (held contents old.writer) (held contents new.writer) × (new.piece ≡ old.piece)
-  Hands contents Flush answer old new = Keeps (held contents old.writer) (held contents new.writer) × (new.piece ≡ old.piece)
+      Both old new (λ was is. Appends (contents was.writer) (contents is.writer) (take count (take most was.piece)) × KeepsPlace was is)
+  Hands contents (Write most) answer old new = Both old new (λ was is. Keeps (contents was.writer) (contents is.writer) × KeepsPlace was is)
+  Hands contents Flush answer old new = Both old new (λ was is. Keeps (contents was.writer) (contents is.writer) × KeepsPlace was is)
   Hands contents Peek (by.Peeked count) old new =
-      (new.writer ≡ old.writer) × (count ≡ min (length new.piece) 65536) × (0 < length old.piece → new.piece ≡ old.piece)
-  Hands contents Peek answer old new = (new.writer ≡ old.writer) × (length new.piece ≡ 0)
-  Hands contents (Consume count) answer old new = (new.writer ≡ old.writer) × (new.piece ≡ drop count old.piece)
-  Hands contents Finish answer old new = (new.writer ≡ None) × (new.piece ≡ old.piece)
-  Hands contents action answer old new = (new.writer ≡ old.writer) × (new.piece ≡ old.piece)
+      Both old new (λ was is.
+      (is.writer ≡ was.writer) × (is.received ≡ was.received) × (count ≡ min (length is.piece) 65536)
+      × (0 < length was.piece → is.piece ≡ was.piece))
+  Hands contents Peek answer old new =
+      Both old new (λ was is. (is.writer ≡ was.writer) × (is.received ≡ was.received) × (length is.piece ≡ 0))
+  Hands contents (Consume count) answer old new =
+      Both old new (λ was is. is ≡ record was { piece = drop count was.piece; received = was.received + count })
+  Hands contents Finish answer old new = IsSome old × (new ≡ None)
+  Hands contents action answer old new = new ≡ old
 
   -- the machine got one answer, to the action that was next, and what it says was taken is what the writer and the pipe show
   abbrev pub OneAnswer : (T → Option (List ℕ)) → WriteAction → WriteSeen T → WriteSeen T → JobStep → Type 0
   OneAnswer contents action old new told =
       (answer : WriteAnswer Error) × (new.core ≡ write_after old.core answer) × Answers action answer
-      × (new.received ≡ old.received + let_go_by action) × (told ≡ told_by answer (write_next new.core))
-      × Hands contents action answer old new
+      × (told ≡ told_by answer (write_next new.core)) × Hands contents action answer old.work new.work
 
   -- What one step does: the machine gets one answer, to the action that was next; a job that is over does nothing.
   abbrev pub IsSteppedBy : (T → Option (List ℕ)) → WriteAction → WriteSeen T → WriteSeen T → JobStep → Type 0
@@ -96,15 +101,15 @@ module _ {T : Type 0} where
   abbrev pub IsStepped : (T → Option (List ℕ)) → WriteSeen T → WriteSeen T → JobStep → Type 0
   IsStepped contents old new told = IsSteppedBy contents (write_next old.core) old new told
 
--- The job has what its next action is about: its writer until that is given back, and bytes that were shown for what it offers or lets
--- go. shown is how many were shown last and not let go since.
-abbrev pub Fits : {T : Type 0} → WriteAction → ℕ → Option T → Type 0
-Fits Peek shown (Some writer) = Unit {0}
-Fits (Write most) shown (Some writer) = most ≤ shown
-Fits (Consume count) shown (Some writer) = count ≤ shown
-Fits Flush shown (Some writer) = Unit {0}
-Fits Close shown (Some writer) = Unit {0}
-Fits Finish shown (Some writer) = Unit {0}
-Fits Deliver shown writer = ⊥
-Fits Done shown writer = Unit {0}
-Fits action shown None = ⊥
+  -- The job has what its next action is about: its writer at work until that is given back, and bytes that were shown for what it offers or
+  -- lets go.
+  abbrev pub Fits : WriteAction → Option (Writing T) → Type 0
+  Fits Peek (Some work) = Unit {0}
+  Fits (Write most) (Some work) = most ≤ length work.piece
+  Fits (Consume count) (Some work) = count ≤ length work.piece
+  Fits Flush (Some work) = Unit {0}
+  Fits Close (Some work) = Unit {0}
+  Fits Finish (Some work) = Unit {0}
+  Fits Deliver work = ⊥
+  Fits Done work = Unit {0}
+  Fits action None = ⊥

@@ -9,8 +9,8 @@ mod seek_job;
 mod write_job;
 
 pub use item_job::ItemJob;
-pub use link::{Link, Linked, MayFail, Returned, Sought, WayBack};
+pub use link::{Link, Linked, MayFail, Returned, SessionStore, Sought, WayBack};
 pub use op_job::{OpJob, ResultPlace, ResultSeat};
-pub use read_job::{ReadJob, ReadStore};
+pub use read_job::{ReadBack, ReadJob};
 pub use seek_job::SeekJob;
-pub use write_job::{WriteJob, WriteStore};
+pub use write_job::{WriteBack, WriteJob};

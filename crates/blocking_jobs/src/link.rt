@@ -4,6 +4,7 @@ ghost use Rattle.std.specs.Prelude.{OnErr, IfOk};
 ghost use Rattle.futures.specs.Task.{IsArmed, Keeps};
 
 use blocking_core::io::JobFault;
+use blocking_core::pipe::LendingStore;
 use blocking_core::task::{Put, Seat};
 use blocking_lock::{AnyOf, LockedSlot, OwnerWaker};
 use futures::task::{Context, Source};
@@ -11,6 +12,9 @@ use std::alloc::{AllocError, AllocGlobal};
 use std::io;
 use std::sync::atomic::{AtomicBool, Ordering};
 use std::sync::{Arc, Wait};
+
+/// What holds the bytes of a session that reads or writes: whole pieces go in and come out as they are.
+pub type SessionStore = LendingStore;
 
 /// What a job tells that uses its handle until nobody wants more: its fault, if there was one.
 pub type MayFail = Option<JobFault<io::Error>>;

@@ -4,10 +4,10 @@ ghost use Rattle.std.specs.Io.KnownBytes.{ReadConsumes};
 ghost use Rattle.blocking_core.specs.declared.job.read.ReadAction.TheVariants.{FindRoom, Read as ReadPiece, Put as PutPiece, Close, Finish, Deliver};
 ghost use Rattle.blocking_core.specs.Reading.{new_read, read_next};
 
-use crate::link::{Link, MayFail};
+use crate::link::{Link, MayFail, SessionStore};
 use blocking_core::io::JobFault;
 use blocking_core::job::{ReadAction, ReadAnswer, ReadCore};
-use blocking_core::pipe::{FlatStore, MovingStore, Put, Room};
+use blocking_core::pipe::{Put, Room};
 use blocking_core::pool::{Carries, Job, JobNo, JobStep};
 use blocking_ends::{AnyPlace, SendEnd};
 use blocking_lock::OwnerWaker;
@@ -16,45 +16,65 @@ use std::io::Read;
 use std::marker::Model;
 use std::sync::{Arc, Wait};
 
-/// What holds the bytes of a session that reads: its job's pieces move in as they are.
-pub type ReadStore = MovingStore<FlatStore>;
+/// What comes back with the reader of a session: what its job tells, and what it worked with, which may serve another.
+#[derive(Drop)]
+pub struct ReadBack<H: Wait + Copy> {
+    /// The fault of the reader, if there was one.
+    pub fault: MayFail,
+    /// The job's end of the pipe.
+    pub end: SendEnd<u8, AnyPlace, SessionStore, H>,
+    /// Where a piece stood between the reader and the pipe.
+    pub piece: Vec<u8>,
+}
+
+// A reader at work.
+#[derive(Drop)]
+struct Reading<T: Drop, H: Wait + Copy> {
+    reader: T,
+    end: SendEnd<u8, AnyPlace, SessionStore, H>,
+    // Where a piece stands between the reader and the pipe.
+    piece: Vec<u8>,
+}
+
+impl<T: Drop, H: Wait + Copy> Model for Reading<T, H> {
+    ghost use Rattle.std.specs.Prelude.{◌<◌, vec_len};
+    ghost use Rattle.blocking_jobs.specs.Readers.{Reading as Seen, reading_code};
+
+    ghost Value = { Seen T };
+
+    ghost coded = { reading_code T.code };
+
+    ghost view = { λ w. record { reader = w.reader; sent = w.end.sent; room = w.end.free; piece = w.piece.items } };
+
+    ghost invariant = { λ w. 0 < vec_len w.piece };
+}
 
 /// The job that reads ahead of an owner: it asks its reader for as much as there is room for in the pipe, and puts there what it
-/// was given, until the reader ends or fails or nobody wants more. Then it gives the reader back.
+/// was given, until the reader ends or fails or nobody wants more. Then it gives the reader back, with all that it worked with.
 ///
 /// One that is dropped before it is done drops the reader and gives its slot up, with no lock held. That wakes an owner who waits there for
 /// the reader, and none who waits at the pipe. A pool drops a job only once its owner is gone.
 pub struct ReadJob<T: Drop, H: Wait + Copy> {
     core: ReadCore,
-    // The reader, until it is given back.
-    reader: Option<T>,
+    // The reader at work, until it is given back.
+    work: Option<Reading<T, H>>,
     fault: MayFail,
-    // Where a piece stands between the reader and the pipe.
-    piece: Vec<u8>,
-    end: SendEnd<u8, AnyPlace, ReadStore, H>,
     // The waker that was taken out of the owner's seat, and has to be called.
     waker: OwnerWaker,
-    link: Arc<Link<T, MayFail>>,
+    link: Arc<Link<T, ReadBack<H>>>,
     rt: H,
 }
 
 impl<T: Drop, H: Wait + Copy> Model for ReadJob<T, H> {
-    ghost use Rattle.std.specs.Prelude.{◌<◌, vec_len};
     ghost use Rattle.blocking_jobs.specs.Readers.{ReadSeen, read_code, Fits};
 
     ghost Value = { ReadSeen T };
 
     ghost coded = { read_code T.code };
 
-    ghost view = { λ j. record {
-      core = j.core;
-      reader = j.reader;
-      sent = j.end.sent;
-      fault = j.fault;
-      piece = j.piece.items;
-    } };
+    ghost view = { λ j. record { core = j.core; work = j.work; fault = j.fault } };
 
-    ghost invariant = { λ j. (0 < vec_len j.piece) × Fits j.core.next j.end.free (vec_len j.piece) j.reader };
+    ghost invariant = { λ j. Fits j.core.next j.work };
 }
 
 // Asks the reader for at most so many bytes, all of which the piece holds.
@@ -68,7 +88,7 @@ fn ask<T: Read>(reader: &mut T, piece: &mut [u8], most: usize) -> io::Result<usi
 }
 
 impl<T: Drop, H: Wait + Copy> ReadJob<T, H> {
-    ghost use Rattle.std.specs.Prelude.{vec_len};
+    ghost use Rattle.std.specs.Prelude.{option_map, vec_len};
     ghost use Rattle.blocking_jobs.specs.Readers.{ReadSeen};
 
     /// The job of a session that reads: `piece` is what it reads into, and `end` the pipe into which that goes. The reader comes back over
@@ -77,18 +97,20 @@ impl<T: Drop, H: Wait + Copy> ReadJob<T, H> {
         rt: H,
         reader: T,
         piece: Vec<u8>,
-        end: SendEnd<u8, AnyPlace, ReadStore, H>,
-        link: Arc<Link<T, MayFail>>,
+        end: SendEnd<u8, AnyPlace, SessionStore, H>,
+        link: Arc<Link<T, ReadBack<H>>>,
     ) -> ReadJob<T, H>
         requires { 0 < vec_len piece }
-        ensures { result ≡ record { core = new_read; reader = Some reader; sent = end.sent; fault = None; piece = piece.items } }
+        ensures { result ≡ record {
+          core = new_read;
+          work = Some (record { reader = reader; sent = end.sent; room = end.free; piece = piece.items });
+          fault = None;
+        } }
     {
         ReadJob {
             core: ReadCore::new(),
-            reader: Some(reader),
+            work: Some(Reading { reader, end, piece }),
             fault: None,
-            piece,
-            end,
             waker: None,
             link,
             rt,
@@ -97,19 +119,26 @@ impl<T: Drop, H: Wait + Copy> ReadJob<T, H> {
 
     /// The reader, if it wasn't given back. The slot stays as it is.
     pub fn into_reader(self) -> Option<T>
-        ensures { result ≡ self.reader }
+        ensures { result ≡ option_map (λ work. work.reader) self.work }
     {
         let ReadJob {
             core: _,
-            reader,
+            work,
             fault: _,
-            piece: _,
-            end: _,
             waker: _,
             link: _,
             rt: _,
         } = self;
-        reader
+        match work {
+            Some(
+                Reading {
+                    reader,
+                    end: _,
+                    piece: _,
+                },
+            ) => Some(reader),
+            None => None,
+        }
     }
 }
 
@@ -120,9 +149,12 @@ impl<T: Read + Drop, H: Wait + Copy> ReadJob<T, H> {
         requires { read_next self.old.core ≡ FindRoom }
         ensures { IsSteppedBy T.remaining FindRoom self.old self.new result }
     {
-        match self.end.room_or_seat(me) {
+        let Some(work) = &mut self.work else {
+            unreachable!()
+        };
+        match work.end.room_or_seat(me) {
             Room::Free(room) => {
-                let free = room.min(self.piece.len());
+                let free = room.min(work.piece.len());
                 self.core.answer(ReadAnswer::Free(free));
                 JobStep::Again
             }
@@ -141,10 +173,10 @@ impl<T: Read + Drop, H: Wait + Copy> ReadJob<T, H> {
         requires { read_next self.old.core ≡ ReadPiece most }
         ensures { IsSteppedBy T.remaining (ReadPiece most) self.old self.new result }
     {
-        let Some(reader) = &mut self.reader else {
+        let Some(work) = &mut self.work else {
             unreachable!()
         };
-        match ask(reader, self.piece.as_mut_slice(), most) {
+        match ask(&mut work.reader, work.piece.as_mut_slice(), most) {
             Ok(count) => self.core.answer(ReadAnswer::Gave(count)),
             Err(error) => {
                 self.fault = Some(JobFault::Io(error));
@@ -158,7 +190,10 @@ impl<T: Read + Drop, H: Wait + Copy> ReadJob<T, H> {
         requires { read_next self.old.core ≡ PutPiece count }
         ensures { IsSteppedBy T.remaining (PutPiece count) self.old self.new result }
     {
-        match self.end.put_piece(&mut self.piece, count) {
+        let Some(work) = &mut self.work else {
+            unreachable!()
+        };
+        match work.end.put_piece(&mut work.piece, count) {
             Put::In(seat) => {
                 let woke = seat.is_some();
                 self.waker = seat.flatten();
@@ -173,7 +208,10 @@ impl<T: Read + Drop, H: Wait + Copy> ReadJob<T, H> {
         requires { read_next self.old.core ≡ Close }
         ensures { IsSteppedBy T.remaining Close self.old self.new result }
     {
-        let seat = self.end.close();
+        let Some(work) = &mut self.work else {
+            unreachable!()
+        };
+        let seat = work.end.close();
         let woke = seat.is_some();
         self.waker = seat.flatten();
         self.core.answer(ReadAnswer::Closed { woke });
@@ -184,10 +222,15 @@ impl<T: Read + Drop, H: Wait + Copy> ReadJob<T, H> {
         requires { read_next self.old.core ≡ Finish }
         ensures { IsSteppedBy T.remaining Finish self.old self.new result }
     {
-        let Some(handle) = self.reader.take() else {
+        let Some(Reading { reader, end, piece }) = self.work.take() else {
             unreachable!()
         };
-        let wake = self.link.give_back(&self.rt, handle, self.fault.take());
+        let told = ReadBack {
+            fault: self.fault.take(),
+            end,
+            piece,
+        };
+        let wake = self.link.give_back(&self.rt, reader, told);
         let woke = wake.is_some();
         self.waker = wake.flatten();
         self.core.answer(ReadAnswer::Finished { woke });
@@ -213,16 +256,14 @@ impl<T: Drop, H: Wait + Copy> Drop for ReadJob<T, H> {
     fn drop(self) {
         let ReadJob {
             core,
-            reader,
+            work,
             fault: _,
-            piece: _,
-            end: _,
             waker,
             link,
             rt,
         } = self;
         // The reader is gone before the owner is told. (a waker that is dropped wakes)
-        drop(reader);
+        drop(work);
         drop(waker);
         if let ReadAction::Done = core.next() {
             return;

@@ -5,9 +5,9 @@ ghost use Rattle.std.specs.Io.KnownBytes.{WriteAppends};
 ghost use Rattle.blocking_core.specs.declared.job.write.WriteAction.TheVariants.{Peek, Write as WritePiece, Consume, Flush, Close, Finish, Deliver};
 ghost use Rattle.blocking_core.specs.Writing.{new_write, write_next};
 
-use crate::link::{Link, MayFail};
+use crate::link::{Link, MayFail, SessionStore};
 use blocking_core::job::{PIECE, WriteAction, WriteAnswer, WriteCore};
-use blocking_core::pipe::{LendingStore, Peeked};
+use blocking_core::pipe::Peeked;
 use blocking_core::pool::{Carries, Job, JobNo, JobStep};
 use blocking_ends::{AnyPlace, PeekEnd};
 use blocking_lock::OwnerWaker;
@@ -16,41 +16,58 @@ use std::io::Write;
 use std::marker::Model;
 use std::sync::{Arc, Wait};
 
-/// What holds the bytes of a session that writes: whole pieces of its owner's are lent to its job as they are.
-pub type WriteStore = LendingStore;
+/// What comes back with the writer of a session: what its job tells, and what it worked with, which may serve another session.
+#[derive(Drop)]
+pub struct WriteBack<H: Wait + Copy> {
+    /// The fault of the writer, if there was one.
+    pub fault: MayFail,
+    /// The job's end of the pipe.
+    pub end: PeekEnd<u8, AnyPlace, SessionStore, H>,
+}
+
+// A writer at work.
+#[derive(Drop)]
+struct Writing<T: Drop, H: Wait + Copy> {
+    writer: T,
+    end: PeekEnd<u8, AnyPlace, SessionStore, H>,
+}
+
+impl<T: Drop, H: Wait + Copy> Model for Writing<T, H> {
+    ghost use Rattle.blocking_jobs.specs.Writers.{Writing as Seen, writing_code};
+
+    ghost Value = { Seen T };
+
+    ghost coded = { writing_code T.code };
+
+    ghost view = { λ w. record { writer = w.writer; piece = w.end.shown; received = w.end.received } };
+}
 
 /// The job that writes behind an owner: it offers its writer what stands at the front of the pipe, and lets go of what the writer took,
-/// until the owner wants no more and all is written, or the writer fails. Then it flushes the writer and gives it back.
+/// until the owner wants no more and all is written, or the writer fails. Then it flushes the writer and gives it back, with all that it worked
+/// with.
 ///
 /// One that is dropped before it is done drops the writer and gives its slot up, with no lock held. That wakes an owner who waits there for
 /// the writer, and none who waits at the pipe. A pool drops a job only once its owner is gone. What wasn't written then is lost.
 pub struct WriteJob<T: Drop, H: Wait + Copy> {
     core: WriteCore<io::Error>,
-    // The writer, until it is given back.
-    writer: Option<T>,
-    end: PeekEnd<u8, AnyPlace, WriteStore, H>,
+    // The writer at work, until it is given back.
+    work: Option<Writing<T, H>>,
     // The waker that was taken out of the owner's seat, and has to be called.
     waker: OwnerWaker,
-    link: Arc<Link<T, MayFail>>,
+    link: Arc<Link<T, WriteBack<H>>>,
     rt: H,
 }
 
 impl<T: Drop, H: Wait + Copy> Model for WriteJob<T, H> {
-    ghost use Rattle.std.specs.Prelude.{length};
     ghost use Rattle.blocking_jobs.specs.Writers.{WriteSeen, write_code, Fits};
 
     ghost Value = { WriteSeen T };
 
     ghost coded = { write_code T.code };
 
-    ghost view = { λ j. record {
-      core = j.core;
-      writer = j.writer;
-      piece = j.end.shown;
-      received = j.end.received;
-    } };
+    ghost view = { λ j. record { core = j.core; work = j.work } };
 
-    ghost invariant = { λ j. Fits j.core.next (length j.end.shown) j.writer };
+    ghost invariant = { λ j. Fits j.core.next j.work };
 }
 
 // Offers the writer so many bytes of the piece.
@@ -63,21 +80,24 @@ fn offer<T: Write>(writer: &mut T, piece: &[u8], most: usize) -> io::Result<usiz
 }
 
 impl<T: Drop, H: Wait + Copy> WriteJob<T, H> {
+    ghost use Rattle.std.specs.Prelude.{option_map};
     ghost use Rattle.blocking_jobs.specs.Writers.{WriteSeen};
 
     /// The job of a session that writes: `end` shows it the pipe that it writes out. The writer comes back over the link.
     pub fn new(
         rt: H,
         writer: T,
-        end: PeekEnd<u8, AnyPlace, WriteStore, H>,
-        link: Arc<Link<T, MayFail>>,
+        end: PeekEnd<u8, AnyPlace, SessionStore, H>,
+        link: Arc<Link<T, WriteBack<H>>>,
     ) -> WriteJob<T, H>
-        ensures { result ≡ record { core = new_write; writer = Some writer; piece = end.shown; received = end.received } }
+        ensures { result ≡ record {
+          core = new_write;
+          work = Some (record { writer = writer; piece = end.shown; received = end.received });
+        } }
     {
         WriteJob {
             core: WriteCore::new(),
-            writer: Some(writer),
-            end,
+            work: Some(Writing { writer, end }),
             waker: None,
             link,
             rt,
@@ -86,17 +106,19 @@ impl<T: Drop, H: Wait + Copy> WriteJob<T, H> {
 
     /// The writer, if it wasn't given back. The slot stays as it is.
     pub fn into_writer(self) -> Option<T>
-        ensures { result ≡ self.writer }
+        ensures { result ≡ option_map (λ work. work.writer) self.work }
     {
         let WriteJob {
             core: _,
-            writer,
-            end: _,
+            work,
             waker: _,
             link: _,
             rt: _,
         } = self;
-        writer
+        match work {
+            Some(Writing { writer, end: _ }) => Some(writer),
+            None => None,
+        }
     }
 }
 
@@ -107,7 +129,10 @@ impl<T: Write + Drop, H: Wait + Copy> WriteJob<T, H> {
         requires { write_next self.old.core ≡ Peek }
         ensures { IsSteppedBy T.contents Peek self.old self.new result }
     {
-        match self.end.lend_or_seat(me) {
+        let Some(work) = &mut self.work else {
+            unreachable!()
+        };
+        match work.end.lend_or_seat(me) {
             Peeked::Some(count) => {
                 self.core.answer(WriteAnswer::Peeked(count.min(PIECE)));
                 JobStep::Again
@@ -127,10 +152,10 @@ impl<T: Write + Drop, H: Wait + Copy> WriteJob<T, H> {
         requires { write_next self.old.core ≡ WritePiece most }
         ensures { IsSteppedBy T.contents (WritePiece most) self.old self.new result }
     {
-        let Some(writer) = &mut self.writer else {
+        let Some(work) = &mut self.work else {
             unreachable!()
         };
-        match offer(writer, self.end.shown(), most) {
+        match offer(&mut work.writer, work.end.shown(), most) {
             Ok(count) => self.core.answer(WriteAnswer::Took(count)),
             Err(error) => self.core.answer(WriteAnswer::Failed(error)),
         }
@@ -141,7 +166,10 @@ impl<T: Write + Drop, H: Wait + Copy> WriteJob<T, H> {
         requires { write_next self.old.core ≡ Consume count }
         ensures { IsSteppedBy T.contents (Consume count) self.old self.new result }
     {
-        let seat = self.end.consume(count);
+        let Some(work) = &mut self.work else {
+            unreachable!()
+        };
+        let seat = work.end.consume(count);
         let woke = seat.is_some();
         self.waker = seat.flatten();
         self.core.answer(WriteAnswer::Consumed { woke });
@@ -152,10 +180,10 @@ impl<T: Write + Drop, H: Wait + Copy> WriteJob<T, H> {
         requires { write_next self.old.core ≡ Flush }
         ensures { IsSteppedBy T.contents Flush self.old self.new result }
     {
-        let Some(writer) = &mut self.writer else {
+        let Some(work) = &mut self.work else {
             unreachable!()
         };
-        match writer.flush() {
+        match work.writer.flush() {
             Ok(()) => self.core.answer(WriteAnswer::Flushed),
             Err(error) => self.core.answer(WriteAnswer::Failed(error)),
         }
@@ -166,7 +194,10 @@ impl<T: Write + Drop, H: Wait + Copy> WriteJob<T, H> {
         requires { write_next self.old.core ≡ Close }
         ensures { IsSteppedBy T.contents Close self.old self.new result }
     {
-        let seat = self.end.close();
+        let Some(work) = &mut self.work else {
+            unreachable!()
+        };
+        let seat = work.end.close();
         let woke = seat.is_some();
         self.waker = seat.flatten();
         self.core.answer(WriteAnswer::Closed { woke });
@@ -177,10 +208,13 @@ impl<T: Write + Drop, H: Wait + Copy> WriteJob<T, H> {
         requires { write_next self.old.core ≡ Finish }
         ensures { IsSteppedBy T.contents Finish self.old self.new result }
     {
-        let Some(handle) = self.writer.take() else {
+        let Some(Writing { writer, end }) = self.work.take() else {
             unreachable!()
         };
-        let wake = self.link.give_back(&self.rt, handle, self.core.fault());
+        let fault = self.core.fault();
+        let wake = self
+            .link
+            .give_back(&self.rt, writer, WriteBack { fault, end });
         let woke = wake.is_some();
         self.waker = wake.flatten();
         self.core.answer(WriteAnswer::Finished { woke });
@@ -206,14 +240,13 @@ impl<T: Drop, H: Wait + Copy> Drop for WriteJob<T, H> {
     fn drop(self) {
         let WriteJob {
             core,
-            writer,
-            end: _,
+            work,
             waker,
             link,
             rt,
         } = self;
         // The writer is gone before the owner is told. (a waker that is dropped wakes)
-        drop(writer);
+        drop(work);
         drop(waker);
         if let WriteAction::Done = core.next() {
             return;

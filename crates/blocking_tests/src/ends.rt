@@ -1,4 +1,5 @@
 //! The ends of pipes, on real threads where it says so.
+mod again;
 mod bytes;
 mod numbers;
 mod steps;

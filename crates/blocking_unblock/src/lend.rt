@@ -10,6 +10,7 @@ ghost use Rattle.blocking_unblock.specs.Polls.{Kept, Onward};
 
 use crate::parts::{ItemParts, ReadParts, WriteParts, item_parts, read_parts, write_parts};
 use crate::session::{Session, Side};
+use crate::spare::Spare;
 use blocking_core::io::Position;
 use blocking_core::pool::{Carries, Job, Refusal, Refused};
 use blocking_core::task::{CallOn, Seat};
@@ -48,11 +49,12 @@ pub(crate) trait Lends<T: Drop, I: Drop, J: Job, H: Runtime> {
     /// What it has got by now.
     ghost keeps: { Self → Kept → Type 0 };
 
-    /// Hands the handle to the job of a new session, whose memory is had before it enters.
+    /// Hands the handle to the job of a new session, whose memory is had before it enters: what is spare, where the session has a use for it.
     fn lend(
         &mut self,
         executor: &Executor<J, H>,
         capacity: Capacity,
+        spare: Spare,
         handle: T,
     ) -> Result<Session<T, I, H>, Refused<T>>
         requires { (state : State) × begins self.old state }
@@ -114,10 +116,11 @@ impl<T: Read + Drop, I: Drop, J: Job + Carries<ReadJob<T, H>>, H: Runtime> Lends
         &mut self,
         executor: &Executor<J, H>,
         capacity: Capacity,
+        spare: Spare,
         handle: T,
     ) -> Result<Session<T, I, H>, Refused<T>> {
         let rt = executor.runtime();
-        let Ok(parts) = read_parts(rt, capacity.bytes) else {
+        let Ok(parts) = read_parts(rt, capacity.bytes, spare) else {
             return Err(no_memory(handle));
         };
         let ReadParts {
@@ -156,10 +159,11 @@ impl<T: Write + Drop, I: Drop, J: Job + Carries<WriteJob<T, H>>, H: Runtime> Len
         &mut self,
         executor: &Executor<J, H>,
         capacity: Capacity,
+        spare: Spare,
         handle: T,
     ) -> Result<Session<T, I, H>, Refused<T>> {
         let rt = executor.runtime();
-        let Ok(parts) = write_parts(rt, capacity.bytes) else {
+        let Ok(parts) = write_parts(rt, capacity.bytes, spare) else {
             return Err(no_memory(handle));
         };
         let WriteParts { session, end, link } = parts;
@@ -201,8 +205,11 @@ impl<T: Iterator<Item = I> + Drop, I: Drop, J: Job + Carries<ItemJob<T, I, H>>, 
         &mut self,
         executor: &Executor<J, H>,
         capacity: Capacity,
+        spare: Spare,
         handle: T,
     ) -> Result<Session<T, I, H>, Refused<T>> {
+        // (given back before more is asked for)
+        drop(spare);
         let rt = executor.runtime();
         let Ok(parts) = item_parts(rt, capacity.items) else {
             return Err(no_memory(handle));
@@ -242,8 +249,11 @@ impl<T: Seek + Drop, I: Drop, J: Job + Carries<SeekJob<T, H>>, H: Runtime> Lends
         &mut self,
         executor: &Executor<J, H>,
         _capacity: Capacity,
+        spare: Spare,
         handle: T,
     ) -> Result<Session<T, I, H>, Refused<T>> {
+        // (given back before more is asked for)
+        drop(spare);
         let rt = executor.runtime();
         let Ok(linked) = Linked::new(rt) else {
             return Err(no_memory(handle));
@@ -319,8 +329,11 @@ impl<
         &mut self,
         executor: &Executor<J, H>,
         _capacity: Capacity,
+        spare: Spare,
         handle: T,
     ) -> Result<Session<T, I, H>, Refused<T>> {
+        // (given back before more is asked for)
+        drop(spare);
         let rt = executor.runtime();
         let Ok(linked) = Linked::new(rt) else {
             return Err(no_memory(handle));
@@ -377,6 +390,7 @@ impl<T: Drop, I: Drop, J: Job, H: Runtime> Lends<T, I, J, H> for ToNobody {
         &mut self,
         _executor: &Executor<J, H>,
         _capacity: Capacity,
+        _spare: Spare,
         handle: T,
     ) -> Result<Session<T, I, H>, Refused<T>> {
         Err(no_memory(handle))

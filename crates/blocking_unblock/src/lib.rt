@@ -5,6 +5,7 @@ mod lend;
 mod parts;
 mod place;
 mod session;
+mod spare;
 mod take_back;
 mod unblock;
 mod with_mut;

@@ -2,7 +2,8 @@
 ghost use Rattle.std.specs.Prelude.{◌≡◌};
 ghost use Rattle.blocking_unblock.specs.Owners.{state_of, handle_in};
 
-use crate::session::Session;
+use crate::session::{Session, Tools};
+use crate::spare::Spare;
 use blocking_core::unblock::State;
 use std::sync::Wait;
 
@@ -32,6 +33,14 @@ impl<T: Drop, I: Drop, H: Wait + Copy> Place<T, I, H> {
     pub(crate) fn mark(&self) {
         if let Place::Lent(session) = self {
             session.mark();
+        }
+    }
+
+    /// What is left of a session whose handle came back, with what its job worked with.
+    pub(crate) fn into_spare(self, tools: Tools<H>) -> Spare {
+        match self {
+            Place::Lent(session) => session.into_spare(tools),
+            Place::Idle(_) | Place::Closed => Spare::Nothing,
         }
     }
 

@@ -7,13 +7,14 @@ ghost use Rattle.blocking_core.specs.declared.unblock.OwnerEnd.TheVariants.{Open
 ghost use Rattle.blocking_ends.specs.Answers.{IfDrained, OnDrainsWait, IfTook, OnFullWait, OnWait};
 ghost use Rattle.blocking_unblock.specs.Owners.{note_of_drain, answer_of_drain, note_of_fill, answer_of_fill, IsBack, IsSought};
 
+use crate::spare::Spare;
 use blocking_core::io::{Fault, JobFault, Position};
 use blocking_core::pipe::{Drained, Filled, Received, RingStore};
 use blocking_core::pool::WakeNote;
 use blocking_core::task::Seat;
 use blocking_core::unblock::{OwnerAnswer, OwnerEnd, SessionKind};
-use blocking_ends::{AnyPlace, FillEnd, RecvEnd};
-use blocking_jobs::{MayFail, ReadStore, Returned, Sought, WayBack, WriteStore};
+use blocking_ends::{AnyPlace, DrainEnd, FillEnd, PeekEnd, RecvEnd, SendEnd};
+use blocking_jobs::{MayFail, ReadBack, Returned, SessionStore, Sought, WayBack, WriteBack};
 use futures::task::Context;
 use std::io;
 use std::sync::Wait;
@@ -21,8 +22,8 @@ use std::sync::Wait;
 /// What the owner has of a session, by its kind: its end of the pipe, where there is one, and where the handle comes back.
 #[derive(Drop)]
 pub(crate) enum Side<T: Drop, I: Drop, H: Wait + Copy> {
-    Reading(RecvEnd<u8, AnyPlace, ReadStore, H>, WayBack<T, MayFail, H>),
-    Writing(FillEnd<u8, AnyPlace, WriteStore, H>, WayBack<T, MayFail, H>),
+    Reading(DrainEnd<u8, AnyPlace, SessionStore, H>, WayBack<T, ReadBack<H>, H>),
+    Writing(FillEnd<u8, AnyPlace, SessionStore, H>, WayBack<T, WriteBack<H>, H>),
     Streaming(RecvEnd<I, AnyPlace, RingStore, H>, WayBack<T, MayFail, H>),
     Seeking(Position, WayBack<T, Sought, H>),
     Operating(WayBack<T, MayFail, H>),
@@ -56,12 +57,32 @@ fn told_of_seek(sought: Sought) -> OwnerAnswer<io::Error>
     }
 }
 
-// A handle whose job used it until nobody wanted more, and what that is to the machine.
-fn back<T: Drop>(returned: Returned<T, MayFail>) -> (T, OwnerAnswer<io::Error>)
-    ensures { IsBack result.1 }
+/// What a job worked with beside its handle, and may serve the next one.
+#[derive(Drop)]
+pub(crate) enum Tools<H: Wait + Copy> {
+    Nothing,
+    Read(SendEnd<u8, AnyPlace, SessionStore, H>, Vec<u8>),
+    Write(PeekEnd<u8, AnyPlace, SessionStore, H>),
+}
+
+/// A handle that came back.
+#[derive(Drop)]
+pub(crate) struct Back<T: Drop, H: Wait + Copy> {
+    pub handle: T,
+    /// What that is to the machine.
+    pub answer: OwnerAnswer<io::Error>,
+    pub tools: Tools<H>,
+}
+
+// A handle that came back with a fault or none.
+fn came_back<T: Drop, H: Wait + Copy>(handle: T, fault: MayFail, tools: Tools<H>) -> Back<T, H>
+    ensures { IsBack result.answer }
 {
-    let Returned { handle, told } = returned;
-    (handle, told_of_fault(told))
+    Back {
+        handle,
+        answer: told_of_fault(fault),
+        tools,
+    }
 }
 
 // What a drain means to the machine, and the note of the job that came with it.
@@ -129,10 +150,9 @@ impl<T: Drop, I: Drop, H: Wait + Copy> Session<T, I, H> {
     /// Sets the mark of the session: its owner is gone.
     pub(crate) fn mark(&self) {
         match &self.side {
-            Side::Reading(_, way_back)
-            | Side::Writing(_, way_back)
-            | Side::Streaming(_, way_back)
-            | Side::Operating(way_back) => way_back.mark(),
+            Side::Reading(_, way_back) => way_back.mark(),
+            Side::Writing(_, way_back) => way_back.mark(),
+            Side::Streaming(_, way_back) | Side::Operating(way_back) => way_back.mark(),
             Side::Seeking(_, way_back) => way_back.mark(),
         }
     }
@@ -205,23 +225,46 @@ impl<T: Drop, I: Drop, H: Wait + Copy> Session<T, I, H> {
     }
 
     /// Takes the handle out of the slot with what its job tells, or waits there for it.
-    pub(crate) fn poll_back(
-        &self,
-        cx: &mut Context<'_>,
-    ) -> Result<(T, OwnerAnswer<io::Error>), Seat>
-        ensures back { IfOk result (λ came. BackFrom (kind_of self.now.side) came.1) }
+    pub(crate) fn poll_back(&self, cx: &mut Context<'_>) -> Result<Back<T, H>, Seat>
+        ensures back { IfOk result (λ came. BackFrom (kind_of self.now.side) came.answer) }
         ensures armed { OnErr result (IsArmed cx.new) }
         ensures kept { Keeps cx.old cx.new }
     {
         match &self.side {
-            Side::Reading(_, way_back)
-            | Side::Writing(_, way_back)
-            | Side::Streaming(_, way_back)
-            | Side::Operating(way_back) => Ok(back(way_back.poll(cx)?)),
+            Side::Reading(_, way_back) => {
+                let Returned { handle, told } = way_back.poll(cx)?;
+                let ReadBack { fault, end, piece } = told;
+                Ok(came_back(handle, fault, Tools::Read(end, piece)))
+            }
+            Side::Writing(_, way_back) => {
+                let Returned { handle, told } = way_back.poll(cx)?;
+                let WriteBack { fault, end } = told;
+                Ok(came_back(handle, fault, Tools::Write(end)))
+            }
+            Side::Streaming(_, way_back) | Side::Operating(way_back) => {
+                let Returned { handle, told } = way_back.poll(cx)?;
+                Ok(came_back(handle, told, Tools::Nothing))
+            }
             Side::Seeking(_, way_back) => {
                 let Returned { handle, told } = way_back.poll(cx)?;
-                Ok((handle, told_of_seek(told)))
+                Ok(Back {
+                    handle,
+                    answer: told_of_seek(told),
+                    tools: Tools::Nothing,
+                })
             }
+        }
+    }
+
+    /// What is left of the session once its handle came back, with what the job worked with.
+    pub(crate) fn into_spare(self, tools: Tools<H>) -> Spare {
+        let Session { side, owner_end: _ } = self;
+        match (side, tools) {
+            (Side::Reading(end, _), Tools::Read(job_end, piece)) => {
+                Spare::of_read(job_end, piece, end)
+            }
+            (Side::Writing(end, _), Tools::Write(job_end)) => Spare::of_write(job_end, end),
+            _ => Spare::Nothing,
         }
     }
 }

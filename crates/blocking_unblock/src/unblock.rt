@@ -6,6 +6,8 @@ ghost use Rattle.blocking_jobs.specs.Seekers.{position_of};
 
 use crate::lend::{Capacity, Lends, ToNobody, ToOperate, ToRead, ToSeek, ToStream, ToWrite};
 use crate::place::Place;
+use crate::session::Back;
+use crate::spare::Spare;
 use crate::take_back::IntoInner;
 use crate::with_mut::WithMut;
 use blocking_core::io::Position;
@@ -29,11 +31,17 @@ use std::{fmt, io, mem};
 /// Dropping it waits for no job. A handle that is with its owner, or that its job gave back already, is dropped here, by this thread; else
 /// a worker drops it with the session's job, once that waits or is taken. A job that runs goes on until then.
 ///
+/// The memory of a session that read or wrote is kept for the next one of its kind: that of its pipe and its pieces, of which no more was touched
+/// than was used. It is given back where a session of another kind begins or one is refused, and with the owner: by [`Unblock::into_inner`], a
+/// close, or a drop.
+///
 /// A handle is moved as it is, with its owner and with its job, so one that holds a buffer of its own is best lent in a `Box`.
 ///
 /// `I` is the type of the items of a handle that is an iterator; any type will do for another.
 pub struct Unblock<T: Drop, I: Drop, J: Job, H: Runtime> {
     place: Place<T, I, H>,
+    // The memory of the last session, for the next one of its kind.
+    spare: Spare,
     capacity: Capacity,
     executor: Executor<J, H>,
     items: PhantomData<I>,
@@ -51,14 +59,16 @@ impl<T: Drop, I: Drop, J: Job, H: Runtime> Unblock<T, I, J, H> {
     {
         Unblock {
             place: Place::Idle(handle),
+            spare: Spare::Nothing,
             capacity: Capacity::new(DEFAULT_BYTES, DEFAULT_ITEMS),
             executor,
             items: PhantomData,
         }
     }
 
-    /// The owner of a handle, whose sessions have pipes for at most `capacity` bytes or items. One that reads takes two pieces of memory more,
-    /// of 65,536 bytes or of the capacity where that is less, and one that writes twice the capacity and two such pieces.
+    /// The owner of a handle, whose sessions have pipes for at most `capacity` bytes or items. One that writes has its memory in pieces of 65,536
+    /// bytes, or of the capacity where that is less, and one that reads in such pieces or two halves of the capacity. It takes three of them
+    /// beside the capacity, or not quite four where they don't fill it evenly.
     pub fn with_capacity(capacity: usize, executor: Executor<J, H>, handle: T) -> Self
         requires { 0 < capacity }
         ensures place { result.place ≡ AtOwner handle }
@@ -67,6 +77,7 @@ impl<T: Drop, I: Drop, J: Job, H: Runtime> Unblock<T, I, J, H> {
     {
         Unblock {
             place: Place::Idle(handle),
+            spare: Spare::Nothing,
             capacity: Capacity::new(capacity, capacity),
             executor,
             items: PhantomData,
@@ -92,6 +103,7 @@ impl<T: Drop, I: Drop, J: Job, H: Runtime> Unblock<T, I, J, H> {
     {
         let Unblock {
             place,
+            spare: _,
             capacity: _,
             executor: _,
             items: _,
@@ -131,6 +143,7 @@ impl<T: Drop, I: Drop, J: Job, H: Runtime> Drop for Unblock<T, I, J, H> {
     fn drop(self) {
         let Unblock {
             place,
+            spare: _,
             capacity: _,
             executor: _,
             items: _,
@@ -163,6 +176,8 @@ impl<T: Drop, I: Drop, J: Job, H: Runtime> Unblock<T, I, J, H> {
     ghost use Rattle.blocking_unblock.specs.Polls.{MayAsk, CanDo, Does, Brings, FitsReply, Stands, IsGoing, KeepsFirst, KeepsBrought, KeepsOpen, HasPipe, HasSession, Drains, Fills, Resumes, Kept, last_action};
     ghost use Rattle.blocking_core.specs.OwnerCalls.{begun_by};
 
+    // (by itself, since each turn would else clear the memory of its locals)
+    #[inline(never)]
     fn begin<B: Lends<T, I, J, H>>(&mut self, brought: &mut B) -> OwnerAnswer<io::Error>
         requires at { IsAt Idle self.old.place }
         requires ready { (state : StateSeen) × B.begins brought.old state }
@@ -173,7 +188,8 @@ impl<T: Drop, I: Drop, J: Job, H: Runtime> Unblock<T, I, J, H> {
         let Place::Idle(handle) = mem::replace(&mut self.place, Place::Closed) else {
             unreachable!()
         };
-        match brought.lend(&self.executor, self.capacity, handle) {
+        let spare = mem::replace(&mut self.spare, Spare::Nothing);
+        match brought.lend(&self.executor, self.capacity, spare, handle) {
             Ok(session) => {
                 self.place = Place::Lent(session);
                 OwnerAnswer::Begun
@@ -259,6 +275,8 @@ impl<T: Drop, I: Drop, J: Job, H: Runtime> Unblock<T, I, J, H> {
         }
     }
 
+    // (by itself, since each turn would else clear the memory of its locals)
+    #[inline(never)]
     fn poll_slot(&mut self, cx: &mut Context<'_>) -> OwnerAnswer<io::Error>
         requires { HasSession (state_of self.old.place) }
         ensures does { Does (λ _. Unit {0}) SlotAction self.old.place result false self.new.place (IsArmed cx.new) }
@@ -269,8 +287,15 @@ impl<T: Drop, I: Drop, J: Job, H: Runtime> Unblock<T, I, J, H> {
             unreachable!()
         };
         match session.poll_back(cx) {
-            Ok((handle, answer)) => {
-                self.place = Place::Idle(handle);
+            Ok(
+                Back {
+                    handle,
+                    answer,
+                    tools,
+                },
+            ) => {
+                let place = mem::replace(&mut self.place, Place::Idle(handle));
+                self.spare = place.into_spare(tools);
                 answer
             }
             Err(seat) => OwnerAnswer::Waits(seat),
@@ -307,6 +332,7 @@ impl<T: Drop, I: Drop, J: Job, H: Runtime> Unblock<T, I, J, H> {
             },
             OwnerAction::DropHandle => {
                 self.place = Place::Closed;
+                self.spare = Spare::Nothing;
                 (OwnerAnswer::Dropped, None)
             }
             OwnerAction::Deliver | OwnerAction::Reply(_) | OwnerAction::Pending => unreachable!(),

@@ -1,29 +1,18 @@
-//! A job type of all kinds of session over one handle.
+//! A job type of all kinds of session over the handle of `places`. (generic in the host alone: what is said of types made of types is long)
+use crate::places::{Gated, Jump};
 use blocking::{ItemJob, OpJob, ReadJob, Runtime, SeekJob, WriteJob};
 use blocking_core::pool::{Carries, Job, JobNo, JobStep};
-use blocking_core::task::CallOn;
-use std::io::{Read, Seek, Write};
 
 #[derive(Drop)]
-pub(crate) enum Kinds<
-    T: Iterator<Item = I> + Drop,
-    I: Drop,
-    F: CallOn<T, Out: Drop> + Drop,
-    H: Runtime,
-> {
-    Read(ReadJob<T, H>),
-    Write(WriteJob<T, H>),
-    Stream(ItemJob<T, I, H>),
-    Seek(SeekJob<T, H>),
-    Operate(OpJob<F, T, H>),
+pub(crate) enum Kinds<H: Runtime> {
+    Read(ReadJob<Gated, H>),
+    Write(WriteJob<Gated, H>),
+    Stream(ItemJob<Gated, u8, H>),
+    Seek(SeekJob<Gated, H>),
+    Operate(OpJob<Jump, Gated, H>),
 }
 
-impl<
-    T: Read + Write + Iterator<Item = I> + Seek + Drop,
-    I: Drop,
-    F: CallOn<T, Out: Drop> + Drop,
-    H: Runtime,
-> Job for Kinds<T, I, F, H> {
+impl<H: Runtime> Job for Kinds<H> {
     ghost may_answer = { λ _ _. Unit {0} };
 
     fn step(&mut self, me: JobNo) -> JobStep {
@@ -47,9 +36,7 @@ impl<
     }
 }
 
-impl<T: Iterator<Item = I> + Drop, I: Drop, F: CallOn<T, Out: Drop> + Drop, H: Runtime> Carries<
-    ReadJob<T, H>,
-> for Kinds<T, I, F, H> {
+impl<H: Runtime> Carries<ReadJob<Gated, H>> for Kinds<H> {
     ghost use Rattle.std.specs.Prelude.{Some, None, refl};
     ghost use Rattle.blocking_unblock_tests.specs.declared.kinds.Kinds.TheVariants.{Read, Write, Stream, Seek, Operate};
 
@@ -59,11 +46,11 @@ impl<T: Iterator<Item = I> + Drop, I: Drop, F: CallOn<T, Out: Drop> + Drop, H: R
 
     ghost undoes = { λ job. refl };
 
-    fn wrap(named: ReadJob<T, H>) -> Kinds<T, I, F, H> {
+    fn wrap(named: ReadJob<Gated, H>) -> Kinds<H> {
         Kinds::Read(named)
     }
 
-    fn unwrap(self) -> Option<ReadJob<T, H>> {
+    fn unwrap(self) -> Option<ReadJob<Gated, H>> {
         match self {
             Kinds::Read(job) => Some(job),
             Kinds::Write(_) | Kinds::Stream(_) | Kinds::Seek(_) | Kinds::Operate(_) => None,
@@ -71,9 +58,7 @@ impl<T: Iterator<Item = I> + Drop, I: Drop, F: CallOn<T, Out: Drop> + Drop, H: R
     }
 }
 
-impl<T: Iterator<Item = I> + Drop, I: Drop, F: CallOn<T, Out: Drop> + Drop, H: Runtime> Carries<
-    WriteJob<T, H>,
-> for Kinds<T, I, F, H> {
+impl<H: Runtime> Carries<WriteJob<Gated, H>> for Kinds<H> {
     ghost use Rattle.std.specs.Prelude.{Some, None, refl};
     ghost use Rattle.blocking_unblock_tests.specs.declared.kinds.Kinds.TheVariants.{Read, Write, Stream, Seek, Operate};
 
@@ -83,11 +68,11 @@ impl<T: Iterator<Item = I> + Drop, I: Drop, F: CallOn<T, Out: Drop> + Drop, H: R
 
     ghost undoes = { λ job. refl };
 
-    fn wrap(named: WriteJob<T, H>) -> Kinds<T, I, F, H> {
+    fn wrap(named: WriteJob<Gated, H>) -> Kinds<H> {
         Kinds::Write(named)
     }
 
-    fn unwrap(self) -> Option<WriteJob<T, H>> {
+    fn unwrap(self) -> Option<WriteJob<Gated, H>> {
         match self {
             Kinds::Write(job) => Some(job),
             Kinds::Read(_) | Kinds::Stream(_) | Kinds::Seek(_) | Kinds::Operate(_) => None,
@@ -95,9 +80,7 @@ impl<T: Iterator<Item = I> + Drop, I: Drop, F: CallOn<T, Out: Drop> + Drop, H: R
     }
 }
 
-impl<T: Iterator<Item = I> + Drop, I: Drop, F: CallOn<T, Out: Drop> + Drop, H: Runtime> Carries<
-    ItemJob<T, I, H>,
-> for Kinds<T, I, F, H> {
+impl<H: Runtime> Carries<ItemJob<Gated, u8, H>> for Kinds<H> {
     ghost use Rattle.std.specs.Prelude.{Some, None, refl};
     ghost use Rattle.blocking_unblock_tests.specs.declared.kinds.Kinds.TheVariants.{Read, Write, Stream, Seek, Operate};
 
@@ -107,11 +90,11 @@ impl<T: Iterator<Item = I> + Drop, I: Drop, F: CallOn<T, Out: Drop> + Drop, H: R
 
     ghost undoes = { λ job. refl };
 
-    fn wrap(named: ItemJob<T, I, H>) -> Kinds<T, I, F, H> {
+    fn wrap(named: ItemJob<Gated, u8, H>) -> Kinds<H> {
         Kinds::Stream(named)
     }
 
-    fn unwrap(self) -> Option<ItemJob<T, I, H>> {
+    fn unwrap(self) -> Option<ItemJob<Gated, u8, H>> {
         match self {
             Kinds::Stream(job) => Some(job),
             Kinds::Read(_) | Kinds::Write(_) | Kinds::Seek(_) | Kinds::Operate(_) => None,
@@ -119,9 +102,7 @@ impl<T: Iterator<Item = I> + Drop, I: Drop, F: CallOn<T, Out: Drop> + Drop, H: R
     }
 }
 
-impl<T: Iterator<Item = I> + Drop, I: Drop, F: CallOn<T, Out: Drop> + Drop, H: Runtime> Carries<
-    SeekJob<T, H>,
-> for Kinds<T, I, F, H> {
+impl<H: Runtime> Carries<SeekJob<Gated, H>> for Kinds<H> {
     ghost use Rattle.std.specs.Prelude.{Some, None, refl};
     ghost use Rattle.blocking_unblock_tests.specs.declared.kinds.Kinds.TheVariants.{Read, Write, Stream, Seek, Operate};
 
@@ -131,11 +112,11 @@ impl<T: Iterator<Item = I> + Drop, I: Drop, F: CallOn<T, Out: Drop> + Drop, H: R
 
     ghost undoes = { λ job. refl };
 
-    fn wrap(named: SeekJob<T, H>) -> Kinds<T, I, F, H> {
+    fn wrap(named: SeekJob<Gated, H>) -> Kinds<H> {
         Kinds::Seek(named)
     }
 
-    fn unwrap(self) -> Option<SeekJob<T, H>> {
+    fn unwrap(self) -> Option<SeekJob<Gated, H>> {
         match self {
             Kinds::Seek(job) => Some(job),
             Kinds::Read(_) | Kinds::Write(_) | Kinds::Stream(_) | Kinds::Operate(_) => None,
@@ -143,9 +124,7 @@ impl<T: Iterator<Item = I> + Drop, I: Drop, F: CallOn<T, Out: Drop> + Drop, H: R
     }
 }
 
-impl<T: Iterator<Item = I> + Drop, I: Drop, F: CallOn<T, Out: Drop> + Drop, H: Runtime> Carries<
-    OpJob<F, T, H>,
-> for Kinds<T, I, F, H> {
+impl<H: Runtime> Carries<OpJob<Jump, Gated, H>> for Kinds<H> {
     ghost use Rattle.std.specs.Prelude.{Some, None, refl};
     ghost use Rattle.blocking_unblock_tests.specs.declared.kinds.Kinds.TheVariants.{Read, Write, Stream, Seek, Operate};
 
@@ -155,11 +134,11 @@ impl<T: Iterator<Item = I> + Drop, I: Drop, F: CallOn<T, Out: Drop> + Drop, H: R
 
     ghost undoes = { λ job. refl };
 
-    fn wrap(named: OpJob<F, T, H>) -> Kinds<T, I, F, H> {
+    fn wrap(named: OpJob<Jump, Gated, H>) -> Kinds<H> {
         Kinds::Operate(named)
     }
 
-    fn unwrap(self) -> Option<OpJob<F, T, H>> {
+    fn unwrap(self) -> Option<OpJob<Jump, Gated, H>> {
         match self {
             Kinds::Operate(job) => Some(job),
             Kinds::Read(_) | Kinds::Write(_) | Kinds::Stream(_) | Kinds::Seek(_) => None,

@@ -196,8 +196,6 @@ const ROWS: &[(&str, &[Step])] = &[
     ),
 ];
 
-type Jobs<H> = Kinds<Gated, u8, Jump, H>;
-
 type Owner<J, H> = Unblock<Gated, u8, J, H>;
 
 // Whether a seek that is polled once waits, while the handle can't go on.
@@ -412,7 +410,7 @@ pub(crate) fn first_wrong<H: Host + Print>(
         },
     )?;
     let handle = Gated::new(rt.alloc(), Arc::try_clone(&gate)?)?;
-    let Ok(executor) = Executor::<Jobs<H>, H>::new(rt, Some("1")) else {
+    let Ok(executor) = Executor::<Kinds<H>, H>::new(rt, Some("1")) else {
         return Err(io::Error::from(io::ErrorKind::Other));
     };
     let owner = match way {

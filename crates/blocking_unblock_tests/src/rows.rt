@@ -21,7 +21,8 @@ const READS: &[Row] = &[
             (0, Read(2, Shows(b"ef"))),
             (0, Read(2, Shows(b""))),
             (0, Debug("Unblock { io: 6 }")),
-            (0, Most(4)),
+            // (half of what the pipe holds)
+            (0, Most(2)),
             (0, Rests(1)),
         ],
     },

@@ -16,9 +16,9 @@ use std::{io, thread};
 pub(crate) enum Step {
     /// A poll into a buffer of this size.
     Poll(usize, Sight),
-    /// Polls into it, each after a wake, until one doesn't wait.
+    /// Polls into it, each after a wake where it waited, until as many bytes came as have to be seen: a read may give fewer.
     Read(usize, Sight),
-    /// The same of an idle reader. Where its session is refused, that is printed, and the owner has its text as before and tries once more.
+    /// One read of an idle reader. Where its session is refused, that is printed, and the owner has its text as before and tries once more.
     Begin(usize, Sight),
     /// Reads into it to the end, of which all bytes are put into one text, with a `!` for each fault.
     ReadAll(usize, &'static str),
@@ -59,6 +59,16 @@ pub(crate) enum Sight {
     Waits,
 }
 
+impl Sight {
+    // How many bytes have to be seen.
+    fn count(self) -> usize {
+        match self {
+            Sight::Bytes(bytes) => bytes.len(),
+            Sight::Fault | Sight::After(_) | Sight::Waits => 0,
+        }
+    }
+}
+
 type Owner<J, H> = Unblock<Planned, (), J, H>;
 
 // An owner, what it shares with its reader, and the task that polls it.
@@ -94,6 +104,22 @@ impl<J: Job + Carries<ReadJob<Planned, H>>, H: Runtime> Seen<J, H> {
         None
     }
 
+    // Reads until so many bytes came.
+    fn read_on(&mut self, buffer: &mut [u8], wanted: usize) -> Came<Result<usize, IoFault>> {
+        let mut count = 0usize;
+        for _ in 0..WAITS {
+            let more = match self.read(buffer.get_mut(count..)?) {
+                Some(Poll::Ready(Ok(more))) => more,
+                other => return other,
+            };
+            count = count.saturating_add(more);
+            if more == 0 || count >= wanted {
+                return Some(Poll::Ready(Ok(count)));
+            }
+        }
+        None
+    }
+
     // What a poll, a read or a beginning shows, with the bytes at the buffer's front.
     fn reads<R: AllocGlobal + Print>(
         &mut self,
@@ -104,7 +130,8 @@ impl<J: Job + Carries<ReadJob<Planned, H>>, H: Runtime> Seen<J, H> {
         match step {
             Step::Poll(..) => Ok(self.poll(buffer)),
             Step::Begin(..) => self.begins(rt, buffer),
-            _ => Ok(self.read(buffer)),
+            Step::Read(_, sight) => Ok(self.read_on(buffer, sight.count())),
+            _ => Ok(None),
         }
     }
 

@@ -1,10 +1,8 @@
 //! Numbers that a job on a worker puts, and that the owner drains.
 use crate::figures::{Figures, Request, each};
 use crate::pipe::failed;
-use blocking::{AnyPlace, Executor, Host, RecvEnd, Runtime, SendEnd, link_over};
-use blocking_core::pipe::{
-    DEFAULT_ITEMS, Drained, MovingMemory, MovingStore, Put, RingStore, Room,
-};
+use blocking::{AnyPlace, DrainEnd, Executor, Host, PieceMemory, Runtime, SendEnd, link_drain};
+use blocking_core::pipe::{DEFAULT_ITEMS, Drained, LendingMemory, LendingStore, Put, Room};
 use blocking_core::pool::{Job, JobNo, JobStep};
 use futures::Future;
 use futures::executor::block_on;
@@ -16,8 +14,8 @@ use std::time::Instant;
 // How many numbers are put or drained at once.
 const BATCH: usize = 256;
 
-// What holds the numbers: whole batches move in.
-type Batches = MovingStore<RingStore>;
+// What holds the numbers: whole batches go in and come out as they are.
+type Batches = LendingStore;
 
 // Puts the numbers below its size, and closes.
 #[derive(Drop)]
@@ -84,7 +82,7 @@ fn are_numbers(first: u64, batch: &[u64]) -> bool {
 struct Counted<'a, J: Job, H: Runtime> {
     rt: H,
     executor: &'a Executor<J, H>,
-    end: RecvEnd<u64, AnyPlace, Batches, H>,
+    end: DrainEnd<u64, AnyPlace, Batches, H>,
 }
 
 impl<'a, J: Job, H: Runtime> Future for Counted<'a, J, H> {
@@ -118,10 +116,10 @@ impl<'a, J: Job, H: Runtime> Future for Counted<'a, J, H> {
 
 // All numbers from a job to this thread.
 fn cross<R: Host>(host: R, executor: &Executor<Counter<R>, R>, size: u64) -> io::Result<()> {
-    let batch = vec![in host.alloc(); 0; BATCH]?;
-    let spare = vec![in host.alloc(); 0; BATCH]?;
-    let memory = MovingMemory::with_spare(host.alloc(), DEFAULT_ITEMS, spare)?;
-    let (theirs, end) = link_over(host, memory)?;
+    let batches = LendingMemory::with_piece(host.alloc(), DEFAULT_ITEMS, BATCH)?;
+    let memory = PieceMemory::over(host.alloc(), batches)?;
+    let (theirs, end, mut batch) = link_drain(host, memory)?;
+    batch.resize(BATCH, 0)?;
     let counter = Counter {
         end: theirs,
         batch,

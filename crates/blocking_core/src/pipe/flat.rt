@@ -134,6 +134,13 @@ impl Store<u8> for FlatStore {
         memory.head = memory.place_after(count);
         memory.len -= count;
     }
+
+    // (from its start again, so that what comes then touches no memory that wasn't used before)
+    fn clear(memory: &mut FlatMemory) {
+        memory.bytes.clear();
+        memory.head = 0;
+        memory.len = 0;
+    }
 }
 
 impl CopyStore<u8> for FlatStore {

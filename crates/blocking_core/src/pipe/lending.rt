@@ -1,5 +1,6 @@
 //! A store of whole pieces, which it takes and gives as they are, so that what they hold is not copied.
 ghost use Rattle.std.specs.Prelude.{◌≡◌, ◌≤◌, ◌<◌, ◌+◌, ◌*◌, ◌%◌, length, min, take, drop, slice_get, flat_map, vec_items, vec_capacity, Some, IfOk, All};
+ghost use Rattle.std.specs.Bool.{OnTrue};
 ghost use Rattle.blocking_core.specs.Lending.{IsRow, IsCount, IsMemory, IsLast};
 
 use crate::job::PIECE;
@@ -138,6 +139,30 @@ impl<X: Copy> LendingMemory<X> {
         count
     }
 
+    // Whether a piece of so many items may come in as it is: a whole one behind whole ones only, since places are counted by pieces.
+    fn may_exchange(&self, count: usize) -> bool
+        ensures { OnTrue result ((count ≡ self.now.piece) × ((self.now.gone + self.now.len) % self.now.piece ≡ 0)) }
+    {
+        count == self.piece && (self.gone + self.len) % self.piece == 0
+    }
+
+    // Takes a whole piece as it is, and leaves a spent one in its place.
+    fn exchange(&mut self, piece: &mut Vec<X>)
+        requires whole { length piece.old.items ≡ self.old.piece }
+        requires behind { (self.old.gone + self.old.len) % self.old.piece ≡ 0 }
+        requires room { length piece.old.items ≤ free (⟦<LendingStore as Store<X>>⟧.held self.old) }
+        ensures items { ⟦<LendingStore as Store<X>>⟧.held self.new ≡ with_more piece.old.items (⟦<LendingStore as Store<X>>⟧.held self.old) }
+        ensures room { self.old.piece ≤ vec_capacity piece.new }
+    {
+        let Some(spent) = self.spent.pop() else {
+            unreachable!()
+        };
+        let Ok(()) = self.pieces.try_push_back(mem::replace(piece, spent)) else {
+            unreachable!()
+        };
+        self.len += self.piece;
+    }
+
     // Drops the first items, `most` of them at most, as many as are left of the first piece, and tells how many they were: one at least.
     fn pass(&mut self, most: usize) -> usize
         requires some { 0 < most }
@@ -241,19 +266,20 @@ impl<X: Copy> CopyStore<X> for LendingStore {
         }
     }
 
+    fn take_piece(memory: &mut LendingMemory<X>, piece: &mut Vec<X>, count: usize) {
+        if count < piece.len() || !memory.may_exchange(count) {
+            Self::put_all(memory, &piece[..count]);
+            return;
+        }
+        memory.exchange(piece);
+    }
+
     fn take_ready(memory: &mut LendingMemory<X>, ready: &mut Vec<X>) -> bool {
-        // (a piece comes behind whole ones only, since places are counted by pieces)
-        if ready.len() != memory.piece || (memory.gone + memory.len) % memory.piece > 0 {
+        if !memory.may_exchange(ready.len()) {
             return false;
         }
-        let Some(mut next) = memory.spent.pop() else {
-            unreachable!()
-        };
-        next.clear();
-        let Ok(()) = memory.pieces.try_push_back(mem::replace(ready, next)) else {
-            unreachable!()
-        };
-        memory.len += memory.piece;
+        memory.exchange(ready);
+        ready.clear();
         true
     }
 

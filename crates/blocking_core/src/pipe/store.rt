@@ -57,6 +57,14 @@ pub trait Store<X: Drop> {
             let _item = Self::pop(memory);
         }
     }
+
+    /// Drops all that is inside.
+    fn clear(memory: &mut Self::Memory)
+        ensures { let stored = held memory.old in held memory.new ≡ empty_store stored.capacity }
+    {
+        let count = Self::len(memory);
+        Self::drop_front(memory, count);
+    }
 }
 
 /// A store of items that are copied, which can be used many at once. A piece is memory for many items that passes between a store and whoever
@@ -78,13 +86,13 @@ pub trait CopyStore<X: Copy>: Store<X> {
         }
     }
 
-    /// Takes the first `count` items of a piece, for all of which there is room. The piece may be exchanged for another as long, and what stands
-    /// there afterwards is not to be relied on.
+    /// Takes the first `count` items of a piece, for all of which there is room. The piece may be exchanged for another with memory for as much,
+    /// and what stands there afterwards, and how much, is not to be relied on.
     fn take_piece(memory: &mut Self::Memory, piece: &mut Vec<X>, count: usize)
         requires some { count ≤ length piece.old.items }
         requires room { count ≤ free (Self.held memory.old) }
         ensures items { Self.held memory.new ≡ with_more (take count piece.old.items) (Self.held memory.old) }
-        ensures long { length piece.new.items ≡ length piece.old.items }
+        ensures fits { length piece.old.items ≤ vec_capacity piece.new }
     {
         Self::put_all(memory, &piece[..count]);
     }

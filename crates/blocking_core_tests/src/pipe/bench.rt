@@ -1,7 +1,7 @@
 //! The player of the pipe's rows. It promises nothing: what its helpers need is tested where they run.
 use crate::stop::stop;
 use blocking_core::pipe::{
-    Answered, CopyStore, Drained, Filled, FlatStore, LendingStore, MovingStore, Peeked, Pipe, Put,
+    Answered, CopyStore, Drained, Fetched, Filled, FlatStore, LendingStore, Peeked, Pipe, Put,
     Received, RingStore, Room, Sending,
 };
 use blocking_core::pool::{Job, JobNo, JobStep, Pool, StartRefused, Starter, WakeNote};
@@ -20,7 +20,7 @@ const BLANK: u8 = b'.';
 pub(super) enum Step {
     /// The job puts bytes.
     Put(u8, usize),
-    /// The job puts the first bytes of a piece.
+    /// The job puts a piece.
     PutPiece(u8, usize),
     /// The job looks for room.
     Room(u64),
@@ -43,6 +43,10 @@ pub(super) enum Step {
     FillReady(u8, u8, usize),
     /// The owner takes a byte.
     Receive(u8),
+    /// The owner is lent so many bytes at most.
+    Fetch(u8, usize),
+    /// The owner lets so many bytes go of those that it was lent.
+    LetGoFetched(usize),
     CloseOwner,
     /// The owner leaves its seat.
     Unseat,
@@ -148,7 +152,6 @@ pub(crate) struct Bench<S: CopyStore<u8>> {
 pub(super) fn play<R: AllocGlobal + Abort>(rt: &R, rows: &[Row]) {
     play_over::<RingStore, R>(rt, rows);
     play_over::<FlatStore, R>(rt, rows);
-    play_over::<MovingStore<FlatStore>, R>(rt, rows);
     play_over::<LendingStore, R>(rt, rows);
 }
 
@@ -204,7 +207,7 @@ impl<S: CopyStore<u8>> Bench<S> {
         let jobs = add_jobs(alloc, &mut pool)?;
         Some(Bench {
             pipe,
-            piece: vec![in alloc; 0u8; PIECE].ok()?,
+            piece: Vec::with_capacity(alloc, PIECE).ok()?,
             hand: Vec::with_capacity(alloc, PIECE).ok()?,
             ready: Vec::with_capacity(alloc, PIECE).ok()?,
             pool,
@@ -243,6 +246,8 @@ impl<S: CopyStore<u8>> Bench<S> {
             Step::Fill(waker, first, count) => self.fill(waker, first, count),
             Step::FillReady(waker, first, count) => self.fill_ready(waker, first, count),
             Step::Receive(waker) => self.receive(waker),
+            Step::Fetch(waker, most) => self.fetch(waker, most),
+            Step::LetGoFetched(count) => self.let_go_fetched(count),
             Step::CloseOwner => self.close_owner(),
             Step::Unseat => Shown::Waker(self.pipe.unseat_owner()),
             Step::Len => Shown::Are(self.pipe.len()),
@@ -287,10 +292,10 @@ impl<S: CopyStore<u8>> Bench<S> {
     }
 
     fn put_piece(&mut self, first: u8, count: usize) -> Shown {
-        if count > self.piece.len() || count > self.pipe.room() || self.piece.len() != PIECE {
+        if count > PIECE || count > self.pipe.room() || self.piece.resize(count, BLANK).is_err() {
             return Shown::Misplaced;
         }
-        self.piece.copy_from_slice(&piece_of(first, PIECE));
+        self.piece.copy_from_slice(&piece_of(first, count)[..count]);
         match self.pipe.put_piece(&mut self.piece, count) {
             Put::In(waker) => Shown::In(waker),
             Put::Lost => Shown::Lost,
@@ -334,6 +339,18 @@ impl<S: CopyStore<u8>> Bench<S> {
         Shown::Waker(self.pipe.consume(count))
     }
 
+    // The first of so many bytes in hand, if they follow one another.
+    fn first_in_hand(&self, count: usize) -> Option<u8> {
+        if count > PIECE {
+            return None;
+        }
+        let first = self.hand.first().copied()?;
+        if self.hand[..] == piece_of(first, count)[..count] {
+            return Some(first);
+        }
+        None
+    }
+
     fn lend(&mut self, job: u64, most: usize) -> Shown {
         let Some(no) = self.job(job) else {
             return Shown::Misplaced;
@@ -345,17 +362,37 @@ impl<S: CopyStore<u8>> Bench<S> {
         }
         let lent = self.pipe.lend_or_seat(no, most, &mut self.hand);
         match lent {
-            Peeked::Some(count) if count == self.hand.len() && count <= PIECE => {
-                let first = self.hand.first().copied().unwrap_or(BLANK);
-                if self.hand[..] == piece_of(first, count)[..count] {
-                    Shown::Sees(first, count)
-                } else {
-                    Shown::Misplaced
-                }
-            }
-            Peeked::Some(_) => Shown::Misplaced,
+            Peeked::Some(count) => match self.first_in_hand(count) {
+                Some(first) => Shown::Sees(first, count),
+                None => Shown::Misplaced,
+            },
             Peeked::Parked | Peeked::Drained => Shown::SeesNone(lent),
         }
+    }
+
+    fn fetch(&mut self, waker: u8, most: usize) -> Shown {
+        // (what came back for it may have less memory)
+        self.hand.clear();
+        if most == 0 || most > PIECE || self.hand.reserve(PIECE).is_err() {
+            return Shown::Misplaced;
+        }
+        let Answered { answer, spare } = self.pipe.fetch_or_seat(waker, most, &mut self.hand);
+        match answer {
+            Fetched::Got(count) => match self.first_in_hand(count) {
+                Some(first) => Shown::Got(first, count, None, spare),
+                None => Shown::Misplaced,
+            },
+            Fetched::Ended => Shown::Over(spare),
+            Fetched::Waits(_) => Shown::Waits(spare),
+        }
+    }
+
+    fn let_go_fetched(&mut self, count: usize) -> Shown {
+        if count > self.pipe.lent() {
+            return Shown::Misplaced;
+        }
+        let note = self.pipe.let_go_fetched(count);
+        Shown::Due(self.spend(note))
     }
 
     fn let_go(&mut self, count: usize) -> Shown {

@@ -1,9 +1,7 @@
 //! Lists of calls, drawn by a fixed seed, over each store: all show the same.
 use super::bench::{Bench, Shown, Step};
 use crate::stop::stop;
-use blocking_core::pipe::{
-    CopyStore, FlatStore, LendingMemory, LendingStore, MovingMemory, MovingStore, Pipe, RingStore,
-};
+use blocking_core::pipe::{CopyStore, FlatStore, LendingMemory, LendingStore, Pipe, RingStore};
 use std::alloc::Global;
 
 // How many lists are drawn for each capacity, and how many calls each has.
@@ -38,7 +36,7 @@ impl Draws {
     fn step(&mut self, next: u8) -> Step {
         let job = u64::from(self.below(2)).saturating_add(1);
         let waker = self.below(3);
-        match self.below(40) {
+        match self.below(44) {
             0 => Step::CloseJob,
             1 => Step::CloseOwner,
             2 => Step::Unseat,
@@ -53,6 +51,8 @@ impl Draws {
             29..32 => Step::Lend(job, self.count()),
             32..35 => Step::LetGo(self.count()),
             35..38 => Step::Drain(waker, self.count()),
+            38..40 => Step::Fetch(waker, self.count()),
+            40..42 => Step::LetGoFetched(self.count()),
             _ => Step::Receive(waker),
         }
     }
@@ -117,15 +117,7 @@ fn is_like_ring<S: CopyStore<u8>>(
     }
 }
 
-// Pieces of the length of those that are put move in, and pieces of two bytes are lent.
-fn moving(alloc: Global, capacity: usize) -> Option<Pipe<u8, u8, MovingStore<FlatStore>>> {
-    let spare = vec![in alloc; 0u8; 7].ok()?;
-    if capacity == 0 {
-        return None;
-    }
-    Some(Pipe::over(MovingMemory::with_spare(alloc, capacity, spare).ok()?))
-}
-
+// Pieces of two bytes go in and come out as they are.
 fn lending(alloc: Global, capacity: usize) -> Option<Pipe<u8, u8, LendingStore>> {
     if capacity == 0 {
         return None;
@@ -142,7 +134,6 @@ fn flat(alloc: Global, capacity: usize) -> Option<Pipe<u8, u8, FlatStore>> {
 
 fn all_are_alike(alloc: Global, seed: u64, capacity: usize) -> bool {
     is_like_ring(alloc, seed, capacity, flat(alloc, capacity))
-        && is_like_ring(alloc, seed, capacity, moving(alloc, capacity))
         && is_like_ring(alloc, seed, capacity, lending(alloc, capacity))
 }
 

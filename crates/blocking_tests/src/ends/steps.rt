@@ -2,12 +2,12 @@
 ghost use Rattle.futures.specs.Task.{Keeps};
 
 use blocking::{
-    AnyPlace, Executor, FillEnd, Host, PeekEnd, RecvEnd, Runtime, SendEnd, link, link_in,
-    link_in_over, link_over,
+    AnyPlace, Executor, FillEnd, Host, PeekEnd, PieceMemory, RecvEnd, Runtime, SendEnd, link,
+    link_in, link_in_over, link_over,
 };
 use blocking_core::pipe::{
-    CopyStore, Drained, Filled, FlatStore, LendingMemory, LendingStore, MovingMemory, MovingStore,
-    Peeked, Put, Received, RingStore, Room, Sending,
+    CopyStore, Drained, Filled, FlatStore, LendingMemory, LendingStore, Peeked, Put, Received,
+    RingStore, Room, Sending,
 };
 use blocking_core::pool::{Job, JobNo, JobStep, WakeNote};
 use futures::Future;
@@ -416,15 +416,15 @@ fn each_call_answers_over_a_flat_store(rt: HostRuntime) -> Result<(), Fail> {
     Ok(())
 }
 
-// Pieces of two move in and are lent.
+// Pieces of two go in and come out as they are.
 #[test]
 fn each_call_answers_over_pieces(rt: HostRuntime) -> Result<(), Fail> {
     for (name, steps) in ROWS {
-        let spare = vec![in rt.alloc(); 0; 2]?;
-        let moving = MovingMemory::with_spare(rt.alloc(), 2, spare)?;
-        let lending = LendingMemory::with_piece(rt.alloc(), 2, 2)?;
-        let sending = link_over::<u8, AnyPlace, MovingStore<FlatStore>, HostRuntime>(rt, moving)?;
-        let filling = link_in_over::<u8, AnyPlace, LendingStore, HostRuntime>(rt, lending)?;
+        let theirs = LendingMemory::with_piece(rt.alloc(), 2, 2)?;
+        let ours = LendingMemory::with_piece(rt.alloc(), 2, 2)?;
+        let memory = PieceMemory::over(rt.alloc(), ours)?;
+        let sending = link_over::<u8, AnyPlace, LendingStore, HostRuntime>(rt, theirs)?;
+        let filling = link_in_over::<u8, AnyPlace, LendingStore, HostRuntime>(rt, memory)?;
         assert_eq!(rt; first_wrong(rt, sending, filling, steps)?, None, "{name}");
     }
     Ok(())

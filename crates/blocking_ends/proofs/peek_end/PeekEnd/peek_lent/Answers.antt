@@ -2,7 +2,7 @@
 use Rattle.std.proofs.Common.{rules, ◌≡◌, ℕ, ◌+◌, ◌-◌, ◌≤◌, ◌∙◌, ◌++◌, List, [], length, take, drop, min, refl, sym, ap, subst, arith, take-add}
 use Rattle.std.proofs.lemmas.List.{append-nil, drop-append-le, drop-drop, drop_all, drop_at, length-append, length-drop, length-take-le, take-append-le, take-take, take_all, take_at}
 use Rattle.blocking_ends.specs.Rules.{HoldFrom}
-use Rattle.blocking_ends.proofs.Kept.{hold_copied, hold_joined}
+use Rattle.blocking_ends.proofs.Kept.{hold_joined, hold_moved}
 use Rattle.blocking_ends.proofs.peek_end.PeekEnd.peek_lent.Goals as goal
 
 module _ {X : Type 0} where
@@ -48,12 +48,6 @@ module _ {X : Type 0} where
       ∙ ap (drop n) (all ∙ behind)
       ∙ drop-drop n first out
 
-  -- what was copied first holds
-  first_held : (holds : ℕ → X → Type 0) (received first : ℕ) (shown one out : List X) → one ≡ take first shown → first ≤ length shown
-      → HoldFrom holds received shown → HoldFrom holds received (take first (one ++ drop first out))
-  first_held holds received first shown one out is within held =
-      subst (λ l. HoldFrom holds received (take first (l ++ drop first out))) (sym is) (hold_copied holds received first shown out within held)
-
   -- what is lent is what was copied first, as far as there was a place
   first_is_lent : (first : ℕ) (shown one out : List X) → one ≡ take first shown → first ≡ length out → first ≤ length shown
       → take (length shown) (take first (one ++ drop first out)) ≡ take (length out) shown
@@ -87,7 +81,7 @@ pub returns-then-first-out-clause-held : goal.returns-then-first-out-clause-held
 returns-then-first-out-clause-held g c =
     let shown = c.shown-lent.result.now in
     let held : HoldFrom g.R.PlaceRule.holds c.args.self.now.received shown = subst (λ l. HoldFrom g.R.PlaceRule.holds c.args.self.now.received l) (sym c.shown-lent.ensures.shown) c.shown-lent.ensures.held in
-    first_held g.R.PlaceRule.holds c.args.self.now.received c.min-first.result shown c.copy_from_slice.new.self c.args.out.now (search rules) (omega arith) held
+    hold_moved g.R.PlaceRule.holds c.args.self.now.received c.min-first.result shown c.copy_from_slice.new.self c.args.out.now (search rules) (omega arith) held
 
 pub returns-clause-held : goal.returns-clause-held
 returns-clause-held g c =

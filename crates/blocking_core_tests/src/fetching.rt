@@ -1,26 +1,26 @@
-//! The worked rows of a pipe into which pieces move.
+//! The worked rows of a pipe whose job puts pieces, and whose owner is lent them.
 use crate::pipe::bench::Bench;
 use crate::stop::stop;
 use blocking_core::pipe::{
-    Answered, Drained, FlatStore, MovingMemory, MovingStore, Pipe, Put, Received, RingStore, Room,
+    Answered, Drained, Fetched, FlatStore, LendingMemory, LendingStore, Pipe, Put, Received, Room,
     Sending,
 };
 use blocking_core::pool::JobNo;
-use std::alloc::{AllocError, AllocGlobal, Global};
+use std::alloc::{AllocGlobal, Global};
 use std::process::Abort;
 
 // The owner's waker.
 const OWNER: u8 = 7;
 
-// How many bytes the pipe holds, and how many places a piece has.
+// How many bytes the pipe holds, and how many a whole piece has.
 const CAPACITY: usize = 5;
 
-const PLACES: usize = 3;
+const WHOLE: usize = 3;
 
-// For how many bytes the job's own piece has memory, and for how many the one that stands ready for it. They are told apart by that.
+// For how many bytes the job's own piece has memory, and the owner's. Those of the store have it for a whole piece. They are told apart by that.
 const OWN: usize = 7;
 
-const SPARE: usize = 4;
+const HAND: usize = 4;
 
 // One call. Bytes follow one another: they are named by the first and by how many they are.
 #[derive(Clone, Copy)]
@@ -29,6 +29,8 @@ enum Step {
     // So many bytes of a piece.
     Put(u8, usize),
     Send(u8),
+    Fetch,
+    LetGo(usize),
     Drain(usize),
     Receive,
     CloseOwner,
@@ -43,6 +45,8 @@ enum Shown {
     Parked,
     // All of it is inside, and this waker left the seat.
     In(Option<u8>),
+    // These bytes stand in the owner's hand, in a piece with memory for so many.
+    Lent(u8, usize, usize),
     // These bytes, and the serial of the job that is due.
     Got(u8, usize, Option<u64>),
     // The owner is seated, and this waker is left over.
@@ -57,77 +61,59 @@ enum Shown {
     Misplaced,
 }
 
-// A call, what it shows, how many more bytes the pipe holds then, and for how many the job's piece has memory.
-type Line = (Step, Shown, usize, usize);
+// A call, what it shows, how many bytes are lent then, how many more the pipe holds, and for how many the job's piece has memory.
+type Line = (Step, Shown, usize, usize, usize);
 
-// A piece moves in where nothing is inside, though only its first byte counts; else it is copied behind what is left of the last one.
+// A whole piece goes in as it is behind whole ones; else its bytes are copied behind those inside.
 const PIECES: &[Line] = &[
-    (Step::Drain(3), Shown::Waits(None), 5, OWN),
-    (Step::Put(b'a', 3), Shown::In(Some(OWNER)), 2, SPARE),
-    (Step::Put(b'd', 2), Shown::In(None), 0, SPARE),
-    (Step::Room, Shown::Parked, 0, SPARE),
-    (Step::Drain(2), Shown::Got(b'a', 2, Some(1)), 2, SPARE),
-    (Step::Put(b'f', 2), Shown::In(None), 0, SPARE),
-    (Step::Drain(3), Shown::Got(b'c', 3, None), 3, SPARE),
-    (Step::Put(b'h', 2), Shown::In(None), 1, SPARE),
-    (Step::Drain(5), Shown::Got(b'f', 4, None), 5, SPARE),
-    (Step::Put(b'j', 1), Shown::In(None), 4, OWN),
-    (Step::Room, Shown::Free(4), 4, OWN),
-    (Step::CloseJob, Shown::Waker(None), 4, OWN),
-    (Step::Drain(5), Shown::Got(b'j', 1, None), 5, OWN),
-    (Step::Drain(5), Shown::Over, 5, OWN),
-    (Step::Receive, Shown::Over, 5, OWN),
+    (Step::Fetch, Shown::Waits(None), 0, 5, OWN),
+    (Step::Put(b'a', 3), Shown::In(Some(OWNER)), 0, 2, WHOLE),
+    (Step::Put(b'd', 2), Shown::In(None), 0, 0, WHOLE),
+    (Step::Room, Shown::Parked, 0, 0, WHOLE),
+    (Step::Fetch, Shown::Lent(b'a', 3, OWN), 3, 0, WHOLE),
+    (Step::LetGo(1), Shown::Due(Some(1)), 2, 1, WHOLE),
+    (Step::LetGo(2), Shown::Due(None), 0, 3, WHOLE),
+    (Step::Put(b'f', 3), Shown::In(None), 0, 0, WHOLE),
+    (Step::Fetch, Shown::Lent(b'd', 3, WHOLE), 3, 0, WHOLE),
+    (Step::CloseJob, Shown::Waker(None), 3, 0, WHOLE),
+    (Step::LetGo(3), Shown::Due(None), 0, 3, WHOLE),
+    (Step::Fetch, Shown::Lent(b'g', 2, HAND), 2, 3, WHOLE),
+    (Step::LetGo(2), Shown::Due(None), 0, 5, WHOLE),
+    (Step::Fetch, Shown::Over, 0, 5, WHOLE),
+    (Step::Receive, Shown::Over, 0, 5, WHOLE),
 ];
 
-// What is left of a piece is received in order, and a piece that has lost a place so isn't given for another.
-const ONE_BY_ONE: &[Line] = &[
-    (Step::Put(b'a', 3), Shown::In(None), 2, SPARE),
-    (Step::Receive, Shown::Got(b'a', 1, None), 3, SPARE),
-    (Step::Send(b'd'), Shown::In(None), 2, SPARE),
-    (Step::Drain(1), Shown::Got(b'b', 1, None), 3, SPARE),
-    (Step::Receive, Shown::Got(b'c', 1, None), 4, SPARE),
-    (Step::Receive, Shown::Got(b'd', 1, None), 5, SPARE),
-    (Step::Receive, Shown::Waits(None), 5, SPARE),
-    (Step::Put(b'e', 3), Shown::In(Some(OWNER)), 2, SPARE),
-    (Step::CloseOwner, Shown::Due(None), 2, SPARE),
-    (Step::Room, Shown::Over, 2, SPARE),
-    (Step::Put(b'h', 1), Shown::Over, 2, SPARE),
-    (Step::Send(b'h'), Shown::Over, 2, SPARE),
-    (Step::Drain(5), Shown::Got(b'e', 3, None), 5, SPARE),
-];
-
-// A piece fills the pipe as any bytes do.
-const FULL: &[Line] = &[
-    (Step::Put(b'a', 3), Shown::In(None), 2, SPARE),
-    (Step::Send(b'd'), Shown::In(None), 1, SPARE),
-    (Step::Send(b'e'), Shown::In(None), 0, SPARE),
-    (Step::Send(b'f'), Shown::Parked, 0, SPARE),
-    (Step::Receive, Shown::Got(b'a', 1, Some(1)), 1, SPARE),
-    (Step::Send(b'f'), Shown::In(None), 0, SPARE),
-    (Step::CloseJob, Shown::Waker(None), 0, SPARE),
-    (Step::Drain(5), Shown::Got(b'b', 5, None), 5, SPARE),
+// What is lent takes room, and what is inside goes on meanwhile.
+const BESIDE: &[Line] = &[
+    (Step::Put(b'a', 3), Shown::In(None), 0, 2, WHOLE),
+    (Step::Fetch, Shown::Lent(b'a', 3, OWN), 3, 2, WHOLE),
+    (Step::Put(b'd', 1), Shown::In(None), 3, 1, WHOLE),
+    (Step::Send(b'e'), Shown::In(None), 3, 0, WHOLE),
+    (Step::Send(b'f'), Shown::Parked, 3, 0, WHOLE),
+    (Step::Receive, Shown::Got(b'd', 1, Some(1)), 3, 1, WHOLE),
+    (Step::Drain(5), Shown::Got(b'e', 1, None), 3, 2, WHOLE),
+    (Step::Drain(5), Shown::Waits(None), 3, 2, WHOLE),
+    (Step::LetGo(3), Shown::Due(None), 0, 5, WHOLE),
+    (Step::Put(b'f', 2), Shown::In(Some(OWNER)), 0, 3, WHOLE),
+    (Step::CloseOwner, Shown::Due(None), 0, 3, WHOLE),
+    (Step::Room, Shown::Over, 0, 3, WHOLE),
+    (Step::Put(b'h', 1), Shown::Over, 0, 3, WHOLE),
+    (Step::Fetch, Shown::Lent(b'f', 2, HAND), 2, 3, WHOLE),
 ];
 
 const ROWS: &[(&str, &[Line])] = &[
-    ("pieces", PIECES),
-    ("one by one", ONE_BY_ONE),
-    ("a full pipe", FULL),
+    ("pieces are put and fetched", PIECES),
+    ("what is inside goes on beside what is lent", BESIDE),
 ];
 
-// A pipe, and its job with its piece.
+// A pipe, its job with its piece, and what its owner has in its hand.
 #[derive(Drop)]
 struct Both {
-    pipe: Pipe<u8, u8, MovingStore<RingStore>>,
+    pipe: Pipe<u8, u8, LendingStore>,
     piece: Vec<u8>,
+    hand: Vec<u8>,
     bench: Bench<FlatStore>,
     job: JobNo,
-}
-
-// A piece, with memory for so many bytes.
-fn piece(alloc: Global, memory: usize) -> Result<Vec<u8>, AllocError> {
-    let mut piece = Vec::with_capacity(alloc, memory)?;
-    piece.resize(PLACES, 0)?;
-    Ok(piece)
 }
 
 // The first of the bytes, if they follow one another.
@@ -145,14 +131,16 @@ fn first_of(bytes: &[u8]) -> Option<u8> {
 
 impl Both {
     fn new(alloc: Global) -> Option<Both> {
-        let spare = piece(alloc, SPARE).ok()?;
-        let pipe = Pipe::over(MovingMemory::with_spare(alloc, CAPACITY, spare).ok()?);
-        let piece = piece(alloc, OWN).ok()?;
+        let pipe = Pipe::over(LendingMemory::with_piece(alloc, CAPACITY, WHOLE).ok()?);
+        let mut piece = Vec::with_capacity(alloc, OWN).ok()?;
+        piece.resize(WHOLE, 0).ok()?;
+        let hand = Vec::with_capacity(alloc, HAND).ok()?;
         let bench = Bench::new(alloc, 1)?;
         let job = bench.job(1)?;
         Some(Both {
             pipe,
             piece,
+            hand,
             bench,
             job,
         })
@@ -175,9 +163,12 @@ impl Both {
             *byte = next;
             next = next.wrapping_add(1);
         }
-        match self.pipe.put_piece(&mut self.piece, count) {
-            Put::In(waker) => Shown::In(waker),
-            Put::Lost => Shown::Over,
+        let put = self.pipe.put_piece(&mut self.piece, count);
+        // (a piece that came for it may be shorter)
+        match (put, self.piece.resize(WHOLE, 0)) {
+            (Put::In(waker), Ok(())) => Shown::In(waker),
+            (Put::Lost, Ok(())) => Shown::Over,
+            (_, Err(_)) => Shown::Misplaced,
         }
     }
 
@@ -188,6 +179,30 @@ impl Both {
             Sending::Shut(back) if back == byte => Shown::Over,
             Sending::Parked(_) | Sending::Shut(_) => Shown::Misplaced,
         }
+    }
+
+    fn fetch(&mut self) -> Shown {
+        if self.hand.capacity() < WHOLE {
+            return Shown::Misplaced;
+        }
+        let Answered { answer, spare } = self.pipe.fetch_or_seat(OWNER, WHOLE, &mut self.hand);
+        match answer {
+            Fetched::Got(count) if count == self.hand.len() => match first_of(&self.hand) {
+                Some(first) => Shown::Lent(first, count, self.hand.capacity()),
+                None => Shown::Misplaced,
+            },
+            Fetched::Got(_) => Shown::Misplaced,
+            Fetched::Ended => Shown::Over,
+            Fetched::Waits(_) => Shown::Waits(spare),
+        }
+    }
+
+    fn let_go(&mut self, count: usize) -> Shown {
+        if count > self.pipe.lent() {
+            return Shown::Misplaced;
+        }
+        let note = self.pipe.let_go_fetched(count);
+        Shown::Due(self.bench.spend(note))
     }
 
     fn drain(&mut self, most: usize) -> Shown {
@@ -223,6 +238,8 @@ impl Both {
             Step::Room => self.room(),
             Step::Put(first, count) => self.put(first, count),
             Step::Send(byte) => self.send(byte),
+            Step::Fetch => self.fetch(),
+            Step::LetGo(count) => self.let_go(count),
             Step::Drain(most) => self.drain(most),
             Step::Receive => self.receive(),
             Step::CloseOwner => {
@@ -239,9 +256,10 @@ fn first_wrong(alloc: Global, lines: &[Line]) -> Option<usize> {
     let Some(mut both) = Both::new(alloc) else {
         return Some(lines.len());
     };
-    for (place, (step, shown, room, memory)) in lines.iter().enumerate() {
+    for (place, (step, shown, lent, room, memory)) in lines.iter().enumerate() {
         let is = both.take_step(*step);
-        if is != *shown || both.pipe.room() != *room || both.piece.capacity() != *memory {
+        let counts = (both.pipe.lent(), both.pipe.room());
+        if is != *shown || counts != (*lent, *room) || both.piece.capacity() != *memory {
             return Some(place);
         }
     }
@@ -257,6 +275,6 @@ fn play<R: AllocGlobal + Abort>(rt: &R, rows: &[(&str, &[Line])]) {
 }
 
 #[test]
-fn pieces_move_in_and_out_in_order(rt: HostRuntime) {
+fn pieces_are_put_and_fetched_in_order(rt: HostRuntime) {
     play(&rt, ROWS);
 }
