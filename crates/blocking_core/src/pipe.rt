@@ -118,12 +118,59 @@ pub struct Loan {
     count: usize,
 }
 
+impl Model for Loan {
+    ghost use Rattle.std.specs.Prelude.{ℕ};
+
+    ghost Value = { ℕ };
+
+    ghost view = { λ loan. loan.count };
+}
+
 impl Loan {
     /// So many items.
     pub fn count(&self) -> usize
-        ensures { result ≡ self.now.count }
+        ensures { result ≡ self.now }
     {
         self.count
+    }
+}
+
+/// How many items a pipe had room for when it was asked, less what was used of that since. A pipe alone makes one that isn't 0.
+#[derive(Drop, Debug)]
+pub struct Space {
+    count: usize,
+}
+
+impl Model for Space {
+    ghost use Rattle.std.specs.Prelude.{ℕ};
+
+    ghost Value = { ℕ };
+
+    ghost view = { λ space. space.count };
+}
+
+impl Space {
+    ghost use Rattle.std.specs.Prelude.{◌≡◌, ◌-◌};
+
+    /// Room for nothing.
+    pub fn none() -> Space
+        ensures { result ≡ 0 }
+    {
+        Space { count: 0 }
+    }
+
+    /// Room for so many items.
+    pub fn count(&self) -> usize
+        ensures { result ≡ self.now }
+    {
+        self.count
+    }
+
+    /// So many items went in, or all that there is room for, where that is less.
+    pub fn pass(&mut self, count: usize)
+        ensures { self.new ≡ self.old - count }
+    {
+        self.count = self.count.saturating_sub(count);
     }
 }
 
@@ -249,9 +296,16 @@ impl<X: Drop, W: Drop, S: Store<X>> Pipe<X, W, S> {
 
     /// How many items are lent, for an end that keeps it.
     pub fn loan(&self) -> Loan
-        ensures { result.count ≡ self.now.lent }
+        ensures { result ≡ self.now.lent }
     {
         Loan { count: self.lent }
+    }
+
+    /// How many more items the pipe holds, for an end that uses it up.
+    pub fn space(&self) -> Space
+        ensures { result ≡ room self.now }
+    {
+        Space { count: self.room() }
     }
 
     /// How many more items the pipe holds: the capacity at most.

@@ -4,7 +4,7 @@ ghost use Rattle.futures.specs.Task.{Covers, Keeps};
 ghost use Rattle.blocking_ends.specs.Answers.{OnFetched, OnFetchEnd, OnFetchWait};
 
 use crate::hand::Hand;
-use crate::locked::JobToOwner;
+use crate::locked::{JobToOwner, Tally};
 use crate::rule::PlaceRule;
 use blocking_core::pipe::{Answered, CopyStore, Drained, Fetched, Loan, Store};
 use blocking_lock::{OwnerWaker, enter_where};
@@ -25,7 +25,7 @@ pub struct DrainEnd<X: Drop, R: PlaceRule<X>, S: Store<X>, H: Wait + Copy> {
     pipe: Arc<Mutex<JobToOwner<X, R, S>>>,
     hand: Hand<X, R>,
     // How many items were fetched in all, and how many are lent.
-    fetched: u64,
+    fetched: Tally,
     lent: Loan,
     source: Source,
     rt: H,
@@ -38,10 +38,12 @@ impl<X: Drop, R: PlaceRule<X>, S: Store<X>, H: Wait + Copy> DrainEnd<X, R, S, H>
     pub(crate) fn new(
         rt: H,
         pipe: Arc<Mutex<JobToOwner<X, R, S>>>,
+        fetched: Tally,
         lent: Loan,
         piece: Vec<X>,
         most: usize,
     ) -> Self
+        requires none { fetched ≡ 0 }
         requires some { 0 < most }
         requires fits { most ≤ vec_capacity piece }
         ensures { result.hand.received ≡ 0 }
@@ -49,7 +51,7 @@ impl<X: Drop, R: PlaceRule<X>, S: Store<X>, H: Wait + Copy> DrainEnd<X, R, S, H>
         DrainEnd {
             pipe,
             hand: Hand::new(piece, most),
-            fetched: 0,
+            fetched,
             lent,
             source: Source::new(),
             rt,
@@ -85,13 +87,13 @@ impl<X: Drop, R: PlaceRule<X>, S: Store<X>, H: Wait + Copy> DrainEnd<X, R, S, H>
     fn enter<'a>(
         pipe: &'a Mutex<JobToOwner<X, R, S>>,
         rt: &H,
-        fetched: u64,
+        fetched: &Tally,
         lent: &Loan,
     ) -> MutexGuard<'a, JobToOwner<X, R, S>>
-        ensures received { result.value.received ≡ fetched }
-        ensures lent { result.value.pipe.lent ≡ lent.now.count }
+        ensures received { result.value.received ≡ fetched.now }
+        ensures lent { result.value.pipe.lent ≡ lent.now }
     {
-        let lent = lent.count();
+        let (fetched, lent) = (fetched.count(), lent.count());
         enter_where(pipe, rt, |pipe: &JobToOwner<X, R, S>| {
             pipe.received() == fetched && pipe.lent() == lent
         })
@@ -103,7 +105,7 @@ impl<X: Drop, R: PlaceRule<X>, S: Store<X>, H: Wait + Copy> DrainEnd<X, R, S, H>
         ensures received { self.new.hand ≡ self.old.hand }
         ensures source { self.new.source ≡ self.old.source }
     {
-        Self::enter(&self.pipe, &self.rt, self.fetched, &self.lent).close_owner()
+        Self::enter(&self.pipe, &self.rt, &self.fetched, &self.lent).close_owner()
     }
 }
 
@@ -120,9 +122,9 @@ impl<X: Copy, R: PlaceRule<X>, S: CopyStore<X>, H: Wait + Copy> DrainEnd<X, R, S
         ensures ended { OnFetchEnd result.answer (R.ended self.old.hand.received) }
         ensures source { self.new.source ≡ self.old.source }
     {
-        let mut pipe = Self::enter(&self.pipe, &self.rt, self.fetched, &self.lent);
+        let mut pipe = Self::enter(&self.pipe, &self.rt, &self.fetched, &self.lent);
         let answered = self.hand.fetch_or_seat(&mut *pipe, waker);
-        self.fetched = pipe.received();
+        self.fetched = pipe.tally_received();
         self.lent = pipe.loan();
         answered
     }
@@ -156,13 +158,13 @@ impl<X: Copy, R: PlaceRule<X>, S: CopyStore<X>, H: Wait + Copy> DrainEnd<X, R, S
     fn let_go(&mut self) -> Option<WakeNote>
         requires none { self.old.hand.left ≡ [] }
         ensures received { self.new.hand.received ≡ self.old.hand.received }
-        ensures lent { self.new.lent.count ≡ length self.new.hand.left }
+        ensures lent { self.new.lent ≡ length self.new.hand.left }
         ensures source { self.new.source ≡ self.old.source }
     {
-        let mut pipe = Self::enter(&self.pipe, &self.rt, self.fetched, &self.lent);
+        let mut pipe = Self::enter(&self.pipe, &self.rt, &self.fetched, &self.lent);
         let note = pipe.let_go_fetched(self.lent.count());
         self.hand.fetch(&mut *pipe);
-        self.fetched = pipe.received();
+        self.fetched = pipe.tally_received();
         self.lent = pipe.loan();
         note
     }
@@ -172,7 +174,7 @@ impl<X: Copy, R: PlaceRule<X>, S: CopyStore<X>, H: Wait + Copy> DrainEnd<X, R, S
     pub fn drain_or_seat(&mut self, cx: &mut Context<'_>, out: &mut [X]) -> Drained
         requires { 0 < length out.old }
         ensures received { self.new.hand.received ≡ self.old.hand.received + got_by_drain result }
-        ensures lent { IfDrained result (λ _. (length self.new.hand.left ≡ 0) → (self.new.lent.count ≡ 0)) }
+        ensures lent { IfDrained result (λ _. (length self.new.hand.left ≡ 0) → (self.new.lent ≡ 0)) }
         ensures some { IfDrained result (λ n. (0 < n) × (n ≤ length out.old)) }
         ensures held { HoldFrom R.holds self.old.hand.received (take (got_by_drain result) out.new) }
         ensures rest { drop (got_by_drain result) out.new ≡ drop (got_by_drain result) out.old }

@@ -2,7 +2,7 @@
 ghost use Rattle.std.specs.Prelude.{◌≡◌, ◌<◌, ◌≤◌, ◌+◌, length};
 ghost use Rattle.futures.specs.Task.{Covers, Keeps};
 
-use crate::locked::OwnerToJob;
+use crate::locked::{OwnerToJob, Tally};
 use crate::rule::PlaceRule;
 use blocking_core::pipe::{Answered, CopyStore, Filled, Store};
 use blocking_lock::{OwnerWaker, enter_where};
@@ -22,19 +22,24 @@ pub struct FillEnd<X: Drop, R: PlaceRule<X>, S: Store<X>, H: Wait + Copy> {
     pipe: Arc<Mutex<OwnerToJob<X, R, S>>>,
     // Where a whole piece is copied under no lock, before it is handed over. A store that takes none has no memory here.
     ready: Vec<X>,
-    sent: u64,
+    sent: Tally,
     source: Source,
     rt: H,
 }
 
 impl<X: Drop, R: PlaceRule<X>, S: Store<X>, H: Wait + Copy> FillEnd<X, R, S, H> {
-    pub(crate) fn new(rt: H, pipe: Arc<Mutex<OwnerToJob<X, R, S>>>, ready: Vec<X>) -> Self
-        ensures { result.sent ≡ 0 }
+    pub(crate) fn new(
+        rt: H,
+        pipe: Arc<Mutex<OwnerToJob<X, R, S>>>,
+        sent: Tally,
+        ready: Vec<X>,
+    ) -> Self
+        ensures { result.sent ≡ sent }
     {
         FillEnd {
             pipe,
             ready,
-            sent: 0,
+            sent,
             source: Source::new(),
             rt,
         }
@@ -57,17 +62,18 @@ impl<X: Drop, R: PlaceRule<X>, S: Store<X>, H: Wait + Copy> FillEnd<X, R, S, H> 
     pub fn sent(&self) -> u64
         ensures { result ≡ self.now.sent }
     {
-        self.sent
+        self.sent.count()
     }
 
     // The pipe, where it has the count that this end knows of.
     fn enter<'a>(
         pipe: &'a Mutex<OwnerToJob<X, R, S>>,
         rt: &H,
-        sent: u64,
+        sent: &Tally,
     ) -> MutexGuard<'a, OwnerToJob<X, R, S>>
-        ensures { result.value.sent ≡ sent }
+        ensures { result.value.sent ≡ sent.now }
     {
+        let sent = sent.count();
         enter_where(pipe, rt, |pipe: &OwnerToJob<X, R, S>| pipe.sent() == sent)
     }
 
@@ -78,7 +84,7 @@ impl<X: Drop, R: PlaceRule<X>, S: Store<X>, H: Wait + Copy> FillEnd<X, R, S, H> 
         ensures sent { self.new.sent ≡ self.old.sent }
         ensures source { self.new.source ≡ self.old.source }
     {
-        Self::enter(&self.pipe, &self.rt, self.sent).close_owner()
+        Self::enter(&self.pipe, &self.rt, &self.sent).close_owner()
     }
 }
 
@@ -109,9 +115,9 @@ impl<X: Copy, R: PlaceRule<X>, S: CopyStore<X>, H: Wait + Copy> FillEnd<X, R, S,
         ensures ready { IsReady self.new.ready.items items.now }
         ensures took { IfTook result.answer (λ n. (0 < n) × (n ≤ length items.now)) }
     {
-        let mut pipe = Self::enter(&self.pipe, &self.rt, self.sent);
+        let mut pipe = Self::enter(&self.pipe, &self.rt, &self.sent);
         let answered = pipe.fill_or_seat(waker, items, &mut self.ready);
-        self.sent = pipe.sent();
+        self.sent = pipe.tally_sent();
         answered
     }
 

@@ -3,14 +3,17 @@
 //! There is one type for each direction, since they differ in whose end is the sender's.
 ghost use Rattle.std.specs.Prelude.{◌≡◌, ◌<◌, ◌≤◌, ◌+◌, [], true, false, length, min, take, drop, vec_capacity, None, IfSome, IfNone};
 
+mod tally;
+
 use crate::rule::PlaceRule;
 use blocking_core::pipe::{
     Answered, CopyStore, Drained, Fetched, Filled, Loan, Peeked, Pipe, Put, Received, Room,
-    Sending, Store,
+    Sending, Space, Store,
 };
 use blocking_lock::OwnerWaker;
 use blocking_pool::pool::{JobNo, WakeNote};
 use std::marker::{Model, PhantomData};
+pub(crate) use tally::Tally;
 
 /// A pipe into which a job sends and from which its owner receives.
 #[derive(Drop)]
@@ -85,11 +88,32 @@ impl<X: Drop, R: PlaceRule<X>, S: Store<X>> JobToOwner<X, R, S> {
         self.received
     }
 
+    /// How many were sent, for an end that keeps it.
+    pub(crate) fn tally_sent(&self) -> Tally
+        ensures { result ≡ self.now.sent }
+    {
+        Tally::new(self.sent)
+    }
+
+    /// How many were received, for an end that keeps it.
+    pub(crate) fn tally_received(&self) -> Tally
+        ensures { result ≡ self.now.received }
+    {
+        Tally::new(self.received)
+    }
+
     /// How many more items the pipe holds.
     pub(crate) fn room(&self) -> usize
         ensures { result ≡ room self.now.pipe }
     {
         self.pipe.room()
+    }
+
+    /// The same, for an end that uses it up.
+    pub(crate) fn space(&self) -> Space
+        ensures { result ≡ room self.now.pipe }
+    {
+        self.pipe.space()
     }
 
     /// The job looks for room, and is seated where there is none.
@@ -148,9 +172,9 @@ impl<X: Drop, R: PlaceRule<X>, S: Store<X>> JobToOwner<X, R, S> {
         self.pipe.lent()
     }
 
-    /// The same, for an end that keeps it.
+    /// How many are lent, for an end that keeps it.
     pub(crate) fn loan(&self) -> Loan
-        ensures { result.count ≡ self.now.pipe.lent }
+        ensures { result ≡ self.now.pipe.lent }
     {
         self.pipe.loan()
     }
@@ -361,6 +385,20 @@ impl<X: Drop, R: PlaceRule<X>, S: Store<X>> OwnerToJob<X, R, S> {
         self.received
     }
 
+    /// How many were sent, for an end that keeps it.
+    pub(crate) fn tally_sent(&self) -> Tally
+        ensures { result ≡ self.now.sent }
+    {
+        Tally::new(self.sent)
+    }
+
+    /// How many were received, for an end that keeps it.
+    pub(crate) fn tally_received(&self) -> Tally
+        ensures { result ≡ self.now.received }
+    {
+        Tally::new(self.received)
+    }
+
     /// How many items are lent.
     pub(crate) fn lent(&self) -> usize
         ensures { result ≡ self.now.pipe.lent }
@@ -368,9 +406,9 @@ impl<X: Drop, R: PlaceRule<X>, S: Store<X>> OwnerToJob<X, R, S> {
         self.pipe.lent()
     }
 
-    /// The same, for an end that keeps it.
+    /// How many are lent, for an end that keeps it.
     pub(crate) fn loan(&self) -> Loan
-        ensures { result.count ≡ self.now.pipe.lent }
+        ensures { result ≡ self.now.pipe.lent }
     {
         self.pipe.loan()
     }

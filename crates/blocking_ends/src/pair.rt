@@ -36,9 +36,14 @@ pub fn link_over<X: Drop, R: PlaceRule<X>, S: Store<X>, H: Wait + AllocGlobal + 
     ensures sent { IfOk result (λ ends. (ends.0.sent ≡ 0) × (ends.0.free ≡ 0)) }
     ensures received { IfOk result (λ ends. ends.1.received ≡ 0) }
 {
-    let pipe = Arc::new(rt.alloc(), Mutex::new(JobToOwner::over(memory)))?;
+    let pipe = JobToOwner::over(memory);
+    let (sent, received) = (pipe.tally_sent(), pipe.tally_received());
+    let pipe = Arc::new(rt.alloc(), Mutex::new(pipe))?;
     let theirs = Arc::try_clone(&pipe)?;
-    Ok((SendEnd::new(rt, theirs), RecvEnd::new(rt, pipe)))
+    Ok((
+        SendEnd::new(rt, theirs, sent),
+        RecvEnd::new(rt, pipe, received),
+    ))
 }
 
 /// The memory of a pipe whose ends pass pieces: that of its store, in which nothing stands, and a piece at each end.
@@ -131,12 +136,12 @@ pub fn link_drain<X: Drop, R: PlaceRule<X>, S: Store<X>, H: Wait + AllocGlobal +
         most,
     } = memory;
     let pipe = JobToOwner::over(store);
-    let loan = pipe.loan();
+    let (sent, received, loan) = (pipe.tally_sent(), pipe.tally_received(), pipe.loan());
     let pipe = Arc::new(rt.alloc(), Mutex::new(pipe))?;
     let theirs = Arc::try_clone(&pipe)?;
     Ok((
-        SendEnd::new(rt, theirs),
-        DrainEnd::new(rt, pipe, loan, lent, most),
+        SendEnd::new(rt, theirs, sent),
+        DrainEnd::new(rt, pipe, received, loan, lent, most),
         ready,
     ))
 }
@@ -184,12 +189,12 @@ pub fn link_in_over<X: Drop, R: PlaceRule<X>, S: Store<X>, H: Wait + AllocGlobal
         most,
     } = memory;
     let pipe = OwnerToJob::over(store);
-    let loan = pipe.loan();
+    let (sent, received, loan) = (pipe.tally_sent(), pipe.tally_received(), pipe.loan());
     let pipe = Arc::new(rt.alloc(), Mutex::new(pipe))?;
     let theirs = Arc::try_clone(&pipe)?;
     Ok((
-        FillEnd::new(rt, pipe, ready),
-        PeekEnd::new(rt, theirs, loan, lent, most),
+        FillEnd::new(rt, pipe, sent, ready),
+        PeekEnd::new(rt, theirs, received, loan, lent, most),
     ))
 }
 

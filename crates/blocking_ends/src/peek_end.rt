@@ -2,7 +2,7 @@
 ghost use Rattle.std.specs.Prelude.{◌≡◌, ◌<◌, ◌≤◌, ◌+◌, ◌-◌, [], length, max, take, drop, vec_capacity};
 
 use crate::hand::Hand;
-use crate::locked::OwnerToJob;
+use crate::locked::{OwnerToJob, Tally};
 use crate::rule::PlaceRule;
 use blocking_core::pipe::{CopyStore, Loan, Peeked, Store};
 use blocking_lock::{OwnerWaker, enter_where};
@@ -23,7 +23,8 @@ use std::sync::{Arc, Mutex, MutexGuard, Wait};
 pub struct PeekEnd<X: Drop, R: PlaceRule<X>, S: Store<X>, H: Wait + Copy> {
     pipe: Arc<Mutex<OwnerToJob<X, R, S>>>,
     hand: Hand<X, R>,
-    // How many items are lent.
+    // How many items were consumed, and how many are lent.
+    consumed: Tally,
     lent: Loan,
     // How many items the last peek showed that weren't consumed since.
     peeked: usize,
@@ -40,7 +41,7 @@ impl<X: Drop, R: PlaceRule<X>, S: Store<X>, H: Wait + Copy> Model for PeekEnd<X,
 
     ghost view = { λ e. record { received = e.hand.received; shown = e.hand.left; peeked = e.peeked } };
 
-    ghost invariant = { λ e. e.lent.count ≡ length e.hand.left };
+    ghost invariant = { λ e. (e.consumed ≡ e.hand.received) × (e.lent ≡ length e.hand.left) };
 }
 
 impl<X: Drop, R: PlaceRule<X>, S: Store<X>, H: Wait + Copy> PeekEnd<X, R, S, H> {
@@ -51,11 +52,12 @@ impl<X: Drop, R: PlaceRule<X>, S: Store<X>, H: Wait + Copy> PeekEnd<X, R, S, H> 
     pub(crate) fn new(
         rt: H,
         pipe: Arc<Mutex<OwnerToJob<X, R, S>>>,
+        consumed: Tally,
         lent: Loan,
         piece: Vec<X>,
         most: usize,
     ) -> Self
-        requires none { lent.count ≡ 0 }
+        requires none { (consumed ≡ 0) × (lent ≡ 0) }
         requires some { 0 < most }
         requires fits { most ≤ vec_capacity piece }
         ensures { result ≡ record { received = 0; shown = []; peeked = 0 } }
@@ -63,6 +65,7 @@ impl<X: Drop, R: PlaceRule<X>, S: Store<X>, H: Wait + Copy> PeekEnd<X, R, S, H> 
         PeekEnd {
             pipe,
             hand: Hand::new(piece, most),
+            consumed,
             lent,
             peeked: 0,
             rt,
@@ -77,6 +80,7 @@ impl<X: Drop, R: PlaceRule<X>, S: Store<X>, H: Wait + Copy> PeekEnd<X, R, S, H> 
         let PeekEnd {
             pipe: _,
             hand,
+            consumed: _,
             lent: _,
             peeked: _,
             rt: _,
@@ -111,17 +115,17 @@ impl<X: Drop, R: PlaceRule<X>, S: Store<X>, H: Wait + Copy> PeekEnd<X, R, S, H> 
     fn enter<'a>(
         pipe: &'a Mutex<OwnerToJob<X, R, S>>,
         rt: &H,
-        received: u64,
+        consumed: &Tally,
         lent: &Loan,
         more: usize,
     ) -> MutexGuard<'a, OwnerToJob<X, R, S>>
-        ensures received { result.value.received ≡ received }
-        ensures lent { result.value.pipe.lent ≡ lent.now.count }
+        ensures consumed { result.value.received ≡ consumed.now }
+        ensures lent { result.value.pipe.lent ≡ lent.now }
         ensures more { more ≤ length result.value.pipe.items }
     {
-        let lent = lent.count();
+        let (consumed, lent) = (consumed.count(), lent.count());
         enter_where(pipe, rt, |pipe: &OwnerToJob<X, R, S>| {
-            pipe.received() == received && pipe.lent() == lent && more <= pipe.len()
+            pipe.received() == consumed && pipe.lent() == lent && more <= pipe.len()
         })
     }
 
@@ -133,11 +137,10 @@ impl<X: Drop, R: PlaceRule<X>, S: Store<X>, H: Wait + Copy> PeekEnd<X, R, S, H> 
         ensures shown { self.new.shown ≡ drop count self.old.shown }
         ensures peeked { self.new.peeked ≡ self.old.peeked - count }
     {
-        let received = self.hand.received();
         let more = count - count.min(self.hand.len());
-        let mut pipe = Self::enter(&self.pipe, &self.rt, received, &self.lent, more);
+        let mut pipe = Self::enter(&self.pipe, &self.rt, &self.consumed, &self.lent, more);
         let waker = pipe.consume(count);
-        let _counted = pipe.received();
+        self.consumed = pipe.tally_received();
         self.lent = pipe.loan();
         drop(pipe);
         self.hand.pass(count);
@@ -149,7 +152,7 @@ impl<X: Drop, R: PlaceRule<X>, S: Store<X>, H: Wait + Copy> PeekEnd<X, R, S, H> 
     pub fn close(&mut self) -> Option<OwnerWaker>
         ensures { self.new ≡ self.old }
     {
-        Self::enter(&self.pipe, &self.rt, self.hand.received(), &self.lent, 0).close_job()
+        Self::enter(&self.pipe, &self.rt, &self.consumed, &self.lent, 0).close_job()
     }
 }
 
@@ -171,7 +174,7 @@ impl<X: Copy, R: PlaceRule<X>, S: CopyStore<X>, H: Wait + Copy> PeekEnd<X, R, S,
         if first == out.len() {
             return first;
         }
-        let pipe = Self::enter(&self.pipe, &self.rt, self.hand.received(), &self.lent, 0);
+        let pipe = Self::enter(&self.pipe, &self.rt, &self.consumed, &self.lent, 0);
         first + pipe.peek(&mut out[first..])
     }
 
@@ -192,8 +195,7 @@ impl<X: Copy, R: PlaceRule<X>, S: CopyStore<X>, H: Wait + Copy> PeekEnd<X, R, S,
             self.peeked = self.peek_lent(out);
             return Peeked::Some(self.peeked);
         }
-        let received = self.hand.received();
-        let mut pipe = Self::enter(&self.pipe, &self.rt, received, &self.lent, 0);
+        let mut pipe = Self::enter(&self.pipe, &self.rt, &self.consumed, &self.lent, 0);
         let peeked = pipe.peek_or_seat(me, out);
         drop(pipe);
         self.peeked = match peeked {
@@ -218,7 +220,7 @@ impl<X: Copy, R: PlaceRule<X>, S: CopyStore<X>, H: Wait + Copy> PeekEnd<X, R, S,
         if left > 0 {
             return Peeked::Some(left);
         }
-        let mut pipe = Self::enter(&self.pipe, &self.rt, self.hand.received(), &self.lent, 0);
+        let mut pipe = Self::enter(&self.pipe, &self.rt, &self.consumed, &self.lent, 0);
         let lent = self.hand.lend_or_seat(&mut *pipe, me);
         self.lent = pipe.loan();
         lent

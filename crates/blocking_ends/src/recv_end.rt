@@ -2,7 +2,7 @@
 ghost use Rattle.std.specs.Prelude.{◌≡◌, ◌<◌, ◌≤◌, ◌+◌, length, take, drop};
 ghost use Rattle.futures.specs.Task.{Covers, Keeps};
 
-use crate::locked::JobToOwner;
+use crate::locked::{JobToOwner, Tally};
 use crate::rule::PlaceRule;
 use blocking_core::pipe::{Answered, CopyStore, Drained, Received, Store};
 use blocking_lock::{OwnerWaker, enter_where};
@@ -20,7 +20,7 @@ use std::sync::{Arc, Mutex, MutexGuard, Wait};
 #[derive(Drop)]
 pub struct RecvEnd<X: Drop, R: PlaceRule<X>, S: Store<X>, H: Wait + Copy> {
     pipe: Arc<Mutex<JobToOwner<X, R, S>>>,
-    received: u64,
+    received: Tally,
     source: Source,
     rt: H,
 }
@@ -28,12 +28,12 @@ pub struct RecvEnd<X: Drop, R: PlaceRule<X>, S: Store<X>, H: Wait + Copy> {
 impl<X: Drop, R: PlaceRule<X>, S: Store<X>, H: Wait + Copy> RecvEnd<X, R, S, H> {
     ghost use Rattle.blocking_ends.specs.Answers.{IfReceived, OnEnd, OnWait, got_by_receive};
 
-    pub(crate) fn new(rt: H, pipe: Arc<Mutex<JobToOwner<X, R, S>>>) -> Self
-        ensures { result.received ≡ 0 }
+    pub(crate) fn new(rt: H, pipe: Arc<Mutex<JobToOwner<X, R, S>>>, received: Tally) -> Self
+        ensures { result.received ≡ received }
     {
         RecvEnd {
             pipe,
-            received: 0,
+            received,
             source: Source::new(),
             rt,
         }
@@ -43,17 +43,18 @@ impl<X: Drop, R: PlaceRule<X>, S: Store<X>, H: Wait + Copy> RecvEnd<X, R, S, H> 
     pub fn received(&self) -> u64
         ensures { result ≡ self.now.received }
     {
-        self.received
+        self.received.count()
     }
 
     // The pipe, where it has the count that this end knows of.
     fn enter<'a>(
         pipe: &'a Mutex<JobToOwner<X, R, S>>,
         rt: &H,
-        received: u64,
+        received: &Tally,
     ) -> MutexGuard<'a, JobToOwner<X, R, S>>
-        ensures { result.value.received ≡ received }
+        ensures { result.value.received ≡ received.now }
     {
+        let received = received.count();
         enter_where(pipe, rt, |pipe: &JobToOwner<X, R, S>| {
             pipe.received() == received
         })
@@ -66,9 +67,9 @@ impl<X: Drop, R: PlaceRule<X>, S: Store<X>, H: Wait + Copy> RecvEnd<X, R, S, H> 
         ensures held { IfReceived result.answer (R.holds self.old.received) }
         ensures ended { OnEnd result.answer (R.ended self.old.received) }
     {
-        let mut pipe = Self::enter(&self.pipe, &self.rt, self.received);
+        let mut pipe = Self::enter(&self.pipe, &self.rt, &self.received);
         let answered = pipe.receive_or_seat(waker);
-        self.received = pipe.received();
+        self.received = pipe.tally_received();
         answered
     }
 
@@ -102,7 +103,7 @@ impl<X: Drop, R: PlaceRule<X>, S: Store<X>, H: Wait + Copy> RecvEnd<X, R, S, H> 
         ensures received { self.new.received ≡ self.old.received }
         ensures source { self.new.source ≡ self.old.source }
     {
-        Self::enter(&self.pipe, &self.rt, self.received).close_owner()
+        Self::enter(&self.pipe, &self.rt, &self.received).close_owner()
     }
 }
 
@@ -122,9 +123,9 @@ impl<X: Copy, R: PlaceRule<X>, S: CopyStore<X>, H: Wait + Copy> RecvEnd<X, R, S,
             ≡ drop (got_by_drain result.answer) out.old }
         ensures ended { OnDrainsEnd result.answer (R.ended self.old.received) }
     {
-        let mut pipe = Self::enter(&self.pipe, &self.rt, self.received);
+        let mut pipe = Self::enter(&self.pipe, &self.rt, &self.received);
         let answered = pipe.drain_or_seat(waker, out);
-        self.received = pipe.received();
+        self.received = pipe.tally_received();
         answered
     }
 

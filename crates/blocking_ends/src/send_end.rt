@@ -1,9 +1,9 @@
 //! The end of a job that sends to its owner.
 ghost use Rattle.std.specs.Prelude.{◌≡◌, ◌<◌, ◌≤◌, ◌+◌, ◌-◌, length, take, vec_capacity, IsNone};
 
-use crate::locked::JobToOwner;
+use crate::locked::{JobToOwner, Tally};
 use crate::rule::PlaceRule;
-use blocking_core::pipe::{CopyStore, Put, Room, Sending, Store};
+use blocking_core::pipe::{CopyStore, Put, Room, Sending, Space, Store};
 use blocking_lock::{OwnerWaker, enter_where};
 use blocking_pool::pool::JobNo;
 use std::sync::{Arc, Mutex, MutexGuard, Wait};
@@ -19,9 +19,9 @@ use std::sync::{Arc, Mutex, MutexGuard, Wait};
 #[derive(Drop)]
 pub struct SendEnd<X: Drop, R: PlaceRule<X>, S: Store<X>, H: Wait + Copy> {
     pipe: Arc<Mutex<JobToOwner<X, R, S>>>,
-    sent: u64,
-    // How much of the room that was told is left.
-    free: usize,
+    sent: Tally,
+    // What is left of the room that was told.
+    free: Space,
     rt: H,
 }
 
@@ -29,14 +29,14 @@ impl<X: Drop, R: PlaceRule<X>, S: Store<X>, H: Wait + Copy> SendEnd<X, R, S, H> 
     ghost use Rattle.blocking_core.specs.Pipes.{room};
     ghost use Rattle.blocking_ends.specs.Answers.{IfFree, free_after, sent_by_send, ComesBack};
 
-    pub(crate) fn new(rt: H, pipe: Arc<Mutex<JobToOwner<X, R, S>>>) -> Self
-        ensures sent { result.sent ≡ 0 }
+    pub(crate) fn new(rt: H, pipe: Arc<Mutex<JobToOwner<X, R, S>>>, sent: Tally) -> Self
+        ensures sent { result.sent ≡ sent }
         ensures free { result.free ≡ 0 }
     {
         SendEnd {
             pipe,
-            sent: 0,
-            free: 0,
+            sent,
+            free: Space::none(),
             rt,
         }
     }
@@ -45,19 +45,20 @@ impl<X: Drop, R: PlaceRule<X>, S: Store<X>, H: Wait + Copy> SendEnd<X, R, S, H> 
     pub fn sent(&self) -> u64
         ensures { result ≡ self.now.sent }
     {
-        self.sent
+        self.sent.count()
     }
 
     // The pipe, where it has the counts that this end knows of.
     fn enter<'a>(
         pipe: &'a Mutex<JobToOwner<X, R, S>>,
         rt: &H,
-        sent: u64,
-        free: usize,
+        sent: &Tally,
+        free: &Space,
     ) -> MutexGuard<'a, JobToOwner<X, R, S>>
-        ensures sent { result.value.sent ≡ sent }
-        ensures room { free ≤ room result.value.pipe }
+        ensures sent { result.value.sent ≡ sent.now }
+        ensures room { free.now ≤ room result.value.pipe }
     {
+        let (sent, free) = (sent.count(), free.count());
         enter_where(pipe, rt, |pipe: &JobToOwner<X, R, S>| {
             pipe.sent() == sent && free <= pipe.room()
         })
@@ -70,9 +71,10 @@ impl<X: Drop, R: PlaceRule<X>, S: Store<X>, H: Wait + Copy> SendEnd<X, R, S, H> 
         ensures free { self.new.free ≡ free_after result self.old.free }
         ensures some { IfFree result (λ n. 0 < n) }
     {
-        let room = Self::enter(&self.pipe, &self.rt, self.sent, self.free).room_or_seat(me);
-        if let Room::Free(free) = room {
-            self.free = free;
+        let mut pipe = Self::enter(&self.pipe, &self.rt, &self.sent, &self.free);
+        let room = pipe.room_or_seat(me);
+        if let Room::Free(_) = room {
+            self.free = pipe.space();
         }
         room
     }
@@ -85,12 +87,12 @@ impl<X: Drop, R: PlaceRule<X>, S: Store<X>, H: Wait + Copy> SendEnd<X, R, S, H> 
         ensures free { self.new.free ≡ self.old.free - sent_by_send result }
         ensures back { ComesBack item result }
     {
-        let mut pipe = Self::enter(&self.pipe, &self.rt, self.sent, self.free);
+        let mut pipe = Self::enter(&self.pipe, &self.rt, &self.sent, &self.free);
         let sending = pipe.send(me, item);
-        self.sent = pipe.sent();
+        self.sent = pipe.tally_sent();
         drop(pipe);
         if let Sending::Sent(_) = &sending {
-            self.free = self.free.saturating_sub(1);
+            self.free.pass(1);
         }
         sending
     }
@@ -101,7 +103,7 @@ impl<X: Drop, R: PlaceRule<X>, S: Store<X>, H: Wait + Copy> SendEnd<X, R, S, H> 
         ensures sent { self.new.sent ≡ self.old.sent }
         ensures free { self.new.free ≡ self.old.free }
     {
-        Self::enter(&self.pipe, &self.rt, self.sent, self.free).close_job()
+        Self::enter(&self.pipe, &self.rt, &self.sent, &self.free).close_job()
     }
 }
 
@@ -132,12 +134,12 @@ impl<X: Copy, R: PlaceRule<X>, S: CopyStore<X>, H: Wait + Copy> SendEnd<X, R, S,
         ensures sent { self.new.sent ≡ self.old.sent + sent_by_put result (length items.now) }
         ensures free { self.new.free ≡ self.old.free - sent_by_put result (length items.now) }
     {
-        let mut pipe = Self::enter(&self.pipe, &self.rt, self.sent, self.free);
+        let mut pipe = Self::enter(&self.pipe, &self.rt, &self.sent, &self.free);
         let put = pipe.put(items);
-        self.sent = pipe.sent();
+        self.sent = pipe.tally_sent();
         drop(pipe);
         if let Put::In(_) = &put {
-            self.free -= items.len();
+            self.free.pass(items.len());
         }
         put
     }
@@ -154,12 +156,12 @@ impl<X: Copy, R: PlaceRule<X>, S: CopyStore<X>, H: Wait + Copy> SendEnd<X, R, S,
     {
         let long = piece.len();
         let first = piece.first().copied();
-        let mut pipe = Self::enter(&self.pipe, &self.rt, self.sent, self.free);
+        let mut pipe = Self::enter(&self.pipe, &self.rt, &self.sent, &self.free);
         let put = pipe.put_piece(piece, count);
-        self.sent = pipe.sent();
+        self.sent = pipe.tally_sent();
         drop(pipe);
         if let Put::In(_) = &put {
-            self.free -= count;
+            self.free.pass(count);
         }
         lengthen(piece, long, first);
         put

@@ -127,11 +127,14 @@ impl<J: Job, H: Runtime> Executor<J, H> {
     // Ends a section: lets the lock go, and notifies whom the section rang. A worker that looks for a job stands in for the one
     // that would be notified.
     fn leave(&self, held: MutexGuard<'_, Held<J>>, bell: Bell) {
-        let is_heard = matches!(bell.kind(), BellKind::One) && self.shared.lookout.claim();
+        let claimed = match bell.kind() {
+            BellKind::One => self.shared.lookout.claim(),
+            BellKind::Silent | BellKind::All => None,
+        };
         self.shared.lookout.tell(held.is_queued());
         drop(held);
-        match bell.kind() {
-            BellKind::One if is_heard => bell.heard(),
+        match (bell.kind(), claimed) {
+            (BellKind::One, Some(claimed)) => bell.heard(claimed),
             _ => bell.ring(&self.shared.condvar),
         }
     }

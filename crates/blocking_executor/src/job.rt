@@ -1,10 +1,10 @@
 //! The job of a call.
-ghost use Rattle.std.specs.Prelude.{◌≡◌, ◌↔◌, Some, None};
+ghost use Rattle.std.specs.Prelude.{◌≡◌, Some, None};
 ghost use Rattle.blocking_core.specs.declared.job.Action.{Action};
 
 use crate::slot::Link;
 use blocking_core::job::{Action, Answer, CallCore};
-use blocking_core::pool::{Carries, Job, JobNo, JobStep};
+use blocking_core::pool::{Carries, Job, JobNo, JobStep, Refused};
 use blocking_core::task::{Call, Put};
 use blocking_lock::OwnerWaker;
 use std::marker::Model;
@@ -45,6 +45,7 @@ impl<F: Call<Out: Drop> + Drop, H: Wait + Copy> Model for CallJob<F, H> {
 }
 
 impl<F: Call<Out: Drop> + Drop, H: Wait + Copy> CallJob<F, H> {
+    ghost use Rattle.std.specs.Prelude.{IsSome};
     ghost use Rattle.blocking_executor.specs.Calls.{CallSeen, IsAnswered};
 
     pub(crate) fn new(rt: H, call: F, link: Arc<Link<F>>) -> CallJob<F, H>
@@ -58,8 +59,8 @@ impl<F: Call<Out: Drop> + Drop, H: Wait + Copy> CallJob<F, H> {
         }
     }
 
-    /// The call, if it wasn't made yet. The slot stays as it is.
-    pub(crate) fn into_call(self) -> Option<F>
+    // The call, if it wasn't made yet. The slot stays as it is.
+    fn into_call(self) -> Option<F>
         ensures { result ≡ self.call }
     {
         let CallJob {
@@ -71,6 +72,19 @@ impl<F: Call<Out: Drop> + Drop, H: Wait + Copy> CallJob<F, H> {
         match stage {
             Stage::Call(call) => Some(call),
             Stage::Finish(_) | Stage::Deliver(_) | Stage::Done => None,
+        }
+    }
+
+    /// A call that was refused, out of its job, and why it was.
+    pub(crate) fn call_back(refused: Refused<CallJob<F, H>>) -> Refused<F>
+        requires { IsSome refused.back.call }
+        ensures back { Some result.back ≡ refused.back.call }
+        ensures why { result.why ≡ refused.why }
+    {
+        let Refused { back, why } = refused;
+        match back.into_call() {
+            Some(back) => Refused { back, why },
+            None => unreachable!(),
         }
     }
 
@@ -154,14 +168,14 @@ impl<F: Call<Out: Drop> + Drop, H: Wait + Copy> Carries<CallJob<F, H>> for CallJ
 }
 
 impl<F: Call<Out: Drop> + Drop, H: Wait + Copy> Job for CallJob<F, H> {
-    ghost use Rattle.blocking_executor.specs.Calls.{IsAnswered};
+    ghost use Rattle.blocking_executor.specs.Calls.{IsAnswered, told_by};
 
     // (another thread may set the mark at any time)
     ghost may_answer = { λ _ _. Unit {0} };
 
     fn step(&mut self, _me: JobNo) -> JobStep
         ensures answered { IsAnswered self.old.next self.new.next }
-        ensures done { (result ≡ JobStep.Done) ↔ (self.new.next ≡ Action.Done) }
+        ensures told { result ≡ told_by self.new.next }
     {
         match self.core.next() {
             Action::Call => self.make_call(),

@@ -3,6 +3,7 @@
 //! A worker looks unless another does that may be claimed. What it sees decides nothing: it takes the pool's lock after its looks.
 //! So does a worker that was notified, which is why one that looks may stand in for it.
 
+use blocking_core::pool::Claim;
 use std::sync::atomic::{AtomicBool, Ordering};
 use std::thread::yield_now;
 
@@ -16,6 +17,12 @@ pub(crate) struct Lookout {
     // Whether a job was queued when the last section ended.
     is_queued: AtomicBool,
 }
+
+/// The worker that looked, claimed for one ring. The lookout alone makes one.
+#[derive(Drop)]
+pub(crate) struct Claimed(());
+
+impl Claim for Claimed {}
 
 impl Lookout {
     pub(crate) fn new() -> Lookout {
@@ -35,8 +42,12 @@ impl Lookout {
 
     /// Claims the worker that looks, if there is one that nobody has claimed. To be called under the pool's lock, which that worker
     /// takes later: it finds what the section has queued, or somebody else has taken it.
-    pub(crate) fn claim(&self) -> bool {
-        self.is_manned.load(Ordering::SeqCst) && self.is_manned.swap(false, Ordering::SeqCst)
+    pub(crate) fn claim(&self) -> Option<Claimed> {
+        if self.is_manned.load(Ordering::SeqCst) && self.is_manned.swap(false, Ordering::SeqCst) {
+            Some(Claimed(()))
+        } else {
+            None
+        }
     }
 
     /// Looks for a job for a while, unless another worker does that may be claimed. The caller takes the pool's lock next.

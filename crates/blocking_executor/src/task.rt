@@ -5,7 +5,7 @@ use crate::executor::Executor;
 use crate::job::CallJob;
 use crate::runtime::Runtime;
 use crate::slot::{AnswerOf, Link};
-use blocking_core::pool::{Carries, Job, Refusal, Refused};
+use blocking_core::pool::{Carries, Job, JobNo, Refusal, Refused};
 use blocking_core::task::{Call, Looked, Slotted};
 use blocking_lock::Found;
 use futures::Future;
@@ -18,6 +18,8 @@ use std::sync::{Arc, Wait};
 /// that nobody gets. A drop waits for no call. [`detach`](Task::detach) lets the call go on without an owner. A task
 /// whose job was dropped by somebody else stays pending.
 pub struct Task<F: Call<Out: Drop>, H: Wait + Copy> {
+    // (the number of its job: who has none has added none)
+    _job: JobNo,
     link: Arc<Link<F>>,
     source: Source,
     // The waker of a task whose job is gone. It is kept, since one that is dropped wakes.
@@ -27,10 +29,11 @@ pub struct Task<F: Call<Out: Drop>, H: Wait + Copy> {
 }
 
 impl<F: Call<Out: Drop>, H: Wait + Copy> Task<F, H> {
-    pub(crate) fn new(rt: H, link: Arc<Link<F>>) -> Task<F, H>
+    pub(crate) fn new(rt: H, link: Arc<Link<F>>, job: JobNo) -> Task<F, H>
         ensures { result.is_taken ≡ false }
     {
         Task {
+            _job: job,
             link,
             source: Source::new(),
             unseated: None,
@@ -49,6 +52,7 @@ impl<F: Call<Out: Drop>, H: Wait + Copy> Task<F, H> {
     /// Lets the call go on without an owner: it is made as any other, and its answer is dropped.
     pub fn detach(self) {
         let Task {
+            _job: _,
             link,
             source: _,
             unseated: _,
@@ -65,6 +69,7 @@ impl<F: Call<Out: Drop>, H: Wait + Copy> Task<F, H> {
         ensures { result.is_taken ≡ false }
     {
         let Task {
+            _job: _,
             link,
             source,
             unseated: _,
@@ -80,6 +85,7 @@ impl<F: Call<Out: Drop>, H: Wait + Copy> Task<F, H> {
 impl<F: Call<Out: Drop>, H: Wait + Copy> Drop for Task<F, H> {
     fn drop(self) {
         let Task {
+            _job: _,
             link,
             source: _,
             unseated: _,
@@ -269,13 +275,7 @@ pub fn unblock<F: Call<Out: Drop> + Drop, J: Job + Carries<CallJob<F, H>>, H: Ru
         });
     };
     match executor.add(J::wrap(CallJob::new(rt, call, theirs))) {
-        Ok(_) => Ok(Task::new(rt, link)),
-        Err(Refused { back, why }) => match back.unwrap() {
-            Some(job) => match job.into_call() {
-                Some(back) => Err(Refused { back, why }),
-                None => unreachable!(),
-            },
-            None => unreachable!(),
-        },
+        Ok(job) => Ok(Task::new(rt, link, job)),
+        Err(refused) => Err(CallJob::call_back(refused.unwrap())),
     }
 }

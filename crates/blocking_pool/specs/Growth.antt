@@ -71,9 +71,9 @@ after_growth counts growth =
       bell = louder (ring_of growth) counts.bell;
     }
 
--- a starter's count of refusals rises exactly where it was asked and refused
+-- a starter's count of refusals rises by one exactly where it was asked and refused, so it is asked once
 abbrev pub Refusals : Bool → ℕ → ℕ → Type 0
-Refusals true before after = before < after
+Refusals true before after = after ≡ before + 1
 Refusals false before after = after ≡ before
 
 -- whether the refused start of a growth was asked for: the greatest number isn't

@@ -22,7 +22,7 @@ use crate::pool::batch::Batch;
 use crate::pool::counts::Counts;
 use crate::pool::table::{Front, Table};
 pub use answer::{Finish, Gone, Refusal, Refused, Took, Waited, Woke};
-pub use bell::{Bell, BellKind};
+pub use bell::{Bell, BellKind, Claim};
 pub use job::{Carries, Job, JobStep};
 pub use number::JobNo;
 pub use standing::Standing;

@@ -2,13 +2,19 @@
 use super::step::{Count, Deed, Ending, Given, Line, Row, Shown, Step, Until, Work};
 use crate::stop::stop;
 use blocking_core::pool::{
-    Bell, BellKind, Finish, Gone, Job, JobNo, JobStep, Pool, StartRefused, Starter, Took, Turn,
-    Waited, WakeNote, WorkerPass,
+    Bell, BellKind, Claim, Finish, Gone, Job, JobNo, JobStep, Pool, StartRefused, Starter, Took,
+    Turn, Waited, WakeNote, WorkerPass,
 };
 use std::alloc::{AllocGlobal, Global};
 use std::mem;
 use std::process::Abort;
 use std::sync::Condvar;
+
+// A worker that stands in for one that waits.
+#[derive(Drop)]
+struct StandIn;
+
+impl Claim for StandIn {}
 
 /// A job that is told apart by its number, and that may bear a mark.
 #[derive(Clone, Copy)]
@@ -335,7 +341,7 @@ impl Bench {
         let bell: Bell = self.pool.bell();
         let kind = bell.kind();
         match kind {
-            BellKind::One => bell.heard(),
+            BellKind::One => bell.heard(StandIn),
             _ => bell.ring(&Condvar::new()),
         }
         Shown::Rang(kind)

@@ -2,6 +2,7 @@
 ghost use Rattle.std.specs.Prelude.{Some};
 ghost use Rattle.blocking_pool.specs.Refusals.{reason_text};
 
+use crate::pool::job::Carries;
 use crate::pool::token::{Turn, WorkerPass};
 use std::error::Error;
 use std::fmt;
@@ -41,6 +42,25 @@ pub struct Refused<X: Drop> {
     #[derive_where(skip)]
     pub back: X,
     pub why: Refusal,
+}
+
+impl<X: Drop> Refused<X> {
+    ghost use Rattle.std.specs.Prelude.{◌≡◌, IsSome};
+
+    /// The named job that was refused, out of the one that carried it, and why it was.
+    pub fn unwrap<K: Drop>(self) -> Refused<K>
+    where
+        X: Carries<K>,
+        requires { IsSome (X.opened self.back) }
+        ensures back { Some result.back ≡ X.opened self.back }
+        ensures why { result.why ≡ self.why }
+    {
+        let Refused { back, why } = self;
+        match back.unwrap() {
+            Some(back) => Refused { back, why },
+            None => unreachable!(),
+        }
+    }
 }
 
 impl<X: Drop> fmt::Display for Refused<X> {

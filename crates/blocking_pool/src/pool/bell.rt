@@ -13,6 +13,10 @@ pub enum BellKind {
     All,
 }
 
+/// A worker that runs no job and doesn't wait, and that was claimed for a ring: it takes the pool's lock after that, as one that is notified
+/// does. Whoever claims workers has a type of its own for them, and makes one only for a worker that nobody else has claimed.
+pub trait Claim {}
+
 /// A ring that is due to the workers that wait. It has no `Drop`: it has to be spent, by [`Bell::ring`] or [`Bell::heard`].
 pub struct Bell {
     kind: BellKind,
@@ -54,9 +58,8 @@ impl Bell {
         }
     }
 
-    /// Spends the ring of one worker, and notifies nobody. For a ring that an idle worker hears which doesn't wait: one that takes
-    /// the pool's lock after this call, as the one that is notified does.
-    pub fn heard(self)
+    /// Spends the ring of one worker, and notifies nobody: the worker that was claimed stands in for the one that would be.
+    pub fn heard<C: Claim + Drop>(self, _claimed: C)
         requires { self ≡ BellKind.One }
     {
         let Bell { kind: _ } = self;

@@ -1,5 +1,5 @@
 //! What starts workers.
-ghost use Rattle.std.specs.Prelude.{◌≡◌, ◌<◌, ℕ, Bool, OnOk, OnErr, is_err};
+ghost use Rattle.std.specs.Prelude.{◌≡◌, ◌+◌, ℕ, Bool, OnOk, OnErr, is_err};
 ghost use Rattle.blocking_pool.specs.Growth.{Narrows};
 
 /// Starts workers for a pool, each by its number.
@@ -12,10 +12,10 @@ pub trait Starter {
 
     /// Starts the worker of this number.
     ///
-    /// A refusal is answered only where the count of refusals rose in this call.
+    /// A refusal raises the count of refusals by one, and a start leaves it.
     fn start(&mut self, number: u64) -> Result<(), StartRefused>
         ensures started { OnOk result (refusals self.new ≡ refusals self.old) }
-        ensures refused { OnErr result (refusals self.old < refusals self.new) }
+        ensures refused { OnErr result (refusals self.new ≡ refusals self.old + 1) }
         ensures answered { may_answer self.old number (is_err result) }
         ensures steady { Narrows (may_answer self.old) (may_answer self.new) };
 }

@@ -1,5 +1,5 @@
 -- What is left of the piece still holds.
-use Rattle.std.proofs.Common.{rules, ◌≡◌, ◌+◌, ◌≤◌, length, drop, min, refl, sym, subst, arith}
+use Rattle.std.proofs.Common.{rules, ◌≡◌, ◌+◌, length, drop, min, refl, sym, subst, arith}
 use Rattle.std.proofs.lemmas.List.{length-drop}
 use Rattle.blocking_ends.specs.Rules.{HoldFrom}
 use Rattle.blocking_ends.proofs.Kept.{hold_after}

@@ -1,6 +1,6 @@
 -- What is lent is copied first, and what stands behind it follows: each item holds at its place.
-use Rattle.std.proofs.Common.{rules, ◌≡◌, ℕ, ◌+◌, ◌-◌, ◌≤◌, ◌∙◌, ◌++◌, List, [], length, take, drop, min, refl, sym, ap, subst, arith, take-add}
-use Rattle.std.proofs.lemmas.List.{append-nil, drop-append-le, drop-drop, drop_all, drop_at, length-append, length-drop, length-take-le, take-append-le, take-take, take_all, take_at}
+use Rattle.std.proofs.Common.{rules, ◌≡◌, ℕ, ◌+◌, ◌-◌, ◌≤◌, ◌∙◌, ◌++◌, List, [], length, take, drop, refl, sym, ap, subst, arith, take-add}
+use Rattle.std.proofs.lemmas.List.{append-nil, drop-drop, drop_all, drop_at, length-append, length-take-le, take-append-le, take-take, take_all, take_at}
 use Rattle.blocking_ends.specs.Rules.{HoldFrom}
 use Rattle.blocking_ends.proofs.Kept.{hold_joined, hold_moved}
 use Rattle.blocking_ends.proofs.peek_end.PeekEnd.peek_lent.Goals as goal

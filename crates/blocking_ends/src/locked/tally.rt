@@ -1,0 +1,34 @@
+//! What a pipe has counted, for an end that keeps it.
+use std::marker::Model;
+
+/// How many items were sent into a pipe, or received from it, as that itself counts them. Only the pipe's sections make one, so an end whose count
+/// has risen has passed something on.
+#[derive(Drop)]
+pub(crate) struct Tally {
+    count: u64,
+}
+
+impl Model for Tally {
+    ghost use Rattle.std.specs.Prelude.{ℕ};
+
+    ghost Value = { ℕ };
+
+    ghost view = { λ tally. tally.count };
+}
+
+impl Tally {
+    ghost use Rattle.std.specs.Prelude.{◌≡◌};
+
+    // (for the pipe under its lock alone)
+    pub(super) fn new(count: u64) -> Tally
+        ensures { result ≡ count }
+    {
+        Tally { count }
+    }
+
+    pub(crate) fn count(&self) -> u64
+        ensures { result ≡ self.now }
+    {
+        self.count
+    }
+}
