@@ -191,21 +191,21 @@ module _ {E : Type 0} where
   abbrev pub after_drain : ℕ → OwnerAnswer E → OwnerMachine E → OwnerMachine E
   after_drain most (by.Got count noted) poll = after_got most count noted poll
   after_drain most by.Ended poll = record poll { next = PollSlot; is_at_end = true }
-  after_drain most (by.Waits seat) poll = record poll { next = Pending }
+  after_drain most (by.WaitsAtPipe seat) poll = record poll { next = Pending }
   after_drain most answer poll = poll
 
   -- bytes went into the pipe, or none as the job's end is closed, or the owner waits
   abbrev pub after_fill : ℕ → OwnerAnswer E → OwnerMachine E → OwnerMachine E
   after_fill most (by.Took count noted) poll = after_got most count noted poll
   after_fill most by.Shut poll = record poll { next = Reply (Count 0) }
-  after_fill most (by.Waits seat) poll = record poll { next = Pending }
+  after_fill most (by.WaitsAtPipe seat) poll = record poll { next = Pending }
   after_fill most answer poll = poll
 
   -- an item came out of the pipe, or it is at its end, or the owner waits
   abbrev pub after_receive : OwnerAnswer E → OwnerMachine E → OwnerMachine E
   after_receive (by.Received noted) poll = record poll { next = Reply Item; is_waking = noted }
   after_receive by.Ended poll = record poll { next = PollSlot; is_at_end = true }
-  after_receive (by.Waits seat) poll = record poll { next = Pending }
+  after_receive (by.WaitsAtPipe seat) poll = record poll { next = Pending }
   after_receive answer poll = poll
 
   -- the handle was dropped
@@ -215,7 +215,7 @@ module _ {E : Type 0} where
 
   -- the handle came back, from a seek that went well with its position; or the owner waits
   abbrev pub after_slot : OwnerAnswer E → OwnerMachine E → OwnerMachine E
-  after_slot (by.Waits seat) poll = record poll { next = Pending }
+  after_slot (by.WaitsInSlot seat) poll = record poll { next = Pending }
   after_slot (by.Back why) poll = record poll { state = Idle; next = after_back poll.call poll.is_at_end why }
   after_slot (by.Sought place) poll = record poll { state = Idle; next = after_seek poll.state poll.call place }
   after_slot answer poll = poll
@@ -223,7 +223,7 @@ module _ {E : Type 0} where
   -- the result of the operation came, or the owner waits
   abbrev pub after_result : OwnerAnswer E → OwnerMachine E → OwnerMachine E
   after_result by.Resulted poll = record poll { next = Reply Result }
-  after_result (by.Waits seat) poll = record poll { next = Pending }
+  after_result (by.WaitsInSlot seat) poll = record poll { next = Pending }
   after_result answer poll = poll
 
   -- What follows an answer to this action. An answer to another one changes nothing.

@@ -112,6 +112,10 @@ pub enum Peeked {
     Drained,
 }
 
+/// A seat of a pipe's owner. Pipes alone make it.
+#[derive(Drop)]
+pub struct OfPipe(());
+
 /// How many items a pipe has lent. A pipe alone makes one, so whoever has it asked the pipe.
 #[derive(Drop, Debug)]
 pub struct Loan {
@@ -181,7 +185,7 @@ pub enum Drained {
     /// The pipe is empty, and the job's end is closed.
     Ended,
     /// The pipe is empty: the waker is seated.
-    Waits(Seat),
+    Waits(Seat<OfPipe>),
 }
 
 /// What an owner finds that fetches.
@@ -191,7 +195,7 @@ pub enum Fetched {
     /// The pipe is empty, and the job's end is closed.
     Ended,
     /// The pipe is empty: the waker is seated.
-    Waits(Seat),
+    Waits(Seat<OfPipe>),
 }
 
 /// What an owner finds that receives.
@@ -201,7 +205,7 @@ pub enum Received<X> {
     /// The pipe is empty, and the job's end is closed.
     Ended,
     /// The pipe is empty: the waker is seated.
-    Waits(Seat),
+    Waits(Seat<OfPipe>),
 }
 
 /// What an owner finds that fills.
@@ -211,7 +215,7 @@ pub enum Filled {
     /// The job's end is closed, and nothing was taken.
     Shut,
     /// The pipe is full: the waker is seated.
-    Waits(Seat),
+    Waits(Seat<OfPipe>),
 }
 
 /// The answer to an owner, and the waker that it leaves over: the one that was handed in, where the owner needn't wait, or
@@ -411,7 +415,7 @@ impl<X: Drop, W: Drop, S: Store<X>> Pipe<X, W, S> {
                 spare: Some(waker),
             },
             None if self.is_job_open => Answered {
-                answer: Received::Waits(Seat(())),
+                answer: Received::Waits(Seat(OfPipe(()))),
                 spare: self.owner_seat.replace(waker),
             },
             None => Answered {
@@ -546,7 +550,7 @@ impl<X: Copy, W: Drop, S: CopyStore<X>> Pipe<X, W, S> {
             };
         }
         Answered {
-            answer: Drained::Waits(Seat(())),
+            answer: Drained::Waits(Seat(OfPipe(()))),
             spare: self.owner_seat.replace(waker),
         }
     }
@@ -594,7 +598,7 @@ impl<X: Copy, W: Drop, S: CopyStore<X>> Pipe<X, W, S> {
             };
         }
         Answered {
-            answer: Fetched::Waits(Seat(())),
+            answer: Fetched::Waits(Seat(OfPipe(()))),
             spare: self.owner_seat.replace(waker),
         }
     }
@@ -620,7 +624,7 @@ impl<X: Copy, W: Drop, S: CopyStore<X>> Pipe<X, W, S> {
     {
         if count == 0 {
             return Answered {
-                answer: Filled::Waits(Seat(())),
+                answer: Filled::Waits(Seat(OfPipe(()))),
                 spare: self.owner_seat.replace(waker),
             };
         }

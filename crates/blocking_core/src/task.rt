@@ -61,9 +61,14 @@ impl<T: Drop, W: Drop> Model for Slot<T, W> {
     ghost view = { λ s. record { content = content_of s.content; seat = s.seat } };
 }
 
-/// The proof that a poll seated its waker. Only the call that waits makes one.
+/// The proof that a poll seated its waker, in a slot or at a pipe, as `Of` says: [`OfSlot`] or [`OfPipe`](crate::pipe::OfPipe). Only the call that
+/// waits makes one.
 #[derive(Drop)]
-pub struct Seat(pub(crate) ());
+pub struct Seat<Of: Drop>(pub(crate) Of);
+
+/// A seat of a slot. Slots alone make it.
+#[derive(Drop)]
+pub struct OfSlot(());
 
 /// What a poll of a slot finds.
 #[derive(Drop)]
@@ -73,7 +78,7 @@ pub enum Slotted<T: Drop> {
     /// No value will come.
     Gone,
     /// Nothing yet: the waker is seated.
-    Waits(Seat),
+    Waits(Seat<OfSlot>),
 }
 
 /// The answer of a poll, and the waker that it leaves over: the one that was handed in, where the poll is ready, or the
@@ -173,7 +178,7 @@ impl<T: Drop, W: Drop> Slot<T, W> {
             waiting => {
                 self.content = waiting;
                 return Polled {
-                    answer: Slotted::Waits(Seat(())),
+                    answer: Slotted::Waits(Seat(OfSlot(()))),
                     spare: self.seat.replace(waker),
                 };
             }

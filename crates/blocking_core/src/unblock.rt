@@ -6,7 +6,8 @@ ghost use Rattle.blocking_core.specs.declared.unblock.OwnerAction.TheVariants.{R
 ghost use Rattle.blocking_core.specs.OwnerCalls.{tells_faults, refusal, at_end, after_end, after_back, sought_by, after_seek};
 
 use crate::io::{Fault, Position};
-use crate::task::Seat;
+use crate::pipe::OfPipe;
+use crate::task::{OfSlot, Seat};
 use blocking_pool::pool::Refusal;
 use std::marker::Model;
 
@@ -143,8 +144,10 @@ pub enum OwnerAnswer<E: Drop> {
     Took { count: usize, has_note: bool },
     /// The job's end is closed, and no byte was taken.
     Shut,
-    /// There is nothing yet, or no room, and the waker is seated.
-    Waits(Seat),
+    /// There is nothing in the pipe yet, or no room, and the waker is seated there.
+    WaitsAtPipe(Seat<OfPipe>),
+    /// There is no handle in the slot yet, or no result in its place, and the waker is seated there.
+    WaitsInSlot(Seat<OfSlot>),
     /// The handle came back, with the fault of its job.
     Back(Option<Fault<E>>),
     /// The handle came back from a seek that went well, and is at this position now, counted in bytes from its start.
@@ -287,7 +290,7 @@ impl<E: Copy + Drop> OwnerCall<E> {
                 self.next = OwnerAction::PollSlot;
                 self.is_at_end = true;
             }
-            OwnerAnswer::Waits(_at_the_pipe) => self.next = OwnerAction::Pending,
+            OwnerAnswer::WaitsAtPipe(_) => self.next = OwnerAction::Pending,
             _ => {}
         }
     }
@@ -303,7 +306,7 @@ impl<E: Copy + Drop> OwnerCall<E> {
                 }
             }
             OwnerAnswer::Shut => self.next = OwnerAction::Reply(Reply::Count(0)),
-            OwnerAnswer::Waits(_at_the_full_pipe) => self.next = OwnerAction::Pending,
+            OwnerAnswer::WaitsAtPipe(_) => self.next = OwnerAction::Pending,
             _ => {}
         }
     }
@@ -320,7 +323,7 @@ impl<E: Copy + Drop> OwnerCall<E> {
                 self.next = OwnerAction::PollSlot;
                 self.is_at_end = true;
             }
-            OwnerAnswer::Waits(_at_the_pipe) => self.next = OwnerAction::Pending,
+            OwnerAnswer::WaitsAtPipe(_) => self.next = OwnerAction::Pending,
             _ => {}
         }
     }
@@ -338,7 +341,7 @@ impl<E: Copy + Drop> OwnerCall<E> {
         ensures { self.new ≡ after_slot answer self.old }
     {
         match answer {
-            OwnerAnswer::Waits(_at_the_slot) => self.next = OwnerAction::Pending,
+            OwnerAnswer::WaitsInSlot(_) => self.next = OwnerAction::Pending,
             OwnerAnswer::Back(fault) => {
                 self.state = State::Idle;
                 self.next = action_after_back(self.call, self.is_at_end, fault);
@@ -356,7 +359,7 @@ impl<E: Copy + Drop> OwnerCall<E> {
     {
         match answer {
             OwnerAnswer::Resulted => self.next = OwnerAction::Reply(Reply::Result),
-            OwnerAnswer::Waits(_at_the_place) => self.next = OwnerAction::Pending,
+            OwnerAnswer::WaitsInSlot(_) => self.next = OwnerAction::Pending,
             _ => {}
         }
     }

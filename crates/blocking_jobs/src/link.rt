@@ -5,7 +5,7 @@ ghost use Rattle.futures.specs.Task.{IsArmed, Keeps};
 
 use blocking_core::io::JobFault;
 use blocking_core::pipe::LendingStore;
-use blocking_core::task::{Put, Seat};
+use blocking_core::task::{OfSlot, Put, Seat};
 use blocking_lock::{AnyOf, LockedSlot, OwnerWaker};
 use futures::task::{Context, Source};
 use std::alloc::{AllocError, AllocGlobal};
@@ -108,7 +108,7 @@ impl<T: Drop, X: Drop, H: Wait + Copy> WayBack<T, X, H> {
     /// Takes the handle out of the slot, or waits there for it. Once it was taken nothing more comes, and a poll waits for good. It isn't
     /// polled where the job was dropped before it gave the handle back, which a pool does only once the owner is gone: it would ask again
     /// and again.
-    pub fn poll(&self, cx: &mut Context<'_>) -> Result<Returned<T, X>, Seat>
+    pub fn poll(&self, cx: &mut Context<'_>) -> Result<Returned<T, X>, Seat<OfSlot>>
         ensures armed { OnErr result (IsArmed cx.new) }
         ensures kept { Keeps cx.old cx.new }
     {

@@ -7,7 +7,7 @@ ghost use Rattle.blocking_core.specs.Operations.{new_operation, operation_next};
 use crate::link::{Link, MayFail};
 use blocking_core::job::{OperationAction, OperationAnswer, OperationCore};
 use blocking_core::pool::{Carries, Job, JobNo, JobStep};
-use blocking_core::task::{CallOn, Put, Seat};
+use blocking_core::task::{CallOn, OfSlot, Put, Seat};
 use blocking_lock::{Left, LockedSlot, OwnerWaker};
 use futures::task::{Context, Source};
 use std::alloc::{AllocError, AllocGlobal};
@@ -35,7 +35,7 @@ pub struct ResultSeat<F: CallOn<T, Out: Drop>, T, H: Wait + Copy> {
 
 impl<F: CallOn<T, Out: Drop>, T, H: Wait + Copy> ResultSeat<F, T, H> {
     /// Takes the result out of its place, or waits there for it. Once it was taken nothing more comes, and a poll waits for good.
-    pub fn poll(&self, cx: &mut Context<'_>) -> Result<F::Out, Seat>
+    pub fn poll(&self, cx: &mut Context<'_>) -> Result<F::Out, Seat<OfSlot>>
         ensures allowed { IfOk result F.may_give }
         ensures armed { OnErr result (IsArmed cx.new) }
         ensures kept { Keeps cx.old cx.new }

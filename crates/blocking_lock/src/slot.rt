@@ -3,7 +3,7 @@ ghost use Rattle.std.specs.Prelude.{◌≡◌, IfOk, IfSome, OnErr};
 ghost use Rattle.futures.specs.Task.{IsArmed, Keeps};
 
 use crate::entry::enter;
-use blocking_core::task::{Looked, Put, Seat, Slot, Slotted};
+use blocking_core::task::{Looked, OfSlot, Put, Seat, Slot, Slotted};
 use futures::task::{Context, Poll, Source, Waker};
 use std::marker::{Model, PhantomData};
 use std::sync::{Mutex, Wait};
@@ -197,7 +197,7 @@ impl<A: Left<Value: Drop>> LockedSlot<A> {
     }
 
     // Seats the waker, unless the value is there. No slot is given up while its owner is there; one that is would be asked again.
-    fn wait<R: Wait>(&self, rt: &R, waker: OwnerWaker) -> Result<A::Value, Seat>
+    fn wait<R: Wait>(&self, rt: &R, waker: OwnerWaker) -> Result<A::Value, Seat<OfSlot>>
         ensures { IfOk result A.may_be }
     {
         let mut waker = waker;
@@ -218,7 +218,7 @@ impl<A: Left<Value: Drop>> LockedSlot<A> {
         rt: R,
         source: &Source,
         cx: &mut Context<'_>,
-    ) -> Result<A::Value, Seat>
+    ) -> Result<A::Value, Seat<OfSlot>>
         ensures allowed { IfOk result A.may_be }
         ensures armed { OnErr result (IsArmed cx.new) }
         ensures kept { Keeps cx.old cx.new }

@@ -206,7 +206,7 @@ module _ {E : Type 0} where
   abbrev IsOther : OwnerAnswer E → Type 0
   IsOther (by.Back why) = ⊥
   IsOther (by.Sought place) = ⊥
-  IsOther (by.Waits seat) = ⊥
+  IsOther (by.WaitsInSlot seat) = ⊥
   IsOther answer = Unit {0}
 
   not_back : (at : State) (answer : OwnerAnswer E) → IsOther answer → BackAt at answer → ⊥
@@ -214,7 +214,7 @@ module _ {E : Type 0} where
   not_back Closed answer other from = from
   not_back (Lent kind end) (by.Back why) other from = other
   not_back (Lent kind end) (by.Sought place) other from = other
-  not_back (Lent kind end) (by.Waits seat) other from = other
+  not_back (Lent kind end) (by.WaitsInSlot seat) other from = other
   not_back (Lent (Seeking to) end) answer other from = from
   not_back (Lent Reading end) answer other from = from
   not_back (Lent Writing end) answer other from = from
@@ -607,12 +607,12 @@ module _ {T I H B : Type 0} (E : Type 0) (begins : B → State → Type 0) (keep
         Turned begins keeps (between (act.Drain most)) (told noted (between (act.Drain most)) (by.Got (suc count) b)) old new before after armed in
         subst Q (sym does.0.0)
         (reply_goes (act.Drain most) (by.Got (suc count) noted) (reply.Count (suc count)) noted (got_is most count noted (between (act.Drain most)) does.0.2)
-        (does.0.1, does.0.2) (read_fits call most (suc count) fits.1 does.0.2) (stays at does.1) (λ first. tt) (λ first. count_brought E keeps before after first call (suc count)))
+        (does.0.1, does.0.2) (read_fits call most (suc count) fits.1 does.0.2) (stays at does.1.0) (λ first. tt) (λ first. count_brought E keeps before after first call (suc count)))
     drain_goes most by.Ended false fits at does brings = record {
       stands = record {
         awake = refl;
         fits = ((let P : State → Type 0 = λ s. HasSession s in subst P (sym fits.0) tt), still brings fits.3);
-        at = stays at does.1;
+        at = stays at does.1.0;
       };
       reaches = (by.Ended ∷ [], (tt, refl));
       call_same = refl;
@@ -620,9 +620,9 @@ module _ {T I H B : Type 0} (E : Type 0) (begins : B → State → Type 0) (keep
       keeps_first = λ first kept. let P : PollCall → Type 0 = λ c. AtOwnEnd c state true in subst P (sym fits.1) fits.0;
       brings = λ first kept. let P : PollCall → Type 0 = λ c. KeepsBrought {E = E} keeps c act.PollSlot after first in subst P (sym fits.1) tt;
     }
-    drain_goes most (by.Waits seat) false fits at does brings =
-        waits_turn (act.Drain most) (by.Waits seat) refl tt does.0
-        (let P : PollCall → Type 0 = λ c. Resumes c state (begins after (begun_by call)) (keeps after Way) in subst P (sym fits.1) tt) (stays at does.1)
+    drain_goes most (by.WaitsAtPipe seat) false fits at does brings =
+        waits_turn (act.Drain most) (by.WaitsAtPipe seat) refl tt does.0
+        (let P : PollCall → Type 0 = λ c. Resumes c state (begins after (begun_by call)) (keeps after Way) in subst P (sym fits.1) tt) (stays at does.1.0)
         (λ first kept. let P : PollCall → Type 0 = λ c. KeepsBrought {E = E} keeps c act.Pending after first in subst P (sym fits.1) tt)
     drain_goes most answer noted fits at does brings = absurd does.0
 
@@ -633,13 +633,13 @@ module _ {T I H B : Type 0} (E : Type 0) (begins : B → State → Type 0) (keep
         Turned begins keeps (between (act.Fill most)) (told noted (between (act.Fill most)) (by.Took (suc count) b)) old new before after armed in
         subst Q (sym does.0.0)
         (reply_goes (act.Fill most) (by.Took (suc count) noted) (reply.Count (suc count)) noted (got_is most count noted (between (act.Fill most)) does.0.2)
-        (does.0.1, does.0.2) (write_fits call most (suc count) fits.1 does.0.2) (stays at does.1) (λ first. tt) (λ first. count_brought E keeps before after first call (suc count)))
+        (does.0.1, does.0.2) (write_fits call most (suc count) fits.1 does.0.2) (stays at does.1.0) (λ first. tt) (λ first. count_brought E keeps before after first call (suc count)))
     fill_goes most by.Shut false fits at does brings =
-        reply_goes (act.Fill most) by.Shut (reply.Count 0) false refl tt (write_fits call most 0 fits.1 (omega arith)) (stays at does.1)
+        reply_goes (act.Fill most) by.Shut (reply.Count 0) false refl tt (write_fits call most 0 fits.1 (omega arith)) (stays at does.1.0)
         (λ first. tt) (λ first. count_brought E keeps before after first call 0)
-    fill_goes most (by.Waits seat) false fits at does brings =
-        waits_turn (act.Fill most) (by.Waits seat) refl tt does.0
-        (let P : PollCall → Type 0 = λ c. Resumes c state (begins after (begun_by call)) (keeps after Way) in subst P (sym fits.1) tt) (stays at does.1)
+    fill_goes most (by.WaitsAtPipe seat) false fits at does brings =
+        waits_turn (act.Fill most) (by.WaitsAtPipe seat) refl tt does.0
+        (let P : PollCall → Type 0 = λ c. Resumes c state (begins after (begun_by call)) (keeps after Way) in subst P (sym fits.1) tt) (stays at does.1.0)
         (λ first kept. let P : PollCall → Type 0 = λ c. KeepsBrought {E = E} keeps c act.Pending after first in subst P (sym fits.1) tt)
     fill_goes most answer noted fits at does brings = absurd does.0
 
@@ -651,13 +651,13 @@ module _ {T I H B : Type 0} (E : Type 0) (begins : B → State → Type 0) (keep
         let Q : Bool → Type 0 = λ b.
         Turned begins keeps (between act.Receive) (told noted (between act.Receive) (by.Received b)) old new before after armed in
         subst Q (sym does.0)
-        (reply_goes act.Receive (by.Received noted) reply.Item noted refl tt (item_fits call fits.1 brings) (stays at does.1)
+        (reply_goes act.Receive (by.Received noted) reply.Item noted refl tt (item_fits call fits.1 brings) (stays at does.1.0)
         (λ first. tt) (λ first. item_brought E keeps before after first call))
     receive_goes by.Ended false fits at does brings = record {
       stands = record {
         awake = refl;
         fits = ((let P : State → Type 0 = λ s. HasSession s in subst P (sym fits.0) tt), still brings fits.2);
-        at = stays at does.1;
+        at = stays at does.1.0;
       };
       reaches = (by.Ended ∷ [], (tt, refl));
       call_same = refl;
@@ -665,9 +665,9 @@ module _ {T I H B : Type 0} (E : Type 0) (begins : B → State → Type 0) (keep
       keeps_first = λ first kept. let P : PollCall → Type 0 = λ c. AtOwnEnd c state true in subst P (sym fits.1) fits.0;
       brings = λ first kept. let P : PollCall → Type 0 = λ c. KeepsBrought {E = E} keeps c act.PollSlot after first in subst P (sym fits.1) tt;
     }
-    receive_goes (by.Waits seat) false fits at does brings =
-        waits_turn act.Receive (by.Waits seat) refl tt does.0
-        (let P : PollCall → Type 0 = λ c. Resumes c state (begins after (begun_by call)) (keeps after Way) in subst P (sym fits.1) tt) (stays at does.1)
+    receive_goes (by.WaitsAtPipe seat) false fits at does brings =
+        waits_turn act.Receive (by.WaitsAtPipe seat) refl tt does.0
+        (let P : PollCall → Type 0 = λ c. Resumes c state (begins after (begun_by call)) (keeps after Way) in subst P (sym fits.1) tt) (stays at does.1.0)
         (λ first kept. let P : PollCall → Type 0 = λ c. KeepsBrought {E = E} keeps c act.Pending after first in subst P (sym fits.1) tt)
     receive_goes answer noted fits at does brings = absurd does.0
 
@@ -705,7 +705,7 @@ module _ {T I H B : Type 0} (E : Type 0) (begins : B → State → Type 0) (keep
 
     -- no other answer comes
     no_other : (answer : OwnerAnswer E) (noted : Bool) → IsOther answer → Does (begins before) act.PollSlot old answer noted new armed → ⊥
-    no_other (by.Waits seat) noted other does = other
+    no_other (by.WaitsInSlot seat) noted other does = other
     no_other (by.Back why) noted other does = other
     no_other (by.Sought came) noted other does = other
     no_other by.Begun true other does = does
@@ -714,12 +714,12 @@ module _ {T I H B : Type 0} (E : Type 0) (begins : B → State → Type 0) (keep
     no_other answer false other does = not_back (state_of old) answer tt does.1
 
     slot_goes : (answer : OwnerAnswer E) (noted : Bool) → Goes act.PollSlot answer noted
-    slot_goes (by.Waits seat) false fits at does brings =
-        waits_turn act.PollSlot (by.Waits seat) refl tt does.1 (resumes begins keeps E armed call state after (still brings fits.1)) (ap state_of does.0 ∙ at)
+    slot_goes (by.WaitsInSlot seat) false fits at does brings =
+        waits_turn act.PollSlot (by.WaitsInSlot seat) refl tt does.1 (resumes begins keeps E armed call state after (still brings fits.1)) (ap state_of does.0 ∙ at)
         (λ first kept. on_brought E keeps before after first call act.Pending brings kept)
     slot_goes (by.Back why) false fits at does brings = slot_back why fits does.0 (back_at (by.Back why) at does.1) brings
     slot_goes (by.Sought came) false fits at does brings = slot_sought came fits does.0 (back_at (by.Sought came) at does.1) brings
-    slot_goes (by.Waits seat) true fits at does brings = absurd does
+    slot_goes (by.WaitsInSlot seat) true fits at does brings = absurd does
     slot_goes (by.Back why) true fits at does brings = absurd does
     slot_goes (by.Sought came) true fits at does brings = absurd does
     slot_goes answer noted fits at does brings = absurd (no_other answer noted tt does)
@@ -739,8 +739,8 @@ module _ {T I H B : Type 0} (E : Type 0) (begins : B → State → Type 0) (keep
     result_goes by.Resulted false fits at does brings =
         reply_goes act.PollResult by.Resulted reply.Result false refl tt (result_fits call fits.1 brings) (ap state_of does ∙ at)
         (λ first. tt) (λ first. result_brought E keeps before after first call)
-    result_goes (by.Waits seat) false fits at does brings =
-        waits_turn act.PollResult (by.Waits seat) refl tt does.1
+    result_goes (by.WaitsInSlot seat) false fits at does brings =
+        waits_turn act.PollResult (by.WaitsInSlot seat) refl tt does.1
         (result_resumes call (begins after (begun_by call)) (keeps after Way) fits.0 (way_on brings fits.2)) (ap state_of does.0 ∙ at)
         (λ first kept. way_brought E keeps before after first call (way_on brings fits.2))
     result_goes answer noted fits at does brings = absurd does

@@ -3,6 +3,8 @@ use Rattle.std.specs.Prelude.{◌≡◌, ◌<◌, ◌≤◌, ℕ, Bool, true, fa
 use Rattle.blocking_core.specs.OwnerCalls.{OwnerMachine, new_poll, owner_next, owner_after, table}
 use Rattle.blocking_core.specs.declared.io.Fault.{Fault}
 use Rattle.blocking_core.specs.declared.io.Fault.TheVariants as fault
+use Rattle.blocking_core.specs.declared.io.JobFault.{JobFault}
+use Rattle.blocking_core.specs.declared.io.JobFault.TheVariants as job
 use Rattle.blocking_core.specs.declared.pipe.Drained.{Drained}
 use Rattle.blocking_core.specs.declared.pipe.Drained.TheVariants as drained
 use Rattle.blocking_core.specs.declared.pipe.Filled.{Filled}
@@ -64,6 +66,14 @@ operates (state.Lent kind.Operating Open) = true
 operates now = false
 
 module _ {T I H : Type 0} where
+  -- how many bytes or items crossed the pipe of a session: into it from its owner, or out of it to its owner
+  abbrev pub crossed : Side T I H → ℕ
+  crossed (side.Reading end way_back) = end.hand.received
+  crossed (side.Writing end way_back) = end.sent
+  crossed (side.Streaming end way_back) = end.received
+  crossed (side.Seeking to way_back) = 0
+  crossed (side.Operating way_back) = 0
+
   -- the kind of a session
   abbrev pub kind_of : Side T I H → SessionKind
   kind_of (side.Reading end way_back) = kind.Reading
@@ -77,6 +87,12 @@ module _ {T I H : Type 0} where
   state_of (place.Idle handle) = state.Idle
   state_of (place.Lent session) = state.Lent (kind_of session.side) session.owner_end
   state_of place.Closed = state.Closed
+
+  -- what crossed the pipe of the session that is under way
+  abbrev pub crossed_at : Place T I H → ℕ
+  crossed_at (place.Lent session) = crossed session.side
+  crossed_at (place.Idle handle) = 0
+  crossed_at place.Closed = 0
 
   -- the handle is where the state says
   abbrev pub IsAt : State → Place T I H → Type 0
@@ -103,6 +119,16 @@ module _ {E : Type 0} where
   IsOfJob (Some (fault.Io error)) = Unit {0}
   IsOfJob (Some fault.WriteZero) = Unit {0}
   IsOfJob (Some (fault.Refused why)) = ⊥
+
+  -- a fault of a job, as its owner tells it
+  abbrev pub told : JobFault E → Fault E
+  told (job.Io error) = fault.Io error
+  told job.WriteZero = fault.WriteZero
+
+  -- where a seek came to, as its owner tells it: the place, or its fault
+  abbrev pub told_of_seek : Result ℕ E → OwnerAnswer E
+  told_of_seek (Ok place) = by.Sought place
+  told_of_seek (Err error) = by.Back (Some (fault.Io error))
 
   -- the handle is back, with the fault of its job or with none
   abbrev pub IsBack : OwnerAnswer E → Type 0
@@ -132,17 +158,17 @@ module _ {E : Type 0} where
   AnswersTo state act.Close (by.Closed noted) = Unit {0}
   AnswersTo state (act.Drain most) (by.Got count noted) = (0 < count) × (count ≤ most)
   AnswersTo state (act.Drain most) by.Ended = Unit {0}
-  AnswersTo state (act.Drain most) (by.Waits seat) = Unit {0}
+  AnswersTo state (act.Drain most) (by.WaitsAtPipe seat) = Unit {0}
   AnswersTo state (act.Fill most) (by.Took count noted) = (0 < count) × (count ≤ most)
   AnswersTo state (act.Fill most) by.Shut = Unit {0}
-  AnswersTo state (act.Fill most) (by.Waits seat) = Unit {0}
+  AnswersTo state (act.Fill most) (by.WaitsAtPipe seat) = Unit {0}
   AnswersTo state act.Receive (by.Received noted) = Unit {0}
   AnswersTo state act.Receive by.Ended = Unit {0}
-  AnswersTo state act.Receive (by.Waits seat) = Unit {0}
-  AnswersTo state act.PollSlot (by.Waits seat) = Unit {0}
+  AnswersTo state act.Receive (by.WaitsAtPipe seat) = Unit {0}
+  AnswersTo state act.PollSlot (by.WaitsInSlot seat) = Unit {0}
   AnswersTo state act.PollSlot answer = BackAt state answer
   AnswersTo state act.PollResult by.Resulted = Unit {0}
-  AnswersTo state act.PollResult (by.Waits seat) = Unit {0}
+  AnswersTo state act.PollResult (by.WaitsInSlot seat) = Unit {0}
   AnswersTo state act.DropHandle by.Dropped = Unit {0}
   AnswersTo state act.Deliver by.Delivered = Unit {0}
   AnswersTo state _ _ = ⊥
@@ -170,13 +196,13 @@ module _ {E : Type 0} where
   abbrev pub answer_of_drain : Drained → OwnerAnswer E
   answer_of_drain (drained.Got count note) = by.Got count (has note)
   answer_of_drain drained.Ended = by.Ended
-  answer_of_drain (drained.Waits seat) = by.Waits seat
+  answer_of_drain (drained.Waits seat) = by.WaitsAtPipe seat
 
   -- what a fill means to the machine: what went in and whether there is a note, that nothing goes in any more, or that the owner waits
   abbrev pub answer_of_fill : Filled → OwnerAnswer E
   answer_of_fill (filled.Took count note) = by.Took count (has note)
   answer_of_fill filled.Shut = by.Shut
-  answer_of_fill (filled.Waits seat) = by.Waits seat
+  answer_of_fill (filled.Waits seat) = by.WaitsAtPipe seat
 
   -- what a read or a write answers, as a reply
   abbrev pub reply_of_count : Poll (Result ℕ (Fault E)) → Poll (Reply E)

@@ -1,5 +1,5 @@
 -- What holds of the machine of a poll between two actions. No public clause cites this file.
-use Rattle.std.specs.Prelude.{◌≡◌, ◌⊎◌, ◌<◌, ◌≤◌, ℕ, Bool, true, false}
+use Rattle.std.specs.Prelude.{◌≡◌, ◌⊎◌, ◌+◌, ◌<◌, ◌≤◌, ℕ, Bool, true, false}
 use Rattle.blocking_core.specs.OwnerCalls.{OwnerMachine, begun_by, shut, has_pipe}
 use Rattle.blocking_core.specs.declared.io.Fault.TheVariants as fault
 use Rattle.blocking_core.specs.declared.unblock.PollCall.{PollCall}
@@ -16,7 +16,7 @@ use Rattle.blocking_core.specs.declared.unblock.OwnerAnswer.{OwnerAnswer}
 use Rattle.blocking_core.specs.declared.unblock.OwnerAnswer.TheVariants as by
 use Rattle.futures.specs.declared.task.Poll.{Poll}
 use Rattle.futures.specs.declared.task.Poll.TheVariants.{Ready, Pending}
-use Rattle.blocking_unblock.specs.Owners.{state_of, IsAt, BackAt}
+use Rattle.blocking_unblock.specs.Owners.{state_of, crossed_at, IsAt, BackAt}
 use Rattle.blocking_unblock.specs.declared.place.Place.{Place}
 
 -- what a call has beside its buffers: where it waits for a result, the item that came, the result that came
@@ -158,22 +158,33 @@ module _ {E : Type 0} where
   abbrev pub Drains : ℕ → OwnerAnswer E → Bool → Type 0 → Type 0
   Drains most (by.Got count noted) has_note armed = (noted ≡ has_note) × (0 < count) × (count ≤ most)
   Drains most by.Ended false armed = Unit {0}
-  Drains most (by.Waits seat) false armed = armed
+  Drains most (by.WaitsAtPipe seat) false armed = armed
   Drains most answer has_note armed = ⊥
 
   -- bytes went into a pipe, or none do any more, or the owner waits and has registered
   abbrev pub Fills : ℕ → OwnerAnswer E → Bool → Type 0 → Type 0
   Fills most (by.Took count noted) has_note armed = (noted ≡ has_note) × (0 < count) × (count ≤ most)
   Fills most by.Shut false armed = Unit {0}
-  Fills most (by.Waits seat) false armed = armed
+  Fills most (by.WaitsAtPipe seat) false armed = armed
   Fills most answer has_note armed = ⊥
 
   -- an item came out of a pipe, or it is at its end, or the owner waits and has registered
   abbrev pub Receives : OwnerAnswer E → Bool → Type 0 → Type 0
   Receives (by.Received noted) has_note armed = noted ≡ has_note
   Receives by.Ended false armed = Unit {0}
-  Receives (by.Waits seat) false armed = armed
+  Receives (by.WaitsAtPipe seat) false armed = armed
   Receives answer has_note armed = ⊥
+
+-- how many bytes or items an answer tells to have crossed a pipe
+abbrev pub crossed_by : {E : Type 0} → OwnerAnswer E → ℕ
+crossed_by (by.Got count noted) = count
+crossed_by (by.Took count noted) = count
+crossed_by (by.Received noted) = 1
+crossed_by answer = 0
+
+-- the handle is where it was, and the pipe of its session counts so many more
+abbrev pub Crosses : {T I H : Type 0} → Place T I H → ℕ → Place T I H → Type 0
+Crosses old n new = IsAt (state_of old) new × (crossed_at new ≡ crossed_at old + n)
 
 module _ {T I H E : Type 0} where
   -- What the doing of an action does with the handle: its answer, whether a note was taken, and where the handle is then. A wait is
@@ -182,13 +193,13 @@ module _ {T I H E : Type 0} where
   Does begun act.Begin old by.Begun false new armed = (state : State) → begun state → IsAt state new
   Does begun act.Begin old (by.Refused why) false new armed = new ≡ old
   Does begun act.Close old (by.Closed noted) has_note new armed = (noted ≡ has_note) × IsAt (shut (state_of old)) new
-  Does begun (act.Drain most) old answer has_note new armed = Drains most answer has_note armed × IsAt (state_of old) new
-  Does begun (act.Fill most) old answer has_note new armed = Fills most answer has_note armed × IsAt (state_of old) new
-  Does begun act.Receive old answer has_note new armed = Receives answer has_note armed × IsAt (state_of old) new
-  Does begun act.PollSlot old (by.Waits seat) false new armed = (new ≡ old) × armed
+  Does begun (act.Drain most) old answer has_note new armed = Drains most answer has_note armed × Crosses old (crossed_by answer) new
+  Does begun (act.Fill most) old answer has_note new armed = Fills most answer has_note armed × Crosses old (crossed_by answer) new
+  Does begun act.Receive old answer has_note new armed = Receives answer has_note armed × Crosses old (crossed_by answer) new
+  Does begun act.PollSlot old (by.WaitsInSlot seat) false new armed = (new ≡ old) × armed
   Does begun act.PollSlot old answer false new armed = IsAt Idle new × BackAt (state_of old) answer
   Does begun act.PollResult old by.Resulted false new armed = new ≡ old
-  Does begun act.PollResult old (by.Waits seat) false new armed = (new ≡ old) × armed
+  Does begun act.PollResult old (by.WaitsInSlot seat) false new armed = (new ≡ old) × armed
   Does begun act.DropHandle old by.Dropped false new armed = IsAt Closed new
   Does _ _ _ _ _ _ _ = ⊥
 

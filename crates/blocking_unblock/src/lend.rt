@@ -12,8 +12,8 @@ use crate::parts::{ItemParts, ReadParts, WriteParts, item_parts, read_parts, wri
 use crate::session::{Session, Side};
 use crate::spare::Spare;
 use blocking_core::io::Position;
-use blocking_core::pool::{Carries, Job, Refusal, Refused};
-use blocking_core::task::{CallOn, Seat};
+use blocking_core::pool::{Carries, Job, JobNo, Refusal, Refused};
+use blocking_core::task::{CallOn, OfSlot, Seat};
 use blocking_executor::{Executor, Runtime};
 use blocking_jobs::{ItemJob, Linked, OpJob, ReadJob, ResultPlace, ResultSeat, SeekJob, WriteJob};
 use futures::task::Context;
@@ -68,7 +68,7 @@ pub(crate) trait Lends<T: Drop, I: Drop, J: Job, H: Runtime> {
         ensures { keeps self.new Kept.Item };
 
     /// Takes the result of an operation out of its place, or waits there for it.
-    fn poll_result(&mut self, cx: &mut Context<'_>) -> Option<Seat>
+    fn poll_result(&mut self, cx: &mut Context<'_>) -> Option<Seat<OfSlot>>
         requires { keeps self.old Kept.Way }
         ensures gave { IfNone result (keeps self.new Kept.Gave) }
         ensures same { OnSome result (self.new ≡ self.old) }
@@ -80,15 +80,12 @@ pub(crate) trait Lends<T: Drop, I: Drop, J: Job, H: Runtime> {
 fn enter<K: Drop, J: Job + Carries<K>, H: Runtime>(
     executor: &Executor<J, H>,
     job: K,
-) -> Result<(), Refused<K>>
+) -> Result<JobNo, Refused<K>>
     ensures { IfErr result (λ refused. refused.back ≡ job) }
 {
     match executor.add(J::wrap(job)) {
-        Ok(_) => Ok(()),
-        Err(Refused { back, why }) => match back.unwrap() {
-            Some(back) => Err(Refused { back, why }),
-            None => unreachable!(),
-        },
+        Ok(number) => Ok(number),
+        Err(refused) => Err(refused.unwrap()),
     }
 }
 
@@ -124,13 +121,13 @@ impl<T: Read + Drop, I: Drop, J: Job + Carries<ReadJob<T, H>>, H: Runtime> Lends
             return Err(no_memory(handle));
         };
         let ReadParts {
-            session,
+            side,
             end,
             link,
             piece,
         } = parts;
         match enter(executor, ReadJob::new(rt, handle, piece, end, link)) {
-            Ok(()) => Ok(session),
+            Ok(job) => Ok(Session::new(job, side)),
             Err(Refused { back, why }) => match back.into_reader() {
                 Some(back) => Err(Refused { back, why }),
                 None => unreachable!(),
@@ -140,7 +137,7 @@ impl<T: Read + Drop, I: Drop, J: Job + Carries<ReadJob<T, H>>, H: Runtime> Lends
 
     fn keep(&mut self, _item: I) {}
 
-    fn poll_result(&mut self, _cx: &mut Context<'_>) -> Option<Seat> {
+    fn poll_result(&mut self, _cx: &mut Context<'_>) -> Option<Seat<OfSlot>> {
         None
     }
 }
@@ -166,9 +163,9 @@ impl<T: Write + Drop, I: Drop, J: Job + Carries<WriteJob<T, H>>, H: Runtime> Len
         let Ok(parts) = write_parts(rt, capacity.bytes, spare) else {
             return Err(no_memory(handle));
         };
-        let WriteParts { session, end, link } = parts;
+        let WriteParts { side, end, link } = parts;
         match enter(executor, WriteJob::new(rt, handle, end, link)) {
-            Ok(()) => Ok(session),
+            Ok(job) => Ok(Session::new(job, side)),
             Err(Refused { back, why }) => match back.into_writer() {
                 Some(back) => Err(Refused { back, why }),
                 None => unreachable!(),
@@ -178,7 +175,7 @@ impl<T: Write + Drop, I: Drop, J: Job + Carries<WriteJob<T, H>>, H: Runtime> Len
 
     fn keep(&mut self, _item: I) {}
 
-    fn poll_result(&mut self, _cx: &mut Context<'_>) -> Option<Seat> {
+    fn poll_result(&mut self, _cx: &mut Context<'_>) -> Option<Seat<OfSlot>> {
         None
     }
 }
@@ -214,9 +211,9 @@ impl<T: Iterator<Item = I> + Drop, I: Drop, J: Job + Carries<ItemJob<T, I, H>>, 
         let Ok(parts) = item_parts(rt, capacity.items) else {
             return Err(no_memory(handle));
         };
-        let ItemParts { session, end, link } = parts;
+        let ItemParts { side, end, link } = parts;
         match enter(executor, ItemJob::new(rt, handle, end, link)) {
-            Ok(()) => Ok(session),
+            Ok(job) => Ok(Session::new(job, side)),
             Err(Refused { back, why }) => match back.into_iterator() {
                 Some(back) => Err(Refused { back, why }),
                 None => unreachable!(),
@@ -228,7 +225,7 @@ impl<T: Iterator<Item = I> + Drop, I: Drop, J: Job + Carries<ItemJob<T, I, H>>, 
         self.item = Some(item);
     }
 
-    fn poll_result(&mut self, _cx: &mut Context<'_>) -> Option<Seat> {
+    fn poll_result(&mut self, _cx: &mut Context<'_>) -> Option<Seat<OfSlot>> {
         None
     }
 }
@@ -260,7 +257,7 @@ impl<T: Seek + Drop, I: Drop, J: Job + Carries<SeekJob<T, H>>, H: Runtime> Lends
         };
         let Linked { way_back, link } = linked;
         match enter(executor, SeekJob::new(rt, handle, self.to, link)) {
-            Ok(()) => Ok(Session::new(Side::Seeking(self.to, way_back))),
+            Ok(job) => Ok(Session::new(job, Side::Seeking(self.to, way_back))),
             Err(Refused { back, why }) => match back.into_handle() {
                 Some(back) => Err(Refused { back, why }),
                 None => unreachable!(),
@@ -270,7 +267,7 @@ impl<T: Seek + Drop, I: Drop, J: Job + Carries<SeekJob<T, H>>, H: Runtime> Lends
 
     fn keep(&mut self, _item: I) {}
 
-    fn poll_result(&mut self, _cx: &mut Context<'_>) -> Option<Seat> {
+    fn poll_result(&mut self, _cx: &mut Context<'_>) -> Option<Seat<OfSlot>> {
         None
     }
 }
@@ -347,7 +344,7 @@ impl<
             unreachable!()
         };
         match enter(executor, OpJob::new(rt, operation, handle, place, link)) {
-            Ok(()) => Ok(Session::new(Side::Operating(way_back))),
+            Ok(job) => Ok(Session::new(job, Side::Operating(way_back))),
             Err(Refused { back, why }) => {
                 let (operation, handle) = back.into_parts();
                 let Some(operation) = operation else {
@@ -362,7 +359,7 @@ impl<
 
     fn keep(&mut self, _item: I) {}
 
-    fn poll_result(&mut self, cx: &mut Context<'_>) -> Option<Seat> {
+    fn poll_result(&mut self, cx: &mut Context<'_>) -> Option<Seat<OfSlot>> {
         let Stage::Begun(seat) = &self.stage else {
             unreachable!()
         };
@@ -398,7 +395,7 @@ impl<T: Drop, I: Drop, J: Job, H: Runtime> Lends<T, I, J, H> for ToNobody {
 
     fn keep(&mut self, _item: I) {}
 
-    fn poll_result(&mut self, _cx: &mut Context<'_>) -> Option<Seat> {
+    fn poll_result(&mut self, _cx: &mut Context<'_>) -> Option<Seat<OfSlot>> {
         None
     }
 }

@@ -1,10 +1,9 @@
 //! All the memory of a session with a pipe: the owner's side, and what its job needs beside the handle.
 ghost use Rattle.std.specs.Prelude.{◌≡◌, ◌<◌, vec_len, IfOk};
-ghost use Rattle.blocking_core.specs.declared.unblock.OwnerEnd.TheVariants.{Open};
 ghost use Rattle.blocking_core.specs.declared.unblock.SessionKind.TheVariants.{Reading, Writing, Streaming};
 ghost use Rattle.blocking_unblock.specs.Owners.{kind_of};
 
-use crate::session::{Session, Side};
+use crate::session::Side;
 use crate::spare::Spare;
 use blocking_core::pipe::RingStore;
 use blocking_ends::{AnyPlace, PeekEnd, SendEnd, link, link_drain, link_in_over};
@@ -15,7 +14,7 @@ use std::sync::{Arc, Wait};
 /// What a reading job needs beside its reader.
 #[derive(Drop)]
 pub(crate) struct ReadParts<T: Drop, I: Drop, H: Wait + Copy> {
-    pub session: Session<T, I, H>,
+    pub side: Side<T, I, H>,
     pub end: SendEnd<u8, AnyPlace, SessionStore, H>,
     pub link: Arc<Link<T, ReadBack<H>>>,
     pub piece: Vec<u8>,
@@ -24,7 +23,7 @@ pub(crate) struct ReadParts<T: Drop, I: Drop, H: Wait + Copy> {
 /// What a writing job needs beside its writer.
 #[derive(Drop)]
 pub(crate) struct WriteParts<T: Drop, I: Drop, H: Wait + Copy> {
-    pub session: Session<T, I, H>,
+    pub side: Side<T, I, H>,
     pub end: PeekEnd<u8, AnyPlace, SessionStore, H>,
     pub link: Arc<Link<T, WriteBack<H>>>,
 }
@@ -32,7 +31,7 @@ pub(crate) struct WriteParts<T: Drop, I: Drop, H: Wait + Copy> {
 /// What the job of an iterator needs beside that.
 #[derive(Drop)]
 pub(crate) struct ItemParts<T: Drop, I: Drop, H: Wait + Copy> {
-    pub session: Session<T, I, H>,
+    pub side: Side<T, I, H>,
     pub end: SendEnd<I, AnyPlace, RingStore, H>,
     pub link: Arc<Link<T, MayFail>>,
 }
@@ -45,7 +44,7 @@ pub(crate) fn read_parts<T: Drop, I: Drop, H: Wait + AllocGlobal + Copy>(
 ) -> Result<ReadParts<T, I, H>, AllocError>
     requires { 0 < capacity }
     ensures { IfOk result (λ parts. (0 < vec_len parts.piece)
-        × (kind_of parts.session.side ≡ Reading) × (parts.session.owner_end ≡ Open)) }
+        × (kind_of parts.side ≡ Reading)) }
 {
     let memory = spare.for_reading(rt.alloc(), capacity)?;
     let long = memory.piece();
@@ -57,7 +56,7 @@ pub(crate) fn read_parts<T: Drop, I: Drop, H: Wait + AllocGlobal + Copy>(
     // (one that was used before is as long already)
     piece.resize(long, 0)?;
     Ok(ReadParts {
-        session: Session::new(Side::Reading(end, way_back)),
+        side: Side::Reading(end, way_back),
         end: job_end,
         link: theirs,
         piece,
@@ -71,7 +70,7 @@ pub(crate) fn write_parts<T: Drop, I: Drop, H: Wait + AllocGlobal + Copy>(
     spare: Spare,
 ) -> Result<WriteParts<T, I, H>, AllocError>
     requires { 0 < capacity }
-    ensures { IfOk result (λ parts. (kind_of parts.session.side ≡ Writing) × (parts.session.owner_end ≡ Open)) }
+    ensures { IfOk result (λ parts. kind_of parts.side ≡ Writing) }
 {
     let memory = spare.for_writing(rt.alloc(), capacity)?;
     let Linked {
@@ -80,7 +79,7 @@ pub(crate) fn write_parts<T: Drop, I: Drop, H: Wait + AllocGlobal + Copy>(
     } = Linked::new(rt)?;
     let (end, job_end) = link_in_over(rt, memory)?;
     Ok(WriteParts {
-        session: Session::new(Side::Writing(end, way_back)),
+        side: Side::Writing(end, way_back),
         end: job_end,
         link: theirs,
     })
@@ -92,7 +91,7 @@ pub(crate) fn item_parts<T: Drop, I: Drop, H: Wait + AllocGlobal + Copy>(
     capacity: usize,
 ) -> Result<ItemParts<T, I, H>, AllocError>
     requires { 0 < capacity }
-    ensures { IfOk result (λ parts. (kind_of parts.session.side ≡ Streaming) × (parts.session.owner_end ≡ Open)) }
+    ensures { IfOk result (λ parts. kind_of parts.side ≡ Streaming) }
 {
     let Linked {
         way_back,
@@ -100,7 +99,7 @@ pub(crate) fn item_parts<T: Drop, I: Drop, H: Wait + AllocGlobal + Copy>(
     } = Linked::new(rt)?;
     let (job_end, end) = link(rt, capacity)?;
     Ok(ItemParts {
-        session: Session::new(Side::Streaming(end, way_back)),
+        side: Side::Streaming(end, way_back),
         end: job_end,
         link: theirs,
     })

@@ -1,17 +1,18 @@
 //! The owner's side of a session.
-ghost use Rattle.std.specs.Prelude.{◌≡◌, ◌<◌, ◌≤◌, length, true, IfOk, OnErr};
+ghost use Rattle.std.specs.Prelude.{◌≡◌, ◌+◌, ◌<◌, ◌≤◌, length, true, option_map, IfOk, OnErr};
 ghost use Rattle.futures.specs.Task.{IsArmed, Keeps};
 ghost use Rattle.blocking_core.specs.OwnerCalls.{has_pipe};
 ghost use Rattle.blocking_core.specs.declared.unblock.SessionKind.TheVariants.{Reading, Writing, Streaming};
 ghost use Rattle.blocking_core.specs.declared.unblock.OwnerEnd.TheVariants.{Open, Shut};
-ghost use Rattle.blocking_ends.specs.Answers.{IfDrained, OnDrainsWait, IfTook, OnFullWait, OnWait};
-ghost use Rattle.blocking_unblock.specs.Owners.{note_of_drain, answer_of_drain, note_of_fill, answer_of_fill, IsBack, IsSought};
+ghost use Rattle.blocking_core.specs.declared.unblock.OwnerAnswer.TheVariants.{Back as CameBack};
+ghost use Rattle.blocking_ends.specs.Answers.{IfDrained, OnDrainsWait, IfTook, OnFullWait, OnWait, got_by_receive};
+ghost use Rattle.blocking_unblock.specs.Owners.{note_of_drain, answer_of_drain, note_of_fill, answer_of_fill, told, told_of_seek, IsBack, IsSought};
 
 use crate::spare::Spare;
 use blocking_core::io::{Fault, JobFault, Position};
 use blocking_core::pipe::{Drained, Filled, Received, RingStore};
-use blocking_core::pool::WakeNote;
-use blocking_core::task::Seat;
+use blocking_core::pool::{JobNo, WakeNote};
+use blocking_core::task::{OfSlot, Seat};
 use blocking_core::unblock::{OwnerAnswer, OwnerEnd, SessionKind};
 use blocking_ends::{AnyPlace, DrainEnd, FillEnd, PeekEnd, RecvEnd, SendEnd};
 use blocking_jobs::{MayFail, ReadBack, Returned, SessionStore, Sought, WayBack, WriteBack};
@@ -32,13 +33,16 @@ pub(crate) enum Side<T: Drop, I: Drop, H: Wait + Copy> {
 /// The owner's side of a session. One without a pipe counts as open.
 #[derive(Drop)]
 pub(crate) struct Session<T: Drop, I: Drop, H: Wait + Copy> {
+    // (the number of its job: who has none has added none)
+    job: JobNo,
     side: Side<T, I, H>,
     owner_end: OwnerEnd,
 }
 
 // What a job tells that came back with its handle.
 fn told_of_fault(fault: MayFail) -> OwnerAnswer<io::Error>
-    ensures { IsBack result }
+    ensures exact { result ≡ CameBack (option_map told fault) }
+    ensures back { IsBack result }
 {
     match fault {
         Some(JobFault::Io(error)) => OwnerAnswer::Back(Some(Fault::Io(error))),
@@ -49,7 +53,8 @@ fn told_of_fault(fault: MayFail) -> OwnerAnswer<io::Error>
 
 // What a seek tells that came back with its handle.
 fn told_of_seek(sought: Sought) -> OwnerAnswer<io::Error>
-    ensures { IsSought result }
+    ensures exact { result ≡ told_of_seek sought }
+    ensures sought { IsSought result }
 {
     match sought {
         Ok(place) => OwnerAnswer::Sought(place),
@@ -76,7 +81,8 @@ pub(crate) struct Back<T: Drop, H: Wait + Copy> {
 
 // A handle that came back with a fault or none.
 fn came_back<T: Drop, H: Wait + Copy>(handle: T, fault: MayFail, tools: Tools<H>) -> Back<T, H>
-    ensures { IsBack result.answer }
+    ensures exact { result.answer ≡ CameBack (option_map told fault) }
+    ensures back { IsBack result.answer }
 {
     Back {
         handle,
@@ -96,7 +102,7 @@ fn told_of_drain(drained: Drained) -> (OwnerAnswer<io::Error>, Option<WakeNote>)
             (OwnerAnswer::Got { count, has_note }, note)
         }
         Drained::Ended => (OwnerAnswer::Ended, None),
-        Drained::Waits(seat) => (OwnerAnswer::Waits(seat), None),
+        Drained::Waits(seat) => (OwnerAnswer::WaitsAtPipe(seat), None),
     }
 }
 
@@ -111,19 +117,20 @@ fn told_of_fill(filled: Filled) -> (OwnerAnswer<io::Error>, Option<WakeNote>)
             (OwnerAnswer::Took { count, has_note }, note)
         }
         Filled::Shut => (OwnerAnswer::Shut, None),
-        Filled::Waits(seat) => (OwnerAnswer::Waits(seat), None),
+        Filled::Waits(seat) => (OwnerAnswer::WaitsAtPipe(seat), None),
     }
 }
 
 impl<T: Drop, I: Drop, H: Wait + Copy> Session<T, I, H> {
-    ghost use Rattle.blocking_unblock.specs.Owners.{kind_of, has, BackFrom};
-    ghost use Rattle.blocking_unblock.specs.Polls.{Drains, Fills};
+    ghost use Rattle.blocking_unblock.specs.Owners.{kind_of, crossed, has, BackFrom};
+    ghost use Rattle.blocking_unblock.specs.Polls.{Drains, Fills, crossed_by};
 
-    pub(crate) fn new(side: Side<T, I, H>) -> Session<T, I, H>
+    pub(crate) fn new(job: JobNo, side: Side<T, I, H>) -> Session<T, I, H>
         ensures side { result.side ≡ side }
         ensures open { result.owner_end ≡ Open }
     {
         Session {
+            job,
             side,
             owner_end: OwnerEnd::Open,
         }
@@ -160,6 +167,7 @@ impl<T: Drop, I: Drop, H: Wait + Copy> Session<T, I, H> {
     /// Closes the owner's end of the pipe. Answers the note of a job that waits, which has to be spent.
     pub(crate) fn close(&mut self) -> Option<WakeNote>
         requires { has_pipe (kind_of self.old.side) ≡ true }
+        ensures crossed { crossed self.new.side ≡ crossed self.old.side }
         ensures kind { kind_of self.new.side ≡ kind_of self.old.side }
         ensures shut { self.new.owner_end ≡ Shut }
     {
@@ -182,6 +190,7 @@ impl<T: Drop, I: Drop, H: Wait + Copy> Session<T, I, H> {
         requires room { 0 < length out.old }
         ensures does { Drains (length out.old) result.0 (has result.1) (IsArmed cx.new) }
         ensures kept { Keeps cx.old cx.new }
+        ensures received { crossed self.new.side ≡ crossed self.old.side + crossed_by result.0 }
         ensures kind { kind_of self.new.side ≡ Reading }
         ensures end { self.new.owner_end ≡ self.old.owner_end }
     {
@@ -201,6 +210,7 @@ impl<T: Drop, I: Drop, H: Wait + Copy> Session<T, I, H> {
         requires some { 0 < length bytes.now }
         ensures does { Fills (length bytes.now) result.0 (has result.1) (IsArmed cx.new) }
         ensures kept { Keeps cx.old cx.new }
+        ensures sent { crossed self.new.side ≡ crossed self.old.side + crossed_by result.0 }
         ensures kind { kind_of self.new.side ≡ Writing }
         ensures end { self.new.owner_end ≡ self.old.owner_end }
     {
@@ -215,6 +225,7 @@ impl<T: Drop, I: Drop, H: Wait + Copy> Session<T, I, H> {
         requires streams { kind_of self.old.side ≡ Streaming }
         ensures armed { OnWait result (IsArmed cx.new) }
         ensures kept { Keeps cx.old cx.new }
+        ensures received { crossed self.new.side ≡ crossed self.old.side + got_by_receive result }
         ensures kind { kind_of self.new.side ≡ Streaming }
         ensures end { self.new.owner_end ≡ self.old.owner_end }
     {
@@ -225,7 +236,7 @@ impl<T: Drop, I: Drop, H: Wait + Copy> Session<T, I, H> {
     }
 
     /// Takes the handle out of the slot with what its job tells, or waits there for it.
-    pub(crate) fn poll_back(&self, cx: &mut Context<'_>) -> Result<Back<T, H>, Seat>
+    pub(crate) fn poll_back(&self, cx: &mut Context<'_>) -> Result<Back<T, H>, Seat<OfSlot>>
         ensures back { IfOk result (λ came. BackFrom (kind_of self.now.side) came.answer) }
         ensures armed { OnErr result (IsArmed cx.new) }
         ensures kept { Keeps cx.old cx.new }
@@ -258,7 +269,11 @@ impl<T: Drop, I: Drop, H: Wait + Copy> Session<T, I, H> {
 
     /// What is left of the session once its handle came back, with what the job worked with.
     pub(crate) fn into_spare(self, tools: Tools<H>) -> Spare {
-        let Session { side, owner_end: _ } = self;
+        let Session {
+            job: _,
+            side,
+            owner_end: _,
+        } = self;
         match (side, tools) {
             (Side::Reading(end, _), Tools::Read(job_end, piece)) => {
                 Spare::of_read(job_end, piece, end)

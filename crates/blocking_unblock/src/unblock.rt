@@ -173,7 +173,7 @@ impl<T: Drop, I: Drop, J: Job, H: Runtime> Unblock<T, I, J, H> {
     ghost use Rattle.blocking_core.specs.declared.unblock.OwnerEnd.TheVariants.{Open};
     ghost use Rattle.blocking_core.specs.declared.unblock.OwnerAction.TheVariants.{Begin as BeginAction, Close as CloseAction, Receive as ReceiveAction, PollSlot as SlotAction};
     ghost use Rattle.blocking_unblock.specs.Owners.{IsClosed, IsAt, Reaches, Follows, KeepsRefused, KeepsAtOnce, state_of, has, reply_of_get, wanted, offered};
-    ghost use Rattle.blocking_unblock.specs.Polls.{MayAsk, CanDo, Does, Brings, FitsReply, Stands, IsGoing, KeepsFirst, KeepsBrought, KeepsOpen, HasPipe, HasSession, Drains, Fills, Resumes, Kept, last_action};
+    ghost use Rattle.blocking_unblock.specs.Polls.{MayAsk, CanDo, Does, Brings, FitsReply, Stands, IsGoing, KeepsFirst, KeepsBrought, KeepsOpen, HasPipe, HasSession, Crosses, crossed_by, Drains, Fills, Resumes, Kept, last_action};
     ghost use Rattle.blocking_core.specs.OwnerCalls.{begun_by};
 
     // (by itself, since each turn would else clear the memory of its locals)
@@ -222,7 +222,7 @@ impl<T: Drop, I: Drop, J: Job, H: Runtime> Unblock<T, I, J, H> {
         requires at { IsAt (Lent Reading Open) self.old.place }
         requires room { 0 < length out.old }
         ensures drains { Drains (length out.old) result.0 (has result.1) (IsArmed cx.new) }
-        ensures at { IsAt (state_of self.old.place) self.new.place }
+        ensures crosses { Crosses self.old.place (crossed_by result.0) self.new.place }
         ensures rest { (self.new.capacity ≡ self.old.capacity) × (self.new.executor ≡ self.old.executor) }
         ensures kept { Keeps cx.old cx.new }
     {
@@ -240,7 +240,7 @@ impl<T: Drop, I: Drop, J: Job, H: Runtime> Unblock<T, I, J, H> {
         requires at { IsAt (Lent Writing Open) self.old.place }
         requires some { 0 < length bytes.now }
         ensures fills { Fills (length bytes.now) result.0 (has result.1) (IsArmed cx.new) }
-        ensures at { IsAt (state_of self.old.place) self.new.place }
+        ensures crosses { Crosses self.old.place (crossed_by result.0) self.new.place }
         ensures rest { (self.new.capacity ≡ self.old.capacity) × (self.new.executor ≡ self.old.executor) }
         ensures kept { Keeps cx.old cx.new }
     {
@@ -271,7 +271,7 @@ impl<T: Drop, I: Drop, J: Job, H: Runtime> Unblock<T, I, J, H> {
                 (OwnerAnswer::Received { has_note }, note)
             }
             Received::Ended => (OwnerAnswer::Ended, None),
-            Received::Waits(seat) => (OwnerAnswer::Waits(seat), None),
+            Received::Waits(seat) => (OwnerAnswer::WaitsAtPipe(seat), None),
         }
     }
 
@@ -298,7 +298,7 @@ impl<T: Drop, I: Drop, J: Job, H: Runtime> Unblock<T, I, J, H> {
                 self.spare = place.into_spare(tools);
                 answer
             }
-            Err(seat) => OwnerAnswer::Waits(seat),
+            Err(seat) => OwnerAnswer::WaitsInSlot(seat),
         }
     }
 
@@ -328,7 +328,7 @@ impl<T: Drop, I: Drop, J: Job, H: Runtime> Unblock<T, I, J, H> {
             OwnerAction::PollSlot => (self.poll_slot(cx), None),
             OwnerAction::PollResult => match brought.poll_result(cx) {
                 None => (OwnerAnswer::Resulted, None),
-                Some(seat) => (OwnerAnswer::Waits(seat), None),
+                Some(seat) => (OwnerAnswer::WaitsInSlot(seat), None),
             },
             OwnerAction::DropHandle => {
                 self.place = Place::Closed;

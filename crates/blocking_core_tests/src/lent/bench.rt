@@ -312,7 +312,7 @@ impl Bench {
                 Seen::Ended
             }
             Drained::Waits(seat) => {
-                poll.answer(OwnerAnswer::Waits(seat));
+                poll.answer(OwnerAnswer::WaitsAtPipe(seat));
                 Seen::Waits
             }
         }
@@ -335,7 +335,7 @@ impl Bench {
                 Seen::PipeShut
             }
             Filled::Waits(seat) => {
-                poll.answer(OwnerAnswer::Waits(seat));
+                poll.answer(OwnerAnswer::WaitsAtPipe(seat));
                 Seen::Waits
             }
         }
@@ -354,7 +354,7 @@ impl Bench {
             }
             Slotted::Gone => Seen::Misplaced,
             Slotted::Waits(seat) => {
-                poll.answer(OwnerAnswer::Waits(seat));
+                poll.answer(OwnerAnswer::WaitsInSlot(seat));
                 Seen::Waits
             }
         }
@@ -369,7 +369,7 @@ impl Bench {
             }
             Slotted::Gone => Seen::Misplaced,
             Slotted::Waits(seat) => {
-                poll.answer(OwnerAnswer::Waits(seat));
+                poll.answer(OwnerAnswer::WaitsInSlot(seat));
                 Seen::Waits
             }
         }
@@ -388,7 +388,7 @@ impl Bench {
                 Seen::Ended
             }
             Received::Waits(seat) => {
-                poll.answer(OwnerAnswer::Waits(seat));
+                poll.answer(OwnerAnswer::WaitsAtPipe(seat));
                 Seen::Waits
             }
         }

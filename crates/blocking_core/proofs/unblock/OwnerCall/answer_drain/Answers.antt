@@ -2,5 +2,5 @@
 use Rattle.std.proofs.Common.{rules}
 use Rattle.blocking_core.proofs.unblock.OwnerCall.answer_drain.Goals as goal
 
-pub returns-in-Waits : goal.returns-in-Waits
-returns-in-Waits g c = search rules
+pub returns-in-WaitsAtPipe : goal.returns-in-WaitsAtPipe
+returns-in-WaitsAtPipe g c = search rules
