@@ -1,2 +1,3 @@
+mod Crossings
 mod Replies
 mod Turns

@@ -190,7 +190,7 @@ module _ (E : Type 0) where
 
 module _ {E : Type 0} where
   -- a poll that moved bytes replies their count
-  got_is : (most count : ℕ) (noted : Bool) (poll : OwnerMachine E) → suc count ≤ most
+  pub got_is : (most count : ℕ) (noted : Bool) (poll : OwnerMachine E) → suc count ≤ most
       → after_got most (suc count) noted poll ≡ record poll { next = act.Reply (reply.Count (suc count)); is_waking = noted }
   got_is most count noted poll le = rw (le-leb (suc count) most le)
 
@@ -203,13 +203,13 @@ module _ {E : Type 0} where
   reaches_on old mid new first rest = (first.0 ++ rest.0, runs_on old mid new first.0 rest.0 first.1 rest.1)
 
   -- no other answer brings the handle back
-  abbrev IsOther : OwnerAnswer E → Type 0
+  abbrev pub IsOther : OwnerAnswer E → Type 0
   IsOther (by.Back why) = ⊥
   IsOther (by.Sought place) = ⊥
   IsOther (by.WaitsInSlot seat) = ⊥
   IsOther answer = Unit {0}
 
-  not_back : (at : State) (answer : OwnerAnswer E) → IsOther answer → BackAt at answer → ⊥
+  pub not_back : (at : State) (answer : OwnerAnswer E) → IsOther answer → BackAt at answer → ⊥
   not_back Idle answer other from = from
   not_back Closed answer other from = from
   not_back (Lent kind end) (by.Back why) other from = other
@@ -480,7 +480,7 @@ module _ {T I H B : Type 0} (E : Type 0) (begins : B → State → Type 0) (keep
       stands = record {
         awake = refl;
         fits = begun_fits begins keeps E armed call after fits.1 (brings (begun_by call) fits.2);
-        at = does (begun_by call) fits.2;
+        at = does.0 (begun_by call) fits.2;
       };
       reaches = (by.Begun ∷ [], (tt, refl));
       call_same = refl;

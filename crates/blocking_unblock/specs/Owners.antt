@@ -1,5 +1,5 @@
 -- What a poll of an owner does: where the handle is, what it may answer to each action, and what its reply says of it.
-use Rattle.std.specs.Prelude.{◌≡◌, ◌<◌, ◌≤◌, ℕ, Bool, true, false, List, [], ◌∷◌, Option, Some, None, Result, Ok, Err}
+use Rattle.std.specs.Prelude.{◌≡◌, ◌+◌, ◌<◌, ◌≤◌, ℕ, if◌then◌else◌, Bool, true, false, List, [], ◌∷◌, Option, Some, None, Result, Ok, Err}
 use Rattle.blocking_core.specs.OwnerCalls.{OwnerMachine, new_poll, owner_next, owner_after, table}
 use Rattle.blocking_core.specs.declared.io.Fault.{Fault}
 use Rattle.blocking_core.specs.declared.io.Fault.TheVariants as fault
@@ -13,7 +13,7 @@ use Rattle.blocking_pool.specs.declared.pool.answer.Refusal.{Refusal}
 use Rattle.blocking_pool.specs.declared.pool.answer.Refused.{Refused}
 use Rattle.blocking_pool.specs.declared.pool.token.WakeNote.{WakeNote}
 use Rattle.blocking_core.specs.declared.unblock.PollCall.{PollCall}
-use Rattle.blocking_core.specs.declared.unblock.PollCall.TheVariants.{Read, Write}
+use Rattle.blocking_core.specs.declared.unblock.PollCall.TheVariants.{Read, Write, Next}
 use Rattle.blocking_core.specs.declared.unblock.OwnerEnd.TheVariants.{Open}
 use Rattle.blocking_core.specs.declared.unblock.SessionKind.{SessionKind}
 use Rattle.blocking_core.specs.declared.unblock.SessionKind.TheVariants as kind
@@ -60,6 +60,13 @@ abbrev pub offered : PollCall → ℕ
 offered (Write most) = most
 offered call = 0
 
+-- whether a call goes on in the session that is under way: a read, a write or the next item in one of its own that is open
+abbrev pub goes_on : PollCall → State → Bool
+goes_on (Read most) (state.Lent kind.Reading Open) = true
+goes_on (Write most) (state.Lent kind.Writing Open) = true
+goes_on Next (state.Lent kind.Streaming Open) = true
+goes_on call now = false
+
 -- whether the session of an operation is under way
 abbrev pub operates : State → Bool
 operates (state.Lent kind.Operating Open) = true
@@ -93,6 +100,16 @@ module _ {T I H : Type 0} where
   crossed_at (place.Lent session) = crossed session.side
   crossed_at (place.Idle handle) = 0
   crossed_at place.Closed = 0
+
+  -- what had crossed before the pipe in which a call goes on: nothing, where it has yet to begin a session of its own
+  abbrev pub crossed_before : PollCall → Place T I H → ℕ
+  crossed_before call place = if goes_on call (state_of place) then crossed_at place else 0
+
+  -- so many bytes, or the item, that a reply tells have crossed a pipe that so many had crossed before
+  abbrev pub HasCrossed : {E : Type 0} → Reply E → Place T I H → ℕ → Type 0
+  HasCrossed (reply.Count count) place before = 0 < count → crossed_at place ≡ before + count
+  HasCrossed reply.Item place before = crossed_at place ≡ before + 1
+  HasCrossed reply place before = Unit {0}
 
   -- the handle is where the state says
   abbrev pub IsAt : State → Place T I H → Type 0

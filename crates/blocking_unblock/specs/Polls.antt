@@ -16,7 +16,7 @@ use Rattle.blocking_core.specs.declared.unblock.OwnerAnswer.{OwnerAnswer}
 use Rattle.blocking_core.specs.declared.unblock.OwnerAnswer.TheVariants as by
 use Rattle.futures.specs.declared.task.Poll.{Poll}
 use Rattle.futures.specs.declared.task.Poll.TheVariants.{Ready, Pending}
-use Rattle.blocking_unblock.specs.Owners.{state_of, crossed_at, IsAt, BackAt}
+use Rattle.blocking_unblock.specs.Owners.{state_of, crossed_at, HasCrossed, IsAt, BackAt}
 use Rattle.blocking_unblock.specs.declared.place.Place.{Place}
 
 -- what a call has beside its buffers: where it waits for a result, the item that came, the result that came
@@ -54,6 +54,12 @@ AtOwnEnd (call.Read most) state true = state ≡ Lent Reading Open
 AtOwnEnd call.Next state true = state ≡ Lent Streaming Open
 AtOwnEnd (call.Seek to) state at_end = state ≡ Lent (Seeking to) Open
 AtOwnEnd asked state at_end = ⊥
+
+-- a read or a stream that saw the end of the pipe of its session
+abbrev pub SawEnd : PollCall → State → Bool → Type 0
+SawEnd (call.Read most) state true = state ≡ Lent Reading Open
+SawEnd call.Next state true = state ≡ Lent Streaming Open
+SawEnd asked state at_end = ⊥
 
 -- after a session began that brings the handle here: an operation waits for its result, and another call is as ready as before
 abbrev pub Onward : State → Type 0 → Type 0 → Type 0
@@ -190,7 +196,7 @@ module _ {T I H E : Type 0} where
   -- What the doing of an action does with the handle: its answer, whether a note was taken, and where the handle is then. A wait is
   -- registered. begun says where the handle may be once a session began.
   abbrev pub Does : (State → Type 0) → OwnerAction E → Place T I H → OwnerAnswer E → Bool → Place T I H → Type 0 → Type 0
-  Does begun act.Begin old by.Begun false new armed = (state : State) → begun state → IsAt state new
+  Does begun act.Begin old by.Begun false new armed = ((state : State) → begun state → IsAt state new) × (crossed_at new ≡ 0)
   Does begun act.Begin old (by.Refused why) false new armed = new ≡ old
   Does begun act.Close old (by.Closed noted) has_note new armed = (noted ≡ has_note) × IsAt (shut (state_of old)) new
   Does begun (act.Drain most) old answer has_note new armed = Drains most answer has_note armed × Crosses old (crossed_by answer) new
@@ -202,6 +208,18 @@ module _ {T I H E : Type 0} where
   Does begun act.PollResult old (by.WaitsInSlot seat) false new armed = (new ≡ old) × armed
   Does begun act.DropHandle old by.Dropped false new armed = IsAt Closed new
   Does _ _ _ _ _ _ _ = ⊥
+
+  -- What crosses a pipe in a poll before which so many had crossed that in which it goes on: no more yet, where it is still to be asked; what the
+  -- reply tells, once it has one. A poll that begins a session of its own, or stops another's, goes on in none.
+  abbrev pub Crossing : PollCall → State → OwnerAction E → Bool → Place T I H → ℕ → Type 0
+  Crossing asked state act.Begin at_end place before = before ≡ 0
+  Crossing asked state act.Close at_end place before = before ≡ 0
+  Crossing asked state act.PollSlot at_end place before = (before ≡ 0) ⊎ SawEnd asked state at_end
+  Crossing asked state (act.Drain most) at_end place before = crossed_at place ≡ before
+  Crossing asked state (act.Fill most) at_end place before = crossed_at place ≡ before
+  Crossing asked state act.Receive at_end place before = crossed_at place ≡ before
+  Crossing asked state (act.Reply reply) at_end place before = HasCrossed reply place before
+  Crossing asked state _ at_end place before = Unit {0}
 
   -- What a poll that began with an idle handle keeps: the handle is as it was where a session is to begin or was refused, and a session
   -- gives it back at its end alone, after which no other begins.

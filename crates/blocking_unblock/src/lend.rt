@@ -5,7 +5,7 @@ ghost use Rattle.blocking_core.specs.declared.unblock.OwnerEnd.TheVariants.{Open
 ghost use Rattle.blocking_core.specs.declared.unblock.SessionKind.TheVariants.{Reading, Writing, Streaming, Seeking, Operating};
 ghost use Rattle.blocking_core.specs.declared.unblock.State.{State};
 ghost use Rattle.blocking_core.specs.declared.unblock.State.TheVariants.{Idle, Lent};
-ghost use Rattle.blocking_unblock.specs.Owners.{kind_of};
+ghost use Rattle.blocking_unblock.specs.Owners.{kind_of, crossed};
 ghost use Rattle.blocking_unblock.specs.Polls.{Kept, Onward};
 
 use crate::parts::{ItemParts, ReadParts, WriteParts, item_parts, read_parts, write_parts};
@@ -61,7 +61,8 @@ pub(crate) trait Lends<T: Drop, I: Drop, J: Job, H: Runtime> {
         ensures back { IfErr result (λ refused. refused.back ≡ handle) }
         ensures same { OnErr result (self.new ≡ self.old) }
         ensures begun { IfOk result (λ session. (state : State) → begins self.old state
-            → (Lent (kind_of session.side) session.owner_end ≡ state) × Onward state (begins self.new state) (keeps self.new Kept.Way)) };
+            → (Lent (kind_of session.side) session.owner_end ≡ state) × Onward state (begins self.new state) (keeps self.new Kept.Way)) }
+        ensures fresh { IfOk result (λ session. crossed session.side ≡ 0) };
 
     /// Keeps an item that came.
     fn keep(&mut self, item: I)

@@ -1,5 +1,5 @@
 //! The owner of a handle that is lent to jobs.
-ghost use Rattle.std.specs.Prelude.{◌≡◌, ◌⊎◌, ◌<◌, ◌≤◌, ◌↔◌, true, false, length, None, Some, IfOk, IfErr, IfSome};
+ghost use Rattle.std.specs.Prelude.{◌≡◌, ◌⊎◌, ◌+◌, ◌<◌, ◌≤◌, ◌↔◌, true, false, length, None, Some, IfOk, IfErr, IfSome};
 ghost use Rattle.futures.specs.Poll.{IfReady, OnPending};
 ghost use Rattle.futures.specs.Task.{IsArmed, Keeps};
 ghost use Rattle.blocking_jobs.specs.Seekers.{position_of};
@@ -172,8 +172,9 @@ impl<T: Drop, I: Drop, J: Job, H: Runtime> Unblock<T, I, J, H> {
     ghost use Rattle.blocking_core.specs.declared.unblock.SessionKind.TheVariants.{Reading, Writing, Streaming};
     ghost use Rattle.blocking_core.specs.declared.unblock.OwnerEnd.TheVariants.{Open};
     ghost use Rattle.blocking_core.specs.declared.unblock.OwnerAction.TheVariants.{Begin as BeginAction, Close as CloseAction, Receive as ReceiveAction, PollSlot as SlotAction};
-    ghost use Rattle.blocking_unblock.specs.Owners.{IsClosed, IsAt, Reaches, Follows, KeepsRefused, KeepsAtOnce, state_of, has, reply_of_get, wanted, offered};
-    ghost use Rattle.blocking_unblock.specs.Polls.{MayAsk, CanDo, Does, Brings, FitsReply, Stands, IsGoing, KeepsFirst, KeepsBrought, KeepsOpen, HasPipe, HasSession, Crosses, crossed_by, Drains, Fills, Resumes, Kept, last_action};
+    ghost use Rattle.std.specs.Prelude.{ℕ};
+    ghost use Rattle.blocking_unblock.specs.Owners.{IsClosed, IsAt, HasCrossed, Reaches, Follows, KeepsRefused, KeepsAtOnce, crossed_before, state_of, has, reply_of_get, wanted, offered};
+    ghost use Rattle.blocking_unblock.specs.Polls.{MayAsk, CanDo, Does, Brings, FitsReply, Stands, IsGoing, KeepsFirst, KeepsBrought, KeepsOpen, HasPipe, HasSession, Crosses, Crossing, crossed_by, Drains, Fills, Resumes, Kept, last_action};
     ghost use Rattle.blocking_core.specs.OwnerCalls.{begun_by};
 
     // (by itself, since each turn would else clear the memory of its locals)
@@ -360,6 +361,9 @@ impl<T: Drop, I: Drop, J: Job, H: Runtime> Unblock<T, I, J, H> {
         ensures keeps { (first : _)
             → KeepsFirst poll.old.call poll.old.state poll.old.next poll.old.is_at_end self.old.place first
             → KeepsFirst poll.new.call poll.new.state poll.new.next poll.new.is_at_end self.new.place first }
+        ensures crosses { (before : ℕ)
+            → Crossing poll.old.call poll.old.state poll.old.next poll.old.is_at_end self.old.place before
+            → Crossing poll.new.call poll.new.state poll.new.next poll.new.is_at_end self.new.place before }
         ensures brings { (first : _)
             → KeepsBrought B.keeps poll.old.call poll.old.next brought.old first
             → KeepsBrought B.keeps poll.new.call poll.new.next brought.new first }
@@ -389,6 +393,7 @@ impl<T: Drop, I: Drop, J: Job, H: Runtime> Unblock<T, I, J, H> {
         requires offers { offered call ≡ length bytes.now }
         ensures follows { Follows call self.old.place result self.new.place }
         ensures refused { KeepsRefused self.old.place result self.new.place }
+        ensures crosses { IfReady result (λ reply. HasCrossed reply self.new.place (crossed_before call self.old.place)) }
         ensures fits { IfReady result (λ reply. FitsReply call (state_of self.new.place) reply (B.begins brought.new (begun_by call)) (B.keeps brought.new)) }
         ensures resumes { OnPending result
             (Resumes call (state_of self.new.place) (B.begins brought.new (begun_by call)) (B.keeps brought.new Kept.Way)) }
@@ -439,7 +444,7 @@ impl<T: Read + Drop, I: Drop, J: Job + Carries<ReadJob<T, H>>, H: Runtime> Async
     for Unblock<T, I, J, H> {
     ghost use Rattle.blocking_core.specs.declared.unblock.PollCall.TheVariants.{Read as ReadCall};
     ghost use Rattle.blocking_core.specs.declared.unblock.State.TheVariants.{Idle};
-    ghost use Rattle.blocking_unblock.specs.Owners.{IsClosed, Follows, KeepsAtOnce, KeepsRefused, reply_of_count};
+    ghost use Rattle.blocking_unblock.specs.Owners.{IsClosed, Follows, KeepsAtOnce, KeepsRefused, crossed_at, crossed_before, reply_of_count};
 
     ghost closed = { λ owner. IsClosed owner.place };
 
@@ -451,6 +456,8 @@ impl<T: Read + Drop, I: Drop, J: Job + Carries<ReadJob<T, H>>, H: Runtime> Async
         ensures at_once { KeepsAtOnce (ReadCall (length buf.old)) self.old.place self.new.place }
         ensures rest { (self.new.capacity ≡ self.old.capacity) × (self.new.executor ≡ self.old.executor) }
         ensures count { IfReady result (λ r. IfOk r (λ n. n ≤ length buf.old)) }
+        ensures crossed { IfReady result (λ r. IfOk r (λ n. 0 < n
+            → crossed_at self.new.place ≡ crossed_before (ReadCall (length buf.old)) self.old.place + n)) }
         ensures same_length { length buf.new ≡ length buf.old }
         ensures armed { OnPending result (IsArmed cx.new) }
         ensures kept { Keeps cx.old cx.new }
@@ -468,7 +475,7 @@ impl<T: Write + Drop, I: Drop, J: Job + Carries<WriteJob<T, H>>, H: Runtime> Asy
     for Unblock<T, I, J, H> {
     ghost use Rattle.blocking_core.specs.declared.unblock.PollCall.TheVariants.{Write as WriteCall, Flush as FlushCall, Close as CloseCall};
     ghost use Rattle.blocking_core.specs.declared.unblock.State.TheVariants.{Idle};
-    ghost use Rattle.blocking_unblock.specs.Owners.{IsAt, IsClosed, Follows, KeepsAtOnce, KeepsRefused, reply_of_count, reply_of_done};
+    ghost use Rattle.blocking_unblock.specs.Owners.{IsAt, IsClosed, Follows, KeepsAtOnce, KeepsRefused, crossed_at, crossed_before, reply_of_count, reply_of_done};
 
     ghost closed = { λ owner. IsClosed owner.place };
 
@@ -480,6 +487,8 @@ impl<T: Write + Drop, I: Drop, J: Job + Carries<WriteJob<T, H>>, H: Runtime> Asy
         ensures at_once { KeepsAtOnce (WriteCall (length bytes.now)) self.old.place self.new.place }
         ensures rest { (self.new.capacity ≡ self.old.capacity) × (self.new.executor ≡ self.old.executor) }
         ensures count { IfReady result (λ r. IfOk r (λ n. n ≤ length bytes.now)) }
+        ensures crossed { IfReady result (λ r. IfOk r (λ n. 0 < n
+            → crossed_at self.new.place ≡ crossed_before (WriteCall (length bytes.now)) self.old.place + n)) }
         ensures armed { OnPending result (IsArmed cx.new) }
         ensures kept { Keeps cx.old cx.new }
     {
@@ -534,7 +543,7 @@ impl<T: Iterator<Item = I> + Drop, I: Drop, J: Job + Carries<ItemJob<T, I, H>>, 
     for Unblock<T, I, J, H> {
     ghost use Rattle.std.specs.Prelude.{OnSome};
     ghost use Rattle.blocking_core.specs.declared.unblock.PollCall.TheVariants.{Next as NextCall};
-    ghost use Rattle.blocking_unblock.specs.Owners.{IsClosed, Follows, KeepsRefused, reply_of_next};
+    ghost use Rattle.blocking_unblock.specs.Owners.{IsClosed, Follows, KeepsRefused, crossed_at, crossed_before, reply_of_next};
     ghost use Rattle.futures.specs.Task.{Covers};
 
     type Item = Result<I, Refusal>;
@@ -550,6 +559,8 @@ impl<T: Iterator<Item = I> + Drop, I: Drop, J: Job + Carries<ItemJob<T, I, H>>, 
         requires asked { (at : T) → T.can_next at }
         ensures refused { KeepsRefused self.old.place (reply_of_next result) self.new.place }
         ensures follows { Follows NextCall self.old.place (reply_of_next result) self.new.place }
+        ensures crossed { IfReady result (λ next. IfSome next (λ r. IfOk r (λ _.
+            crossed_at self.new.place ≡ crossed_before NextCall self.old.place + 1))) }
         ensures rest { (self.new.capacity ≡ self.old.capacity) × (self.new.executor ≡ self.old.executor) }
         ensures open { IsClosed self.new.place → ⊥ }
         ensures armed { OnPending result (IsArmed cx.new) }

@@ -1,6 +1,7 @@
 use Rattle.std.proofs.Common.{◌∙◌, sym, refl, subst, []}
 use Rattle.blocking_core.specs.declared.unblock.PollCall.{PollCall}
 use Rattle.blocking_unblock.specs.Polls.{KeepsOpen}
+use Rattle.blocking_unblock.proofs.Crossings.{first_crosses, reply_crossed}
 use Rattle.blocking_unblock.proofs.Turns.{at_once_kept, closes_only, first_brought, first_kept, first_stands, none_going, open_on, reaches_on, refused_by, same_open, stays_closed}
 use Rattle.blocking_unblock.proofs.unblock.Unblock.poll.Goals as goal
 
@@ -19,6 +20,7 @@ loop-init g c = (
   λ at_once. (refl, refl),
   refl,
   refl,
+  first_crosses _ _ _ _ c.new-poll.ensures c.state.ensures,
 )
 
 pub loop-preserved : goal.loop-preserved
@@ -37,6 +39,7 @@ loop-preserved g c = (
   λ at_once. absurd (none_going _ _ c.turn.ensures.went (c.loop.invariant.10 at_once).0 at_once),
   c.turn.ensures.rest.0 ∙ c.loop.invariant.11,
   c.turn.ensures.rest.1 ∙ c.loop.invariant.12,
+  c.turn.ensures.crosses _ c.loop.invariant.13,
 )
 
 pub returns-in-Reply-clause-refused : goal.returns-in-Reply-clause-refused
@@ -60,3 +63,7 @@ returns-in-Reply-clause-at_once g c = at_once_kept _ _ _ _ _ _ c.new-poll.ensure
 
 pub returns-in-Pending-clause-at_once : goal.returns-in-Pending-clause-at_once
 returns-in-Pending-clause-at_once g c = at_once_kept _ _ _ _ _ _ c.new-poll.ensures c.state.ensures c.loop.invariant.10
+
+pub returns-in-Reply-clause-crosses : goal.returns-in-Reply-clause-crosses
+returns-in-Reply-clause-crosses g c =
+    reply_crossed _ _ _ _ _ _ _ c.loop.invariant.2.awake (sym c.in-Reply.is ∙ c.next-in-loop.ensures) c.new-poll.ensures c.loop.invariant.13

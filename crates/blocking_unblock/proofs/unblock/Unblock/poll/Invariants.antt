@@ -1,8 +1,8 @@
 use Rattle.std.proofs.Common.{◌≡◌, length}
 use Rattle.blocking_core.specs.declared.unblock.State.TheVariants.{Idle}
 use Rattle.futures.specs.Task.{IsArmed, Keeps}
-use Rattle.blocking_unblock.specs.Owners.{HasReply, IsAt, Reaches}
-use Rattle.blocking_unblock.specs.Polls.{Stands, KeepsFirst, KeepsBrought, KeepsOpen}
+use Rattle.blocking_unblock.specs.Owners.{HasReply, IsAt, Reaches, crossed_before}
+use Rattle.blocking_unblock.specs.Polls.{Stands, Crossing, KeepsFirst, KeepsBrought, KeepsOpen}
 use Rattle.blocking_unblock.proofs.unblock.Unblock.poll.Given as goal
 
 abbrev pub invariant-loop : goal.invariant-loop
@@ -19,3 +19,4 @@ invariant-loop g l =
     × (HasReply l.initial.poll.next → (l.poll.next ≡ l.initial.poll.next) × (l.self.place ≡ l.initial.self.place))
     × (l.self.capacity ≡ l.initial.self.capacity)
     × (l.self.executor ≡ l.initial.self.executor)
+    × Crossing l.poll.call l.poll.state l.poll.next l.poll.is_at_end l.self.place (crossed_before l.initial.poll.call l.initial.self.place)

@@ -1,4 +1,5 @@
 use Rattle.futures.specs.Task.{IsArmed}
+use Rattle.blocking_unblock.proofs.Crossings.{crossed_plain, crossed_noted}
 use Rattle.blocking_unblock.proofs.Turns.{turned_plain, turned_noted}
 use Rattle.blocking_unblock.proofs.unblock.Unblock.turn.Goals as goal
 
@@ -45,3 +46,11 @@ returns-in_default-clause-brings g c =
 pub returns-in-Some-clause-call_same : goal.returns-in-Some-clause-call_same
 returns-in-Some-clause-call_same g c =
     (turned_noted _ _ _ (IsArmed c.args.cx.now) (IsArmed c.act-answer.new.cx) _ _ _ _ _ _ _ _ _ _ _ c.requires.going c.requires.stands c.next.ensures c.act-answer.ensures.does c.act-answer.ensures.brings c.in-Some.is c.answer.ensures c.answer-in-Some.ensures).call_same
+
+pub returns-in-Some-clause-crosses : goal.returns-in-Some-clause-crosses
+returns-in-Some-clause-crosses g c = λ before crossing.
+    crossed_noted _ _ _ _ (IsArmed c.act-answer.new.cx) _ _ _ before _ _ _ _ _ _ _ c.requires.going c.requires.stands c.next.ensures c.act-answer.ensures.does c.in-Some.is c.answer.ensures c.answer-in-Some.ensures crossing
+
+pub returns-in_default-clause-crosses : goal.returns-in_default-clause-crosses
+returns-in_default-clause-crosses g c = λ before crossing.
+    crossed_plain _ _ _ _ (IsArmed c.act-answer.new.cx) _ _ _ before _ _ _ _ _ c.requires.going c.requires.stands c.next.ensures c.act-answer.ensures.does c.in_default.is c.answer.ensures crossing
