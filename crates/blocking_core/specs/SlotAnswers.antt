@@ -29,7 +29,7 @@ module _ {T W : Type 0} where
   -- The value leaves the slot; or no value will come; or the waker is seated. What isn't seated comes back.
   abbrev pub PollsTo : Slot T W → W → Slotted T → Option W → Slot T W → Type 0
   PollsTo old waker (Value value) spare new = (old.content ≡ Full value) × (new ≡ record old { content = Empty }) × (spare ≡ Some waker)
-  PollsTo old waker Gone spare new = IsOver old.content × (new ≡ old) × (spare ≡ Some waker)
+  PollsTo old waker (Gone over) spare new = IsOver old.content × (new ≡ old) × (spare ≡ Some waker)
   PollsTo old waker (Waits seat) spare new = IsPending old.content × (new ≡ record old { seat = Some waker }) × (spare ≡ old.seat)
 
   abbrev pub Polls : Slot T W → W → Polled T W → Slot T W → Type 0

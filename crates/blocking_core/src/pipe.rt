@@ -116,6 +116,10 @@ pub enum Peeked {
 #[derive(Drop)]
 pub struct OfPipe(());
 
+/// The proof that a pipe was empty and its job's end closed, so that nothing comes any more. Pipes alone make it.
+#[derive(Drop)]
+pub struct PipeEnd(());
+
 /// How many items a pipe has lent. A pipe alone makes one, so whoever has it asked the pipe.
 #[derive(Drop, Debug)]
 pub struct Loan {
@@ -228,7 +232,7 @@ pub struct Answered<A, W> {
 }
 
 impl<X: Drop, W: Drop, S: Store<X>> Pipe<X, W, S> {
-    ghost use Rattle.std.specs.Prelude.{[]};
+    ghost use Rattle.std.specs.Prelude.{◌↔◌, [], IsSome};
     ghost use Rattle.blocking_core.specs.Pipes.{empty_pipe, room};
     ghost use Rattle.blocking_core.specs.PipeAnswers.{FindsRoom, Sends, Receives, let_go, fetched_gone};
 
@@ -296,6 +300,17 @@ impl<X: Drop, W: Drop, S: Store<X>> Pipe<X, W, S> {
         ensures { result ≡ self.now.lent }
     {
         self.lent
+    }
+
+    /// That nothing comes any more, where that is so.
+    pub fn ended(&self) -> Option<PipeEnd>
+        ensures { IsSome result ↔ ((self.now.items ≡ []) × (self.now.is_job_open ≡ false)) }
+    {
+        if self.len() == 0 && !self.is_job_open {
+            Some(PipeEnd(()))
+        } else {
+            None
+        }
     }
 
     /// How many items are lent, for an end that keeps it.

@@ -70,13 +70,17 @@ pub struct Seat<Of: Drop>(pub(crate) Of);
 #[derive(Drop)]
 pub struct OfSlot(());
 
+/// The proof that no value will come into a slot. Slots alone make it.
+#[derive(Drop)]
+pub struct Over(());
+
 /// What a poll of a slot finds.
 #[derive(Drop)]
 pub enum Slotted<T: Drop> {
     /// The value, which leaves the slot.
     Value(T),
     /// No value will come.
-    Gone,
+    Gone(Over),
     /// Nothing yet: the waker is seated.
     Waits(Seat<OfSlot>),
 }
@@ -169,11 +173,11 @@ impl<T: Drop, W: Drop> Slot<T, W> {
             Content::Full(value) => Slotted::Value(value),
             Content::GivenUp => {
                 self.content = Content::GivenUp;
-                Slotted::Gone
+                Slotted::Gone(Over(()))
             }
             Content::Abandoned(true) => {
                 self.content = Content::Abandoned(true);
-                Slotted::Gone
+                Slotted::Gone(Over(()))
             }
             waiting => {
                 self.content = waiting;

@@ -112,7 +112,7 @@ fn answer(slot: &mut Slot<u32, u8>, step: Step) -> Shown {
 fn polled(polled: Polled<u32, u8>) -> Shown {
     match polled.answer {
         Slotted::Value(value) => Value(value, polled.spare),
-        Slotted::Gone => Gone(polled.spare),
+        Slotted::Gone(_) => Gone(polled.spare),
         Slotted::Waits(_) => Waits(polled.spare),
     }
 }

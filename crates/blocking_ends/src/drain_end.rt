@@ -1,12 +1,12 @@
 //! The end of an owner that is lent what its job sent.
-ghost use Rattle.std.specs.Prelude.{◌≡◌, ◌<◌, ◌≤◌, ◌+◌, ◌^◌, [], length, take, drop, vec_capacity, IfSome};
+ghost use Rattle.std.specs.Prelude.{◌≡◌, ◌<◌, ◌≤◌, ◌+◌, ◌^◌, [], length, take, drop, vec_capacity, IfSome, IsSome};
 ghost use Rattle.futures.specs.Task.{Covers, Keeps};
 ghost use Rattle.blocking_ends.specs.Answers.{OnFetched, OnFetchEnd, OnFetchWait};
 
 use crate::hand::Hand;
 use crate::locked::{JobToOwner, Tally};
 use crate::rule::PlaceRule;
-use blocking_core::pipe::{Answered, CopyStore, Drained, Fetched, Loan, Store};
+use blocking_core::pipe::{Answered, CopyStore, Drained, Fetched, Loan, PipeEnd, Store};
 use blocking_lock::{OwnerWaker, enter_where};
 use blocking_pool::pool::WakeNote;
 use futures::task::{Context, Poll, Source};
@@ -27,6 +27,8 @@ pub struct DrainEnd<X: Drop, R: PlaceRule<X>, S: Store<X>, H: Wait + Copy> {
     // How many items were fetched in all, and how many are lent.
     fetched: Tally,
     lent: Loan,
+    // That nothing comes any more, once that was seen.
+    ended: Option<PipeEnd>,
     source: Source,
     rt: H,
     ghost count: { fetched ≡ hand.received + length hand.left },
@@ -53,6 +55,7 @@ impl<X: Drop, R: PlaceRule<X>, S: Store<X>, H: Wait + Copy> DrainEnd<X, R, S, H>
             hand: Hand::new(piece, most),
             fetched,
             lent,
+            ended: None,
             source: Source::new(),
             rt,
         }
@@ -68,6 +71,7 @@ impl<X: Drop, R: PlaceRule<X>, S: Store<X>, H: Wait + Copy> DrainEnd<X, R, S, H>
             hand,
             fetched: _,
             lent: _,
+            ended: _,
             source: _,
             rt: _,
         } = self;
@@ -119,13 +123,14 @@ impl<X: Copy, R: PlaceRule<X>, S: CopyStore<X>, H: Wait + Copy> DrainEnd<X, R, S
         ensures received { self.new.hand.received ≡ self.old.hand.received }
         ensures some { OnFetched result.answer (0 < length self.new.hand.left) }
         ensures none { OnFetchWait result.answer (self.new.hand.left ≡ []) }
-        ensures ended { OnFetchEnd result.answer (R.ended self.old.hand.received) }
+        ensures ended { OnFetchEnd result.answer (R.ended self.old.hand.received × IsSome self.new.ended) }
         ensures source { self.new.source ≡ self.old.source }
     {
         let mut pipe = Self::enter(&self.pipe, &self.rt, &self.fetched, &self.lent);
         let answered = self.hand.fetch_or_seat(&mut *pipe, waker);
         self.fetched = pipe.tally_received();
         self.lent = pipe.loan();
+        self.ended = pipe.ended();
         answered
     }
 
@@ -134,7 +139,7 @@ impl<X: Copy, R: PlaceRule<X>, S: CopyStore<X>, H: Wait + Copy> DrainEnd<X, R, S
         requires none { self.old.hand.left ≡ [] }
         ensures received { self.new.hand.received ≡ self.old.hand.received }
         ensures some { OnFetched result (0 < length self.new.hand.left) }
-        ensures ended { OnFetchEnd result (R.ended self.old.hand.received) }
+        ensures ended { OnFetchEnd result (R.ended self.old.hand.received × IsSome self.new.ended) }
         ensures registered { OnFetchWait result
             (Covers cx.new (λ source. source ≡ self.new.source.id)) }
         ensures source { self.new.source ≡ self.old.source }
@@ -179,6 +184,7 @@ impl<X: Copy, R: PlaceRule<X>, S: CopyStore<X>, H: Wait + Copy> DrainEnd<X, R, S
         ensures held { HoldFrom R.holds self.old.hand.received (take (got_by_drain result) out.new) }
         ensures rest { drop (got_by_drain result) out.new ≡ drop (got_by_drain result) out.old }
         ensures ended { OnDrainsEnd result (R.ended self.old.hand.received) }
+        ensures seen { OnDrainsEnd result (IsSome self.new.ended) }
         ensures registered { OnDrainsWait result
             (Covers cx.new (λ source. source ≡ self.new.source.id)) }
         ensures source { self.new.source ≡ self.old.source }

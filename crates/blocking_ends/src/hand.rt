@@ -1,5 +1,5 @@
 //! What whoever receives has in its hand: what is left of the piece that it was lent last.
-ghost use Rattle.std.specs.Prelude.{◌≡◌, ◌<◌, ◌≤◌, ◌+◌, ◌^◌, [], length, min, take, drop, vec_capacity};
+ghost use Rattle.std.specs.Prelude.{◌≡◌, ◌<◌, ◌≤◌, ◌+◌, ◌^◌, [], false, length, min, take, drop, vec_capacity};
 
 use crate::locked::{JobToOwner, OwnerToJob};
 use crate::rule::PlaceRule;
@@ -148,7 +148,7 @@ impl<X: Copy, R: PlaceRule<X>> Hand<X, R> {
         ensures fetched { pipe.new.received ≡ self.new.received + length self.new.left }
         ensures some { OnFetched result.answer (0 < length self.new.left) }
         ensures none { OnFetchWait result.answer (self.new.left ≡ []) }
-        ensures ended { OnFetchEnd result.answer (R.ended self.old.received) }
+        ensures ended { OnFetchEnd result.answer (R.ended self.old.received × (pipe.new.pipe.items ≡ []) × (pipe.new.pipe.is_job_open ≡ false)) }
     {
         let answered = pipe.fetch_or_seat(waker, self.most, &mut self.piece);
         self.gone = match &answered.answer {

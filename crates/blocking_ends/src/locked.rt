@@ -1,14 +1,14 @@
 //! A pipe as its lock holds it: with the counts of what was sent and received, and with what its rule says of what is inside.
 //!
 //! There is one type for each direction, since they differ in whose end is the sender's.
-ghost use Rattle.std.specs.Prelude.{◌≡◌, ◌<◌, ◌≤◌, ◌+◌, [], true, false, length, min, take, drop, vec_capacity, None, IfSome, IfNone};
+ghost use Rattle.std.specs.Prelude.{◌≡◌, ◌<◌, ◌≤◌, ◌+◌, ◌↔◌, [], true, false, length, min, take, drop, vec_capacity, None, IfSome, IfNone, IsSome};
 
 mod tally;
 
 use crate::rule::PlaceRule;
 use blocking_core::pipe::{
-    Answered, CopyStore, Drained, Fetched, Filled, Loan, Peeked, Pipe, Put, Received, Room,
-    Sending, Space, Store,
+    Answered, CopyStore, Drained, Fetched, Filled, Loan, Peeked, Pipe, PipeEnd, Put, Received,
+    Room, Sending, Space, Store,
 };
 use blocking_lock::OwnerWaker;
 use blocking_pool::pool::{JobNo, WakeNote};
@@ -100,6 +100,13 @@ impl<X: Drop, R: PlaceRule<X>, S: Store<X>> JobToOwner<X, R, S> {
         ensures { result ≡ self.now.received }
     {
         Tally::new(self.received)
+    }
+
+    /// That nothing comes any more, where that is so.
+    pub(crate) fn ended(&self) -> Option<PipeEnd>
+        ensures { IsSome result ↔ ((self.now.pipe.items ≡ []) × (self.now.pipe.is_job_open ≡ false)) }
+    {
+        self.pipe.ended()
     }
 
     /// How many more items the pipe holds.

@@ -1,10 +1,10 @@
 //! The end of an owner that receives from its job.
-ghost use Rattle.std.specs.Prelude.{◌≡◌, ◌<◌, ◌≤◌, ◌+◌, length, take, drop};
+ghost use Rattle.std.specs.Prelude.{◌≡◌, ◌<◌, ◌≤◌, ◌+◌, length, take, drop, IsSome};
 ghost use Rattle.futures.specs.Task.{Covers, Keeps};
 
 use crate::locked::{JobToOwner, Tally};
 use crate::rule::PlaceRule;
-use blocking_core::pipe::{Answered, CopyStore, Drained, Received, Store};
+use blocking_core::pipe::{Answered, CopyStore, Drained, PipeEnd, Received, Store};
 use blocking_lock::{OwnerWaker, enter_where};
 use blocking_pool::pool::WakeNote;
 use futures::task::{Context, Poll, Source};
@@ -21,6 +21,8 @@ use std::sync::{Arc, Mutex, MutexGuard, Wait};
 pub struct RecvEnd<X: Drop, R: PlaceRule<X>, S: Store<X>, H: Wait + Copy> {
     pipe: Arc<Mutex<JobToOwner<X, R, S>>>,
     received: Tally,
+    // That nothing comes any more, once that was seen.
+    ended: Option<PipeEnd>,
     source: Source,
     rt: H,
 }
@@ -34,6 +36,7 @@ impl<X: Drop, R: PlaceRule<X>, S: Store<X>, H: Wait + Copy> RecvEnd<X, R, S, H> 
         RecvEnd {
             pipe,
             received,
+            ended: None,
             source: Source::new(),
             rt,
         }
@@ -65,11 +68,12 @@ impl<X: Drop, R: PlaceRule<X>, S: Store<X>, H: Wait + Copy> RecvEnd<X, R, S, H> 
         ensures received { self.new.received ≡ self.old.received + got_by_receive result.answer }
         ensures source { self.new.source ≡ self.old.source }
         ensures held { IfReceived result.answer (R.holds self.old.received) }
-        ensures ended { OnEnd result.answer (R.ended self.old.received) }
+        ensures ended { OnEnd result.answer (R.ended self.old.received × IsSome self.new.ended) }
     {
         let mut pipe = Self::enter(&self.pipe, &self.rt, &self.received);
         let answered = pipe.receive_or_seat(waker);
         self.received = pipe.tally_received();
+        self.ended = pipe.ended();
         answered
     }
 
@@ -79,6 +83,7 @@ impl<X: Drop, R: PlaceRule<X>, S: Store<X>, H: Wait + Copy> RecvEnd<X, R, S, H> 
         ensures received { self.new.received ≡ self.old.received + got_by_receive result }
         ensures held { IfReceived result (R.holds self.old.received) }
         ensures ended { OnEnd result (R.ended self.old.received) }
+        ensures seen { OnEnd result (IsSome self.new.ended) }
         ensures registered { OnWait result
             (Covers cx.new (λ source. source ≡ self.new.source.id)) }
         ensures source { self.new.source ≡ self.old.source }
@@ -121,11 +126,12 @@ impl<X: Copy, R: PlaceRule<X>, S: CopyStore<X>, H: Wait + Copy> RecvEnd<X, R, S,
             (take (got_by_drain result.answer) out.new) }
         ensures rest { drop (got_by_drain result.answer) out.new
             ≡ drop (got_by_drain result.answer) out.old }
-        ensures ended { OnDrainsEnd result.answer (R.ended self.old.received) }
+        ensures ended { OnDrainsEnd result.answer (R.ended self.old.received × IsSome self.new.ended) }
     {
         let mut pipe = Self::enter(&self.pipe, &self.rt, &self.received);
         let answered = pipe.drain_or_seat(waker, out);
         self.received = pipe.tally_received();
+        self.ended = pipe.ended();
         answered
     }
 
@@ -138,6 +144,7 @@ impl<X: Copy, R: PlaceRule<X>, S: CopyStore<X>, H: Wait + Copy> RecvEnd<X, R, S,
         ensures held { HoldFrom R.holds self.old.received (take (got_by_drain result) out.new) }
         ensures rest { drop (got_by_drain result) out.new ≡ drop (got_by_drain result) out.old }
         ensures ended { OnDrainsEnd result (R.ended self.old.received) }
+        ensures seen { OnDrainsEnd result (IsSome self.new.ended) }
         ensures registered { OnDrainsWait result
             (Covers cx.new (λ source. source ≡ self.new.source.id)) }
         ensures source { self.new.source ≡ self.old.source }

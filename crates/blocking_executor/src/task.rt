@@ -6,11 +6,20 @@ use crate::job::CallJob;
 use crate::runtime::Runtime;
 use crate::slot::{AnswerOf, Link};
 use blocking_core::pool::{Carries, Job, JobNo, Refusal, Refused};
-use blocking_core::task::{Call, Looked, Slotted};
+use blocking_core::task::{Call, Looked, OfSlot, Over, Seat, Slotted};
 use blocking_lock::Found;
 use futures::Future;
 use futures::task::{Context, Poll, Source, Waker};
 use std::sync::{Arc, Wait};
+
+// What the slot answered to a poll that got no value: only a slot can.
+#[derive(Drop)]
+enum Asked {
+    // The poll's waker is seated.
+    Waits(Seat<OfSlot>),
+    // The job is gone.
+    Gone(Over),
+}
 
 /// A call under way: a future of its answer. Until the answer was taken it may be polled.
 ///
@@ -22,6 +31,8 @@ pub struct Task<F: Call<Out: Drop>, H: Wait + Copy> {
     _job: JobNo,
     link: Arc<Link<F>>,
     source: Source,
+    // What the slot answered to the last poll that waits.
+    asked: Option<Asked>,
     // The waker of a task whose job is gone. It is kept, since one that is dropped wakes.
     unseated: Option<Waker>,
     is_taken: bool,
@@ -36,6 +47,7 @@ impl<F: Call<Out: Drop>, H: Wait + Copy> Task<F, H> {
             _job: job,
             link,
             source: Source::new(),
+            asked: None,
             unseated: None,
             is_taken: false,
             rt,
@@ -55,6 +67,7 @@ impl<F: Call<Out: Drop>, H: Wait + Copy> Task<F, H> {
             _job: _,
             link,
             source: _,
+            asked: _,
             unseated: _,
             is_taken: _,
             rt,
@@ -72,6 +85,7 @@ impl<F: Call<Out: Drop>, H: Wait + Copy> Task<F, H> {
             _job: _,
             link,
             source,
+            asked: _,
             unseated: _,
             is_taken: _,
             rt,
@@ -88,6 +102,7 @@ impl<F: Call<Out: Drop>, H: Wait + Copy> Drop for Task<F, H> {
             _job: _,
             link,
             source: _,
+            asked: _,
             unseated: _,
             is_taken,
             rt,
@@ -100,6 +115,7 @@ impl<F: Call<Out: Drop>, H: Wait + Copy> Drop for Task<F, H> {
 }
 
 impl<F: Call<Out: Drop>, H: Wait + Copy> Future for Task<F, H> {
+    ghost use Rattle.std.specs.Prelude.{IsSome};
     ghost use Rattle.futures.specs.Poll.{IfReady, OnPending};
     ghost use Rattle.futures.specs.Task.{Covers, Keeps};
 
@@ -116,6 +132,7 @@ impl<F: Call<Out: Drop>, H: Wait + Copy> Future for Task<F, H> {
         ensures value { IfReady result F.may_give }
         ensures taken { IfReady result (λ _. self.new.is_taken ≡ true) }
         ensures again { OnPending result (self.new.is_taken ≡ false) }
+        ensures asked { OnPending result (IsSome self.new.asked) }
         ensures registered { OnPending result
             (Covers cx.new (λ source. source ≡ self.new.source.id)) }
         ensures kept { Keeps cx.old cx.new }
@@ -137,11 +154,15 @@ impl<F: Call<Out: Drop>, H: Wait + Copy> Future for Task<F, H> {
                 self.is_taken = true;
                 Poll::Ready(out)
             }
-            Slotted::Gone => {
+            Slotted::Gone(over) => {
+                self.asked = Some(Asked::Gone(over));
                 self.unseated = spare.flatten();
                 pending
             }
-            Slotted::Waits(_) => pending,
+            Slotted::Waits(seat) => {
+                self.asked = Some(Asked::Waits(seat));
+                pending
+            }
         }
     }
 }
@@ -153,12 +174,14 @@ pub struct Cancel<F: Call<Out: Drop>, H: Wait + Copy> {
     link: Arc<Link<F>>,
     source: Source,
     found: Found<AnswerOf<F>>,
+    // What the slot answered to the last poll, where nothing was found: only a slot can.
+    answer: Option<Slotted<F::Out>>,
     is_taken: bool,
     rt: H,
 }
 
 impl<F: Call<Out: Drop>, H: Wait + Copy> Cancel<F, H> {
-    ghost use Rattle.std.specs.Prelude.{IfSome};
+    ghost use Rattle.std.specs.Prelude.{IfSome, IsSome};
     ghost use Rattle.futures.specs.declared.task.Poll.{Poll};
     ghost use Rattle.futures.specs.Poll.{IfReady, OnPending};
     ghost use Rattle.blocking_executor.specs.SlotAnswers.{settled};
@@ -172,6 +195,7 @@ impl<F: Call<Out: Drop>, H: Wait + Copy> Cancel<F, H> {
             link,
             source,
             found,
+            answer: None,
             is_taken: false,
             rt,
         }
@@ -188,6 +212,7 @@ impl<F: Call<Out: Drop>, H: Wait + Copy> Cancel<F, H> {
     fn give(&mut self) -> Poll<Option<F::Out>>
         ensures result_is { result ≡ Poll.Ready self.old.found }
         ensures taken { self.new.is_taken ≡ true }
+        ensures same { (self.new.source ≡ self.old.source) × (self.new.answer ≡ self.old.answer) }
         ensures allowed { IfReady result (λ out. IfSome out F.may_give) }
     {
         self.is_taken = true;
@@ -201,19 +226,26 @@ impl<F: Call<Out: Drop>, H: Wait + Copy> Cancel<F, H> {
         ensures taken { IfReady result (λ _. self.new.is_taken ≡ true) }
         ensures again { OnPending result
             ((self.new.is_taken ≡ false) × (self.new.found ≡ self.old.found)) }
-        ensures waits { OnPending result (self.new ≡ self.old) }
+        ensures source_is { self.new.source ≡ self.old.source }
+        ensures asked { IsSome self.new.answer }
         ensures allowed { IfReady result (λ out. IfSome out F.may_give) }
     {
         match answer {
-            Slotted::Waits(_) => Poll::Pending,
+            Slotted::Waits(seat) => {
+                self.answer = Some(Slotted::Waits(seat));
+                Poll::Pending
+            }
             // (an abandoned slot takes no value)
-            Slotted::Value(_) | Slotted::Gone => self.give(),
+            over => {
+                self.answer = Some(over);
+                self.give()
+            }
         }
     }
 }
 
 impl<F: Call<Out: Drop>, H: Wait + Copy> Future for Cancel<F, H> {
-    ghost use Rattle.std.specs.Prelude.{IfSome, None};
+    ghost use Rattle.std.specs.Prelude.{IfSome, IsSome, None};
     ghost use Rattle.futures.specs.Poll.{IfReady, OnPending};
     ghost use Rattle.futures.specs.Task.{Covers, Keeps};
 
@@ -230,6 +262,7 @@ impl<F: Call<Out: Drop>, H: Wait + Copy> Future for Cancel<F, H> {
         ensures value { IfReady result (λ out. (out ≡ self.old.found) × IfSome out F.may_give) }
         ensures taken { IfReady result (λ _. self.new.is_taken ≡ true) }
         ensures at_once { OnPending result (self.old.found ≡ None) }
+        ensures asked { self.old.found ≡ None → IsSome self.new.answer }
         ensures again { OnPending result
             ((self.new.is_taken ≡ false) × (self.new.found ≡ self.old.found)) }
         ensures registered { OnPending result

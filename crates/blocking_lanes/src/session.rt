@@ -301,7 +301,7 @@ impl Session {
         match self.slot.poll(()).answer {
             Slotted::Value(fault) => Looked::Handle(fault),
             Slotted::Waits(_at_the_slot) => Looked::Nothing,
-            Slotted::Gone => Looked::Gone,
+            Slotted::Gone(_) => Looked::Gone,
         }
     }
 
@@ -316,7 +316,7 @@ impl Session {
                 Awaited::Result(number)
             }
             Slotted::Waits(_at_the_place) => Awaited::Nothing,
-            Slotted::Gone => Awaited::Gone,
+            Slotted::Gone(_) => Awaited::Gone,
         }
     }
 

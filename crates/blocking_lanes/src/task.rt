@@ -120,7 +120,7 @@ impl Task {
                 self.leave();
                 Act::TaskGot(number)
             }
-            Slotted::Gone => {
+            Slotted::Gone(_) => {
                 self.leave();
                 Act::TaskGotNone
             }

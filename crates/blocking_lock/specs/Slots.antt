@@ -29,7 +29,7 @@ IfLookedAt (looked.Seat waker) P = Unit {0}
 -- a fact of the value that a poll gives, if it gives one
 abbrev pub IfPolled : {T : Type 0} → Slotted T → (T → Type 0) → Type 0
 IfPolled (slotted.Value value) P = P value
-IfPolled slotted.Gone P = Unit {0}
+IfPolled (slotted.Gone over) P = Unit {0}
 IfPolled (slotted.Waits seat) P = Unit {0}
 
 -- the slot is polled: its answer, and the waker that isn't seated

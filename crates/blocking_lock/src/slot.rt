@@ -206,7 +206,7 @@ impl<A: Left<Value: Drop>> LockedSlot<A> {
             match answer {
                 Slotted::Value(value) => return Ok(value),
                 Slotted::Waits(seat) => return Err(seat),
-                Slotted::Gone => waker = spare.flatten(),
+                Slotted::Gone(_) => waker = spare.flatten(),
             }
         }
         unreachable!()

@@ -1,5 +1,5 @@
 -- What a poll of an owner does: where the handle is, what it may answer to each action, and what its reply says of it.
-use Rattle.std.specs.Prelude.{◌≡◌, ◌+◌, ◌<◌, ◌≤◌, ℕ, if◌then◌else◌, Bool, true, false, List, [], ◌∷◌, Option, Some, None, Result, Ok, Err}
+use Rattle.std.specs.Prelude.{◌≡◌, ◌+◌, ◌<◌, ◌≤◌, ℕ, if◌then◌else◌, Bool, true, false, List, [], ◌∷◌, Option, Some, None, IsSome, Result, Ok, Err}
 use Rattle.blocking_core.specs.OwnerCalls.{OwnerMachine, new_poll, owner_next, owner_after, table}
 use Rattle.blocking_core.specs.declared.io.Fault.{Fault}
 use Rattle.blocking_core.specs.declared.io.Fault.TheVariants as fault
@@ -81,6 +81,12 @@ module _ {T I H : Type 0} where
   crossed (side.Seeking to way_back) = 0
   crossed (side.Operating way_back) = 0
 
+  -- its owner's end of the pipe has seen that nothing comes any more
+  abbrev pub SawEndOf : Side T I H → Type 0
+  SawEndOf (side.Reading end way_back) = IsSome end.ended
+  SawEndOf (side.Streaming end way_back) = IsSome end.ended
+  SawEndOf other = ⊥
+
   -- the kind of a session
   abbrev pub kind_of : Side T I H → SessionKind
   kind_of (side.Reading end way_back) = kind.Reading
@@ -100,6 +106,11 @@ module _ {T I H : Type 0} where
   crossed_at (place.Lent session) = crossed session.side
   crossed_at (place.Idle handle) = 0
   crossed_at place.Closed = 0
+
+  -- the session that is under way has seen that nothing comes any more
+  abbrev pub SawEndAt : Place T I H → Type 0
+  SawEndAt (place.Lent session) = SawEndOf session.side
+  SawEndAt place = ⊥
 
   -- what had crossed before the pipe in which a call goes on: nothing, where it has yet to begin a session of its own
   abbrev pub crossed_before : PollCall → Place T I H → ℕ

@@ -16,7 +16,7 @@ use Rattle.blocking_core.specs.declared.unblock.OwnerAnswer.{OwnerAnswer}
 use Rattle.blocking_core.specs.declared.unblock.OwnerAnswer.TheVariants as by
 use Rattle.futures.specs.declared.task.Poll.{Poll}
 use Rattle.futures.specs.declared.task.Poll.TheVariants.{Ready, Pending}
-use Rattle.blocking_unblock.specs.Owners.{state_of, crossed_at, HasCrossed, IsAt, BackAt}
+use Rattle.blocking_unblock.specs.Owners.{state_of, crossed_at, HasCrossed, SawEndAt, IsAt, BackAt}
 use Rattle.blocking_unblock.specs.declared.place.Place.{Place}
 
 -- what a call has beside its buffers: where it waits for a result, the item that came, the result that came
@@ -188,9 +188,14 @@ crossed_by (by.Took count noted) = count
 crossed_by (by.Received noted) = 1
 crossed_by answer = 0
 
--- the handle is where it was, and the pipe of its session counts so many more
-abbrev pub Crosses : {T I H : Type 0} → Place T I H → ℕ → Place T I H → Type 0
-Crosses old n new = IsAt (state_of old) new × (crossed_at new ≡ crossed_at old + n)
+-- what holds where an answer tells the end of a pipe
+abbrev pub OnEnded : {E : Type 0} → OwnerAnswer E → Type 0 → Type 0
+OnEnded by.Ended P = P
+OnEnded answer P = Unit {0}
+
+-- the handle is where it was, and the end of its session has counted what the answer tells, or seen the end that it tells
+abbrev pub Crosses : {T I H E : Type 0} → Place T I H → OwnerAnswer E → Place T I H → Type 0
+Crosses old answer new = IsAt (state_of old) new × (crossed_at new ≡ crossed_at old + crossed_by answer) × OnEnded answer (SawEndAt new)
 
 module _ {T I H E : Type 0} where
   -- What the doing of an action does with the handle: its answer, whether a note was taken, and where the handle is then. A wait is
@@ -199,9 +204,9 @@ module _ {T I H E : Type 0} where
   Does begun act.Begin old by.Begun false new armed = ((state : State) → begun state → IsAt state new) × (crossed_at new ≡ 0)
   Does begun act.Begin old (by.Refused why) false new armed = new ≡ old
   Does begun act.Close old (by.Closed noted) has_note new armed = (noted ≡ has_note) × IsAt (shut (state_of old)) new
-  Does begun (act.Drain most) old answer has_note new armed = Drains most answer has_note armed × Crosses old (crossed_by answer) new
-  Does begun (act.Fill most) old answer has_note new armed = Fills most answer has_note armed × Crosses old (crossed_by answer) new
-  Does begun act.Receive old answer has_note new armed = Receives answer has_note armed × Crosses old (crossed_by answer) new
+  Does begun (act.Drain most) old answer has_note new armed = Drains most answer has_note armed × Crosses old answer new
+  Does begun (act.Fill most) old answer has_note new armed = Fills most answer has_note armed × Crosses old answer new
+  Does begun act.Receive old answer has_note new armed = Receives answer has_note armed × Crosses old answer new
   Does begun act.PollSlot old (by.WaitsInSlot seat) false new armed = (new ≡ old) × armed
   Does begun act.PollSlot old answer false new armed = IsAt Idle new × BackAt (state_of old) answer
   Does begun act.PollResult old by.Resulted false new armed = new ≡ old

@@ -5,7 +5,7 @@ ghost use Rattle.blocking_core.specs.OwnerCalls.{has_pipe};
 ghost use Rattle.blocking_core.specs.declared.unblock.SessionKind.TheVariants.{Reading, Writing, Streaming};
 ghost use Rattle.blocking_core.specs.declared.unblock.OwnerEnd.TheVariants.{Open, Shut};
 ghost use Rattle.blocking_core.specs.declared.unblock.OwnerAnswer.TheVariants.{Back as CameBack};
-ghost use Rattle.blocking_ends.specs.Answers.{IfDrained, OnDrainsWait, IfTook, OnFullWait, OnWait, got_by_receive};
+ghost use Rattle.blocking_ends.specs.Answers.{IfDrained, OnDrainsWait, IfTook, OnFullWait, OnEnd, OnWait, got_by_receive};
 ghost use Rattle.blocking_unblock.specs.Owners.{note_of_drain, answer_of_drain, note_of_fill, answer_of_fill, told, told_of_seek, IsBack, IsSought};
 
 use crate::spare::Spare;
@@ -122,8 +122,8 @@ fn told_of_fill(filled: Filled) -> (OwnerAnswer<io::Error>, Option<WakeNote>)
 }
 
 impl<T: Drop, I: Drop, H: Wait + Copy> Session<T, I, H> {
-    ghost use Rattle.blocking_unblock.specs.Owners.{kind_of, crossed, has, BackFrom};
-    ghost use Rattle.blocking_unblock.specs.Polls.{Drains, Fills, crossed_by};
+    ghost use Rattle.blocking_unblock.specs.Owners.{kind_of, crossed, has, BackFrom, SawEndOf};
+    ghost use Rattle.blocking_unblock.specs.Polls.{Drains, Fills, OnEnded, crossed_by};
 
     pub(crate) fn new(job: JobNo, side: Side<T, I, H>) -> Session<T, I, H>
         ensures side { result.side ≡ side }
@@ -191,6 +191,7 @@ impl<T: Drop, I: Drop, H: Wait + Copy> Session<T, I, H> {
         ensures does { Drains (length out.old) result.0 (has result.1) (IsArmed cx.new) }
         ensures kept { Keeps cx.old cx.new }
         ensures received { crossed self.new.side ≡ crossed self.old.side + crossed_by result.0 }
+        ensures ended { OnEnded result.0 (SawEndOf self.new.side) }
         ensures kind { kind_of self.new.side ≡ Reading }
         ensures end { self.new.owner_end ≡ self.old.owner_end }
     {
@@ -226,6 +227,7 @@ impl<T: Drop, I: Drop, H: Wait + Copy> Session<T, I, H> {
         ensures armed { OnWait result (IsArmed cx.new) }
         ensures kept { Keeps cx.old cx.new }
         ensures received { crossed self.new.side ≡ crossed self.old.side + got_by_receive result }
+        ensures ended { OnEnd result (SawEndOf self.new.side) }
         ensures kind { kind_of self.new.side ≡ Streaming }
         ensures end { self.new.owner_end ≡ self.old.owner_end }
     {

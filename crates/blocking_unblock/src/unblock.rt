@@ -174,7 +174,7 @@ impl<T: Drop, I: Drop, J: Job, H: Runtime> Unblock<T, I, J, H> {
     ghost use Rattle.blocking_core.specs.declared.unblock.OwnerAction.TheVariants.{Begin as BeginAction, Close as CloseAction, Receive as ReceiveAction, PollSlot as SlotAction};
     ghost use Rattle.std.specs.Prelude.{ℕ};
     ghost use Rattle.blocking_unblock.specs.Owners.{IsClosed, IsAt, HasCrossed, Reaches, Follows, KeepsRefused, KeepsAtOnce, crossed_before, state_of, has, reply_of_get, wanted, offered};
-    ghost use Rattle.blocking_unblock.specs.Polls.{MayAsk, CanDo, Does, Brings, FitsReply, Stands, IsGoing, KeepsFirst, KeepsBrought, KeepsOpen, HasPipe, HasSession, Crosses, Crossing, crossed_by, Drains, Fills, Resumes, Kept, last_action};
+    ghost use Rattle.blocking_unblock.specs.Polls.{MayAsk, CanDo, Does, Brings, FitsReply, Stands, IsGoing, KeepsFirst, KeepsBrought, KeepsOpen, HasPipe, HasSession, Crosses, Crossing, Drains, Fills, Resumes, Kept, last_action};
     ghost use Rattle.blocking_core.specs.OwnerCalls.{begun_by};
 
     // (by itself, since each turn would else clear the memory of its locals)
@@ -223,7 +223,7 @@ impl<T: Drop, I: Drop, J: Job, H: Runtime> Unblock<T, I, J, H> {
         requires at { IsAt (Lent Reading Open) self.old.place }
         requires room { 0 < length out.old }
         ensures drains { Drains (length out.old) result.0 (has result.1) (IsArmed cx.new) }
-        ensures crosses { Crosses self.old.place (crossed_by result.0) self.new.place }
+        ensures crosses { Crosses self.old.place result.0 self.new.place }
         ensures rest { (self.new.capacity ≡ self.old.capacity) × (self.new.executor ≡ self.old.executor) }
         ensures kept { Keeps cx.old cx.new }
     {
@@ -241,7 +241,7 @@ impl<T: Drop, I: Drop, J: Job, H: Runtime> Unblock<T, I, J, H> {
         requires at { IsAt (Lent Writing Open) self.old.place }
         requires some { 0 < length bytes.now }
         ensures fills { Fills (length bytes.now) result.0 (has result.1) (IsArmed cx.new) }
-        ensures crosses { Crosses self.old.place (crossed_by result.0) self.new.place }
+        ensures crosses { Crosses self.old.place result.0 self.new.place }
         ensures rest { (self.new.capacity ≡ self.old.capacity) × (self.new.executor ≡ self.old.executor) }
         ensures kept { Keeps cx.old cx.new }
     {

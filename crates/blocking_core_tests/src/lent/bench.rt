@@ -352,7 +352,7 @@ impl Bench {
                 poll.answer(OwnerAnswer::Sought(place));
                 Seen::Sought(place)
             }
-            Slotted::Gone => Seen::Misplaced,
+            Slotted::Gone(_) => Seen::Misplaced,
             Slotted::Waits(seat) => {
                 poll.answer(OwnerAnswer::WaitsInSlot(seat));
                 Seen::Waits
@@ -367,7 +367,7 @@ impl Bench {
                 poll.answer(OwnerAnswer::Resulted);
                 Seen::GotResult(result)
             }
-            Slotted::Gone => Seen::Misplaced,
+            Slotted::Gone(_) => Seen::Misplaced,
             Slotted::Waits(seat) => {
                 poll.answer(OwnerAnswer::WaitsInSlot(seat));
                 Seen::Waits

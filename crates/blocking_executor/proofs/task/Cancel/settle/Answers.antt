@@ -2,5 +2,5 @@
 use Rattle.std.proofs.Common.{rules}
 use Rattle.blocking_executor.proofs.task.Cancel.settle.Goals as goal
 
-pub returns-clause-settled : goal.returns-clause-settled
-returns-clause-settled g c = search rules
+pub returns-in-Waits-clause-settled : goal.returns-in-Waits-clause-settled
+returns-in-Waits-clause-settled g c = search rules
