@@ -1,7 +1,9 @@
 -- What contracts see of a pipe that counts, and what it keeps of its place rule.
-use Rattle.std.specs.Prelude.{◌≡◌, ℕ, ◌+◌, max, Bool, false, List, length, refl}
-use Rattle.std.specs.Coded.{Coded, code_by, coded×, coded_ℕ, coded_list}
+use Rattle.std.specs.Prelude.{◌≡◌, ℕ, ◌+◌, max, Bool, false, List, length, Option, refl}
+use Rattle.std.specs.Coded.{Coded, code_by, coded×, coded_ℕ, coded_list, coded_option}
 use Rattle.blocking_ends.specs.Rules.{HoldFrom}
+use Rattle.blocking_ends.specs.declared.locked.tally.Closed.{Closed}
+use Rattle.blocking_ends.specs.contracts.locked.tally.Closed.{the_row}
 
 -- a pipe, and how many items were sent into it since it was made, and how many its other side took or let go; what an owner is lent counts as taken
 pub record Counted (P : Type 0) : Type 0 where
@@ -15,16 +17,18 @@ counted_code {P} pipe =
     (λ parts. record { pipe = parts.0; sent = parts.1.0; received = parts.1.1 }) (λ _. refl)
 
 -- an end that looks at items before it lets them go: how many it let go, those that it was lent and has in its hand, and how many of those
--- that it looked at last it still may let go
+-- that it looked at last it still may let go, and that it was closed, once it was
 pub record Peeking (X : Type 0) : Type 0 where
   pub received : ℕ
   pub shown : List X
   pub peeked : ℕ
+  pub closed : Option Closed
 
 abbrev pub peeking_code : {X : Type 0} → Coded X → Coded (Peeking X)
 peeking_code {X} item =
-    code_by (ℕ × (List X × ℕ)) (coded× coded_ℕ (coded× (coded_list item) coded_ℕ)) (λ seen. (seen.received, (seen.shown, seen.peeked)))
-    (λ parts. record { received = parts.0; shown = parts.1.0; peeked = parts.1.1 }) (λ _. refl)
+    code_by (ℕ × (List X × (ℕ × Option Closed))) (coded× coded_ℕ (coded× (coded_list item) (coded× coded_ℕ (coded_option the_row.coded))))
+    (λ seen. (seen.received, (seen.shown, (seen.peeked, seen.closed))))
+    (λ parts. record { received = parts.0; shown = parts.1.0; peeked = parts.1.1.0; closed = parts.1.1.1 }) (λ _. refl)
 
 -- how many items it may let go: what it was lent, or what it looked at
 abbrev pub may_consume : {X : Type 0} → Peeking X → ℕ

@@ -14,6 +14,7 @@ mod send_end;
 pub use blocking_lock::OwnerWaker;
 pub use drain_end::DrainEnd;
 pub use fill_end::FillEnd;
+pub use locked::Closed;
 pub use pair::{
     PieceMemory, link, link_drain, link_in, link_in_over, link_over, unlink_drain, unlink_in,
 };

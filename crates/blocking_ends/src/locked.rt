@@ -13,6 +13,7 @@ use blocking_core::pipe::{
 use blocking_lock::OwnerWaker;
 use blocking_pool::pool::{JobNo, WakeNote};
 use std::marker::{Model, PhantomData};
+pub use tally::Closed;
 pub(crate) use tally::Tally;
 
 /// A pipe into which a job sends and from which its owner receives.
@@ -157,6 +158,17 @@ impl<X: Drop, R: PlaceRule<X>, S: Store<X>> JobToOwner<X, R, S> {
         ensures waker { result ≡ self.old.pipe.owner_seat }
     {
         self.pipe.close_job()
+    }
+
+    /// That the job's end is closed, where it is.
+    pub(crate) fn closed(&self) -> Option<Closed>
+        ensures { IsSome result ↔ (self.now.pipe.is_job_open ≡ false) }
+    {
+        if self.pipe.is_job_open() {
+            None
+        } else {
+            Some(Closed::new())
+        }
     }
 
     /// The owner takes the first item, which holds at its place, or finds the end, at which the items may end.
@@ -456,6 +468,17 @@ impl<X: Drop, R: PlaceRule<X>, S: Store<X>> OwnerToJob<X, R, S> {
         ensures waker { result ≡ self.old.pipe.owner_seat }
     {
         self.pipe.close_job()
+    }
+
+    /// That the job's end is closed, where it is.
+    pub(crate) fn closed(&self) -> Option<Closed>
+        ensures { IsSome result ↔ (self.now.pipe.is_job_open ≡ false) }
+    {
+        if self.pipe.is_job_open() {
+            None
+        } else {
+            Some(Closed::new())
+        }
     }
 }
 

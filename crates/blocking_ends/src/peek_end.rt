@@ -1,8 +1,8 @@
 //! The end of a job that receives from its owner.
-ghost use Rattle.std.specs.Prelude.{◌≡◌, ◌<◌, ◌≤◌, ◌+◌, ◌-◌, [], length, max, take, drop, vec_capacity};
+ghost use Rattle.std.specs.Prelude.{◌≡◌, ◌<◌, ◌≤◌, ◌+◌, ◌-◌, [], length, max, take, drop, vec_capacity, None, IsSome};
 
 use crate::hand::Hand;
-use crate::locked::{OwnerToJob, Tally};
+use crate::locked::{Closed, OwnerToJob, Tally};
 use crate::rule::PlaceRule;
 use blocking_core::pipe::{CopyStore, Loan, Peeked, Store};
 use blocking_lock::{OwnerWaker, enter_where};
@@ -28,6 +28,7 @@ pub struct PeekEnd<X: Drop, R: PlaceRule<X>, S: Store<X>, H: Wait + Copy> {
     lent: Loan,
     // How many items the last peek showed that weren't consumed since.
     peeked: usize,
+    closed: Option<Closed>,
     rt: H,
 }
 
@@ -39,7 +40,7 @@ impl<X: Drop, R: PlaceRule<X>, S: Store<X>, H: Wait + Copy> Model for PeekEnd<X,
 
     ghost coded = { peeking_code X.code };
 
-    ghost view = { λ e. record { received = e.hand.received; shown = e.hand.left; peeked = e.peeked } };
+    ghost view = { λ e. record { received = e.hand.received; shown = e.hand.left; peeked = e.peeked; closed = e.closed } };
 
     ghost invariant = { λ e. (e.consumed ≡ e.hand.received) × (e.lent ≡ length e.hand.left) };
 }
@@ -60,7 +61,7 @@ impl<X: Drop, R: PlaceRule<X>, S: Store<X>, H: Wait + Copy> PeekEnd<X, R, S, H> 
         requires none { (consumed ≡ 0) × (lent ≡ 0) }
         requires some { 0 < most }
         requires fits { most ≤ vec_capacity piece }
-        ensures { result ≡ record { received = 0; shown = []; peeked = 0 } }
+        ensures { result ≡ record { received = 0; shown = []; peeked = 0; closed = None } }
     {
         PeekEnd {
             pipe,
@@ -68,6 +69,7 @@ impl<X: Drop, R: PlaceRule<X>, S: Store<X>, H: Wait + Copy> PeekEnd<X, R, S, H> 
             consumed,
             lent,
             peeked: 0,
+            closed: None,
             rt,
         }
     }
@@ -83,6 +85,7 @@ impl<X: Drop, R: PlaceRule<X>, S: Store<X>, H: Wait + Copy> PeekEnd<X, R, S, H> 
             consumed: _,
             lent: _,
             peeked: _,
+            closed: _,
             rt: _,
         } = self;
         hand.into_parts()
@@ -150,9 +153,20 @@ impl<X: Drop, R: PlaceRule<X>, S: Store<X>, H: Wait + Copy> PeekEnd<X, R, S, H> 
 
     /// Closes this end: nothing more is sent. Answers the waker of an owner who waits.
     pub fn close(&mut self) -> Option<OwnerWaker>
-        ensures { self.new ≡ self.old }
+        ensures rest { self.new ≡ record self.old { closed = self.new.closed } }
+        ensures closed { IsSome self.new.closed }
     {
-        Self::enter(&self.pipe, &self.rt, &self.consumed, &self.lent, 0).close_job()
+        let mut pipe = Self::enter(&self.pipe, &self.rt, &self.consumed, &self.lent, 0);
+        let waker = pipe.close_job();
+        self.closed = pipe.closed();
+        waker
+    }
+
+    /// That this end was closed, once it was.
+    pub fn closed(&self) -> Option<Closed>
+        ensures { result ≡ self.now.closed }
+    {
+        self.closed
     }
 }
 

@@ -1,7 +1,7 @@
 //! The end of a job that sends to its owner.
-ghost use Rattle.std.specs.Prelude.{◌≡◌, ◌<◌, ◌≤◌, ◌+◌, ◌-◌, length, take, vec_capacity, IsNone};
+ghost use Rattle.std.specs.Prelude.{◌≡◌, ◌<◌, ◌≤◌, ◌+◌, ◌-◌, length, take, vec_capacity, IsNone, IsSome};
 
-use crate::locked::{JobToOwner, Tally};
+use crate::locked::{Closed, JobToOwner, Tally};
 use crate::rule::PlaceRule;
 use blocking_core::pipe::{CopyStore, Put, Room, Sending, Space, Store};
 use blocking_lock::{OwnerWaker, enter_where};
@@ -22,6 +22,7 @@ pub struct SendEnd<X: Drop, R: PlaceRule<X>, S: Store<X>, H: Wait + Copy> {
     sent: Tally,
     // What is left of the room that was told.
     free: Space,
+    closed: Option<Closed>,
     rt: H,
 }
 
@@ -37,6 +38,7 @@ impl<X: Drop, R: PlaceRule<X>, S: Store<X>, H: Wait + Copy> SendEnd<X, R, S, H> 
             pipe,
             sent,
             free: Space::none(),
+            closed: None,
             rt,
         }
     }
@@ -102,8 +104,19 @@ impl<X: Drop, R: PlaceRule<X>, S: Store<X>, H: Wait + Copy> SendEnd<X, R, S, H> 
         requires { R.ended self.old.sent }
         ensures sent { self.new.sent ≡ self.old.sent }
         ensures free { self.new.free ≡ self.old.free }
+        ensures closed { IsSome self.new.closed }
     {
-        Self::enter(&self.pipe, &self.rt, &self.sent, &self.free).close_job()
+        let mut pipe = Self::enter(&self.pipe, &self.rt, &self.sent, &self.free);
+        let waker = pipe.close_job();
+        self.closed = pipe.closed();
+        waker
+    }
+
+    /// That this end was closed, once it was.
+    pub fn closed(&self) -> Option<Closed>
+        ensures { result ≡ self.now.closed }
+    {
+        self.closed
     }
 }
 

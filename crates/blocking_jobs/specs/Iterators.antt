@@ -92,3 +92,8 @@ Fits Close None (Some iterator) = Unit {0}
 Fits Finish None (Some iterator) = Unit {0}
 Fits Done None iterator = Unit {0}
 Fits action hand iterator = ⊥
+
+-- a job that has its handle to give back has closed its end of the pipe
+abbrev pub HasClosed : {C : Type 0} → ItemAction → Option C → Type 0
+HasClosed Finish closed = IsSome closed
+HasClosed action closed = Unit {0}

@@ -75,3 +75,8 @@ Fits may_give PutResult None (Some handle) (Some gave) = may_give gave
 Fits may_give Finish None (Some handle) None = Unit {0}
 Fits may_give Done None handle None = Unit {0}
 Fits may_give action operation handle gave = ⊥
+
+-- a job that has its handle to give back has put the result of its operation
+abbrev pub HasPut : {G : Type 0} → OperationAction → Option G → Type 0
+HasPut Finish put = IsSome put
+HasPut action put = Unit {0}

@@ -117,3 +117,8 @@ module _ {T : Type 0} where
   Fits Deliver work = ⊥
   Fits Done work = Unit {0}
   Fits action None = ⊥
+
+-- a job that has its handle to give back has closed its end of the pipe
+abbrev pub HasClosed : {C : Type 0} → ReadAction → Option C → Type 0
+HasClosed Finish closed = IsSome closed
+HasClosed action closed = Unit {0}

@@ -113,3 +113,14 @@ module _ {T : Type 0} where
   Fits Deliver work = ⊥
   Fits Done work = Unit {0}
   Fits action None = ⊥
+
+-- a job that has its handle to give back has closed its end of the pipe
+abbrev pub HasClosed : {C : Type 0} → WriteAction → Option C → Type 0
+HasClosed Finish closed = IsSome closed
+HasClosed action closed = Unit {0}
+
+-- a job that closes its end, or has its handle to give back, has asked its writer to flush
+abbrev pub HasFlushed : {F : Type 0} → WriteAction → Option F → Type 0
+HasFlushed Close flushed = IsSome flushed
+HasFlushed Finish flushed = IsSome flushed
+HasFlushed action flushed = Unit {0}

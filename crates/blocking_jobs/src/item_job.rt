@@ -3,7 +3,7 @@ ghost use Rattle.std.specs.Prelude.{◌≡◌, None, Some};
 ghost use Rattle.blocking_core.specs.declared.job.item.ItemAction.TheVariants.{Next, Send, Close, Finish, Deliver};
 ghost use Rattle.blocking_core.specs.Items.{new_item, item_next};
 
-use crate::link::{Link, MayFail};
+use crate::link::{Given, Link, MayFail};
 use blocking_core::job::{ItemAction, ItemAnswer, ItemCore};
 use blocking_core::pipe::{RingStore, Sending};
 use blocking_core::pool::{Carries, Job, JobNo, JobStep};
@@ -24,6 +24,8 @@ pub struct ItemJob<T: Iterator<Item = I> + Drop, I: Drop, H: Wait + Copy> {
     // The item that the iterator gave, until it is sent.
     hand: Option<I>,
     end: SendEnd<I, AnyPlace, RingStore, H>,
+    // That the iterator was given back.
+    given: Option<Given>,
     // The waker that was taken out of the owner's seat, and has to be called.
     waker: OwnerWaker,
     link: Arc<Link<T, MayFail>>,
@@ -31,7 +33,8 @@ pub struct ItemJob<T: Iterator<Item = I> + Drop, I: Drop, H: Wait + Copy> {
 }
 
 impl<T: Iterator<Item = I> + Drop, I: Drop, H: Wait + Copy> Model for ItemJob<T, I, H> {
-    ghost use Rattle.blocking_jobs.specs.Iterators.{ItemSeen, item_code, Fits};
+    ghost use Rattle.blocking_jobs.specs.Iterators.{ItemSeen, item_code, Fits, HasClosed};
+    ghost use Rattle.blocking_jobs.specs.Works.{IsKept};
 
     ghost Value = { ItemSeen T I };
 
@@ -40,7 +43,10 @@ impl<T: Iterator<Item = I> + Drop, I: Drop, H: Wait + Copy> Model for ItemJob<T,
     ghost view = { λ j. record { core = j.core; iterator = j.iterator; hand = j.hand; sent = j.end.sent } };
 
     // (nothing is promised of an iterator after its end, so it is one that may always be asked)
-    ghost invariant = { λ j. ((state : T) → T.can_next state) × Fits j.core.next j.hand j.iterator };
+    ghost invariant = { λ j. ((state : T) → T.can_next state)
+        × Fits j.core.next j.hand j.iterator
+        × HasClosed j.core.next j.end.closed
+        × IsKept j.iterator j.given };
 }
 
 impl<T: Iterator<Item = I> + Drop, I: Drop, H: Wait + Copy> ItemJob<T, I, H> {
@@ -61,6 +67,7 @@ impl<T: Iterator<Item = I> + Drop, I: Drop, H: Wait + Copy> ItemJob<T, I, H> {
             iterator: Some(iterator),
             hand: None,
             end,
+            given: None,
             waker: None,
             link,
             rt,
@@ -76,6 +83,7 @@ impl<T: Iterator<Item = I> + Drop, I: Drop, H: Wait + Copy> ItemJob<T, I, H> {
             iterator,
             hand: _,
             end: _,
+            given: _,
             waker: _,
             link: _,
             rt: _,
@@ -144,7 +152,8 @@ impl<T: Iterator<Item = I> + Drop, I: Drop, H: Wait + Copy> ItemJob<T, I, H> {
         let Some(handle) = self.iterator.take() else {
             unreachable!()
         };
-        let wake = self.link.give_back(&self.rt, handle, None);
+        let (wake, given) = self.link.give_back(&self.rt, handle, None);
+        self.given = Some(given);
         let woke = wake.is_some();
         self.waker = wake.flatten();
         self.core.answer(ItemAnswer::Finished { woke });
@@ -173,6 +182,7 @@ impl<T: Iterator<Item = I> + Drop, I: Drop, H: Wait + Copy> Drop for ItemJob<T, 
             iterator,
             hand,
             end: _,
+            given: _,
             waker,
             link,
             rt,

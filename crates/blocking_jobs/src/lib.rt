@@ -1,6 +1,7 @@
 //! The jobs to which a handle is lent, each with the pipe that it feeds or empties, and the way on which the handle comes back.
 #![tactic(auto)]
 
+mod flush;
 mod item_job;
 mod link;
 mod op_job;

@@ -6,7 +6,7 @@ ghost use Rattle.futures.specs.Task.{IsArmed, Keeps};
 use blocking_core::io::JobFault;
 use blocking_core::pipe::LendingStore;
 use blocking_core::task::{OfSlot, Put, Seat};
-use blocking_lock::{AnyOf, LockedSlot, OwnerWaker};
+use blocking_lock::{AnyOf, Left, LockedSlot, OwnerWaker};
 use futures::task::{Context, Source};
 use std::alloc::{AllocError, AllocGlobal};
 use std::io;
@@ -31,6 +31,24 @@ pub struct Returned<T: Drop, X: Drop> {
     pub told: X,
 }
 
+/// The proof that a handle or a result was left in its slot, or dropped since its owner wants it no more. Only [`give`] makes it.
+#[derive(Drop)]
+pub(crate) struct Given(());
+
+/// Leaves a handle or a result in its slot, and answers the waker of an owner who waits.
+pub(crate) fn give<A: Left<Value: Drop>, R: Wait>(
+    rt: &R,
+    slot: &LockedSlot<A>,
+    value: A::Value,
+) -> (Option<OwnerWaker>, Given)
+    requires { A.may_be value }
+{
+    let Put { back, wake } = slot.put(rt, value);
+    // (one that nobody wants is dropped under no lock)
+    drop(back);
+    (wake, Given(()))
+}
+
 /// What the owner and the job share.
 #[derive(Drop)]
 pub struct Link<T: Drop, X: Drop> {
@@ -46,11 +64,13 @@ impl<T: Drop, X: Drop> Link<T, X> {
     }
 
     /// Gives the handle back, and answers the waker of an owner who waits.
-    pub(crate) fn give_back<R: Wait>(&self, rt: &R, handle: T, told: X) -> Option<OwnerWaker> {
-        let Put { back, wake } = self.slot.put(rt, Returned { handle, told });
-        // (a handle that nobody wants is dropped under no lock)
-        drop(back);
-        wake
+    pub(crate) fn give_back<R: Wait>(
+        &self,
+        rt: &R,
+        handle: T,
+        told: X,
+    ) -> (Option<OwnerWaker>, Given) {
+        give(rt, &self.slot, Returned { handle, told })
     }
 
     /// Gives the slot up: no handle will come. Answers the waker of an owner who waits.

@@ -4,10 +4,10 @@ ghost use Rattle.futures.specs.Task.{IsArmed, Keeps};
 ghost use Rattle.blocking_core.specs.declared.job.operation.OperationAction.TheVariants.{Call, PutResult, Finish, Deliver};
 ghost use Rattle.blocking_core.specs.Operations.{new_operation, operation_next};
 
-use crate::link::{Link, MayFail};
+use crate::link::{Given, Link, MayFail, give};
 use blocking_core::job::{OperationAction, OperationAnswer, OperationCore};
 use blocking_core::pool::{Carries, Job, JobNo, JobStep};
-use blocking_core::task::{CallOn, OfSlot, Put, Seat};
+use blocking_core::task::{CallOn, OfSlot, Seat};
 use blocking_lock::{Left, LockedSlot, OwnerWaker};
 use futures::task::{Context, Source};
 use std::alloc::{AllocError, AllocGlobal};
@@ -82,6 +82,9 @@ pub struct OpJob<F: CallOn<T, Out: Drop> + Drop, T: Drop, H: Wait + Copy> {
     handle: Option<T>,
     // The result, from the call until it is put.
     gave: Option<F::Out>,
+    // That it was put, and that the handle was given back.
+    put: Option<Given>,
+    given: Option<Given>,
     // The waker that was taken out of an owner's seat, and has to be called.
     waker: OwnerWaker,
     place: Arc<LockedSlot<ResultOf<F, T>>>,
@@ -90,7 +93,8 @@ pub struct OpJob<F: CallOn<T, Out: Drop> + Drop, T: Drop, H: Wait + Copy> {
 }
 
 impl<F: CallOn<T, Out: Drop> + Drop, T: Drop, H: Wait + Copy> Model for OpJob<F, T, H> {
-    ghost use Rattle.blocking_jobs.specs.Operators.{OpSeen, op_code, Fits};
+    ghost use Rattle.blocking_jobs.specs.Operators.{OpSeen, op_code, Fits, HasPut};
+    ghost use Rattle.blocking_jobs.specs.Works.{IsKept};
 
     ghost Value = { OpSeen F T F.Out };
 
@@ -98,7 +102,9 @@ impl<F: CallOn<T, Out: Drop> + Drop, T: Drop, H: Wait + Copy> Model for OpJob<F,
 
     ghost view = { λ j. record { core = j.core; operation = j.operation; handle = j.handle; gave = j.gave } };
 
-    ghost invariant = { λ j. Fits F.may_give j.core.next j.operation j.handle j.gave };
+    ghost invariant = { λ j. Fits F.may_give j.core.next j.operation j.handle j.gave
+        × HasPut j.core.next j.put
+        × IsKept j.handle j.given };
 }
 
 impl<F: CallOn<T, Out: Drop> + Drop, T: Drop, H: Wait + Copy> OpJob<F, T, H> {
@@ -119,6 +125,8 @@ impl<F: CallOn<T, Out: Drop> + Drop, T: Drop, H: Wait + Copy> OpJob<F, T, H> {
             operation: Some(operation),
             handle: Some(handle),
             gave: None,
+            put: None,
+            given: None,
             waker: None,
             place,
             link,
@@ -135,6 +143,8 @@ impl<F: CallOn<T, Out: Drop> + Drop, T: Drop, H: Wait + Copy> OpJob<F, T, H> {
             operation,
             handle,
             gave: _,
+            put: _,
+            given: _,
             waker: _,
             place: _,
             link: _,
@@ -165,9 +175,8 @@ impl<F: CallOn<T, Out: Drop> + Drop, T: Drop, H: Wait + Copy> OpJob<F, T, H> {
         let Some(gave) = self.gave.take() else {
             unreachable!()
         };
-        let Put { back, wake } = self.place.put(&self.rt, gave);
-        // (a result that nobody wants is dropped under no lock)
-        drop(back);
+        let (wake, put) = give(&self.rt, &self.place, gave);
+        self.put = Some(put);
         let woke = wake.is_some();
         self.waker = wake.flatten();
         self.core.answer(OperationAnswer::ResultPut { woke });
@@ -181,7 +190,8 @@ impl<F: CallOn<T, Out: Drop> + Drop, T: Drop, H: Wait + Copy> OpJob<F, T, H> {
         let Some(handle) = self.handle.take() else {
             unreachable!()
         };
-        let wake = self.link.give_back(&self.rt, handle, None);
+        let (wake, given) = self.link.give_back(&self.rt, handle, None);
+        self.given = Some(given);
         let woke = wake.is_some();
         self.waker = wake.flatten();
         self.core.answer(OperationAnswer::Finished { woke });
@@ -210,6 +220,8 @@ impl<F: CallOn<T, Out: Drop> + Drop, T: Drop, H: Wait + Copy> Drop for OpJob<F, 
             operation,
             handle,
             gave,
+            put: _,
+            given: _,
             waker,
             place,
             link,

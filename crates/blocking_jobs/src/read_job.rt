@@ -4,12 +4,12 @@ ghost use Rattle.std.specs.Io.KnownBytes.{ReadConsumes};
 ghost use Rattle.blocking_core.specs.declared.job.read.ReadAction.TheVariants.{FindRoom, Read as ReadPiece, Put as PutPiece, Close, Finish, Deliver};
 ghost use Rattle.blocking_core.specs.Reading.{new_read, read_next};
 
-use crate::link::{Link, MayFail, SessionStore};
+use crate::link::{Given, Link, MayFail, SessionStore};
 use blocking_core::io::JobFault;
 use blocking_core::job::{ReadAction, ReadAnswer, ReadCore};
 use blocking_core::pipe::{Put, Room};
 use blocking_core::pool::{Carries, Job, JobNo, JobStep};
-use blocking_ends::{AnyPlace, SendEnd};
+use blocking_ends::{AnyPlace, Closed, SendEnd};
 use blocking_lock::OwnerWaker;
 use std::io;
 use std::io::Read;
@@ -59,6 +59,9 @@ pub struct ReadJob<T: Drop, H: Wait + Copy> {
     // The reader at work, until it is given back.
     work: Option<Reading<T, H>>,
     fault: MayFail,
+    // That its end was closed, and that the reader was given back.
+    closed: Option<Closed>,
+    given: Option<Given>,
     // The waker that was taken out of the owner's seat, and has to be called.
     waker: OwnerWaker,
     link: Arc<Link<T, ReadBack<H>>>,
@@ -66,7 +69,8 @@ pub struct ReadJob<T: Drop, H: Wait + Copy> {
 }
 
 impl<T: Drop, H: Wait + Copy> Model for ReadJob<T, H> {
-    ghost use Rattle.blocking_jobs.specs.Readers.{ReadSeen, read_code, Fits};
+    ghost use Rattle.blocking_jobs.specs.Readers.{ReadSeen, read_code, Fits, HasClosed};
+    ghost use Rattle.blocking_jobs.specs.Works.{IsKept};
 
     ghost Value = { ReadSeen T };
 
@@ -74,7 +78,7 @@ impl<T: Drop, H: Wait + Copy> Model for ReadJob<T, H> {
 
     ghost view = { λ j. record { core = j.core; work = j.work; fault = j.fault } };
 
-    ghost invariant = { λ j. Fits j.core.next j.work };
+    ghost invariant = { λ j. Fits j.core.next j.work × HasClosed j.core.next j.closed × IsKept j.work j.given };
 }
 
 // Asks the reader for at most so many bytes, all of which the piece holds.
@@ -111,6 +115,8 @@ impl<T: Drop, H: Wait + Copy> ReadJob<T, H> {
             core: ReadCore::new(),
             work: Some(Reading { reader, end, piece }),
             fault: None,
+            closed: None,
+            given: None,
             waker: None,
             link,
             rt,
@@ -125,6 +131,8 @@ impl<T: Drop, H: Wait + Copy> ReadJob<T, H> {
             core: _,
             work,
             fault: _,
+            closed: _,
+            given: _,
             waker: _,
             link: _,
             rt: _,
@@ -212,6 +220,7 @@ impl<T: Read + Drop, H: Wait + Copy> ReadJob<T, H> {
             unreachable!()
         };
         let seat = work.end.close();
+        self.closed = work.end.closed();
         let woke = seat.is_some();
         self.waker = seat.flatten();
         self.core.answer(ReadAnswer::Closed { woke });
@@ -230,7 +239,8 @@ impl<T: Read + Drop, H: Wait + Copy> ReadJob<T, H> {
             end,
             piece,
         };
-        let wake = self.link.give_back(&self.rt, reader, told);
+        let (wake, given) = self.link.give_back(&self.rt, reader, told);
+        self.given = Some(given);
         let woke = wake.is_some();
         self.waker = wake.flatten();
         self.core.answer(ReadAnswer::Finished { woke });
@@ -258,6 +268,8 @@ impl<T: Drop, H: Wait + Copy> Drop for ReadJob<T, H> {
             core,
             work,
             fault: _,
+            closed: _,
+            given: _,
             waker,
             link,
             rt,

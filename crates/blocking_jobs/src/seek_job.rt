@@ -4,7 +4,7 @@ ghost use Rattle.blocking_core.specs.declared.job.seek.SeekAction.TheVariants.{S
 ghost use Rattle.blocking_core.specs.Seeks.{new_seek, seek_next};
 ghost use Rattle.blocking_jobs.specs.Seekers.{seek_from};
 
-use crate::link::{Link, Sought};
+use crate::link::{Given, Link, Sought};
 use blocking_core::io::Position;
 use blocking_core::job::{SeekAction, SeekAnswer, SeekCore};
 use blocking_core::pool::{Carries, Job, JobNo, JobStep};
@@ -24,6 +24,8 @@ pub struct SeekJob<T: Drop, H: Wait + Copy> {
     to: Position,
     // What came of the seek, once it is made and until it is given back.
     sought: Option<Sought>,
+    // That the handle was given back.
+    given: Option<Given>,
     // The waker that was taken out of the owner's seat, and has to be called.
     waker: OwnerWaker,
     link: Arc<Link<T, Sought>>,
@@ -32,6 +34,7 @@ pub struct SeekJob<T: Drop, H: Wait + Copy> {
 
 impl<T: Drop, H: Wait + Copy> Model for SeekJob<T, H> {
     ghost use Rattle.blocking_jobs.specs.Seekers.{SeekSeen, seek_code, Fits};
+    ghost use Rattle.blocking_jobs.specs.Works.{IsKept};
 
     ghost Value = { SeekSeen T };
 
@@ -39,7 +42,7 @@ impl<T: Drop, H: Wait + Copy> Model for SeekJob<T, H> {
 
     ghost view = { λ j. record { core = j.core; handle = j.handle; to = j.to; sought = j.sought } };
 
-    ghost invariant = { λ j. Fits j.core.next j.sought j.handle };
+    ghost invariant = { λ j. Fits j.core.next j.sought j.handle × IsKept j.handle j.given };
 }
 
 // A position, as a handle of the system is asked for it.
@@ -65,6 +68,7 @@ impl<T: Drop, H: Wait + Copy> SeekJob<T, H> {
             handle: Some(handle),
             to,
             sought: None,
+            given: None,
             waker: None,
             link,
             rt,
@@ -80,6 +84,7 @@ impl<T: Drop, H: Wait + Copy> SeekJob<T, H> {
             handle,
             to: _,
             sought: _,
+            given: _,
             waker: _,
             link: _,
             rt: _,
@@ -117,7 +122,8 @@ impl<T: Seek + Drop, H: Wait + Copy> SeekJob<T, H> {
         let Some(sought) = self.sought.take() else {
             unreachable!()
         };
-        let wake = self.link.give_back(&self.rt, handle, sought);
+        let (wake, given) = self.link.give_back(&self.rt, handle, sought);
+        self.given = Some(given);
         let woke = wake.is_some();
         self.waker = wake.flatten();
         self.core.answer(SeekAnswer::Finished { woke });
@@ -146,6 +152,7 @@ impl<T: Drop, H: Wait + Copy> Drop for SeekJob<T, H> {
             handle,
             to: _,
             sought: _,
+            given: _,
             waker,
             link,
             rt,

@@ -5,11 +5,12 @@ ghost use Rattle.std.specs.Io.KnownBytes.{WriteAppends};
 ghost use Rattle.blocking_core.specs.declared.job.write.WriteAction.TheVariants.{Peek, Write as WritePiece, Consume, Flush, Close, Finish, Deliver};
 ghost use Rattle.blocking_core.specs.Writing.{new_write, write_next};
 
-use crate::link::{Link, MayFail, SessionStore};
+use crate::flush::{Flushed, flush};
+use crate::link::{Given, Link, MayFail, SessionStore};
 use blocking_core::job::{PIECE, WriteAction, WriteAnswer, WriteCore};
 use blocking_core::pipe::Peeked;
 use blocking_core::pool::{Carries, Job, JobNo, JobStep};
-use blocking_ends::{AnyPlace, PeekEnd};
+use blocking_ends::{AnyPlace, Closed, PeekEnd};
 use blocking_lock::OwnerWaker;
 use std::io;
 use std::io::Write;
@@ -52,6 +53,10 @@ pub struct WriteJob<T: Drop, H: Wait + Copy> {
     core: WriteCore<io::Error>,
     // The writer at work, until it is given back.
     work: Option<Writing<T, H>>,
+    // That the writer was asked to flush, that the job's end was closed, and that the writer was given back.
+    flushed: Option<Flushed>,
+    closed: Option<Closed>,
+    given: Option<Given>,
     // The waker that was taken out of the owner's seat, and has to be called.
     waker: OwnerWaker,
     link: Arc<Link<T, WriteBack<H>>>,
@@ -59,7 +64,8 @@ pub struct WriteJob<T: Drop, H: Wait + Copy> {
 }
 
 impl<T: Drop, H: Wait + Copy> Model for WriteJob<T, H> {
-    ghost use Rattle.blocking_jobs.specs.Writers.{WriteSeen, write_code, Fits};
+    ghost use Rattle.blocking_jobs.specs.Writers.{WriteSeen, write_code, Fits, HasClosed, HasFlushed};
+    ghost use Rattle.blocking_jobs.specs.Works.{IsKept};
 
     ghost Value = { WriteSeen T };
 
@@ -67,7 +73,10 @@ impl<T: Drop, H: Wait + Copy> Model for WriteJob<T, H> {
 
     ghost view = { λ j. record { core = j.core; work = j.work } };
 
-    ghost invariant = { λ j. Fits j.core.next j.work };
+    ghost invariant = { λ j. Fits j.core.next j.work
+        × HasFlushed j.core.next j.flushed
+        × HasClosed j.core.next j.closed
+        × IsKept j.work j.given };
 }
 
 // Offers the writer so many bytes of the piece.
@@ -98,6 +107,9 @@ impl<T: Drop, H: Wait + Copy> WriteJob<T, H> {
         WriteJob {
             core: WriteCore::new(),
             work: Some(Writing { writer, end }),
+            flushed: None,
+            closed: None,
+            given: None,
             waker: None,
             link,
             rt,
@@ -111,6 +123,9 @@ impl<T: Drop, H: Wait + Copy> WriteJob<T, H> {
         let WriteJob {
             core: _,
             work,
+            flushed: _,
+            closed: _,
+            given: _,
             waker: _,
             link: _,
             rt: _,
@@ -183,7 +198,9 @@ impl<T: Write + Drop, H: Wait + Copy> WriteJob<T, H> {
         let Some(work) = &mut self.work else {
             unreachable!()
         };
-        match work.writer.flush() {
+        let (answer, flushed) = flush(&mut work.writer);
+        self.flushed = Some(flushed);
+        match answer {
             Ok(()) => self.core.answer(WriteAnswer::Flushed),
             Err(error) => self.core.answer(WriteAnswer::Failed(error)),
         }
@@ -198,6 +215,7 @@ impl<T: Write + Drop, H: Wait + Copy> WriteJob<T, H> {
             unreachable!()
         };
         let seat = work.end.close();
+        self.closed = work.end.closed();
         let woke = seat.is_some();
         self.waker = seat.flatten();
         self.core.answer(WriteAnswer::Closed { woke });
@@ -212,9 +230,9 @@ impl<T: Write + Drop, H: Wait + Copy> WriteJob<T, H> {
             unreachable!()
         };
         let fault = self.core.fault();
-        let wake = self
-            .link
-            .give_back(&self.rt, writer, WriteBack { fault, end });
+        let told = WriteBack { fault, end };
+        let (wake, given) = self.link.give_back(&self.rt, writer, told);
+        self.given = Some(given);
         let woke = wake.is_some();
         self.waker = wake.flatten();
         self.core.answer(WriteAnswer::Finished { woke });
@@ -241,6 +259,9 @@ impl<T: Drop, H: Wait + Copy> Drop for WriteJob<T, H> {
         let WriteJob {
             core,
             work,
+            flushed: _,
+            closed: _,
+            given: _,
             waker,
             link,
             rt,

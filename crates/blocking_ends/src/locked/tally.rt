@@ -1,4 +1,4 @@
-//! What a pipe has counted, for an end that keeps it.
+//! What an end keeps of its pipe: what that has counted, and that it was closed.
 use std::marker::Model;
 
 /// How many items were sent into a pipe, or received from it, as that itself counts them. Only the pipe's sections make one, so an end whose count
@@ -30,5 +30,16 @@ impl Tally {
         ensures { result ≡ self.now }
     {
         self.count
+    }
+}
+
+/// The proof that a job has closed its end of a pipe. Only the pipe's sections make it.
+#[derive(Clone, Copy, Debug)]
+pub struct Closed(());
+
+impl Closed {
+    // (for the pipe under its lock alone)
+    pub(super) fn new() -> Closed {
+        Closed(())
     }
 }
