@@ -1,12 +1,13 @@
 //! A thread pool for blocking I/O, as its users name it.
 #![tactic(auto)]
 
+pub use blocking_core::io::Fault;
 pub use blocking_core::pipe::{
     CopyStore, FlatMemory, FlatStore, LendingMemory, LendingStore, RingMemory, RingStore, Store,
 };
 pub use blocking_ends::{
-    AnyPlace, DrainEnd, FillEnd, OwnerWaker, PeekEnd, PieceMemory, PlaceRule, RecvEnd, SendEnd,
-    link, link_drain, link_in, link_in_over, link_over, unlink_drain, unlink_in,
+    AnyPlace, Closed, DrainEnd, FillEnd, OwnerWaker, PeekEnd, PieceMemory, PlaceRule, RecvEnd,
+    SendEnd, link, link_drain, link_in, link_in_over, link_over, unlink_drain, unlink_in,
 };
 pub use blocking_executor::{
     CallJob, Cancel, Counts, Executor, Host, Runtime, Task, executor, job,

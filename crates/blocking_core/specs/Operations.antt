@@ -1,36 +1,36 @@
 -- What the job of an operation does after an answer.
 use Rattle.std.specs.Prelude.{Bool, true, false}
 use Rattle.blocking_core.specs.Machines.{Machine, machine, wake_first}
-use Rattle.blocking_core.specs.declared.job.operation.OperationAction.{OperationAction}
-use Rattle.blocking_core.specs.declared.job.operation.OperationAction.TheVariants.{Call, PutResult, Finish, Deliver, Done}
-use Rattle.blocking_core.specs.declared.job.operation.OperationAnswer.{OperationAnswer}
-use Rattle.blocking_core.specs.declared.job.operation.OperationAnswer.TheVariants as by
+use Rattle.blocking_core.specs.declared.job.operation.OpAction.{OpAction}
+use Rattle.blocking_core.specs.declared.job.operation.OpAction.TheVariants.{Call, PutResult, Finish, Deliver, Done}
+use Rattle.blocking_core.specs.declared.job.operation.OpAnswer.{OpAnswer}
+use Rattle.blocking_core.specs.declared.job.operation.OpAnswer.TheVariants as by
 
 -- a job that hasn't begun
-abbrev pub new_operation : Machine OperationAction
+abbrev pub new_operation : Machine OpAction
 new_operation = machine Call false
 
 -- the next action
-abbrev pub operation_next : Machine OperationAction → OperationAction
+abbrev pub operation_next : Machine OpAction → OpAction
 operation_next core = wake_first core.is_waking Deliver core.next
 
 -- What follows an answer to this action. An operation is called once; its result is in its place before the handle comes back.
 -- An answer to another action changes nothing.
-abbrev pub operation_by : OperationAction → OperationAnswer → Machine OperationAction
+abbrev pub operation_by : OpAction → OpAnswer → Machine OpAction
 operation_by Call by.Returned = machine PutResult false
 operation_by PutResult (by.ResultPut woke) = machine Finish woke
 operation_by Finish (by.Finished woke) = machine Done woke
 operation_by action answer = machine action false
 
 -- a machine that has to call a waker waits for that alone
-abbrev pub operation_after_wake : OperationAction → OperationAnswer → Machine OperationAction
+abbrev pub operation_after_wake : OpAction → OpAnswer → Machine OpAction
 operation_after_wake action by.Delivered = machine action false
 operation_after_wake action answer = machine action true
 
-abbrev pub operation_in : Bool → OperationAction → OperationAnswer → Machine OperationAction
+abbrev pub operation_in : Bool → OpAction → OpAnswer → Machine OpAction
 operation_in true action answer = operation_after_wake action answer
 operation_in false action answer = operation_by action answer
 
 -- the machine after an answer
-abbrev pub operation_after : Machine OperationAction → OperationAnswer → Machine OperationAction
+abbrev pub operation_after : Machine OpAction → OpAnswer → Machine OpAction
 operation_after core answer = operation_in core.is_waking core.next answer

@@ -6,7 +6,7 @@ mod seek;
 mod write;
 
 pub use self::item::{ItemAction, ItemAnswer, ItemCore};
-pub use self::operation::{OperationAction, OperationAnswer, OperationCore};
+pub use self::operation::{OpAction, OpAnswer, OpCore};
 pub use self::read::{PIECE, ReadAction, ReadAnswer, ReadCore};
 pub use self::seek::{SeekAction, SeekAnswer, SeekCore};
 pub use self::write::{WriteAction, WriteAnswer, WriteCore};

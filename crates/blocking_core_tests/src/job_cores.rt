@@ -1,8 +1,7 @@
 //! The decisions of the jobs of iterators, seeks and operations.
 use crate::stop::stop;
 use blocking_core::job::{
-    ItemAction, ItemAnswer, ItemCore, OperationAction, OperationAnswer, OperationCore, SeekAction,
-    SeekAnswer, SeekCore,
+    ItemAction, ItemAnswer, ItemCore, OpAction, OpAnswer, OpCore, SeekAction, SeekAnswer, SeekCore,
 };
 use std::process::Abort;
 
@@ -89,45 +88,27 @@ const SEEKS: &[Row<SeekAnswer, SeekAction>] = &[
     },
 ];
 
-const OPERATIONS: &[Row<OperationAnswer, OperationAction>] = &[
+const OPERATIONS: &[Row<OpAnswer, OpAction>] = &[
     Row {
         name: "the result comes before the handle, and each wakes its owner",
         answers: &[
-            (OperationAnswer::Returned, OperationAction::PutResult),
-            (
-                OperationAnswer::ResultPut { woke: true },
-                OperationAction::Deliver,
-            ),
-            (OperationAnswer::Delivered, OperationAction::Finish),
-            (
-                OperationAnswer::Finished { woke: true },
-                OperationAction::Deliver,
-            ),
-            (OperationAnswer::Delivered, OperationAction::Done),
+            (OpAnswer::Returned, OpAction::PutResult),
+            (OpAnswer::ResultPut { woke: true }, OpAction::Deliver),
+            (OpAnswer::Delivered, OpAction::Finish),
+            (OpAnswer::Finished { woke: true }, OpAction::Deliver),
+            (OpAnswer::Delivered, OpAction::Done),
         ],
     },
     Row {
         name: "answers of another kind change nothing in an operation",
         answers: &[
-            (
-                OperationAnswer::ResultPut { woke: true },
-                OperationAction::Call,
-            ),
-            (OperationAnswer::Returned, OperationAction::PutResult),
-            (
-                OperationAnswer::Finished { woke: true },
-                OperationAction::PutResult,
-            ),
-            (
-                OperationAnswer::ResultPut { woke: false },
-                OperationAction::Finish,
-            ),
-            (OperationAnswer::Returned, OperationAction::Finish),
-            (
-                OperationAnswer::Finished { woke: false },
-                OperationAction::Done,
-            ),
-            (OperationAnswer::Delivered, OperationAction::Done),
+            (OpAnswer::ResultPut { woke: true }, OpAction::Call),
+            (OpAnswer::Returned, OpAction::PutResult),
+            (OpAnswer::Finished { woke: true }, OpAction::PutResult),
+            (OpAnswer::ResultPut { woke: false }, OpAction::Finish),
+            (OpAnswer::Returned, OpAction::Finish),
+            (OpAnswer::Finished { woke: false }, OpAction::Done),
+            (OpAnswer::Delivered, OpAction::Done),
         ],
     },
 ];
@@ -181,20 +162,20 @@ impl Core for SeekCore {
     }
 }
 
-impl Core for OperationCore {
-    type Answer = OperationAnswer;
+impl Core for OpCore {
+    type Answer = OpAnswer;
 
-    type Action = OperationAction;
+    type Action = OpAction;
 
-    fn begin() -> OperationCore {
-        OperationCore::new()
+    fn begin() -> OpCore {
+        OpCore::new()
     }
 
-    fn next_action(&self) -> OperationAction {
+    fn next_action(&self) -> OpAction {
         self.next()
     }
 
-    fn take_answer(&mut self, answer: OperationAnswer) {
+    fn take_answer(&mut self, answer: OpAnswer) {
         self.answer(answer);
     }
 }
@@ -235,5 +216,5 @@ fn seek_is_made_and_finished(rt: HostRuntime) {
 
 #[test]
 fn operation_leaves_its_result_and_then_the_handle(rt: HostRuntime) {
-    play::<OperationCore>(&rt, OperationAction::Call, OPERATIONS);
+    play::<OpCore>(&rt, OpAction::Call, OPERATIONS);
 }

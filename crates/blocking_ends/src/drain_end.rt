@@ -4,7 +4,7 @@ ghost use Rattle.futures.specs.Task.{Covers, Keeps};
 ghost use Rattle.blocking_ends.specs.Answers.{OnFetched, OnFetchEnd, OnFetchWait};
 
 use crate::hand::Hand;
-use crate::locked::{JobToOwner, Tally};
+use crate::locked::{JobToOwner, OfReceived, Tally};
 use crate::rule::PlaceRule;
 use blocking_core::pipe::{Answered, CopyStore, Drained, Fetched, Loan, PipeEnd, Store};
 use blocking_lock::{OwnerWaker, enter_where};
@@ -25,7 +25,7 @@ pub struct DrainEnd<X: Drop, R: PlaceRule<X>, S: Store<X>, H: Wait + Copy> {
     pipe: Arc<Mutex<JobToOwner<X, R, S>>>,
     hand: Hand<X, R>,
     // How many items were fetched in all, and how many are lent.
-    fetched: Tally,
+    fetched: Tally<OfReceived>,
     lent: Loan,
     // That nothing comes any more, once that was seen.
     ended: Option<PipeEnd>,
@@ -40,7 +40,7 @@ impl<X: Drop, R: PlaceRule<X>, S: Store<X>, H: Wait + Copy> DrainEnd<X, R, S, H>
     pub(crate) fn new(
         rt: H,
         pipe: Arc<Mutex<JobToOwner<X, R, S>>>,
-        fetched: Tally,
+        fetched: Tally<OfReceived>,
         lent: Loan,
         piece: Vec<X>,
         most: usize,
@@ -91,7 +91,7 @@ impl<X: Drop, R: PlaceRule<X>, S: Store<X>, H: Wait + Copy> DrainEnd<X, R, S, H>
     fn enter<'a>(
         pipe: &'a Mutex<JobToOwner<X, R, S>>,
         rt: &H,
-        fetched: &Tally,
+        fetched: &Tally<OfReceived>,
         lent: &Loan,
     ) -> MutexGuard<'a, JobToOwner<X, R, S>>
         ensures received { result.value.received ≡ fetched.now }

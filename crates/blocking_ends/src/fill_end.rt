@@ -2,7 +2,7 @@
 ghost use Rattle.std.specs.Prelude.{◌≡◌, ◌<◌, ◌≤◌, ◌+◌, length};
 ghost use Rattle.futures.specs.Task.{Covers, Keeps};
 
-use crate::locked::{OwnerToJob, Tally};
+use crate::locked::{OfSent, OwnerToJob, Tally};
 use crate::rule::PlaceRule;
 use blocking_core::pipe::{Answered, CopyStore, Filled, Store};
 use blocking_lock::{OwnerWaker, enter_where};
@@ -22,7 +22,7 @@ pub struct FillEnd<X: Drop, R: PlaceRule<X>, S: Store<X>, H: Wait + Copy> {
     pipe: Arc<Mutex<OwnerToJob<X, R, S>>>,
     // Where a whole piece is copied under no lock, before it is handed over. A store that takes none has no memory here.
     ready: Vec<X>,
-    sent: Tally,
+    sent: Tally<OfSent>,
     source: Source,
     rt: H,
 }
@@ -31,7 +31,7 @@ impl<X: Drop, R: PlaceRule<X>, S: Store<X>, H: Wait + Copy> FillEnd<X, R, S, H> 
     pub(crate) fn new(
         rt: H,
         pipe: Arc<Mutex<OwnerToJob<X, R, S>>>,
-        sent: Tally,
+        sent: Tally<OfSent>,
         ready: Vec<X>,
     ) -> Self
         ensures { result.sent ≡ sent }
@@ -69,7 +69,7 @@ impl<X: Drop, R: PlaceRule<X>, S: Store<X>, H: Wait + Copy> FillEnd<X, R, S, H> 
     fn enter<'a>(
         pipe: &'a Mutex<OwnerToJob<X, R, S>>,
         rt: &H,
-        sent: &Tally,
+        sent: &Tally<OfSent>,
     ) -> MutexGuard<'a, OwnerToJob<X, R, S>>
         ensures { result.value.sent ≡ sent.now }
     {

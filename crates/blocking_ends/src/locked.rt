@@ -14,7 +14,7 @@ use blocking_lock::OwnerWaker;
 use blocking_pool::pool::{JobNo, WakeNote};
 use std::marker::{Model, PhantomData};
 pub use tally::Closed;
-pub(crate) use tally::Tally;
+pub(crate) use tally::{OfReceived, OfSent, Tally};
 
 /// A pipe into which a job sends and from which its owner receives.
 #[derive(Drop)]
@@ -90,14 +90,14 @@ impl<X: Drop, R: PlaceRule<X>, S: Store<X>> JobToOwner<X, R, S> {
     }
 
     /// How many were sent, for an end that keeps it.
-    pub(crate) fn tally_sent(&self) -> Tally
+    pub(crate) fn tally_sent(&self) -> Tally<OfSent>
         ensures { result ≡ self.now.sent }
     {
         Tally::new(self.sent)
     }
 
     /// How many were received, for an end that keeps it.
-    pub(crate) fn tally_received(&self) -> Tally
+    pub(crate) fn tally_received(&self) -> Tally<OfReceived>
         ensures { result ≡ self.now.received }
     {
         Tally::new(self.received)
@@ -405,14 +405,14 @@ impl<X: Drop, R: PlaceRule<X>, S: Store<X>> OwnerToJob<X, R, S> {
     }
 
     /// How many were sent, for an end that keeps it.
-    pub(crate) fn tally_sent(&self) -> Tally
+    pub(crate) fn tally_sent(&self) -> Tally<OfSent>
         ensures { result ≡ self.now.sent }
     {
         Tally::new(self.sent)
     }
 
     /// How many were received, for an end that keeps it.
-    pub(crate) fn tally_received(&self) -> Tally
+    pub(crate) fn tally_received(&self) -> Tally<OfReceived>
         ensures { result ≡ self.now.received }
     {
         Tally::new(self.received)

@@ -2,7 +2,7 @@
 ghost use Rattle.std.specs.Prelude.{◌≡◌, ◌<◌, ◌≤◌, ◌+◌, ◌-◌, [], length, max, take, drop, vec_capacity, None, IsSome};
 
 use crate::hand::Hand;
-use crate::locked::{Closed, OwnerToJob, Tally};
+use crate::locked::{Closed, OfReceived, OwnerToJob, Tally};
 use crate::rule::PlaceRule;
 use blocking_core::pipe::{CopyStore, Loan, Peeked, Store};
 use blocking_lock::{OwnerWaker, enter_where};
@@ -24,7 +24,7 @@ pub struct PeekEnd<X: Drop, R: PlaceRule<X>, S: Store<X>, H: Wait + Copy> {
     pipe: Arc<Mutex<OwnerToJob<X, R, S>>>,
     hand: Hand<X, R>,
     // How many items were consumed, and how many are lent.
-    consumed: Tally,
+    consumed: Tally<OfReceived>,
     lent: Loan,
     // How many items the last peek showed that weren't consumed since.
     peeked: usize,
@@ -53,7 +53,7 @@ impl<X: Drop, R: PlaceRule<X>, S: Store<X>, H: Wait + Copy> PeekEnd<X, R, S, H> 
     pub(crate) fn new(
         rt: H,
         pipe: Arc<Mutex<OwnerToJob<X, R, S>>>,
-        consumed: Tally,
+        consumed: Tally<OfReceived>,
         lent: Loan,
         piece: Vec<X>,
         most: usize,
@@ -118,7 +118,7 @@ impl<X: Drop, R: PlaceRule<X>, S: Store<X>, H: Wait + Copy> PeekEnd<X, R, S, H> 
     fn enter<'a>(
         pipe: &'a Mutex<OwnerToJob<X, R, S>>,
         rt: &H,
-        consumed: &Tally,
+        consumed: &Tally<OfReceived>,
         lent: &Loan,
         more: usize,
     ) -> MutexGuard<'a, OwnerToJob<X, R, S>>

@@ -2,7 +2,7 @@
 ghost use Rattle.std.specs.Prelude.{◌≡◌, ◌<◌, ◌≤◌, ◌+◌, length, take, drop, IsSome};
 ghost use Rattle.futures.specs.Task.{Covers, Keeps};
 
-use crate::locked::{JobToOwner, Tally};
+use crate::locked::{JobToOwner, OfReceived, Tally};
 use crate::rule::PlaceRule;
 use blocking_core::pipe::{Answered, CopyStore, Drained, PipeEnd, Received, Store};
 use blocking_lock::{OwnerWaker, enter_where};
@@ -20,7 +20,7 @@ use std::sync::{Arc, Mutex, MutexGuard, Wait};
 #[derive(Drop)]
 pub struct RecvEnd<X: Drop, R: PlaceRule<X>, S: Store<X>, H: Wait + Copy> {
     pipe: Arc<Mutex<JobToOwner<X, R, S>>>,
-    received: Tally,
+    received: Tally<OfReceived>,
     // That nothing comes any more, once that was seen.
     ended: Option<PipeEnd>,
     source: Source,
@@ -30,7 +30,11 @@ pub struct RecvEnd<X: Drop, R: PlaceRule<X>, S: Store<X>, H: Wait + Copy> {
 impl<X: Drop, R: PlaceRule<X>, S: Store<X>, H: Wait + Copy> RecvEnd<X, R, S, H> {
     ghost use Rattle.blocking_ends.specs.Answers.{IfReceived, OnEnd, OnWait, got_by_receive};
 
-    pub(crate) fn new(rt: H, pipe: Arc<Mutex<JobToOwner<X, R, S>>>, received: Tally) -> Self
+    pub(crate) fn new(
+        rt: H,
+        pipe: Arc<Mutex<JobToOwner<X, R, S>>>,
+        received: Tally<OfReceived>,
+    ) -> Self
         ensures { result.received ≡ received }
     {
         RecvEnd {
@@ -53,7 +57,7 @@ impl<X: Drop, R: PlaceRule<X>, S: Store<X>, H: Wait + Copy> RecvEnd<X, R, S, H> 
     fn enter<'a>(
         pipe: &'a Mutex<JobToOwner<X, R, S>>,
         rt: &H,
-        received: &Tally,
+        received: &Tally<OfReceived>,
     ) -> MutexGuard<'a, JobToOwner<X, R, S>>
         ensures { result.value.received ≡ received.now }
     {

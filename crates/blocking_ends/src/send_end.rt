@@ -1,7 +1,7 @@
 //! The end of a job that sends to its owner.
 ghost use Rattle.std.specs.Prelude.{◌≡◌, ◌<◌, ◌≤◌, ◌+◌, ◌-◌, length, take, vec_capacity, IsNone, IsSome};
 
-use crate::locked::{Closed, JobToOwner, Tally};
+use crate::locked::{Closed, JobToOwner, OfSent, Tally};
 use crate::rule::PlaceRule;
 use blocking_core::pipe::{CopyStore, Put, Room, Sending, Space, Store};
 use blocking_lock::{OwnerWaker, enter_where};
@@ -19,7 +19,7 @@ use std::sync::{Arc, Mutex, MutexGuard, Wait};
 #[derive(Drop)]
 pub struct SendEnd<X: Drop, R: PlaceRule<X>, S: Store<X>, H: Wait + Copy> {
     pipe: Arc<Mutex<JobToOwner<X, R, S>>>,
-    sent: Tally,
+    sent: Tally<OfSent>,
     // What is left of the room that was told.
     free: Space,
     closed: Option<Closed>,
@@ -30,7 +30,7 @@ impl<X: Drop, R: PlaceRule<X>, S: Store<X>, H: Wait + Copy> SendEnd<X, R, S, H> 
     ghost use Rattle.blocking_core.specs.Pipes.{room};
     ghost use Rattle.blocking_ends.specs.Answers.{IfFree, free_after, sent_by_send, ComesBack};
 
-    pub(crate) fn new(rt: H, pipe: Arc<Mutex<JobToOwner<X, R, S>>>, sent: Tally) -> Self
+    pub(crate) fn new(rt: H, pipe: Arc<Mutex<JobToOwner<X, R, S>>>, sent: Tally<OfSent>) -> Self
         ensures sent { result.sent ≡ sent }
         ensures free { result.free ≡ 0 }
     {
@@ -54,7 +54,7 @@ impl<X: Drop, R: PlaceRule<X>, S: Store<X>, H: Wait + Copy> SendEnd<X, R, S, H> 
     fn enter<'a>(
         pipe: &'a Mutex<JobToOwner<X, R, S>>,
         rt: &H,
-        sent: &Tally,
+        sent: &Tally<OfSent>,
         free: &Space,
     ) -> MutexGuard<'a, JobToOwner<X, R, S>>
         ensures sent { result.value.sent ≡ sent.now }

@@ -76,7 +76,7 @@ impl<F: Call<Out: Drop> + Drop, H: Wait + Copy> CallJob<F, H> {
     }
 
     /// A call that was refused, out of its job, and why it was.
-    pub(crate) fn call_back(refused: Refused<CallJob<F, H>>) -> Refused<F>
+    pub(crate) fn refused_call(refused: Refused<CallJob<F, H>>) -> Refused<F>
         requires { IsSome refused.back.call }
         ensures back { Some result.back ≡ refused.back.call }
         ensures why { result.why ≡ refused.why }

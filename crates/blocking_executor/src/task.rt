@@ -28,7 +28,7 @@ enum Asked {
 /// whose job was dropped by somebody else stays pending.
 pub struct Task<F: Call<Out: Drop>, H: Wait + Copy> {
     // (the number of its job: who has none has added none)
-    _job: JobNo,
+    job: JobNo,
     link: Arc<Link<F>>,
     source: Source,
     // What the slot answered to the last poll that waits.
@@ -44,7 +44,7 @@ impl<F: Call<Out: Drop>, H: Wait + Copy> Task<F, H> {
         ensures { result.is_taken ≡ false }
     {
         Task {
-            _job: job,
+            job,
             link,
             source: Source::new(),
             asked: None,
@@ -64,7 +64,7 @@ impl<F: Call<Out: Drop>, H: Wait + Copy> Task<F, H> {
     /// Lets the call go on without an owner: it is made as any other, and its answer is dropped.
     pub fn detach(self) {
         let Task {
-            _job: _,
+            job: _,
             link,
             source: _,
             asked: _,
@@ -82,7 +82,7 @@ impl<F: Call<Out: Drop>, H: Wait + Copy> Task<F, H> {
         ensures { result.is_taken ≡ false }
     {
         let Task {
-            _job: _,
+            job: _,
             link,
             source,
             asked: _,
@@ -99,7 +99,7 @@ impl<F: Call<Out: Drop>, H: Wait + Copy> Task<F, H> {
 impl<F: Call<Out: Drop>, H: Wait + Copy> Drop for Task<F, H> {
     fn drop(self) {
         let Task {
-            _job: _,
+            job: _,
             link,
             source: _,
             asked: _,
@@ -309,6 +309,6 @@ pub fn unblock<F: Call<Out: Drop> + Drop, J: Job + Carries<CallJob<F, H>>, H: Ru
     };
     match executor.add(J::wrap(CallJob::new(rt, call, theirs))) {
         Ok(job) => Ok(Task::new(rt, link, job)),
-        Err(refused) => Err(CallJob::call_back(refused.unwrap())),
+        Err(refused) => Err(CallJob::refused_call(refused.unwrap())),
     }
 }

@@ -25,7 +25,7 @@ pub struct ItemJob<T: Iterator<Item = I> + Drop, I: Drop, H: Wait + Copy> {
     hand: Option<I>,
     end: SendEnd<I, AnyPlace, RingStore, H>,
     // That the iterator was given back.
-    given: Option<Given>,
+    given: Option<Given<T>>,
     // The waker that was taken out of the owner's seat, and has to be called.
     waker: OwnerWaker,
     link: Arc<Link<T, MayFail>>,

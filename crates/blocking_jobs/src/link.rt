@@ -10,6 +10,7 @@ use blocking_lock::{AnyOf, Left, LockedSlot, OwnerWaker};
 use futures::task::{Context, Source};
 use std::alloc::{AllocError, AllocGlobal};
 use std::io;
+use std::marker::PhantomData;
 use std::sync::atomic::{AtomicBool, Ordering};
 use std::sync::{Arc, Wait};
 
@@ -31,22 +32,35 @@ pub struct Returned<T: Drop, X: Drop> {
     pub told: X,
 }
 
-/// The proof that a handle or a result was left in its slot, or dropped since its owner wants it no more. Only [`give`] makes it.
-#[derive(Drop)]
-pub(crate) struct Given(());
+/// The proof that a handle or a result of this type was left in its slot, or dropped since its owner wants it no more. Only the two calls that
+/// leave it there make it: [`Link::give_back`] and [`put_result`].
+pub(crate) struct Given<T> {
+    of: PhantomData<T>,
+}
 
-/// Leaves a handle or a result in its slot, and answers the waker of an owner who waits.
-pub(crate) fn give<A: Left<Value: Drop>, R: Wait>(
+// Leaves a value in its slot, and answers the waker of an owner who waits.
+fn leave<A: Left<Value: Drop>, R: Wait>(
     rt: &R,
     slot: &LockedSlot<A>,
     value: A::Value,
-) -> (Option<OwnerWaker>, Given)
+) -> Option<OwnerWaker>
     requires { A.may_be value }
 {
     let Put { back, wake } = slot.put(rt, value);
     // (one that nobody wants is dropped under no lock)
     drop(back);
-    (wake, Given(()))
+    wake
+}
+
+/// Leaves the result of an operation in its place, and answers the waker of an owner who waits.
+pub(crate) fn put_result<A: Left<Value: Drop>, R: Wait>(
+    rt: &R,
+    place: &LockedSlot<A>,
+    gave: A::Value,
+) -> (Option<OwnerWaker>, Given<A::Value>)
+    requires { A.may_be gave }
+{
+    (leave(rt, place, gave), Given { of: PhantomData })
 }
 
 /// What the owner and the job share.
@@ -69,8 +83,9 @@ impl<T: Drop, X: Drop> Link<T, X> {
         rt: &R,
         handle: T,
         told: X,
-    ) -> (Option<OwnerWaker>, Given) {
-        give(rt, &self.slot, Returned { handle, told })
+    ) -> (Option<OwnerWaker>, Given<T>) {
+        let wake = leave(rt, &self.slot, Returned { handle, told });
+        (wake, Given { of: PhantomData })
     }
 
     /// Gives the slot up: no handle will come. Answers the waker of an owner who waits.

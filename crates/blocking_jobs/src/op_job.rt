@@ -1,11 +1,11 @@
 //! The job that makes an operation on a handle.
 ghost use Rattle.std.specs.Prelude.{◌≡◌, None, Some, OnErr, IfOk};
 ghost use Rattle.futures.specs.Task.{IsArmed, Keeps};
-ghost use Rattle.blocking_core.specs.declared.job.operation.OperationAction.TheVariants.{Call, PutResult, Finish, Deliver};
+ghost use Rattle.blocking_core.specs.declared.job.operation.OpAction.TheVariants.{Call, PutResult, Finish, Deliver};
 ghost use Rattle.blocking_core.specs.Operations.{new_operation, operation_next};
 
-use crate::link::{Given, Link, MayFail, give};
-use blocking_core::job::{OperationAction, OperationAnswer, OperationCore};
+use crate::link::{Given, Link, MayFail, put_result};
+use blocking_core::job::{OpAction, OpAnswer, OpCore};
 use blocking_core::pool::{Carries, Job, JobNo, JobStep};
 use blocking_core::task::{CallOn, OfSlot, Seat};
 use blocking_lock::{Left, LockedSlot, OwnerWaker};
@@ -75,7 +75,7 @@ impl<F: CallOn<T, Out: Drop>, T, H: Wait + AllocGlobal + Copy> ResultPlace<F, T,
 /// One that is dropped before it is done drops the handle and gives its slot up, with no lock held. That wakes an owner who waits there for
 /// the handle, and none who waits for the result. A pool drops a job only once its owner is gone.
 pub struct OpJob<F: CallOn<T, Out: Drop> + Drop, T: Drop, H: Wait + Copy> {
-    core: OperationCore,
+    core: OpCore,
     // The operation, until it is called.
     operation: Option<F>,
     // The handle, until it is given back.
@@ -83,8 +83,8 @@ pub struct OpJob<F: CallOn<T, Out: Drop> + Drop, T: Drop, H: Wait + Copy> {
     // The result, from the call until it is put.
     gave: Option<F::Out>,
     // That it was put, and that the handle was given back.
-    put: Option<Given>,
-    given: Option<Given>,
+    put: Option<Given<F::Out>>,
+    given: Option<Given<T>>,
     // The waker that was taken out of an owner's seat, and has to be called.
     waker: OwnerWaker,
     place: Arc<LockedSlot<ResultOf<F, T>>>,
@@ -121,7 +121,7 @@ impl<F: CallOn<T, Out: Drop> + Drop, T: Drop, H: Wait + Copy> OpJob<F, T, H> {
         ensures { result ≡ record { core = new_operation; operation = Some operation; handle = Some handle; gave = None } }
     {
         OpJob {
-            core: OperationCore::new(),
+            core: OpCore::new(),
             operation: Some(operation),
             handle: Some(handle),
             gave: None,
@@ -164,7 +164,7 @@ impl<F: CallOn<T, Out: Drop> + Drop, T: Drop, H: Wait + Copy> OpJob<F, T, H> {
             unreachable!()
         };
         self.gave = Some(operation.call_on(handle));
-        self.core.answer(OperationAnswer::Returned);
+        self.core.answer(OpAnswer::Returned);
         JobStep::Again
     }
 
@@ -175,11 +175,11 @@ impl<F: CallOn<T, Out: Drop> + Drop, T: Drop, H: Wait + Copy> OpJob<F, T, H> {
         let Some(gave) = self.gave.take() else {
             unreachable!()
         };
-        let (wake, put) = give(&self.rt, &self.place, gave);
+        let (wake, put) = put_result(&self.rt, &self.place, gave);
         self.put = Some(put);
         let woke = wake.is_some();
         self.waker = wake.flatten();
-        self.core.answer(OperationAnswer::ResultPut { woke });
+        self.core.answer(OpAnswer::ResultPut { woke });
         JobStep::Again
     }
 
@@ -194,7 +194,7 @@ impl<F: CallOn<T, Out: Drop> + Drop, T: Drop, H: Wait + Copy> OpJob<F, T, H> {
         self.given = Some(given);
         let woke = wake.is_some();
         self.waker = wake.flatten();
-        self.core.answer(OperationAnswer::Finished { woke });
+        self.core.answer(OpAnswer::Finished { woke });
         if woke { JobStep::Again } else { JobStep::Done }
     }
 
@@ -205,9 +205,9 @@ impl<F: CallOn<T, Out: Drop> + Drop, T: Drop, H: Wait + Copy> OpJob<F, T, H> {
         if let Some(waker) = self.waker.take() {
             waker.wake();
         }
-        self.core.answer(OperationAnswer::Delivered);
+        self.core.answer(OpAnswer::Delivered);
         match self.core.next() {
-            OperationAction::Done => JobStep::Done,
+            OpAction::Done => JobStep::Done,
             _ => JobStep::Again,
         }
     }
@@ -233,7 +233,7 @@ impl<F: CallOn<T, Out: Drop> + Drop, T: Drop, H: Wait + Copy> Drop for OpJob<F, 
         drop(handle);
         drop(waker);
         drop(place);
-        if let OperationAction::Done = core.next() {
+        if let OpAction::Done = core.next() {
             return;
         }
         if let Some(Some(waker)) = link.give_up(&rt) {
@@ -272,11 +272,11 @@ impl<F: CallOn<T, Out: Drop> + Drop, T: Drop, H: Wait + Copy> Job for OpJob<F, T
         ensures { IsStepped F.may_give self.old self.new result }
     {
         match self.core.next() {
-            OperationAction::Call => self.call(),
-            OperationAction::PutResult => self.put_result(),
-            OperationAction::Finish => self.finish(),
-            OperationAction::Deliver => self.deliver(),
-            OperationAction::Done => JobStep::Done,
+            OpAction::Call => self.call(),
+            OpAction::PutResult => self.put_result(),
+            OpAction::Finish => self.finish(),
+            OpAction::Deliver => self.deliver(),
+            OpAction::Done => JobStep::Done,
         }
     }
 

@@ -61,7 +61,7 @@ pub struct ReadJob<T: Drop, H: Wait + Copy> {
     fault: MayFail,
     // That its end was closed, and that the reader was given back.
     closed: Option<Closed>,
-    given: Option<Given>,
+    given: Option<Given<T>>,
     // The waker that was taken out of the owner's seat, and has to be called.
     waker: OwnerWaker,
     link: Arc<Link<T, ReadBack<H>>>,

@@ -25,7 +25,7 @@ pub struct SeekJob<T: Drop, H: Wait + Copy> {
     // What came of the seek, once it is made and until it is given back.
     sought: Option<Sought>,
     // That the handle was given back.
-    given: Option<Given>,
+    given: Option<Given<T>>,
     // The waker that was taken out of the owner's seat, and has to be called.
     waker: OwnerWaker,
     link: Arc<Link<T, Sought>>,

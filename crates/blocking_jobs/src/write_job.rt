@@ -54,9 +54,9 @@ pub struct WriteJob<T: Drop, H: Wait + Copy> {
     // The writer at work, until it is given back.
     work: Option<Writing<T, H>>,
     // That the writer was asked to flush, that the job's end was closed, and that the writer was given back.
-    flushed: Option<Flushed>,
+    flushed: Option<Flushed<T>>,
     closed: Option<Closed>,
-    given: Option<Given>,
+    given: Option<Given<T>>,
     // The waker that was taken out of the owner's seat, and has to be called.
     waker: OwnerWaker,
     link: Arc<Link<T, WriteBack<H>>>,

@@ -2,10 +2,10 @@
 use Rattle.std.specs.Prelude.{◌≡◌, ℕ, List, None}
 use Rattle.blocking_core.specs.Machines.{Machine}
 use Rattle.blocking_core.specs.Operations.{new_operation, operation_next, operation_after}
-use Rattle.blocking_core.specs.declared.job.operation.OperationAction.{OperationAction}
-use Rattle.blocking_core.specs.declared.job.operation.OperationAction.TheVariants as operation
-use Rattle.blocking_core.specs.declared.job.operation.OperationAnswer.{OperationAnswer}
-use Rattle.blocking_core.specs.declared.job.operation.OperationAnswer.TheVariants as by
+use Rattle.blocking_core.specs.declared.job.operation.OpAction.{OpAction}
+use Rattle.blocking_core.specs.declared.job.operation.OpAction.TheVariants as operation
+use Rattle.blocking_core.specs.declared.job.operation.OpAnswer.{OpAnswer}
+use Rattle.blocking_core.specs.declared.job.operation.OpAnswer.TheVariants as by
 use Rattle.blocking_laws.specs.JobTable.{Operating, JobAction, AskResult, PutResult, Finish, WakeHolder, Over, next_but_wake, fault, number}
 use Rattle.blocking_laws.specs.declared.event.Act.{Act}
 use Rattle.blocking_laws.specs.declared.step.Answer.{Answer}
@@ -14,7 +14,7 @@ use Rattle.blocking_lanes.specs.Reads.{has_waker}
 
 -- What the job of an operation does next, and the number that the operation gave, 0 before it did. It is in hand until it is put.
 pub record Progress : Type 0 where
-  pub core : Machine OperationAction
+  pub core : Machine OpAction
   pub number : ℕ
 
 -- a job that has done nothing yet
@@ -24,7 +24,7 @@ not_begun = record { core = new_operation; number = 0 }
 -- ---- what comes next
 
 -- an action, in the words of the laws
-abbrev pub action_as : OperationAction → JobAction
+abbrev pub action_as : OpAction → JobAction
 action_as operation.Call = AskResult
 action_as operation.PutResult = PutResult
 action_as operation.Finish = Finish
@@ -38,7 +38,7 @@ action_of job = action_as (operation_next job.core)
 -- ---- what it leaves
 
 -- the job after its action was answered so
-abbrev pub progress_with : Progress → OperationAnswer → Progress
+abbrev pub progress_with : Progress → OpAnswer → Progress
 progress_with job answer = record job { core = operation_after job.core answer }
 
 -- the operation gave this number

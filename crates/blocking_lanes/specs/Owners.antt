@@ -22,9 +22,9 @@ use Rattle.blocking_core.specs.declared.job.write.WriteAnswer.TheVariants as wro
 use Rattle.blocking_core.specs.declared.job.seek.SeekAction.{SeekAction}
 use Rattle.blocking_core.specs.declared.job.seek.SeekAction.TheVariants as seek
 use Rattle.blocking_core.specs.declared.job.seek.SeekAnswer.TheVariants as sought
-use Rattle.blocking_core.specs.declared.job.operation.OperationAction.{OperationAction}
-use Rattle.blocking_core.specs.declared.job.operation.OperationAction.TheVariants as operation
-use Rattle.blocking_core.specs.declared.job.operation.OperationAnswer.TheVariants as ran
+use Rattle.blocking_core.specs.declared.job.operation.OpAction.{OpAction}
+use Rattle.blocking_core.specs.declared.job.operation.OpAction.TheVariants as operation
+use Rattle.blocking_core.specs.declared.job.operation.OpAnswer.TheVariants as ran
 use Rattle.blocking_core.specs.declared.unblock.OwnerAction.{OwnerAction}
 use Rattle.blocking_core.specs.declared.unblock.OwnerAction.TheVariants as action
 use Rattle.blocking_core.specs.declared.unblock.OwnerAnswer.{OwnerAnswer}
@@ -521,11 +521,11 @@ seek_as seek.Deliver job owner = calls_waker (of_job.Seek (seeks.progress_with j
 seek_as next job owner = seek_in next owner.session job owner
 
 -- the same of a job that runs an operation
-abbrev pub operate_in : OperationAction → Option Session → operations.Progress → Owner → Option Worked
+abbrev pub operate_in : OpAction → Option Session → operations.Progress → Owner → Option Worked
 operate_in next None job owner = None
 operate_in next (Some session) job owner = worked_by of_job.Operate (operation_works next job session) owner
 
-abbrev pub operate_as : OperationAction → operations.Progress → Owner → Option Worked
+abbrev pub operate_as : OpAction → operations.Progress → Owner → Option Worked
 operate_as operation.Deliver job owner = calls_waker (of_job.Operate (operations.progress_with job ran.Delivered)) owner
 operate_as next job owner = operate_in next owner.session job owner
 

@@ -19,9 +19,9 @@ use Rattle.blocking_laws.specs.JobTable.{Kind, Streaming, piece as largest_piece
 use Rattle.blocking_core.specs.declared.job.seek.SeekAction.{SeekAction}
 use Rattle.blocking_core.specs.declared.job.seek.SeekAction.TheVariants as seek
 use Rattle.blocking_core.specs.declared.job.seek.SeekAnswer.TheVariants as sought
-use Rattle.blocking_core.specs.declared.job.operation.OperationAction.{OperationAction}
-use Rattle.blocking_core.specs.declared.job.operation.OperationAction.TheVariants as operation
-use Rattle.blocking_core.specs.declared.job.operation.OperationAnswer.TheVariants as ran
+use Rattle.blocking_core.specs.declared.job.operation.OpAction.{OpAction}
+use Rattle.blocking_core.specs.declared.job.operation.OpAction.TheVariants as operation
+use Rattle.blocking_core.specs.declared.job.operation.OpAnswer.TheVariants as ran
 use Rattle.blocking_laws.specs.Places.{seen_room, seen_put, seen_peek}
 use Rattle.blocking_laws.specs.Seats.{waker_in}
 use Rattle.blocking_laws.specs.declared.event.Act.{Act}
@@ -367,7 +367,7 @@ operation_finishes job session = record {
 }
 
 -- What it does next at its session, where that is its own to do.
-abbrev pub operation_works : OperationAction → operations.Progress → Session → Option (Work operations.Progress)
+abbrev pub operation_works : OpAction → operations.Progress → Session → Option (Work operations.Progress)
 operation_works operation.PutResult job session = Some (operation_puts job session)
 operation_works operation.Finish job session = Some (operation_finishes job session)
 operation_works _ job session = None

@@ -6,7 +6,7 @@ use crate::operation::OperationProgress;
 use crate::read::ReadProgress;
 use crate::seek::SeekProgress;
 use crate::write::WriteProgress;
-use blocking_core::job::{ItemAction, OperationAction, ReadAction, SeekAction, WriteAction};
+use blocking_core::job::{ItemAction, OpAction, ReadAction, SeekAction, WriteAction};
 use blocking_laws::step::Answer;
 
 /// The job of a session, and how far it is.
@@ -40,7 +40,7 @@ impl SessionJob {
             }
             SessionJob::Items(items) => matches!(items.next(), ItemAction::Next),
             SessionJob::Seek(seek) => matches!(seek.next(), SeekAction::Seek),
-            SessionJob::Operate(operation) => matches!(operation.next(), OperationAction::Call),
+            SessionJob::Operate(operation) => matches!(operation.next(), OpAction::Call),
         }
     }
 
@@ -53,7 +53,7 @@ impl SessionJob {
             SessionJob::Write(write) => matches!(write.next(), WriteAction::Done),
             SessionJob::Items(items) => matches!(items.next(), ItemAction::Done),
             SessionJob::Seek(seek) => matches!(seek.next(), SeekAction::Done),
-            SessionJob::Operate(operation) => matches!(operation.next(), OperationAction::Done),
+            SessionJob::Operate(operation) => matches!(operation.next(), OpAction::Done),
         }
     }
 

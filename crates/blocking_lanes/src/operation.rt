@@ -1,14 +1,14 @@
 //! How far the job of an operation is.
 ghost use Rattle.std.specs.Prelude.{◌≡◌};
 
-use blocking_core::job::{OperationAction, OperationAnswer, OperationCore};
+use blocking_core::job::{OpAction, OpAnswer, OpCore};
 use blocking_laws::step::Answer;
 use std::marker::Model;
 
 /// How far the job of an operation is: what it does next, and the number that the operation gave, once it did.
 #[derive(Drop)]
 pub struct OperationProgress {
-    core: OperationCore,
+    core: OpCore,
     // (0 before it was given)
     number: u64,
 }
@@ -23,7 +23,7 @@ impl Model for OperationProgress {
 
 impl OperationProgress {
     ghost use Rattle.blocking_core.specs.Operations.{operation_next};
-    ghost use Rattle.blocking_core.specs.declared.job.operation.OperationAnswer.TheVariants as by;
+    ghost use Rattle.blocking_core.specs.declared.job.operation.OpAnswer.TheVariants as by;
     ghost use Rattle.blocking_laws.specs.JobTable.{is_answer};
     ghost use Rattle.blocking_lanes.specs.Operations.{not_begun, action_of, progress_after_answer, progress_after_number, progress_with};
 
@@ -32,13 +32,13 @@ impl OperationProgress {
         ensures { result ≡ not_begun }
     {
         OperationProgress {
-            core: OperationCore::new(),
+            core: OpCore::new(),
             number: 0,
         }
     }
 
     /// The next action of the job.
-    pub fn next(&self) -> OperationAction
+    pub fn next(&self) -> OpAction
         ensures { result ≡ operation_next self.now.core }
     {
         self.core.next()
@@ -50,7 +50,7 @@ impl OperationProgress {
     {
         matches!(
             (self.core.next(), answer),
-            (OperationAction::Call, Answer::Number(_))
+            (OpAction::Call, Answer::Number(_))
         )
     }
 
@@ -69,7 +69,7 @@ impl OperationProgress {
     fn keep(&mut self, number: u64)
         ensures { self.new ≡ progress_after_number self.old number }
     {
-        self.core.answer(OperationAnswer::Returned);
+        self.core.answer(OpAnswer::Returned);
         self.number = number;
     }
 
@@ -77,11 +77,11 @@ impl OperationProgress {
     pub fn wake(&mut self)
         ensures { self.new ≡ progress_with self.old by.Delivered }
     {
-        self.core.answer(OperationAnswer::Delivered);
+        self.core.answer(OpAnswer::Delivered);
     }
 
     // The job met its owner so.
-    pub(crate) fn meet(&mut self, answer: OperationAnswer)
+    pub(crate) fn meet(&mut self, answer: OpAnswer)
         ensures { self.new ≡ progress_with self.old answer }
     {
         self.core.answer(answer);

@@ -15,7 +15,7 @@ use crate::seek::SeekProgress;
 use crate::session::{Awaited, Entered, Found, Looked, Obtained, Session};
 use crate::write::WriteProgress;
 use blocking_core::io::Fault;
-use blocking_core::job::{ItemAction, OperationAction, ReadAction, SeekAction, WriteAction};
+use blocking_core::job::{ItemAction, OpAction, ReadAction, SeekAction, WriteAction};
 use blocking_core::pipe::{DEFAULT_BYTES, DEFAULT_ITEMS, Pipe};
 use blocking_core::pool::{JobNo, Refusal, WakeNote};
 use blocking_core::unblock::{
@@ -790,7 +790,7 @@ impl Owner {
     fn operate(&mut self, job: &mut OperationProgress) -> Option<Act>
         ensures { IsWorked (worked (of_job.Operate job.old) self.old) (of_job.Operate job.old) self.old result (of_job.Operate job.new) self.new }
     {
-        if let OperationAction::Deliver = job.next() {
+        if let OpAction::Deliver = job.next() {
             job.wake();
             return Some(Act::HolderWoken);
         }

@@ -9,8 +9,8 @@ use crate::seek::SeekProgress;
 use crate::write::WriteProgress;
 use blocking_core::io::Fault;
 use blocking_core::job::{
-    ItemAction, ItemAnswer, OperationAction, OperationAnswer, PIECE, ReadAction, ReadAnswer,
-    SeekAction, SeekAnswer, WriteAction, WriteAnswer,
+    ItemAction, ItemAnswer, OpAction, OpAnswer, PIECE, ReadAction, ReadAnswer, SeekAction,
+    SeekAnswer, WriteAction, WriteAnswer,
 };
 use blocking_core::pipe::{Answered, Drained, Filled, Peeked, Put, Received, Room, Sending};
 use blocking_core::pool::{JobNo, WakeNote};
@@ -628,7 +628,7 @@ impl Session {
             ≡ record { act = result; job = job.new; session = self.new } }
     {
         let woke = self.result.put(job.number()).wake.is_some();
-        job.meet(OperationAnswer::ResultPut { woke });
+        job.meet(OpAnswer::ResultPut { woke });
         Act::ResultPut(HolderWaker::in_seat(woke))
     }
 
@@ -638,7 +638,7 @@ impl Session {
             ≡ record { act = result; job = job.new; session = self.new } }
     {
         let woke = self.slot.put(None).wake.is_some();
-        job.meet(OperationAnswer::Finished { woke });
+        job.meet(OpAnswer::Finished { woke });
         Act::Finished(HolderWaker::in_seat(woke))
     }
 
@@ -647,9 +647,9 @@ impl Session {
         ensures { IsWork (operation_works (operation_next job.old.core) job.old self.old) job.old self.old result job.new self.new }
     {
         match job.next() {
-            OperationAction::PutResult => Some(self.put_result(job)),
-            OperationAction::Finish => Some(self.finish_operation(job)),
-            OperationAction::Call | OperationAction::Deliver | OperationAction::Done => None,
+            OpAction::PutResult => Some(self.put_result(job)),
+            OpAction::Finish => Some(self.finish_operation(job)),
+            OpAction::Call | OpAction::Deliver | OpAction::Done => None,
         }
     }
 

@@ -4,7 +4,7 @@ use std::marker::Model;
 
 /// What the job of an operation does next.
 #[derive(Clone, Copy, Debug, PartialEq, Eq)]
-pub enum OperationAction {
+pub enum OpAction {
     /// Call the operation on the handle.
     Call,
     /// Put what the operation gave into the result's place.
@@ -19,7 +19,7 @@ pub enum OperationAction {
 
 /// How an action was answered. `woke` says that the owner's waker was taken out of its seat, and has to be called.
 #[derive(Clone, Copy, Debug, PartialEq, Eq)]
-pub enum OperationAnswer {
+pub enum OpAnswer {
     /// The operation returned.
     Returned,
     /// The result is in its place.
@@ -34,23 +34,23 @@ pub enum OperationAnswer {
 ///
 /// It holds no result. Whoever runs it keeps what the operation gave until it is put.
 #[derive(Clone, Copy, Debug)]
-pub struct OperationCore {
-    next: OperationAction,
+pub struct OpCore {
+    next: OpAction,
     is_waking: bool,
 }
 
-impl Model for OperationCore {
+impl Model for OpCore {
     ghost use Rattle.blocking_core.specs.Machines.{Machine};
-    ghost use Rattle.blocking_core.specs.declared.job.operation.OperationAction.{OperationAction};
+    ghost use Rattle.blocking_core.specs.declared.job.operation.OpAction.{OpAction};
 
-    ghost Value = { Machine OperationAction };
+    ghost Value = { Machine OpAction };
 
     ghost view = { λ core. record { next = core.next; is_waking = core.is_waking } };
 
     ghost inverse = { λ seen. record { next = seen.next; is_waking = seen.is_waking } };
 }
 
-impl OperationCore {
+impl OpCore {
     ghost use Rattle.std.specs.Prelude.{◌≡◌};
     ghost use Rattle.blocking_core.specs.Operations.{new_operation, operation_next, operation_after};
 
@@ -58,42 +58,36 @@ impl OperationCore {
     pub fn new() -> Self
         ensures { result ≡ new_operation }
     {
-        OperationCore {
-            next: OperationAction::Call,
+        OpCore {
+            next: OpAction::Call,
             is_waking: false,
         }
     }
 
     /// The next action.
-    pub fn next(&self) -> OperationAction
+    pub fn next(&self) -> OpAction
         ensures { result ≡ operation_next self.now }
     {
         if self.is_waking {
-            return OperationAction::Deliver;
+            return OpAction::Deliver;
         }
         self.next
     }
 
     /// Takes the answer to the next action. An answer of another kind changes nothing.
-    pub fn answer(&mut self, answer: OperationAnswer)
+    pub fn answer(&mut self, answer: OpAnswer)
         ensures { self.new ≡ operation_after self.old answer }
     {
         if self.is_waking {
-            self.is_waking = !matches!(answer, OperationAnswer::Delivered);
+            self.is_waking = !matches!(answer, OpAnswer::Delivered);
             return;
         }
         let (next, is_waking) = match (self.next, answer) {
-            (OperationAction::Call, OperationAnswer::Returned) => {
-                (OperationAction::PutResult, false)
-            }
-            (OperationAction::PutResult, OperationAnswer::ResultPut { woke }) => {
-                (OperationAction::Finish, woke)
-            }
-            (OperationAction::Finish, OperationAnswer::Finished { woke }) => {
-                (OperationAction::Done, woke)
-            }
+            (OpAction::Call, OpAnswer::Returned) => { (OpAction::PutResult, false) }
+            (OpAction::PutResult, OpAnswer::ResultPut { woke }) => { (OpAction::Finish, woke) }
+            (OpAction::Finish, OpAnswer::Finished { woke }) => { (OpAction::Done, woke) }
             (same, _) => (same, false),
         };
-        *self = OperationCore { next, is_waking };
+        *self = OpCore { next, is_waking };
     }
 }

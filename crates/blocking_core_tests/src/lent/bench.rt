@@ -8,8 +8,8 @@ use crate::pipe::bench::Bench as Numbers;
 use crate::stop::stop;
 use blocking_core::io::{Fault, JobFault};
 use blocking_core::job::{
-    ItemAction, ItemCore, OperationAction, OperationCore, ReadAction, ReadCore, SeekAction,
-    SeekCore, WriteAction, WriteCore,
+    ItemAction, ItemCore, OpAction, OpCore, ReadAction, ReadCore, SeekAction, SeekCore,
+    WriteAction, WriteCore,
 };
 use blocking_core::pipe::{Answered, BytePipe, Drained, Filled, FlatStore, Pipe, Received};
 use blocking_core::pool::Refusal;
@@ -125,7 +125,7 @@ enum Next {
     Write(WriteAction, Option<JobFault<u8>>),
     Item(ItemAction),
     Seek(SeekAction),
-    Operate(OperationAction),
+    Operate(OpAction),
 }
 
 /// What a job decides by.
@@ -135,7 +135,7 @@ enum Core {
     Writing(WriteCore<u8>),
     Streaming(ItemCore),
     Seeking(SeekCore),
-    Operating(OperationCore),
+    Operating(OpCore),
 }
 
 impl Core {
@@ -144,7 +144,7 @@ impl Core {
             PollCall::Write(_) => Core::Writing(WriteCore::new()),
             PollCall::Next => Core::Streaming(ItemCore::new()),
             PollCall::Seek(_) => Core::Seeking(SeekCore::new()),
-            PollCall::Operate { .. } => Core::Operating(OperationCore::new()),
+            PollCall::Operate { .. } => Core::Operating(OpCore::new()),
             _ => Core::Reading(ReadCore::new()),
         }
     }
@@ -410,7 +410,7 @@ impl Bench {
             Core::Writing(core) => core.next() == WriteAction::Done,
             Core::Streaming(core) => core.next() == ItemAction::Done,
             Core::Seeking(core) => core.next() == SeekAction::Done,
-            Core::Operating(core) => core.next() == OperationAction::Done,
+            Core::Operating(core) => core.next() == OpAction::Done,
         };
         is_done || seen.last() == Some(&Seen::Parked)
     }

@@ -1,7 +1,7 @@
 -- An owner that is polled has something to do, and so has a job that is neither asking nor over.
 use Rattle.std.proofs.Common.{◌≡◌, ℕ, ◌<◌, List, [], ◌∷◌, length, Bool, true, false, refl, sym, ap, ◌∙◌, subst, arith, Option, Some, None, if◌then◌else◌, ◌||◌, ◌&&◌, not, is_none, is_some}
 use Rattle.std.proofs.lemmas.Bool.Decides.{nat_tests}
-use Rattle.blocking_lanes.proofs.Types.{Fault, ItemAction, OperationAction, ReadAction, SeekAction, WriteAction, OwnerAction, Reply, Act, Event, Told, HandleCall, SessionJob, OwnerNext, NextActs as Acts, Rests, OwnerStage}
+use Rattle.blocking_lanes.proofs.Types.{Fault, ItemAction, OpAction, ReadAction, SeekAction, WriteAction, OwnerAction, Reply, Act, Event, Told, HandleCall, SessionJob, OwnerNext, NextActs as Acts, Rests, OwnerStage}
 use Rattle.blocking_lanes.proofs.Words.{item_next, operation_next, OwnerMachine, owner_next, read_next, seek_next, Abandoned, Content, GivenUp, write_next, is_in, Consume, JobAction, Kind, Operating, PutPiece, Reading, Seeking, Streaming, Writing, fault, has_finished, has_given_up, has_result, is_asking, is_over, next_but_wake, number, accepted, got, kind_in, acts_of, own, is_again, seen_is_closed, is_for_closed, seen_is_into_inner, seen_is_pending_operation, is_poll_over, seen_is_shut, jobs_of, kind_of_job, seen_last_session, seen_may_ask, seen_rests, seen_session, under_way, seen_was_asked_inner, OperationAs, OperationProgress, operation_action_as, operation_action_of, Flows, HoldsResult, LastAs, OwnerAs, SlotAs, has_found, is_told, state_as, Owner, awaited_as, awaits_operation, close_did, did, did_in, drain_did, fill_did, fill_did_in, find_did, item_in, look_did, looked_as, may_ask, may_ask_at, next_at, next_by, next_of, next_to_say, operate_as, operate_in, read_as, read_in, receive_did, reply_as, reply_did, rests, seek_as, seek_in, stream_as, stream_in, worked, worked_by, write_as, write_in, OfBytes, OfItems, is_piped, ReadProgress, ReadAs, read_action_as, read_action_of, SeekProgress, SeekAs, seek_action_as, seek_action_of, JobAs, action_of, kind_of, Session, drained, filled, fits_in, found_put, goods_of, holds, operation_works, reach, received, session_after_find, session_after_look, streamer_works, work_at_put, work_by, work_of_consume, writer_works, ItemAs, ItemProgress, item_action_as, item_action_of, WriteProgress, WriteAs, write_action_as, write_action_of}
 use Rattle.blocking_lanes.proofs.Clashes.{nothing}
 use Rattle.blocking_lanes.proofs.owners.Cuts.{kind_is}
@@ -307,16 +307,16 @@ operate_some : (owner : Owner) (cut : List Event) (n : ℕ) (p : OperationProgre
     → is_asking (operation_action_of p) ≡ false → is_over (operation_action_of p) ≡ false → is_some (worked (SessionJob.Operate p) owner) ≡ true
 operate_some owner cut n p t of r among asks over = by_next (operation_next p.core) refl asks over
   where
-    at_last : (a : OperationAction) → operation_next p.core ≡ a → (a ≡ OperationAction.Deliver → ⊥) → is_over (operation_action_as a) ≡ false
+    at_last : (a : OpAction) → operation_next p.core ≡ a → (a ≡ OpAction.Deliver → ⊥) → is_over (operation_action_as a) ≡ false
         → ((s : Session) → is_some (worked_by SessionJob.Operate (operation_works a p s) owner) ≡ true) → is_some (operate_in a owner.session p owner) ≡ true
     at_last a is other goes here =
         let m = meets owner cut n Operating (operation_action_as a) t of among (sym r.next ∙ ap operation_action_as (operation_job.awake p a is other).next_is) goes in
         subst (λ o. is_some (operate_in a o p owner) ≡ true) (sym m.here) (here m.session)
 
-    by_next : (a : OperationAction) → operation_next p.core ≡ a → is_asking (operation_action_as a) ≡ false → is_over (operation_action_as a) ≡ false → is_some (operate_as a p owner) ≡ true
-    by_next OperationAction.Deliver is asks over = refl
-    by_next OperationAction.PutResult is asks over = at_last OperationAction.PutResult is (λ e. cc) refl (λ s. refl)
-    by_next OperationAction.Finish is asks over = at_last OperationAction.Finish is (λ e. cc) refl (λ s. refl)
+    by_next : (a : OpAction) → operation_next p.core ≡ a → is_asking (operation_action_as a) ≡ false → is_over (operation_action_as a) ≡ false → is_some (operate_as a p owner) ≡ true
+    by_next OpAction.Deliver is asks over = refl
+    by_next OpAction.PutResult is asks over = at_last OpAction.PutResult is (λ e. cc) refl (λ s. refl)
+    by_next OpAction.Finish is asks over = at_last OpAction.Finish is (λ e. cc) refl (λ s. refl)
     by_next _ is asks over = absurd (cc)
 
 -- a job whose next action is its own can take it

@@ -2,7 +2,7 @@
 use Rattle.std.proofs.Common.{◌≡◌, ℕ, suc, zero, ◌==◌, List, [], ◌∷◌, length, Bool, true, false, refl, sym, ap, ◌∙◌, subst, arith, Option, Some, None, ⊎_elim, inl, inr, ◌||◌, ◌⊎◌, ◌++◌, not, drop, is_some, is_none, eq-eqb}
 use Rattle.std.proofs.lemmas.Bool.{or_left, or_right}
 use Rattle.std.proofs.lemmas.Bool.Decides.{nat_tests}
-use Rattle.blocking_lanes.proofs.Types.{Fault, HolderWaker, ItemAction, OperationAction, ReadAction, SeekAction, WriteAction, Act, Answered, Drained, Finished, GaveUp, JobClosed, JobParked, Lost, Peeked, Put, ResultPut, RoomFree, RoomShut, TakenOut, Event, Answer, HandleCall, OwnerStage}
+use Rattle.blocking_lanes.proofs.Types.{Fault, HolderWaker, ItemAction, OpAction, ReadAction, SeekAction, WriteAction, Act, Answered, Drained, Finished, GaveUp, JobClosed, JobParked, Lost, Peeked, Put, ResultPut, RoomFree, RoomShut, TakenOut, Event, Answer, HandleCall, OwnerStage}
 use Rattle.blocking_lanes.proofs.Words.{item_next, operation_next, Pipe, room, Closed, Met, Served, Waiting, find_room, hand_in, peek, read_next, seek_next, Slot, after_put, answer_of, slot_after, slot_without_job, waker_out_of, write_next, Growth, JobNumber, is_in, EndsTruly, back_by, came_back, AskBytes, AskCall, AskFlush, AskItem, AskResult, AskSeek, CloseEnd, Consume, FindRoom, Finish, JobAction, Kind, OfferBytes, Operating, Peek, PutPiece, PutResult, Reading, Seeking, SendItem, Streaming, Writing, fault, has_finished, has_given_up, has_result, is_answer, is_over, is_taken, job_next_after_answer, next_but_wake, next_of_job, number, piece, takes_waker, job_wake_first, JobActs, Works, is_job_seated, job_seated_by, pipe_seat, pipe_seated_by, place_of, result_seat, result_seated_by, slot_seat, slot_seated_by, next_of_owner, owner_next_but_wake, accepted, got, inside, is_serial, room_in, seated, seen_peek, seen_put, seen_room, waker_in, acts_of, is_nothing, is_of_pool, own, SeenSession, seen_call, seen_is_dropped, seen_is_shut, jobs_of, kind_of_job, seen_last_session, seen_session, seen_state, was_woken, OperationAs, OperationProgress, operation_action_as, operation_action_of, by_its_job, IsAtEnd, OwnerAs, PlaceAs, PlaceBy, ResultAs, SessionAs, StageBy, has_found, is_seated, newest_note, ReadProgress as Progress, ReadAs, read_action_as as action_as, read_action_of as action_of, SeekProgress, SeekAs, seek_action_as, seek_action_of, Session, Work, finish_wakes, fits_in, found_piece, found_put, found_room, found_send, give_up_wakes, operation_finishes, operation_puts, result_wakes, seek_finishes, session_after_give_up, session_after_job_close, streamer_closes, streamer_finishes, work_at_peek, work_at_put, work_at_room, work_at_send, work_of_close, work_of_consume, work_of_finish, writer_closes, writer_finishes, ItemAs, ItemProgress, item_action_as, item_action_of, WriteProgress, WriteAs, write_action_as, write_action_of, write_fault_of}
 use Rattle.blocking_laws.specs.OwnerTable as law
 use Rattle.blocking_lanes.proofs.owners.Jobs.{no_wait}
@@ -527,16 +527,16 @@ module _ (bytes : ℕ) (asked : Option HandleCall) (here : OwnerStage) (s : Sess
     placed next e =
         subst (λ a. PlaceAs s.result Operating a (has_given_up acts) (has_result acts) came (number acts) rs) e (subst (λ any. PlaceBy s.result any acts came rs) operating t.place)
 
-    operation_table : (now : OperationAction) → operation_next p.core ≡ now → (now ≡ OperationAction.Deliver → ⊥) → next_but_wake Operating acts ≡ operation_action_as now
+    operation_table : (now : OpAction) → operation_next p.core ≡ now → (now ≡ OpAction.Deliver → ⊥) → next_but_wake Operating acts ≡ operation_action_as now
     operation_table now is other = sym r.next ∙ ap operation_action_as (of_operator.awake p now is other).next_is
 
-    operation_is : (now : OperationAction) → operation_next p.core ≡ now → next_of_job Operating acts ≡ operation_action_as now
+    operation_is : (now : OpAction) → operation_next p.core ≡ now → next_of_job Operating acts ≡ operation_action_as now
     operation_is now is = sym (of_operator.action_is p acts r) ∙ ap operation_action_as is
 
     -- it puts the result
-    pub result_works : operation_next p.core ≡ OperationAction.PutResult → Operates (operation_puts p s)
+    pub result_works : operation_next p.core ≡ OpAction.PutResult → Operates (operation_puts p s)
     result_works is =
-        let table = operation_table OperationAction.PutResult is (λ e. cc) in
+        let table = operation_table OpAction.PutResult is (λ e. cc) in
         let here_now = placed PutResult table in
         let empty = results.unfilled s.result (has_given_up acts) (has_result acts) came (number acts) rs here_now in
         let woke = result_wakes p.number s in
@@ -545,18 +545,18 @@ module _ (bytes : ℕ) (asked : Option HandleCall) (here : OwnerStage) (s : Sess
         keeps_all Operating operating act s.pipe (after_put s.result p.number) s.slot s.left among (record {
           own_is = record { pool = refl; nothing = refl; ends = tt; back = λ here before. refl; faults = λ is any. (refl, refl) };
           place = results.filled s.result (has_given_up acts) (has_result acts) came (number acts) rs p.number r.number_is here_now;
-          lawful = lawful_at Operating operating among PutResult act (operation_is OperationAction.PutResult is) (ap (λ b. ResultPut (waker_in b)) (sits ∙ sym here_now.seat));
+          lawful = lawful_at Operating operating among PutResult act (operation_is OpAction.PutResult is) (ap (λ b. ResultPut (waker_in b)) (sits ∙ sym here_now.seat));
           session = result_puts s (bound bytes Operating) began shut over gone took written acts js ps ss (waker_in woke) (after_put s.result p.number) (tied Operating operating among PutResult table);
           ended = λ e. e;
           told = λ e. taken_third (is_some s.pipe.owner_seat) (is_some s.slot.seat) (is_some s.result.seat) woke _ sits e;
         })
 
     -- it puts its own result
-    pub operation_finish_works : operation_next p.core ≡ OperationAction.Finish → Operates (operation_finishes p s)
+    pub operation_finish_works : operation_next p.core ≡ OpAction.Finish → Operates (operation_finishes p s)
     operation_finish_works is =
-        let table = operation_table OperationAction.Finish is (λ e. cc) in
+        let table = operation_table OpAction.Finish is (λ e. cc) in
         let now = tied Operating operating among Finish table in
-        finishes_goes Operating operating among None s.left (operation_is OperationAction.Finish is) now
+        finishes_goes Operating operating among None s.left (operation_is OpAction.Finish is) now
         (λ waker. results.finished s.result (has_given_up acts) (has_result acts) came (number acts) rs (placed Finish table))
         (λ waker. finishes s Operating (bound bytes Operating) began shut over gone took written acts js ps ss waker None (sym r.fault_is) tt now)
 

@@ -1,6 +1,6 @@
 -- How far a job is after what it does next by itself: it meets its owner, or calls the waker that it took.
 use Rattle.std.proofs.Common.{◌≡◌, ◌<◌, ◌≤◌, ℕ, zero, suc, List, [], ◌∷◌, length, Bool, true, false, refl, sym, ap, ◌∙◌, subst, arith, Option, Some, None, if◌then◌else◌, nat_le, min, take, is_some, length-take}
-use Rattle.blocking_lanes.proofs.Types.{ItemAction, ItemAnswer, OperationAction, OperationAnswer, ReadAction, ReadAnswer, SeekAction, SeekAnswer, WriteAction, WriteAnswer, Act, Drained, Finished, JobClosed, JobParked, Lost, Put, ResultPut, RoomFree, RoomShut, TakenOut, SessionJob}
+use Rattle.blocking_lanes.proofs.Types.{ItemAction, ItemAnswer, OpAction, OpAnswer, ReadAction, ReadAnswer, SeekAction, SeekAnswer, WriteAction, WriteAnswer, Act, Drained, Finished, JobClosed, JobParked, Lost, Put, ResultPut, RoomFree, RoomShut, TakenOut, SessionJob}
 use Rattle.blocking_lanes.proofs.Words.{item_next, operation_next, room, Closed, Met, Served, Waiting, hand_in, read_next, seek_next, write_next, is_taken, piece, waker_in, OperationAs, OperationProgress, Owner, Worked, operate_as, operate_in, read_as, read_in, seek_as, seek_in, stream_as, stream_in, worked, worked_by, write_as, write_in, OfBytes, OfItems, through, ReadProgress, ReadAs, read_action_as, SeekProgress, SeekAs, JobAs, Session, Work, closing_wakes, finish_wakes, fits_in, found_piece, found_put, found_room, found_send, holds, operation_works, result_wakes, seek_works, streamer_closes, streamer_finishes, streamer_works, work_at_peek, work_at_put, work_at_room, work_at_send, work_by, work_of_close, work_of_consume, work_of_finish, writer_closes, writer_finishes, writer_works, ItemAs, ItemProgress, item_action_as, WriteProgress, WriteAs, write_action_as, write_fault_of}
 use Rattle.blocking_lanes.proofs.owners.Goods.{through_some}
 use Rattle.blocking_lanes.proofs.owners.OwnerActs.{value_of}
@@ -148,16 +148,16 @@ seeks_on p acts s r _ is work does = absurd (cc)
 -- ---- a job that runs an operation, at its session
 
 -- what it does next there
-operates_on : (p : OperationProgress) (acts : List Act) (s : Session) → OperationAs p acts → (a : OperationAction) → operation_next p.core ≡ a → (work : Work OperationProgress) → operation_works a p s ≡ Some work
+operates_on : (p : OperationProgress) (acts : List Act) (s : Session) → OperationAs p acts → (a : OpAction) → operation_next p.core ≡ a → (work : Work OperationProgress) → operation_works a p s ≡ Some work
     → OperationAs work.job (work.act ∷ acts)
-operates_on p acts s r OperationAction.PutResult is work does =
+operates_on p acts s r OpAction.PutResult is work does =
     let woke = result_wakes p.number s in
     subst (λ (w : Work OperationProgress). OperationAs w.job (w.act ∷ acts)) (ap (value_of work) does)
-    (of_operator.meets p acts OperationAction.PutResult OperationAction.Finish woke (OperationAnswer.ResultPut woke) (ResultPut (waker_in woke)) r (of_operator.awake p OperationAction.PutResult is (λ e. cc)) refl refl (taken_is woke) refl refl)
-operates_on p acts s r OperationAction.Finish is work does =
+    (of_operator.meets p acts OpAction.PutResult OpAction.Finish woke (OpAnswer.ResultPut woke) (ResultPut (waker_in woke)) r (of_operator.awake p OpAction.PutResult is (λ e. cc)) refl refl (taken_is woke) refl refl)
+operates_on p acts s r OpAction.Finish is work does =
     let woke = finish_wakes None s in
     subst (λ (w : Work OperationProgress). OperationAs w.job (w.act ∷ acts)) (ap (value_of work) does)
-    (of_operator.meets p acts OperationAction.Finish OperationAction.Done woke (OperationAnswer.Finished woke) (Finished (waker_in woke)) r (of_operator.awake p OperationAction.Finish is (λ e. cc)) refl refl (taken_is woke) refl refl)
+    (of_operator.meets p acts OpAction.Finish OpAction.Done woke (OpAnswer.Finished woke) (Finished (waker_in woke)) r (of_operator.awake p OpAction.Finish is (λ e. cc)) refl refl (taken_is woke) refl refl)
 operates_on p acts s r _ is work does = absurd (cc)
 
 -- ---- a job of an owner
@@ -189,7 +189,7 @@ seek_goes : (p : SeekProgress) (acts : List Act) (last : Option Session) (owner 
 seek_goes p acts None owner r a is done does = absurd (cc)
 seek_goes p acts (Some s) owner r a is done does = at_work SeekProgress SessionJob.Seek acts owner (seek_works a p s) (λ work e. seeks_on p acts s r a is work e) done does
 
-operate_goes : (p : OperationProgress) (acts : List Act) (last : Option Session) (owner : Owner) → OperationAs p acts → (a : OperationAction) → operation_next p.core ≡ a
+operate_goes : (p : OperationProgress) (acts : List Act) (last : Option Session) (owner : Owner) → OperationAs p acts → (a : OpAction) → operation_next p.core ≡ a
     → (done : Worked) → operate_in a last p owner ≡ Some done → JobAs done.job (done.act ∷ acts)
 operate_goes p acts None owner r a is done does = absurd (cc)
 operate_goes p acts (Some s) owner r a is done does = at_work OperationProgress SessionJob.Operate acts owner (operation_works a p s) (λ work e. operates_on p acts s r a is work e) done does
@@ -218,6 +218,6 @@ worked_on (SessionJob.Seek p) acts owner done r does = by (seek_next p.core) ref
     by a is does = seek_goes p acts owner.session owner r a is done does
 worked_on (SessionJob.Operate p) acts owner done r does = by (operation_next p.core) refl does
   where
-    by : (a : OperationAction) → operation_next p.core ≡ a → operate_as a p owner ≡ Some done → JobAs done.job (done.act ∷ acts)
-    by OperationAction.Deliver is does = subst (λ (d : Worked). JobAs d.job (d.act ∷ acts)) (ap (value_of done) does) (of_operator.wakes p acts r is)
+    by : (a : OpAction) → operation_next p.core ≡ a → operate_as a p owner ≡ Some done → JobAs done.job (done.act ∷ acts)
+    by OpAction.Deliver is does = subst (λ (d : Worked). JobAs d.job (d.act ∷ acts)) (ap (value_of done) does) (of_operator.wakes p acts r is)
     by a is does = operate_goes p acts owner.session owner r a is done does

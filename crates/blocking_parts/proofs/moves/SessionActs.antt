@@ -2,11 +2,11 @@
 -- acts, whatever kind of job it is.
 use Rattle.std.proofs.Common.{◌≡◌, ◌⊎◌, inl, ◌≤◌, ℕ, List, [], ◌∷◌, length, Bool, true, false, refl, ap, ◌∙◌, subst, arith, Option, Some, None, if◌then◌else◌, nat_le, min, take, ◌&&◌, not}
 use Rattle.std.proofs.lemmas.List.{length-take}
-use Rattle.blocking_parts.proofs.Types.{Fault, ItemAction, OperationAction, ReadAction, SeekAction, WriteAction, Act, Finished, HolderWoken, JobClosed, JobParked, ResultPut, TakenOut, SessionJob}
+use Rattle.blocking_parts.proofs.Types.{Fault, ItemAction, OpAction, ReadAction, SeekAction, WriteAction, Act, Finished, HolderWoken, JobClosed, JobParked, ResultPut, TakenOut, SessionJob}
 use Rattle.blocking_parts.proofs.Words.{item_next, operation_next, room, Met, Served, Waiting, peek, read_next, seek_next, after_put, write_next, FindRoom, Peek, SendItem, waker_in, is_of_pool, is_nothing, is_answered, may_act, Owner, Worked, worked_by, calls_waker, read_in, read_as, write_in, write_as, stream_in, stream_as, seek_in, seek_as, operate_in, operate_as, worked, Goods, OfBytes, OfItems, through, Session, found_room, session_after_room, found_put, session_after_put, fits_in, closing_wakes, finish_wakes, session_after_job_close, session_after_finish, front, found_piece, session_after_peek, holds, session_after_consume, Work, work_at_put, work_by, work_of_consume, writer_works, found_send, session_after_send, streamer_works, result_wakes, bytes_of, is_first}
 use Rattle.blocking_core.specs.Places.{hand_in}
 use Rattle.blocking_core.specs.declared.job.item.ItemAction.TheVariants as item
-use Rattle.blocking_core.specs.declared.job.operation.OperationAction.TheVariants as operation
+use Rattle.blocking_core.specs.declared.job.operation.OpAction.TheVariants as operation
 use Rattle.blocking_core.specs.declared.job.read.ReadAction.TheVariants as read
 use Rattle.blocking_core.specs.declared.job.seek.SeekAction.TheVariants as seek
 use Rattle.blocking_core.specs.declared.job.write.WriteAction.TheVariants as write
@@ -169,12 +169,12 @@ module _ (owner : Owner) (done : Worked) where
   seek_does a p does = at_last (job_of.Seek p) (λ last. seek_in a last p owner) refl (seek_at a p) does
 
   -- a job that runs an operation
-  operate_at : (a : OperationAction) (p : operations.Progress) (s : Session) → owner.session ≡ Some s → operate_in a (Some s) p owner ≡ Some done → ActsAt (job_of.Operate p) owner done
+  operate_at : (a : OpAction) (p : operations.Progress) (s : Session) → owner.session ≡ Some s → operate_in a (Some s) p owner ≡ Some done → ActsAt (job_of.Operate p) owner done
   operate_at operation.PutResult p s here does = acts (job_of.Operate p) _ s (PutsResult p.number (waker_in (result_wakes p.number s))) here tt does refl
   operate_at operation.Finish p s here does = acts (job_of.Operate p) _ s (Finishes None (waker_in (finish_wakes None s))) here tt does refl
   operate_at _ p s here does = absurd cc
 
-  operate_does : (a : OperationAction) (p : operations.Progress) → operate_as a p owner ≡ Some done → DoesSo (job_of.Operate p) owner done
+  operate_does : (a : OpAction) (p : operations.Progress) → operate_as a p owner ≡ Some done → DoesSo (job_of.Operate p) owner done
   operate_does operation.Deliver p does = wakes (job_of.Operate p) _ does refl
   operate_does a p does = at_last (job_of.Operate p) (λ last. operate_in a last p owner) refl (operate_at a p) does
 

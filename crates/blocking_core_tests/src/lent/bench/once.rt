@@ -1,7 +1,7 @@
 //! The jobs that call the handle once: those of seeks and of operations.
 use super::{Bench, Core, Given, Left, Seen};
 use blocking_core::io::Fault;
-use blocking_core::job::{OperationAction, OperationAnswer, SeekAction, SeekAnswer};
+use blocking_core::job::{OpAction, OpAnswer, SeekAction, SeekAnswer};
 
 impl Bench {
     pub(super) fn seek_on(&mut self, action: SeekAction) -> Seen {
@@ -42,7 +42,7 @@ impl Bench {
         }
     }
 
-    pub(super) fn operate_on(&mut self, action: OperationAction) -> Seen {
+    pub(super) fn operate_on(&mut self, action: OpAction) -> Seen {
         let (answer, seen) = self.take_operation_action(action);
         if let Core::Operating(core) = &mut self.core {
             core.answer(answer);
@@ -50,29 +50,29 @@ impl Bench {
         seen
     }
 
-    fn take_operation_action(&mut self, action: OperationAction) -> (OperationAnswer, Seen) {
+    fn take_operation_action(&mut self, action: OpAction) -> (OpAnswer, Seen) {
         match action {
-            OperationAction::Call => self.operate(),
-            OperationAction::PutResult => {
+            OpAction::Call => self.operate(),
+            OpAction::PutResult => {
                 let woke = self.result.put(self.held).wake.is_some();
-                (OperationAnswer::ResultPut { woke }, Seen::ResultPut(woke))
+                (OpAnswer::ResultPut { woke }, Seen::ResultPut(woke))
             }
-            OperationAction::Finish => {
+            OpAction::Finish => {
                 let woke = self.slot.put(Left::Back(None)).wake.is_some();
-                (OperationAnswer::Finished { woke }, Seen::Finished(woke))
+                (OpAnswer::Finished { woke }, Seen::Finished(woke))
             }
-            OperationAction::Deliver => (OperationAnswer::Delivered, Seen::Called),
-            OperationAction::Done => (OperationAnswer::Delivered, Seen::Misplaced),
+            OpAction::Deliver => (OpAnswer::Delivered, Seen::Called),
+            OpAction::Done => (OpAnswer::Delivered, Seen::Misplaced),
         }
     }
 
-    fn operate(&mut self) -> (OperationAnswer, Seen) {
+    fn operate(&mut self) -> (OpAnswer, Seen) {
         match self.take_given() {
             Some(Given::Returns(result)) => {
                 self.held = result;
-                (OperationAnswer::Returned, Seen::Operated)
+                (OpAnswer::Returned, Seen::Operated)
             }
-            _ => (OperationAnswer::Delivered, Seen::Misplaced),
+            _ => (OpAnswer::Delivered, Seen::Misplaced),
         }
     }
 }
