@@ -27,6 +27,8 @@ pub enum Ended<J> {
 }
 
 impl<J: Job> Held<J> {
+    ghost use Rattle.blocking_pool.specs.Jobs.{HaveValues};
+    ghost use Rattle.blocking_pool.specs.Pools.{IsSound};
     ghost use Rattle.blocking_pool.specs.Starters.{asked};
     ghost use Rattle.blocking_executor.specs.Sections.{Adds, Starts, Wakes, Sweeps, ArrivesAndTakes, EndsAndTakes, WaitsAndTakes, SetsLimit, AreCountsOf, is_over};
 
@@ -111,9 +113,12 @@ impl<J: Job> Held<J> {
         self.pool.queue_len() > 0
     }
 
-    /// The workers and jobs of this section.
+    /// The workers and jobs of this section. Each queued job stands in the queue once, and nothing else does; the pool has a job's value exactly
+    /// while that isn't running.
     pub fn counts(&self) -> Counts
-        ensures { AreCountsOf result self.now.pool }
+        ensures counts { AreCountsOf result self.now.pool }
+        ensures sound { IsSound self.now.pool }
+        ensures values { HaveValues self.now.pool.jobs }
     {
         let workers = self.pool.thread_count();
         let idle = self.pool.idle_count();

@@ -8,7 +8,7 @@ use Rattle.slab.specs.Slab.{Slab, get, Updates, with_value}
 use Rattle.slab.proofs.SlabLemmas.{Updates-with_value}
 use Rattle.blocking_pool.specs.Chain.{Chain}
 use Rattle.blocking_pool.specs.Lists.{is_in, IsOnce, without, first_of}
-use Rattle.blocking_pool.specs.Jobs.{Job, Jobs, JobNumber, is_queued, is_running, new_job, if_at, job_of, is_running_as, jobs_after_change, amend}
+use Rattle.blocking_pool.specs.Jobs.{Job, Jobs, JobNumber, is_queued, is_running, HaveValues, new_job, if_at, job_of, is_running_as, jobs_after_change, amend}
 use Rattle.blocking_pool.specs.Tables.{job_at, listed, serial_or_zero, serials_at, IsTable}
 use Rattle.blocking_pool.specs.declared.pool.standing.Standing.TheVariants.{Queued, Running}
 use Rattle.blocking_pool.specs.declared.pool.table.Entry.{Entry}
@@ -361,6 +361,12 @@ module _ {J : Type 0} where
   queued_held slab chain place entry table queued found none =
       let stands = queued_is entry.standing (sym (table.queued place entry found) ∙ queued) in
       false≢true (sym (ap is_some none) ∙ table.held place entry found ∙ ap (λ s. not (is_running s)) stands)
+
+  -- each value is there exactly while its job isn't running
+  pub valued : (slab : Slab (Entry J)) (chain : Chain) → IsTable slab chain → HaveValues (jobs_of slab)
+  valued slab chain table serial job found =
+      let from = from_there slab (jobs_of slab) serial job (tabled slab table.apart) found in
+      subst (λ j. is_some j.value ≡ not (is_running j.standing)) (sym from.3) (table.held job.place from.0 from.1)
 
   pub takes : (old : Slab (Entry J)) (chain next : Chain) (place : ℕ) (entry : Entry J) → IsTable old chain → first_of chain.places ≡ Some place
       → get old place ≡ Some entry → next ≡ record chain { places = without place chain.places }

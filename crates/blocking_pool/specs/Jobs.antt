@@ -1,5 +1,5 @@
 -- Jobs as a pool has them.
-use Rattle.std.specs.Prelude.{ℕ, zero, suc, ◌+◌, if◌then◌else◌, Bool, true, false, not, ◌==◌, List, [], ◌∷◌, Option, Some, None, option_map, refl}
+use Rattle.std.specs.Prelude.{◌≡◌, ℕ, zero, suc, ◌+◌, if◌then◌else◌, Bool, true, false, not, ◌==◌, List, [], ◌∷◌, Option, Some, None, is_some, option_map, refl}
 use Rattle.std.specs.Ordering.{nat_cmp}
 use Rattle.std.specs.FinMap.{FinMap, get}
 use Rattle.std.specs.FinMap as map
@@ -70,6 +70,10 @@ module _ {J : Type 0} where
   abbrev pub running_below : Jobs J → ℕ → ℕ
   running_below jobs zero = 0
   running_below jobs (suc serial) = running_below jobs serial + one_if (is_running_job (get jobs serial))
+
+  -- each value is there exactly while its job isn't running: then its worker has it
+  abbrev pub HaveValues : Jobs J → Type 0
+  HaveValues jobs = (serial : ℕ) (job : Job J) → get jobs serial ≡ Some job → is_some job.value ≡ not (is_running job.standing)
 
   -- a job that stands in the queue again
   abbrev pub entry_after_requeue : Job J → Job J

@@ -63,7 +63,7 @@ impl<J: Job> Pool<J> {
     ghost use Rattle.blocking_pool.specs.Pools.{IsSound};
     ghost use Rattle.blocking_pool.specs.PoolAnswers.{pool_of, Adds, Arrives, Takes, Wakes, Cancels, Sweeps, Waits, StaysOrStops, Ends};
     ghost use Rattle.blocking_pool.specs.Pools.{EnterAgain};
-    ghost use Rattle.blocking_pool.specs.Jobs.{job_of, standing_of, is_running_as, value_at};
+    ghost use Rattle.blocking_pool.specs.Jobs.{job_of, standing_of, is_running_as, value_at, HaveValues};
     ghost use Rattle.blocking_pool.specs.PoolLends.{lends_job};
     ghost use Rattle.std.specs.Borrow.{sem};
     ghost use Rattle.std.specs.Option.{option_copied_mut};
@@ -363,6 +363,7 @@ impl<J: Job> Pool<J> {
     pub fn queue_len(&self) -> usize
         ensures value { result ≡ length self.now.queue }
         ensures sound { IsSound self.now }
+        ensures values { HaveValues self.now.jobs }
     {
         self.table.queue_len()
     }

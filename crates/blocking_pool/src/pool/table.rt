@@ -3,7 +3,7 @@ ghost use Rattle.std.specs.Prelude.{◌≡◌, ◌+◌, ◌<◌, ◌≤◌, ◌+
 ghost use Rattle.std.specs.FinMap as map;
 ghost use Rattle.blocking_pool.specs.Batch.{serials_of};
 ghost use Rattle.blocking_pool.specs.Lists.{IsOnce};
-ghost use Rattle.blocking_pool.specs.Jobs.{new_job, job_of, standing_of, is_running_as, amend, entry_after_requeue, jobs_after_requeue, entry_after_park, entry_after_wake, entry_after_cancel, has_value, value_at};
+ghost use Rattle.blocking_pool.specs.Jobs.{new_job, job_of, standing_of, is_running_as, amend, entry_after_requeue, jobs_after_requeue, entry_after_park, entry_after_wake, entry_after_cancel, has_value, value_at, HaveValues};
 ghost use Rattle.blocking_pool.specs.Tables.{HoldsParked, IsAskedAt, GathersAt};
 ghost use Rattle.std.specs.List.{All};
 ghost use Rattle.std.specs.Option.{option_copied_mut};
@@ -86,7 +86,8 @@ impl<J: Drop> Table<J> {
 
     /// How many jobs are queued.
     pub(crate) fn queue_len(&self) -> usize
-        ensures { result ≡ length self.now.queue }
+        ensures value { result ≡ length self.now.queue }
+        ensures values { HaveValues self.now.jobs }
     {
         self.queue.len()
     }

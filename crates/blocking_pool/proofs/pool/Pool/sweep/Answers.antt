@@ -11,7 +11,7 @@ sweep-requires g c = c.self.invariant.room
 pub returns-then-count-eq0-clause-answer : goal.returns-then-count-eq0-clause-answer
 returns-then-count-eq0-clause-answer g c =
     swept_none g.J.Job.may_answer (asked g.S.Starter c.args.starter.now c.args.starter.now) c.self.inside.table c.sweep.new.self c.self.inside.counts c.self.inside.next_serial c.self.inside.due.room
-    c.queue_len-before.result c.queue_len-after.result c.args.self.now refl c.self.invariant c.sweep.ensures.swept c.queue_len-before.ensures c.queue_len-after.ensures c.if-count-eq0.true c.self.view_is
+    c.queue_len-before.result c.queue_len-after.result c.args.self.now refl c.self.invariant c.sweep.ensures.swept c.queue_len-before.ensures.value c.queue_len-after.ensures.value c.if-count-eq0.true c.self.view_is
 
 pub invariant_of-self-2 : goal.invariant_of-self-2
 invariant_of-self-2 g c =
@@ -22,5 +22,5 @@ pub returns-clause-answer : goal.returns-clause-answer
 returns-clause-answer g c =
     swept_some g.J.Job.may_answer (asked g.S.Starter c.args.starter.now c.grow.new.starter) c.self.inside.table c.sweep.new.self
     c.self.inside.counts c.grow.new.self c.ring_one.new.self c.grow.ensures.growth.0 c.self.inside.next_serial c.self.inside.due.room
-    c.queue_len-before.result c.queue_len-after.result c.queue_len-after.result c.args.self.now c.self.invariant c.sweep.ensures.swept c.queue_len-before.ensures c.queue_len-after.ensures c.if-count-eq0.false c.queue_len-after.ensures
+    c.queue_len-before.result c.queue_len-after.result c.queue_len-after.result c.args.self.now c.self.invariant c.sweep.ensures.swept c.queue_len-before.ensures.value c.queue_len-after.ensures.value c.if-count-eq0.false c.queue_len-after.ensures.value
     c.grow.ensures.growth.1 c.ring_one.ensures c.self.view_is
