@@ -10,8 +10,8 @@ pub use blocking_ends::{
     SendEnd, link, link_drain, link_in, link_in_over, link_over, unlink_drain, unlink_in,
 };
 pub use blocking_executor::{
-    CallJob, Cancel, Counts, Executor, Host, Runtime, Task, executor, job,
-    set_max_blocking_threads, task, unblock,
+    CallJob, Cancel, Counts, Ended, Executor, Held, Host, Runtime, Task, ThreadStarter, executor,
+    job, set_max_blocking_threads, task, unblock,
 };
 pub use blocking_io::{
     AsyncRead, AsyncReadExt, AsyncSeek, AsyncSeekExt, AsyncWrite, AsyncWriteExt, Close, Flush,

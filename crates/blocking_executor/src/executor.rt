@@ -139,7 +139,8 @@ impl<J: Job, H: Runtime> Executor<J, H> {
         }
     }
 
-    fn starter(&self) -> ThreadStarter<'_, H> {
+    /// What asks the spawner for workers, one for each call and each worker. Those that it starts serve this executor.
+    pub fn starter(&self) -> ThreadStarter<'_, H> {
         ThreadStarter::new(&self.shared.desk, self.rt)
     }
 

@@ -9,7 +9,8 @@ use blocking_core::pool::{
 };
 use std::alloc::Global;
 
-/// A pool whose bell is silent: whatever its calls rang was answered to the caller.
+/// A pool whose bell is silent: each section is one call, which answers whom to notify. It is what an [`Executor`](crate::Executor) has under its
+/// lock, and stands by itself on one thread as well. Bells can't be let go: each is rung, or heard.
 #[derive(Drop)]
 pub struct Held<J: Job> {
     pool: Pool<J>,
@@ -32,6 +33,7 @@ impl<J: Job> Held<J> {
     ghost use Rattle.blocking_pool.specs.Starters.{asked};
     ghost use Rattle.blocking_executor.specs.Sections.{Adds, Starts, Wakes, Sweeps, ArrivesAndTakes, EndsAndTakes, WaitsAndTakes, SetsLimit, AreCountsOf, is_over};
 
+    /// A pool with no job and no worker, as [`Pool::new`]. Takes no memory.
     pub fn new(alloc: Global, setting: Option<&str>) -> Held<J>
         ensures { Starts setting.entry result.pool }
     {
@@ -40,7 +42,7 @@ impl<J: Job> Held<J> {
         }
     }
 
-    /// Adds a job.
+    /// Adds a job, as [`Pool::add`]: a refused job is handed back.
     pub fn add<S: Starter>(&mut self, job: J, starter: &mut S) -> (Result<JobNo, Refused<J>>, Bell)
         ensures { Adds (asked S.Starter starter.old starter.new)
             self.old.pool job result.0 self.new.pool result.1 }
@@ -49,7 +51,7 @@ impl<J: Job> Held<J> {
         (answer, self.pool.bell())
     }
 
-    /// A wake reaches its job.
+    /// A wake reaches its job, as [`Pool::wake`].
     pub fn wake<S: Starter>(&mut self, note: WakeNote, starter: &mut S) -> (Woke, Bell)
         ensures { Wakes (asked S.Starter starter.old starter.new)
             self.old.pool note result.0 self.new.pool result.1 }

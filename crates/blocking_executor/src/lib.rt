@@ -12,7 +12,9 @@ mod slot;
 pub mod task;
 
 pub use counts::Counts;
+pub use desk::ThreadStarter;
 pub use executor::{Executor, set_max_blocking_threads};
+pub use held::{Ended, Held};
 pub use job::CallJob;
 pub use runtime::{Host, Runtime};
 pub use task::{Cancel, Task, unblock};

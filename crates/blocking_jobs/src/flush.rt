@@ -6,6 +6,7 @@ use std::io::Write;
 use std::marker::PhantomData;
 
 /// The proof that a writer of this type was asked to flush, whatever it answered. Only a flush makes it.
+#[derive(Drop)]
 pub(crate) struct Flushed<T> {
     of: PhantomData<T>,
 }

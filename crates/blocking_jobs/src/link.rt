@@ -34,6 +34,7 @@ pub struct Returned<T: Drop, X: Drop> {
 
 /// The proof that a handle or a result of this type was left in its slot, or dropped since its owner wants it no more. Only the two calls that
 /// leave it there make it: [`Link::give_back`] and [`put_result`].
+#[derive(Drop)]
 pub(crate) struct Given<T> {
     of: PhantomData<T>,
 }

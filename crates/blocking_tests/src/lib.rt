@@ -17,11 +17,15 @@ mod limits;
 #[cfg(test)]
 mod locks;
 #[cfg(test)]
+mod nothing;
+#[cfg(test)]
 mod pairs;
 #[cfg(test)]
 mod planned;
 #[cfg(test)]
 mod scene;
+#[cfg(test)]
+mod sections;
 #[cfg(test)]
 mod threads;
 #[cfg(test)]

@@ -1,3 +1,4 @@
 pub mod Lenders
+pub mod Loans
 pub mod Owners
 pub mod Polls

@@ -1,6 +1,6 @@
 -- What a poll of an owner does: where the handle is, what it may answer to each action, and what its reply says of it.
 use Rattle.std.specs.Prelude.{◌≡◌, ◌+◌, ◌<◌, ◌≤◌, ℕ, if◌then◌else◌, Bool, true, false, List, [], ◌∷◌, Option, Some, None, IsSome, Result, Ok, Err}
-use Rattle.blocking_core.specs.OwnerCalls.{OwnerMachine, new_poll, owner_next, owner_after, table}
+use Rattle.blocking_core.specs.OwnerCalls.{OwnerMachine, new_poll, owner_next, owner_after, table, has_pipe}
 use Rattle.blocking_core.specs.declared.io.Fault.{Fault}
 use Rattle.blocking_core.specs.declared.io.Fault.TheVariants as fault
 use Rattle.blocking_core.specs.declared.io.JobFault.{JobFault}
@@ -14,7 +14,7 @@ use Rattle.blocking_pool.specs.declared.pool.answer.Refused.{Refused}
 use Rattle.blocking_pool.specs.declared.pool.token.WakeNote.{WakeNote}
 use Rattle.blocking_core.specs.declared.unblock.PollCall.{PollCall}
 use Rattle.blocking_core.specs.declared.unblock.PollCall.TheVariants.{Read, Write, Next}
-use Rattle.blocking_core.specs.declared.unblock.OwnerEnd.TheVariants.{Open}
+use Rattle.blocking_core.specs.declared.unblock.OwnerEnd.TheVariants.{Open, Shut}
 use Rattle.blocking_core.specs.declared.unblock.SessionKind.{SessionKind}
 use Rattle.blocking_core.specs.declared.unblock.SessionKind.TheVariants as kind
 use Rattle.blocking_core.specs.declared.unblock.State.{State}
@@ -66,6 +66,11 @@ goes_on (Read most) (state.Lent kind.Reading Open) = true
 goes_on (Write most) (state.Lent kind.Writing Open) = true
 goes_on Next (state.Lent kind.Streaming Open) = true
 goes_on call now = false
+
+-- no pipe is open at its owner's end
+abbrev pub IsLetGo : State → Type 0
+IsLetGo (state.Lent kind end) = has_pipe kind ≡ true → end ≡ Shut
+IsLetGo now = Unit {0}
 
 -- whether the session of an operation is under way
 abbrev pub operates : State → Bool

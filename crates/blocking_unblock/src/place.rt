@@ -1,9 +1,13 @@
 //! Where a handle is.
 ghost use Rattle.std.specs.Prelude.{◌≡◌};
-ghost use Rattle.blocking_unblock.specs.Owners.{state_of, handle_in};
+ghost use Rattle.std.specs.Borrow.{sem};
+ghost use Rattle.std.specs.Option.{option_copied_mut};
+ghost use Rattle.blocking_unblock.specs.Loans.{lends_place};
+ghost use Rattle.blocking_unblock.specs.Owners.{state_of, handle_in, IsLetGo};
 
 use crate::session::{Session, Tools};
 use crate::spare::Spare;
+use blocking_core::pool::WakeNote;
 use blocking_core::unblock::State;
 use std::sync::Wait;
 
@@ -29,10 +33,32 @@ impl<T: Drop, I: Drop, H: Wait + Copy> Place<T, I, H> {
         }
     }
 
+    /// Lets the owner's end of a session's pipe go, if there is one and it is open: it is closed. Answers the note of a job that waits, which has to
+    /// be spent.
+    pub(crate) fn let_go(&mut self) -> Option<WakeNote>
+        ensures { IsLetGo (state_of self.new) }
+    {
+        match self {
+            Place::Lent(session) => session.let_go(),
+            Place::Idle(_) | Place::Closed => None,
+        }
+    }
+
     /// Sets the mark of the session, if there is one: its owner is gone.
     pub(crate) fn mark(&self) {
         if let Place::Lent(session) = self {
             session.mark();
+        }
+    }
+
+    /// The handle, where it is with its owner.
+    pub(crate) fn handle_mut(&mut self) -> Option<&mut T>
+        ensures* lends { sem 𝓛 (lends_place T.row I.row H.row self.entry result) }
+        ensures handle { option_copied_mut result ≡ handle_in self.old }
+    {
+        match self {
+            Place::Idle(handle) => Some(handle),
+            Place::Lent(_) | Place::Closed => None,
         }
     }
 

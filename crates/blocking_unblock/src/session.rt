@@ -180,6 +180,20 @@ impl<T: Drop, I: Drop, H: Wait + Copy> Session<T, I, H> {
         }
     }
 
+    /// Lets the owner's end of the pipe go, if there is one and it is open: it is closed. Answers the note of a job that waits, which has to be
+    /// spent.
+    pub(crate) fn let_go(&mut self) -> Option<WakeNote>
+        ensures shut { has_pipe (kind_of self.new.side) ≡ true → self.new.owner_end ≡ Shut }
+        ensures kind { kind_of self.new.side ≡ kind_of self.old.side }
+    {
+        match (&self.side, self.owner_end) {
+            (Side::Reading(_, _) | Side::Writing(_, _) | Side::Streaming(_, _), OwnerEnd::Open) => {
+                self.close()
+            }
+            _ => None,
+        }
+    }
+
     /// Moves the first bytes out of the pipe, or waits there for some.
     pub(crate) fn drain(
         &mut self,

@@ -28,8 +28,10 @@ use std::{fmt, io, mem};
 
 /// The owner of a blocking handle, which it lends to jobs on a pool: polls then use the handle without waiting for it.
 ///
-/// Dropping it waits for no job. A handle that is with its owner, or that its job gave back already, is dropped here, by this thread; else
-/// a worker drops it with the session's job, once that waits or is taken. A job that runs goes on until then.
+/// Dropping it waits for no job. A handle that is with its owner, or that its job gave back already, is dropped here, by this thread. Else the
+/// owner's end of the pipe is closed, and a worker drops the handle with the session's job: at once where that waits, and else when it is taken or
+/// comes to its end. A job that reads or gives items ends after the read or the item under way. One that writes and runs writes all that it was
+/// given, and flushes; what a queued one had to write is lost, unless a worker took it before. A seek or an operation under way is made.
 ///
 /// The memory of a session that read or wrote is kept for the next one of its kind: that of its pipe and its pieces, of which no more was touched
 /// than was used. It is given back where a session of another kind begins or one is refused, and with the owner: by [`Unblock::into_inner`], a
@@ -142,12 +144,16 @@ impl<T: Drop, I: Drop, J: Job, H: Runtime> Unblock<T, I, J, H> {
 impl<T: Drop, I: Drop, J: Job, H: Runtime> Drop for Unblock<T, I, J, H> {
     fn drop(self) {
         let Unblock {
-            place,
+            mut place,
             spare: _,
             capacity: _,
-            executor: _,
+            executor,
             items: _,
         } = self;
+        // A job that waits for its owner is found by a worker at once, and one that runs finds its pipe shut.
+        if let Some(note) = place.let_go() {
+            let _ = executor.wake(note);
+        }
         // (nobody waits for the job: a worker drops it, and the handle with it, unless that was given back)
         place.mark();
     }
@@ -173,7 +179,10 @@ impl<T: Drop, I: Drop, J: Job, H: Runtime> Unblock<T, I, J, H> {
     ghost use Rattle.blocking_core.specs.declared.unblock.OwnerEnd.TheVariants.{Open};
     ghost use Rattle.blocking_core.specs.declared.unblock.OwnerAction.TheVariants.{Begin as BeginAction, Close as CloseAction, Receive as ReceiveAction, PollSlot as SlotAction};
     ghost use Rattle.std.specs.Prelude.{ℕ};
-    ghost use Rattle.blocking_unblock.specs.Owners.{IsClosed, IsAt, HasCrossed, Reaches, Follows, KeepsRefused, KeepsAtOnce, crossed_before, state_of, has, reply_of_get, wanted, offered};
+    ghost use Rattle.std.specs.Borrow.{sem};
+    ghost use Rattle.std.specs.Option.{option_copied_mut};
+    ghost use Rattle.blocking_unblock.specs.Loans.{lends_handle};
+    ghost use Rattle.blocking_unblock.specs.Owners.{IsClosed, IsAt, handle_in, HasCrossed, Reaches, Follows, KeepsRefused, KeepsAtOnce, crossed_before, state_of, has, reply_of_get, wanted, offered};
     ghost use Rattle.blocking_unblock.specs.Polls.{MayAsk, CanDo, Does, Brings, FitsReply, Stands, IsGoing, KeepsFirst, KeepsBrought, KeepsOpen, HasPipe, HasSession, Crosses, Crossing, Drains, Fills, Resumes, Kept, last_action};
     ghost use Rattle.blocking_core.specs.OwnerCalls.{begun_by};
 
@@ -418,10 +427,35 @@ impl<T: Drop, I: Drop, J: Job, H: Runtime> Unblock<T, I, J, H> {
         unreachable!()
     }
 
-    /// The handle itself. A session that is under way is stopped first: what was read ahead is lost, what is to be written is written and
-    /// flushed, and its fault isn't told.
+    /// Waits until the handle is with its owner. A session that is under way is stopped first: what was read ahead is lost, what is to be written is
+    /// written and flushed, and its fault isn't told.
     ///
     /// A poll that waits has registered, and is polled again.
+    pub fn poll_idle(&mut self, cx: &mut Context<'_>) -> Poll<()>
+        requires { IsClosed self.old.place → ⊥ }
+        ensures follows { Follows GetMutCall self.old.place (reply_of_get result) self.new.place }
+        ensures idle { IfReady result (λ _. IsAt Idle self.new.place) }
+        ensures open { IsClosed self.new.place → ⊥ }
+        ensures at_once { KeepsAtOnce GetMutCall self.old.place self.new.place }
+        ensures rest { (self.new.capacity ≡ self.old.capacity) × (self.new.executor ≡ self.old.executor) }
+        ensures armed { OnPending result (IsArmed cx.new) }
+        ensures kept { Keeps cx.old cx.new }
+    {
+        match self.poll(PollCall::GetMut, cx, &mut ToNobody, &mut [], &[]) {
+            Poll::Ready(_) => Poll::Ready(()),
+            Poll::Pending => Poll::Pending,
+        }
+    }
+
+    /// The handle, where it is with its owner. No session is under way then, and none begins while it is lent.
+    pub fn handle_mut(&mut self) -> Option<&mut T>
+        ensures* lends { sem 𝓛 (lends_handle T.row I.row J.row J.Job H.row self.entry result) }
+        ensures handle { option_copied_mut result ≡ handle_in self.old.place }
+    {
+        self.place.handle_mut()
+    }
+
+    /// The handle itself, as [`Unblock::poll_idle`] waits for it.
     pub fn poll_get_mut(&mut self, cx: &mut Context<'_>) -> Poll<&mut T>
         requires { IsClosed self.old.place → ⊥ }
         ensures follows { (place : _) × Follows GetMutCall self.old.place (reply_of_get result) place
@@ -429,13 +463,12 @@ impl<T: Drop, I: Drop, J: Job, H: Runtime> Unblock<T, I, J, H> {
         ensures armed { OnPending result (IsArmed cx.new) }
         ensures kept { Keeps cx.old cx.new }
     {
-        let polled = self.poll(PollCall::GetMut, cx, &mut ToNobody, &mut [], &[]);
-        if let Poll::Pending = polled {
+        if let Poll::Pending = self.poll_idle(cx) {
             return Poll::Pending;
         }
-        match &mut self.place {
-            Place::Idle(handle) => Poll::Ready(handle),
-            _ => unreachable!(),
+        match self.handle_mut() {
+            Some(handle) => Poll::Ready(handle),
+            None => unreachable!(),
         }
     }
 }

@@ -13,6 +13,8 @@ mod items;
 #[cfg(test)]
 mod kinds;
 #[cfg(test)]
+mod leaving;
+#[cfg(test)]
 mod many_writes;
 #[cfg(test)]
 mod memory;

@@ -1,12 +1,13 @@
 //! A pipe of pieces whose owner is lent what it drains, and its memory, which serves a second pipe: step by step on one thread.
 ghost use Rattle.futures.specs.Task.{Keeps};
 
+use crate::nothing::{Nothing, is_woken};
 use blocking::{
     AnyPlace, DrainEnd, Executor, Host, LendingMemory, LendingStore, PieceMemory, Runtime, SendEnd,
     link_drain, link_in_over, unlink_drain, unlink_in,
 };
 use blocking_core::pipe::{Drained, Put, Room};
-use blocking_core::pool::{Job, JobNo, JobStep, WakeNote};
+use blocking_core::pool::{Job, JobNo};
 use futures::Future;
 use futures::executor::block_on;
 use futures::task::{Context, Poll};
@@ -86,24 +87,6 @@ const SECOND: &[(Step, Shown)] = &[
     (Step::Drain(3), Shown::Over),
 ];
 
-// A job that is over at once. Its number serves those that wait.
-#[derive(Drop)]
-struct Nothing;
-
-impl Job for Nothing {
-    ghost use Rattle.std.specs.Prelude.{◌≡◌, false};
-
-    ghost may_answer = { λ _ answer. answer ≡ false };
-
-    fn step(&mut self, _me: JobNo) -> JobStep {
-        JobStep::Done
-    }
-
-    fn abandoned(&self) -> bool {
-        false
-    }
-}
-
 // Both ends of a pipe, and an executor whose job's number the job's end bears.
 #[derive(Drop)]
 struct Bench<J: Job, H: Runtime> {
@@ -115,16 +98,6 @@ struct Bench<J: Job, H: Runtime> {
 }
 
 impl<J: Job, H: Runtime> Bench<J, H> {
-    // Whether it is a note of the job.
-    fn is_woken(&self, note: Option<WakeNote>) -> bool {
-        let Some(note) = note else {
-            return false;
-        };
-        let is_of_job = note.job().serial() == self.me.serial();
-        let _ = self.executor.wake(note);
-        is_of_job
-    }
-
     fn room(&mut self) -> Shown {
         match self.sender.room_or_seat(self.me) {
             Room::Free(free) => Shown::Free(free),
@@ -157,7 +130,11 @@ impl<J: Job, H: Runtime> Bench<J, H> {
             return Shown::Missing;
         }
         match self.drainer.drain_or_seat(cx, &mut bytes[..most]) {
-            Drained::Got(count, note) => Shown::Bytes(count, bytes[0], self.is_woken(note)),
+            Drained::Got(count, note) => Shown::Bytes(
+                count,
+                bytes[0],
+                is_woken(&self.executor, self.me, note),
+            ),
             Drained::Ended => Shown::Over,
             Drained::Waits(_) => Shown::Waits,
         }
@@ -176,7 +153,7 @@ impl<J: Job, H: Runtime> Bench<J, H> {
             Step::CloseSender => Shown::Closed(self.sender.close().is_some()),
             Step::CloseDrainer => {
                 let note = self.drainer.close();
-                Shown::Closed(self.is_woken(note))
+                Shown::Closed(is_woken(&self.executor, self.me, note))
             }
         }
     }

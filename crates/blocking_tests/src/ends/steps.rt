@@ -1,6 +1,7 @@
 //! Each call of the ends, step by step on one thread.
 ghost use Rattle.futures.specs.Task.{Keeps};
 
+use crate::nothing::{Nothing, is_woken};
 use blocking::{
     AnyPlace, Executor, FillEnd, Host, PeekEnd, PieceMemory, RecvEnd, Runtime, SendEnd, link,
     link_in, link_in_over, link_over,
@@ -9,7 +10,7 @@ use blocking_core::pipe::{
     CopyStore, Drained, Filled, FlatStore, LendingMemory, LendingStore, Peeked, Put, Received,
     RingStore, Room, Sending,
 };
-use blocking_core::pool::{Job, JobNo, JobStep, WakeNote};
+use blocking_core::pool::{Job, JobNo};
 use futures::Future;
 use futures::executor::block_on;
 use futures::task::{Context, Poll};
@@ -58,24 +59,6 @@ enum Shown {
     Closed(bool),
     Count(u64),
     Missing,
-}
-
-// A job that is over at once. Its number serves those that wait.
-#[derive(Drop)]
-struct Nothing;
-
-impl Job for Nothing {
-    ghost use Rattle.std.specs.Prelude.{◌≡◌, false};
-
-    ghost may_answer = { λ _ answer. answer ≡ false };
-
-    fn step(&mut self, _me: JobNo) -> JobStep {
-        JobStep::Done
-    }
-
-    fn abandoned(&self) -> bool {
-        false
-    }
 }
 
 type Row = (&'static str, &'static [(Step, Shown)]);
@@ -199,16 +182,6 @@ struct Bench<S: CopyStore<u8>, T: CopyStore<u8>, J: Job, H: Runtime> {
 }
 
 impl<S: CopyStore<u8>, T: CopyStore<u8>, J: Job, H: Runtime> Bench<S, T, J, H> {
-    // Whether it is a note of the job.
-    fn is_woken(&self, note: Option<WakeNote>) -> bool {
-        let Some(note) = note else {
-            return false;
-        };
-        let is_of_job = note.job().serial() == self.me.serial();
-        let _ = self.executor.wake(note);
-        is_of_job
-    }
-
     fn room(&mut self) -> Shown {
         match self.sender.room_or_seat(self.me) {
             Room::Free(free) => Shown::Free(free),
@@ -256,7 +229,11 @@ impl<S: CopyStore<u8>, T: CopyStore<u8>, J: Job, H: Runtime> Bench<S, T, J, H> {
         ensures { Keeps cx.old cx.new }
     {
         match self.receiver.receive_or_seat(cx) {
-            Received::Got(item, note) => Shown::Items(1, item, self.is_woken(note)),
+            Received::Got(item, note) => Shown::Items(
+                1,
+                item,
+                is_woken(&self.executor, self.me, note),
+            ),
             Received::Ended => Shown::Over,
             Received::Waits(_) => Shown::Waits,
         }
@@ -267,7 +244,11 @@ impl<S: CopyStore<u8>, T: CopyStore<u8>, J: Job, H: Runtime> Bench<S, T, J, H> {
     {
         let mut items = [0u8; 3];
         match self.receiver.drain_or_seat(cx, &mut items) {
-            Drained::Got(count, note) => Shown::Items(count, items[0], self.is_woken(note)),
+            Drained::Got(count, note) => Shown::Items(
+                count,
+                items[0],
+                is_woken(&self.executor, self.me, note),
+            ),
             Drained::Ended => Shown::Over,
             Drained::Waits(_) => Shown::Waits,
         }
@@ -280,7 +261,10 @@ impl<S: CopyStore<u8>, T: CopyStore<u8>, J: Job, H: Runtime> Bench<S, T, J, H> {
             return Shown::Missing;
         }
         match self.filler.fill_or_seat(cx, items) {
-            Filled::Took(count, note) => Shown::Took(count, self.is_woken(note)),
+            Filled::Took(count, note) => Shown::Took(
+                count,
+                is_woken(&self.executor, self.me, note),
+            ),
             Filled::Shut => Shown::Shut,
             Filled::Waits(_) => Shown::Waits,
         }
@@ -334,7 +318,7 @@ impl<S: CopyStore<u8>, T: CopyStore<u8>, J: Job, H: Runtime> Bench<S, T, J, H> {
             Step::CloseSender => Shown::Closed(self.sender.close().is_some()),
             Step::CloseReceiver => {
                 let note = self.receiver.close();
-                Shown::Closed(self.is_woken(note))
+                Shown::Closed(is_woken(&self.executor, self.me, note))
             }
             Step::Fill(items) => self.fill(cx, items),
             Step::Take(count) => self.take(count),
@@ -344,7 +328,7 @@ impl<S: CopyStore<u8>, T: CopyStore<u8>, J: Job, H: Runtime> Bench<S, T, J, H> {
             Step::Taken => Shown::Count(self.taker.received()),
             Step::CloseFiller => {
                 let note = self.filler.close();
-                Shown::Closed(self.is_woken(note))
+                Shown::Closed(is_woken(&self.executor, self.me, note))
             }
             Step::CloseTaker => Shown::Closed(self.taker.close().is_some()),
         }
