@@ -59,13 +59,14 @@ fn hand_after(ended: Ended<Nothing>) -> Hand {
 }
 
 // A pool, and who its bells ring.
-struct Bench<S: Starter> {
+#[derive(Drop)]
+struct Bench<S: Starter + Drop> {
     held: Held<Nothing>,
     starter: S,
     condvar: Condvar,
 }
 
-impl<S: Starter> Bench<S> {
+impl<S: Starter + Drop> Bench<S> {
     // One section, by a worker with this in its hand. One that doesn't fit the hand is left out.
     fn section(&mut self, section: Section, hand: Hand) -> Hand {
         let (hand, bell) = match (section, hand) {
