@@ -1,6 +1,6 @@
 //! What the owner of a lent handle and its job share beside the pipe: the slot in which the handle comes back, under its lock, and
 //! the mark of a session whose owner is gone.
-ghost use Rattle.std.specs.Prelude.{OnErr, IfOk};
+ghost use Rattle.std.specs.Prelude.{◌≡◌, true, false, OnErr, IfOk};
 ghost use Rattle.futures.specs.Task.{IsArmed, Keeps};
 
 use blocking_core::io::JobFault;
@@ -100,6 +100,8 @@ impl<T: Drop, X: Drop> Link<T, X> {
 pub struct WayBack<T: Drop, X: Drop, H: Wait + Copy> {
     link: Arc<Link<T, X>>,
     source: Source,
+    // Whether the handle was taken out of its slot.
+    is_back: bool,
     rt: H,
 }
 
@@ -114,7 +116,9 @@ pub struct Linked<T: Drop, X: Drop, H: Wait + Copy> {
 
 impl<T: Drop, X: Drop, H: Wait + AllocGlobal + Copy> Linked<T, X, H> {
     /// A new link: no handle came back, and no mark is set. It errs where its memory is refused.
-    pub fn new(rt: H) -> Result<Linked<T, X, H>, AllocError> {
+    pub fn new(rt: H) -> Result<Linked<T, X, H>, AllocError>
+        ensures to_come { IfOk result (λ linked. linked.way_back.is_back ≡ false) }
+    {
         let link = Arc::new(
             rt.alloc(),
             Link {
@@ -126,6 +130,7 @@ impl<T: Drop, X: Drop, H: Wait + AllocGlobal + Copy> Linked<T, X, H> {
         let way_back = WayBack {
             link,
             source: Source::new(),
+            is_back: false,
             rt,
         };
         Ok(Linked {
@@ -144,10 +149,14 @@ impl<T: Drop, X: Drop, H: Wait + Copy> WayBack<T, X, H> {
     /// Takes the handle out of the slot, or waits there for it. Once it was taken nothing more comes, and a poll waits for good. It isn't
     /// polled where the job was dropped before it gave the handle back, which a pool does only once the owner is gone: it would ask again
     /// and again.
-    pub fn poll(&self, cx: &mut Context<'_>) -> Result<Returned<T, X>, Seat<OfSlot>>
+    pub fn poll(&mut self, cx: &mut Context<'_>) -> Result<Returned<T, X>, Seat<OfSlot>>
+        ensures back { IfOk result (λ _. self.new.is_back ≡ true) }
+        ensures same { OnErr result (self.new ≡ self.old) }
         ensures armed { OnErr result (IsArmed cx.new) }
         ensures kept { Keeps cx.old cx.new }
     {
-        self.link.slot.await_in(self.rt, &self.source, cx)
+        let returned = self.link.slot.await_in(self.rt, &self.source, cx)?;
+        self.is_back = true;
+        Ok(returned)
     }
 }

@@ -12,8 +12,8 @@ use Rattle.blocking_unblock.specs.contracts.unblock.Unblock.{the_row}
 abbrev pub lends_place : (T I H : RattleType) → MutBor (Place T.Denot I.Denot H.Denot) → Option (MutBor T.Denot) → Fml
 lends_place T I H place handle = LendsSo (place_row T I H) T place handle (λ last left. OnSome handle (last ≡ Idle left)) (λ last. last ≡ place.now)
 
-abbrev pub lends_handle : (T I J : RattleType) → Ghosts J.Denot → (H : RattleType) → MutBor (Unblock T.Denot I.Denot J.Denot H.Denot) → Option (MutBor T.Denot) → Fml
-lends_handle T I J job H owner handle =
-    LendsSo (the_row T I J job H) T owner handle
+abbrev pub lends_handle : (T I J H : RattleType) → (job : Ghosts J.Denot) → MutBor (Unblock T.Denot I.Denot J.Denot H.Denot job) → Option (MutBor T.Denot) → Fml
+lends_handle T I J H job owner handle =
+    LendsSo (the_row T I J H job) T owner handle
     (λ last left. OnSome handle (last ≡ record owner.now { place = Idle left }))
     (λ last. last ≡ owner.now)

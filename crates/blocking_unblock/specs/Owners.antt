@@ -92,6 +92,14 @@ module _ {T I H : Type 0} where
   SawEndOf (side.Streaming end way_back) = IsSome end.ended
   SawEndOf other = ⊥
 
+  -- the handle of a session is to come yet: it wasn't taken out of its slot
+  abbrev pub IsToCome : Side T I H → Type 0
+  IsToCome (side.Reading end way_back) = way_back.is_back ≡ false
+  IsToCome (side.Writing end way_back) = way_back.is_back ≡ false
+  IsToCome (side.Streaming end way_back) = way_back.is_back ≡ false
+  IsToCome (side.Seeking to way_back) = way_back.is_back ≡ false
+  IsToCome (side.Operating way_back) = way_back.is_back ≡ false
+
   -- the kind of a session
   abbrev pub kind_of : Side T I H → SessionKind
   kind_of (side.Reading end way_back) = kind.Reading
@@ -105,6 +113,12 @@ module _ {T I H : Type 0} where
   state_of (place.Idle handle) = state.Idle
   state_of (place.Lent session) = state.Lent (kind_of session.side) session.owner_end
   state_of place.Closed = state.Closed
+
+  -- No handle is lost: that of a session which is under way is to come yet.
+  abbrev pub IsHeld : Place T I H → Type 0
+  IsHeld (place.Lent session) = IsToCome session.side
+  IsHeld (place.Idle handle) = Unit {0}
+  IsHeld place.Closed = Unit {0}
 
   -- what crossed the pipe of the session that is under way
   abbrev pub crossed_at : Place T I H → ℕ

@@ -5,7 +5,7 @@ ghost use Rattle.blocking_core.specs.declared.unblock.OwnerEnd.TheVariants.{Open
 ghost use Rattle.blocking_core.specs.declared.unblock.SessionKind.TheVariants.{Reading, Writing, Streaming, Seeking, Operating};
 ghost use Rattle.blocking_core.specs.declared.unblock.State.{State};
 ghost use Rattle.blocking_core.specs.declared.unblock.State.TheVariants.{Idle, Lent};
-ghost use Rattle.blocking_unblock.specs.Owners.{kind_of, crossed};
+ghost use Rattle.blocking_unblock.specs.Owners.{kind_of, crossed, IsToCome};
 ghost use Rattle.blocking_unblock.specs.Polls.{Kept, Onward};
 
 use crate::parts::{ItemParts, ReadParts, WriteParts, item_parts, read_parts, write_parts};
@@ -62,7 +62,8 @@ pub(crate) trait Lends<T: Drop, I: Drop, J: Job, H: Runtime> {
         ensures same { OnErr result (self.new ≡ self.old) }
         ensures begun { IfOk result (λ session. (state : State) → begins self.old state
             → (Lent (kind_of session.side) session.owner_end ≡ state) × Onward state (begins self.new state) (keeps self.new Kept.Way)) }
-        ensures fresh { IfOk result (λ session. crossed session.side ≡ 0) };
+        ensures fresh { IfOk result (λ session. crossed session.side ≡ 0) }
+        ensures to_come { IfOk result (λ session. IsToCome session.side) };
 
     /// Keeps an item that came.
     fn keep(&mut self, item: I)

@@ -3,7 +3,7 @@ ghost use Rattle.std.specs.Prelude.{◌≡◌};
 ghost use Rattle.std.specs.Borrow.{sem};
 ghost use Rattle.std.specs.Option.{option_copied_mut};
 ghost use Rattle.blocking_unblock.specs.Loans.{lends_place};
-ghost use Rattle.blocking_unblock.specs.Owners.{state_of, handle_in, IsLetGo};
+ghost use Rattle.blocking_unblock.specs.Owners.{state_of, handle_in, IsLetGo, IsHeld};
 
 use crate::session::{Session, Tools};
 use crate::spare::Spare;
@@ -36,7 +36,8 @@ impl<T: Drop, I: Drop, H: Wait + Copy> Place<T, I, H> {
     /// Lets the owner's end of a session's pipe go, if there is one and it is open: it is closed. Answers the note of a job that waits, which has to
     /// be spent.
     pub(crate) fn let_go(&mut self) -> Option<WakeNote>
-        ensures { IsLetGo (state_of self.new) }
+        ensures let_go { IsLetGo (state_of self.new) }
+        ensures to_come { IsHeld self.old → IsHeld self.new }
     {
         match self {
             Place::Lent(session) => session.let_go(),

@@ -3,6 +3,7 @@ ghost use Rattle.std.specs.Prelude.{◌≡◌, ◌⊎◌, ◌+◌, ◌<◌, ◌�
 ghost use Rattle.futures.specs.Poll.{IfReady, OnPending};
 ghost use Rattle.futures.specs.Task.{IsArmed, Keeps};
 ghost use Rattle.blocking_jobs.specs.Seekers.{position_of};
+ghost use Rattle.blocking_unblock.specs.Owners.{IsHeld};
 
 use crate::lend::{Capacity, Lends, ToNobody, ToOperate, ToRead, ToSeek, ToStream, ToWrite};
 use crate::place::Place;
@@ -47,6 +48,7 @@ pub struct Unblock<T: Drop, I: Drop, J: Job, H: Runtime> {
     capacity: Capacity,
     executor: Executor<J, H>,
     items: PhantomData<I>,
+    ghost held: { IsHeld place },
 }
 
 impl<T: Drop, I: Drop, J: Job, H: Runtime> Unblock<T, I, J, H> {
@@ -293,7 +295,7 @@ impl<T: Drop, I: Drop, J: Job, H: Runtime> Unblock<T, I, J, H> {
         ensures rest { (self.new.capacity ≡ self.old.capacity) × (self.new.executor ≡ self.old.executor) }
         ensures kept { Keeps cx.old cx.new }
     {
-        let Place::Lent(session) = &self.place else {
+        let Place::Lent(session) = &mut self.place else {
             unreachable!()
         };
         match session.poll_back(cx) {
@@ -449,7 +451,7 @@ impl<T: Drop, I: Drop, J: Job, H: Runtime> Unblock<T, I, J, H> {
 
     /// The handle, where it is with its owner. No session is under way then, and none begins while it is lent.
     pub fn handle_mut(&mut self) -> Option<&mut T>
-        ensures* lends { sem 𝓛 (lends_handle T.row I.row J.row J.Job H.row self.entry result) }
+        ensures* lends { sem 𝓛 (lends_handle T.row I.row J.row H.row J.Job self.entry result) }
         ensures handle { option_copied_mut result ≡ handle_in self.old.place }
     {
         self.place.handle_mut()

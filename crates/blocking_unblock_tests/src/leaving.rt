@@ -1,202 +1,16 @@
 //! Owners that leave their sessions: what they lent is free at once, and no more is read for them than was under way.
-use crate::reader::{LOOKS, Planned, Track};
-use blocking::{
-    AsyncRead, AsyncWrite, Executor, Host, ItemJob, ReadJob, Runtime, Unblock, WriteJob,
-};
-use blocking_core::pool::{Carries, Job, JobNo, JobStep};
-use futures::Stream;
+use crate::endless::{Begins, Beside, Endless, Owner, Pace, Pool, Tally, Touch, comes_true, rests};
+use crate::reader::{Planned, Track};
+use blocking::{Host, ItemJob, OpJob, ReadJob, SeekJob, Unblock, WriteJob};
+use blocking_core::pool::Job;
+use futures::executor::block_on;
 use futures::test::MockTask;
 use std::alloc::Global;
-use std::io::{Read, Write};
-use std::sync::atomic::{AtomicUsize, Ordering};
+use std::io::Write;
 use std::sync::{Arc, Mutex, Wait};
 use std::test::Fail;
-use std::time::{Clock, Duration};
+use std::time::Duration;
 use std::{io, thread};
-
-// What a test and its handles share: how many calls were made of them, and how many are gone.
-#[derive(Drop)]
-struct Tally {
-    calls: AtomicUsize,
-    gone: AtomicUsize,
-}
-
-impl Tally {
-    fn new() -> Tally {
-        Tally {
-            calls: AtomicUsize::new(0),
-            gone: AtomicUsize::new(0),
-        }
-    }
-
-    fn calls(&self) -> usize {
-        self.calls.load(Ordering::SeqCst)
-    }
-
-    fn gone(&self) -> usize {
-        self.gone.load(Ordering::SeqCst)
-    }
-}
-
-// A handle without an end: it gives a byte or an item a call, or takes all, and each call lasts so long.
-struct Endless<R: Clock + Copy> {
-    rt: R,
-    tally: Arc<Tally>,
-    millis: u64,
-}
-
-impl<R: Clock + Copy> Endless<R> {
-    fn call(&self) {
-        let _ = self.tally.calls.fetch_add(1, Ordering::SeqCst);
-        if self.millis > 0 {
-            thread::sleep(&self.rt, Duration::from_millis(self.millis));
-        }
-    }
-}
-
-impl<R: Clock + Copy> Read for Endless<R> {
-    fn read(&mut self, buf: &mut [u8]) -> io::Result<usize> {
-        self.call();
-        Ok(buf.len().min(1))
-    }
-}
-
-impl<R: Clock + Copy> Write for Endless<R> {
-    fn write(&mut self, buf: &[u8]) -> io::Result<usize> {
-        self.call();
-        Ok(buf.len())
-    }
-
-    fn flush(&mut self) -> io::Result<()> {
-        Ok(())
-    }
-}
-
-impl<R: Clock + Copy> Iterator for Endless<R> {
-    type Item = u8;
-
-    fn next(&mut self) -> Option<u8> {
-        self.call();
-        Some(0)
-    }
-}
-
-impl<R: Clock + Copy> Drop for Endless<R> {
-    fn drop(self) {
-        let Endless {
-            rt: _,
-            tally,
-            millis: _,
-        } = self;
-        let _ = tally.gone.fetch_add(1, Ordering::SeqCst);
-    }
-}
-
-// A session's job, or what stands beside sessions in their pool.
-#[derive(Drop)]
-enum Beside<J: Job> {
-    Session(J),
-    // A call that is over at once.
-    Call,
-    // One that stops until it is let go on.
-    Stop(Arc<Track>),
-}
-
-impl<J: Job> Carries<J> for Beside<J> {
-    ghost use Rattle.std.specs.Prelude.{Some, None, refl};
-    ghost use Rattle.blocking_unblock_tests.specs.declared.leaving.Beside.TheVariants.{Session, Call, Stop};
-
-    ghost wrapped = { λ job. Session job };
-
-    ghost opened = { elim [ Session job ↦ Some job | Call ↦ None | Stop track ↦ None ] };
-
-    ghost undoes = { λ job. refl };
-
-    fn wrap(named: J) -> Beside<J> {
-        Beside::Session(named)
-    }
-
-    fn unwrap(self) -> Option<J> {
-        match self {
-            Beside::Session(job) => Some(job),
-            Beside::Call | Beside::Stop(_) => None,
-        }
-    }
-}
-
-impl<J: Job> Job for Beside<J> {
-    ghost may_answer = { λ _ _. Unit {0} };
-
-    fn step(&mut self, me: JobNo) -> JobStep {
-        match self {
-            Beside::Session(job) => job.step(me),
-            Beside::Call => JobStep::Done,
-            Beside::Stop(track) => {
-                track.stop();
-                JobStep::Done
-            }
-        }
-    }
-
-    fn abandoned(&self) -> bool {
-        match self {
-            Beside::Session(job) => job.abandoned(),
-            Beside::Call | Beside::Stop(_) => false,
-        }
-    }
-}
-
-type Owner<T, J, H> = Unblock<T, u8, Beside<J>, H>;
-
-type Pool<J, H> = Executor<Beside<J>, H>;
-
-// How a session of this job begins: by a poll of its owner.
-trait Begins<T: Drop, H: Runtime>: Job {
-    fn begin(owner: &mut Owner<T, Self, H>, mock: &mut MockTask);
-}
-
-impl<T: Read + Drop, H: Runtime> Begins<T, H> for ReadJob<T, H> {
-    fn begin(owner: &mut Owner<T, Self, H>, mock: &mut MockTask) {
-        if !owner.is_closed() {
-            let _ = mock.enter(|cx| owner.poll_read(cx, &mut [0]));
-        }
-    }
-}
-
-impl<T: Write + Drop, H: Runtime> Begins<T, H> for WriteJob<T, H> {
-    fn begin(owner: &mut Owner<T, Self, H>, mock: &mut MockTask) {
-        if !owner.is_closed() {
-            let _ = mock.enter(|cx| owner.poll_write(cx, b"abcd"));
-        }
-    }
-}
-
-impl<T: Iterator<Item = u8> + Drop, H: Runtime> Begins<T, H> for ItemJob<T, u8, H> {
-    fn begin(owner: &mut Owner<T, Self, H>, mock: &mut MockTask) {
-        if !owner.is_closed() {
-            let _ = mock.enter(|cx| owner.poll_next(cx));
-        }
-    }
-}
-
-// Whether it comes true before long.
-fn comes_true(is_so: impl Fn() -> bool) -> bool {
-    for _ in 0..LOOKS {
-        if is_so() {
-            return true;
-        }
-        thread::yield_now();
-    }
-    false
-}
-
-// Whether no job is queued or runs, before long.
-fn rests<J: Job, H: Runtime>(pool: &Pool<J, H>) -> bool {
-    comes_true(|| {
-        let counts = pool.counts();
-        counts.queued == 0 && counts.running == 0
-    })
-}
 
 // How many owners leave at once.
 const OWNERS: usize = 300;
@@ -228,10 +42,10 @@ fn left_of<J: Begins<Endless<H>, H>, H: Host>(
         let handle = Endless {
             rt,
             tally: Arc::try_clone(&tally)?,
-            millis: 0,
+            pace: Pace::AtOnce,
         };
         let mut owner = Unblock::with_capacity(4, pool.try_clone()?, handle);
-        J::begin(&mut owner, &mut mock);
+        let _ = J::begin(&mut owner, &mut mock);
         owners.push(owner)?;
     }
     if !rests(pool) {
@@ -274,10 +88,10 @@ fn calls_after<J: Begins<Endless<H>, H> + Send + 'static, H: Host>(
     let handle = Endless {
         rt,
         tally: Arc::try_clone(&tally)?,
-        millis: 10,
+        pace: Pace::Slow,
     };
     let mut owner = Unblock::new(pool.try_clone()?, handle);
-    J::begin(&mut owner, &mut mock);
+    let _ = J::begin(&mut owner, &mut mock);
     if !comes_true(|| tally.calls() >= 3) {
         return Ok(None);
     }
@@ -401,7 +215,7 @@ impl<H: Host> Desk<H> {
             let _ = self.pool.add(Beside::Stop(Arc::try_clone(&self.call)?));
             let _ = self.call.stops();
         }
-        WriteJob::begin(&mut owner, &mut mock);
+        let _ = WriteJob::begin(&mut owner, &mut mock);
         if let Leaves::Running = leaves {
             let _ = self.flushed.track.stops();
         }
@@ -438,7 +252,7 @@ fn goes_at_once<H: Host>(rt: H) -> io::Result<bool> {
     let mut mock = MockTask::new(&rt)?;
     let reader = Planned::new(Arc::try_clone(&track)?, &[]);
     let mut owner = Unblock::with_capacity(4, pool.try_clone()?, reader);
-    ReadJob::begin(&mut owner, &mut mock);
+    let _ = ReadJob::begin(&mut owner, &mut mock);
     if !rests(&pool) || track.is_gone() {
         return Ok(false);
     }
@@ -449,5 +263,117 @@ fn goes_at_once<H: Host>(rt: H) -> io::Result<bool> {
 #[test]
 fn reader_whose_job_is_over_goes_at_once(rt: HostRuntime) -> Result<(), Fail> {
     assert!(rt; goes_at_once(rt)?);
+    Ok(())
+}
+
+// A pool of one worker, which is at a call that stops, and what is seen of a handle.
+#[derive(Drop)]
+struct Busy<J: Job, H: Host> {
+    pool: Pool<J, H>,
+    call: Arc<Track>,
+    tally: Arc<Tally>,
+    mock: MockTask,
+}
+
+impl<J: Begins<Endless<H>, H> + Send + 'static, H: Host> Busy<J, H> {
+    fn new(rt: H) -> io::Result<Busy<J, H>> {
+        let Ok(pool) = Pool::<J, H>::new(rt, Some("1")) else {
+            return Err(io::Error::from(io::ErrorKind::Other));
+        };
+        let call = Arc::new(rt.alloc(), Track::new())?;
+        let _ = pool.add(Beside::Stop(Arc::try_clone(&call)?));
+        let _ = call.stops();
+        Ok(Busy {
+            pool,
+            call,
+            tally: Arc::new(rt.alloc(), Tally::new())?,
+            mock: MockTask::new(&rt)?,
+        })
+    }
+
+    fn owner(&self, rt: H, pace: Pace) -> io::Result<Owner<Endless<H>, J, H>> {
+        let handle = Endless {
+            rt,
+            tally: Arc::try_clone(&self.tally)?,
+            pace,
+        };
+        Ok(Unblock::with_capacity(4, self.pool.try_clone()?, handle))
+    }
+
+    // How many calls are made of a handle whose owner leaves while its job is queued; None where it doesn't go.
+    fn calls_of_queued(&mut self, rt: H) -> io::Result<Option<usize>> {
+        let mut owner = self.owner(rt, Pace::AtOnce)?;
+        let _ = J::begin(&mut owner, &mut self.mock);
+        drop(owner);
+        self.call.go_on();
+        let tally = &self.tally;
+        if !comes_true(|| tally.gone() == 1) {
+            return Ok(None);
+        }
+        Ok(Some(tally.calls()))
+    }
+
+    // Whether a poll that waits for a handle which stops isn't woken meanwhile.
+    fn waits_quietly(&mut self, rt: H) -> io::Result<bool> {
+        self.call.go_on();
+        let mut owner = self.owner(rt, Pace::Stops)?;
+        let _ = J::begin(&mut owner, &mut self.mock);
+        if !self.tally.track.stops() {
+            return Ok(false);
+        }
+        let waits = J::begin(&mut owner, &mut self.mock);
+        thread::sleep(&rt, Duration::from_millis(30));
+        let is_quiet = !self.mock.is_woken();
+        self.tally.track.go_on();
+        Ok(waits && is_quiet)
+    }
+}
+
+fn calls_of_queued<J: Begins<Endless<H>, H> + Send + 'static, H: Host>(
+    rt: H,
+) -> io::Result<Option<usize>> {
+    Busy::<J, H>::new(rt)?.calls_of_queued(rt)
+}
+
+#[test]
+fn queued_sessions_are_dropped_unrun(rt: HostRuntime) -> Result<(), Fail> {
+    assert_eq!(rt; calls_of_queued::<ReadJob<_, _>, _>(rt)?, Some(0));
+    assert_eq!(rt; calls_of_queued::<WriteJob<_, _>, _>(rt)?, Some(0));
+    assert_eq!(rt; calls_of_queued::<ItemJob<_, u8, _>, _>(rt)?, Some(0));
+    assert_eq!(rt; calls_of_queued::<SeekJob<_, _>, _>(rt)?, Some(0));
+    assert_eq!(rt; calls_of_queued::<OpJob<Touch, _, _>, _>(rt)?, Some(0));
+    Ok(())
+}
+
+fn waits_quietly<J: Begins<Endless<H>, H> + Send + 'static, H: Host>(rt: H) -> io::Result<bool> {
+    Busy::<J, H>::new(rt)?.waits_quietly(rt)
+}
+
+#[test]
+fn polls_that_wait_are_left_alone(rt: HostRuntime) -> Result<(), Fail> {
+    assert!(rt; waits_quietly::<ReadJob<_, _>, _>(rt)?);
+    assert!(rt; waits_quietly::<WriteJob<_, _>, _>(rt)?);
+    assert!(rt; waits_quietly::<ItemJob<_, u8, _>, _>(rt)?);
+    assert!(rt; waits_quietly::<SeekJob<_, _>, _>(rt)?);
+    assert!(rt; waits_quietly::<OpJob<Touch, _, _>, _>(rt)?);
+    Ok(())
+}
+
+// Whether a stream whose job waits at a full pipe can be stopped.
+fn full_stream_stops<H: Host>(rt: H) -> io::Result<bool> {
+    let mut busy = Busy::<ItemJob<Endless<H>, u8, H>, H>::new(rt)?;
+    busy.call.go_on();
+    let mut owner = busy.owner(rt, Pace::AtOnce)?;
+    let _ = ItemJob::begin(&mut owner, &mut busy.mock);
+    if !rests(&busy.pool) || owner.is_closed() {
+        return Ok(false);
+    }
+    let handle = block_on(&rt, owner.into_inner())?;
+    Ok(handle.tally.calls() > 4)
+}
+
+#[test]
+fn stream_is_stopped_at_a_full_pipe(rt: HostRuntime) -> Result<(), Fail> {
+    assert!(rt; full_stream_stops(rt)?);
     Ok(())
 }

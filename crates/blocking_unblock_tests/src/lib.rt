@@ -9,6 +9,8 @@ mod both;
 #[cfg(test)]
 mod cut;
 #[cfg(test)]
+mod endless;
+#[cfg(test)]
 mod items;
 #[cfg(test)]
 mod kinds;

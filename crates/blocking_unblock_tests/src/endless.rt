@@ -1,0 +1,259 @@
+//! Handles without an end, whose sessions stand in their pool beside other calls.
+use crate::reader::{LOOKS, Track};
+use blocking::{
+    AsyncRead, AsyncSeek, AsyncWrite, Executor, Host, ItemJob, OpJob, ReadJob, Runtime, SeekJob,
+    Unblock, WriteJob,
+};
+use blocking_core::pool::{Carries, Job, JobNo, JobStep};
+use blocking_core::task::CallOn;
+use futures::Stream;
+use futures::test::MockTask;
+use std::io::{Read, Seek, SeekFrom, Write};
+use std::sync::Arc;
+use std::sync::atomic::{AtomicUsize, Ordering};
+use std::time::{Clock, Duration};
+use std::{io, thread};
+
+/// What a test and its handles share: how many calls were made of them, how many are gone, and where one stops.
+#[derive(Drop)]
+pub(crate) struct Tally {
+    calls: AtomicUsize,
+    gone: AtomicUsize,
+    pub track: Track,
+}
+
+impl Tally {
+    pub(crate) fn new() -> Tally {
+        Tally {
+            calls: AtomicUsize::new(0),
+            gone: AtomicUsize::new(0),
+            track: Track::new(),
+        }
+    }
+
+    pub(crate) fn calls(&self) -> usize {
+        self.calls.load(Ordering::SeqCst)
+    }
+
+    pub(crate) fn gone(&self) -> usize {
+        self.gone.load(Ordering::SeqCst)
+    }
+}
+
+/// How a call of a handle goes.
+#[derive(Clone, Copy)]
+pub(crate) enum Pace {
+    AtOnce,
+    // It lasts for ten milliseconds.
+    Slow,
+    // It stops until it is let go on.
+    Stops,
+}
+
+/// A handle without an end: a call gives a byte or an item, takes all, or goes where it is asked to.
+pub(crate) struct Endless<R: Clock + Copy> {
+    pub rt: R,
+    pub tally: Arc<Tally>,
+    pub pace: Pace,
+}
+
+impl<R: Clock + Copy> Endless<R> {
+    fn call(&self) {
+        let _ = self.tally.calls.fetch_add(1, Ordering::SeqCst);
+        match self.pace {
+            Pace::AtOnce => {}
+            Pace::Slow => thread::sleep(&self.rt, Duration::from_millis(10)),
+            Pace::Stops => self.tally.track.stop(),
+        }
+    }
+}
+
+impl<R: Clock + Copy> Read for Endless<R> {
+    fn read(&mut self, buf: &mut [u8]) -> io::Result<usize> {
+        self.call();
+        Ok(buf.len().min(1))
+    }
+}
+
+impl<R: Clock + Copy> Write for Endless<R> {
+    fn write(&mut self, buf: &[u8]) -> io::Result<usize> {
+        self.call();
+        Ok(buf.len())
+    }
+
+    fn flush(&mut self) -> io::Result<()> {
+        Ok(())
+    }
+}
+
+impl<R: Clock + Copy> Iterator for Endless<R> {
+    type Item = u8;
+
+    fn next(&mut self) -> Option<u8> {
+        self.call();
+        Some(0)
+    }
+}
+
+impl<R: Clock + Copy> Seek for Endless<R> {
+    fn seek(&mut self, to: SeekFrom) -> io::Result<u64> {
+        self.call();
+        match to {
+            SeekFrom::Start(place) => Ok(place),
+            SeekFrom::Current(_) | SeekFrom::End(_) => Ok(0),
+        }
+    }
+}
+
+/// An operation that is one call of its handle.
+#[derive(Drop)]
+pub(crate) struct Touch;
+
+impl<R: Clock + Copy> CallOn<Endless<R>> for Touch {
+    type Out = ();
+
+    ghost may_give = { λ _. Unit {0} };
+
+    fn call_on(self, handle: &mut Endless<R>) {
+        handle.call();
+    }
+}
+
+impl<R: Clock + Copy> Drop for Endless<R> {
+    fn drop(self) {
+        let Endless {
+            rt: _,
+            tally,
+            pace: _,
+        } = self;
+        let _ = tally.gone.fetch_add(1, Ordering::SeqCst);
+    }
+}
+
+/// A session's job, or what stands beside sessions in their pool.
+#[derive(Drop)]
+pub(crate) enum Beside<J: Job> {
+    Session(J),
+    // A call that is over at once.
+    Call,
+    // One that stops until it is let go on.
+    Stop(Arc<Track>),
+}
+
+impl<J: Job> Carries<J> for Beside<J> {
+    ghost use Rattle.std.specs.Prelude.{Some, None, refl};
+    ghost use Rattle.blocking_unblock_tests.specs.declared.endless.Beside.TheVariants.{Session, Call, Stop};
+
+    ghost wrapped = { λ job. Session job };
+
+    ghost opened = { elim [ Session job ↦ Some job | Call ↦ None | Stop track ↦ None ] };
+
+    ghost undoes = { λ job. refl };
+
+    fn wrap(named: J) -> Beside<J> {
+        Beside::Session(named)
+    }
+
+    fn unwrap(self) -> Option<J> {
+        match self {
+            Beside::Session(job) => Some(job),
+            Beside::Call | Beside::Stop(_) => None,
+        }
+    }
+}
+
+impl<J: Job> Job for Beside<J> {
+    ghost may_answer = { λ _ _. Unit {0} };
+
+    fn step(&mut self, me: JobNo) -> JobStep {
+        match self {
+            Beside::Session(job) => job.step(me),
+            Beside::Call => JobStep::Done,
+            Beside::Stop(track) => {
+                track.stop();
+                JobStep::Done
+            }
+        }
+    }
+
+    fn abandoned(&self) -> bool {
+        match self {
+            Beside::Session(job) => job.abandoned(),
+            Beside::Call | Beside::Stop(_) => false,
+        }
+    }
+}
+
+pub(crate) type Owner<T, J, H> = Unblock<T, u8, Beside<J>, H>;
+
+pub(crate) type Pool<J, H> = Executor<Beside<J>, H>;
+
+/// How a session of this job begins: by a poll of its owner. Whether that waits.
+pub(crate) trait Begins<T: Drop, H: Runtime>: Job {
+    fn begin(owner: &mut Owner<T, Self, H>, mock: &mut MockTask) -> bool;
+}
+
+impl<T: Read + Drop, H: Runtime> Begins<T, H> for ReadJob<T, H> {
+    fn begin(owner: &mut Owner<T, Self, H>, mock: &mut MockTask) -> bool {
+        if owner.is_closed() {
+            return false;
+        }
+        mock.enter(|cx| owner.poll_read(cx, &mut [0]).is_pending())
+    }
+}
+
+impl<T: Write + Drop, H: Runtime> Begins<T, H> for WriteJob<T, H> {
+    fn begin(owner: &mut Owner<T, Self, H>, mock: &mut MockTask) -> bool {
+        if owner.is_closed() {
+            return false;
+        }
+        mock.enter(|cx| owner.poll_write(cx, b"abcd").is_pending())
+    }
+}
+
+impl<T: Iterator<Item = u8> + Drop, H: Runtime> Begins<T, H> for ItemJob<T, u8, H> {
+    fn begin(owner: &mut Owner<T, Self, H>, mock: &mut MockTask) -> bool {
+        if owner.is_closed() {
+            return false;
+        }
+        mock.enter(|cx| owner.poll_next(cx).is_pending())
+    }
+}
+
+impl<T: Seek + Drop, H: Runtime> Begins<T, H> for SeekJob<T, H> {
+    fn begin(owner: &mut Owner<T, Self, H>, mock: &mut MockTask) -> bool {
+        if owner.is_closed() {
+            return false;
+        }
+        mock.enter(|cx| owner.poll_seek(cx, SeekFrom::Start(0)).is_pending())
+    }
+}
+
+impl<H: Host> Begins<Endless<H>, H> for OpJob<Touch, Endless<H>, H> {
+    fn begin(owner: &mut Owner<Endless<H>, Self, H>, mock: &mut MockTask) -> bool {
+        if owner.is_closed() {
+            return false;
+        }
+        let mut touching = owner.with_mut(Touch);
+        mock.poll(&mut touching).is_pending()
+    }
+}
+
+/// Whether it comes true before long.
+pub(crate) fn comes_true(is_so: impl Fn() -> bool) -> bool {
+    for _ in 0..LOOKS {
+        if is_so() {
+            return true;
+        }
+        thread::yield_now();
+    }
+    false
+}
+
+/// Whether no job is queued or runs, before long.
+pub(crate) fn rests<J: Job, H: Runtime>(pool: &Pool<J, H>) -> bool {
+    comes_true(|| {
+        let counts = pool.counts();
+        counts.queued == 0 && counts.running == 0
+    })
+}
