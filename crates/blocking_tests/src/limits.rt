@@ -78,6 +78,27 @@ fn idle_workers_go(rt: HostRuntime) -> Result<(), Fail> {
     play::<Planned<Ends, HostRuntime>, _>(rt, "4", &ALL_GO)
 }
 
+// (it waits for 500 ms)
+const GOES_AFTER_A_WHILE: Row = (
+    "an idle worker that nobody rings goes before long",
+    &[
+        Workers(0),
+        Begin(InCall),
+        See(0, Stops),
+        Do(0, Detach),
+        Start,
+        Do(0, GoOn),
+        See(0, Goes),
+        Workers(0),
+        Within(850),
+    ],
+);
+
+#[test]
+fn idle_worker_goes_after_a_while(rt: HostRuntime) -> Result<(), Fail> {
+    play_in_time::<Planned<Ends, HostRuntime>, _>(rt, "1", &GOES_AFTER_A_WHILE)
+}
+
 // (an idle worker that nobody rings goes 500 ms after its last job, and not before)
 const THREE_GO: Row = (
     "a lowered limit stops idle workers before their waits time out",

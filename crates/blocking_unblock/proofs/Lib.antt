@@ -1,3 +1,4 @@
 mod Crossings
+mod Loans
 mod Replies
 mod Turns

@@ -92,13 +92,13 @@ module _ {T I H : Type 0} where
   SawEndOf (side.Streaming end way_back) = IsSome end.ended
   SawEndOf other = ⊥
 
-  -- the handle of a session is to come yet: it wasn't taken out of its slot
-  abbrev pub IsToCome : Side T I H → Type 0
-  IsToCome (side.Reading end way_back) = way_back.is_back ≡ false
-  IsToCome (side.Writing end way_back) = way_back.is_back ≡ false
-  IsToCome (side.Streaming end way_back) = way_back.is_back ≡ false
-  IsToCome (side.Seeking to way_back) = way_back.is_back ≡ false
-  IsToCome (side.Operating way_back) = way_back.is_back ≡ false
+  -- whether the handle of a session was taken out of its slot
+  abbrev pub is_back : Side T I H → Bool
+  is_back (side.Reading end way_back) = way_back.is_back
+  is_back (side.Writing end way_back) = way_back.is_back
+  is_back (side.Streaming end way_back) = way_back.is_back
+  is_back (side.Seeking to way_back) = way_back.is_back
+  is_back (side.Operating way_back) = way_back.is_back
 
   -- the kind of a session
   abbrev pub kind_of : Side T I H → SessionKind
@@ -114,11 +114,15 @@ module _ {T I H : Type 0} where
   state_of (place.Lent session) = state.Lent (kind_of session.side) session.owner_end
   state_of place.Closed = state.Closed
 
+  -- whether the handle of the session that is under way was taken out of its slot, and is nowhere now
+  abbrev pub is_lost : Place T I H → Bool
+  is_lost (place.Lent session) = is_back session.side
+  is_lost (place.Idle handle) = false
+  is_lost place.Closed = false
+
   -- No handle is lost: that of a session which is under way is to come yet.
   abbrev pub IsHeld : Place T I H → Type 0
-  IsHeld (place.Lent session) = IsToCome session.side
-  IsHeld (place.Idle handle) = Unit {0}
-  IsHeld place.Closed = Unit {0}
+  IsHeld place = is_lost place ≡ false
 
   -- what crossed the pipe of the session that is under way
   abbrev pub crossed_at : Place T I H → ℕ

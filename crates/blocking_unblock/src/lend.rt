@@ -1,11 +1,11 @@
 //! How a handle is lent: which session a call begins, and where what comes of it is kept.
-ghost use Rattle.std.specs.Prelude.{◌≡◌, ◌<◌, Some, IfErr, IfOk, OnErr, IfNone, OnSome};
+ghost use Rattle.std.specs.Prelude.{◌≡◌, ◌<◌, false, Some, IfErr, IfOk, OnErr, IfNone, OnSome};
 ghost use Rattle.futures.specs.Task.{IsArmed, Keeps};
 ghost use Rattle.blocking_core.specs.declared.unblock.OwnerEnd.TheVariants.{Open};
 ghost use Rattle.blocking_core.specs.declared.unblock.SessionKind.TheVariants.{Reading, Writing, Streaming, Seeking, Operating};
 ghost use Rattle.blocking_core.specs.declared.unblock.State.{State};
 ghost use Rattle.blocking_core.specs.declared.unblock.State.TheVariants.{Idle, Lent};
-ghost use Rattle.blocking_unblock.specs.Owners.{kind_of, crossed, IsToCome};
+ghost use Rattle.blocking_unblock.specs.Owners.{kind_of, crossed, is_back};
 ghost use Rattle.blocking_unblock.specs.Polls.{Kept, Onward};
 
 use crate::parts::{ItemParts, ReadParts, WriteParts, item_parts, read_parts, write_parts};
@@ -63,7 +63,7 @@ pub(crate) trait Lends<T: Drop, I: Drop, J: Job, H: Runtime> {
         ensures begun { IfOk result (λ session. (state : State) → begins self.old state
             → (Lent (kind_of session.side) session.owner_end ≡ state) × Onward state (begins self.new state) (keeps self.new Kept.Way)) }
         ensures fresh { IfOk result (λ session. crossed session.side ≡ 0) }
-        ensures to_come { IfOk result (λ session. IsToCome session.side) };
+        ensures to_come { IfOk result (λ session. is_back session.side ≡ false) };
 
     /// Keeps an item that came.
     fn keep(&mut self, item: I)

@@ -1,7 +1,7 @@
 //! All the memory of a session with a pipe: the owner's side, and what its job needs beside the handle.
-ghost use Rattle.std.specs.Prelude.{◌≡◌, ◌<◌, vec_len, IfOk};
+ghost use Rattle.std.specs.Prelude.{◌≡◌, ◌<◌, false, vec_len, IfOk};
 ghost use Rattle.blocking_core.specs.declared.unblock.SessionKind.TheVariants.{Reading, Writing, Streaming};
-ghost use Rattle.blocking_unblock.specs.Owners.{kind_of, crossed, IsToCome};
+ghost use Rattle.blocking_unblock.specs.Owners.{kind_of, crossed, is_back};
 
 use crate::session::Side;
 use crate::spare::Spare;
@@ -44,7 +44,7 @@ pub(crate) fn read_parts<T: Drop, I: Drop, H: Wait + AllocGlobal + Copy>(
 ) -> Result<ReadParts<T, I, H>, AllocError>
     requires { 0 < capacity }
     ensures { IfOk result (λ parts. (0 < vec_len parts.piece)
-        × (kind_of parts.side ≡ Reading) × (crossed parts.side ≡ 0) × IsToCome parts.side) }
+        × (kind_of parts.side ≡ Reading) × (crossed parts.side ≡ 0) × (is_back parts.side ≡ false)) }
 {
     let memory = spare.for_reading(rt.alloc(), capacity)?;
     let long = memory.piece();
@@ -70,7 +70,7 @@ pub(crate) fn write_parts<T: Drop, I: Drop, H: Wait + AllocGlobal + Copy>(
     spare: Spare,
 ) -> Result<WriteParts<T, I, H>, AllocError>
     requires { 0 < capacity }
-    ensures { IfOk result (λ parts. (kind_of parts.side ≡ Writing) × (crossed parts.side ≡ 0) × IsToCome parts.side) }
+    ensures { IfOk result (λ parts. (kind_of parts.side ≡ Writing) × (crossed parts.side ≡ 0) × (is_back parts.side ≡ false)) }
 {
     let memory = spare.for_writing(rt.alloc(), capacity)?;
     let Linked {
@@ -91,7 +91,7 @@ pub(crate) fn item_parts<T: Drop, I: Drop, H: Wait + AllocGlobal + Copy>(
     capacity: usize,
 ) -> Result<ItemParts<T, I, H>, AllocError>
     requires { 0 < capacity }
-    ensures { IfOk result (λ parts. (kind_of parts.side ≡ Streaming) × (crossed parts.side ≡ 0) × IsToCome parts.side) }
+    ensures { IfOk result (λ parts. (kind_of parts.side ≡ Streaming) × (crossed parts.side ≡ 0) × (is_back parts.side ≡ false)) }
 {
     let Linked {
         way_back,

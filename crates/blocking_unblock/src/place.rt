@@ -3,7 +3,7 @@ ghost use Rattle.std.specs.Prelude.{◌≡◌};
 ghost use Rattle.std.specs.Borrow.{sem};
 ghost use Rattle.std.specs.Option.{option_copied_mut};
 ghost use Rattle.blocking_unblock.specs.Loans.{lends_place};
-ghost use Rattle.blocking_unblock.specs.Owners.{state_of, handle_in, IsLetGo, IsHeld};
+ghost use Rattle.blocking_unblock.specs.Owners.{state_of, handle_in, IsLetGo, is_lost};
 
 use crate::session::{Session, Tools};
 use crate::spare::Spare;
@@ -37,7 +37,7 @@ impl<T: Drop, I: Drop, H: Wait + Copy> Place<T, I, H> {
     /// be spent.
     pub(crate) fn let_go(&mut self) -> Option<WakeNote>
         ensures let_go { IsLetGo (state_of self.new) }
-        ensures to_come { IsHeld self.old → IsHeld self.new }
+        ensures held { is_lost self.new ≡ is_lost self.old }
     {
         match self {
             Place::Lent(session) => session.let_go(),

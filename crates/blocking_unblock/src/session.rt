@@ -122,7 +122,7 @@ fn told_of_fill(filled: Filled) -> (OwnerAnswer<io::Error>, Option<WakeNote>)
 }
 
 impl<T: Drop, I: Drop, H: Wait + Copy> Session<T, I, H> {
-    ghost use Rattle.blocking_unblock.specs.Owners.{kind_of, crossed, has, BackFrom, SawEndOf, IsToCome};
+    ghost use Rattle.blocking_unblock.specs.Owners.{kind_of, crossed, has, BackFrom, SawEndOf, is_back};
     ghost use Rattle.blocking_unblock.specs.Polls.{Drains, Fills, OnEnded, crossed_by};
 
     pub(crate) fn new(job: JobNo, side: Side<T, I, H>) -> Session<T, I, H>
@@ -170,7 +170,7 @@ impl<T: Drop, I: Drop, H: Wait + Copy> Session<T, I, H> {
         ensures crossed { crossed self.new.side ≡ crossed self.old.side }
         ensures kind { kind_of self.new.side ≡ kind_of self.old.side }
         ensures shut { self.new.owner_end ≡ Shut }
-        ensures to_come { IsToCome self.old.side → IsToCome self.new.side }
+        ensures back_same { is_back self.new.side ≡ is_back self.old.side }
     {
         self.owner_end = OwnerEnd::Shut;
         match &mut self.side {
@@ -186,7 +186,7 @@ impl<T: Drop, I: Drop, H: Wait + Copy> Session<T, I, H> {
     pub(crate) fn let_go(&mut self) -> Option<WakeNote>
         ensures shut { has_pipe (kind_of self.new.side) ≡ true → self.new.owner_end ≡ Shut }
         ensures kind { kind_of self.new.side ≡ kind_of self.old.side }
-        ensures to_come { IsToCome self.old.side → IsToCome self.new.side }
+        ensures back_same { is_back self.new.side ≡ is_back self.old.side }
     {
         match (&self.side, self.owner_end) {
             (Side::Reading(_, _) | Side::Writing(_, _) | Side::Streaming(_, _), OwnerEnd::Open) => {
@@ -209,7 +209,7 @@ impl<T: Drop, I: Drop, H: Wait + Copy> Session<T, I, H> {
         ensures received { crossed self.new.side ≡ crossed self.old.side + crossed_by result.0 }
         ensures ended { OnEnded result.0 (SawEndOf self.new.side) }
         ensures kind { kind_of self.new.side ≡ Reading }
-        ensures to_come { IsToCome self.old.side → IsToCome self.new.side }
+        ensures back_same { is_back self.new.side ≡ is_back self.old.side }
         ensures end { self.new.owner_end ≡ self.old.owner_end }
     {
         let Side::Reading(end, _) = &mut self.side else {
@@ -230,7 +230,7 @@ impl<T: Drop, I: Drop, H: Wait + Copy> Session<T, I, H> {
         ensures kept { Keeps cx.old cx.new }
         ensures sent { crossed self.new.side ≡ crossed self.old.side + crossed_by result.0 }
         ensures kind { kind_of self.new.side ≡ Writing }
-        ensures to_come { IsToCome self.old.side → IsToCome self.new.side }
+        ensures back_same { is_back self.new.side ≡ is_back self.old.side }
         ensures end { self.new.owner_end ≡ self.old.owner_end }
     {
         let Side::Writing(end, _) = &mut self.side else {
@@ -247,7 +247,7 @@ impl<T: Drop, I: Drop, H: Wait + Copy> Session<T, I, H> {
         ensures received { crossed self.new.side ≡ crossed self.old.side + got_by_receive result }
         ensures ended { OnEnd result (SawEndOf self.new.side) }
         ensures kind { kind_of self.new.side ≡ Streaming }
-        ensures to_come { IsToCome self.old.side → IsToCome self.new.side }
+        ensures back_same { is_back self.new.side ≡ is_back self.old.side }
         ensures end { self.new.owner_end ≡ self.old.owner_end }
     {
         let Side::Streaming(end, _) = &mut self.side else {

@@ -1,4 +1,5 @@
 //! Sessions whose job is dropped beside its owner, which no pool does by itself: a job type of the test's own lets its job go.
+use crate::endless::{Begins, Endless, Pace, Tally, Touch};
 use crate::reader::Given::{Bytes, Stops as Stop};
 use crate::reader::{Planned, Track};
 use crate::scene::Sight::Waits;
@@ -6,7 +7,7 @@ use crate::scene::Step::{GoOn, Goes, Poll, PollReader, Rests, Stops, Wakes};
 use crate::scene::{Row, first_wrong_in, rests};
 use crate::writer::{Page, Plan, PlannedWriter, Taken};
 use crate::writes::{ALL, woken};
-use blocking::{AsyncWrite, Executor, Host, ReadJob, Runtime, Unblock, WriteJob};
+use blocking::{AsyncWrite, Executor, Host, ItemJob, OpJob, ReadJob, Runtime, Unblock, WriteJob};
 use blocking_core::pool::{Carries, Job, JobNo, JobStep};
 use futures::task::Poll as Polled;
 use futures::test::MockTask;
@@ -143,5 +144,36 @@ fn wakes_its_owner<H: Host>(rt: H) -> io::Result<bool> {
 #[test]
 fn dropped_writing_job_wakes_its_owner(rt: HostRuntime) -> Result<(), Fail> {
     assert!(rt; wakes_its_owner(rt)?);
+    Ok(())
+}
+
+// Whether the owner of a handle, whose job is dropped once that was called, is woken for it, and only once the handle is gone.
+fn is_told_last<J: Begins<Endless<H>, H> + Send + 'static, H: Host>(rt: H) -> io::Result<bool> {
+    let Ok(executor) = Executor::<Cut<J>, H>::new(rt, Some("1")) else {
+        return Err(io::Error::from(io::ErrorKind::Other));
+    };
+    let tally = Arc::new(rt.alloc(), Tally::new())?;
+    let mut mock = MockTask::new(&rt)?;
+    let handle = Endless {
+        rt,
+        tally: Arc::try_clone(&tally)?,
+        pace: Pace::Stops,
+    };
+    let mut owner = Unblock::<_, u8, Cut<J>, H>::with_capacity(4, executor, handle);
+    let _ = J::begin(&mut owner, &mut mock);
+    if !tally.track.stops() || owner.is_closed() {
+        return Ok(false);
+    }
+    let waits = mock.enter(|cx| owner.poll_idle(cx).is_pending());
+    tally.track.go_on();
+    Ok(waits && woken(&mock) && tally.gone() == 1)
+}
+
+#[test]
+fn handle_of_a_dropped_job_is_gone_before_its_owner_is_told(rt: HostRuntime) -> Result<(), Fail> {
+    assert!(rt; is_told_last::<ReadJob<_, _>, _>(rt)?);
+    assert!(rt; is_told_last::<WriteJob<_, _>, _>(rt)?);
+    assert!(rt; is_told_last::<ItemJob<_, u8, _>, _>(rt)?);
+    assert!(rt; is_told_last::<OpJob<Touch, _, _>, _>(rt)?);
     Ok(())
 }

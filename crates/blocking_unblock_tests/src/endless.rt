@@ -40,7 +40,7 @@ impl Tally {
     }
 }
 
-/// How a call of a handle goes.
+/// How a call of a handle goes, and its drop: one that isn't made at once is slow.
 #[derive(Clone, Copy)]
 pub(crate) enum Pace {
     AtOnce,
@@ -121,11 +121,10 @@ impl<R: Clock + Copy> CallOn<Endless<R>> for Touch {
 
 impl<R: Clock + Copy> Drop for Endless<R> {
     fn drop(self) {
-        let Endless {
-            rt: _,
-            tally,
-            pace: _,
-        } = self;
+        let Endless { rt, tally, pace } = self;
+        if let Pace::Slow | Pace::Stops = pace {
+            thread::sleep(&rt, Duration::from_millis(10));
+        }
         let _ = tally.gone.fetch_add(1, Ordering::SeqCst);
     }
 }
@@ -188,13 +187,16 @@ pub(crate) type Owner<T, J, H> = Unblock<T, u8, Beside<J>, H>;
 
 pub(crate) type Pool<J, H> = Executor<Beside<J>, H>;
 
-/// How a session of this job begins: by a poll of its owner. Whether that waits.
+/// How a session of this job begins, in a pool of any jobs that carry it: by a poll of its owner. Whether that waits.
 pub(crate) trait Begins<T: Drop, H: Runtime>: Job {
-    fn begin(owner: &mut Owner<T, Self, H>, mock: &mut MockTask) -> bool;
+    fn begin<K: Job + Carries<Self>>(owner: &mut Unblock<T, u8, K, H>, mock: &mut MockTask) -> bool;
 }
 
 impl<T: Read + Drop, H: Runtime> Begins<T, H> for ReadJob<T, H> {
-    fn begin(owner: &mut Owner<T, Self, H>, mock: &mut MockTask) -> bool {
+    fn begin<K: Job + Carries<Self>>(
+        owner: &mut Unblock<T, u8, K, H>,
+        mock: &mut MockTask,
+    ) -> bool {
         if owner.is_closed() {
             return false;
         }
@@ -203,7 +205,10 @@ impl<T: Read + Drop, H: Runtime> Begins<T, H> for ReadJob<T, H> {
 }
 
 impl<T: Write + Drop, H: Runtime> Begins<T, H> for WriteJob<T, H> {
-    fn begin(owner: &mut Owner<T, Self, H>, mock: &mut MockTask) -> bool {
+    fn begin<K: Job + Carries<Self>>(
+        owner: &mut Unblock<T, u8, K, H>,
+        mock: &mut MockTask,
+    ) -> bool {
         if owner.is_closed() {
             return false;
         }
@@ -212,7 +217,10 @@ impl<T: Write + Drop, H: Runtime> Begins<T, H> for WriteJob<T, H> {
 }
 
 impl<T: Iterator<Item = u8> + Drop, H: Runtime> Begins<T, H> for ItemJob<T, u8, H> {
-    fn begin(owner: &mut Owner<T, Self, H>, mock: &mut MockTask) -> bool {
+    fn begin<K: Job + Carries<Self>>(
+        owner: &mut Unblock<T, u8, K, H>,
+        mock: &mut MockTask,
+    ) -> bool {
         if owner.is_closed() {
             return false;
         }
@@ -221,7 +229,10 @@ impl<T: Iterator<Item = u8> + Drop, H: Runtime> Begins<T, H> for ItemJob<T, u8, 
 }
 
 impl<T: Seek + Drop, H: Runtime> Begins<T, H> for SeekJob<T, H> {
-    fn begin(owner: &mut Owner<T, Self, H>, mock: &mut MockTask) -> bool {
+    fn begin<K: Job + Carries<Self>>(
+        owner: &mut Unblock<T, u8, K, H>,
+        mock: &mut MockTask,
+    ) -> bool {
         if owner.is_closed() {
             return false;
         }
@@ -230,7 +241,10 @@ impl<T: Seek + Drop, H: Runtime> Begins<T, H> for SeekJob<T, H> {
 }
 
 impl<H: Host> Begins<Endless<H>, H> for OpJob<Touch, Endless<H>, H> {
-    fn begin(owner: &mut Owner<Endless<H>, Self, H>, mock: &mut MockTask) -> bool {
+    fn begin<K: Job + Carries<Self>>(
+        owner: &mut Unblock<Endless<H>, u8, K, H>,
+        mock: &mut MockTask,
+    ) -> bool {
         if owner.is_closed() {
             return false;
         }
