@@ -9,6 +9,8 @@ use Rattle.blocking_laws.specs.TaskLaws.{TaskLaw}
 use Rattle.blocking_laws.specs.OwnerLaws.{OwnerLaw}
 use Rattle.blocking_laws.specs.Wakes.{NoLostWake}
 use Rattle.blocking_laws.specs.OwnerWakes.{NoLostOwnerWake}
+use Rattle.blocking_laws.specs.Served.{IsServed}
+use Rattle.blocking_laws.specs.Staffed.{IsStaffedAsSeen}
 use Rattle.blocking_laws.specs.Steps.{StepLaw}
 use Rattle.blocking_laws.specs.Legal.{Legal, PoolLaw, LastFollows, HoldsNow, IsLegalThroughout}
 use Rattle.blocking_laws.specs.declared.event.Act.{Act}
@@ -79,6 +81,8 @@ before setting plan past now legal = record {
       (legal.tasks k s (keeps setting plan past now legal.pool s (Task k) h));
   wakes = legal.wakes.1;
   owner_wakes = legal.owner_wakes.1;
+  served = legal.served.1;
+  staffed = legal.staffed.1;
 }
 
 -- ---- both forms
@@ -91,6 +95,8 @@ now_of setting plan [] legal = record {
   tasks = legal.tasks;
   wakes = legal.wakes;
   owner_wakes = legal.owner_wakes;
+  served = legal.served;
+  staffed = legal.staffed;
 }
 now_of setting plan (now ∷ past) legal = record {
   step = legal.steps.0;
@@ -99,6 +105,8 @@ now_of setting plan (now ∷ past) legal = record {
   tasks = legal.tasks;
   wakes = legal.wakes.0;
   owner_wakes = legal.owner_wakes.0;
+  served = legal.served.0;
+  staffed = legal.staffed.0;
 }
 
 at_beginning : (setting : ℕ) (plan : List Bool) (later beginning : List Moment) → Legal setting plan (later ++ beginning) → HoldsNow setting plan beginning
@@ -128,6 +136,8 @@ whole setting plan past laws = record {
   tasks = (laws [] past refl).tasks;
   wakes = at_each NoLostWake past (λ later beginning split. (laws later beginning split).wakes);
   owner_wakes = at_each NoLostOwnerWake past (λ later beginning split. (laws later beginning split).owner_wakes);
+  served = at_each IsServed past (λ later beginning split. (laws later beginning split).served);
+  staffed = at_each IsStaffedAsSeen past (λ later beginning split. (laws later beginning split).staffed);
 }
 
 -- ---- what the law of one owner or of one task refuses

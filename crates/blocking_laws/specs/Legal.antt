@@ -11,6 +11,8 @@ use Rattle.blocking_laws.specs.Wakes.{NoLostWake}
 use Rattle.blocking_laws.specs.Steps.{StepLaw}
 use Rattle.blocking_laws.specs.OwnerLaws.{OwnerLaws}
 use Rattle.blocking_laws.specs.OwnerWakes.{NoLostOwnerWake}
+use Rattle.blocking_laws.specs.Served.{IsServed}
+use Rattle.blocking_laws.specs.Staffed.{IsStaffedAsSeen}
 use Rattle.blocking_laws.specs.declared.event.Moment.{Moment}
 use Rattle.blocking_laws.specs.declared.event.Party.TheVariants.{Task}
 
@@ -23,7 +25,8 @@ pub record PoolLaw (setting : ℕ) (plan : List Bool) (past : List Moment) (now 
 
 -- A past is legal, by the setting's number and the plan of the starts: each step has the event that it may have, the
 -- pool keeps its law, each owner with its jobs keeps theirs, each task with its job keeps theirs, and at every beginning no
--- wake is lost, of tasks or of owners. Only the pool's law and those of the wakes see more than one holder.
+-- wake is lost, of tasks or of owners, queued jobs are served, and the workers are accounted for. Only the pool's law and those of
+-- every beginning see more than one holder.
 pub record Legal (setting : ℕ) (plan : List Bool) (past : List Moment) : Type 0 where
   pub steps : EachMayFollow StepLaw past
   pub pool : EachMayFollow (PoolLaw setting plan) past
@@ -31,6 +34,8 @@ pub record Legal (setting : ℕ) (plan : List Bool) (past : List Moment) : Type 
   pub tasks : (k s : ℕ) → holder past s ≡ Some (Task k) → TaskLaws s (task_cut k s (events past))
   pub wakes : AtEveryBeginning NoLostWake past
   pub owner_wakes : AtEveryBeginning NoLostOwnerWake past
+  pub served : AtEveryBeginning IsServed past
+  pub staffed : AtEveryBeginning IsStaffedAsSeen past
 
 -- The last moment rightly follows those before it.
 abbrev pub LastFollows : (List Moment → Moment → Type 0) → List Moment → Type 0
@@ -45,6 +50,8 @@ pub record HoldsNow (setting : ℕ) (plan : List Bool) (past : List Moment) : Ty
   pub tasks : (k s : ℕ) → holder past s ≡ Some (Task k) → TaskLaws s (task_cut k s (events past))
   pub wakes : NoLostWake past
   pub owner_wakes : NoLostOwnerWake past
+  pub served : IsServed past
+  pub staffed : IsStaffedAsSeen past
 
 -- The same as `Legal`, said of every beginning of the trace: however the past is split into a beginning and what came later,
 -- the laws hold at that beginning.

@@ -23,6 +23,8 @@ pub mod Wakes
 pub mod Steps
 pub mod OwnerLaws
 pub mod OwnerWakes
+pub mod Served
+pub mod Staffed
 pub mod Legal
 pub mod Solo
 pub mod Traces
@@ -31,5 +33,3 @@ pub mod WriteTraces
 pub mod StreamTraces
 pub mod SeekTraces
 pub mod OperationTraces
-pub mod Served
-pub mod Staffed

@@ -1,4 +1,4 @@
--- Who serves a queued job. Legality doesn't ask for it by itself.
+-- Who serves a queued job.
 use Rattle.std.specs.Prelude.{◌≡◌, ℕ, zero, suc, Bool, true, false, List, [], ◌∷◌}
 use Rattle.blocking_laws.specs.Queue.{queue}
 use Rattle.blocking_laws.specs.Counts.{workers}

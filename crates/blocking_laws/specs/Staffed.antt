@@ -31,6 +31,10 @@ pub record IsStaffed (held_passes held_turns : ℕ) (past : List Moment) : Type 
   pub idle_are : idle past ≡ held_passes + unarrived past
   pub jobs_are : held_turns ≡ length (running past)
 
+-- The passes and turns that the workers were seen to hold account for them.
+abbrev pub IsStaffedAsSeen : List Moment → Type 0
+IsStaffedAsSeen past = IsStaffed (passes past) (turns past) past
+
 -- As many passes and turns are held as were seen to be held.
 pub record AreAsSeen (held_passes held_turns : ℕ) (past : List Moment) : Type 0 where
   pub passes_are : held_passes ≡ passes past

@@ -2,7 +2,7 @@
 ghost use Rattle.std.specs.Prelude.{◌≡◌, [], Some, None, false, true};
 ghost use Rattle.blocking_pool.specs.declared.pool.standing.Standing.TheVariants.{Done};
 ghost use Rattle.blocking_pool.specs.declared.pool.answer.Woke.TheVariants.{Entered};
-ghost use Rattle.blocking_laws.specs.Staffed.{IsStaffed, passes, turns, unarrived};
+ghost use Rattle.blocking_laws.specs.Staffed.{IsStaffed, IsStaffedAsSeen, passes, turns, unarrived};
 ghost use Rattle.blocking_laws.specs.Turns.{TurnLaw};
 ghost use Rattle.blocking_laws.specs.Legal.{Legal};
 ghost use Rattle.blocking_laws.specs.Traces.{◌▸◌, moment, starting, Refuses, Keeps, IsPooled};
@@ -160,6 +160,24 @@ pub fn staffing()
     // .. / ended 1 done / stopped 1, with the pass still
     ensures refuses_pass_after_stop { Refuses (Keeps (IsStaffed 1 0)) one_done
         (moment (Late 1) (Worker 1) None (Stopped 1 TimedOut) 2) }
+{}
+
+/// What the workers were seen to hold accounts for them.
+pub fn staffing_as_seen()
+    // accepted 1 +1 / arrived 1 / accepted 2 / took 1 +2 / arrived 2
+    ensures accepts_both { IsStaffedAsSeen two_workers }
+    // accepted 1 +1 / arrived 2: worker 1 isn't there, and isn't to come
+    ensures refuses_arrival_out_of_turn { Refuses (Keeps IsStaffedAsSeen) one_queued
+        (moment Arrive (Worker 2) None (Arrived 2) 2) }
+    // accepted 1 +1 / arrived 1 / took 1, by worker 2: nobody who arrived has the job that runs
+    ensures refuses_take_of_unarrived { Refuses (Keeps IsStaffedAsSeen) one_arrived
+        (moment (Take 2) (Worker 2) (Some 1) (Took 1) 2) }
+    // .. / took 1 / answered 5 / finished / ended 1 done, by worker 2: worker 1 has a job in hand that is over
+    ensures refuses_end_by_other { Refuses (Keeps IsStaffedAsSeen) one_finished
+        (moment (End 2) (Worker 2) (Some 1) (Ended 1 Done) 2) }
+    // .. / ended 1 done / stopped 2: worker 1 is there, and isn't counted
+    ensures refuses_stop_of_unarrived { Refuses (Keeps IsStaffedAsSeen) one_done
+        (moment (Late 2) (Worker 2) None (Stopped 2 TimedOut) 2) }
 {}
 
 /// Which passes and turns are seen to be held.

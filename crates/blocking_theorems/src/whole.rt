@@ -8,6 +8,8 @@ ghost use Rattle.blocking_laws.specs.Turns.{TurnLaw};
 ghost use Rattle.blocking_laws.specs.Answers.{AnswerLaw};
 ghost use Rattle.blocking_laws.specs.Wakes.{NoLostWake};
 ghost use Rattle.blocking_laws.specs.OwnerWakes.{NoLostOwnerWake};
+ghost use Rattle.blocking_laws.specs.Served.{IsServed};
+ghost use Rattle.blocking_laws.specs.Staffed.{IsStaffedAsSeen};
 ghost use Rattle.blocking_laws.specs.Steps.{StepLaw, is_pool_step, is_out_of_memory};
 ghost use Rattle.blocking_laws.specs.Legal.{Legal, PoolLaw};
 ghost use Rattle.blocking_laws.specs.Traces.{◌▸◌, moment, starting, Refuses, Keeps, LawOfTask, start_refused};
@@ -55,6 +57,10 @@ pub fn refusals()
         Refuses (Keeps NoLostWake) past now → Legal setting plan (past ▸ now) → ⊥ }
     ensures by_owner_wake { (setting : ℕ) (plan : List Bool) (past : List Moment) (now : Moment) →
         Refuses (Keeps NoLostOwnerWake) past now → Legal setting plan (past ▸ now) → ⊥ }
+    ensures by_service { (setting : ℕ) (plan : List Bool) (past : List Moment) (now : Moment) →
+        Refuses (Keeps IsServed) past now → Legal setting plan (past ▸ now) → ⊥ }
+    ensures by_staffing { (setting : ℕ) (plan : List Bool) (past : List Moment) (now : Moment) →
+        Refuses (Keeps IsStaffedAsSeen) past now → Legal setting plan (past ▸ now) → ⊥ }
     // an event of this owner or of its job
     ensures by_owner { (setting : ℕ) (plan : List Bool) (past : List Moment) (now : Moment) →
         (h : ℕ) → is_in_cut h now.event ≡ true →

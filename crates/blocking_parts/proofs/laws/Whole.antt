@@ -5,9 +5,9 @@ use Rattle.blocking_parts.proofs.Words.{IsPlanned, standing, events, is_nothing,
 use Rattle.blocking_pool.specs.Limits.{limit_of_setting}
 use Rattle.blocking_pool.specs.Pools.{empty_pool}
 use Rattle.blocking_laws.specs.Served.{IsServed}
-use Rattle.blocking_laws.specs.Staffed.{IsStaffed, AreAsSeen}
+use Rattle.blocking_laws.specs.Staffed.{passes, IsStaffed, IsStaffedAsSeen, AreAsSeen}
 use Rattle.blocking_crew.specs.Moves as crew
-use Rattle.blocking_crew.specs.Ties.{Served}
+use Rattle.blocking_crew.specs.Ties.{Holding, Served}
 use Rattle.blocking_crew.proofs.laws.Calls.{served_moved, number_moved}
 use Rattle.blocking_crew.proofs.laws.Staffing.{holding, staffed, as_seen}
 use Rattle.blocking_crew.proofs.laws.Whole.{holds_moved, holds_aside, begins}
@@ -26,6 +26,13 @@ use Rattle.blocking_parts.proofs.ties.LeftJobs.{crossed_after}
 use Rattle.blocking_parts.proofs.ties.Marks.{marks_after}
 use Rattle.blocking_parts.proofs.ties.Owners.{owners_after_move}
 use Rattle.blocking_parts.proofs.ties.Tasks.{tasks_after_move}
+
+-- what the hands of a crew hold accounts for the workers, and is what was seen
+seen_to_staff : (setting : ℕ) (plan : List Bool) (crew : Crew) (past : List Moment) → CrewHolds setting plan crew past → IsStaffedAsSeen past
+seen_to_staff setting plan crew past holds =
+    let held : Holding crew past = holding setting crew past holds.tied in
+    subst (λ turns. IsStaffed (passes past) turns past) held.turns_are
+    (subst (λ free. IsStaffed free (busy_hands crew.hands) past) held.passes_are (staffed setting crew past holds.tied holds.ready))
 
 module _ (setting : ℕ) (plan : List Bool) (w : Parts) (past : List Moment) (lawful : IsLawful setting plan w past) (new : Parts) (e : Event) where
   t : Tied setting plan w past
@@ -112,6 +119,8 @@ module _ (setting : ℕ) (plan : List Bool) (w : Parts) (past : List Moment) (la
           tasks = of_tasks.laws;
           wakes = (no_lost_wake setting plan new (moment new (step_of move) e ∷ past) tied, lawful.legal.wakes);
           owner_wakes = (no_lost_owner_wake setting plan new (moment new (step_of move) e ∷ past) tied, lawful.legal.owner_wakes);
+          served = (c.served.served, lawful.legal.served);
+          staffed = (seen_to_staff setting plan new.crew (moment new (step_of move) e ∷ past) c.holds, lawful.legal.staffed);
         };
         served = c.served;
         holding = holding setting new.crew (moment new (step_of move) e ∷ past) c.holds.tied;
@@ -186,6 +195,8 @@ begins_lawful setting plan positive = record {
     tasks = λ k s held. tt;
     wakes = record { tasks = λ k s held. cc };
     owner_wakes = record { owners = λ h s is. absurd is; jobs = λ h s held. absurd cc };
+    served = λ some none. absurd (some refl);
+    staffed = record { all_are = refl; idle_are = refl; jobs_are = refl };
   };
   served = record { positive = positive; served = λ some none. absurd (some refl) };
   holding = record { passes_are = refl; turns_are = refl; jobs_are = refl };

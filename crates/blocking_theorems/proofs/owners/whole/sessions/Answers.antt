@@ -231,6 +231,8 @@ returns-clause-accepts_operation c = record {
   tasks = search rules;
   wakes = search rules;
   owner_wakes = none_is_ever_lost operation_over refl;
+  served = search rules;
+  staffed = search rules;
 }
 
 pub returns-clause-accepts_return : goal.returns-clause-accepts_return
@@ -241,6 +243,8 @@ returns-clause-accepts_return c = record {
   tasks = search rules;
   wakes = search rules;
   owner_wakes = none_is_ever_lost inner_replied refl;
+  served = search rules;
+  staffed = search rules;
 }
 
 pub returns-clause-accepts_read : goal.returns-clause-accepts_read
@@ -251,6 +255,8 @@ returns-clause-accepts_read c = record {
   tasks = search rules;
   wakes = search rules;
   owner_wakes = none_is_ever_lost end_read refl;
+  served = search rules;
+  staffed = search rules;
 }
 
 pub returns-clause-accepts_stop : goal.returns-clause-accepts_stop
@@ -261,4 +267,6 @@ returns-clause-accepts_stop c = record {
   tasks = search rules;
   wakes = search rules;
   owner_wakes = none_is_ever_lost (stop_back ▸ polls (Replied Handle) 2) refl;
+  served = search rules;
+  staffed = search rules;
 }
