@@ -45,7 +45,7 @@ ghost use Rattle.blocking_laws.specs.Behind.{WritesBehind, AllWriteBehind};
 ghost use Rattle.blocking_laws.specs.Solo.{Solo, AreIndependent, is_without_refusal};
 ghost use Rattle.blocking_laws.specs.WriteTraces.{writer_made, write_begun, two_filled, two_peeked, one_answered, one_written, last_filled, writer_parked};
 ghost use Rattle.blocking_laws.specs.WriteTraces.{writer_drained, flush_asked, unflushed_back, writer_closed, one_peeked, then_done, then_back};
-ghost use Rattle.blocking_laws.specs.WriteTraces.{none_written, write_failed};
+ghost use Rattle.blocking_laws.specs.WriteTraces.{none_written};
 ghost use Rattle.blocking_laws.specs.declared.event.Act.TheVariants.{Filled, FillShut, Answered, Peeked, JobClosed, Taken as TakenOut};
 ghost use Rattle.blocking_laws.specs.declared.event.HolderWaker.TheVariants.{Taken};
 ghost use Rattle.blocking_core.specs.declared.io.Position.TheVariants.{Start};
@@ -58,7 +58,8 @@ ghost use Rattle.blocking_laws.specs.SeekTraces.{old_sought, other_asked, seek_f
 ghost use Rattle.blocking_laws.specs.OperationTraces.{operation_begun, operation_taken, nine_put, older_asked, inner_asked, inner_waits, inner_replied};
 ghost use Rattle.blocking_laws.specs.declared.event.Act.TheVariants.{Made, GotItem, GotEnd, Back, ResultGot, JobParked, Put};
 ghost use Rattle.blocking_laws.specs.declared.event.Reply.TheVariants.{OneItem, NoMore, Handle, Failed as FailedReply};
-ghost use Rattle.blocking_laws.specs.declared.step.Answer.TheVariants.{Item};
+ghost use Rattle.blocking_laws.specs.declared.step.Answer.TheVariants.{Item, Fine, Failed as FailedAnswer};
+ghost use Rattle.blocking_laws.specs.OwnerTraces.{stop_back};
 ghost use Rattle.blocking_laws.specs.declared.step.HandleCall.TheVariants.{Seek, Operate, OperateAgain, IntoInner};
 ghost use Rattle.blocking_core.specs.declared.io.Fault.TheVariants.{Refused as FaultRefused};
 
@@ -186,6 +187,9 @@ pub fn jobs_of_owners()
     ensures refuses_read_after_end { Refuses FirstOwnerLaw end_given (works 1 (RoomFree 4)) }
     // .. / answered 61626364 / gave up
     ensures refuses_giving_up_unasked { Refuses FirstOwnerLaw four_given (works 1 (GaveUp Absent)) }
+    // .. / back / replied handle / asked / accepted 2 / took 2 / room 4: the owner's end is open in the next session
+    ensures accepts_open_again { FirstOwnerLaw (stop_back ▸ polls (Replied Handle) 2 ▸ asks (Read 2) 2 ▸ polls (Accepted 2) 2
+        ▸ takes 2 (Took 2)) (works 2 (RoomFree 4)) }
     // .. / ended 1 parked / dropped
     ensures dropped_owner_marks { is_marked reader_dropped 1 ≡ true }
 {}
@@ -205,10 +209,17 @@ pub fn writers()
     // .. / ended 1 parked / asked (to write 61) / put 1 wake 1 / replied ok 1
     ensures refuses_undelivered_note_of_put { Refuses FirstOwnerLaw
         (writer_parked ▸ asks (Write (97 ∷ [])) 2 ▸ polls (Filled 1 (Some 1)) 2) (polls (Replied (Count 1)) 2) }
-    // .. / answered fault 8 / answered ok / .. / back / replied ok
-    ensures refuses_fault_hidden_by_flush { Refuses FirstOwnerEnds (then_back write_failed) (polls (Replied Okay) 2) }
-    // .. / answered 0 / answered ok / .. / back / replied ok
-    ensures refuses_none_as_written { Refuses FirstOwnerEnds (then_back none_written) (polls (Replied Okay) 2) }
+    // .. / peeked 1 / answered fault 8 / answered 1 / answered ok / .. / back / replied ok: all was taken, and flushed
+    ensures refuses_fault_hidden_by_flush { Refuses FirstOwnerEnds
+        (then_back (one_peeked ▸ given 1 (FailedAnswer 8) ▸ given 1 (Number 1) ▸ given 1 Fine)) (polls (Replied Okay) 2) }
+    // .. / peeked 1 / answered 0 / answered 1 / answered ok / .. / back / replied ok: all was taken, and flushed
+    ensures refuses_none_as_written { Refuses FirstOwnerEnds
+        (then_back (one_peeked ▸ given 1 (Number 0) ▸ given 1 (Number 1) ▸ given 1 Fine)) (polls (Replied Okay) 2) }
+    // .. / peeked 2 / answered 1 / answered ok / .. / back / replied ok: no write failed, and it was flushed
+    ensures refuses_part_as_written { Refuses FirstOwnerEnds
+        (then_back (two_peeked ▸ given 1 (Number 1) ▸ given 1 Fine)) (polls (Replied Okay) 2) }
+    // .. / peeked 1 / answered 1 / .. / back / replied ok: all was taken
+    ensures refuses_unflushed { Refuses FirstOwnerEnds (then_back (one_peeked ▸ given 1 (Number 1))) (polls (Replied Okay) 2) }
     // .. / drained / answered fault 9 / .. / asked (to close) / back / replied ok
     ensures refuses_close_of_unflushed { Refuses FirstOwnerEnds unflushed_back (polls (Replied Okay) 2) }
 {}
