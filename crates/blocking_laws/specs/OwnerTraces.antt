@@ -62,13 +62,21 @@ FirstOwnerLaw past now = LawOfOwner 0 past now
 abbrev pub KeepsFirstOwner : List Moment → Type 0
 KeepsFirstOwner past = OwnerLaws (cut 0 (events past))
 
--- the law of ends of owner 0
-abbrev pub FirstOwnerEnds : List Moment → Moment → Type 0
-FirstOwnerEnds past now = EndsTruly (cut 0 (events past)) now.event.act
+-- the law of ends of owner h
+abbrev pub EndsOfOwner : ℕ → List Moment → Moment → Type 0
+EndsOfOwner h past now = EndsTruly (cut h (events past)) now.event.act
 
--- what passed in its last session
+-- (of owner 0)
+abbrev pub FirstOwnerEnds : List Moment → Moment → Type 0
+FirstOwnerEnds past now = EndsOfOwner 0 past now
+
+-- what passed in the last session of owner h
+abbrev pub OwnerPasses : ℕ → List Moment → Type 0
+OwnerPasses h past = PassesOn (cut h (events past))
+
+-- (of owner 0)
 abbrev pub FirstOwnerPasses : List Moment → Type 0
-FirstOwnerPasses past = PassesOn (cut 0 (events past))
+FirstOwnerPasses past = OwnerPasses 0 past
 
 -- that it doesn't wait in vain for job 1
 abbrev pub FirstOwnerIsNotLost : List Moment → Type 0

@@ -13,7 +13,7 @@ ghost use Rattle.blocking_laws.specs.Staffed.{IsStaffedAsSeen};
 ghost use Rattle.blocking_laws.specs.Steps.{StepLaw, is_pool_step, is_out_of_memory};
 ghost use Rattle.blocking_laws.specs.Legal.{Legal, PoolLaw};
 ghost use Rattle.blocking_laws.specs.Traces.{◌▸◌, moment, starting, Refuses, Keeps, LawOfTask, start_refused};
-ghost use Rattle.blocking_laws.specs.OwnerTraces.{LawOfOwner};
+ghost use Rattle.blocking_laws.specs.OwnerTraces.{LawOfOwner, EndsOfOwner, OwnerPasses};
 ghost use Rattle.blocking_laws.specs.declared.event.Moment.{Moment};
 ghost use Rattle.blocking_laws.specs.declared.event.Act.TheVariants.{Accepted, TaskGot, Arrived, Took, Stopped, Ended, Answered, Finished, NoAction};
 ghost use Rattle.blocking_laws.specs.declared.event.Party.TheVariants.{Task, Worker, Pool};
@@ -65,6 +65,14 @@ pub fn refusals()
     ensures by_owner { (setting : ℕ) (plan : List Bool) (past : List Moment) (now : Moment) →
         (h : ℕ) → is_in_cut h now.event ≡ true →
         Refuses (LawOfOwner h) past now → Legal setting plan (past ▸ now) → ⊥ }
+    // one that tells an end which isn't one
+    ensures by_ends { (setting : ℕ) (plan : List Bool) (past : List Moment) (now : Moment) →
+        (h : ℕ) → is_in_cut h now.event ≡ true →
+        Refuses (EndsOfOwner h) past now → Legal setting plan (past ▸ now) → ⊥ }
+    // one after which what passed is no beginning of what was given
+    ensures by_passing { (setting : ℕ) (plan : List Bool) (past : List Moment) (now : Moment) →
+        (h : ℕ) → is_in_cut h now.event ≡ true →
+        Refuses (Keeps (OwnerPasses h)) past now → Legal setting plan (past ▸ now) → ⊥ }
     // an event of this task or of its job
     ensures by_task { (setting : ℕ) (plan : List Bool) (past : List Moment) (now : Moment) →
         (k s : ℕ) → holder (past ▸ now) s ≡ Some (Task k) →

@@ -14,15 +14,15 @@ ghost use Rattle.blocking_laws.specs.Seats.{task_seat};
 ghost use Rattle.blocking_laws.specs.Wakes.{NoLostWake};
 ghost use Rattle.blocking_laws.specs.Steps.{StepLaw};
 ghost use Rattle.blocking_laws.specs.Legal.{Legal};
-ghost use Rattle.blocking_laws.specs.Traces.{◌▸◌, moment, starting, refusing, Refuses, Keeps, FirstTaskLaw};
+ghost use Rattle.blocking_laws.specs.Traces.{◌▸◌, moment, starting, refusing, of_owner, Refuses, Keeps, FirstTaskLaw};
 ghost use Rattle.blocking_laws.specs.Traces.{one_queued, one_arrived, two_queued, dropped, second_dropped, late_queued, second_refused};
 ghost use Rattle.blocking_laws.specs.Traces.{awaited, awaited_finished, cancelled_finished, untold_given_up};
 ghost use Rattle.blocking_laws.specs.Traces.{one_waits, one_parked, woken_waits, raised_limit, unstaffed_parked};
 ghost use Rattle.blocking_laws.specs.declared.event.Act.TheVariants.{Accepted, Refused, JobWoken, JobCancelled, LimitSet, Swept, Waits, TaskGot, TaskDetached, Arrived, Took, TookDropped, Stopped, Ended, Finished, NoAction};
-ghost use Rattle.blocking_laws.specs.declared.event.Party.TheVariants.{Task, Worker, Pool};
+ghost use Rattle.blocking_laws.specs.declared.event.Party.TheVariants.{Owner, Task, Worker, Pool};
 ghost use Rattle.blocking_laws.specs.declared.event.HolderWaker.TheVariants.{Absent};
 ghost use Rattle.blocking_laws.specs.declared.event.WaitEnd.TheVariants.{TimedOut};
-ghost use Rattle.blocking_laws.specs.declared.step.Step.TheVariants.{Spawn, OfTask, Arrive, Take, Job, End, Late, SetLimit, Sweep, Stray, Strike};
+ghost use Rattle.blocking_laws.specs.declared.step.Step.TheVariants.{New, Spawn, OfTask, Arrive, Take, Job, End, Late, SetLimit, Sweep, Stray, Strike};
 ghost use Rattle.blocking_laws.specs.declared.step.TaskCall.TheVariants.{Poll, Cancel};
 ghost use Rattle.std.specs.Prelude.{◌∷◌, true};
 ghost use Rattle.blocking_laws.specs.Seen.{cut};
@@ -53,14 +53,14 @@ ghost use Rattle.blocking_laws.specs.JobTable.{Streaming, AskItem, SendItem, nex
 ghost use Rattle.blocking_laws.specs.OwnerSeats.{result_seat};
 ghost use Rattle.blocking_laws.specs.Sessions.{capacity};
 ghost use Rattle.blocking_laws.specs.OwnerTraces.{drops, FirstOwnerPasses};
-ghost use Rattle.blocking_laws.specs.StreamTraces.{item_asked, first_given, second_waits, first_asked, first_got, second_asked, stream_back};
-ghost use Rattle.blocking_laws.specs.SeekTraces.{old_sought, other_asked, seek_failed};
-ghost use Rattle.blocking_laws.specs.OperationTraces.{operation_begun, operation_taken, nine_put, older_asked, inner_asked, inner_waits, inner_replied};
-ghost use Rattle.blocking_laws.specs.declared.event.Act.TheVariants.{Made, GotItem, GotEnd, Back, ResultGot, JobParked, Put};
-ghost use Rattle.blocking_laws.specs.declared.event.Reply.TheVariants.{OneItem, NoMore, Handle, Failed as FailedReply};
+ghost use Rattle.blocking_laws.specs.StreamTraces.{item_asked, stream_taken, first_given, second_waits, first_asked, first_got, second_asked, stream_back};
+ghost use Rattle.blocking_laws.specs.SeekTraces.{old_seek_taken, then_sought, old_sought, other_asked, seek_failed};
+ghost use Rattle.blocking_laws.specs.OperationTraces.{operation_begun, operation_taken, nine_put, older_asked, stop_for_operation, then_stopped, inner_asked, inner_waits, inner_replied};
+ghost use Rattle.blocking_laws.specs.declared.event.Act.TheVariants.{Made, GotItem, GotEnd, Back, ResultGot, JobParked, Put, ResultPut};
+ghost use Rattle.blocking_laws.specs.declared.event.Reply.TheVariants.{OneItem, NoMore, Handle, NotBegun, Failed as FailedReply};
 ghost use Rattle.blocking_laws.specs.declared.step.Answer.TheVariants.{Item, Fine, Failed as FailedAnswer};
 ghost use Rattle.blocking_laws.specs.OwnerTraces.{stop_back};
-ghost use Rattle.blocking_laws.specs.declared.step.HandleCall.TheVariants.{Seek, Operate, OperateAgain, IntoInner};
+ghost use Rattle.blocking_laws.specs.declared.step.HandleCall.TheVariants.{Close, Next, Seek, Operate, OperateAgain, IntoInner};
 ghost use Rattle.blocking_core.specs.declared.io.Fault.TheVariants.{Refused as FaultRefused};
 
 /// What the pool answers: with the next serial, with the front job and only as it was let go, by how a job stands.
@@ -142,6 +142,14 @@ pub fn steps()
     // accepted 1 +1 / detached, of a cancel
     ensures refuses_cancel_told_as_detaching { Refuses StepLaw one_queued
         (moment (OfTask 0 Cancel) (Task 0) None TaskDetached 2) }
+    // .. / took 1 / peeked 2 / nothing, of a job: it asks its writer
+    ensures accepts_nothing_beside_write { StepLaw two_peeked (moment (Job 1) (Worker 1) None NoAction 2) }
+    // .. / took 1 / drained / nothing, of a job: it asks for the flush
+    ensures accepts_nothing_beside_flush { StepLaw writer_drained (moment (Job 1) (Worker 1) None NoAction 2) }
+    // .. / took 1 / nothing, of a job that asks for an item
+    ensures accepts_nothing_beside_item { StepLaw stream_taken (moment (Job 1) (Worker 1) None NoAction 2) }
+    // .. / took 1 / nothing, of a job that asks for a seek
+    ensures accepts_nothing_beside_seek { StepLaw old_seek_taken (moment (Job 1) (Worker 1) None NoAction 2) }
 {}
 
 /// What a task finds, who is seated, and who waits.
@@ -171,11 +179,18 @@ pub fn owners()
     ensures tells_the_end { next_of_owner (cut 0 (events reader_back)) ≡ Say (Count 0) }
     // .. / ended 1 parked / asked / replied ok 0
     ensures refuses_early_end { Refuses FirstOwnerEnds (reader_parked ▸ asks (Read 2) 2) (polls (Replied (Count 0)) 2) }
+    // .. / room 4 / answered fault 8 / answered - / asked / back / replied ok 0: a failure came before that end
+    ensures refuses_end_behind_fault { Refuses FirstOwnerEnds
+        (room_found ▸ given 1 (FailedAnswer 8) ▸ given 1 (Gave []) ▸ asks (Read 2) 2 ▸ polls Back 2) (polls (Replied (Count 0)) 2) }
     // .. / delivered 1 entered / .. / waits / took 1 / parked / ended 1 parked
     ensures refuses_wait_for_parked { Refuses (Keeps NoLostOwnerWake) told_before (ends 1 (Ended 1 Parked)) }
     // .. / got 6162 wake 1 / delivered 1 entered / replied ok 2 / took 1 / parked / ended 1 parked: there is room for two
     ensures refuses_parked_beside_room { Refuses (Keeps NoLostOwnerWake)
         (two_told ▸ polls (Replied (Count 2)) 2 ▸ takes 1 (Took 1) ▸ works 1 JobParked) (ends 1 (Ended 1 Parked)) }
+    // .. / put 2 / replied ok 2 / arrived 1 / took 1 / parked / ended 1 parked: there are two bytes to be written
+    ensures refuses_parked_beside_bytes { Refuses (Keeps NoLostOwnerWake)
+        (two_filled ▸ polls (Replied (Count 2)) 2 ▸ moment Arrive (Worker 1) None (Arrived 1) 2 ▸ takes 1 (Took 1) ▸ works 1 JobParked)
+        (ends 1 (Ended 1 Parked)) }
 {}
 
 /// What the job of an owner does next, and which job a dropped owner lets go.
@@ -199,6 +214,8 @@ pub fn writers()
     // .. / replied ok / asked (to close) / replied ok / asked (for the handle)
     ensures refuses_call_of_closed { Refuses FirstOwnerLaw writer_closed (asks GetMut 2) }
     ensures refuses_step_to_closed { Refuses StepLaw writer_closed (asks GetMut 2) }
+    // .. / replied ok / asked (to close) / replied ok / asked (to close)
+    ensures accepts_close_of_closed { FirstOwnerLaw writer_closed (asks Close 2) }
     // .. / ended 1 parked / asked (to flush) / replied ok
     ensures refuses_early_flush { Refuses FirstOwnerLaw flush_asked (polls (Replied Okay) 2) }
     // .. / put 2 / replied ok 3
@@ -209,6 +226,10 @@ pub fn writers()
     // .. / ended 1 parked / asked (to write 61) / put 1 wake 1 / replied ok 1
     ensures refuses_undelivered_note_of_put { Refuses FirstOwnerLaw
         (writer_parked ▸ asks (Write (97 ∷ [])) 2 ▸ polls (Filled 1 (Some 1)) 2) (polls (Replied (Count 1)) 2) }
+    // .. / put 1 wake 1 / delivered 1 entered / replied ok 1 / asked (to write 62) / put 1 wake 1
+    ensures refuses_note_of_put_twice { Refuses FirstOwnerLaw
+        (writer_parked ▸ asks (Write (97 ∷ [])) 2 ▸ polls (Filled 1 (Some 1)) 2 ▸ polls (JobWoken 1 Entered) 2
+        ▸ polls (Replied (Count 1)) 2 ▸ asks (Write (98 ∷ [])) 2) (polls (Filled 1 (Some 1)) 2) }
     // .. / peeked 1 / answered fault 8 / answered 1 / answered ok / .. / back / replied ok: all was taken, and flushed
     ensures refuses_fault_hidden_by_flush { Refuses FirstOwnerEnds
         (then_back (one_peeked ▸ given 1 (FailedAnswer 8) ▸ given 1 (Number 1) ▸ given 1 Fine)) (polls (Replied Okay) 2) }
@@ -272,6 +293,10 @@ pub fn owners_alone()
     ensures refuses_another_owners { Solo 1 (events writer_made) → ⊥ }
     // made 0 / asked / refused memory
     ensures refuses_refused_job { Solo 0 (events (item_asked ▸ polls (Refused Memory) 1)) → ⊥ }
+    // made 0 / made 0
+    ensures refuses_second_making { Solo 0 (events (writer_made ▸ moment (New 2) (Owner 0) None (Made 0 2) 1)) → ⊥ }
+    // made 0 / parked, of no job
+    ensures refuses_act_of_no_job { Solo 0 (events (writer_made ▸ of_owner 0 (moment (Job 1) (Worker 1) None JobParked 1))) → ⊥ }
     // .. / waits / replied ok 0, where the poll is over
     ensures refuses_unlawful_owner { Refuses (Keeps AreIndependent) reader_waits (polls (Replied (Count 0)) 2) }
 {}
@@ -318,6 +343,23 @@ pub fn seeks_and_operations()
     ensures refuses_second_seek { Refuses FirstOwnerLaw (old_sought ▸ asks (Seek (Start 7)) 2 ▸ polls Back 2) (polls (Accepted 2) 2) }
     // .. / answered fault 5 / .. / ended 1 done / asked (to seek s9) / back / accepted 2
     ensures refuses_untold_fault { Refuses FirstOwnerLaw (seek_failed ▸ asks (Seek (Start 9)) 2 ▸ polls Back 2) (polls (Accepted 2) 2) }
+    // .. / answered fault 5 / .. / ended 1 done / asked (for an item) / back / accepted 2: who asks for an item isn't told that fault
+    ensures accepts_item_after_fault { FirstOwnerLaw (seek_failed ▸ asks Next 2 ▸ polls Back 2) (polls (Accepted 2) 2) }
+    // .. / answered fault 5 / .. / ended 1 done / asked (for an operation) / back / accepted 2: nor who asks for an operation
+    ensures accepts_operation_after_fault { FirstOwnerLaw (seek_failed ▸ asks Operate 2 ▸ polls Back 2) (polls (Accepted 2) 2) }
+    // .. / answered fault 5 / asked (for an operation) / waits / .. / ended 1 done / asked (for the result) / back / accepted 2
+    ensures accepts_result_after_fault { FirstOwnerLaw
+        (then_sought (old_seek_taken ▸ given 1 (FailedAnswer 5) ▸ asks Operate 2 ▸ polls Waits 2) ▸ asks OperateAgain 2 ▸ polls Back 2)
+        (polls (Accepted 2) 2) }
+    // a reading session is stopped / waits / .. / asked (for the result) / back / accepted 2 / waits / took 2 / answered 9 /
+    // result wake owner
+    ensures accepts_result_of_asked_again { FirstOwnerLaw
+        (then_stopped stop_for_operation ▸ asks OperateAgain 2 ▸ polls Back 2 ▸ polls (Accepted 2) 2 ▸ polls Waits 2
+        ▸ takes 2 (Took 2) ▸ given 2 (Number 9)) (works 2 (ResultPut Taken)) }
+    // a reading session is stopped / waits / .. / asked (for the result) / back / refused worker / replied refused worker
+    ensures accepts_refusal_of_asked_again { FirstOwnerLaw
+        (then_stopped stop_for_operation ▸ asks OperateAgain 2 ▸ polls Back 2 ▸ polls (Refused NoWorker) 2)
+        (polls (Replied (NotBegun NoWorker)) 2) }
     // .. / result wake owner / delivered owner / asked (for an operation) / result 9
     ensures refuses_older_result { Refuses FirstOwnerLaw (nine_put ▸ asks Operate 2) (polls (ResultGot 9) 2) }
     // .. / delivered owner / asked (for an operation) / waits / asked (for the result) / result 9: that of the one before
