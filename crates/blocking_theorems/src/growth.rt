@@ -133,9 +133,9 @@ pub fn service()
     // .. / ended 1 parked / stopped 1 / delivered 1 entered: nobody is left to take the job
     ensures refuses_nobody { Refuses (Keeps IsServed) unstaffed_parked
         (moment (Stray 1) Pool None (JobWoken 1 Entered) 2) }
-    // the law of growth refuses it too, where the limit is above 0
+    // the law of growth refuses it too, where the limit is above 0 and so a start is due
     ensures refuses_start_left_out { Refuses (GrowthLaw 1 []) unstaffed_parked
         (moment (Stray 1) Pool None (JobWoken 1 Entered) 2) }
-    ensures growth_alone_lets_it_be { GrowthLaw 0 [] unstaffed_parked
+    ensures growth_accepts_it_at_limit_0 { GrowthLaw 0 [] unstaffed_parked
         (moment (Stray 1) Pool None (JobWoken 1 Entered) 2) }
 {}
