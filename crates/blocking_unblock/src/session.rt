@@ -121,6 +121,15 @@ fn told_of_fill(filled: Filled) -> (OwnerAnswer<io::Error>, Option<WakeNote>)
     }
 }
 
+// A handle that came back from a session of items or of an operation.
+fn came_alone<T: Drop, H: Wait + Copy>(returned: Returned<T, MayFail>) -> Back<T, H>
+    ensures exact { result.answer ≡ CameBack (option_map told returned.told) }
+    ensures back { IsBack result.answer }
+{
+    let Returned { handle, told } = returned;
+    came_back(handle, told, Tools::Nothing)
+}
+
 impl<T: Drop, I: Drop, H: Wait + Copy> Session<T, I, H> {
     ghost use Rattle.blocking_unblock.specs.Owners.{kind_of, crossed, has, BackFrom, SawEndOf, is_back};
     ghost use Rattle.blocking_unblock.specs.Polls.{Drains, Fills, OnEnded, crossed_by};
@@ -274,10 +283,8 @@ impl<T: Drop, I: Drop, H: Wait + Copy> Session<T, I, H> {
                 let WriteBack { fault, end } = told;
                 Ok(came_back(handle, fault, Tools::Write(end)))
             }
-            Side::Streaming(_, way_back) | Side::Operating(way_back) => {
-                let Returned { handle, told } = way_back.poll(cx)?;
-                Ok(came_back(handle, told, Tools::Nothing))
-            }
+            Side::Streaming(_, way_back) => Ok(came_alone(way_back.poll(cx)?)),
+            Side::Operating(way_back) => Ok(came_alone(way_back.poll(cx)?)),
             Side::Seeking(_, way_back) => {
                 let Returned { handle, told } = way_back.poll(cx)?;
                 Ok(Back {

@@ -47,6 +47,10 @@ pub returns-in-Some-clause-call_same : goal.returns-in-Some-clause-call_same
 returns-in-Some-clause-call_same g c =
     (turned_noted _ _ _ (IsArmed c.args.cx.now) (IsArmed c.act-answer.new.cx) _ _ _ _ _ _ _ _ _ _ _ c.requires.going c.requires.stands c.next.ensures c.act-answer.ensures.does c.act-answer.ensures.brings c.in-Some.is c.answer.ensures c.answer-in-Some.ensures).call_same
 
+pub returns-in_default-clause-call_same : goal.returns-in_default-clause-call_same
+returns-in_default-clause-call_same g c =
+    (turned_plain _ _ _ (IsArmed c.args.cx.now) (IsArmed c.act-answer.new.cx) _ _ _ _ _ _ _ _ _ c.requires.going c.requires.stands c.next.ensures c.act-answer.ensures.does c.act-answer.ensures.brings c.in_default.is c.answer.ensures).call_same
+
 pub returns-in-Some-clause-crosses : goal.returns-in-Some-clause-crosses
 returns-in-Some-clause-crosses g c = λ before crossing.
     crossed_noted _ _ _ _ (IsArmed c.act-answer.new.cx) _ _ _ before _ _ _ _ _ _ _ c.requires.going c.requires.stands c.next.ensures c.act-answer.ensures.does c.in-Some.is c.answer.ensures c.answer-in-Some.ensures crossing
