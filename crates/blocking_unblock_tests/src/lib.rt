@@ -11,6 +11,8 @@ mod cut;
 #[cfg(test)]
 mod endless;
 #[cfg(test)]
+mod faults;
+#[cfg(test)]
 mod items;
 #[cfg(test)]
 mod kinds;

@@ -14,71 +14,149 @@ use futures::test::MockTask;
 use futures::{Future, Stream, StreamExt};
 use std::alloc::Global;
 use std::fmt::{Debug, Formatter};
-use std::io::{Cursor, Read, Seek, SeekFrom, Write};
+use std::io::{Cursor, ErrorKind, Read, Seek, SeekFrom, Write};
 use std::sync::Arc;
 use std::sync::atomic::{AtomicBool, AtomicUsize, Ordering};
 use std::test::Fail;
 use std::{fmt, io};
 
-// How often a handle was moved, and whether it may be.
-#[derive(Drop)]
-pub(crate) struct Gate {
-    is_open: AtomicBool,
-    moves: AtomicUsize,
+/// Which calls of a handle fail, one or two, by their numbers from 0 on, and how.
+#[derive(Clone, Copy)]
+pub(crate) struct Faults {
+    pub first: Option<(usize, ErrorKind)>,
+    pub second: Option<(usize, ErrorKind)>,
 }
 
-impl Gate {
-    // Waits until the gate is open, for some time, and counts.
-    fn pass(&self) {
-        comes(&self.is_open);
-        self.moves.fetch_add(1, Ordering::SeqCst);
+/// No call fails.
+pub(crate) const NO_FAULTS: Faults = Faults {
+    first: None,
+    second: None,
+};
+
+impl Faults {
+    /// How this call fails; None where it doesn't.
+    pub(crate) fn of(self, call: usize) -> Option<ErrorKind> {
+        match (self.first, self.second) {
+            (Some((number, kind)), _) if number == call => Some(kind),
+            (_, Some((number, kind))) if number == call => Some(kind),
+            _ => None,
+        }
     }
 }
 
-// A cursor on 1000 bytes, byte i being i as `u8`, behind a gate.
+/// How often a handle was called and moved, whether it may go on, which of its calls fail, and how often it was dropped.
 #[derive(Drop)]
+pub(crate) struct Gate {
+    is_open: AtomicBool,
+    calls: AtomicUsize,
+    moves: AtomicUsize,
+    gone: AtomicUsize,
+    faults: Faults,
+}
+
+impl Gate {
+    /// One that is open.
+    pub(crate) fn new(faults: Faults) -> Gate {
+        Gate {
+            is_open: AtomicBool::new(true),
+            calls: AtomicUsize::new(0),
+            moves: AtomicUsize::new(0),
+            gone: AtomicUsize::new(0),
+            faults,
+        }
+    }
+
+    // Counts a call, which waits until the gate is open, for some time, and fails where it is to.
+    fn pass(&self) -> io::Result<()> {
+        let call = self.calls.fetch_add(1, Ordering::SeqCst);
+        comes(&self.is_open);
+        match self.faults.of(call) {
+            Some(kind) => Err(io::Error::from(kind)),
+            None => Ok(()),
+        }
+    }
+
+    // The same of a call that moves the handle.
+    fn move_on(&self) -> io::Result<()> {
+        self.pass()?;
+        self.moves.fetch_add(1, Ordering::SeqCst);
+        Ok(())
+    }
+}
+
+/// A cursor on bytes, byte i being i as `u8`, behind a gate.
 pub(crate) struct Gated {
     cursor: Cursor<Vec<u8>>,
+    // How many bytes come or go at once, at most.
+    at_once: usize,
     gate: Arc<Gate>,
 }
 
 impl Gated {
-    // A new one, at its start.
-    fn new(alloc: Global, gate: Arc<Gate>) -> io::Result<Gated> {
-        let mut bytes = Vec::with_capacity(alloc, 1000)?;
+    /// A new one on so many bytes, at its start.
+    pub(crate) fn new(
+        alloc: Global,
+        gate: Arc<Gate>,
+        length: usize,
+        at_once: usize,
+    ) -> io::Result<Gated> {
+        let mut bytes = Vec::new(alloc);
         let mut byte = 0u8;
-        for _ in 0..1000 {
+        for _ in 0..length {
             bytes.push(byte)?;
             byte = byte.wrapping_add(1);
         }
         Ok(Gated {
             cursor: Cursor::new(bytes),
+            at_once,
             gate,
         })
+    }
+
+    /// Its bytes.
+    pub(crate) fn bytes(&self) -> &[u8] {
+        self.cursor.get_ref().as_slice()
+    }
+}
+
+impl Drop for Gated {
+    fn drop(self) {
+        let Gated {
+            cursor: _,
+            at_once: _,
+            gate,
+        } = self;
+        gate.gone.fetch_add(1, Ordering::SeqCst);
     }
 }
 
 impl Read for Gated {
     fn read(&mut self, buf: &mut [u8]) -> io::Result<usize> {
-        self.cursor.read(buf)
+        self.gate.pass()?;
+        let most = buf.len().min(self.at_once);
+        self.cursor.read(&mut buf[..most])
     }
 }
 
 impl Write for Gated {
     fn write(&mut self, buf: &[u8]) -> io::Result<usize> {
-        self.cursor.write(buf)
+        self.gate.pass()?;
+        let most = buf.len().min(self.at_once);
+        self.cursor.write(&buf[..most])
     }
 
     fn flush(&mut self) -> io::Result<()> {
+        self.gate.pass()?;
         self.cursor.flush()
     }
 }
 
-// Byte by byte.
+// Byte by byte. (it doesn't fail)
 impl Iterator for Gated {
     type Item = u8;
 
     fn next(&mut self) -> Option<u8> {
+        let _ = self.gate.pass();
         let mut one = [0u8; 1];
         match self.cursor.read(&mut one) {
             Ok(1) => Some(one[0]),
@@ -89,7 +167,7 @@ impl Iterator for Gated {
 
 impl Seek for Gated {
     fn seek(&mut self, to: SeekFrom) -> io::Result<u64> {
-        self.gate.pass();
+        self.gate.move_on()?;
         self.cursor.seek(to)
     }
 }
@@ -112,7 +190,7 @@ impl CallOn<Gated> for Jump {
     ghost may_give = { λ _. Unit {0} };
 
     fn call_on(self, io: &mut Gated) -> u64 {
-        io.gate.pass();
+        let _ = io.gate.move_on();
         let before = io.cursor.position();
         io.cursor.set_position(self.to);
         before
@@ -124,6 +202,8 @@ impl CallOn<Gated> for Jump {
 pub(crate) enum Step {
     // A seek, and where the handle is then.
     Seek(SeekFrom, u64),
+    // A seek that fails so.
+    SeekFails(SeekFrom, ErrorKind),
     // A seek that is polled once, while the handle can't go on, and given up.
     BeginSeek(SeekFrom),
     // An operation that moves the handle to the first place, and gives the second.
@@ -132,6 +212,8 @@ pub(crate) enum Step {
     BeginJump(u64),
     // The next byte that is read.
     Byte(u8),
+    // A read that comes to the end.
+    End,
     // The next item.
     Item(u8),
     // Bytes that are taken for writing.
@@ -170,6 +252,40 @@ const ROWS: &[(&str, &[Step])] = &[
             Step::BeginSeek(SeekFrom::Current(7)),
             Step::Seek(SeekFrom::Start(0), 0),
             Step::Moves(2),
+        ],
+    ),
+    (
+        "positions count from the start, from where the handle is and from the end, also beyond it",
+        &[
+            Step::Seek(SeekFrom::Start(3), 3),
+            Step::Byte(3),
+            Step::Seek(SeekFrom::End(-1), 999),
+            Step::Byte(231),
+            Step::End,
+            Step::Seek(SeekFrom::End(0), 1000),
+            Step::End,
+            Step::Seek(SeekFrom::End(5), 1005),
+            Step::End,
+            Step::Seek(SeekFrom::Current(1), 1006),
+            Step::Seek(SeekFrom::Start(u64::MAX), u64::MAX),
+            Step::End,
+            Step::Seek(SeekFrom::End(-1000), 0),
+            Step::Byte(0),
+        ],
+    ),
+    (
+        "a seek to before the start, or beyond the greatest position, fails and leaves the handle where it is",
+        &[
+            Step::Seek(SeekFrom::Current(7), 7),
+            Step::SeekFails(SeekFrom::Current(-8), ErrorKind::InvalidInput),
+            Step::SeekFails(SeekFrom::End(-1001), ErrorKind::InvalidInput),
+            Step::SeekFails(SeekFrom::Current(i64::MIN), ErrorKind::InvalidInput),
+            Step::Seek(SeekFrom::Current(-1), 6),
+            Step::Seek(SeekFrom::Start(u64::MAX), u64::MAX),
+            Step::SeekFails(SeekFrom::Current(1), ErrorKind::InvalidInput),
+            Step::Seek(SeekFrom::Current(-5), u64::MAX - 5),
+            Step::Seek(SeekFrom::Start(6), 6),
+            Step::Byte(6),
         ],
     ),
     (
@@ -239,14 +355,14 @@ fn failed(why: IoFault) -> Came {
     }
 }
 
-// Whether the next byte that is read is this one.
-fn reads<H: Host, A: AsyncRead>(rt: H, owner: &mut A, byte: u8) -> io::Result<Came>
+// Whether the next byte that is read is this one; or where none is named, whether the end is read.
+fn reads<H: Host, A: AsyncRead>(rt: H, owner: &mut A, byte: &[u8]) -> io::Result<Came>
     requires { A.closed owner.old → ⊥ }
 {
     let mut one = [0u8; 1];
     let read = block_on(&rt, owner.read(&mut one))?;
     Ok(match read {
-        Ok(count) => Came::if_right(count == 1 && one == [byte]),
+        Ok(count) => Came::if_right(one.get(..count) == Some(byte)),
         Err(why) => failed(why),
     })
 }
@@ -284,6 +400,19 @@ fn seeks<H: Host, A: AsyncSeek>(rt: H, owner: &mut A, to: SeekFrom, place: u64) 
         Ok(came) => Came::if_right(came == place),
         Err(why) => failed(why),
     })
+}
+
+// Whether a seek fails so.
+fn fails_to_seek<H: Host, A: AsyncSeek>(
+    rt: H,
+    owner: &mut A,
+    to: SeekFrom,
+    kind: ErrorKind,
+) -> io::Result<Came>
+    requires { A.closed owner.old → ⊥ }
+{
+    let sought = block_on(&rt, owner.seek(to))?;
+    Ok(Came::if_right(matches!(sought, Err(Fault::Io(error)) if error.kind() == kind)))
 }
 
 // Whether an operation tells that the handle was there before, or is handed back.
@@ -338,7 +467,9 @@ where
         match step {
             Step::Seek(to, place) => seeks(rt, owner, to, place),
             Step::Jump(to, before) => jumps(rt, owner, to, before),
-            Step::Byte(byte) => reads(rt, owner, byte),
+            Step::SeekFails(to, kind) => fails_to_seek(rt, owner, to, kind),
+            Step::Byte(byte) => reads(rt, owner, &[byte]),
+            Step::End => reads(rt, owner, &[]),
             Step::Item(item) => gets(rt, owner, item),
             Step::Write(bytes) => writes(rt, owner, bytes),
             Step::BeginSeek(to) => begins_seek(rt, owner, gate, to),
@@ -402,14 +533,8 @@ pub(crate) fn first_wrong<H: Host + Print>(
     way: Way,
     steps: &[Step],
 ) -> io::Result<Option<usize>> {
-    let gate = Arc::new(
-        rt.alloc(),
-        Gate {
-            is_open: AtomicBool::new(true),
-            moves: AtomicUsize::new(0),
-        },
-    )?;
-    let handle = Gated::new(rt.alloc(), Arc::try_clone(&gate)?)?;
+    let gate = Arc::new(rt.alloc(), Gate::new(NO_FAULTS))?;
+    let handle = Gated::new(rt.alloc(), Arc::try_clone(&gate)?, 1000, usize::MAX)?;
     let Ok(executor) = Executor::<Kinds<H>, H>::new(rt, Some("1")) else {
         return Err(io::Error::from(io::ErrorKind::Other));
     };

@@ -1,0 +1,298 @@
+//! A handle of one byte a call, of which any one or any two calls fail: what came before is there, each fault is told once, and then the handle is
+//! asked again. What must be seen is counted from the calls by the rules.
+use crate::places::{Faults, Gate, Gated};
+use blocking::{
+    AsyncRead, AsyncReadExt, AsyncSeek, AsyncSeekExt, AsyncWrite, AsyncWriteExt, Executor, Host,
+    IoFault, ReadJob, SeekJob, Unblock, WriteJob,
+};
+use blocking_core::io::Fault;
+use blocking_core::pool::{Carries, Job};
+use futures::executor::block_on;
+use std::alloc::AllocError;
+use std::io;
+use std::io::{ErrorKind, SeekFrom};
+use std::sync::Arc;
+use std::test::Fail;
+
+// What one call of an owner shows.
+#[derive(Clone, Copy, PartialEq, Eq)]
+enum Shown {
+    // So many bytes were read or taken, or the handle is there.
+    Count(u64),
+    // The handle failed.
+    Failed(ErrorKind),
+    // Nothing of this.
+    Other,
+}
+
+fn of_fault(fault: IoFault) -> Shown {
+    match fault {
+        Fault::Io(error) => Shown::Failed(error.kind()),
+        Fault::WriteZero | Fault::Refused(_) => Shown::Other,
+    }
+}
+
+type Owner<J, H> = Unblock<Gated, (), J, H>;
+
+// An owner of a handle with so many bytes, of which these calls fail, through a pipe for six.
+fn owner<J: Job, H: Host>(
+    rt: H,
+    pool: &Executor<J, H>,
+    length: usize,
+    faults: Faults,
+) -> io::Result<Owner<J, H>> {
+    let gate = Arc::new(rt.alloc(), Gate::new(faults))?;
+    let handle = Gated::new(rt.alloc(), gate, length, 1)?;
+    Ok(Unblock::with_capacity(6, pool.try_clone()?, handle))
+}
+
+// How many bytes there are to read.
+const BYTES: usize = 3;
+
+// The calls of which one or two fail: each byte, the end, and one more.
+const CALLS: usize = BYTES + 2;
+
+// What one read shows, and the byte that came.
+fn reads<A: AsyncRead, H: Host>(rt: &H, owner: &mut A) -> io::Result<(Shown, u8)>
+    requires { A.closed owner.old → ⊥ }
+{
+    let mut one = [0u8; 1];
+    let shown = match block_on(rt, owner.read(&mut one))? {
+        Ok(count) => Shown::Count(count as u64),
+        Err(why) => of_fault(why),
+    };
+    Ok((shown, one[0]))
+}
+
+// What the read of this call must show behind so many bytes: the fault of the call, the next byte, or the end.
+fn read_by_rule(faults: Faults, call: usize, came: usize) -> (Shown, u8) {
+    match faults.of(call) {
+        Some(kind) => (Shown::Failed(kind), 0),
+        None if came < BYTES => (Shown::Count(1), came as u8),
+        None => (Shown::Count(0), 0),
+    }
+}
+
+// The first read that shows something else than it must; none where all do, to the end and once more.
+fn first_wrong_read<J: Job + Carries<ReadJob<Gated, H>>, H: Host>(
+    rt: H,
+    pool: &Executor<J, H>,
+    faults: Faults,
+) -> io::Result<Option<usize>> {
+    let mut owner = owner(rt, pool, BYTES, faults)?;
+    let mut came = 0usize;
+    for call in 0..CALLS + 2 {
+        if owner.is_closed() {
+            return Ok(Some(call));
+        }
+        let wanted = read_by_rule(faults, call, came);
+        if reads(&rt, &mut owner)? != wanted {
+            return Ok(Some(call));
+        }
+        if wanted.0 == Shown::Count(1) {
+            came = came.saturating_add(1);
+        }
+    }
+    Ok(None)
+}
+
+// What one seek by one shows.
+fn seeks<A: AsyncSeek, H: Host>(rt: &H, owner: &mut A) -> io::Result<Shown>
+    requires { A.closed owner.old → ⊥ }
+{
+    Ok(match block_on(rt, owner.seek(SeekFrom::Current(1)))? {
+        Ok(place) => Shown::Count(place),
+        Err(why) => of_fault(why),
+    })
+}
+
+// The first seek that shows something else than it must: a fault leaves the handle where it is.
+fn first_wrong_seek<J: Job + Carries<SeekJob<Gated, H>>, H: Host>(
+    rt: H,
+    pool: &Executor<J, H>,
+    faults: Faults,
+) -> io::Result<Option<usize>> {
+    let mut owner = owner(rt, pool, 0, faults)?;
+    let mut place = 0u64;
+    for call in 0..CALLS + 2 {
+        if owner.is_closed() {
+            return Ok(Some(call));
+        }
+        let wanted = match faults.of(call) {
+            Some(kind) => Shown::Failed(kind),
+            None => Shown::Count(place.saturating_add(1)),
+        };
+        if seeks(&rt, &mut owner)? != wanted {
+            return Ok(Some(call));
+        }
+        if let Shown::Count(there) = wanted {
+            place = there;
+        }
+    }
+    Ok(None)
+}
+
+// A writer by the rules: how many calls were made of it, and the bytes that it took.
+#[derive(Drop)]
+struct ByRule {
+    faults: Faults,
+    calls: usize,
+    taken: Vec<u8>,
+}
+
+impl ByRule {
+    // How the next call fails, if it does.
+    fn call(&mut self) -> Option<ErrorKind> {
+        let call = self.calls;
+        self.calls = call.saturating_add(1);
+        self.faults.of(call)
+    }
+
+    // What the flush behind these bytes must show: the first fault, where a write or the writer's flush, which is made all the same, failed.
+    fn session(&mut self, bytes: &[u8]) -> Result<Shown, AllocError> {
+        let mut told = None;
+        for byte in bytes {
+            told = self.call();
+            if told.is_some() {
+                break;
+            }
+            self.taken.push(*byte)?;
+        }
+        let flushed = self.call();
+        Ok(match told.or(flushed) {
+            Some(kind) => Shown::Failed(kind),
+            None => Shown::Count(0),
+        })
+    }
+}
+
+// What is written, each followed by two flushes.
+const SESSIONS: &[&[u8]] = &[b"abcd", b"ef", b"g"];
+
+// The calls of a writer of which one or two fail: each byte, and a flush behind each session.
+const WRITES: usize = 4 + 1 + 2 + 1 + 1 + 1;
+
+// What one write shows.
+fn writes<A: AsyncWrite, H: Host>(rt: &H, owner: &mut A, bytes: &[u8]) -> io::Result<Shown>
+    requires { A.closed owner.old → ⊥ }
+{
+    Ok(match block_on(rt, owner.write(bytes))? {
+        Ok(count) => Shown::Count(count as u64),
+        Err(why) => of_fault(why),
+    })
+}
+
+// What one flush shows.
+fn flushes<A: AsyncWrite, H: Host>(rt: &H, owner: &mut A) -> io::Result<Shown> {
+    Ok(match block_on(rt, owner.flush())? {
+        Ok(()) => Shown::Count(0),
+        Err(why) => of_fault(why),
+    })
+}
+
+// Whether bytes are taken, and the first flush behind them shows this, and the second that all is done.
+fn is_session<A: AsyncWrite, H: Host>(
+    rt: &H,
+    owner: &mut A,
+    bytes: &[u8],
+    told: Shown,
+) -> io::Result<bool>
+    requires { A.closed owner.old → ⊥ }
+{
+    let taken = writes(rt, owner, bytes)?;
+    let first = flushes(rt, owner)?;
+    let second = flushes(rt, owner)?;
+    Ok(taken == Shown::Count(bytes.len() as u64) && first == told && second == Shown::Count(0))
+}
+
+// Whether the handle has exactly these bytes.
+fn holds<J: Job, H: Host>(rt: &H, owner: Owner<J, H>, bytes: &[u8]) -> io::Result<bool> {
+    if owner.is_closed() {
+        return Ok(false);
+    }
+    let handle = block_on(rt, owner.into_inner())?;
+    Ok(handle.bytes() == bytes)
+}
+
+// The first session that shows something else than it must; their number where the writer has other bytes.
+fn first_wrong_write<J: Job + Carries<WriteJob<Gated, H>>, H: Host>(
+    rt: H,
+    pool: &Executor<J, H>,
+    faults: Faults,
+) -> io::Result<Option<usize>> {
+    let mut by_rule = ByRule {
+        faults,
+        calls: 0,
+        taken: Vec::new(rt.alloc()),
+    };
+    let mut owner = owner(rt, pool, 0, faults)?;
+    for (place, bytes) in SESSIONS.iter().enumerate() {
+        let told = by_rule.session(bytes)?;
+        if owner.is_closed() || !is_session(&rt, &mut owner, bytes, told)? {
+            return Ok(Some(place));
+        }
+    }
+    Ok(match holds(&rt, owner, &by_rule.taken)? {
+        true => None,
+        false => Some(SESSIONS.len()),
+    })
+}
+
+// One call fails, or two do, in two ways.
+fn faults_at(first: usize, second: usize, how: usize) -> Faults {
+    let (early, late) = match how {
+        0 => (ErrorKind::Other, ErrorKind::Interrupted),
+        _ => (ErrorKind::Interrupted, ErrorKind::Other),
+    };
+    Faults {
+        first: Some((first, early)),
+        second: Some((second, late)),
+    }
+}
+
+// The numbers of two of so many calls, and a way: all there are, in turn.
+fn parts_of(number: usize, calls: usize) -> (usize, usize, usize) {
+    let calls = calls.max(1);
+    let pair = number / 2;
+    (pair / calls, pair % calls, number % 2)
+}
+
+// All in turn: the first for which `first_wrong` names a call, with that.
+fn first_of_all<F: Fn(Faults) -> io::Result<Option<usize>>>(
+    calls: usize,
+    first_wrong: F,
+) -> io::Result<Option<(usize, usize, usize)>>
+    requires { F.IsAlwaysCallable first_wrong }
+{
+    for number in 0..calls.saturating_mul(calls).saturating_mul(2) {
+        let (first, second, how) = parts_of(number, calls);
+        if first_wrong(faults_at(first, second, how))?.is_some() {
+            return Ok(Some((first, second, how)));
+        }
+    }
+    Ok(None)
+}
+
+#[test]
+fn faults_of_reads_are_told(rt: HostRuntime) -> Result<(), Fail> {
+    let pool = Executor::<ReadJob<Gated, _>, _>::new(rt, Some("1"))?;
+    let wrong = first_of_all(CALLS, |faults| first_wrong_read(rt, &pool, faults))?;
+    assert_eq!(rt; wrong, None);
+    Ok(())
+}
+
+#[test]
+fn faults_of_seeks_are_told(rt: HostRuntime) -> Result<(), Fail> {
+    let pool = Executor::<SeekJob<Gated, _>, _>::new(rt, Some("1"))?;
+    let wrong = first_of_all(CALLS, |faults| first_wrong_seek(rt, &pool, faults))?;
+    assert_eq!(rt; wrong, None);
+    Ok(())
+}
+
+#[test]
+fn faults_of_writes_are_told(rt: HostRuntime) -> Result<(), Fail> {
+    let pool = Executor::<WriteJob<Gated, _>, _>::new(rt, Some("1"))?;
+    let wrong = first_of_all(WRITES, |faults| first_wrong_write(rt, &pool, faults))?;
+    assert_eq!(rt; wrong, None);
+    Ok(())
+}
