@@ -7,7 +7,11 @@ mod back;
 #[cfg(test)]
 mod both;
 #[cfg(test)]
+mod calls;
+#[cfg(test)]
 mod cut;
+#[cfg(test)]
+mod drops;
 #[cfg(test)]
 mod endless;
 #[cfg(test)]

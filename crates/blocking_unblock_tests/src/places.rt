@@ -66,6 +66,25 @@ impl Gate {
         }
     }
 
+    /// From now on a call waits.
+    pub(crate) fn shut(&self) {
+        self.is_open.store(false, Ordering::SeqCst);
+    }
+
+    pub(crate) fn open(&self) {
+        self.is_open.store(true, Ordering::SeqCst);
+    }
+
+    /// How many calls were made, those that wait among them.
+    pub(crate) fn calls(&self) -> usize {
+        self.calls.load(Ordering::SeqCst)
+    }
+
+    /// How often the handle was dropped.
+    pub(crate) fn gone(&self) -> usize {
+        self.gone.load(Ordering::SeqCst)
+    }
+
     // Counts a call, which waits until the gate is open, for some time, and fails where it is to.
     fn pass(&self) -> io::Result<()> {
         let call = self.calls.fetch_add(1, Ordering::SeqCst);
@@ -111,6 +130,11 @@ impl Gated {
             at_once,
             gate,
         })
+    }
+
+    /// Where it is.
+    pub(crate) fn place(&self) -> u64 {
+        self.cursor.position()
     }
 
     /// Its bytes.
@@ -181,7 +205,7 @@ impl Debug for Gated {
 // An operation that moves a cursor to a place, and gives where that was before.
 #[derive(Drop)]
 pub(crate) struct Jump {
-    to: u64,
+    pub to: u64,
 }
 
 impl CallOn<Gated> for Jump {
@@ -322,9 +346,9 @@ fn begins_seek<J: Job + Carries<SeekJob<Gated, H>>, H: Host>(
     to: SeekFrom,
 ) -> io::Result<Came> {
     let mut mock = MockTask::new(&rt)?;
-    gate.is_open.store(false, Ordering::SeqCst);
+    gate.shut();
     let waits = mock.enter(|cx| !owner.is_closed() && owner.poll_seek(cx, to).is_pending());
-    gate.is_open.store(true, Ordering::SeqCst);
+    gate.open();
     Ok(Came::if_right(waits))
 }
 
@@ -339,11 +363,11 @@ fn begins_jump<J: Job + Carries<OpJob<Jump, Gated, H>>, H: Host>(
         return Ok(Came::Wrong);
     }
     let mut mock = MockTask::new(&rt)?;
-    gate.is_open.store(false, Ordering::SeqCst);
+    gate.shut();
     let mut jump = owner.with_mut(Jump { to });
     let waits = mock.enter(|cx| !jump.is_taken() && jump.poll(cx).is_pending());
     drop(jump);
-    gate.is_open.store(true, Ordering::SeqCst);
+    gate.open();
     Ok(Came::if_right(waits))
 }
 

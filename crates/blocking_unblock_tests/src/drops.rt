@@ -1,0 +1,528 @@
+//! Owners and futures that are dropped, by where the handle is and how its job stands: the handle goes once, at once where it can, after no more
+//! calls than were under way, and then the pool rests.
+use self::Standing::{Closed, Idle, Inside, Over, Parked, Queued, Stopped};
+use self::Way::{Drops, IntoInner, StopsFirst};
+use crate::calls::Call::{Close, Handle, Next, Operate, Read, Seek, Write};
+use crate::calls::{Answer, Call, Owner, Scene, TO, new_scene};
+use crate::endless::comes_true;
+use crate::kinds::Kinds;
+use crate::places::{Gate, Gated, Jump, NO_FAULTS};
+use crate::writes::woken;
+use blocking::{
+    AsyncRead, AsyncReadExt, AsyncWrite, AsyncWriteExt, Executor, Host, ItemJob, OpJob, ReadJob,
+    Runtime, SeekJob, WriteJob,
+};
+use blocking_core::pool::{Carries, Job};
+use futures::Future;
+use futures::executor::block_on;
+use futures::task::Poll;
+use futures::test::MockTask;
+use std::io;
+use std::sync::Arc;
+use std::test::Fail;
+
+// How the job of a session stands.
+#[derive(Clone, Copy)]
+enum Standing {
+    // There is none: the handle is with its owner.
+    Idle,
+    // There is none: the handle was dropped.
+    Closed,
+    // It stands in the queue, behind another that is inside its call.
+    Queued,
+    // It is inside its first call of the handle.
+    Inside,
+    // It waits at its pipe.
+    Parked,
+    // It waited there, was stopped, and stands in the queue.
+    Stopped,
+    // It was stopped, and has put the handle into its slot.
+    Over,
+}
+
+// How an owner leaves.
+#[derive(Clone, Copy)]
+enum Way {
+    // It is dropped.
+    Drops,
+    // It waits for the handle, where that isn't there, and is dropped.
+    StopsFirst,
+    // It waits for the handle for good, and that future is dropped.
+    IntoInner,
+}
+
+// How a job stands, whether then the thread that drops the owner drops the handle, and how many calls of the handle are made, at least and at most,
+// before and until it is gone, for each kind of session that comes to stand so.
+#[derive(Clone, Copy)]
+struct Row {
+    standing: Standing,
+    is_at_once: bool,
+    sessions: &'static [(Call, usize, usize)],
+}
+
+// (a writer that runs writes the four bytes and flushes; one that waits flushes, where a worker takes it before it bears its mark)
+const ROWS: &[Row] = &[
+    Row {
+        standing: Idle,
+        is_at_once: true,
+        sessions: &[(Read, 0, 0)],
+    },
+    Row {
+        standing: Closed,
+        is_at_once: true,
+        sessions: &[(Read, 0, 0)],
+    },
+    Row {
+        standing: Queued,
+        is_at_once: false,
+        sessions: &[
+            (Read, 0, 0),
+            (Write, 0, 0),
+            (Next, 0, 0),
+            (Seek, 0, 0),
+            (Operate, 0, 0),
+        ],
+    },
+    Row {
+        standing: Inside,
+        is_at_once: false,
+        sessions: &[
+            (Read, 1, 1),
+            (Write, 5, 5),
+            (Next, 1, 1),
+            (Seek, 1, 1),
+            (Operate, 1, 1),
+        ],
+    },
+    Row {
+        standing: Parked,
+        is_at_once: false,
+        sessions: &[(Read, 4, 4), (Write, 4, 5), (Next, 5, 5)],
+    },
+    Row {
+        standing: Stopped,
+        is_at_once: false,
+        sessions: &[(Read, 4, 4), (Write, 4, 4), (Next, 5, 5)],
+    },
+    Row {
+        standing: Over,
+        is_at_once: true,
+        sessions: &[
+            (Read, 1, 1),
+            (Write, 5, 5),
+            (Next, 1, 1),
+            (Seek, 1, 1),
+            (Operate, 1, 1),
+        ],
+    },
+];
+
+// A pool of one worker, an owner whose job comes to stand as a row says, and another, whose job may keep the worker busy.
+#[derive(Drop)]
+struct Stage<J: Job, H: Runtime> {
+    pool: Executor<J, H>,
+    mock: MockTask,
+    scene: Scene<J, H>,
+    busy: Scene<J, H>,
+}
+
+impl<J, H> Stage<J, H>
+where
+    J: Job
+        + Carries<ReadJob<Gated, H>>
+        + Carries<WriteJob<Gated, H>>
+        + Carries<ItemJob<Gated, u8, H>>
+        + Carries<SeekJob<Gated, H>>
+        + Carries<OpJob<Jump, Gated, H>>,
+    H: Host,
+{
+    fn new(rt: H, pool: &Executor<J, H>, length: usize) -> io::Result<Stage<J, H>> {
+        Ok(Stage {
+            pool: pool.try_clone()?,
+            mock: MockTask::new(&rt)?,
+            scene: new_scene(rt, pool, length, NO_FAULTS)?,
+            busy: new_scene(rt, pool, 0, NO_FAULTS)?,
+        })
+    }
+
+    // Whether the worker comes to be busy.
+    fn keeps_busy(&mut self) -> bool {
+        let begins = self.busy.begins(&self.mock, Operate);
+        let gate = &*self.busy.gate;
+        begins && comes_true(|| gate.calls() == 1)
+    }
+
+    // Whether a session begins, and its job comes to its first call.
+    fn comes_inside(&mut self, session: Call) -> bool {
+        let begins = self.scene.begins(&self.mock, session);
+        let gate = &*self.scene.gate;
+        begins && comes_true(|| gate.calls() == 1)
+    }
+
+    // Whether that job goes on until no job runs any more.
+    fn goes_on(&self) -> bool {
+        self.scene.gate.open();
+        comes_to_rest(&self.pool)
+    }
+
+    // Whether the job comes to stand so.
+    fn comes_to(&mut self, session: Call, standing: Standing) -> bool {
+        match standing {
+            Idle => true,
+            Closed => matches!(
+                self.scene.polls(&self.mock, Close),
+                Poll::Ready(Answer::Done)
+            ),
+            Queued => self.keeps_busy() && self.scene.begins(&self.mock, session),
+            Inside => self.comes_inside(session),
+            Parked => self.comes_inside(session) && self.goes_on(),
+            Stopped => {
+                self.comes_inside(session)
+                    && self.goes_on()
+                    && self.keeps_busy()
+                    && self.scene.waits(&self.mock, Handle)
+            }
+            Over => {
+                self.comes_inside(session) && self.scene.waits(&self.mock, Handle) && self.goes_on()
+            }
+        }
+    }
+
+    // How many calls are made of the handle of such a job, whose owner leaves in this way; None where all isn't left as it must be.
+    fn leaves(mut self, session: Call, row: Row, way: Way) -> Option<usize> {
+        if !self.comes_to(session, row.standing) {
+            return None;
+        }
+        let Stage {
+            pool,
+            mock,
+            scene,
+            busy,
+        } = self;
+        let Scene { owner, gate } = scene;
+        leave(owner, &mock, way);
+        // (another thread may be quick where nothing keeps the job)
+        let is_as_it_must = match row.standing {
+            Parked => true,
+            _ => (gate.gone() == 1) == row.is_at_once,
+        };
+        gate.open();
+        let goes = frees(busy) && goes_once(&pool, &gate);
+        if is_as_it_must && goes {
+            Some(gate.calls())
+        } else {
+            None
+        }
+    }
+
+    // Whether all is left as it must be, in each way.
+    fn all_leave(rt: H, pool: &Executor<J, H>, row: Row) -> io::Result<bool> {
+        for (session, least, most) in row.sessions {
+            for way in [Drops, StopsFirst, IntoInner] {
+                let stage = Stage::new(rt, pool, 1_000)?;
+                match stage.leaves(*session, row, way) {
+                    Some(calls) if (*least..=*most).contains(&calls) => {}
+                    _ => return Ok(false),
+                }
+            }
+        }
+        Ok(true)
+    }
+}
+
+// An owner leaves, in this way.
+fn leave<J: Job, H: Host>(mut owner: Owner<J, H>, mock: &MockTask, way: Way) {
+    if owner.is_closed() {
+        return;
+    }
+    match way {
+        Drops => {}
+        StopsFirst => {
+            let _ = mock.enter(|cx| !owner.is_closed() && owner.poll_idle(cx).is_pending());
+        }
+        IntoInner => {
+            let mut taking = owner.into_inner();
+            let _ = mock.poll(&mut taking);
+        }
+    }
+}
+
+// Whether the other owner's handle goes too, where it kept the worker busy.
+fn frees<J: Job, H: Runtime>(busy: Scene<J, H>) -> bool {
+    let Scene { owner, gate } = busy;
+    drop(owner);
+    gate.open();
+    comes_true(|| gate.gone() == 1)
+}
+
+// Whether a handle goes, the pool rests, and the handle went once.
+fn goes_once<J: Job, H: Runtime>(pool: &Executor<J, H>, gate: &Gate) -> bool {
+    comes_true(|| gate.gone() > 0) && comes_to_rest(pool) && gate.gone() == 1
+}
+
+// Whether no job is queued or runs, before long.
+fn comes_to_rest<J: Job, H: Runtime>(pool: &Executor<J, H>) -> bool {
+    comes_true(|| {
+        let counts = pool.counts();
+        counts.queued == 0 && counts.running == 0
+    })
+}
+
+// The place of the first row that shows something else, in some way.
+fn first_wrong_of<J, H>(rt: H, pool: &Executor<J, H>) -> io::Result<Option<usize>>
+where
+    J: Job
+        + Carries<ReadJob<Gated, H>>
+        + Carries<WriteJob<Gated, H>>
+        + Carries<ItemJob<Gated, u8, H>>
+        + Carries<SeekJob<Gated, H>>
+        + Carries<OpJob<Jump, Gated, H>>,
+    H: Host,
+{
+    for (place, row) in ROWS.iter().enumerate() {
+        if !Stage::all_leave(rt, pool, *row)? {
+            return Ok(Some(place));
+        }
+    }
+    Ok(None)
+}
+
+// A pool of one worker.
+fn pool<H: Host>(rt: H) -> io::Result<Executor<Kinds<H>, H>> {
+    match Executor::new(rt, Some("1")) {
+        Ok(pool) => Ok(pool),
+        Err(_) => Err(io::Error::from(io::ErrorKind::Other)),
+    }
+}
+
+fn first_wrong<H: Host>(rt: H) -> io::Result<Option<usize>> {
+    let pool = pool(rt)?;
+    first_wrong_of(rt, &pool)
+}
+
+#[test]
+fn owners_leave_in_each_standing(rt: HostRuntime) -> Result<(), Fail> {
+    assert_eq!(rt; first_wrong(rt)?, None);
+    Ok(())
+}
+
+// Where a future is dropped.
+#[derive(Clone, Copy, PartialEq, Eq)]
+enum Point {
+    // Before its first poll.
+    Unpolled,
+    // While its job stands in the queue.
+    Waiting,
+    // While its job is inside its first call.
+    Running,
+    // When it was woken.
+    Woken,
+}
+
+const POINTS: [Point; 4] = [
+    Point::Unpolled,
+    Point::Waiting,
+    Point::Running,
+    Point::Woken,
+];
+
+// Whether a future comes to this point, where it is dropped.
+fn dropped_at<F: Future<Output: Drop> + Drop>(
+    mut future: F,
+    mock: &MockTask,
+    gate: &Gate,
+    point: Point,
+) -> bool
+    requires { F.can_poll future }
+{
+    if point == Point::Unpolled {
+        return true;
+    }
+    let waits = mock.poll(&mut future).is_pending();
+    let comes = match point {
+        Point::Running => comes_true(|| gate.calls() == 1),
+        Point::Woken => {
+            gate.open();
+            woken(mock)
+        }
+        Point::Unpolled | Point::Waiting => true,
+    };
+    waits && comes
+}
+
+// A future that borrows its owner.
+#[derive(Clone, Copy)]
+enum Lasting {
+    Operation,
+    ReadToEnd,
+    // (of more bytes than the pipe holds)
+    WriteAll,
+}
+
+// Whether an operation comes to this point, where it is dropped.
+fn drops_operation<J: Job + Carries<OpJob<Jump, Gated, H>>, H: Host>(
+    owner: &mut Owner<J, H>,
+    mock: &MockTask,
+    gate: &Gate,
+    point: Point,
+) -> bool {
+    if owner.is_closed() {
+        return false;
+    }
+    dropped_at(owner.with_mut(Jump { to: TO }), mock, gate, point)
+}
+
+// The same of a read to the end behind `out`.
+fn drops_read<A: AsyncRead>(
+    owner: &mut A,
+    out: &mut Vec<u8>,
+    mock: &MockTask,
+    gate: &Gate,
+    point: Point,
+) -> bool
+    requires { A.closed owner.old → ⊥ }
+{
+    dropped_at(owner.read_to_end(out), mock, gate, point)
+}
+
+// The same of a write of all bytes.
+fn drops_write<A: AsyncWrite>(owner: &mut A, mock: &MockTask, gate: &Gate, point: Point) -> bool
+    requires { A.closed owner.old → ⊥ }
+{
+    dropped_at(owner.write_all(b"abcdefgh"), mock, gate, point)
+}
+
+// Whether a read to the end makes `out` these bytes.
+fn reads_on<A: AsyncRead, H: Host>(
+    rt: &H,
+    owner: &mut A,
+    out: &mut Vec<u8>,
+    bytes: &[u8],
+) -> io::Result<bool>
+    requires { A.closed owner.old → ⊥ }
+{
+    let read = block_on(rt, owner.read_to_end(out))?;
+    Ok(read.is_ok() && out.as_slice() == bytes)
+}
+
+// Whether one more byte is written and flushed.
+fn writes_on<A: AsyncWrite, H: Host>(rt: &H, owner: &mut A) -> io::Result<bool>
+    requires { A.closed owner.old → ⊥ }
+{
+    let written = block_on(rt, owner.write_all(b"z"))?;
+    let flushed = block_on(rt, owner.flush())?;
+    Ok(written.is_ok() && flushed.is_ok())
+}
+
+// The handle, once it is back.
+fn taken_back<J: Job, H: Host>(rt: &H, owner: Owner<J, H>) -> io::Result<Option<Gated>> {
+    if owner.is_closed() {
+        return Ok(None);
+    }
+    Ok(Some(block_on(rt, owner.into_inner())?))
+}
+
+// Where the handle must be, and what it must have, behind a future that was dropped at this point and what was done after it: an operation is made
+// once its session began, and bytes that were taken are written.
+fn left_by_rule(lasting: Lasting, point: Point) -> (u64, &'static [u8]) {
+    match (lasting, point) {
+        (Lasting::Operation, Point::Unpolled) => (0, b""),
+        (Lasting::Operation, _) => (TO, b""),
+        (Lasting::ReadToEnd, _) => (3, &[0, 1, 2]),
+        (Lasting::WriteAll, Point::Unpolled) => (1, b"z"),
+        (Lasting::WriteAll, _) => (5, b"abcdz"),
+    }
+}
+
+impl<J, H> Stage<J, H>
+where
+    J: Job
+        + Carries<ReadJob<Gated, H>>
+        + Carries<WriteJob<Gated, H>>
+        + Carries<ItemJob<Gated, u8, H>>
+        + Carries<SeekJob<Gated, H>>
+        + Carries<OpJob<Jump, Gated, H>>,
+    H: Host,
+{
+    // Whether a future comes to a point and is dropped there, where the handle can't go on before.
+    fn drops(&mut self, lasting: Lasting, point: Point, out: &mut Vec<u8>) -> bool {
+        let is_busy = point != Point::Waiting || self.keeps_busy();
+        self.scene.gate.shut();
+        let owner = &mut self.scene.owner;
+        let gate = &*self.scene.gate;
+        if owner.is_closed() || !is_busy {
+            return false;
+        }
+        match lasting {
+            Lasting::Operation => drops_operation(owner, &self.mock, gate, point),
+            Lasting::ReadToEnd => drops_read(owner, out, &self.mock, gate, point),
+            Lasting::WriteAll => drops_write(owner, &self.mock, gate, point),
+        }
+    }
+
+    // Whether the owner goes on from there as if nothing had happened.
+    fn goes_on_after(&mut self, rt: &H, lasting: Lasting, out: &mut Vec<u8>) -> io::Result<bool> {
+        self.scene.gate.open();
+        self.busy.gate.open();
+        let owner = &mut self.scene.owner;
+        if owner.is_closed() {
+            return Ok(false);
+        }
+        match lasting {
+            Lasting::Operation => Ok(true),
+            Lasting::ReadToEnd => reads_on(rt, owner, out, &[0, 1, 2]),
+            Lasting::WriteAll => writes_on(rt, owner),
+        }
+    }
+
+    // Whether in the end the handle is where it must be, with what it must have, and goes once.
+    fn is_left_so(self, rt: &H, place: u64, bytes: &[u8]) -> io::Result<bool> {
+        let Stage {
+            pool,
+            mock: _,
+            scene: Scene { owner, gate },
+            busy,
+        } = self;
+        let is_so = match taken_back(rt, owner)? {
+            Some(handle) => handle.place() == place && handle.bytes() == bytes,
+            None => false,
+        };
+        Ok(is_so && frees(busy) && goes_once(&pool, &gate))
+    }
+
+    fn is_dropped_well(mut self, rt: H, lasting: Lasting, point: Point) -> io::Result<bool> {
+        let mut out = Vec::new(rt.alloc());
+        let is_dropped = self.drops(lasting, point, &mut out);
+        let goes_on = self.goes_on_after(&rt, lasting, &mut out)?;
+        let (place, bytes) = left_by_rule(lasting, point);
+        Ok(self.is_left_so(&rt, place, bytes)? && is_dropped && goes_on)
+    }
+}
+
+// How many bytes a handle has for such a future.
+fn length_for(lasting: Lasting) -> usize {
+    match lasting {
+        Lasting::ReadToEnd => 3,
+        Lasting::Operation | Lasting::WriteAll => 0,
+    }
+}
+
+// The place of the first point at which such a future isn't dropped as it must be.
+fn first_wrong_point<H: Host>(rt: H, lasting: Lasting) -> io::Result<Option<usize>> {
+    let pool = pool(rt)?;
+    for (place, point) in POINTS.iter().enumerate() {
+        let stage = Stage::new(rt, &pool, length_for(lasting))?;
+        if !stage.is_dropped_well(rt, lasting, *point)? {
+            return Ok(Some(place));
+        }
+    }
+    Ok(None)
+}
+
+#[test]
+fn futures_are_dropped_at_each_point(rt: HostRuntime) -> Result<(), Fail> {
+    for lasting in [Lasting::Operation, Lasting::ReadToEnd, Lasting::WriteAll] {
+        assert_eq!(rt; first_wrong_point(rt, lasting)?, None);
+    }
+    Ok(())
+}
