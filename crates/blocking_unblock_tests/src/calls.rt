@@ -1,6 +1,7 @@
 //! An owner of a gated handle, and all that it may be asked for: calls that are left where they wait, and their answers.
 use crate::endless::comes_true;
-use crate::places::{Faults, Gate, Gated, Jump};
+use crate::kinds::Kinds;
+use crate::places::{Faults, Gate, Gated, Jump, NO_FAULTS};
 use crate::writes::woken;
 use blocking::{
     AsyncRead, AsyncSeek, AsyncWrite, Executor, Host, IoFault, ItemJob, OpJob, ReadJob, Runtime,
@@ -9,6 +10,7 @@ use blocking::{
 use blocking_core::io::Fault;
 use blocking_core::pool::{Carries, Job};
 use futures::Stream;
+use futures::executor::block_on;
 use futures::task::{Context, Poll};
 use futures::test::MockTask;
 use std::io;
@@ -16,7 +18,7 @@ use std::io::SeekFrom;
 use std::sync::Arc;
 
 /// What an owner is asked for.
-#[derive(Clone, Copy, PartialEq, Eq)]
+#[derive(Clone, Copy, PartialEq, Eq, Debug)]
 pub(crate) enum Call {
     /// One byte.
     Read,
@@ -270,4 +272,90 @@ where
             _ => self.waits(mock, session),
         }
     }
+}
+
+/// A pool of one worker, an owner, and another, whose job may keep the worker busy.
+#[derive(Drop)]
+pub(crate) struct Stage<J: Job, H: Runtime> {
+    pub pool: Executor<J, H>,
+    pub mock: MockTask,
+    pub scene: Scene<J, H>,
+    pub busy: Scene<J, H>,
+}
+
+impl<J, H> Stage<J, H>
+where
+    J: Job
+        + Carries<ReadJob<Gated, H>>
+        + Carries<WriteJob<Gated, H>>
+        + Carries<ItemJob<Gated, u8, H>>
+        + Carries<SeekJob<Gated, H>>
+        + Carries<OpJob<Jump, Gated, H>>,
+    H: Host,
+{
+    /// A new one, whose first handle has so many bytes, and of which these calls fail.
+    pub(crate) fn new(
+        rt: H,
+        pool: &Executor<J, H>,
+        length: usize,
+        faults: Faults,
+    ) -> io::Result<Stage<J, H>> {
+        Ok(Stage {
+            pool: pool.try_clone()?,
+            mock: MockTask::new(&rt)?,
+            scene: new_scene(rt, pool, length, faults)?,
+            busy: new_scene(rt, pool, 0, NO_FAULTS)?,
+        })
+    }
+
+    /// Whether the worker comes to be busy.
+    pub(crate) fn keeps_busy(&mut self) -> bool {
+        let begins = self.busy.begins(&self.mock, Call::Operate);
+        let gate = &*self.busy.gate;
+        begins && comes_true(|| gate.calls() == 1)
+    }
+
+    /// Whether a session begins, and its job comes to its first call.
+    pub(crate) fn comes_inside(&mut self, session: Call) -> bool {
+        let begins = self.scene.begins(&self.mock, session);
+        let gate = &*self.scene.gate;
+        begins && comes_true(|| gate.calls() == 1)
+    }
+}
+
+/// Whether the other owner's handle goes too, where it kept the worker busy.
+pub(crate) fn frees<J: Job, H: Runtime>(busy: Scene<J, H>) -> bool {
+    let Scene { owner, gate } = busy;
+    drop(owner);
+    gate.open();
+    comes_true(|| gate.gone() == 1)
+}
+
+/// Whether a handle goes, the pool rests, and the handle went once.
+pub(crate) fn goes_once<J: Job, H: Runtime>(pool: &Executor<J, H>, gate: &Gate) -> bool {
+    comes_true(|| gate.gone() > 0) && comes_to_rest(pool) && gate.gone() == 1
+}
+
+/// Whether no job is queued or runs, before long.
+pub(crate) fn comes_to_rest<J: Job, H: Runtime>(pool: &Executor<J, H>) -> bool {
+    comes_true(|| {
+        let counts = pool.counts();
+        counts.queued == 0 && counts.running == 0
+    })
+}
+
+/// A pool of one worker.
+pub(crate) fn pool<H: Host>(rt: H) -> io::Result<Executor<Kinds<H>, H>> {
+    match Executor::new(rt, Some("1")) {
+        Ok(pool) => Ok(pool),
+        Err(_) => Err(io::Error::from(io::ErrorKind::Other)),
+    }
+}
+
+/// The handle, once it is back.
+pub(crate) fn taken_back<J: Job, H: Host>(rt: &H, owner: Owner<J, H>) -> io::Result<Option<Gated>> {
+    if owner.is_closed() {
+        return Ok(None);
+    }
+    Ok(Some(block_on(rt, owner.into_inner())?))
 }

@@ -3,9 +3,10 @@
 use self::Standing::{Closed, Idle, Inside, Over, Parked, Queued, Stopped};
 use self::Way::{Drops, IntoInner, StopsFirst};
 use crate::calls::Call::{Close, Handle, Next, Operate, Read, Seek, Write};
-use crate::calls::{Answer, Call, Owner, Scene, TO, new_scene};
+use crate::calls::{
+    Answer, Call, Owner, Scene, Stage, TO, comes_to_rest, frees, goes_once, pool, taken_back,
+};
 use crate::endless::comes_true;
-use crate::kinds::Kinds;
 use crate::places::{Gate, Gated, Jump, NO_FAULTS};
 use crate::writes::woken;
 use blocking::{
@@ -18,7 +19,6 @@ use futures::executor::block_on;
 use futures::task::Poll;
 use futures::test::MockTask;
 use std::io;
-use std::sync::Arc;
 use std::test::Fail;
 
 // How the job of a session stands.
@@ -117,15 +117,6 @@ const ROWS: &[Row] = &[
     },
 ];
 
-// A pool of one worker, an owner whose job comes to stand as a row says, and another, whose job may keep the worker busy.
-#[derive(Drop)]
-struct Stage<J: Job, H: Runtime> {
-    pool: Executor<J, H>,
-    mock: MockTask,
-    scene: Scene<J, H>,
-    busy: Scene<J, H>,
-}
-
 impl<J, H> Stage<J, H>
 where
     J: Job
@@ -136,29 +127,6 @@ where
         + Carries<OpJob<Jump, Gated, H>>,
     H: Host,
 {
-    fn new(rt: H, pool: &Executor<J, H>, length: usize) -> io::Result<Stage<J, H>> {
-        Ok(Stage {
-            pool: pool.try_clone()?,
-            mock: MockTask::new(&rt)?,
-            scene: new_scene(rt, pool, length, NO_FAULTS)?,
-            busy: new_scene(rt, pool, 0, NO_FAULTS)?,
-        })
-    }
-
-    // Whether the worker comes to be busy.
-    fn keeps_busy(&mut self) -> bool {
-        let begins = self.busy.begins(&self.mock, Operate);
-        let gate = &*self.busy.gate;
-        begins && comes_true(|| gate.calls() == 1)
-    }
-
-    // Whether a session begins, and its job comes to its first call.
-    fn comes_inside(&mut self, session: Call) -> bool {
-        let begins = self.scene.begins(&self.mock, session);
-        let gate = &*self.scene.gate;
-        begins && comes_true(|| gate.calls() == 1)
-    }
-
     // Whether that job goes on until no job runs any more.
     fn goes_on(&self) -> bool {
         self.scene.gate.open();
@@ -219,7 +187,7 @@ where
     fn all_leave(rt: H, pool: &Executor<J, H>, row: Row) -> io::Result<bool> {
         for (session, least, most) in row.sessions {
             for way in [Drops, StopsFirst, IntoInner] {
-                let stage = Stage::new(rt, pool, 1_000)?;
+                let stage = Stage::new(rt, pool, 1_000, NO_FAULTS)?;
                 match stage.leaves(*session, row, way) {
                     Some(calls) if (*least..=*most).contains(&calls) => {}
                     _ => return Ok(false),
@@ -247,27 +215,6 @@ fn leave<J: Job, H: Host>(mut owner: Owner<J, H>, mock: &MockTask, way: Way) {
     }
 }
 
-// Whether the other owner's handle goes too, where it kept the worker busy.
-fn frees<J: Job, H: Runtime>(busy: Scene<J, H>) -> bool {
-    let Scene { owner, gate } = busy;
-    drop(owner);
-    gate.open();
-    comes_true(|| gate.gone() == 1)
-}
-
-// Whether a handle goes, the pool rests, and the handle went once.
-fn goes_once<J: Job, H: Runtime>(pool: &Executor<J, H>, gate: &Gate) -> bool {
-    comes_true(|| gate.gone() > 0) && comes_to_rest(pool) && gate.gone() == 1
-}
-
-// Whether no job is queued or runs, before long.
-fn comes_to_rest<J: Job, H: Runtime>(pool: &Executor<J, H>) -> bool {
-    comes_true(|| {
-        let counts = pool.counts();
-        counts.queued == 0 && counts.running == 0
-    })
-}
-
 // The place of the first row that shows something else, in some way.
 fn first_wrong_of<J, H>(rt: H, pool: &Executor<J, H>) -> io::Result<Option<usize>>
 where
@@ -285,14 +232,6 @@ where
         }
     }
     Ok(None)
-}
-
-// A pool of one worker.
-fn pool<H: Host>(rt: H) -> io::Result<Executor<Kinds<H>, H>> {
-    match Executor::new(rt, Some("1")) {
-        Ok(pool) => Ok(pool),
-        Err(_) => Err(io::Error::from(io::ErrorKind::Other)),
-    }
 }
 
 fn first_wrong<H: Host>(rt: H) -> io::Result<Option<usize>> {
@@ -414,14 +353,6 @@ fn writes_on<A: AsyncWrite, H: Host>(rt: &H, owner: &mut A) -> io::Result<bool>
     Ok(written.is_ok() && flushed.is_ok())
 }
 
-// The handle, once it is back.
-fn taken_back<J: Job, H: Host>(rt: &H, owner: Owner<J, H>) -> io::Result<Option<Gated>> {
-    if owner.is_closed() {
-        return Ok(None);
-    }
-    Ok(Some(block_on(rt, owner.into_inner())?))
-}
-
 // Where the handle must be, and what it must have, behind a future that was dropped at this point and what was done after it: an operation is made
 // once its session began, and bytes that were taken are written.
 fn left_by_rule(lasting: Lasting, point: Point) -> (u64, &'static [u8]) {
@@ -511,7 +442,7 @@ fn length_for(lasting: Lasting) -> usize {
 fn first_wrong_point<H: Host>(rt: H, lasting: Lasting) -> io::Result<Option<usize>> {
     let pool = pool(rt)?;
     for (place, point) in POINTS.iter().enumerate() {
-        let stage = Stage::new(rt, &pool, length_for(lasting))?;
+        let stage = Stage::new(rt, &pool, length_for(lasting), NO_FAULTS)?;
         if !stage.is_dropped_well(rt, lasting, *point)? {
             return Ok(Some(place));
         }

@@ -3,6 +3,8 @@
 #![tactic(auto)]
 
 #[cfg(test)]
+mod abandoned;
+#[cfg(test)]
 mod back;
 #[cfg(test)]
 mod both;
