@@ -164,10 +164,131 @@ const LEAVING: &[Row] = &[
     ),
 ];
 
+// Cancels that are dropped, and a task whose answer was taken. A later call shows that the worker goes on.
+const CANCELS_LEAVE: &[Row] = &[
+    (
+        "a cancel is dropped before its call runs",
+        &[
+            Begin(InCall),
+            Begin(Nowhere),
+            Begin(Nowhere),
+            Begin(Nowhere),
+            See(0, Stops),
+            Do(1, Cancel),
+            Do(1, Drop),
+            Do(2, Cancel),
+            See(2, Waits),
+            Do(2, Drop),
+            See(1, There),
+            See(2, There),
+            Do(3, Detach),
+            Do(0, GoOn),
+            See(3, Goes),
+            See(1, Unmade),
+            See(1, Gone),
+            See(2, Unmade),
+            See(2, Gone),
+        ],
+    ),
+    (
+        "a cancel is dropped while its call runs",
+        &[
+            Begin(InCall),
+            Begin(Nowhere),
+            See(0, Stops),
+            Do(0, Cancel),
+            See(0, Waits),
+            Do(0, Drop),
+            See(0, There),
+            Do(1, Detach),
+            Do(0, GoOn),
+            See(1, Goes),
+            See(0, Gone),
+        ],
+    ),
+    (
+        "a cancel is dropped unpolled while its call runs",
+        &[
+            Begin(InCall),
+            Begin(Nowhere),
+            See(0, Stops),
+            Do(0, Cancel),
+            Do(0, Drop),
+            See(0, There),
+            Do(1, Detach),
+            Do(0, GoOn),
+            See(1, Goes),
+            See(0, Gone),
+        ],
+    ),
+    (
+        "a cancel is dropped with the answer that was there",
+        &[
+            Begin(InCall),
+            See(0, Stops),
+            See(0, Waits),
+            Do(0, GoOn),
+            See(0, Wakes),
+            Do(0, Cancel),
+            See(0, There),
+            Do(0, Drop),
+            See(0, Gone),
+            Begin(Nowhere),
+            Do(1, Detach),
+            See(1, Goes),
+        ],
+    ),
+    (
+        "a cancel is dropped after its call ran for nobody",
+        &[
+            Begin(InCall),
+            Begin(Nowhere),
+            See(0, Stops),
+            Do(0, Cancel),
+            See(0, Waits),
+            Do(1, Detach),
+            Do(0, GoOn),
+            See(0, Wakes),
+            See(0, Gone),
+            Do(0, Drop),
+            See(1, Goes),
+            See(0, Gone),
+        ],
+    ),
+    (
+        "a task is dropped after its answer was taken, and a cancel after it gave nothing",
+        &[
+            Begin(InCall),
+            See(0, Stops),
+            See(0, Waits),
+            Do(0, GoOn),
+            See(0, Wakes),
+            See(0, Gives),
+            See(0, Gone),
+            Do(0, Drop),
+            See(0, Gone),
+            Begin(InCall),
+            See(1, Stops),
+            Do(1, Cancel),
+            See(1, Waits),
+            Do(1, GoOn),
+            See(1, Wakes),
+            See(1, GivesNone),
+            Do(1, Drop),
+            See(1, Gone),
+            Begin(Nowhere),
+            Do(2, Detach),
+            See(2, Goes),
+        ],
+    ),
+];
+
 #[test]
 fn owners_leave(rt: HostRuntime) -> Result<(), Fail> {
-    for row in LEAVING {
-        play::<Planned<Ends, HostRuntime>, _>(rt, "1", row)?;
+    for rows in [LEAVING, CANCELS_LEAVE] {
+        for row in rows {
+            play::<Planned<Ends, HostRuntime>, _>(rt, "1", row)?;
+        }
     }
     Ok(())
 }

@@ -46,7 +46,7 @@ pub(crate) enum Step {
 pub(crate) enum Act {
     /// The call goes on from its stop.
     GoOn,
-    /// The task is dropped.
+    /// The task is dropped, or its cancel.
     Drop,
     /// The task is detached.
     Detach,
@@ -61,7 +61,7 @@ pub(crate) enum Sight {
     Stops,
     /// The call wasn't made.
     Unmade,
-    /// The call was dropped unmade, or its answer was dropped.
+    /// The call was dropped unmade, or its answer was dropped, once.
     Gone,
     /// Neither was dropped.
     There,
@@ -115,13 +115,13 @@ impl<H: Runtime> Begun<H> {
             self.track.go_on();
             return true;
         }
-        let Owner::Task(task) = self.take_owner() else {
-            return false;
-        };
-        match act {
-            Act::Detach => task.detach(),
-            Act::Cancel if !task.is_taken() => self.owner = Owner::Cancel(task.cancel()),
-            _ => drop(task),
+        match (act, self.take_owner()) {
+            (Act::Detach, Owner::Task(task)) => task.detach(),
+            (Act::Cancel, Owner::Task(task)) if !task.is_taken() => {
+                self.owner = Owner::Cancel(task.cancel());
+            }
+            (Act::Drop, Owner::Task(_) | Owner::Cancel(_)) => {}
+            _ => return false,
         }
         true
     }

@@ -1,7 +1,7 @@
 //! A call that stops where a test wants it to, and lets the test see how far it came.
 use blocking_core::task::Call;
 use std::sync::Arc;
-use std::sync::atomic::{AtomicBool, Ordering};
+use std::sync::atomic::{AtomicBool, AtomicUsize, Ordering};
 use std::thread;
 
 /// How often a test looks for what has to come, before it says that it doesn't: for some seconds, and longer beside other work.
@@ -43,6 +43,7 @@ pub(crate) struct Track {
     may_go_on: AtomicBool,
     is_made: AtomicBool,
     is_gone: AtomicBool,
+    drops: AtomicUsize,
 }
 
 impl Track {
@@ -54,6 +55,7 @@ impl Track {
             may_go_on: AtomicBool::new(false),
             is_made: AtomicBool::new(false),
             is_gone: AtomicBool::new(false),
+            drops: AtomicUsize::new(0),
         }
     }
 
@@ -81,9 +83,15 @@ impl Track {
         self.is_made.load(Ordering::SeqCst)
     }
 
-    /// Whether the call was dropped unmade, or else its answer was.
+    // Says that the call was dropped unmade, or else its answer was.
+    fn leave(&self) {
+        self.drops.fetch_add(1, Ordering::SeqCst);
+        self.is_gone.store(true, Ordering::SeqCst);
+    }
+
+    /// Whether one of them was dropped, once.
     pub(crate) fn is_gone(&self) -> bool {
-        self.is_gone.load(Ordering::SeqCst)
+        self.drops.load(Ordering::SeqCst) == 1
     }
 
     /// Whether that comes.
@@ -124,7 +132,7 @@ impl Drop for Visit {
         if let Stop::InDrop = track.stop {
             track.stop();
         }
-        track.is_gone.store(true, Ordering::SeqCst);
+        track.leave();
     }
 }
 
@@ -146,6 +154,6 @@ impl Drop for Answer {
         if let Stop::InAnswersDrop = track.stop {
             track.stop();
         }
-        track.is_gone.store(true, Ordering::SeqCst);
+        track.leave();
     }
 }
