@@ -9,6 +9,8 @@ mod crew;
 #[cfg(test)]
 mod independence;
 #[cfg(test)]
+mod left;
+#[cfg(test)]
 mod long_write;
 #[cfg(test)]
 mod memory;
