@@ -3,6 +3,7 @@ mod bench;
 mod growth;
 mod limits;
 mod marks;
+mod stale;
 mod step;
 mod turns;
 mod waiting;
