@@ -1,4 +1,5 @@
 pub mod Cores
+pub mod Copying
 pub mod Faults
 pub mod Flat
 pub mod Items

@@ -1,6 +1,7 @@
 //! The pure core of a thread pool for blocking calls: no thread, no lock, no clock.
 #![tactic(auto)]
 
+pub mod copy;
 pub mod io;
 pub mod job;
 pub mod pipe;
