@@ -1,0 +1,23 @@
+use Rattle.std.proofs.Common.{[], refl}
+use Rattle.blocking_io.proofs.Copies.{reaches_on, going_by}
+use Rattle.blocking_io.proofs.copy.CopierFuture.poll.Goals as goal
+
+pub loop-init : goal.loop-init
+loop-init g c = (([], refl), c.requires.0, c.requires.1, (λ fact held. held), c.requires.2)
+
+pub loop-preserved : goal.loop-preserved
+loop-preserved g c = (
+  reaches_on g.A.AsyncRead.reads g.B.AsyncWrite.writes c.args.self.now c.loop.self c.turn.new.self c.loop.invariant.0 c.turn.ensures.turns,
+  c.turn.ensures.reader_open,
+  c.turn.ensures.writer_open,
+  (λ fact held. c.turn.ensures.kept fact (c.loop.invariant.3 fact held)),
+  going_by c.next.result c.turn.new.self.core.next c.next.ensures c.in_default-next.not-Done,
+)
+
+pub returns-in-Pending-clause-reaches : goal.returns-in-Pending-clause-reaches
+returns-in-Pending-clause-reaches g c =
+    reaches_on g.A.AsyncRead.reads g.B.AsyncWrite.writes c.args.self.now c.loop.self c.turn.new.self c.loop.invariant.0 c.turn.ensures.turns
+
+pub returns-in-Done-clause-reaches : goal.returns-in-Done-clause-reaches
+returns-in-Done-clause-reaches g c =
+    reaches_on g.A.AsyncRead.reads g.B.AsyncWrite.writes c.args.self.now c.loop.self c.turn.new.self c.loop.invariant.0 c.turn.ensures.turns
