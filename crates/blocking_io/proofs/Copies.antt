@@ -8,7 +8,8 @@ use Rattle.std.specs.declared.io.Error.{Error}
 use Rattle.futures.specs.Poll.{IfReady, OnPending}
 use Rattle.futures.specs.declared.task.Poll.{Poll}
 use Rattle.futures.specs.declared.task.Poll.TheVariants.{Ready, Pending}
-use Rattle.blocking_io.specs.Copies.{EndsWith, MayEnd, Runs, Reaches, Turns}
+use Rattle.blocking_io.specs.Copies.{Carries, EndsWith, MayEnd, Runs, Reaches, Turns}
+use Rattle.blocking_io.proofs.Carrying.{reaches_carry}
 use Rattle.blocking_io.specs.CopySteps.{is_over}
 use Rattle.blocking_io.specs.declared.copy.Copier.{Copier}
 use Rattle.blocking_io.specs.declared.copy.CopyFault.{CopyFault}
@@ -34,14 +35,14 @@ module _ {A B : Type 0} (reads : A → List ℕ → A → Type 0) (writes : B �
 
   -- a copier that is ready gives what its trait says, and one that waits no less than before
   pub ends_by : (old new : Copier A B) (r : Poll (Result ℕ CopyFault)) → Reaches reads writes old new
-      → IfReady r (λ out. EndsWith new.core.next out) → IfReady r (MayEnd reads writes old)
-  ends_by old new (Ready out) reaches ends = (new, reaches, ends)
-  ends_by old new Pending reaches ends = tt
+      → Carries reads writes old new → IfReady r (λ out. EndsWith new.core.next out) → IfReady r (MayEnd reads writes old)
+  ends_by old new (Ready out) reaches carries ends = (new, reaches, carries, ends)
+  ends_by old new Pending reaches carries ends = tt
 
   pub same_ends : (old new : Copier A B) (r : Poll (Result ℕ CopyFault)) → Reaches reads writes old new
       → OnPending r ((out : Result ℕ CopyFault) → MayEnd reads writes new out → MayEnd reads writes old out)
   same_ends old new (Ready out) reaches = tt
-  same_ends old new Pending reaches = λ out may. (may.0, reaches_join old new may.0 reaches may.1, may.2)
+  same_ends old new Pending reaches = λ out may. let all = reaches_join old new may.0 reaches may.1 in (may.0, all, reaches_carry reads writes old may.0 all, may.3)
 
 -- what a poll may be asked again with
 pub three_on : {A P Q : Type 0} (R : Type 0) (r : Poll A) → P × Q → OnPending r R → OnPending r (P × Q × R)

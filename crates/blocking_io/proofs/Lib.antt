@@ -1,2 +1,4 @@
+mod Carrying
 mod Copies
+mod CopyBytes
 mod Futures

@@ -1,5 +1,5 @@
 -- What answers a copy's actions, and how its machine stands over the piece that was read.
-use Rattle.std.specs.Prelude.{◌≡◌, ◌-◌, ◌<◌, ◌≤◌, suc, ℕ, Bool, true, false, List, [], take}
+use Rattle.std.specs.Prelude.{◌≡◌, ◌-◌, ◌<◌, ◌≤◌, suc, ℕ, Bool, true, false, List, [], take, slice_range}
 use Rattle.std.specs.Coded.{×_prop, Unit-prop, le_prop}
 use Rattle.std.proofs.Math.Bool.{Bool-set}
 use Rattle.std.proofs.Math.Nat.{ℕ_set}
@@ -39,6 +39,20 @@ module _ {E : Type 0} where
   told_bytes (by.Gave count) bytes = take count bytes
   told_bytes (by.Took count) bytes = take count bytes
   told_bytes answer bytes = []
+
+  -- what was read and is to be written yet
+  abbrev pub rest_of : CopyAction E → List ℕ → List ℕ
+  rest_of (Write from to) piece = slice_range piece from to
+  rest_of action piece = []
+
+  -- no write took nothing, and none failed
+  abbrev pub IsWholeAt : Bool → CopyAction E → Type 0
+  IsWholeAt true action = ⊥
+  IsWholeAt false (Done (Writing why)) = ⊥
+  IsWholeAt false action = Unit {0}
+
+  abbrev pub IsWhole : CopyMachine E → Type 0
+  IsWhole core = IsWholeAt core.is_short core.next
 
   -- A machine stands so over a piece of so many bytes: what it writes next stands in the piece; while it reads and writes no write took
   -- nothing; and a copy that ended well did so with the count, and no write took nothing.

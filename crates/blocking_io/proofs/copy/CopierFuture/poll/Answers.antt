@@ -1,4 +1,5 @@
 use Rattle.std.proofs.Common.{[], refl}
+use Rattle.blocking_io.proofs.Carrying.{reaches_carry}
 use Rattle.blocking_io.proofs.Copies.{reaches_on, going_by}
 use Rattle.blocking_io.proofs.copy.CopierFuture.poll.Goals as goal
 
@@ -21,3 +22,17 @@ returns-in-Pending-clause-reaches g c =
 pub returns-in-Done-clause-reaches : goal.returns-in-Done-clause-reaches
 returns-in-Done-clause-reaches g c =
     reaches_on g.A.AsyncRead.reads g.B.AsyncWrite.writes c.args.self.now c.loop.self c.turn.new.self c.loop.invariant.0 c.turn.ensures.turns
+
+pub returns-in-Pending-clause-carries : goal.returns-in-Pending-clause-carries
+returns-in-Pending-clause-carries g c =
+    reaches_carry g.A.AsyncRead.reads g.B.AsyncWrite.writes c.args.self.now c.turn.new.self
+    (reaches_on g.A.AsyncRead.reads g.B.AsyncWrite.writes c.args.self.now c.loop.self c.turn.new.self c.loop.invariant.0 c.turn.ensures.turns)
+
+pub returns-in-Done-clause-carries : goal.returns-in-Done-clause-carries
+returns-in-Done-clause-carries g c =
+    reaches_carry g.A.AsyncRead.reads g.B.AsyncWrite.writes c.args.self.now c.turn.new.self
+    (reaches_on g.A.AsyncRead.reads g.B.AsyncWrite.writes c.args.self.now c.loop.self c.turn.new.self c.loop.invariant.0 c.turn.ensures.turns)
+
+pub returns-clause-carries : goal.returns-clause-carries
+returns-clause-carries g c =
+    reaches_carry g.A.AsyncRead.reads g.B.AsyncWrite.writes c.args.self.now c.loop.self c.loop.invariant.0
