@@ -14,8 +14,8 @@ pub use blocking_executor::{
     job, set_max_blocking_threads, task, unblock,
 };
 pub use blocking_io::{
-    AsyncRead, AsyncReadExt, AsyncSeek, AsyncSeekExt, AsyncWrite, AsyncWriteExt, Close, Flush,
-    IoFault, ReadExact, ReadSome, ReadToEnd, SeekTo, WriteAll, WriteSome,
+    AsyncRead, AsyncReadExt, AsyncSeek, AsyncSeekExt, AsyncWrite, AsyncWriteExt, Close, Copier,
+    CopyFault, Flush, IoFault, ReadExact, ReadSome, ReadToEnd, SeekTo, WriteAll, WriteSome,
 };
 pub use blocking_jobs::{ItemJob, OpJob, ReadJob, SeekJob, WriteJob};
 pub use blocking_unblock::{IntoInner, Unblock, WithMut};
