@@ -1,0 +1,113 @@
+//! Plays scenarios in which memory and threads may be refused: `blk_refused NAME [WORD [WORD]]`.
+//!
+//! A scenario tells each refusal that it meets, by `refused: WHY`, and tries again what was refused. In the end it prints `ok`, or `WRONG` and what is
+//! wrong, with status 1. `scripts/refusals` refuses what it asks for, by the marks that it prints.
+//!
+//! | Words | What is played |
+//! |---|---|
+//! | `executor` | an executor is made, and a call |
+//! | `calls N` | N calls are made before the first is answered |
+//! | `begins KIND [OLDER]` | a session of this kind begins; behind an older one, which it stops first |
+//! | `whole` | a read to the end |
+//! | `ends KIND`, `stops KIND`, `drops KIND` | a session, which has begun, comes to its end, is stopped, or loses its owner, while all is refused |
+//! | `leaves` | calls are awaited, cancelled, dropped and detached while all is refused |
+#![tactic(auto)]
+
+mod calls;
+mod handle;
+mod kind;
+mod kinds;
+mod mark;
+mod running;
+mod scene;
+mod session;
+mod whole;
+
+use crate::kind::Kind;
+use crate::kinds::{Carrier, Kinds};
+use crate::running::End;
+use blocking::{Executor, Host};
+use std::process::ExitCode;
+use std::{env, io};
+
+// The status for words that name no scenario.
+const UNKNOWN: u8 = 3;
+
+fn main(rt: HostRuntime) -> io::Result<ExitCode> {
+    let mut words = env::args(&rt)?.skip(1);
+    let (name, first, second) = (words.next(), words.next(), words.next());
+    drop(words);
+    let name = name.as_ref().map_or("", |word| word.as_str());
+    let first = first.as_ref().map_or("", |word| word.as_str());
+    let second = second.as_ref().map(|word| word.as_str());
+    let Some(scenario) = Scenario::by_words(name, first, second) else {
+        return Ok(ExitCode::from(UNKNOWN));
+    };
+    match scenario.play(rt)? {
+        None => {
+            println!(rt; "ok")?;
+            Ok(ExitCode::SUCCESS)
+        }
+        Some(wrong) => {
+            println!(rt; "WRONG: {wrong}")?;
+            Ok(ExitCode::FAILURE)
+        }
+    }
+}
+
+#[derive(Clone, Copy)]
+enum Scenario {
+    Executor,
+    Calls(u64),
+    Begins(Kind, Option<Kind>),
+    Whole,
+    Runs(Kind, End),
+    Leaves,
+}
+
+impl Scenario {
+    fn by_words(name: &str, first: &str, second: Option<&str>) -> Option<Scenario> {
+        Some(match name {
+            "executor" => Scenario::Executor,
+            "calls" => Scenario::Calls(first.parse().ok()?),
+            "begins" => Scenario::Begins(
+                Kind::by_name(first)?,
+                match second {
+                    Some(older) => Some(Kind::by_name(older)?),
+                    None => None,
+                },
+            ),
+            "whole" => Scenario::Whole,
+            "leaves" => Scenario::Leaves,
+            _ => Scenario::Runs(Kind::by_name(first)?, End::by_name(name)?),
+        })
+    }
+
+    // What of it is wrong, if anything is.
+    fn play<H: Host + Print>(self, rt: H) -> io::Result<Option<&'static str>> {
+        match self {
+            Scenario::Executor => calls::executor(rt),
+            Scenario::Calls(count) => calls::calls(rt, count),
+            Scenario::Leaves => calls::leaves(rt),
+            Scenario::Begins(..) | Scenario::Whole | Scenario::Runs(..) => {
+                // (one worker at most, which isn't started yet)
+                match Executor::<Kinds<H>, H>::new(rt, Some("1")) {
+                    Ok(executor) => self.lend(executor),
+                    Err(_) => Ok(Some("there is no executor")),
+                }
+            }
+        }
+    }
+
+    fn lend<J: Carrier<H>, H: Host + Print>(
+        self,
+        executor: Executor<J, H>,
+    ) -> io::Result<Option<&'static str>> {
+        match self {
+            Scenario::Begins(kind, older) => session::begins(executor, kind, older),
+            Scenario::Runs(kind, end) => running::runs(executor, kind, end),
+            Scenario::Whole => whole::reads(executor),
+            Scenario::Executor | Scenario::Calls(_) | Scenario::Leaves => Ok(None),
+        }
+    }
+}

@@ -1,0 +1,134 @@
+//! Sessions that have begun, and are ended while all memory and all threads are refused.
+use crate::handle::BYTES;
+use crate::kind::{Came, JUMPED, Kind, SOUGHT, WRITTEN};
+use crate::kinds::Carrier;
+use crate::mark::{GRANTED, REFUSED, mark};
+use crate::scene::Scene;
+use blocking::{Executor, Host};
+use std::io;
+
+// So little that jobs and owners wait for each other again and again.
+const NARROW: usize = 4;
+
+// How many writes are made behind the first.
+const WRITES: u64 = 200;
+
+/// How a session ends.
+#[derive(Clone, Copy)]
+pub(crate) enum End {
+    /// By itself, and by the calls that it is for.
+    Own,
+    /// It is stopped for the handle.
+    Stopped,
+    /// Its owner is dropped.
+    Dropped,
+}
+
+impl End {
+    pub(crate) fn by_name(name: &str) -> Option<End> {
+        match name {
+            "ends" => Some(End::Own),
+            "stops" => Some(End::Stopped),
+            "drops" => Some(End::Dropped),
+            _ => None,
+        }
+    }
+}
+
+/// Ends a session of this kind so. What of it is wrong, if anything is.
+pub(crate) fn runs<J: Carrier<H>, H: Host + Print>(
+    executor: Executor<J, H>,
+    kind: Kind,
+    end: End,
+) -> io::Result<Option<&'static str>> {
+    let rt = executor.runtime();
+    let mut scene = Scene::new(rt, executor, NARROW)?;
+    if let (Kind::Operate, End::Own) = (kind, end) {
+        return operates(rt, &mut scene);
+    }
+    if !scene.begin(kind)? {
+        return Ok(Some("the session didn't begin"));
+    }
+    mark(&rt, REFUSED)?;
+    scene.open();
+    let wrong = match end {
+        End::Own => goes_on(&mut scene, kind)?,
+        End::Stopped => match scene.take_back()? {
+            Some(_) => None,
+            None => Some("the handle doesn't come back"),
+        },
+        End::Dropped => {
+            scene.let_go();
+            None
+        }
+    };
+    let rests = scene.rests();
+    mark(&rt, GRANTED)?;
+    match wrong {
+        None if !rests => Ok(Some("a job is queued, or runs, in the end")),
+        _ => Ok(wrong),
+    }
+}
+
+// An operation is awaited, and the handle taken back after it.
+fn operates<J: Carrier<H>, H: Host + Print>(
+    rt: H,
+    scene: &mut Scene<J, H>,
+) -> io::Result<Option<&'static str>> {
+    let came = scene.operate()?;
+    let handle = scene.take_back()?;
+    let rests = scene.rests();
+    mark(&rt, GRANTED)?;
+    Ok(match (came, handle) {
+        (Came::Got(0), Some(_)) if rests => None,
+        _ => Some("the operation doesn't come to its end"),
+    })
+}
+
+// Makes the calls that are left of a session. What of them is wrong, if anything is.
+fn goes_on<J: Carrier<H>, H: Host>(
+    scene: &mut Scene<J, H>,
+    kind: Kind,
+) -> io::Result<Option<&'static str>> {
+    // (the first byte and the first item came when the session began, and a seek is polled on)
+    let mut place = match kind {
+        Kind::Seek => 0,
+        _ => 1,
+    };
+    let calls = match kind {
+        Kind::Write => WRITES,
+        Kind::Seek => 1,
+        _ => BYTES,
+    };
+    for _ in 0..calls {
+        match scene.call(kind)? {
+            Came::Got(got) if got == kind.got_at(place) => place = place.saturating_add(1),
+            Came::End => break,
+            Came::Refused(_) => return Ok(Some("a running session is refused")),
+            Came::Got(_) | Came::Wrong => return Ok(Some("a call gave something else")),
+        }
+    }
+    is_over(scene, kind)
+}
+
+// Whether the handle is where the session has to leave it, with its owner.
+fn is_over<J: Carrier<H>, H: Host>(
+    scene: &mut Scene<J, H>,
+    kind: Kind,
+) -> io::Result<Option<&'static str>> {
+    if !scene.flush()? {
+        return Ok(Some("the flush failed"));
+    }
+    let end = match kind {
+        Kind::Read | Kind::Next => BYTES,
+        // (with the one that began the session)
+        Kind::Write => (WRITES + 1) * WRITTEN.len() as u64,
+        Kind::Seek => SOUGHT.unsigned_abs(),
+        Kind::Operate => JUMPED,
+    };
+    if scene.place() == Some(end) {
+        Ok(None)
+    } else {
+        Ok(Some("the handle isn't there with its owner"))
+    }
+}
