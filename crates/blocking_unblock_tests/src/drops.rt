@@ -183,15 +183,28 @@ where
         }
     }
 
-    // Whether all is left as it must be, in each way.
+    // Whether all is left as it must be, with so many calls at least and at most, in each way.
+    fn leaves_each_way(
+        rt: H,
+        pool: &Executor<J, H>,
+        row: Row,
+        (session, least, most): (Call, usize, usize),
+    ) -> io::Result<bool> {
+        for way in [Drops, StopsFirst, IntoInner] {
+            let stage = Stage::new(rt, pool, 1_000, NO_FAULTS)?;
+            match stage.leaves(session, row, way) {
+                Some(calls) if least <= calls && calls <= most => {}
+                _ => return Ok(false),
+            }
+        }
+        Ok(true)
+    }
+
+    // The same of each kind of session.
     fn all_leave(rt: H, pool: &Executor<J, H>, row: Row) -> io::Result<bool> {
-        for (session, least, most) in row.sessions {
-            for way in [Drops, StopsFirst, IntoInner] {
-                let stage = Stage::new(rt, pool, 1_000, NO_FAULTS)?;
-                match stage.leaves(*session, row, way) {
-                    Some(calls) if (*least..=*most).contains(&calls) => {}
-                    _ => return Ok(false),
-                }
+        for session in row.sessions {
+            if !Stage::leaves_each_way(rt, pool, row, *session)? {
+                return Ok(false);
             }
         }
         Ok(true)
