@@ -7,6 +7,8 @@ mod calls;
 #[cfg(test)]
 mod commands;
 #[cfg(test)]
+mod copies;
+#[cfg(test)]
 mod counted;
 #[cfg(test)]
 mod ends;

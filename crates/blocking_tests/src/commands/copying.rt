@@ -56,7 +56,7 @@ fn failed_writes_are_told(rt: HostRuntime) {
     fails(rt, three(), Lossy, BlkFault::Writing);
 }
 
-// What came before the fault is written.
+// A beginning of what came before the fault is written, since the fault is told at once.
 #[test]
 fn failed_read_is_told(rt: HostRuntime) -> Result<(), Fail> {
     let bytes = Arc::new(rt.alloc(), Mutex::new(Vec::new(rt.alloc())))?;
@@ -65,7 +65,8 @@ fn failed_read_is_told(rt: HostRuntime) -> Result<(), Fail> {
         bytes: Arc::try_clone(&bytes)?,
     };
     fails(rt, Broken { is_read: false }, output, BlkFault::Reading);
-    assert_eq!(rt; bytes.lock(&rt).as_slice(), b"limit 3\n".as_slice());
+    let written = bytes.lock(&rt);
+    assert!(rt; b"limit 3\n".starts_with(written.as_slice()));
     Ok(())
 }
 

@@ -1,0 +1,293 @@
+//! Copies between readers and writers whose every poll is told by a row: what they answer, and what was written and flushed.
+use blocking::{AsyncRead, AsyncWrite, Copier, CopyFault, Fault, IoFault};
+use futures::executor::block_on;
+use futures::task::{Context, Poll};
+use std::io;
+use std::io::ErrorKind;
+use std::test::Fail;
+
+// How one poll is answered.
+#[derive(Clone, Copy)]
+enum Say {
+    // It waits, and asks to be polled again.
+    Wait,
+    // So many bytes, or as many as there is room for.
+    Count(usize),
+    Fault,
+}
+
+use self::Say::{Count, Wait};
+
+struct Row {
+    name: &'static str,
+    piece: usize,
+    // The polls of the reader, whose byte i is i, and that is at its end behind them.
+    reads: &'static [Say],
+    // The polls that write, and those that flush: behind them all is taken, and flushed.
+    writes: &'static [Say],
+    flushes: &'static [Say],
+    answer: Answer,
+    // How many bytes were written, and whether they were flushed.
+    written: usize,
+    is_flushed: bool,
+}
+
+#[derive(Clone, Copy, Debug, PartialEq, Eq)]
+enum Answer {
+    Copied(u64),
+    Reading,
+    Writing,
+    WriteZero,
+}
+
+const ROWS: &[Row] = &[
+    Row {
+        name: "nothing is flushed too",
+        piece: 4,
+        reads: &[],
+        writes: &[],
+        flushes: &[],
+        answer: Answer::Copied(0),
+        written: 0,
+        is_flushed: true,
+    },
+    Row {
+        name: "one byte a call",
+        piece: 4,
+        reads: &[Count(1), Count(1), Count(1)],
+        writes: &[Count(1), Count(1), Count(1)],
+        flushes: &[],
+        answer: Answer::Copied(3),
+        written: 3,
+        is_flushed: true,
+    },
+    Row {
+        name: "pieces of one byte",
+        piece: 1,
+        reads: &[Count(3), Count(3)],
+        writes: &[],
+        flushes: &[],
+        answer: Answer::Copied(2),
+        written: 2,
+        is_flushed: true,
+    },
+    Row {
+        name: "the rest of a piece is written",
+        piece: 4,
+        reads: &[Count(4), Count(2)],
+        writes: &[Count(1), Count(2), Count(1), Count(2)],
+        flushes: &[],
+        answer: Answer::Copied(6),
+        written: 6,
+        is_flushed: true,
+    },
+    Row {
+        name: "each call waits",
+        piece: 4,
+        reads: &[Wait, Count(3), Wait, Count(1), Wait],
+        writes: &[Wait, Count(1), Wait, Wait, Count(2), Wait, Count(1)],
+        flushes: &[Wait, Wait],
+        answer: Answer::Copied(4),
+        written: 4,
+        is_flushed: true,
+    },
+    Row {
+        name: "the first read fails",
+        piece: 4,
+        reads: &[Say::Fault],
+        writes: &[],
+        flushes: &[],
+        answer: Answer::Reading,
+        written: 0,
+        is_flushed: false,
+    },
+    Row {
+        name: "the second read fails, and nothing is flushed",
+        piece: 4,
+        reads: &[Count(2), Wait, Say::Fault],
+        writes: &[],
+        flushes: &[],
+        answer: Answer::Reading,
+        written: 2,
+        is_flushed: false,
+    },
+    Row {
+        name: "the first write fails",
+        piece: 4,
+        reads: &[Count(2)],
+        writes: &[Wait, Say::Fault],
+        flushes: &[],
+        answer: Answer::Writing,
+        written: 0,
+        is_flushed: false,
+    },
+    Row {
+        name: "the write of a rest fails",
+        piece: 4,
+        reads: &[Count(3), Count(3)],
+        writes: &[Count(1), Say::Fault],
+        flushes: &[],
+        answer: Answer::Writing,
+        written: 1,
+        is_flushed: false,
+    },
+    Row {
+        name: "the flush fails",
+        piece: 4,
+        reads: &[Count(3)],
+        writes: &[],
+        flushes: &[Wait, Say::Fault],
+        answer: Answer::Writing,
+        written: 3,
+        is_flushed: false,
+    },
+    Row {
+        name: "a write takes nothing, and no more is read",
+        piece: 4,
+        reads: &[Count(3), Say::Fault],
+        writes: &[Count(1), Count(0)],
+        flushes: &[Wait],
+        answer: Answer::WriteZero,
+        written: 1,
+        is_flushed: true,
+    },
+    Row {
+        name: "a write takes nothing, and the flush tells why",
+        piece: 4,
+        reads: &[Count(3)],
+        writes: &[Count(0)],
+        flushes: &[Say::Fault],
+        answer: Answer::Writing,
+        written: 0,
+        is_flushed: false,
+    },
+];
+
+// What is told by the next poll; this one where all were told.
+fn next(told: &mut &'static [Say], last: Say) -> Say {
+    let all = *told;
+    let Some((first, rest)) = all.split_first() else {
+        return last;
+    };
+    *told = rest;
+    *first
+}
+
+fn fault() -> IoFault {
+    Fault::Io(io::Error::from(ErrorKind::StorageFull))
+}
+
+#[derive(Drop)]
+struct Source {
+    reads: &'static [Say],
+    given: u8,
+}
+
+impl AsyncRead for Source {
+    ghost closed = { λ _. ⊥ };
+
+    fn poll_read(&mut self, cx: &mut Context<'_>, buf: &mut [u8]) -> Poll<Result<usize, IoFault>> {
+        match next(&mut self.reads, Count(0)) {
+            Wait => cx.yield_now(),
+            Say::Fault => Poll::Ready(Err(fault())),
+            Count(most) => {
+                let count = buf.len().min(most);
+                for place in buf[..count].iter_mut() {
+                    *place = self.given;
+                    self.given = self.given.wrapping_add(1);
+                }
+                Poll::Ready(Ok(count))
+            }
+        }
+    }
+}
+
+#[derive(Drop)]
+struct Sink {
+    writes: &'static [Say],
+    flushes: &'static [Say],
+    bytes: Vec<u8>,
+    is_flushed: bool,
+    is_closed: bool,
+}
+
+impl AsyncWrite for Sink {
+    ghost use Rattle.std.specs.Prelude.{◌≡◌, true};
+
+    ghost closed = { λ sink. sink.is_closed ≡ true };
+
+    fn poll_write(&mut self, cx: &mut Context<'_>, bytes: &[u8]) -> Poll<Result<usize, IoFault>> {
+        match next(&mut self.writes, Count(usize::MAX)) {
+            Wait => cx.yield_now(),
+            Say::Fault => Poll::Ready(Err(fault())),
+            Count(most) => {
+                let count = bytes.len().min(most);
+                match self.bytes.extend_from_slice(&bytes[..count]) {
+                    Ok(()) => Poll::Ready(Ok(count)),
+                    Err(error) => Poll::Ready(Err(Fault::Io(io::Error::from(error)))),
+                }
+            }
+        }
+    }
+
+    fn poll_flush(&mut self, cx: &mut Context<'_>) -> Poll<Result<(), IoFault>> {
+        match next(&mut self.flushes, Count(0)) {
+            Wait => cx.yield_now(),
+            Say::Fault => Poll::Ready(Err(fault())),
+            Count(_) => {
+                self.is_flushed = true;
+                Poll::Ready(Ok(()))
+            }
+        }
+    }
+
+    fn poll_close(&mut self, cx: &mut Context<'_>) -> Poll<Result<(), IoFault>> {
+        let polled = self.poll_flush(cx);
+        if let Poll::Ready(Ok(())) = polled {
+            self.is_closed = true;
+        }
+        polled
+    }
+}
+
+// What an answer is, without the errors of the system.
+fn named(copied: Result<u64, CopyFault>) -> Answer {
+    match copied {
+        Ok(count) => Answer::Copied(count),
+        Err(CopyFault::Reading(_)) => Answer::Reading,
+        Err(CopyFault::Writing(Fault::WriteZero)) => Answer::WriteZero,
+        Err(CopyFault::Writing(_)) => Answer::Writing,
+    }
+}
+
+#[test]
+fn copies_end_as_their_calls_say(rt: HostRuntime) -> Result<(), Fail> {
+    for row in ROWS {
+        let source = Source {
+            reads: row.reads,
+            given: 0,
+        };
+        let sink = Sink {
+            writes: row.writes,
+            flushes: row.flushes,
+            bytes: Vec::new(rt.alloc()),
+            is_flushed: false,
+            is_closed: false,
+        };
+        let mut copier = Copier::new(rt.alloc(), source, sink, row.piece.max(1))?;
+        let answer = named(block_on(&rt, &mut copier)?);
+        assert_eq!(rt; answer, row.answer, "{}", row.name);
+        assert!(rt; copier.is_done(), "{}", row.name);
+        assert_eq!(rt; copier.copied(), row.written as u64, "{}", row.name);
+        let (_, sink) = copier.into_parts();
+        assert_eq!(rt; sink.is_flushed, row.is_flushed, "{}", row.name);
+        assert_eq!(rt; sink.bytes.len(), row.written, "{}", row.name);
+        let is_right = sink
+            .bytes
+            .iter()
+            .enumerate()
+            .all(|(place, byte)| *byte == (place % 256) as u8);
+        assert!(rt; is_right, "{}", row.name);
+    }
+    Ok(())
+}
