@@ -216,9 +216,10 @@ impl<T: Write + Drop, H: Runtime> Begins<T, H> for WriteJob<T, H> {
     }
 }
 
-impl<T: Iterator<Item = u8> + Drop, H: Runtime> Begins<T, H> for ItemJob<T, u8, H> {
+// (of an iterator that may always be asked)
+impl<H: Host> Begins<Endless<H>, H> for ItemJob<Endless<H>, u8, H> {
     fn begin<K: Job + Carries<Self>>(
-        owner: &mut Unblock<T, u8, K, H>,
+        owner: &mut Unblock<Endless<H>, u8, K, H>,
         mock: &mut MockTask,
     ) -> bool {
         if owner.is_closed() {
@@ -254,7 +255,9 @@ impl<H: Host> Begins<Endless<H>, H> for OpJob<Touch, Endless<H>, H> {
 }
 
 /// Whether it comes true before long.
-pub(crate) fn comes_true(is_so: impl Fn() -> bool) -> bool {
+pub(crate) fn comes_true<F: Fn() -> bool>(is_so: F) -> bool
+    requires { F.IsAlwaysCallable is_so }
+{
     for _ in 0..LOOKS {
         if is_so() {
             return true;

@@ -183,13 +183,19 @@ enum Leaves {
 
 // The pool of a writer, what is seen of it, and a call that may stand before it.
 #[derive(Drop)]
-struct Desk<H: Host> {
+struct Desk<H: Host>
+where
+    Beside<WriteJob<Late<H>, H>>: Job,
+{
     pool: Pool<WriteJob<Late<H>, H>, H>,
     flushed: Arc<Flushed>,
     call: Arc<Track>,
 }
 
-impl<H: Host> Desk<H> {
+impl<H: Host> Desk<H>
+where
+    Beside<WriteJob<Late<H>, H>>: Job,
+{
     fn new(rt: H) -> io::Result<Desk<H>> {
         let Ok(pool) = Pool::new(rt, Some("1")) else {
             return Err(io::Error::from(io::ErrorKind::Other));
@@ -268,14 +274,20 @@ fn reader_whose_job_is_over_goes_at_once(rt: HostRuntime) -> Result<(), Fail> {
 
 // A pool of one worker, which is at a call that stops, and what is seen of a handle.
 #[derive(Drop)]
-struct Busy<J: Job, H: Host> {
+struct Busy<J: Job, H: Host>
+where
+    Beside<J>: Job,
+{
     pool: Pool<J, H>,
     call: Arc<Track>,
     tally: Arc<Tally>,
     mock: MockTask,
 }
 
-impl<J: Begins<Endless<H>, H> + Send + 'static, H: Host> Busy<J, H> {
+impl<J: Begins<Endless<H>, H> + Send + 'static, H: Host> Busy<J, H>
+where
+    Beside<J>: Job,
+{
     fn new(rt: H) -> io::Result<Busy<J, H>> {
         let Ok(pool) = Pool::<J, H>::new(rt, Some("1")) else {
             return Err(io::Error::from(io::ErrorKind::Other));
