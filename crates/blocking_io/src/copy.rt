@@ -40,7 +40,7 @@ impl Error for CopyFault {}
 /// [`CopyFault::Writing`] where the writer fails; that is [`Fault::WriteZero`](blocking_core::io::Fault::WriteZero) where a write took
 /// nothing and the flush after it knows of no fault. After a fault a part of the last piece may be lost.
 ///
-/// Until it was ready it may be polled. A poll asks for no memory.
+/// Until it was ready it may be polled. The copier itself asks for no memory then; its reader and its writer may.
 #[derive(Drop)]
 pub struct Copier<A, B> {
     reader: A,
@@ -61,7 +61,7 @@ impl<A: AsyncRead + Drop, B: AsyncWrite + Drop> Copier<A, B> {
     ghost use Rattle.blocking_io.specs.CopySteps.{is_over, AnswersTo, IfWaits};
 
     /// A copy of all that the reader gives, by pieces of at most so many bytes. It fails, and drops both, where there is no memory for a
-    /// piece; this is the one time that a copy asks for memory.
+    /// piece; this is the one time that the copier itself asks for memory.
     pub fn new(
         alloc: Global,
         reader: A,

@@ -13,7 +13,7 @@ use crate::take_back::IntoInner;
 use crate::with_mut::WithMut;
 use blocking_core::io::Position;
 use blocking_core::pipe::{DEFAULT_BYTES, DEFAULT_ITEMS, Received};
-use blocking_core::pool::{Carries, Job, Refusal, Refused, WakeNote};
+use blocking_core::pool::{Carries, Job, Refusal, Refused, WakeNote, Woke};
 use blocking_core::task::CallOn;
 use blocking_core::unblock::{OwnerAction, OwnerAnswer, OwnerCall, PollCall, Reply};
 use blocking_executor::{Executor, Runtime};
@@ -29,10 +29,12 @@ use std::{fmt, io, mem};
 
 /// The owner of a blocking handle, which it lends to jobs on a pool: polls then use the handle without waiting for it.
 ///
-/// Dropping it waits for no job. A handle that is with its owner, or that its job gave back already, is dropped here, by this thread. Else the
-/// owner's end of the pipe is closed, and a worker drops the handle with the session's job: at once where that waits, and else when it is taken or
-/// comes to its end. A job that reads or gives items ends after the read or the item under way. One that writes and runs writes all that it was
-/// given, and flushes; what a queued one had to write is lost, unless a worker took it before. A seek or an operation under way is made.
+/// Dropping it waits for no job. It takes the locks of the pipe and of the pool, and may start a worker, as a wake does. A handle that is with its
+/// owner is dropped here, and one that its job gave back by whoever lets go last. Else the owner's end of the pipe is closed, and a worker drops the
+/// handle with the session's job: of one that waits when it is next taken, of one that runs when it comes to its end. Where no worker is left and
+/// none can be had, that job stays queued. A job that reads or gives items makes one more call at most. One that writes and runs writes all that it
+/// was given, and flushes; one that waits has written all, and is dropped unflushed unless a worker takes it first, as what a queued one had to
+/// write is lost. A seek or an operation under way is made.
 ///
 /// The memory of a session that read or wrote is kept for the next one of its kind: that of its pipe and its pieces, of which no more was touched
 /// than was used. It is given back where a session of another kind begins or one is refused, and with the owner: by [`Unblock::into_inner`], a
@@ -154,7 +156,10 @@ impl<T: Drop, I: Drop, J: Job, H: Runtime> Drop for Unblock<T, I, J, H> {
         } = self;
         // A job that waits for its owner is found by a worker at once, and one that runs finds its pipe shut.
         if let Some(note) = place.let_go() {
-            let _ = executor.wake(note);
+            // (one that is seated while it runs goes on to its end, and a mark would drop it before)
+            if let Woke::Marked = executor.wake(note) {
+                return;
+            }
         }
         // (nobody waits for the job: a worker drops it, and the handle with it, unless that was given back)
         place.mark();
