@@ -181,6 +181,14 @@ enum Leaves {
     Queued,
 }
 
+// A pool of one worker. (by itself: what it sends to a thread may rest on no bound of a type)
+fn one_worker<J: Job + Send + 'static, H: Host>(rt: H) -> io::Result<Pool<J, H>> {
+    match Pool::new(rt, Some("1")) {
+        Ok(pool) => Ok(pool),
+        Err(_) => Err(io::Error::from(io::ErrorKind::Other)),
+    }
+}
+
 // The pool of a writer, what is seen of it, and a call that may stand before it.
 #[derive(Drop)]
 struct Desk<H: Host>
@@ -196,10 +204,7 @@ impl<H: Host> Desk<H>
 where
     Beside<WriteJob<Late<H>, H>>: Job,
 {
-    fn new(rt: H) -> io::Result<Desk<H>> {
-        let Ok(pool) = Pool::new(rt, Some("1")) else {
-            return Err(io::Error::from(io::ErrorKind::Other));
-        };
+    fn new(rt: H, pool: Pool<WriteJob<Late<H>, H>, H>) -> io::Result<Desk<H>> {
         Ok(Desk {
             pool,
             flushed: Arc::new(rt.alloc(), Flushed::new(rt.alloc()))?,
@@ -239,13 +244,13 @@ where
 
 #[test]
 fn writer_that_runs_writes_all(rt: HostRuntime) -> Result<(), Fail> {
-    assert!(rt; Desk::new(rt)?.flushes(rt, Leaves::Running, b"abcd")?);
+    assert!(rt; Desk::new(rt, one_worker(rt)?)?.flushes(rt, Leaves::Running, b"abcd")?);
     Ok(())
 }
 
 #[test]
 fn queued_writer_writes_nothing(rt: HostRuntime) -> Result<(), Fail> {
-    assert!(rt; Desk::new(rt)?.flushes(rt, Leaves::Queued, b"")?);
+    assert!(rt; Desk::new(rt, one_worker(rt)?)?.flushes(rt, Leaves::Queued, b"")?);
     Ok(())
 }
 
@@ -288,10 +293,7 @@ impl<J: Begins<Endless<H>, H> + Send + 'static, H: Host> Busy<J, H>
 where
     Beside<J>: Job,
 {
-    fn new(rt: H) -> io::Result<Busy<J, H>> {
-        let Ok(pool) = Pool::<J, H>::new(rt, Some("1")) else {
-            return Err(io::Error::from(io::ErrorKind::Other));
-        };
+    fn new(rt: H, pool: Pool<J, H>) -> io::Result<Busy<J, H>> {
         let call = Arc::new(rt.alloc(), Track::new())?;
         let _ = pool.add(Beside::Stop(Arc::try_clone(&call)?));
         let _ = call.stops();
@@ -344,7 +346,7 @@ where
 fn calls_of_queued<J: Begins<Endless<H>, H> + Send + 'static, H: Host>(
     rt: H,
 ) -> io::Result<Option<usize>> {
-    Busy::<J, H>::new(rt)?.calls_of_queued(rt)
+    Busy::<J, H>::new(rt, one_worker(rt)?)?.calls_of_queued(rt)
 }
 
 #[test]
@@ -358,7 +360,7 @@ fn queued_sessions_are_dropped_unrun(rt: HostRuntime) -> Result<(), Fail> {
 }
 
 fn waits_quietly<J: Begins<Endless<H>, H> + Send + 'static, H: Host>(rt: H) -> io::Result<bool> {
-    Busy::<J, H>::new(rt)?.waits_quietly(rt)
+    Busy::<J, H>::new(rt, one_worker(rt)?)?.waits_quietly(rt)
 }
 
 #[test]
@@ -373,7 +375,7 @@ fn polls_that_wait_are_left_alone(rt: HostRuntime) -> Result<(), Fail> {
 
 // Whether a stream whose job waits at a full pipe can be stopped.
 fn full_stream_stops<H: Host>(rt: H) -> io::Result<bool> {
-    let mut busy = Busy::<ItemJob<Endless<H>, u8, H>, H>::new(rt)?;
+    let mut busy = Busy::<ItemJob<Endless<H>, u8, H>, H>::new(rt, one_worker(rt)?)?;
     busy.call.go_on();
     let mut owner = busy.owner(rt, Pace::AtOnce)?;
     let _ = ItemJob::begin(&mut owner, &mut busy.mock);
