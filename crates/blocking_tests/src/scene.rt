@@ -115,13 +115,18 @@ impl<H: Runtime> Begun<H> {
             self.track.go_on();
             return true;
         }
-        match (act, self.take_owner()) {
-            (Act::Detach, Owner::Task(task)) => task.detach(),
-            (Act::Cancel, Owner::Task(task)) if !task.is_taken() => {
-                self.owner = Owner::Cancel(task.cancel());
+        let task = match self.take_owner() {
+            Owner::Task(task) => task,
+            Owner::Cancel(cancel) => {
+                drop(cancel);
+                return matches!(act, Act::Drop);
             }
-            (Act::Drop, Owner::Task(_) | Owner::Cancel(_)) => {}
-            _ => return false,
+            Owner::Nobody => return false,
+        };
+        match act {
+            Act::Detach => task.detach(),
+            Act::Cancel if !task.is_taken() => self.owner = Owner::Cancel(task.cancel()),
+            _ => drop(task),
         }
         true
     }
